@@ -1,0 +1,107 @@
+-- Making a bag of a list of files.
+use Rattle.std.proofs.Common.{◌≡◌, ◌≢◌, ℕ, ◌+◌, ◌<◌, ◌≤◌, Bool, true, false, not, List, [], length, get_or, drop, map, Result, Ok, Err, refl, sym, ap, subst, ◌∙◌, arith}
+use Rattle.std.specs.Prelude.{Option, Some, None, is_some, is_none, IfOk, IfErr}
+use Rattle.std.specs.Str.{is_utf8}
+use Rattle.std.proofs.lemmas.List.{drop_more, at_drop_all}
+use Rattle.bag_text.specs.declared.set_fault.SetFault.{SetFault}
+use Rattle.bag_text.specs.declared.set_fault.SetFault.TheVariants.{Memory}
+use Rattle.bag_text.specs.declared.path.PathFault.{PathFault}
+use Rattle.bag_text.specs.Paths.{is_good, path_fault}
+use Rattle.bag_text.specs.TransferForm.{File, Ascends, IsBag}
+use Rattle.bag_text.specs.TransferReading.{Answers}
+use Rattle.bag_text.specs.BagList.{ListFault, file_fault, or_else, fault_from, list_fault}
+use Rattle.bag_text.specs.ListReading.{Makes}
+use Rattle.bag_text.proofs.ListLemmas.{from_none, list_fault_law, list_bag_law}
+
+-- ---- one file after the other
+
+-- A text is a good path where no fault of a path stands.
+pub text_is_good : (path : List ℕ) (found : Option PathFault) (none : Bool) → is_utf8 path ≡ true → found ≡ path_fault path → is_some found ≡ not none → none ≡ is_good path
+text_is_good path found none utf8 e test = rw (utf8, ← e) (by_fault found none test)
+  where
+    by_fault : (found : Option PathFault) (none : Bool) → is_some found ≡ not none → none ≡ is_none found
+    by_fault (Some f) true h = absurd cc
+    by_fault (Some f) false h = refl
+    by_fault None true h = refl
+    by_fault None false h = absurd cc
+
+-- the faults of what is left, seen at its first file
+fault_more : {X : Type 0} (g : X → File) (place : ℕ) (before : List ℕ) (xs : List X) (i : ℕ) (x : X) → i < length xs
+    → fault_from place before (map g (drop i xs)) ≡ or_else (file_fault place before (g (get_or xs i x))) (fault_from (place + 1) (g (get_or xs i x)).path (map g (drop (i + 1) xs)))
+unfolding fault_from
+fault_more g place before xs i x lt = ap (λ (ys : List _). fault_from place before (map g ys)) (drop_more xs i x lt)
+
+-- a file without fault is passed
+pub passed : {X : Type 0} (g : X → File) (place : ℕ) (before : List ℕ) (xs : List X) (i : ℕ) (d : X) (found total : Option SetFault)
+    → i < length xs → found ≡ file_fault place before (g (get_or xs i d)) → found ≡ None
+    → fault_from place before (map g (drop i xs)) ≡ total → fault_from (place + 1) (g (get_or xs i d)).path (map g (drop (i + 1) xs)) ≡ total
+passed g place before xs i d found total lt e none so_far =
+    let later : List _ = map g (drop (i + 1) xs) in
+    let here = sym e ∙ none in
+    sym (fault_more g place before xs i d lt ∙ ap (λ (o : Option SetFault). or_else o (fault_from (place + 1) (g (get_or xs i d)).path later)) here) ∙ so_far
+
+-- the first fault that is met is the fault of the list
+pub met : {X : Type 0} (g : X → File) (place : ℕ) (before : List ℕ) (xs : List X) (i : ℕ) (d : X) (found total : Option SetFault) (fault : SetFault)
+    → i < length xs → found ≡ file_fault place before (g (get_or xs i d)) → found ≡ Some fault
+    → fault_from place before (map g (drop i xs)) ≡ total → Some fault ≡ total
+met g place before xs i d found total fault lt e some so_far =
+    let later : List _ = map g (drop (i + 1) xs) in
+    let here = sym e ∙ some in
+    sym (fault_more g place before xs i d lt ∙ ap (λ (o : Option SetFault). or_else o (fault_from (place + 1) (g (get_or xs i d)).path later)) here) ∙ so_far
+
+-- where no file is left, there is no fault
+pub none_left : {X : Type 0} (g : X → File) (place : ℕ) (before : List ℕ) (xs : List X) (i : ℕ) (total : Option SetFault) → length xs ≤ i → fault_from place before (map g (drop i xs)) ≡ total → None ≡ total
+unfolding fault_from
+none_left g place before xs i total le so_far = sym (at_drop_all (λ (ys : List _). fault_from place before (map g ys)) xs i le) ∙ so_far
+
+-- the files of a list without faulty file ascend
+pub ascends : (files : List File) (found : Option SetFault) → found ≡ fault_from 0 [] files → found ≡ None → Ascends [] files
+ascends files found e none = (from_none 0 [] files (omega arith) (sym e ∙ none)).up
+
+-- ---- what is made
+
+-- a bag that was made is the list
+pub made : {X : Type 0} (view : X → List File) (files : List File) (x : X) → Makes view files (list_fault files) (Ok x) → (view x ≡ files) × IsBag files
+made view files x h = by_fault (list_fault files) refl h
+  where
+    by_fault : (found : Option SetFault) → list_fault files ≡ found → Makes view files found (Ok x) → (view x ≡ files) × IsBag files
+    by_fault (Some fault) is h = absurd cc
+    by_fault None is h = (h, (list_bag_law files).0 is)
+
+-- what was made is a bag
+pub made_bag : {X : Type 0} (view : X → List File) (files : List File) (x : X) → Makes view files (list_fault files) (Ok x) → IsBag (view x)
+made_bag view files x h = let m = made view files x h in subst (λ (fs : List File). IsBag fs) (sym m.0) m.1
+
+abbrev failed : SetFault → Result (List File) SetFault
+failed fault = Err fault
+
+failed_is : {X : Type 0} (a b : SetFault) (r : Result X SetFault) → r ≡ Err a → r ≡ Err b → a ≡ b
+failed_is a b r e f = cc
+
+-- ---- the clauses
+
+-- what is made is the list, and it is a bag
+pub is_list : (files : List File) (result : Result (List File) SetFault) → Makes (λ set. set) files (list_fault files) result → IfOk result (λ set. (set ≡ files) × IsBag set)
+is_list files (Ok set) h = ((made (λ set. set) files set h).0, made_bag (λ set. set) files set h)
+is_list files (Err fault) h = tt
+
+-- a bag is made, unless memory ran out
+pub is_made : (files : List File) (result : Result (List File) SetFault) → IsBag files → Makes (λ set. set) files (list_fault files) result → Answers result (Ok files)
+is_made files result bag h = by_result result (subst (λ (found : Option SetFault). Makes (λ set. set) files found result) ((list_bag_law files).1 bag) h)
+  where
+    by_result : (r : Result (List File) SetFault) → Makes (λ set. set) files None r → Answers r (Ok files)
+    by_result (Ok set) h = ap (λ (fs : List File). Ok fs) (sym h)
+    by_result (Err fault) h = subst (λ (f : SetFault). Answers (Err f) (Ok files)) (sym h) tt
+
+-- a list with a fault is refused with it
+pub is_refused : (files : List File) (result : Result (List File) SetFault) (fault : SetFault) → ListFault files fault → Makes (λ set. set) files (list_fault files) result → result ≡ Err fault
+is_refused files result fault stands h = subst (λ (found : Option SetFault). Makes (λ set. set) files found result) ((list_fault_law files fault).1 stands) h
+
+-- what is refused has the fault that is named
+pub has_fault : (files : List File) (result : Result (List File) SetFault) → Makes (λ set. set) files (list_fault files) result → IfErr result (λ fault. fault ≢ Memory → ListFault files fault)
+has_fault files (Ok set) h = tt
+has_fault files (Err fault) h = by_fault (list_fault files) refl h
+  where
+    by_fault : (found : Option SetFault) → list_fault files ≡ found → Makes (λ set. set) files found (Err fault) → fault ≢ Memory → ListFault files fault
+    by_fault None is h = λ other. absurd (other h)
+    by_fault (Some named) is h = λ other. (list_fault_law files fault).0 (is ∙ sym (ap (λ (f : SetFault). Some f) (failed_is fault named (failed fault) refl h)))

@@ -1,0 +1,285 @@
+-- What a text declares, and its first fault.
+use Rattle.std.proofs.Common.{◌≡◌, ℕ, ◌+◌, ◌≤◌, Bool, true, false, cond, eqb, ltb, not, ◌||◌, List, [], ◌∷◌, ◌++◌, length, map, take, drop, refl, sym, ap, ◌∙◌, arith, append_assoc}
+use Rattle.std.specs.Prelude.{Option, Some, None, Result, Ok, Err, codes, bytes_eq, ok_or, ◌==◌, if◌then◌else◌, slice_get, option_and_then, ◌↔◌, IfOk, IfErr}
+use Rattle.std.specs.Char.{to_ascii_lowercase}
+use Rattle.std.specs.Option.{option_map_or}
+use Rattle.std.specs.Str.{is_utf8}
+use Rattle.std.proofs.lemmas.Slice.Eq.{bytes_eq-Decides}
+use Rattle.std.proofs.lemmas.List.{take-append-drop}
+use Rattle.std.proofs.Math.Seq.{take-append_seam}
+use Rattle.std.proofs.lemmas.Bool.Decides.{nat_tests}
+use Rattle.bag_text.specs.Text.{is_blank, has_mark, trim_blanks, skip_blanks, drop_last_blanks}
+use Rattle.bag_text.specs.Lines.{lines}
+use Rattle.bag_text.specs.Declaration.{version_text, version_label, encoding_label, IsLabelled, Declares, after_label, is_version, is_supported, is_utf8_name, declaration_fault}
+use Rattle.bag_text.specs.DeclarationReading.{version_of, encoding_fault, exactly_two, two_lines_of, declaration_of, ◌>>=◌}
+use Rattle.bag_text.specs.declared.declaration.Version.{Version}
+use Rattle.bag_text.specs.declared.declaration.Version.TheVariants.{V1_0, V0_97}
+use Rattle.bag_text.specs.declared.declaration.DeclFault.{DeclFault}
+use Rattle.bag_text.specs.declared.declaration.DeclFault.TheVariants.{NotUtf8, ByteOrderMark, NotTwoLines, BadVersionLine, UnsupportedVersion, BadEncodingLine, UnsupportedEncoding}
+use Rattle.bag_text.proofs.BlankLemmas.{trim_round, trimmed_round, map_skipped, map_dropped}
+
+-- what stands behind a label
+behind_label : (label rest : List ℕ) → drop (length label) (label ++ rest) ≡ rest
+behind_label [] rest = refl
+behind_label (b ∷ label) rest = let one : 1 + length label ≡ length (b ∷ label) = omega arith in behind_label label rest
+
+-- four texts, one after another
+nested : (a b c d : List ℕ) → a ++ b ++ c ++ d ≡ a ++ (b ++ (c ++ d))
+nested a b c d = append_assoc (a ++ b) c d ∙ append_assoc a b (c ++ d)
+
+-- a value that is read stands behind its label
+pub label_read : (label value line : List ℕ) → after_label label line ≡ Some value → IsLabelled label value line
+label_read label value line e = by_label (bytes_eq (take (length label) line) label) refl e
+  where
+    by_label : (x : Bool) → bytes_eq (take (length label) line) label ≡ x → cond x (Some (trim_blanks (drop (length label) line))) None ≡ Some value → IsLabelled label value line
+    by_label false is e = absurd cc
+    by_label true is e =
+        let same : take (length label) line ≡ label = (bytes_eq-Decides (take (length label) line) label).0 is in
+        let found : trim_blanks (drop (length label) line) ≡ value = cc in
+        let parts = trimmed_round (drop (length label) line) in (
+          parts.before,
+          parts.after,
+          parts.first,
+          parts.last,
+          sym (take-append-drop (length label) line) ∙ ap (λ (x : List ℕ). x ++ drop (length label) line) same ∙ ap (λ (x : List ℕ). label ++ x) (parts.is ∙ ap (λ (x : List ℕ). parts.before ++ (x ++ parts.after)) found) ∙ sym (nested label parts.before value parts.after),
+        )
+
+-- a value behind its label is read, without the blanks round it
+pub label_again : (label value line : List ℕ) → IsLabelled label value line → after_label label line ≡ Some (trim_blanks value)
+label_again label value line (before, after, first, last, is) =
+    let rest : List ℕ = before ++ (value ++ after) in
+    ap (after_label label) (is ∙ nested label before value after) ∙ rw ((bytes_eq-Decides (take (length label) (label ++ rest)) label).1 (take-append_seam label rest), behind_label label rest, trim_round before value after first last) refl
+
+-- ---- the values
+
+-- a letter's case says nothing of blanks
+lowered_blank : (b : ℕ) → is_blank (to_ascii_lowercase b) ≡ is_blank b
+lowered_blank b = by_low (ltb b 65) refl
+  where
+    not_blank : (n : ℕ) → 65 ≤ n → is_blank n ≡ false
+    not_blank n h = let first : eqb n 32 ≡ false = grind (arith, nat_tests) in let second : eqb n 9 ≡ false = grind (arith, nat_tests) in rw (first, second) refl
+
+    by_low : (x : Bool) → ltb b 65 ≡ x → is_blank (cond x b (cond (ltb b 91) (b + 32) b)) ≡ is_blank b
+    by_low true e = refl
+    by_low false e = by_high (ltb b 91)
+      where
+        high : 65 ≤ b
+        high = grind (arith, nat_tests, e)
+
+        by_high : (y : Bool) → is_blank (cond y (b + 32) b) ≡ is_blank b
+        by_high false = refl
+        by_high true = not_blank (b + 32) (omega (arith, high)) ∙ sym (not_blank b high)
+
+-- the blanks round the encoding are none of it
+encoding_trimmed : (value : List ℕ) → map to_ascii_lowercase value ≡ codes "utf-8" → map to_ascii_lowercase (trim_blanks value) ≡ codes "utf-8"
+encoding_trimmed value e = sym (map_dropped to_ascii_lowercase lowered_blank (skip_blanks value)) ∙ ap drop_last_blanks (sym (map_skipped to_ascii_lowercase lowered_blank value)) ∙ ap trim_blanks e
+
+version_trimmed : (v : Version) → trim_blanks (version_text v) ≡ version_text v
+version_trimmed V1_0 = refl
+version_trimmed V0_97 = refl
+
+-- ---- the version's line
+
+is_text : (a b : List ℕ) → bytes_eq a b ≡ true → a ≡ b
+is_text a b = (bytes_eq-Decides a b).0
+
+-- the version that a value names, or its fault
+abbrev version_by : Option (List ℕ) → Result Version DeclFault
+version_by o = do
+  value ← ok_or o BadVersionLine
+  if bytes_eq value (codes "1.0") then Ok V1_0
+      else if bytes_eq value (codes "0.97") then Ok V0_97
+      else if is_version value then Err UnsupportedVersion
+      else Err BadVersionLine
+
+version_named : (o : Option (List ℕ)) (v : Version) → version_by o ≡ Ok v → o ≡ Some (version_text v)
+version_named None v e = absurd cc
+version_named (Some value) v e = by_first (bytes_eq value (codes "1.0")) refl e
+  where
+    by_second : (x : Bool) → bytes_eq value (codes "0.97") ≡ x → (y : Bool) → cond x (Ok V0_97) (cond y (Err UnsupportedVersion) (Err BadVersionLine)) ≡ Ok v → Some value ≡ Some (version_text v)
+    by_second true is y e = let now : v ≡ V0_97 = cc in rw (now, is_text value (codes "0.97") is) refl
+    by_second false is true e = absurd cc
+    by_second false is false e = absurd cc
+
+    by_first : (x : Bool) → bytes_eq value (codes "1.0") ≡ x → cond x (Ok V1_0) (cond (bytes_eq value (codes "0.97")) (Ok V0_97) (cond (is_version value) (Err UnsupportedVersion) (Err BadVersionLine))) ≡ Ok v → Some value ≡ Some (version_text v)
+    by_first true is e = let now : v ≡ V1_0 = cc in rw (now, is_text value (codes "1.0") is) refl
+    by_first false is e = by_second (bytes_eq value (codes "0.97")) refl (is_version value) e
+
+version_again : (v : Version) → version_by (Some (version_text v)) ≡ Ok v
+version_again V1_0 = refl
+version_again V0_97 = refl
+
+-- ---- the encoding's line
+
+abbrev encoding_by : Option (List ℕ) → Result (Unit {0}) DeclFault
+encoding_by o = do
+  value ← ok_or o BadEncodingLine
+  if length value == 0 then Err BadEncodingLine
+      else if is_utf8_name value then Ok tt
+      else Err UnsupportedEncoding
+
+abbrev sound : Result (Unit {0}) DeclFault
+sound = Ok tt
+
+-- what the second line says where it has no fault
+record Encoded (o : Option (List ℕ)) : Type 0 where
+  value : List ℕ
+  some : o ≡ Some value
+  is : map to_ascii_lowercase value ≡ codes "utf-8"
+
+encoding_named : (o : Option (List ℕ)) → encoding_by o ≡ sound → Encoded o
+encoding_named None e = absurd cc
+encoding_named (Some value) e = by_empty (eqb (length value) 0) (is_utf8_name value) refl e
+  where
+    by_empty : (x y : Bool) → is_utf8_name value ≡ y → cond x (Err BadEncodingLine) (cond y sound (Err UnsupportedEncoding)) ≡ sound → Encoded (Some value)
+    by_empty true y is e = absurd cc
+    by_empty false false is e = absurd cc
+    by_empty false true is e = record { value = value; some = refl; is = is_text (map to_ascii_lowercase value) (codes "utf-8") is }
+
+encoding_again : (value : List ℕ) → map to_ascii_lowercase value ≡ codes "utf-8" → encoding_by (Some value) ≡ sound
+encoding_again [] e = absurd cc
+encoding_again (b ∷ value) e =
+    let some : eqb (length (b ∷ value)) 0 ≡ false = grind (arith, nat_tests) in
+    rw (some, (bytes_eq-Decides (map to_ascii_lowercase (b ∷ value)) (codes "utf-8")).1 e) refl
+
+-- ---- the text
+
+-- the version that two lines declare, or their fault
+abbrev of_two : List ℕ → List ℕ → Result Version DeclFault
+of_two first second = version_of first >>= λ version. encoding_fault second >>= λ _. Ok version
+
+-- each of the two lines says its part
+both_say : (first second : List ℕ) (v : Version) → of_two first second ≡ Ok v → (version_of first ≡ Ok v) × (encoding_fault second ≡ sound)
+both_say first second v e = by_version (version_of first) (encoding_fault second) e
+  where
+    by_encoding : (w : Version) (r : Result (Unit {0}) DeclFault) → (r >>= λ _. Ok w) ≡ Ok v → (w ≡ v) × (r ≡ sound)
+    by_encoding w (Ok tt) e = let now : w ≡ v = cc in (now, refl)
+    by_encoding w (Err f) e = absurd cc
+
+    by_version : (a : Result Version DeclFault) (r : Result (Unit {0}) DeclFault) → (a >>= λ version. r >>= λ _. Ok version) ≡ Ok v → (a ≡ Ok v) × (r ≡ sound)
+    by_version (Err f) r e = absurd cc
+    by_version (Ok w) r e = let both = by_encoding w r e in (ap (λ (x : Version). Ok x) both.0, both.1)
+
+-- A version that is read is declared.
+pub is_declared : (text : List ℕ) (v : Version) → declaration_of text ≡ Ok v → Declares text v
+is_declared text v e = by_utf8 (is_utf8 text) refl e
+  where
+    by_lines : is_utf8 text ≡ true → has_mark text ≡ false → (ls : List (List ℕ)) → lines text ≡ ls → (exactly_two ls >>= λ pair. of_two pair.0 pair.1) ≡ Ok v → Declares text v
+    by_lines utf8 unmarked [] two e = absurd cc
+    by_lines utf8 unmarked (a ∷ []) two e = absurd cc
+    by_lines utf8 unmarked (a ∷ b ∷ c ∷ ls) two e = absurd cc
+    by_lines utf8 unmarked (first ∷ second ∷ []) two e =
+        let both = both_say first second v e in
+        let said = encoding_named (after_label encoding_label second) both.1 in
+        record {
+          utf8 = utf8;
+          unmarked = unmarked;
+          first = first;
+          second = second;
+          encoding = said.value;
+          two = two;
+          version = label_read version_label (version_text v) first (version_named (after_label version_label first) v both.0);
+          encoded = label_read encoding_label said.value second said.some;
+          is_utf8_in_any_case = said.is;
+        }
+
+    by_mark : is_utf8 text ≡ true → (x : Bool) → has_mark text ≡ x → cond x (Err ByteOrderMark) (two_lines_of text >>= λ pair. of_two pair.0 pair.1) ≡ Ok v → Declares text v
+    by_mark utf8 true is e = absurd cc
+    by_mark utf8 false is e = by_lines utf8 is (lines text) refl e
+
+    by_utf8 : (x : Bool) → is_utf8 text ≡ x → cond (not x) (Err NotUtf8) (cond (has_mark text) (Err ByteOrderMark) (two_lines_of text >>= λ pair. of_two pair.0 pair.1)) ≡ Ok v → Declares text v
+    by_utf8 false is e = absurd cc
+    by_utf8 true is e = by_mark is (has_mark text) refl e
+
+-- A version that is declared is read.
+pub declared_again : (text : List ℕ) (v : Version) → Declares text v → declaration_of text ≡ Ok v
+declared_again text v is =
+    let version : version_of is.first ≡ Ok v = ap version_by (label_again version_label (version_text v) is.first is.version ∙ ap (λ (x : List ℕ). Some x) (version_trimmed v)) ∙ version_again v in
+    let encoding : encoding_fault is.second ≡ sound = ap encoding_by (label_again encoding_label is.encoding is.second is.encoded) ∙ encoding_again (trim_blanks is.encoding) (encoding_trimmed is.encoding is.is_utf8_in_any_case) in
+    rw (is.utf8, is.unmarked, is.two) (ap (λ (r : Result Version DeclFault). r >>= λ version. encoding_fault is.second >>= λ _. Ok version) version ∙ ap (λ (r : Result (Unit {0}) DeclFault). r >>= λ _. Ok v) encoding)
+
+-- ---- the table of faults
+
+abbrev fault_in : Result Version DeclFault → Option DeclFault
+fault_in (Ok v) = None
+fault_in (Err f) = Some f
+
+abbrev encoding_rows : Option (List ℕ) → Option DeclFault
+encoding_rows o =
+    cond (option_map_or (λ value. length value == 0) o true) (Some BadEncodingLine)
+    (cond (option_map_or (λ value. not (is_utf8_name value)) o true) (Some UnsupportedEncoding) None)
+
+abbrev version_rows : Option (List ℕ) → Option (List ℕ) → Option DeclFault
+version_rows o p =
+    cond (option_map_or (λ value. not (is_version value)) o true) (Some BadVersionLine)
+    (cond (option_map_or (λ value. not (is_supported value)) o true) (Some UnsupportedVersion) (encoding_rows p))
+
+encoding_table : (v : Version) (o : Option (List ℕ)) → encoding_rows o ≡ fault_in (encoding_by o >>= λ _. Ok v)
+encoding_table v None = refl
+encoding_table v (Some value) = by_tests (eqb (length value) 0) (is_utf8_name value)
+  where
+    by_tests : (x y : Bool) → cond x (Some BadEncodingLine) (cond (not y) (Some UnsupportedEncoding) None) ≡ fault_in (cond x (Err BadEncodingLine) (cond y sound (Err UnsupportedEncoding)) >>= λ _. Ok v)
+    by_tests true y = refl
+    by_tests false true = refl
+    by_tests false false = refl
+
+version_table : (o p : Option (List ℕ)) → version_rows o p ≡ fault_in (version_by o >>= λ version. encoding_by p >>= λ _. Ok version)
+version_table None p = refl
+version_table (Some value) p =
+    by_tests (bytes_eq value (codes "1.0")) (bytes_eq value (codes "0.97")) (is_version value)
+    (λ e. ap is_version (is_text value (codes "1.0") e)) (λ e. ap is_version (is_text value (codes "0.97") e))
+  where
+    by_tests : (x y z : Bool) → (x ≡ true → z ≡ true) → (y ≡ true → z ≡ true)
+        → cond (not z) (Some BadVersionLine) (cond (not (x || y)) (Some UnsupportedVersion) (encoding_rows p))
+        ≡ fault_in (cond x (Ok V1_0) (cond y (Ok V0_97) (cond z (Err UnsupportedVersion) (Err BadVersionLine))) >>= λ version. encoding_by p >>= λ _. Ok version)
+    by_tests true y true h g = encoding_table V1_0 p
+    by_tests true y false h g = absurd (let wrong : false ≡ true = h refl in cc)
+    by_tests false true true h g = encoding_table V0_97 p
+    by_tests false true false h g = absurd (let wrong : false ≡ true = g refl in cc)
+    by_tests false false true h g = refl
+    by_tests false false false h g = refl
+
+-- The first row that stands is the fault of the reading.
+pub table : (text : List ℕ) → declaration_fault text ≡ fault_in (declaration_of text)
+table text = by_front (is_utf8 text) (has_mark text) (lines text)
+  where
+    by_lines : (ls : List (List ℕ)) → cond (not (eqb (length ls) 2)) (Some NotTwoLines) (version_rows (option_and_then (after_label version_label) (slice_get ls 0)) (option_and_then (after_label encoding_label) (slice_get ls 1))) ≡ fault_in (exactly_two ls >>= λ pair. of_two pair.0 pair.1)
+    by_lines [] = refl
+    by_lines (a ∷ []) = refl
+    by_lines (a ∷ b ∷ c ∷ ls) = let more : eqb (length (a ∷ b ∷ c ∷ ls)) 2 ≡ false = grind (arith, nat_tests) in rw more refl
+    by_lines (first ∷ second ∷ []) = version_table (after_label version_label first) (after_label encoding_label second)
+
+    by_front : (x y : Bool) (ls : List (List ℕ)) → cond (not x) (Some NotUtf8) (cond y (Some ByteOrderMark) (cond (not (eqb (length ls) 2)) (Some NotTwoLines) (version_rows (option_and_then (after_label version_label) (slice_get ls 0)) (option_and_then (after_label encoding_label) (slice_get ls 1))))) ≡ fault_in (cond (not x) (Err NotUtf8) (cond y (Err ByteOrderMark) (exactly_two ls >>= λ pair. of_two pair.0 pair.1)))
+    by_front false y ls = refl
+    by_front true true ls = refl
+    by_front true false ls = by_lines ls
+
+-- A refusal is the first row that stands.
+pub refused : (text : List ℕ) (f : DeclFault) → declaration_of text ≡ Err f → declaration_fault text ≡ Some f
+refused text f e = table text ∙ ap fault_in e
+
+-- The first row that stands is the refusal.
+pub refused_again : (text : List ℕ) (f : DeclFault) → declaration_fault text ≡ Some f → declaration_of text ≡ Err f
+refused_again text f e = by_result (declaration_of text) (sym (table text) ∙ e)
+  where
+    by_result : (r : Result Version DeclFault) → fault_in r ≡ Some f → r ≡ Err f
+    by_result (Ok v) e = absurd cc
+    by_result (Err g) e = let same : g ≡ f = cc in rw same refl
+
+-- A text declares a version exactly where reading answers it.
+pub declares : (text : List ℕ) (v : Version) → (declaration_of text ≡ Ok v) ↔ Declares text v
+declares text v = (is_declared text v, declared_again text v)
+
+-- A fault is the first that stands exactly where reading answers it.
+pub is_first_fault : (text : List ℕ) (f : DeclFault) → (declaration_of text ≡ Err f) ↔ (declaration_fault text ≡ Some f)
+is_first_fault text f = (refused text f, refused_again text f)
+
+-- ---- what an answer says
+
+pub answer_declared : (r : Result Version DeclFault) (text : List ℕ) → r ≡ declaration_of text → IfOk r (λ v. Declares text v)
+answer_declared (Ok v) text e = is_declared text v (sym e)
+answer_declared (Err f) text e = tt
+
+pub answer_refused : (r : Result Version DeclFault) (text : List ℕ) → r ≡ declaration_of text → IfErr r (λ f. declaration_fault text ≡ Some f)
+answer_refused (Ok v) text e = tt
+answer_refused (Err f) text e = refused text f (sym e)

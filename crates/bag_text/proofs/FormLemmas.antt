@@ -1,0 +1,336 @@
+-- What is read is a transfer form, and a transfer form is read.
+use Rattle.std.proofs.Common.{◌≡◌, ℕ, zero, suc, ◌+◌, ◌-◌, ◌<◌, ◌≤◌, Bool, true, false, cond, eqb, ltb, not, ◌&&◌, List, [], ◌∷◌, ◌++◌, length, get_or, take, drop, Result, Ok, Err, refl, sym, ap, subst, ◌∙◌, arith, append_assoc}
+use Rattle.std.specs.Prelude.{IfOk, Option, Some, None, is_none}
+use Rattle.std.specs.Str.{is_utf8}
+use Rattle.std.specs.List.{flat_map, AllByRecursion}
+use Rattle.std.proofs.lemmas.Bool.Decides.{nat_tests}
+use Rattle.std.proofs.lemmas.Bool.{eqb-true, ltb-false, le-ltb}
+use Rattle.std.proofs.lemmas.List.{append-nil, take_at, drop_at, take-append-drop, length-append, length-take, length-drop, drop_more}
+use Rattle.bag_text.specs.declared.header.Flaw.{Flaw}
+use Rattle.bag_text.specs.declared.header.Flaw.TheVariants.{Short, Bad}
+use Rattle.bag_text.specs.declared.set_fault.SetFault.{SetFault}
+use Rattle.bag_text.specs.declared.set_fault.SetFault.TheVariants.{BadEntry, Truncated, OutOfOrder, BadPath, TrailingBytes, PathClash}
+use Rattle.bag_text.specs.Paths.{path_fault}
+use Rattle.bag_text.specs.TransferReading.{◌>>=◌, Head, Place, End, Entry, literal_at, header_at, place_at, file_at, placed, entry_of, entry_at, files_at, opened, set_of, Gives}
+use Rattle.bag_text.specs.TransferForm.{File, header, entry, opening, ending, set_text, max_content, max_files, Ascends, clashes, Fits, IsBag}
+use Rattle.bag_text.specs.Paths.{max_path, is_good, comes_before}
+use Rattle.bag_text.proofs.NumberLemmas.{InBounds}
+use Rattle.bag_text.proofs.HeaderLemmas.{HeadFits, literal_ok, literal_again, header_ok, header_again}
+
+guard : {A : Type 0} (b : Bool) (f : SetFault) (r : Result A SetFault) (x : A) → cond b (Err f) r ≡ Ok x → (b ≡ false) × (r ≡ Ok x)
+guard true f r x e = absurd cc
+guard false f r x e = (refl, e)
+
+abbrev right : {A : Type 0} → A → Result A SetFault
+right x = Ok x
+
+right_is : {A : Type 0} (x y : A) → right x ≡ right y → x ≡ y
+right_is x y e = cc
+
+was_not : (b : Bool) → not b ≡ false → b ≡ true
+was_not true e = refl
+was_not false e = absurd cc
+
+-- a file with its bytes in place
+pub record Stands (before rest : List ℕ) (head : Head) (f : File) (behind : List ℕ) : Type 0 where
+  pub bytes : rest ≡ f.path ++ (f.content ++ 10 ∷ behind)
+  pub path_len : length f.path ≡ head.path_len
+  pub content_len : length f.content ≡ head.content_len
+  pub good : is_good f.path ≡ true
+  pub after : comes_before before f.path ≡ true
+
+pub file_ok : (offset : ℕ) (before : List ℕ) (head : Head) (x : File × List ℕ) → file_at offset before head ≡ Ok x → Stands before head.rest head x.0 x.1
+unfolding file_at
+file_ok offset before head x e =
+    let path = take head.path_len head.rest in
+    let content = take head.content_len (drop head.path_len head.rest) in
+    let behind = drop head.content_len (drop head.path_len head.rest) in
+    let made : File × List ℕ = (record { path = path; content = content }, drop 1 behind) in
+    let g1 = guard (ltb (length head.rest) (head.path_len + head.content_len + 1)) Truncated (cond (not (eqb (get_or behind 0 0) 10)) (Err (BadEntry offset)) (cond (not (is_good path)) (Err (BadPath offset)) (cond (not (comes_before before path)) (Err (OutOfOrder offset)) (Ok made)))) x e in
+    let g2 = guard (not (eqb (get_or behind 0 0) 10)) (BadEntry offset) (cond (not (is_good path)) (Err (BadPath offset)) (cond (not (comes_before before path)) (Err (OutOfOrder offset)) (Ok made))) x g1.1 in
+    let g3 = guard (not (is_good path)) (BadPath offset) (cond (not (comes_before before path)) (Err (OutOfOrder offset)) (Ok made)) x g2.1 in
+    let g4 = guard (not (comes_before before path)) (OutOfOrder offset) (Ok made) x g3.1 in
+    let long : head.path_len + head.content_len + 1 ≤ length head.rest = ltb-false _ _ g1.0 in
+    let lf : get_or behind 0 0 ≡ 10 = eqb-true _ _ (was_not _ g2.0) in
+    let some : 0 < length behind = omega (arith, length-drop head.content_len (drop head.path_len head.rest), length-drop head.path_len head.rest) in
+    let last : behind ≡ 10 ∷ drop 1 behind = drop_more behind 0 0 some ∙ ap (λ (b : ℕ). b ∷ drop 1 behind) lf in
+    let two : drop head.path_len head.rest ≡ content ++ 10 ∷ drop 1 behind = sym (take-append-drop head.content_len (drop head.path_len head.rest)) ∙ ap (λ (t : List ℕ). content ++ t) last in
+    let whole : head.rest ≡ path ++ (content ++ 10 ∷ drop 1 behind) = sym (take-append-drop head.path_len head.rest) ∙ ap (λ (t : List ℕ). path ++ t) two in
+    subst (λ (y : File × List ℕ). Stands before head.rest head y.0 y.1) (right_is made x g4.1) (record {
+      bytes = whole;
+      path_len = omega (arith, length-take head.path_len head.rest);
+      content_len = omega (arith, length-take head.content_len (drop head.path_len head.rest), length-drop head.path_len head.rest);
+      good = was_not _ g3.0;
+      after = was_not _ g4.0;
+    })
+
+pub file_again : (offset : ℕ) (before : List ℕ) (f : File) (behind : List ℕ) → is_good f.path ≡ true → comes_before before f.path ≡ true
+    → file_at offset before (record { path_len = length f.path; content_len = length f.content; rest = f.path ++ (f.content ++ 10 ∷ behind) }) ≡ Ok (f, behind)
+unfolding file_at
+file_again offset before f behind good after =
+    let long : ltb (length (f.path ++ (f.content ++ 10 ∷ behind))) (length f.path + length f.content + 1) ≡ false = le-ltb _ _ (omega (arith, length-append f.path (f.content ++ 10 ∷ behind), length-append f.content (10 ∷ behind))) in
+    rw (long, take_at f.path (f.content ++ 10 ∷ behind) (length f.path) refl, drop_at f.path (f.content ++ 10 ∷ behind) (length f.path) refl, take_at f.content (10 ∷ behind) (length f.content) refl, drop_at f.content (10 ∷ behind) (length f.content) refl, good, after) refl
+
+-- ---- a good path has a length that a header can name
+
+pub path_fits : (path : List ℕ) → is_good path ≡ true → InBounds 1 max_path (length path)
+path_fits path e = record { low = by_empty (eqb (length path) 0) refl; high = by_long (ltb 1024 (length path)) refl }
+  where
+    both : is_none (path_fault path) ≡ true
+    both = second (is_utf8 path) e
+      where
+        second : (x : Bool) → (x && is_none (path_fault path)) ≡ true → is_none (path_fault path) ≡ true
+        second true h = h
+        second false h = absurd cc
+
+    by_empty : (x : Bool) → eqb (length path) 0 ≡ x → 1 ≤ length path
+    by_empty true is = let e2 = rw is at both in absurd cc
+    by_empty false is = grind (arith, nat_tests)
+
+    by_long : (x : Bool) → ltb 1024 (length path) ≡ x → length path ≤ 1024
+    by_long true is = by_either (eqb (length path) 0) refl
+      where
+        by_either : (x : Bool) → eqb (length path) 0 ≡ x → length path ≤ 1024
+        by_either true also = let e2 = rw also at both in absurd cc
+        by_either false also = let e2 = rw (also, is) at both in absurd cc
+    by_long false is = grind (arith, nat_tests)
+
+-- ---- the entry that a text begins with
+
+pub end_again : (offset left : ℕ) (before : List ℕ) → entry_at offset left before ending ≡ Ok None
+unfolding entry_at place_at literal_at
+end_again offset zero before = refl
+end_again offset (suc left) before = refl
+
+entry_bytes : (f : File) (rest : List ℕ) → entry f ++ rest ≡ header (length f.path) (length f.content) ++ (f.path ++ (f.content ++ 10 ∷ rest))
+entry_bytes f rest = simp append_assoc
+
+pub place_header : (p c : ℕ) (rest : List ℕ) → HeadFits p c → place_at (header p c ++ rest) ≡ Ok (Entry (record { path_len = p; content_len = c; rest = rest }))
+unfolding place_at
+place_header p c rest fits = rw (header_again p c rest fits) refl
+
+pub entry_again : (offset more : ℕ) (before : List ℕ) (f : File) (rest : List ℕ) → Fits f → comes_before before f.path ≡ true → entry_at offset (suc more) before (entry f ++ rest) ≡ Ok (Some (f, rest))
+unfolding entry_at
+entry_again offset more before f rest fits after =
+    let head : HeadFits (length f.path) (length f.content) = record { path = path_fits f.path fits.good; content = record { low = omega arith; high = fits.small } } in
+    let place : place_at (entry f ++ rest) ≡ Ok (Entry (record { path_len = length f.path; content_len = length f.content; rest = f.path ++ (f.content ++ 10 ∷ rest) })) = ap place_at (entry_bytes f rest) ∙ place_header (length f.path) (length f.content) (f.path ++ (f.content ++ 10 ∷ rest)) head in
+    ap (λ (p : Result Place Flaw). placed offset p >>= entry_of offset (suc more) before) place ∙ rw (file_again offset before f rest fits.good after) refl
+
+pub files_again : (whole : ℕ) (fs : List File) (left : ℕ) (before : List ℕ) → length fs ≤ left → AllByRecursion Fits fs → Ascends before fs → files_at whole left before (flat_map entry fs ++ ending) ≡ Ok fs
+unfolding files_at
+files_again whole [] zero before few fits up = rw (end_again (whole - length ending) zero before) refl
+files_again whole [] (suc left) before few fits up = rw (end_again (whole - length ending) (suc left) before) refl
+files_again whole (f ∷ fs) zero before few fits up = absurd (omega arith)
+files_again whole (f ∷ fs) (suc left) before few fits up =
+    let tail = flat_map entry fs ++ ending in
+    let one = entry_again (whole - length (entry f ++ tail)) left before f tail fits.0 up.0 in
+    let e : entry f ++ flat_map entry fs ++ ending ≡ entry f ++ tail = append_assoc (entry f) (flat_map entry fs) ending in
+    ap (files_at whole (suc left) before) e ∙ rw (one, files_again whole fs left f.path (omega arith) fits.1 up.1) refl
+
+pub set_again : (fs : List File) → IsBag fs → set_of (set_text fs) ≡ Ok fs
+unfolding set_of
+set_again fs bag =
+    let e : set_text fs ≡ opening ++ (flat_map entry fs ++ ending) = append_assoc opening (flat_map entry fs) ending in
+    ap set_of e ∙ rw (literal_again opening (flat_map entry fs ++ ending), files_again (length (opening ++ (flat_map entry fs ++ ending))) fs max_files [] bag.few bag.each bag.ascending, bag.apart) refl
+
+-- ---- what is read
+
+abbrev placed_right : Place → Result Place Flaw
+placed_right p = Ok p
+
+right_place : (x y : Place) → placed_right x ≡ placed_right y → x ≡ y
+right_place x y e = cc
+
+pub record IsPlace (t : List ℕ) (p : Place) : Type 0 where
+  pub at_end : (rest : List ℕ) → p ≡ End rest → t ≡ ending ++ rest
+  pub at_entry : (head : Head) → p ≡ Entry head → (t ≡ header head.path_len head.content_len ++ head.rest) × HeadFits head.path_len head.content_len
+
+pub place_ok : (t : List ℕ) (p : Place) → place_at t ≡ Ok p → IsPlace t p
+unfolding place_at
+place_ok [] p e = absurd cc
+place_ok (b ∷ t) p e = by_first (eqb b 69) e
+  where
+    by_first : (x : Bool) → cond x (literal_at ending (b ∷ t) >>= λ rest. Ok (End rest)) (header_at (b ∷ t) >>= λ head. Ok (Entry head)) ≡ Ok p → IsPlace (b ∷ t) p
+    by_first true e = by_end (literal_at ending (b ∷ t)) refl e
+      where
+        by_end : (r : Result (List ℕ) Flaw) → literal_at ending (b ∷ t) ≡ r → (r >>= λ rest. Ok (End rest)) ≡ Ok p → IsPlace (b ∷ t) p
+        by_end (Err f) is e = absurd cc
+        by_end (Ok rest) is e = subst (λ (p : Place). IsPlace (b ∷ t) p) (right_place (End rest) p e) (record {
+          at_end = λ other same. literal_ok ending (b ∷ t) other (is ∙ (let k : rest ≡ other = cc in rw k refl));
+          at_entry = λ head same. absurd cc;
+        })
+    by_first false e = by_head (header_at (b ∷ t)) refl e
+      where
+        by_head : (r : Result Head Flaw) → header_at (b ∷ t) ≡ r → (r >>= λ head. Ok (Entry head)) ≡ Ok p → IsPlace (b ∷ t) p
+        by_head (Err f) is e = absurd cc
+        by_head (Ok head) is e = subst (λ (p : Place). IsPlace (b ∷ t) p) (right_place (Entry head) p e) (record {
+          at_end = λ rest same. absurd cc;
+          at_entry = λ other same. header_ok (b ∷ t) other (is ∙ (let k : head ≡ other = cc in rw k refl));
+        })
+
+-- what stands at an entry's place, from what the entry is
+pub record IsEntry (before t : List ℕ) (o : Option (File × List ℕ)) : Type 0 where
+  pub none : o ≡ None → t ≡ ending
+  pub some : (x : File × List ℕ) → o ≡ Some x → (t ≡ entry x.0 ++ x.1) × Fits x.0 × (comes_before before x.0.path ≡ true)
+
+abbrev right_o : Option (File × List ℕ) → Result (Option (File × List ℕ)) SetFault
+right_o o = Ok o
+
+right_option : (x y : Option (File × List ℕ)) → right_o x ≡ right_o y → x ≡ y
+right_option x y e = cc
+
+entry_whole : (offset : ℕ) (before t : List ℕ) (head : Head) (x : File × List ℕ) → (t ≡ header head.path_len head.content_len ++ head.rest) × HeadFits head.path_len head.content_len → file_at offset before head ≡ Ok x
+    → (t ≡ entry x.0 ++ x.1) × Fits x.0 × (comes_before before x.0.path ≡ true)
+entry_whole offset before t head x is e =
+    let s = file_ok offset before head x e in
+    let small : length x.0.content ≤ max_content = (let k = is.1.content.high in let j = s.content_len in omega arith) in (
+      is.0 ∙ rw (← s.path_len, ← s.content_len) (ap (λ (r : List ℕ). header (length x.0.path) (length x.0.content) ++ r) s.bytes ∙ sym (entry_bytes x.0 x.1)),
+      record { good = s.good; small = small },
+      s.after,
+    )
+
+pub entry_ok : (offset left : ℕ) (before t : List ℕ) (o : Option (File × List ℕ)) → entry_at offset left before t ≡ Ok o → IsEntry before t o
+unfolding entry_at
+entry_ok offset left before t o e = by_place left (place_at t) refl e
+  where
+    by_place : (left : ℕ) (r : Result Place Flaw) → place_at t ≡ r → (placed offset r >>= entry_of offset left before) ≡ Ok o → IsEntry before t o
+    by_place left (Err f) is e = absurd cc
+    by_place left (Ok (End rest)) is e = by_rest rest is e
+      where
+        by_rest : (rest : List ℕ) → place_at t ≡ Ok (End rest) → (cond (eqb (length rest) 0) (Ok None) (Err TrailingBytes)) ≡ Ok o → IsEntry before t o
+        by_rest [] is e = subst (λ (o : Option (File × List ℕ)). IsEntry before t o) (right_option None o e) (record {
+          none = λ _. (place_ok t (End []) is).at_end [] refl ∙ append-nil ending;
+          some = λ x same. absurd cc;
+        })
+        by_rest (b ∷ rest) is e = by_test (eqb (length (b ∷ rest)) 0) refl e
+          where
+            by_test : (x : Bool) → eqb (length (b ∷ rest)) 0 ≡ x → cond x (Ok None) (Err TrailingBytes) ≡ Ok o → IsEntry before t o
+            by_test true is e = let k = eqb-true _ _ is in absurd (omega arith)
+            by_test false is e = absurd cc
+    by_place zero (Ok (Entry head)) is e = absurd cc
+    by_place (suc more) (Ok (Entry head)) is e = by_file (file_at offset before head) refl e
+      where
+        by_file : (r : Result (File × List ℕ) SetFault) → file_at offset before head ≡ r → (r >>= λ file. Ok (Some file)) ≡ Ok o → IsEntry before t o
+        by_file (Err f) is2 e = absurd cc
+        by_file (Ok x) is2 e = subst (λ (o : Option (File × List ℕ)). IsEntry before t o) (right_option (Some x) o e) (record {
+          none = λ same. absurd cc;
+          some = λ y same. entry_whole offset before t head y ((place_ok t (Entry head) is).at_entry head refl) (is2 ∙ (let k : x ≡ y = cc in rw k refl));
+        })
+
+no_file_past_limit : (offset : ℕ) (before text : List ℕ) (file : File × List ℕ) → entry_at offset 0 before text ≡ Ok (Some file) → ⊥
+unfolding entry_at
+no_file_past_limit offset before text file e = by_place (place_at text) e
+  where
+    by_place : (p : Result Place Flaw) → (placed offset p >>= entry_of offset 0 before) ≡ Ok (Some file) → ⊥
+    by_place (Ok (End rest)) h = by_end (eqb (length rest) 0) h
+      where
+        by_end : (b : Bool) → cond b (Ok None) (Err TrailingBytes) ≡ Ok (Some file) → ⊥
+        by_end true h = absurd cc
+        by_end false h = absurd cc
+    by_place (Ok (Entry head)) h = absurd cc
+    by_place (Err flaw) h = absurd cc
+
+pub record AreFiles (left : ℕ) (before t : List ℕ) (fs : List File) : Type 0 where
+  pub text : t ≡ flat_map entry fs ++ ending
+  pub few : length fs ≤ left
+  pub each : AllByRecursion Fits fs
+  pub up : Ascends before fs
+
+right_files : (x y : List File) → right x ≡ right y → x ≡ y
+right_files x y e = cc
+
+pub files_ok : (whole left : ℕ) (before t : List ℕ) (fs : List File) → files_at whole left before t ≡ Ok fs → AreFiles left before t fs
+unfolding files_at
+files_ok whole zero before t fs e = by_entry (entry_at (whole - length t) zero before t) refl e
+  where
+    by_entry : (r : Result (Option (File × List ℕ)) SetFault) → entry_at (whole - length t) zero before t ≡ r → (r >>= λ found. right []) ≡ Ok fs → AreFiles zero before t fs
+    by_entry (Err f) is e = absurd cc
+    by_entry (Ok None) is e = subst (λ (fs : List File). AreFiles zero before t fs) (right_files [] fs e) (record { text = (entry_ok (whole - length t) zero before t None is).none refl; few = omega arith; each = tt; up = tt })
+    by_entry (Ok (Some x)) is e = absurd (no_file_past_limit (whole - length t) before t x is)
+files_ok whole (suc more) before t fs e = by_entry (entry_at (whole - length t) (suc more) before t) refl e (λ x rest g. files_ok whole more x.0.path x.1 rest g)
+  where
+    by_entry : (r : Result (Option (File × List ℕ)) SetFault) → entry_at (whole - length t) (suc more) before t ≡ r
+        → (r >>= λ found. elim found [ None ↦ right [] | Some file ↦ files_at whole more file.0.path file.1 >>= λ files. Ok (file.0 ∷ files) ]) ≡ Ok fs
+        → ((x : File × List ℕ) (rest : List File) → files_at whole more x.0.path x.1 ≡ Ok rest → AreFiles more x.0.path x.1 rest)
+        → AreFiles (suc more) before t fs
+    by_entry (Err f) is e again = absurd cc
+    by_entry (Ok None) is e again = subst (λ (fs : List File). AreFiles (suc more) before t fs) (right_files [] fs e) (record { text = (entry_ok (whole - length t) (suc more) before t None is).none refl; few = omega arith; each = tt; up = tt })
+    by_entry (Ok (Some x)) is e again = by_rest (files_at whole more x.0.path x.1) refl e
+      where
+        by_rest : (r : Result (List File) SetFault) → files_at whole more x.0.path x.1 ≡ r → (r >>= λ files. right (x.0 ∷ files)) ≡ Ok fs → AreFiles (suc more) before t fs
+        by_rest (Err f) is2 e = absurd cc
+        by_rest (Ok rest) is2 e =
+            let first = (entry_ok (whole - length t) (suc more) before t (Some x) is).some x refl in
+            let others = again x rest is2 in
+            subst (λ (fs : List File). AreFiles (suc more) before t fs) (right_files (x.0 ∷ rest) fs e) (record {
+              text = first.0 ∙ ap (λ (r : List ℕ). entry x.0 ++ r) others.text ∙ sym (append_assoc (entry x.0) (flat_map entry rest) ending);
+              few = (let k = others.few in omega arith);
+              each = (first.1, others.each);
+              up = (first.2, others.up);
+            })
+
+pub record IsRead (t : List ℕ) (fs : List File) : Type 0 where
+  pub text : t ≡ set_text fs
+  pub bag : IsBag fs
+
+pub set_ok : (t : List ℕ) (fs : List File) → set_of t ≡ Ok fs → IsRead t fs
+unfolding set_of
+set_ok t fs e = by_opening (literal_at opening t) refl e
+  where
+    by_opening : (r : Result (List ℕ) Flaw) → literal_at opening t ≡ r → (opened r >>= λ rest. files_at (length t) max_files [] rest >>= λ files. cond (clashes files) (Err PathClash) (Ok files)) ≡ Ok fs → IsRead t fs
+    by_opening (Err Short) is e = absurd cc
+    by_opening (Err Bad) is e = absurd cc
+    by_opening (Ok rest) is e = by_files (files_at (length t) max_files [] rest) refl e
+      where
+        by_files : (r : Result (List File) SetFault) → files_at (length t) max_files [] rest ≡ r → (r >>= λ files. cond (clashes files) (Err PathClash) (Ok files)) ≡ Ok fs → IsRead t fs
+        by_files (Err f) is2 e = absurd cc
+        by_files (Ok files) is2 e =
+            let g = guard (clashes files) PathClash (Ok files) fs e in
+            let r = files_ok (length t) max_files [] rest files is2 in
+            subst (λ (fs : List File). IsRead t fs) (right_files files fs g.1) (record {
+              text = literal_ok opening t rest is ∙ ap (λ (r : List ℕ). opening ++ r) r.text ∙ sym (append_assoc opening (flat_map entry files) ending);
+              bag = record { few = r.few; each = r.each; ascending = r.up; apart = g.0 };
+            })
+
+-- what a call that gives the files found
+pub is_found : {X : Type 0} (t : List ℕ) (view : X → List File) (r : Result X SetFault) → Gives view r (set_of t) → IfOk r (λ x. IsBag (view x) × (t ≡ set_text (view x)))
+is_found t view (Ok x) e = let r = set_ok t (view x) e in (r.bag, r.text)
+is_found t view (Err f) e = tt
+
+pub two_texts : (a b : List File) → IsBag a → IsBag b → set_text a ≡ set_text b → a ≡ b
+two_texts a b p q same = right_files a b (sym (set_again a p) ∙ ap set_of same ∙ set_again b q)
+
+-- ---- no text begins another
+
+not_nil : (b : ℕ) (more : List ℕ) → eqb (length (b ∷ more)) 0 ≡ false
+not_nil b more = let some : 0 < length (b ∷ more) = omega arith in grind (arith, nat_tests)
+
+pub end_trails : (offset left b : ℕ) (before more : List ℕ) → entry_at offset left before (ending ++ b ∷ more) ≡ Err TrailingBytes
+unfolding entry_at place_at literal_at
+end_trails offset zero b before more = rw (not_nil b more) refl
+end_trails offset (suc left) b before more = rw (not_nil b more) refl
+
+files_trail : (whole b : ℕ) (more : List ℕ) (fs : List File) (left : ℕ) (before : List ℕ) → length fs ≤ left → AllByRecursion Fits fs → Ascends before fs → files_at whole left before (flat_map entry fs ++ (ending ++ b ∷ more)) ≡ Err TrailingBytes
+unfolding files_at
+files_trail whole b more [] zero before few fits up = rw (end_trails (whole - length (ending ++ b ∷ more)) zero b before more) refl
+files_trail whole b more [] (suc left) before few fits up = rw (end_trails (whole - length (ending ++ b ∷ more)) (suc left) b before more) refl
+files_trail whole b more (f ∷ fs) zero before few fits up = absurd (omega arith)
+files_trail whole b more (f ∷ fs) (suc left) before few fits up =
+    let tail = flat_map entry fs ++ (ending ++ b ∷ more) in
+    let one = entry_again (whole - length (entry f ++ tail)) left before f tail fits.0 up.0 in
+    let e : entry f ++ flat_map entry fs ++ (ending ++ b ∷ more) ≡ entry f ++ tail = append_assoc (entry f) (flat_map entry fs) (ending ++ b ∷ more) in
+    ap (files_at whole (suc left) before) e ∙ rw (one, files_trail whole b more fs left f.path (omega arith) fits.1 up.1) refl
+
+set_trails : (fs : List File) (b : ℕ) (more : List ℕ) → IsBag fs → set_of (set_text fs ++ b ∷ more) ≡ Err TrailingBytes
+unfolding set_of
+set_trails fs b more bag =
+    let e : set_text fs ++ b ∷ more ≡ opening ++ (flat_map entry fs ++ (ending ++ b ∷ more)) = simp append_assoc in
+    ap set_of e ∙ rw (literal_again opening (flat_map entry fs ++ (ending ++ b ∷ more)), files_trail (length (opening ++ (flat_map entry fs ++ (ending ++ b ∷ more)))) b more fs max_files [] bag.few bag.each bag.ascending) refl
+
+pub none_begins : (x y : List File) → IsBag x → IsBag y → (more : List ℕ) → set_text x ≡ set_text y ++ more → more ≡ []
+none_begins x y p q [] same = refl
+none_begins x y p q (b ∷ more) same = absurd (apart (set_of (set_text x)) (set_again x p) (ap set_of same ∙ set_trails y b more q))
+  where
+    apart : (r : Result (List File) SetFault) → r ≡ Ok x → r ≡ Err TrailingBytes → ⊥
+    apart (Ok z) e g = absurd cc
+    apart (Err f) e g = absurd cc

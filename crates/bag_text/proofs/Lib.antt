@@ -1,0 +1,27 @@
+pub mod LineLemmas
+pub mod TextLemmas
+pub mod InfoLemmas
+pub mod InfoReadLemmas
+pub mod InfoLaws
+pub mod PathLemmas
+pub mod BlankLemmas
+pub mod DeclarationLemmas
+pub mod SetLemmas
+pub mod OrderLemmas
+pub mod ClashLemmas
+mod Examples
+pub mod NumberLemmas
+pub mod HeaderLemmas
+pub mod FormLemmas
+pub mod ManifestLemmas
+pub mod GoodPathLemmas
+pub mod ManifestLineLemmas
+pub mod ManifestEntryLemmas
+pub mod ManifestReadLemmas
+pub mod ManifestLaws
+pub mod FaultLemmas
+pub mod TableLemmas
+pub mod RefusalLemmas
+pub mod ListLemmas
+pub mod BagListLemmas
+pub mod WriteLemmas

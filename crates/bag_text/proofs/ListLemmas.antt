@@ -1,0 +1,230 @@
+-- The fault of a list of files that is computed is the one of the table, and none stands exactly in a bag.
+use Rattle.std.proofs.Common.{◌≡◌, ℕ, ◌+◌, ◌<◌, ◌≤◌, ◌↔◌, Bool, true, false, cond, ltb, leb, not, List, [], ◌∷◌, ◌++◌, length, refl, sym, ap, subst, ◌∙◌, arith}
+use Rattle.std.specs.Prelude.{Option, Some, None}
+use Rattle.std.specs.List.{AllByRecursion}
+use Rattle.std.proofs.lemmas.Bool.Decides.{nat_tests}
+use Rattle.bag_text.specs.declared.set_fault.SetFault.{SetFault}
+use Rattle.bag_text.specs.declared.set_fault.SetFault.TheVariants.{BadOpening, BadEntry, Truncated, OutOfOrder, BadPath, TooManyFiles, TrailingBytes, PathClash, Memory}
+use Rattle.bag_text.specs.Paths.{is_good, comes_before}
+use Rattle.bag_text.specs.TransferForm.{File, max_content, max_files, Ascends, clashes, Fits, IsBag}
+use Rattle.bag_text.specs.TransferFaults.{last_path}
+use Rattle.bag_text.specs.BagList.{IsFront, FileFault, ListFault, file_fault, or_else, fault_from, clash_fault, list_fault}
+
+abbrev some : SetFault → Option SetFault
+some f = Some f
+
+some_is : (f g : SetFault) → some f ≡ some g → f ≡ g
+some_is f g e = cc
+
+-- ---- one file
+
+-- a file without fault, at this position behind this path
+pub record IsFine (place : ℕ) (before : List ℕ) (f : File) : Type 0 where
+  pub room : place < max_files
+  pub fits : Fits f
+  pub after : comes_before before f.path ≡ true
+
+abbrev judged : ℕ → Bool → Bool → Bool → Bool → Option SetFault
+judged place long full good up = cond long (Some (BadEntry place)) (cond full (Some TooManyFiles) (cond (not good) (Some (BadPath place)) (cond (not up) (Some (OutOfOrder place)) None)))
+
+-- A file has no fault exactly where it is fine.
+file_none : (place : ℕ) (before : List ℕ) (f : File) → file_fault place before f ≡ None → IsFine place before f
+file_none place before f e = by_tests (ltb max_content (length f.content)) (leb max_files place) (is_good f.path) (comes_before before f.path) refl refl refl refl e
+  where
+    by_tests : (long full good up : Bool) → ltb max_content (length f.content) ≡ long → leb max_files place ≡ full → is_good f.path ≡ good → comes_before before f.path ≡ up → judged place long full good up ≡ None → IsFine place before f
+    by_tests true full good up a b c d e = absurd cc
+    by_tests false true good up a b c d e = absurd cc
+    by_tests false false false up a b c d e = absurd cc
+    by_tests false false true false a b c d e = absurd cc
+    by_tests false false true true a b c d e = record { room = grind (arith, nat_tests); fits = record { good = c; small = grind (arith, nat_tests) }; after = d }
+
+file_fine : (place : ℕ) (before : List ℕ) (f : File) → IsFine place before f → file_fault place before f ≡ None
+file_fine place before f fine =
+    let short : ltb max_content (length f.content) ≡ false = (let k = fine.fits.small in grind (arith, nat_tests)) in
+    let room : leb max_files place ≡ false = (let k = fine.room in grind (arith, nat_tests)) in
+    rw (short, room, fine.fits.good, fine.after) refl
+
+-- A file has a fault exactly where the table says so.
+file_some : (place : ℕ) (before : List ℕ) (f : File) (g : SetFault) → file_fault place before f ≡ Some g → FileFault place before f g
+file_some place before f g e = by_tests (ltb max_content (length f.content)) (leb max_files place) (is_good f.path) (comes_before before f.path) refl refl refl refl e
+  where
+    by_tests : (long full good up : Bool) → ltb max_content (length f.content) ≡ long → leb max_files place ≡ full → is_good f.path ≡ good → comes_before before f.path ≡ up → judged place long full good up ≡ Some g → FileFault place before f g
+    by_tests true full good up a b c d e = subst (λ (g : SetFault). FileFault place before f g) (some_is (BadEntry place) g e) (refl, grind (arith, nat_tests))
+    by_tests false true good up a b c d e = subst (λ (g : SetFault). FileFault place before f g) (some_is TooManyFiles g e) (grind (arith, nat_tests), grind (arith, nat_tests))
+    by_tests false false false up a b c d e = subst (λ (g : SetFault). FileFault place before f g) (some_is (BadPath place) g e) (refl, grind (arith, nat_tests), grind (arith, nat_tests), c)
+    by_tests false false true false a b c d e = subst (λ (g : SetFault). FileFault place before f g) (some_is (OutOfOrder place) g e) (refl, grind (arith, nat_tests), grind (arith, nat_tests), c, d)
+    by_tests false false true true a b c d e = absurd cc
+
+file_stands : (place : ℕ) (before : List ℕ) (f : File) (g : SetFault) → FileFault place before f g → file_fault place before f ≡ Some g
+file_stands place before f (BadEntry n) (at, long) =
+    let a : ltb max_content (length f.content) ≡ true = grind (arith, nat_tests) in
+    rw (at, a) refl
+file_stands place before f TooManyFiles (short, full) =
+    let a : ltb max_content (length f.content) ≡ false = grind (arith, nat_tests) in
+    let b : leb max_files place ≡ true = grind (arith, nat_tests) in
+    rw (a, b) refl
+file_stands place before f (BadPath n) (at, short, room, bad) =
+    let a : ltb max_content (length f.content) ≡ false = grind (arith, nat_tests) in
+    let b : leb max_files place ≡ false = grind (arith, nat_tests) in
+    rw (at, a, b, bad) refl
+file_stands place before f (OutOfOrder n) (at, short, room, good, order) =
+    let a : ltb max_content (length f.content) ≡ false = grind (arith, nat_tests) in
+    let b : leb max_files place ≡ false = grind (arith, nat_tests) in
+    rw (at, a, b, good, order) refl
+file_stands place before f BadOpening h = absurd h
+file_stands place before f Truncated h = absurd h
+file_stands place before f TrailingBytes h = absurd h
+file_stands place before f PathClash h = absurd h
+file_stands place before f Memory h = absurd h
+
+-- ---- one file after the other
+
+-- files without fault, from this position on, behind this path
+pub record AreFine (place : ℕ) (before : List ℕ) (files : List File) : Type 0 where
+  pub few : place + length files ≤ max_files
+  pub each : AllByRecursion Fits files
+  pub up : Ascends before files
+
+-- Where no fault is found, the files are fine.
+pub from_none : (place : ℕ) (before : List ℕ) (files : List File) → place ≤ max_files → fault_from place before files ≡ None → AreFine place before files
+unfolding fault_from
+from_none place before [] few e = record { few = omega arith; each = tt; up = tt }
+from_none place before (f ∷ fs) few e = by_file (file_fault place before f) refl e (λ room e'. from_none (place + 1) f.path fs (omega arith) e')
+  where
+    by_file : (r : Option SetFault) → file_fault place before f ≡ r → or_else r (fault_from (place + 1) f.path fs) ≡ None → (place < max_files → fault_from (place + 1) f.path fs ≡ None → AreFine (place + 1) f.path fs) → AreFine place before (f ∷ fs)
+    by_file (Some g) is e again = absurd cc
+    by_file None is e again =
+        let fine = file_none place before f is in
+        let later = again fine.room e in
+        record { few = (let k = later.few in omega arith); each = (fine.fits, later.each); up = (fine.after, later.up) }
+
+from_fine : (place : ℕ) (before : List ℕ) (files : List File) → AreFine place before files → fault_from place before files ≡ None
+unfolding fault_from
+from_fine place before [] fine = refl
+from_fine place before (f ∷ fs) fine =
+    let k = fine.few in
+    let first : IsFine place before f = record { room = omega arith; fits = fine.each.0; after = fine.up.0 } in
+    rw (file_fine place before f first) (from_fine (place + 1) f.path fs (record { few = omega arith; each = fine.each.1; up = fine.up.1 }))
+
+-- a fault of a list: files without fault, then one that has it
+pub record FaultAt (place : ℕ) (before : List ℕ) (files : List File) (g : SetFault) : Type 0 where
+  pub front : List File
+  pub file : File
+  pub rest : List File
+  pub is : files ≡ front ++ file ∷ rest
+  pub fine : AreFine place before front
+  pub fault : FileFault (place + length front) (last_path before front) file g
+
+from_some : (place : ℕ) (before : List ℕ) (files : List File) (g : SetFault) → place ≤ max_files → fault_from place before files ≡ Some g → FaultAt place before files g
+unfolding fault_from
+from_some place before [] g few e = absurd cc
+from_some place before (f ∷ fs) g few e = by_file (file_fault place before f) refl e (λ room e'. from_some (place + 1) f.path fs g (omega arith) e')
+  where
+    by_file : (r : Option SetFault) → file_fault place before f ≡ r → or_else r (fault_from (place + 1) f.path fs) ≡ Some g → (place < max_files → fault_from (place + 1) f.path fs ≡ Some g → FaultAt (place + 1) f.path fs g) → FaultAt place before (f ∷ fs) g
+    by_file (Some h) is e again =
+        let same : place + 0 ≡ place = omega arith in
+        record {
+          front = [];
+          file = f;
+          rest = fs;
+          is = refl;
+          fine = record { few = omega arith; each = tt; up = tt };
+          fault = subst (λ (n : ℕ). FileFault n before f g) (sym same) (file_some place before f g (is ∙ e));
+        }
+    by_file None is e again =
+        let fine = file_none place before f is in
+        let later = again fine.room e in
+        let k = later.fine.few in
+        let same : place + 1 + length later.front ≡ place + length (f ∷ later.front) = omega arith in
+        record {
+          front = f ∷ later.front;
+          file = later.file;
+          rest = later.rest;
+          is = ap (λ (t : List File). f ∷ t) later.is;
+          fine = record { few = omega arith; each = (fine.fits, later.fine.each); up = (fine.after, later.fine.up) };
+          fault = subst (λ (n : ℕ). FileFault n (last_path f.path later.front) later.file g) same later.fault;
+        }
+
+from_stands : (place : ℕ) (before : List ℕ) (front : List File) (file : File) (rest : List File) (g : SetFault) → AreFine place before front → FileFault (place + length front) (last_path before front) file g → fault_from place before (front ++ file ∷ rest) ≡ Some g
+unfolding fault_from
+from_stands place before [] file rest g fine h =
+    let same : place + 0 ≡ place = omega arith in
+    rw (file_stands place before file g (subst (λ (n : ℕ). FileFault n before file g) same h)) refl
+from_stands place before (f ∷ front) file rest g fine h =
+    let k = fine.few in
+    let first : IsFine place before f = record { room = omega arith; fits = fine.each.0; after = fine.up.0 } in
+    let same : place + length (f ∷ front) ≡ place + 1 + length front = omega arith in
+    rw (file_fine place before f first) (from_stands (place + 1) f.path front file rest g (record { few = omega arith; each = fine.each.1; up = fine.up.1 }) (subst (λ (n : ℕ). FileFault n (last_path f.path front) file g) same h))
+
+-- ---- the whole list
+
+front_of : (files : List File) → AreFine 0 [] files → IsFront files
+front_of files fine = record { few = (let k = fine.few in omega arith); each = fine.each; ascending = fine.up }
+
+fine_of : (files : List File) → IsFront files → AreFine 0 [] files
+fine_of files front = record { few = (let k = front.few in omega arith); each = front.each; up = front.ascending }
+
+from_zero : (n : ℕ) → 0 + n ≡ n
+from_zero n = omega arith
+
+-- a fault of one of the files is a fault of the list
+of_file : (files : List File) (g : SetFault) → FaultAt 0 [] files g → ListFault files g
+of_file files PathClash at = absurd at.fault
+of_file files (BadEntry n) at = (at.front, at.file, at.rest, at.is, front_of at.front at.fine, subst (λ (place : ℕ). FileFault place (last_path [] at.front) at.file (BadEntry n)) (from_zero (length at.front)) at.fault)
+of_file files (OutOfOrder n) at = (at.front, at.file, at.rest, at.is, front_of at.front at.fine, subst (λ (place : ℕ). FileFault place (last_path [] at.front) at.file (OutOfOrder n)) (from_zero (length at.front)) at.fault)
+of_file files (BadPath n) at = (at.front, at.file, at.rest, at.is, front_of at.front at.fine, subst (λ (place : ℕ). FileFault place (last_path [] at.front) at.file (BadPath n)) (from_zero (length at.front)) at.fault)
+of_file files TooManyFiles at = (at.front, at.file, at.rest, at.is, front_of at.front at.fine, subst (λ (place : ℕ). FileFault place (last_path [] at.front) at.file TooManyFiles) (from_zero (length at.front)) at.fault)
+of_file files BadOpening at = absurd at.fault
+of_file files Truncated at = absurd at.fault
+of_file files TrailingBytes at = absurd at.fault
+of_file files Memory at = absurd at.fault
+
+list_some : (files : List File) (g : SetFault) → list_fault files ≡ Some g → ListFault files g
+list_some files g e = by_files (fault_from 0 [] files) refl e
+  where
+    by_files : (r : Option SetFault) → fault_from 0 [] files ≡ r → or_else r (clash_fault files) ≡ Some g → ListFault files g
+    by_files (Some h) is e = of_file files g (from_some 0 [] files g (omega arith) (is ∙ e))
+    by_files None is e = by_clash (clashes files) refl e
+      where
+        by_clash : (r : Bool) → clashes files ≡ r → cond r (Some PathClash) None ≡ Some g → ListFault files g
+        by_clash false so e = absurd cc
+        by_clash true so e = subst (λ (g : SetFault). ListFault files g) (some_is PathClash g e) (front_of files (from_none 0 [] files (omega arith) is), so)
+
+listed_stands : (files : List File) (g : SetFault) (front : List File) (f : File) (rest : List File) → files ≡ front ++ f ∷ rest → IsFront front → FileFault (length front) (last_path [] front) f g → list_fault files ≡ Some g
+listed_stands files g front f rest is fine h =
+    let same : length front ≡ 0 + length front = omega arith in
+    let read = ap (fault_from 0 []) is ∙ from_stands 0 [] front f rest g (fine_of front fine) (subst (λ (n : ℕ). FileFault n (last_path [] front) f g) same h) in
+    rw read refl
+
+list_stands : (files : List File) (g : SetFault) → ListFault files g → list_fault files ≡ Some g
+list_stands files PathClash (fine, clash) = rw (from_fine 0 [] files (fine_of files fine), clash) refl
+list_stands files (BadEntry n) (front, f, rest, is, fine, h) = listed_stands files (BadEntry n) front f rest is fine h
+list_stands files (OutOfOrder n) (front, f, rest, is, fine, h) = listed_stands files (OutOfOrder n) front f rest is fine h
+list_stands files (BadPath n) (front, f, rest, is, fine, h) = listed_stands files (BadPath n) front f rest is fine h
+list_stands files TooManyFiles (front, f, rest, is, fine, h) = listed_stands files TooManyFiles front f rest is fine h
+list_stands files BadOpening (front, f, rest, is, fine, h) = absurd h
+list_stands files Truncated (front, f, rest, is, fine, h) = absurd h
+list_stands files TrailingBytes (front, f, rest, is, fine, h) = absurd h
+list_stands files Memory (front, f, rest, is, fine, h) = absurd h
+
+-- The fault that is computed is the first fault of the list.
+pub list_fault_law : (files : List File) (fault : SetFault) → (list_fault files ≡ Some fault) ↔ ListFault files fault
+list_fault_law files fault = (list_some files fault, list_stands files fault)
+
+list_none : (files : List File) → list_fault files ≡ None → IsBag files
+list_none files e = by_files (fault_from 0 [] files) refl e
+  where
+    by_files : (r : Option SetFault) → fault_from 0 [] files ≡ r → or_else r (clash_fault files) ≡ None → IsBag files
+    by_files (Some h) is e = absurd cc
+    by_files None is e = by_clash (clashes files) refl e
+      where
+        by_clash : (r : Bool) → clashes files ≡ r → cond r (Some PathClash) None ≡ None → IsBag files
+        by_clash true so e = absurd cc
+        by_clash false so e = let front = front_of files (from_none 0 [] files (omega arith) is) in record { few = front.few; each = front.each; ascending = front.ascending; apart = so }
+
+bag_stands : (files : List File) → IsBag files → list_fault files ≡ None
+bag_stands files bag = rw (from_fine 0 [] files (fine_of files (record { few = bag.few; each = bag.each; ascending = bag.ascending })), bag.apart) refl
+
+-- None is computed exactly for a bag.
+pub list_bag_law : (files : List File) → (list_fault files ≡ None) ↔ IsBag files
+list_bag_law files = (list_none files, bag_stands files)

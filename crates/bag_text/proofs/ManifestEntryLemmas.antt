@@ -1,0 +1,221 @@
+-- The entries of a manifest, line after line.
+use Rattle.std.proofs.Common.{◌≡◌, ℕ, zero, suc, ◌+◌, ◌-◌, ◌<◌, ◌≤◌, Bool, true, false, cond, List, [], ◌∷◌, ◌++◌, length, refl, sym, ap, subst, ◌∙◌, ◌⊎◌, inl, inr, arith}
+use Rattle.std.specs.Prelude.{Some, is_some, map, slice_get, Contains}
+use Rattle.std.specs.List.{AllByRecursion}
+use Rattle.std.specs.declared.cmp.Ordering.{Ordering}
+use Rattle.std.specs.declared.cmp.Ordering.TheVariants.{Less, Equal, Greater}
+use Rattle.std.specs.Ordering.{nat_cmp, match_ordering, is_eq, is_lt, ordering_reverse}
+use Rattle.std.specs.Cmp.Lexicographic.{slice_cmp}
+use Rattle.std.specs.BTreeMap.{insert_entry, is_at}
+use Rattle.std.specs.Map.{lookup}
+use Rattle.std.proofs.lemmas.Bool.{cases_lt}
+use Rattle.std.proofs.lemmas.Cmp.{nat_list_cmp_total}
+use Rattle.std.proofs.lemmas.Map.Text.{is_eq-slice_cmp}
+use Rattle.std.proofs.lemmas.Slice.Eq.{bytes_eq-Decides}
+use Rattle.std.proofs.lemmas.Option.{same_Some, slice_get_within}
+use Rattle.std.proofs.lemmas.List.{length_push}
+use Rattle.bag_text.specs.Paths.{comes_before}
+use Rattle.bag_text.specs.Manifest.{AscendingPaths}
+use Rattle.bag_text.specs.ManifestReading.{Entry, Entries, is_listed}
+
+-- ---- elements
+
+-- x is an element, by the list's parts
+abbrev pub Has : {A : Type 0} → List A → A → Type 0
+Has [] x = ⊥
+Has (y ∷ ys) x = (y ≡ x) ⊎ Has ys x
+
+-- an element by its place is one by the parts
+pub contains_has : {A : Type 0} (xs : List A) (x : A) → Contains xs x → Has xs x
+contains_has [] x (k, within, is) = absurd (omega arith)
+contains_has (y ∷ ys) x (zero, within, is) = inl is
+contains_has (y ∷ ys) x (suc k, within, is) = inr (contains_has ys x (k, omega arith, is))
+
+-- an element by the parts has a place
+pub has_contains : {A : Type 0} (xs : List A) (x : A) → Has xs x → Contains xs x
+has_contains [] x h = absurd h
+has_contains (y ∷ ys) x (inl e) = (0, omega arith, e)
+has_contains (y ∷ ys) x (inr h) = let rest = has_contains ys x h in (suc rest.0, omega (arith, rest.1), rest.2)
+
+-- ---- places in a list of lines
+
+-- the line of this number, from 1
+abbrev pub At : List (List ℕ) → ℕ → List ℕ → Type 0
+At ls n line = (1 ≤ n) × (slice_get ls (n - 1) ≡ Some line)
+
+-- an element of the front is one of the whole
+get_front : (xs ys : List (List ℕ)) (k : ℕ) (x : List ℕ) → slice_get xs k ≡ Some x → slice_get (xs ++ ys) k ≡ Some x
+get_front [] ys k x e = absurd cc
+get_front (y ∷ xs) ys zero x e = e
+get_front (y ∷ xs) ys (suc k) x e = get_front xs ys k x e
+
+-- the element behind the front
+get_last : (xs : List (List ℕ)) (x : List ℕ) (ys : List (List ℕ)) → slice_get (xs ++ x ∷ ys) (length xs) ≡ Some x
+get_last [] x ys = refl
+get_last (y ∷ xs) x ys = get_last xs x ys
+
+-- an element within the front is one of it
+get_back : (xs ys : List (List ℕ)) (k : ℕ) (x : List ℕ) → k < length xs → slice_get (xs ++ ys) k ≡ Some x → slice_get xs k ≡ Some x
+get_back [] ys k x lt e = absurd (omega arith)
+get_back (y ∷ xs) ys zero x lt e = e
+get_back (y ∷ xs) ys (suc k) x lt e = get_back xs ys k x (omega arith) e
+
+-- a line of the front is one of the whole
+pub at_front : (xs ys : List (List ℕ)) (n : ℕ) (line : List ℕ) → At xs n line → At (xs ++ ys) n line
+at_front xs ys n line at = (at.0, get_front xs ys (n - 1) line at.1)
+
+-- a line's number is within the list
+pub at_within : (xs : List (List ℕ)) (n : ℕ) (line : List ℕ) → At xs n line → n < length xs + 1
+at_within xs n line at = let k = slice_get_within xs (n - 1) line at.1 in omega (arith, at.0)
+
+-- a line within the front is one of it
+pub at_back : (xs ys : List (List ℕ)) (n : ℕ) (line : List ℕ) → n < length xs + 1 → At (xs ++ ys) n line → At xs n line
+at_back xs ys n line lt at = (at.0, get_back xs ys (n - 1) line (omega (arith, at.0)) at.1)
+
+-- each number has one line
+pub at_same : (xs : List (List ℕ)) (n : ℕ) (one two : List ℕ) → At xs n one → At xs n two → one ≡ two
+at_same xs n one two a b = same_Some one two (sym a.1 ∙ b.1)
+
+-- the line behind the front
+pub at_last : (xs : List (List ℕ)) (line : List ℕ) (ys : List (List ℕ)) → At (xs ++ line ∷ ys) (length xs + 1) line
+at_last xs line ys = let n : length xs + 1 - 1 ≡ length xs = omega arith in (omega arith, rw n (get_last xs line ys))
+
+-- a line of a list with one more is of the list, or that one
+pub at_push : (xs : List (List ℕ)) (last : List ℕ) (n : ℕ) (line : List ℕ) → At (xs ++ last ∷ []) n line → At xs n line ⊎ ((n ≡ length xs + 1) × (last ≡ line))
+at_push xs last n line at = by_order (cases_lt n (length xs + 1))
+  where
+    all : length (xs ++ last ∷ []) ≡ length xs + 1
+    all = length_push xs last
+
+    by_order : (n < length xs + 1) ⊎ (length xs + 1 ≤ n) → At xs n line ⊎ ((n ≡ length xs + 1) × (last ≡ line))
+    by_order (inl lt) = inl (at_back xs (last ∷ []) n line lt at)
+    by_order (inr le) =
+        let within = at_within (xs ++ last ∷ []) n line at in
+        let is : n ≡ length xs + 1 = omega (arith, all) in
+        inr (is, at_same (xs ++ last ∷ []) n last line (subst (λ (m : ℕ). At (xs ++ last ∷ []) m last) (sym is) (at_last xs last [])) at)
+
+-- ---- looking a path up
+
+-- the order of paths
+abbrev pub order : List ℕ → List ℕ → Ordering
+order = slice_cmp nat_cmp
+
+-- paths that compare equal are equal
+pub same_path : (p q : List ℕ) → is_eq (order p q) ≡ true → p ≡ q
+same_path p q e = (bytes_eq-Decides p q).0 (sym (is_eq-slice_cmp p q) ∙ e)
+
+-- a path compares equal to itself
+pub itself : (p : List ℕ) → is_eq (order p p) ≡ true
+itself p = is_eq-slice_cmp p p ∙ (bytes_eq-Decides p p).1 refl
+
+-- a listed path has an entry
+pub listed_has : (path : List ℕ) (es : Entries) → is_listed path es ≡ true → (entry : Entry) × Has es (path, entry)
+listed_has path [] e = absurd cc
+listed_has path (f ∷ es) e = by_test (is_eq (order path f.0)) refl e (λ h. listed_has path es h)
+  where
+    by_test : (x : Bool) → is_eq (order path f.0) ≡ x → is_some (cond x (Some f.1) (lookup (is_at (order path)) es)) ≡ true → (is_listed path es ≡ true → (entry : Entry) × Has es (path, entry)) → (entry : Entry) × Has (f ∷ es) (path, entry)
+    by_test true is e again = (f.1, inl (ap (λ (p : List ℕ). (p, f.1)) (sym (same_path path f.0 is))))
+    by_test false is e again = let found = again e in (found.0, inr found.1)
+
+-- an entry's path is listed
+pub has_listed : (path : List ℕ) (entry : Entry) (es : Entries) → Has es (path, entry) → is_listed path es ≡ true
+has_listed path entry [] h = absurd h
+has_listed path entry (f ∷ es) (inl e) =
+    let is : is_eq (order path f.0) ≡ true = subst (λ (p : List ℕ). is_eq (order path p) ≡ true) (sym (ap (λ (x : List ℕ × Entry). x.0) e)) (itself path) in
+    rw is refl
+has_listed path entry (f ∷ es) (inr h) = by_test (is_eq (order path f.0)) (has_listed path entry es h)
+  where
+    by_test : (x : Bool) → is_listed path es ≡ true → is_some (cond x (Some f.1) (lookup (is_at (order path)) es)) ≡ true
+    by_test true again = refl
+    by_test false again = again
+
+-- ---- putting an entry in its place
+
+-- an entry in its place
+abbrev pub put : Entries → List ℕ → Entry → Entries
+put es path entry = insert_entry order es path entry
+
+-- the new entry is there
+pub put_new : (es : Entries) (path : List ℕ) (entry : Entry) → is_listed path es ≡ false → Has (put es path entry) (path, entry)
+put_new [] path entry new = inl refl
+put_new (f ∷ es) path entry new = by_order (order path f.0) new (λ h. put_new es path entry h)
+  where
+    by_order : (o : Ordering) → is_some (cond (is_eq o) (Some f.1) (lookup (is_at (order path)) es)) ≡ false → (is_listed path es ≡ false → Has (put es path entry) (path, entry)) → Has (match_ordering o ((path, entry) ∷ f ∷ es) ((f.0, entry) ∷ es) (f ∷ put es path entry)) (path, entry)
+    by_order Less new again = inl refl
+    by_order Equal new again = absurd cc
+    by_order Greater new again = inr (again new)
+
+-- the other entries stay
+pub put_old : (es : Entries) (path : List ℕ) (entry : Entry) (x : List ℕ × Entry) → is_listed path es ≡ false → Has es x → Has (put es path entry) x
+put_old [] path entry x new h = absurd h
+put_old (f ∷ es) path entry x new h = by_order (order path f.0) new h (λ n k. put_old es path entry x n k)
+  where
+    front : (f ≡ x) ⊎ Has es x → (Has es x → Has (put es path entry) x) → Has (f ∷ put es path entry) x
+    front (inl e) again = inl e
+    front (inr h) again = inr (again h)
+
+    by_order : (o : Ordering) → is_some (cond (is_eq o) (Some f.1) (lookup (is_at (order path)) es)) ≡ false → Has (f ∷ es) x → (is_listed path es ≡ false → Has es x → Has (put es path entry) x) → Has (match_ordering o ((path, entry) ∷ f ∷ es) ((f.0, entry) ∷ es) (f ∷ put es path entry)) x
+    by_order Less new h again = inr h
+    by_order Equal new h again = absurd cc
+    by_order Greater new h again = front h (again new)
+
+-- each entry is the new one or was there
+pub put_cases : (es : Entries) (path : List ℕ) (entry : Entry) (x : List ℕ × Entry) → is_listed path es ≡ false → Has (put es path entry) x → ((path, entry) ≡ x) ⊎ Has es x
+put_cases [] path entry x new h = h
+put_cases (f ∷ es) path entry x new h = by_order (order path f.0) new h (λ n k. put_cases es path entry x n k)
+  where
+    behind : ((path, entry) ≡ x) ⊎ Has es x → ((path, entry) ≡ x) ⊎ Has (f ∷ es) x
+    behind (inl e) = inl e
+    behind (inr h) = inr (inr h)
+
+    front : (f ≡ x) ⊎ Has (put es path entry) x → (Has (put es path entry) x → ((path, entry) ≡ x) ⊎ Has es x) → ((path, entry) ≡ x) ⊎ Has (f ∷ es) x
+    front (inl e) again = inr (inl e)
+    front (inr h) again = behind (again h)
+
+    by_order : (o : Ordering) → is_some (cond (is_eq o) (Some f.1) (lookup (is_at (order path)) es)) ≡ false → Has (match_ordering o ((path, entry) ∷ f ∷ es) ((f.0, entry) ∷ es) (f ∷ put es path entry)) x → (is_listed path es ≡ false → Has (put es path entry) x → ((path, entry) ≡ x) ⊎ Has es x) → ((path, entry) ≡ x) ⊎ Has (f ∷ es) x
+    by_order Less new h again = h
+    by_order Equal new h again = absurd cc
+    by_order Greater new h again = front h (again new)
+
+-- ---- the paths ascend
+
+-- the paths of the entries
+abbrev pub paths_in : Entries → List (List ℕ)
+paths_in es = map (λ e. e.0) es
+
+-- a path comes before another
+abbrev IsLater : List ℕ → List ℕ → Type 0
+IsLater path later = comes_before path later ≡ true
+
+-- what is less compares so
+less : (o : Ordering) → is_lt o ≡ true → o ≡ Less
+less Less e = refl
+less Equal e = absurd cc
+less Greater e = absurd cc
+
+-- what comes before a path comes before those behind it
+later_still : (p q : List ℕ) (rs : List (List ℕ)) → IsLater p q → AllByRecursion (IsLater q) rs → AllByRecursion (IsLater p) rs
+later_still p q [] e all = tt
+later_still p q (r ∷ rs) e all = (ap is_lt (nat_list_cmp_total.trans p q r (less (order p q) e) (less (order q r) all.0)), later_still p q rs e all.1)
+
+-- what holds of a new path and of all others
+all_put : (P : List ℕ → Type 0) (es : Entries) (path : List ℕ) (entry : Entry) → P path → AllByRecursion P (paths_in es) → AllByRecursion P (paths_in (put es path entry))
+all_put P [] path entry one all = (one, tt)
+all_put P (f ∷ es) path entry one all = by_order (order path f.0) (all_put P es path entry one all.1)
+  where
+    by_order : (o : Ordering) → AllByRecursion P (paths_in (put es path entry)) → AllByRecursion P (paths_in (match_ordering o ((path, entry) ∷ f ∷ es) ((f.0, entry) ∷ es) (f ∷ put es path entry)))
+    by_order Less again = (one, all)
+    by_order Equal again = all
+    by_order Greater again = (all.0, again)
+
+-- the paths still ascend
+pub put_ascends : (es : Entries) (path : List ℕ) (entry : Entry) → is_listed path es ≡ false → AscendingPaths (paths_in es) → AscendingPaths (paths_in (put es path entry))
+put_ascends [] path entry new up = (tt, tt)
+put_ascends (f ∷ es) path entry new up = by_order (order path f.0) refl new (λ n. put_ascends es path entry n up.1)
+  where
+    by_order : (o : Ordering) → order path f.0 ≡ o → is_some (cond (is_eq o) (Some f.1) (lookup (is_at (order path)) es)) ≡ false → (is_listed path es ≡ false → AscendingPaths (paths_in (put es path entry))) → AscendingPaths (paths_in (match_ordering o ((path, entry) ∷ f ∷ es) ((f.0, entry) ∷ es) (f ∷ put es path entry)))
+    by_order Less is new again = let first : IsLater path f.0 = ap is_lt is in ((first, later_still path f.0 (paths_in es) first up.0), up)
+    by_order Equal is new again = absurd cc
+    by_order Greater is new again =
+        let first : IsLater f.0 path = ap is_lt (nat_list_cmp_total.antisymm f.0 path ∙ ap ordering_reverse is) in
+        (all_put (IsLater f.0) es path entry first up.0, again new)

@@ -1,0 +1,188 @@
+-- A number that is read is the number that is spelled, up to the byte that stops it.
+use Rattle.std.proofs.Common.{◌≡◌, ℕ, ◌+◌, ◌-◌, ◌*◌, ◌/◌, ◌%◌, ◌^◌, ◌<◌, ◌≤◌, Bool, true, false, cond, eqb, ltb, leb, ◌&&◌, List, [], ◌∷◌, ◌++◌, Result, Ok, Err, refl, sym, ap, subst, ◌∙◌, arith, append_assoc}
+use Rattle.std.specs.Prelude.{decimal}
+use Rattle.std.specs.Char.{is_ascii_digit}
+use Rattle.std.proofs.lemmas.Bool.Decides.{nat_tests}
+use Rattle.std.proofs.lemmas.Bool.{eqb-true}
+use Rattle.std.proofs.lemmas.List.{append-nil}
+use Rattle.std.proofs.lemmas.Fmt.{decimal_digit, decimal_step, decimal_by_steps}
+use Rattle.bag_text.specs.declared.header.Flaw.{Flaw}
+use Rattle.bag_text.specs.declared.header.Flaw.TheVariants.{Short, Bad}
+use Rattle.bag_text.specs.TransferReading.{digits_at, number_at}
+
+-- one more digit
+pub push_digit : (n b : ℕ) → 0 < n → n * 10 + (b - 48) < 2 ^ 64 → is_ascii_digit b ≡ true → decimal (n * 10 + (b - 48)) ≡ decimal n ++ b ∷ []
+push_digit n b lt small digit =
+    let low : 48 ≤ b = grind (arith, nat_tests) in
+    let high : b ≤ 57 = grind (arith, nat_tests) in
+    let front : (n * 10 + (b - 48)) / 10 ≡ n = omega arith in
+    let last : 48 + (n * 10 + (b - 48)) % 10 ≡ b = omega arith in
+    decimal_step (n * 10 + (b - 48)) (omega arith) small ∙ rw (front, last) refl
+
+-- what was taken: the digits behind the first ones
+pub record More (most n m : ℕ) (taken : List ℕ) : Type 0 where
+  pub spelled : decimal m ≡ decimal n ++ taken
+  pub low : n ≤ m
+  pub high : m ≤ most
+
+same : (most n : ℕ) → n ≤ most → More most n n []
+same most n le = record { spelled = sym (append-nil (decimal n)); low = omega arith; high = le }
+
+and_more : (most n b m : ℕ) (taken : List ℕ) → most < 2 ^ 32 → 0 < n → is_ascii_digit b ≡ true → n * 10 + (b - 48) ≤ most → More most (n * 10 + (b - 48)) m taken → More most n m (b ∷ taken)
+and_more most n b m taken small lt digit le h = record {
+  spelled = h.spelled ∙ ap (λ (ds : List ℕ). ds ++ taken) (push_digit n b lt (omega arith) digit) ∙ append_assoc (decimal n) (b ∷ []) taken;
+  low = let k = h.low in omega arith;
+  high = h.high;
+}
+
+abbrev may_go : ℕ → ℕ → ℕ → Bool
+may_go most n b = is_ascii_digit b && ltb 0 n && leb (n * 10 + (b - 48)) most
+
+pub record Goes (most n b : ℕ) : Type 0 where
+  pub digit : is_ascii_digit b ≡ true
+  pub above : 0 < n
+  pub within : n * 10 + (b - 48) ≤ most
+
+goes : (most n b : ℕ) → may_go most n b ≡ true → Goes most n b
+goes most n b e = record { digit = grind (arith, nat_tests); above = grind (arith, nat_tests); within = grind (arith, nat_tests) }
+
+abbrev pub done : {A : Type 0} → A → Result A Flaw
+done x = Ok x
+
+pub ok_is : {A : Type 0} (x y : A) → done x ≡ done y → x ≡ y
+ok_is x y e = cc
+
+pub digits_ok : (stop most n : ℕ) (t : List ℕ) (m : ℕ) (rest : List ℕ) → most < 2 ^ 32 → n ≤ most → digits_at stop most n t ≡ Ok (m, rest) → (taken : List ℕ) × (t ≡ taken ++ stop ∷ rest) × More most n m taken
+unfolding digits_at
+digits_ok stop most n [] m rest small le e = absurd cc
+digits_ok stop most n (b ∷ t) m rest small le e = by_stop (eqb b stop) refl (may_go most n b) refl e (λ le' e'. digits_ok stop most (n * 10 + (b - 48)) t m rest small le' e')
+  where
+    by_stop : (x : Bool) → eqb b stop ≡ x → (y : Bool) → may_go most n b ≡ y
+        → cond x (Ok (n, t)) (cond y (digits_at stop most (n * 10 + (b - 48)) t) (Err Bad)) ≡ Ok (m, rest)
+        → (n * 10 + (b - 48) ≤ most → digits_at stop most (n * 10 + (b - 48)) t ≡ Ok (m, rest) → (taken : List ℕ) × (t ≡ taken ++ stop ∷ rest) × More most (n * 10 + (b - 48)) m taken)
+        → (taken : List ℕ) × (b ∷ t ≡ taken ++ stop ∷ rest) × More most n m taken
+    by_stop true is y may h again =
+        let pair = ok_is (n, t) (m, rest) h in
+        let m-is : n ≡ m = ap (λ (p : ℕ × List ℕ). p.0) pair in
+        let rest-is : t ≡ rest = ap (λ (p : ℕ × List ℕ). p.1) pair in
+        let b-is : b ≡ stop = eqb-true b stop is in
+        ([], cc, subst (λ (k : ℕ). More most n k []) m-is (same most n le))
+    by_stop false is true may h again =
+        let g = goes most n b may in
+        let r = again g.within h in
+        (b ∷ r.0, ap (λ (s : List ℕ). b ∷ s) r.1, and_more most n b m r.0 small g.above g.digit g.within r.2)
+    by_stop false is false may h again = absurd cc
+
+-- what a text of digits may still become
+pub digits_short : (stop most n : ℕ) (t : List ℕ) → most < 2 ^ 32 → n ≤ most → digits_at stop most n t ≡ Err Short → (m : ℕ) × More most n m t
+unfolding digits_at
+digits_short stop most n [] small le e = (n, same most n le)
+digits_short stop most n (b ∷ t) small le e = by_stop (eqb b stop) (may_go most n b) refl e (λ le' e'. digits_short stop most (n * 10 + (b - 48)) t small le' e')
+  where
+    by_stop : (x y : Bool) → may_go most n b ≡ y
+        → cond x (Ok (n, t)) (cond y (digits_at stop most (n * 10 + (b - 48)) t) (Err Bad)) ≡ Err Short
+        → (n * 10 + (b - 48) ≤ most → digits_at stop most (n * 10 + (b - 48)) t ≡ Err Short → (m : ℕ) × More most (n * 10 + (b - 48)) m t)
+        → (m : ℕ) × More most n m (b ∷ t)
+    by_stop true y may h again = absurd cc
+    by_stop false true may h again =
+        let g = goes most n b may in
+        let r = again g.within h in
+        (r.0, and_more most n b r.0 t small g.above g.digit g.within r.1)
+    by_stop false false may h again = absurd cc
+
+-- what is bad stays so, whatever follows
+pub digits_bad : (stop most n : ℕ) (t more : List ℕ) → digits_at stop most n t ≡ Err Bad → digits_at stop most n (t ++ more) ≡ Err Bad
+unfolding digits_at
+digits_bad stop most n [] more e = absurd cc
+digits_bad stop most n (b ∷ t) more e = by_stop (eqb b stop) (may_go most n b) e (λ e'. digits_bad stop most (n * 10 + (b - 48)) t more e')
+  where
+    by_stop : (x y : Bool)
+        → cond x (Ok (n, t)) (cond y (digits_at stop most (n * 10 + (b - 48)) t) (Err Bad)) ≡ Err Bad
+        → (digits_at stop most (n * 10 + (b - 48)) t ≡ Err Bad → digits_at stop most (n * 10 + (b - 48)) (t ++ more) ≡ Err Bad)
+        → cond x (Ok (n, t ++ more)) (cond y (digits_at stop most (n * 10 + (b - 48)) (t ++ more)) (Err Bad)) ≡ Err Bad
+    by_stop true y h again = absurd cc
+    by_stop false true h again = again h
+    by_stop false false h again = refl
+
+-- ---- a whole number
+
+-- stop is no digit
+abbrev pub Stops : ℕ → Type 0
+Stops stop = stop < 48
+
+-- a spelled number goes to its value
+pub number_goes : (stop least most : ℕ) → Stops stop → least ≤ 1 → (n : ℕ) → n < 2 ^ 64 → least ≤ n → n ≤ most → (tail : List ℕ) → number_at stop least most (decimal n ++ tail) ≡ digits_at stop most n tail
+unfolding number_at digits_at
+number_goes stop least most stops low n small =
+    decimal_by_steps (λ k ds. least ≤ k → k ≤ most → (tail : List ℕ) → number_at stop least most (ds ++ tail) ≡ digits_at stop most k tail)
+    (λ k lt ge le tail.
+    let digit : is_ascii_digit (48 + k) ≡ true = grind (arith, nat_tests) in
+    let value : 48 + k - 48 ≡ k = omega arith in
+    let ok : leb least k ≡ true = grind (arith, nat_tests) in
+    rw (digit, value, ok) refl)
+    (λ k ds ge10 before ge le tail.
+    let one = before (omega arith) (omega arith) ((48 + k % 10) ∷ tail) in
+    let digit : is_ascii_digit (48 + k % 10) ≡ true = grind (arith, nat_tests) in
+    let other : eqb (48 + k % 10) stop ≡ false = grind (arith, nat_tests) in
+    let above : ltb 0 (k / 10) ≡ true = grind (arith, nat_tests) in
+    let value : k / 10 * 10 + (48 + k % 10 - 48) ≡ k = omega arith in
+    let ok : leb k most ≡ true = grind (arith, nat_tests) in
+    rw append_assoc (one ∙ rw (other, digit, above, value, ok) refl))
+    n small
+
+pub number_again : (stop least most : ℕ) → Stops stop → least ≤ 1 → (n : ℕ) → n < 2 ^ 64 → least ≤ n → n ≤ most → (rest : List ℕ) → number_at stop least most (decimal n ++ stop ∷ rest) ≡ Ok (n, rest)
+unfolding digits_at
+number_again stop least most stops low n small ge le rest =
+    let same : eqb stop stop ≡ true = grind (arith, nat_tests) in
+    number_goes stop least most stops low n small ge le (stop ∷ rest) ∙ rw same refl
+
+-- the bounds of a number
+pub record InBounds (least most n : ℕ) : Type 0 where
+  pub low : least ≤ n
+  pub high : n ≤ most
+
+abbrev may_start : ℕ → ℕ → Bool
+may_start least b = is_ascii_digit b && leb least (b - 48)
+
+first_digit : (least b : ℕ) → may_start least b ≡ true → (48 ≤ b) × (b ≤ 57) × (least ≤ b - 48)
+first_digit least b e = (grind (arith, nat_tests), grind (arith, nat_tests), grind (arith, nat_tests))
+
+one_digit : (b : ℕ) → 48 ≤ b → b ≤ 57 → decimal (b - 48) ≡ b ∷ []
+one_digit b low high =
+    let back : 48 + (b - 48) ≡ b = omega arith in
+    decimal_digit (b - 48) (omega arith) ∙ rw back refl
+
+pub number_ok : (stop least most : ℕ) → most < 2 ^ 32 → 9 ≤ most → (t : List ℕ) (m : ℕ) (rest : List ℕ) → number_at stop least most t ≡ Ok (m, rest) → (t ≡ decimal m ++ stop ∷ rest) × InBounds least most m
+unfolding number_at
+number_ok stop least most small nine [] m rest e = absurd cc
+number_ok stop least most small nine (b ∷ t) m rest e = by_start (may_start least b) refl e
+  where
+    by_start : (x : Bool) → may_start least b ≡ x → cond x (digits_at stop most (b - 48) t) (Err Bad) ≡ Ok (m, rest) → (b ∷ t ≡ decimal m ++ stop ∷ rest) × InBounds least most m
+    by_start true is h =
+        let d = first_digit least b is in
+        let r = digits_ok stop most (b - 48) t m rest small (let k = d.1 in omega arith) h in
+        let spelled : decimal m ≡ b ∷ r.0 = r.2.spelled ∙ ap (λ (ds : List ℕ). ds ++ r.0) (one_digit b d.0 d.1) in
+        (ap (λ (x : List ℕ). b ∷ x) r.1 ∙ ap (λ (x : List ℕ). x ++ stop ∷ rest) (sym spelled), record { low = (let j = r.2.low in let k = d.2 in omega arith); high = r.2.high })
+    by_start false is h = absurd cc
+
+pub number_short : (stop least most : ℕ) → most < 2 ^ 32 → 9 ≤ most → least ≤ 1 → (t : List ℕ) → number_at stop least most t ≡ Err Short → (m : ℕ) × (more : List ℕ) × (t ++ more ≡ decimal m) × InBounds least most m
+unfolding number_at
+number_short stop least most small nine low [] e = (least, decimal least, refl, record { low = omega arith; high = omega arith })
+number_short stop least most small nine low (b ∷ t) e = by_start (may_start least b) refl e
+  where
+    by_start : (x : Bool) → may_start least b ≡ x → cond x (digits_at stop most (b - 48) t) (Err Bad) ≡ Err Short → (m : ℕ) × (more : List ℕ) × (b ∷ t ++ more ≡ decimal m) × InBounds least most m
+    by_start true is h =
+        let d = first_digit least b is in
+        let r = digits_short stop most (b - 48) t small (let k = d.1 in omega arith) h in
+        let spelled : decimal r.0 ≡ b ∷ t = r.1.spelled ∙ ap (λ (ds : List ℕ). ds ++ t) (one_digit b d.0 d.1) in
+        (r.0, [], append-nil (b ∷ t) ∙ sym spelled, record { low = (let j = r.1.low in let k = d.2 in omega arith); high = r.1.high })
+    by_start false is h = absurd cc
+
+pub number_bad : (stop least most : ℕ) (t more : List ℕ) → number_at stop least most t ≡ Err Bad → number_at stop least most (t ++ more) ≡ Err Bad
+unfolding number_at
+number_bad stop least most [] more e = absurd cc
+number_bad stop least most (b ∷ t) more e = by_start (may_start least b) e
+  where
+    by_start : (x : Bool) → cond x (digits_at stop most (b - 48) t) (Err Bad) ≡ Err Bad → cond x (digits_at stop most (b - 48) (t ++ more)) (Err Bad) ≡ Err Bad
+    by_start true h = digits_bad stop most (b - 48) t more h
+    by_start false h = refl

@@ -1,0 +1,255 @@
+-- A row of the table that stands is the fault that reading gives.
+use Rattle.std.proofs.Common.{◌≡◌, ℕ, zero, suc, ◌+◌, ◌-◌, ◌<◌, ◌≤◌, ◌≢◌, ◌⊎◌, inl, inr, true, false, cond, eqb, ltb, not, List, [], ◌∷◌, ◌++◌, length, Result, Ok, Err, refl, sym, ap, subst, ◌∙◌, arith, append_assoc}
+use Rattle.std.specs.List.{flat_map, AllByRecursion}
+use Rattle.std.proofs.lemmas.Bool.Decides.{nat_tests}
+use Rattle.std.proofs.lemmas.Bool.{lt-ltb, le-ltb}
+use Rattle.std.proofs.lemmas.List.{append-nil, take_at, drop_at, length-append}
+use Rattle.bag_text.specs.declared.header.Flaw.{Flaw}
+use Rattle.bag_text.specs.declared.header.Flaw.TheVariants.{Short, Bad}
+use Rattle.bag_text.specs.declared.set_fault.SetFault.{SetFault}
+use Rattle.bag_text.specs.declared.set_fault.SetFault.TheVariants.{BadOpening, BadEntry, Truncated, OutOfOrder, BadPath, TooManyFiles, TrailingBytes, PathClash, Memory}
+use Rattle.bag_text.specs.Paths.{is_good, comes_before}
+use Rattle.bag_text.specs.TransferForm.{File, header, entry, opening, ending, set_text, max_files, Ascends, clashes, Fits, IsBag}
+use Rattle.bag_text.specs.TransferFaults.{BeginsWith, IsProperBeginning, IsOpening, HasSizes, IsEndOrHeader, EntryFault, PlaceFault, last_path, GoOn, FaultIs}
+use Rattle.bag_text.specs.TransferReading.{Head, Place, End, Entry, literal_at, place_at, file_at, placed, entry_at, files_at, opened, set_of}
+use Rattle.bag_text.proofs.HeaderLemmas.{literal_ok, literal_again, literal_ends, literal_bad}
+use Rattle.bag_text.proofs.FormLemmas.{place_ok, place_header, end_trails, entry_again, files_again, set_ok, set_again}
+use Rattle.bag_text.proofs.FaultLemmas.{sized, fit, place_end, short_place, bad_place}
+use Rattle.bag_text.proofs.SetLemmas.{at_fault, at_file}
+use Rattle.bag_text.proofs.TableLemmas.{set_fault}
+
+-- two answers to one question are one
+agree : {A E : Type 0} (r : Result A E) (x : A) (f : E) → r ≡ Ok x → r ≡ Err f → ⊥
+agree (Ok y) x f e g = absurd cc
+agree (Err h) x f e g = absurd cc
+
+same_error : {A E : Type 0} (r : Result A E) (f g : E) → r ≡ Err f → r ≡ Err g → f ≡ g
+same_error (Ok y) f g a b = absurd cc
+same_error (Err h) f g a b = cc
+
+-- nothing is left of two pieces where nothing is left of both
+nothing_more : (a b : List ℕ) → a ++ b ≡ [] → b ≡ []
+nothing_more [] b e = e
+nothing_more (x ∷ a) b e = absurd cc
+
+-- ---- the opening
+
+-- A beginning of the opening that isn't all of it is too short.
+opening_short : (t : List ℕ) → IsProperBeginning IsOpening t → literal_at opening t ≡ Err Short
+opening_short t proper = by_read (literal_at opening t) refl
+  where
+    by_read : (r : Result (List ℕ) Flaw) → literal_at opening t ≡ r → r ≡ Err Short
+    by_read (Err Short) is = refl
+    by_read (Err Bad) is = absurd (agree (literal_at opening (t ++ proper.0)) [] Bad (ap (literal_at opening) (proper.2 ∙ sym (append-nil opening)) ∙ literal_again opening []) (literal_bad opening t proper.0 is))
+    by_read (Ok rest) is = absurd (proper.1 (longer rest (literal_ok opening t rest is)))
+      where
+        longer : (rest : List ℕ) → t ≡ opening ++ rest → proper.0 ≡ []
+        longer rest e =
+            let whole : opening ++ (rest ++ proper.0) ≡ opening = sym (append_assoc opening rest proper.0) ∙ ap (λ (x : List ℕ). x ++ proper.0) (sym e) ∙ proper.2 in
+            nothing_more rest proper.0 (behind (rest ++ proper.0) whole)
+          where
+            behind : (r : List ℕ) → opening ++ r ≡ opening → r ≡ []
+            behind [] e = refl
+            behind (b ∷ r) e = let n = ap length e in absurd (omega (arith, n, length-append opening (b ∷ r)))
+
+-- What neither begins with the opening nor is a beginning of it is bad.
+opening_bad : (t : List ℕ) → (BeginsWith IsOpening t → ⊥) → (IsProperBeginning IsOpening t → ⊥) → literal_at opening t ≡ Err Bad
+opening_bad t begins proper = by_read (literal_at opening t) refl
+  where
+    by_read : (r : Result (List ℕ) Flaw) → literal_at opening t ≡ r → r ≡ Err Bad
+    by_read (Err Bad) is = refl
+    by_read (Ok rest) is = absurd (begins (opening, rest, refl, literal_ok opening t rest is))
+    by_read (Err Short) is = let w = literal_ends opening t is in absurd (proper (w.0, (λ none. begins (opening, [], refl, whole w.0 w.1 none)), w.1))
+      where
+        whole : (more : List ℕ) → t ++ more ≡ opening → more ≡ [] → t ≡ opening ++ []
+        whole more e none = sym (append-nil t) ∙ ap (λ (x : List ℕ). t ++ x) (sym none) ∙ e ∙ sym (append-nil opening)
+
+-- ---- what stands at an entry's place
+
+-- what follows the end, or the header
+behind_place : Place → List ℕ
+behind_place (End rest) = rest
+behind_place (Entry head) = head.rest
+
+-- What is read at an entry's place is read with bytes behind it, too.
+place_grows : (t more : List ℕ) (p : Place) → place_at t ≡ Ok p → (q : Place) × (place_at (t ++ more) ≡ Ok q) × (behind_place q ≡ behind_place p ++ more)
+unfolding behind_place
+place_grows t more (End rest) e = (End (rest ++ more), ap place_at (ap (λ (x : List ℕ). x ++ more) ((place_ok t (End rest) e).at_end rest refl) ∙ append_assoc ending rest more) ∙ place_end (rest ++ more), refl)
+place_grows t more (Entry head) e =
+    let h = (place_ok t (Entry head) e).at_entry head refl in (
+      Entry (record { path_len = head.path_len; content_len = head.content_len; rest = head.rest ++ more }),
+      ap place_at (ap (λ (x : List ℕ). x ++ more) h.0 ∙ append_assoc (header head.path_len head.content_len) head.rest more) ∙ place_header head.path_len head.content_len (head.rest ++ more) h.1,
+      refl,
+    )
+
+-- The end or a header is read, with nothing behind it.
+place_whole : (t : List ℕ) → IsEndOrHeader t → (q : Place) × (place_at t ≡ Ok q) × (behind_place q ≡ [])
+unfolding behind_place
+place_whole t (inl end) = (End [], ap place_at (end ∙ sym (append-nil ending)) ∙ place_end [], refl)
+place_whole t (inr h) = (Entry (record { path_len = h.0; content_len = h.1; rest = [] }), ap place_at (h.3 ∙ sym (append-nil (header h.0 h.1))) ∙ place_header h.0 h.1 [] (fit h.0 h.1 h.2), refl)
+
+same_place : (r : Result Place Flaw) (p q : Place) → r ≡ Ok p → r ≡ Ok q → p ≡ q
+same_place (Ok x) p q a b = cc
+same_place (Err e) p q a b = absurd cc
+
+-- A proper beginning of the end or of a header is too short.
+place_short : (t : List ℕ) → IsProperBeginning IsEndOrHeader t → place_at t ≡ Err Short
+place_short t proper = by_read (place_at t) refl
+  where
+    by_read : (r : Result Place Flaw) → place_at t ≡ r → r ≡ Err Short
+    by_read (Err Short) is = refl
+    by_read (Err Bad) is = absurd ((bad_place t is).1 proper)
+    by_read (Ok p) is =
+        let grown = place_grows t proper.0 p is in
+        let whole = place_whole (t ++ proper.0) proper.2 in
+        let same = same_place (place_at (t ++ proper.0)) grown.0 whole.0 grown.1 whole.1 in
+        absurd (proper.1 (nothing_more (behind_place p) proper.0 (sym grown.2 ∙ ap behind_place same ∙ whole.2)))
+
+-- What neither begins with the end or a header nor is a beginning of one is bad.
+place_bad : (t : List ℕ) → (BeginsWith IsEndOrHeader t → ⊥) → (IsProperBeginning IsEndOrHeader t → ⊥) → place_at t ≡ Err Bad
+place_bad t begins proper = by_read (place_at t) refl
+  where
+    by_read : (r : Result Place Flaw) → place_at t ≡ r → r ≡ Err Bad
+    by_read (Err Bad) is = refl
+    by_read (Err Short) is = absurd (proper (short_place t is))
+    by_read (Ok (End rest)) is = absurd (begins (ending, rest, inl refl, (place_ok t (End rest) is).at_end rest refl))
+    by_read (Ok (Entry head)) is =
+        let h = (place_ok t (Entry head) is).at_entry head refl in
+        absurd (begins (header head.path_len head.content_len, head.rest, inr (head.path_len, head.content_len, sized head.path_len head.content_len h.1, refl), h.0))
+
+-- ---- an entry behind its header
+
+abbrev head_is : ℕ → ℕ → List ℕ → Head
+head_is p c rest = record { path_len = p; content_len = c; rest = rest }
+
+-- what is judged behind a content
+abbrev judged : ℕ → List ℕ → List ℕ → List ℕ → ℕ → List ℕ → Result (File × List ℕ) SetFault
+judged offset before path content b more =
+    cond (not (eqb b 10)) (Err (BadEntry offset))
+    (cond (not (is_good path)) (Err (BadPath offset))
+    (cond (not (comes_before before path)) (Err (OutOfOrder offset))
+    (Ok (record { path = path; content = content }, more))))
+
+-- an entry that is whole is judged by its last byte, its path and its place
+entry_judged : (offset : ℕ) (before path content : List ℕ) (b : ℕ) (more : List ℕ) (p c : ℕ) (rest : List ℕ) → length path ≡ p → length content ≡ c → rest ≡ path ++ content ++ b ∷ more
+    → file_at offset before (head_is p c rest) ≡ judged offset before path content b more
+unfolding file_at
+entry_judged offset before path content b more p c rest pl cl is =
+    let all : rest ≡ path ++ (content ++ b ∷ more) = is ∙ append_assoc path content (b ∷ more) in
+    let long : ltb (length (path ++ (content ++ b ∷ more))) (p + c + 1) ≡ false = le-ltb _ _ (omega (arith, pl, cl, length-append path (content ++ b ∷ more), length-append content (b ∷ more))) in
+    rw (all, long, take_at path (content ++ b ∷ more) p pl, drop_at path (content ++ b ∷ more) p pl, take_at content (b ∷ more) c cl, drop_at content (b ∷ more) c cl) refl
+
+-- A fault of an entry is the one that reading it gives.
+file_refused : (offset : ℕ) (before : List ℕ) (p c : ℕ) (rest : List ℕ) (f : SetFault) → EntryFault offset before p c rest f → file_at offset before (head_is p c rest) ≡ Err f
+unfolding file_at
+file_refused offset before p c rest Truncated short = let is : ltb (length rest) (p + c + 1) ≡ true = lt-ltb _ _ short in rw is refl
+file_refused offset before p c rest (BadEntry n) (at, (path, content, b, more, pl, cl, other, is)) =
+    let no : eqb b 10 ≡ false = grind (arith, nat_tests) in
+    entry_judged offset before path content b more p c rest pl cl is ∙ rw (at, no) refl
+file_refused offset before p c rest (BadPath n) (at, (path, content, more, pl, cl, is, bad)) =
+    entry_judged offset before path content 10 more p c rest pl cl is ∙ rw (at, bad) refl
+file_refused offset before p c rest (OutOfOrder n) (at, (path, content, more, pl, cl, is, good, order)) =
+    entry_judged offset before path content 10 more p c rest pl cl is ∙ rw (at, good, order) refl
+file_refused offset before p c rest BadOpening h = absurd h
+file_refused offset before p c rest TooManyFiles h = absurd h
+file_refused offset before p c rest TrailingBytes h = absurd h
+file_refused offset before p c rest PathClash h = absurd h
+file_refused offset before p c rest Memory h = absurd h
+
+-- ---- a fault at an entry's place
+
+header_refused : (offset left : ℕ) (before t : List ℕ) (p c : ℕ) (rest : List ℕ) (f : SetFault) → HasSizes p c → t ≡ header p c ++ rest → 0 < left → EntryFault offset before p c rest f → entry_at offset left before t ≡ Err f
+unfolding entry_at
+header_refused offset zero before t p c rest f sizes is lt h = absurd (omega arith)
+header_refused offset (suc more) before t p c rest f sizes is lt h =
+    rw (is, place_header p c rest (fit p c sizes), file_refused offset before p c rest f h) refl
+
+place_fails : (offset left : ℕ) (before t : List ℕ) (flaw : Flaw) (f : SetFault) → place_at t ≡ Err flaw → placed offset (place_at t) ≡ Err f → entry_at offset left before t ≡ Err f
+unfolding entry_at
+place_fails offset left before t flaw f e g = rw g refl
+
+too_many : (offset : ℕ) (before t : List ℕ) (p c : ℕ) (rest : List ℕ) → HasSizes p c → t ≡ header p c ++ rest → entry_at offset zero before t ≡ Err TooManyFiles
+unfolding entry_at
+too_many offset before t p c rest sizes is = rw (is, place_header p c rest (fit p c sizes)) refl
+
+trails : (offset left : ℕ) (before t more : List ℕ) → more ≢ [] → t ≡ ending ++ more → entry_at offset left before t ≡ Err TrailingBytes
+trails offset left before t [] some is = absurd (some refl)
+trails offset left before t (b ∷ more) some is = ap (entry_at offset left before) is ∙ end_trails offset left b before more
+
+-- A fault at an entry's place is the one that reading gives there.
+entry_refused : (offset left : ℕ) (before t : List ℕ) (f : SetFault) → PlaceFault offset left before t f → entry_at offset left before t ≡ Err f
+entry_refused offset left before t Truncated (inl proper) = let is = place_short t proper in place_fails offset left before t Short Truncated is (rw is refl)
+entry_refused offset left before t Truncated (inr (p, c, rest, sizes, is, lt, h)) = header_refused offset left before t p c rest Truncated sizes is lt h
+entry_refused offset left before t (BadEntry n) (inl (at, begins, proper)) = let is = place_bad t begins proper in place_fails offset left before t Bad (BadEntry n) is (rw (is, at) refl)
+entry_refused offset left before t (BadEntry n) (inr (p, c, rest, sizes, is, lt, h)) = header_refused offset left before t p c rest (BadEntry n) sizes is lt h
+entry_refused offset left before t TooManyFiles (full, (p, c, rest, sizes, is)) = rw full (too_many offset before t p c rest sizes is)
+entry_refused offset left before t TrailingBytes (more, some, is) = trails offset left before t more some is
+entry_refused offset left before t (BadPath n) (p, c, rest, sizes, is, lt, h) = header_refused offset left before t p c rest (BadPath n) sizes is lt h
+entry_refused offset left before t (OutOfOrder n) (p, c, rest, sizes, is, lt, h) = header_refused offset left before t p c rest (OutOfOrder n) sizes is lt h
+entry_refused offset left before t BadOpening (p, c, rest, sizes, is, lt, h) = absurd h
+entry_refused offset left before t PathClash (p, c, rest, sizes, is, lt, h) = absurd h
+entry_refused offset left before t Memory (p, c, rest, sizes, is, lt, h) = absurd h
+
+-- A fault behind files without fault is the one that reading them all gives.
+files_refused : (whole : ℕ) (fs : List File) (left : ℕ) (before rest : List ℕ) (f : SetFault) → length fs ≤ left → AllByRecursion Fits fs → Ascends before fs
+    → PlaceFault (whole - length rest) (left - length fs) (last_path before fs) rest f → files_at whole left before (flat_map entry fs ++ rest) ≡ Err f
+files_refused whole [] left before rest f few fits up h =
+    let same : left - 0 ≡ left = omega arith in
+    at_fault whole left before rest f (entry_refused (whole - length rest) left before rest f (subst (λ (n : ℕ). PlaceFault (whole - length rest) n before rest f) same h))
+files_refused whole (x ∷ fs) zero before rest f few fits up h = absurd (omega arith)
+files_refused whole (x ∷ fs) (suc left) before rest f few fits up h =
+    let tail = flat_map entry fs ++ rest in
+    let one = entry_again (whole - length (entry x ++ tail)) left before x tail fits.0 up.0 in
+    let same : suc left - length (x ∷ fs) ≡ left - length fs = omega arith in
+    let later = files_refused whole fs left x.path rest f (omega arith) fits.1 up.1 (subst (λ (n : ℕ). PlaceFault (whole - length rest) n (last_path x.path fs) rest f) same h) in
+    ap (files_at whole (suc left) before) (append_assoc (entry x) (flat_map entry fs) rest) ∙ at_file whole left before (entry x ++ tail) (x, tail) one ∙ rw later refl
+
+-- ---- the whole text
+
+opening_refused : (t : List ℕ) (f : SetFault) → opened (literal_at opening t) ≡ Err f → set_of t ≡ Err f
+unfolding set_of
+opening_refused t f e = rw e refl
+
+body_refused : (t body : List ℕ) (f : SetFault) → t ≡ opening ++ body → files_at (length t) max_files [] body ≡ Err f → set_of t ≡ Err f
+unfolding set_of
+body_refused t body f is e = let read : literal_at opening t ≡ Ok body = ap (literal_at opening) is ∙ literal_again opening body in rw (read, e) refl
+
+clash_refused : (t body : List ℕ) (files : List File) → t ≡ opening ++ body → files_at (length t) max_files [] body ≡ Ok files → clashes files ≡ true → set_of t ≡ Err PathClash
+unfolding set_of
+clash_refused t body files is e clash = let read : literal_at opening t ≡ Ok body = ap (literal_at opening) is ∙ literal_again opening body in rw (read, e, clash) refl
+
+going_refused : (t : List ℕ) (f : SetFault) (files : List File) (rest : List ℕ) → GoOn files t rest → PlaceFault (length t - length rest) (max_files - length files) (last_path [] files) rest f → set_of t ≡ Err f
+going_refused t f files rest on h =
+    body_refused t (flat_map entry files ++ rest) f (on.text ∙ append_assoc opening (flat_map entry files) rest) (files_refused (length t) files max_files [] rest f on.few on.each on.ascending h)
+
+-- Where a row of the table stands, reading gives that fault.
+pub refuses : (t : List ℕ) (f : SetFault) → FaultIs t f → set_of t ≡ Err f
+refuses t BadOpening (begins, proper) = opening_refused t BadOpening (rw (opening_bad t begins proper) refl)
+refuses t Truncated (inl proper) = opening_refused t Truncated (rw (opening_short t proper) refl)
+refuses t Truncated (inr (files, rest, on, h)) = going_refused t Truncated files rest on h
+refuses t PathClash (files, on, clash) =
+    clash_refused t (flat_map entry files ++ ending) files (on.text ∙ append_assoc opening (flat_map entry files) ending) (files_again (length t) files max_files [] on.few on.each on.ascending) clash
+refuses t (BadEntry n) (files, rest, on, h) = going_refused t (BadEntry n) files rest on h
+refuses t (OutOfOrder n) (files, rest, on, h) = going_refused t (OutOfOrder n) files rest on h
+refuses t (BadPath n) (files, rest, on, h) = going_refused t (BadPath n) files rest on h
+refuses t TooManyFiles (files, rest, on, h) = going_refused t TooManyFiles files rest on h
+refuses t TrailingBytes (files, rest, on, h) = going_refused t TrailingBytes files rest on h
+refuses t Memory (files, rest, on, h) = going_refused t Memory files rest on h
+
+-- ---- the laws of the table
+
+-- A text has at most one fault.
+pub one_fault_stands : (t : List ℕ) (f g : SetFault) → FaultIs t f → FaultIs t g → f ≡ g
+one_fault_stands t f g a b = same_error (set_of t) f g (refuses t f a) (refuses t g b)
+
+-- The form of a bag has no fault.
+pub form_has_none : (files : List File) (f : SetFault) → IsBag files → FaultIs (set_text files) f → ⊥
+form_has_none files f bag h = agree (set_of (set_text files)) files f (set_again files bag) (refuses (set_text files) f h)
+
+-- A text is the form of a bag, or has a fault.
+pub form_or_fault : (t : List ℕ) → ((files : List File) × IsBag files × (t ≡ set_text files)) ⊎ ((f : SetFault) × FaultIs t f)
+form_or_fault t = by_read (set_of t) refl
+  where
+    by_read : (r : Result (List File) SetFault) → set_of t ≡ r → ((files : List File) × IsBag files × (t ≡ set_text files)) ⊎ ((f : SetFault) × FaultIs t f)
+    by_read (Ok files) is = let read = set_ok t files is in inl (files, read.bag, read.text)
+    by_read (Err f) is = inr (f, set_fault t f is)

@@ -1,0 +1,9 @@
+use Rattle.std.proofs.Common.{◌≡◌, drop, map}
+use Rattle.std.specs.List.{list_any}
+use Rattle.bag_text.specs.TransferForm.{clashes}
+use Rattle.bag_text.specs.TransferReading.{file_of, files_of}
+use Rattle.bag_text.proofs.ClashLemmas.{clash_at}
+use Rattle.bag_text.proofs.clash.do_clash.Given as goal
+
+abbrev pub invariant-loop-file : goal.invariant-loop-file
+invariant-loop-file l = list_any (clash_at (files_of l.files)) (map file_of (drop l.file-index l.files)) ≡ clashes (files_of l.files)

@@ -1,0 +1,5 @@
+use Rattle.bag_text.proofs.ClashLemmas.{clash_law}
+use Rattle.bag_text.proofs.laws.one_clash.Goals as goal
+
+pub returns : goal.returns
+returns c = clash_law

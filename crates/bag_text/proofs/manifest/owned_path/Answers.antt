@@ -1,0 +1,10 @@
+use Rattle.std.proofs.Common.{◌≡◌, true, false, rules}
+use Rattle.std.proofs.lemmas.Str.{IsUtf8-from_is_utf8}
+use Rattle.bag_text.specs.Paths.{is_good}
+use Rattle.bag_text.proofs.ManifestLemmas.{good_is_text}
+use Rattle.bag_text.proofs.manifest.owned_path.Goals as goal
+
+pub returns : goal.returns
+returns c =
+    let good : is_good c.args.bytes.items ≡ true = search rules in
+    let no : false ≡ true = c.in-Err.ensures.succeeds (IsUtf8-from_is_utf8 c.args.bytes.items (good_is_text c.args.bytes.items good)) in absurd cc

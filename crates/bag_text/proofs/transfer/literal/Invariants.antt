@@ -1,0 +1,6 @@
+use Rattle.std.proofs.Common.{◌≡◌, drop}
+use Rattle.bag_text.specs.TransferReading.{literal_at}
+use Rattle.bag_text.proofs.transfer.literal.Given as goal
+
+abbrev pub invariant-loop-byte : goal.invariant-loop-byte
+invariant-loop-byte l = literal_at (drop l.byte-index l.wanted) l.rest ≡ literal_at l.wanted l.text

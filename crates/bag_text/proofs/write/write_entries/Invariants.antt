@@ -1,0 +1,8 @@
+use Rattle.std.proofs.Common.{◌≡◌, ◌++◌, drop, map}
+use Rattle.std.specs.List.{flat_map}
+use Rattle.bag_text.specs.TransferForm.{entry}
+use Rattle.bag_text.specs.TransferReading.{file_of, files_of}
+use Rattle.bag_text.proofs.write.write_entries.Given as goal
+
+abbrev pub invariant-loop-file : goal.invariant-loop-file
+invariant-loop-file l = l.text.items ++ flat_map entry (map file_of (drop l.file-index l.files)) ≡ l.fn.text.items ++ flat_map entry (files_of l.files)

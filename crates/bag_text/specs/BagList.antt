@@ -1,0 +1,54 @@
+-- Why a list of files is no bag: the faults of the transfer form that a list can have, with the
+-- position in the list, from 0, in the place of the offset.
+use Rattle.std.specs.Prelude.{◌≡◌, ℕ, ◌+◌, ◌<◌, ◌≤◌, true, false, not, List, [], ◌∷◌, ◌++◌, length, Option, Some, None, nat_lt, nat_le, if◌then◌else◌}
+use Rattle.std.specs.List.{AllByRecursion}
+use Rattle.bag_text.specs.Paths.{is_good, comes_before}
+use Rattle.bag_text.specs.TransferForm.{File, max_content, max_files, Ascends, clashes, Fits}
+use Rattle.bag_text.specs.TransferFaults.{last_path}
+use Rattle.bag_text.specs.declared.set_fault.SetFault.{SetFault}
+use Rattle.bag_text.specs.declared.set_fault.SetFault.TheVariants.{BadEntry, OutOfOrder, BadPath, TooManyFiles, PathClash}
+
+-- files without fault, at the front of the list
+pub record IsFront (front : List File) : Type 0 where
+  pub few : length front ≤ max_files
+  pub each : AllByRecursion Fits front
+  pub ascending : Ascends [] front
+
+-- the first fault of the file at this position, behind the path before it
+abbrev pub FileFault : ℕ → List ℕ → File → SetFault → Type 0
+FileFault place before f (BadEntry n) = (n ≡ place) × (max_content < length f.content)
+FileFault place before f TooManyFiles = (length f.content ≤ max_content) × (max_files ≤ place)
+FileFault place before f (BadPath n) = (n ≡ place) × (length f.content ≤ max_content) × (place < max_files) × (is_good f.path ≡ false)
+FileFault place before f (OutOfOrder n) =
+    (n ≡ place) × (length f.content ≤ max_content) × (place < max_files) × (is_good f.path ≡ true) × (comes_before before f.path ≡ false)
+FileFault place before f fault = ⊥
+
+-- The first fault of a list that is no bag.
+abbrev pub ListFault : List File → SetFault → Type 0
+ListFault files PathClash = IsFront files × (clashes files ≡ true)
+ListFault files fault =
+    (front : List File) × (f : File) × (rest : List File) × (files ≡ front ++ f ∷ rest) × IsFront front × FileFault (length front) (last_path [] front) f fault
+
+-- ---- the same by computing
+
+abbrev pub file_fault : ℕ → List ℕ → File → Option SetFault
+file_fault place before f =
+    if nat_lt max_content (length f.content) then Some (BadEntry place)
+    else if nat_le max_files place then Some TooManyFiles
+    else if not (is_good f.path) then Some (BadPath place)
+    else if not (comes_before before f.path) then Some (OutOfOrder place)
+    else None
+
+abbrev pub or_else : Option SetFault → Option SetFault → Option SetFault
+or_else (Some fault) later = Some fault
+or_else None later = later
+
+unfoldable pub fault_from : ℕ → List ℕ → List File → Option SetFault
+fault_from place before [] = None
+fault_from place before (f ∷ fs) = or_else (file_fault place before f) (fault_from (place + 1) f.path fs)
+
+abbrev pub clash_fault : List File → Option SetFault
+clash_fault files = if clashes files then Some PathClash else None
+
+abbrev pub list_fault : List File → Option SetFault
+list_fault files = or_else (fault_from 0 [] files) (clash_fault files)

@@ -1,0 +1,16 @@
+pub mod Text
+pub mod Lines
+pub mod LineReading
+pub mod Paths
+pub mod Declaration
+pub mod DeclarationReading
+pub mod Manifest
+pub mod ManifestReading
+pub mod BagInfo
+pub mod InfoReading
+pub mod TransferForm
+pub mod TransferFaults
+pub mod TransferReading
+pub mod BagList
+pub mod ListReading
+pub mod FaultTexts

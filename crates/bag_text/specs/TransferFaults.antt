@@ -1,0 +1,71 @@
+-- Why a text is no transfer form: the table of faults, which knows nothing of reading.
+use Rattle.std.specs.Prelude.{◌≡◌, ℕ, ◌+◌, ◌-◌, ◌≤◌, ◌<◌, true, false, List, [], ◌∷◌, ◌++◌, length, ◌⊎◌, ◌≢◌}
+use Rattle.std.specs.List.{flat_map, AllByRecursion}
+use Rattle.bag_text.specs.declared.set_fault.SetFault.{SetFault}
+use Rattle.bag_text.specs.declared.set_fault.SetFault.TheVariants.{BadOpening, BadEntry, Truncated, OutOfOrder, BadPath, TooManyFiles, TrailingBytes, PathClash}
+use Rattle.bag_text.specs.Paths.{max_path, is_good, comes_before}
+use Rattle.bag_text.specs.TransferForm.{File, header, entry, opening, ending, max_content, max_files, Ascends, clashes, Fits}
+
+abbrev pub BeginsWith : (List ℕ → Type 0) → List ℕ → Type 0
+BeginsWith P t = (front : List ℕ) × (rest : List ℕ) × P front × (t ≡ front ++ rest)
+
+-- bytes appended to it give one of these
+abbrev pub IsProperBeginning : (List ℕ → Type 0) → List ℕ → Type 0
+IsProperBeginning P t = (more : List ℕ) × (more ≢ []) × P (t ++ more)
+
+abbrev pub IsOpening : List ℕ → Type 0
+IsOpening t = t ≡ opening
+
+pub record HasSizes (p c : ℕ) : Type 0 where
+  pub some_path : 1 ≤ p
+  pub short_path : p ≤ max_path
+  pub short_content : c ≤ max_content
+
+-- what may stand at an entry's place: END LF, or a header
+abbrev pub IsEndOrHeader : List ℕ → Type 0
+IsEndOrHeader t = (t ≡ ending) ⊎ ((p : ℕ) × (c : ℕ) × HasSizes p c × (t ≡ header p c))
+
+-- An entry behind a header of p and c bytes: what ends before its last byte, has another byte there,
+-- a bad path, or one that isn't greater than the one before.
+abbrev pub EntryFault : ℕ → List ℕ → ℕ → ℕ → List ℕ → SetFault → Type 0
+EntryFault offset before p c rest Truncated = length rest < p + c + 1
+EntryFault offset before p c rest (BadEntry n) =
+    (n ≡ offset) × ((path : List ℕ) × (content : List ℕ) × (b : ℕ) × (more : List ℕ) × (length path ≡ p) × (length content ≡ c) × (b ≢ 10) × (rest ≡ path ++ content ++ b ∷ more))
+EntryFault offset before p c rest (BadPath n) =
+    (n ≡ offset) × ((path : List ℕ) × (content : List ℕ) × (more : List ℕ) × (length path ≡ p) × (length content ≡ c) × (rest ≡ path ++ content ++ 10 ∷ more) × (is_good path ≡ false))
+EntryFault offset before p c rest (OutOfOrder n) =
+    (n ≡ offset) × ((path : List ℕ) × (content : List ℕ) × (more : List ℕ) × (length path ≡ p) × (length content ≡ c) × (rest ≡ path ++ content ++ 10 ∷ more) × (is_good path ≡ true) × (comes_before before path ≡ false))
+EntryFault offset before p c rest fault = ⊥
+
+-- what stands at an entry's place, where so many more files may stand
+abbrev pub PlaceFault : ℕ → ℕ → List ℕ → List ℕ → SetFault → Type 0
+PlaceFault offset left before t Truncated =
+    IsProperBeginning IsEndOrHeader t
+    ⊎ ((p : ℕ) × (c : ℕ) × (rest : List ℕ) × HasSizes p c × (t ≡ header p c ++ rest) × (0 < left) × EntryFault offset before p c rest Truncated)
+PlaceFault offset left before t (BadEntry n) =
+    ((n ≡ offset) × (BeginsWith IsEndOrHeader t → ⊥) × (IsProperBeginning IsEndOrHeader t → ⊥))
+    ⊎ ((p : ℕ) × (c : ℕ) × (rest : List ℕ) × HasSizes p c × (t ≡ header p c ++ rest) × (0 < left) × EntryFault offset before p c rest (BadEntry n))
+PlaceFault offset left before t TooManyFiles = (left ≡ 0) × ((p : ℕ) × (c : ℕ) × (rest : List ℕ) × HasSizes p c × (t ≡ header p c ++ rest))
+PlaceFault offset left before t TrailingBytes = (more : List ℕ) × (more ≢ []) × (t ≡ ending ++ more)
+PlaceFault offset left before t fault =
+    (p : ℕ) × (c : ℕ) × (rest : List ℕ) × HasSizes p c × (t ≡ header p c ++ rest) × (0 < left) × EntryFault offset before p c rest fault
+
+abbrev pub last_path : List ℕ → List File → List ℕ
+last_path before [] = before
+last_path before (f ∷ fs) = last_path f.path fs
+
+-- files without fault, and what follows them
+pub record GoOn (files : List File) (t rest : List ℕ) : Type 0 where
+  pub text : t ≡ opening ++ flat_map entry files ++ rest
+  pub few : length files ≤ max_files
+  pub each : AllByRecursion Fits files
+  pub ascending : Ascends [] files
+
+abbrev pub FaultIs : List ℕ → SetFault → Type 0
+FaultIs t BadOpening = (BeginsWith IsOpening t → ⊥) × (IsProperBeginning IsOpening t → ⊥)
+FaultIs t PathClash = (files : List File) × GoOn files t ending × (clashes files ≡ true)
+FaultIs t Truncated =
+    IsProperBeginning IsOpening t
+    ⊎ ((files : List File) × (rest : List ℕ) × GoOn files t rest × PlaceFault (length t - length rest) (max_files - length files) (last_path [] files) rest Truncated)
+FaultIs t fault =
+    (files : List File) × (rest : List ℕ) × GoOn files t rest × PlaceFault (length t - length rest) (max_files - length files) (last_path [] files) rest fault

@@ -1,0 +1,27 @@
+//! What stands at an entry's place in a transfer form.
+
+ghost use Rattle.std.specs.Prelude.{◌≤◌};
+
+/// Why a piece isn't read: the text ends in it, or has another byte.
+#[derive(Clone, Copy, Debug, PartialEq, Eq)]
+pub enum Flaw {
+    Short,
+    Bad,
+}
+
+/// The header of an entry, and what stands behind it.
+#[derive(Clone, Copy)]
+pub struct Header<'a> {
+    pub path_len: usize,
+    pub content_len: usize,
+    pub rest: &'a [u8],
+    ghost path_fits: { path_len ≤ 1024 },
+    ghost content_fits: { content_len ≤ 16777216 },
+}
+
+/// What stands at an entry's place.
+#[derive(Clone, Copy)]
+pub enum EntryPlace<'a> {
+    End(&'a [u8]),
+    Entry(Header<'a>),
+}

@@ -1,0 +1,211 @@
+use super::*;
+use std::alloc::Global;
+use std::borrow::CowStr;
+use std::test::*;
+
+const DECLARATION: &str = "BagIt-Version: 1.0\nTag-File-Character-Encoding: UTF-8\n";
+
+const MANIFEST: &str = "ba7816bf8f01cfea414140de5dae2223b00361a396177a9cb410ff61f20015ad  data/a\n";
+
+const ABC: [u8; 32] = [
+    0xba, 0x78, 0x16, 0xbf, 0x8f, 0x01, 0xcf, 0xea, 0x41, 0x41, 0x40, 0xde, 0x5d, 0xae, 0x22, 0x23,
+    0xb0, 0x03, 0x61, 0xa3, 0x96, 0x17, 0x7a, 0x9c, 0xb4, 0x10, 0xff, 0x61, 0xf2, 0x00, 0x15, 0xad,
+];
+
+const INFO: &str =
+    "Source-Organization \t:  An archive: the old one \r\n\r\nExternal-Description: one\n \t two: 2\n  \t\n\tthree\rPayload-Oxum:3.1";
+
+const BAG: &str =
+    "BAGSET 1\nFILE 9 54\nbagit.txtBagIt-Version: 1.0\nTag-File-Character-Encoding: UTF-8\n\nFILE 6 3\ndata/aabc\nFILE 19 73\nmanifest-sha256.txtba7816bf8f01cfea414140de5dae2223b00361a396177a9cb410ff61f20015ad  data/a\n\nEND\n";
+
+#[test]
+fn reads_a_small_bag(rt: HostRuntime) -> Result<(), Fail> {
+    let text = BAG.as_bytes();
+    assert_eq!(rt; text.len(), 210);
+    let set = read_bagset(rt.alloc(), text)?;
+    let files = set.files();
+    assert_eq!(rt; files.len(), 3);
+    let paths = ["bagit.txt", "data/a", "manifest-sha256.txt"];
+    for (file, path) in files.iter().zip(paths.iter()) {
+        assert_eq!(rt; file.0, *path);
+    }
+    assert_eq!(rt; set.get("data/a"), Some(b"abc".as_slice()));
+    assert_eq!(rt; set.get("bagit.txt"), Some(DECLARATION.as_bytes()));
+    assert_eq!(rt; set.get("data"), None);
+    Ok(())
+}
+
+#[test]
+fn reads_tag_files(rt: HostRuntime) -> Result<(), Fail> {
+    assert_eq!(rt; read_declaration(DECLARATION.as_bytes()), Ok(Version::V1_0));
+    let listed = read_manifest(
+        rt.alloc(),
+        MANIFEST.as_bytes(),
+        Version::V1_0,
+        Algorithm::Sha256,
+    )?;
+    assert_eq!(rt; listed.entries.len(), 1);
+    for (path, listing) in listed.entries.iter() {
+        assert_eq!(rt; path.as_str(), "data/a");
+        assert_eq!(rt; listing.line, 1);
+        assert_eq!(rt; listing.checksum, Checksum::Sha256(ABC));
+    }
+    let listing = Listing {
+        checksum: Checksum::Sha256(ABC),
+        line: 1,
+    };
+    assert_eq!(rt; listed.get("data/a"), Some(listing));
+    assert_eq!(rt; listed.get("data/b"), None);
+    assert!(rt; listed.lists("data/a"));
+    assert!(rt; !listed.lists("data/b"));
+    Ok(())
+}
+
+#[test]
+fn reads_paths(rt: HostRuntime) -> Result<(), Fail> {
+    let path = BagPath::read("data/a b/..c")?;
+    assert_eq!(rt; path.as_str(), "data/a b/..c");
+    assert!(rt; matches!(BagPath::read("data/../a"), Err(PathFault::DotSegment)));
+    Ok(())
+}
+
+#[test]
+fn names_the_faults_of_forms(rt: HostRuntime) {
+    let text = BAG.as_bytes();
+    let rows: [(&[u8], SetFault); 6] = [
+        (&text[..209], SetFault::Truncated),
+        (b"", SetFault::Truncated),
+        (b"BAGSET 2\n", SetFault::BadOpening),
+        (b"BAGSET 1\nFILE 6 03\n", SetFault::BadEntry(9)),
+        (
+            b"BAGSET 1\nFILE 6 0\ndata/a\nFILE 8 0\ndata/a/b\nEND\n",
+            SetFault::PathClash,
+        ),
+        (b"BAGSET 1\nEND\n\n", SetFault::TrailingBytes),
+    ];
+    for (form, fault) in rows {
+        match read_bagset(rt.alloc(), form) {
+            Ok(_) => assert!(rt; false, "no fault where {fault} stands"),
+            Err(found) => assert_eq!(rt; found, fault),
+        }
+    }
+}
+
+#[test]
+fn makes_and_writes_a_bag(rt: HostRuntime) -> Result<(), Fail> {
+    let files: [(&str, &[u8]); 3] = [
+        ("bagit.txt", DECLARATION.as_bytes()),
+        ("data/a", b"abc"),
+        ("manifest-sha256.txt", MANIFEST.as_bytes()),
+    ];
+    let bag = BagSet::of(rt.alloc(), &files)?;
+    assert_eq!(rt; bag.files().len(), 3);
+    assert_eq!(rt; bag.get("data/a"), Some(b"abc".as_slice()));
+    let text = write_bagset(rt.alloc(), &bag)?;
+    assert_eq!(rt; text.as_slice(), BAG.as_bytes());
+    let empty = BagSet::of(rt.alloc(), &[])?;
+    let text = write_bagset(rt.alloc(), &empty)?;
+    assert_eq!(rt; text.as_slice(), b"BAGSET 1\nEND\n".as_slice());
+    Ok(())
+}
+
+/// The fault of a list of files, where it has one.
+fn fault_of_list(alloc: Global, files: &[(&str, &[u8])]) -> Option<SetFault> {
+    match BagSet::of(alloc, files) {
+        Ok(_) => None,
+        Err(fault) => Some(fault),
+    }
+}
+
+#[test]
+fn names_the_faults_of_lists(rt: HostRuntime) {
+    let alloc = rt.alloc();
+    assert_eq!(rt;
+        fault_of_list(alloc, &[("b", b""), ("a", b"")]),
+        Some(SetFault::OutOfOrder(1))
+    );
+    assert_eq!(rt;
+        fault_of_list(alloc, &[("a", b""), ("a", b"")]),
+        Some(SetFault::OutOfOrder(1))
+    );
+    assert_eq!(rt;
+        fault_of_list(alloc, &[("b", b""), ("a//b", b"")]),
+        Some(SetFault::BadPath(1))
+    );
+    assert_eq!(rt;
+        fault_of_list(alloc, &[("data", b"")]),
+        Some(SetFault::PathClash)
+    );
+    assert_eq!(rt;
+        fault_of_list(
+            alloc,
+            &[("data/a", b""), ("data/a!", b""), ("data/a/b", b"")]
+        ),
+        Some(SetFault::PathClash)
+    );
+    assert_eq!(rt; fault_of_list(alloc, &[("a", b""), ("b", b"")]), None);
+}
+
+#[test]
+fn names_what_is_too_long_in_a_list(rt: HostRuntime) -> Result<(), Fail> {
+    let content = vec![in rt.alloc(); 0; 16_777_217]?;
+    let path = "a".repeat(rt.alloc(), 1025)?;
+    let mut files: Vec<(&str, &[u8])> = Vec::new(rt.alloc());
+    files.push((path.as_str(), content.as_slice()))?;
+    assert!(rt; matches!(BagSet::of(rt.alloc(), &files), Err(SetFault::BadEntry(0))));
+    files.clear();
+    files.push((path.as_str(), b"".as_slice()))?;
+    assert!(rt; matches!(BagSet::of(rt.alloc(), &files), Err(SetFault::BadPath(0))));
+    Ok(())
+}
+
+#[test]
+fn takes_two_thousand_files(rt: HostRuntime) -> Result<(), Fail> {
+    let mut paths = Vec::new(rt.alloc());
+    for number in 0..2001 {
+        paths.push(format!(in rt.alloc(); "{number:04}")?)?;
+    }
+    let mut files: Vec<(&str, &[u8])> = Vec::new(rt.alloc());
+    for path in paths.iter() {
+        files.push((path.as_str(), b"".as_slice()))?;
+    }
+    assert!(rt; matches!(BagSet::of(rt.alloc(), &files), Err(SetFault::TooManyFiles)));
+    files.truncate(2000);
+    assert!(rt; BagSet::of(rt.alloc(), &files).is_ok());
+    Ok(())
+}
+
+#[test]
+fn reads_labels_and_values(rt: HostRuntime) -> Result<(), Fail> {
+    let info = read_bag_info(rt.alloc(), INFO.as_bytes())?;
+    let wanted = [
+        ("Source-Organization", "An archive: the old one ", true),
+        ("External-Description", "one\ntwo: 2\nthree", false),
+        ("Payload-Oxum", "3.1", true),
+    ];
+    assert_eq!(rt; info.pairs.len(), wanted.len());
+    for (pair, row) in info.pairs.iter().zip(wanted.iter()) {
+        assert_eq!(rt; pair.0, row.0);
+        assert_eq!(rt; pair.1.as_str(), row.1);
+        assert_eq!(rt; matches!(pair.1, CowStr::Borrowed(_)), row.2);
+    }
+    Ok(())
+}
+
+#[test]
+fn names_the_faults_of_bag_info(rt: HostRuntime) {
+    let rows: [(&[u8], InfoFault); 6] = [
+        (b"A: \xFF", InfoFault::NotUtf8),
+        (b"\xEF\xBB\xBFA: b\n", InfoFault::ByteOrderMark),
+        (b"A: b\r\n\t\nc\n: d\n", InfoFault::NoColon(3)),
+        (b"A: b\n: c\n", InfoFault::EmptyLabel(2)),
+        (b"\n \tA: b\n", InfoFault::StrayContinuation(2)),
+        (b" b\nc\n", InfoFault::StrayContinuation(1)),
+    ];
+    for (text, fault) in rows {
+        match read_bag_info(rt.alloc(), text) {
+            Ok(_) => assert!(rt; false, "no fault where {fault} stands"),
+            Err(found) => assert_eq!(rt; found, fault),
+        }
+    }
+}
