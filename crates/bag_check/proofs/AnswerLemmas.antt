@@ -1,0 +1,68 @@
+-- What an answer says, where it is what judging gives.
+use Rattle.std.proofs.Common.{◌≡◌, ◌⊎◌, inl, inr, List, refl, sym, ap, subst, ◌∙◌}
+use Rattle.std.specs.Prelude.{Option, Some, None, Result, Ok, Err, IfOk, IfErr}
+use Rattle.bag_text.specs.TransferForm.{File, IsBag}
+use Rattle.bag_text.specs.declared.declaration.Version.{Version}
+use Rattle.bag_check.specs.declared.fault.BagFault.{BagFault}
+use Rattle.bag_check.specs.declared.fault.BagFault.TheVariants as faults
+use Rattle.bag_check.specs.declared.report.BagReport.{BagReport}
+use Rattle.bag_check.specs.Plain.{IsPlain}
+use Rattle.bag_check.specs.Validity.{Report, Valid, report_of}
+use Rattle.bag_check.specs.Faults.{Fault, FirstFault}
+use Rattle.bag_check.specs.Judging.{judge}
+use Rattle.bag_check.specs.Answers.{named_fault, NamesFirst, FailsAs, Gives, report_seen}
+use Rattle.bag_check.proofs.JudgeLaws.{judged_valid, judged_fault, valid_judged, fault_judged}
+
+-- an answer that gives what judging gives, as a word over the result
+abbrev pub Answered : List File → Result BagReport BagFault → Type 0
+Answered bag result = Gives report_seen result (judge bag)
+
+pub accepted_is_valid : (bag : List File) → IsBag bag → IsPlain bag → (result : Result BagReport BagFault) → Answered bag result
+    → IfOk result (λ report. Valid bag report.version × (report_seen report ≡ report_of report.version bag))
+accepted_is_valid bag is plain (Err fault) e = tt
+accepted_is_valid bag is plain (Ok report) e =
+    let found = judged_valid bag is plain (report_seen report) e in
+    let version : found.0 ≡ report.version = sym (ap (λ (r : Report). r.version) found.2) in
+    (subst (λ (v : Version). Valid bag v) version found.1, found.2 ∙ ap (λ (v : Version). report_of v bag) version)
+
+-- an answer in the place of judging's own
+given : (bag : List File) (judged : Result Report Fault) → judge bag ≡ judged → (result : Result BagReport BagFault) → Answered bag result → Gives report_seen result judged
+given bag judged e result answered = subst (λ (r : Result Report Fault). Gives report_seen result r) e answered
+
+pub valid_is_accepted : (bag : List File) → IsBag bag → IsPlain bag → (result : Result BagReport BagFault) → Answered bag result
+    → (v : Version) → Valid bag v → Gives report_seen result (Ok (report_of v bag))
+valid_is_accepted bag is plain result answered v valid = given bag (Ok (report_of v bag)) (valid_judged bag is plain v valid) result answered
+
+pub first_is_refused : (bag : List File) → IsBag bag → IsPlain bag → (result : Result BagReport BagFault) → Answered bag result
+    → (fault : Fault) → FirstFault bag fault → Gives report_seen result (Err fault)
+first_is_refused bag is plain result answered fault first = given bag (Err fault) (fault_judged bag is plain fault first) result answered
+
+-- no fault but want of memory names none
+only_memory : (fault : BagFault) → named_fault fault ≡ None → fault ≡ faults.Memory
+only_memory faults.NoDeclaration e = absurd cc
+only_memory (faults.Declaration f) e = absurd cc
+only_memory faults.FetchNotSupported e = absurd cc
+only_memory (faults.UnsupportedAlgorithm name) e = absurd cc
+only_memory faults.NoPayloadManifest e = absurd cc
+only_memory (faults.ManifestText name f) e = absurd cc
+only_memory (faults.OutsidePayload name path) e = absurd cc
+only_memory (faults.TagManifestListed name path) e = absurd cc
+only_memory (faults.PayloadInTagManifest name path) e = absurd cc
+only_memory (faults.PayloadManifestUnlisted name path) e = absurd cc
+only_memory (faults.Missing name path) e = absurd cc
+only_memory (faults.Unlisted name path) e = absurd cc
+only_memory (faults.InfoText f) e = absurd cc
+only_memory faults.OxumForm e = absurd cc
+only_memory faults.OxumTwice e = absurd cc
+only_memory faults.OxumWrong e = absurd cc
+only_memory (faults.ChecksumWrong name path) e = absurd cc
+only_memory faults.Memory e = refl
+
+pub refused_is_first : (bag : List File) → IsBag bag → IsPlain bag → (result : Result BagReport BagFault) → Answered bag result
+    → IfErr result (λ fault. (fault ≡ faults.Memory) ⊎ NamesFirst bag fault)
+refused_is_first bag is plain (Ok report) e = tt
+refused_is_first bag is plain (Err fault) e = by_name (named_fault fault) refl e
+  where
+    by_name : (name : Option Fault) → named_fault fault ≡ name → FailsAs {Y = Report} name (judge bag) → (fault ≡ faults.Memory) ⊎ NamesFirst bag fault
+    by_name None names e = inl (only_memory fault names)
+    by_name (Some first) names e = inr (first, names, judged_fault bag is plain first e)

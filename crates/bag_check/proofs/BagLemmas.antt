@@ -1,0 +1,188 @@
+-- Files of a bag by their paths.
+use Rattle.std.proofs.Common.{◌≡◌, ℕ, ◌⊎◌, inl, inr, Bool, true, false, cond, List, [], ◌∷◌, map, filter, refl, sym, ap, subst, ◌∙◌}
+use Rattle.std.specs.Prelude.{Option, Some, None, option_map, is_some, find, bytes_eq, codes}
+use Rattle.std.proofs.lemmas.Option.{same_Some}
+use Rattle.std.proofs.lemmas.Bool.{false≢true}
+use Rattle.std.proofs.lemmas.Bool.Decides.{Decides-eqb}
+use Rattle.std.proofs.lemmas.Slice.Eq.{bytes_eq-Decides, starts_is}
+use Rattle.bag_text.specs.Paths.{comes_before}
+use Rattle.bag_text.specs.TransferForm.{File, IsBag, Ascends, content_at}
+use Rattle.bag_check.specs.Contents.{Holds, HasFile, IsPayload, is_payload, payload_of}
+use Rattle.bag_check.specs.Judging.{has_path}
+use Rattle.bag_check.proofs.OrderLemmas.{Has, contains_has, has_contains, apart, chain, Up, Ascending, ascending_rest, later_path}
+
+-- ---- elements of a list that is mapped or filtered
+
+-- an element is one of the mapped list, mapped
+pub has_map : {A B : Type 0} (f : A → B) (xs : List A) (x : A) → Has xs x → Has (map f xs) (f x)
+has_map f [] x h = absurd h
+has_map f (y ∷ ys) x (inl e) = inl (ap f e)
+has_map f (y ∷ ys) x (inr h) = inr (has_map f ys x h)
+
+-- an element of a mapped list comes from one of the list
+pub map_has : {A B : Type 0} (f : A → B) (xs : List A) (y : B) → Has (map f xs) y → (x : A) × Has xs x × (f x ≡ y)
+map_has f [] y h = absurd h
+map_has f (x ∷ xs) y (inl e) = (x, inl refl, e)
+map_has f (x ∷ xs) y (inr h) = let found = map_has f xs y h in (found.0, inr found.1, found.2)
+
+-- an element that passes is kept
+pub has_filter : {A : Type 0} (p : A → Bool) (xs : List A) (x : A) → Has xs x → p x ≡ true → Has (filter p xs) x
+has_filter p [] x h e = absurd h
+has_filter {A} p (y ∷ ys) x h e = by_test (p y) refl h (λ h. has_filter p ys x h e)
+  where
+    by_test : (t : Bool) → p y ≡ t → (y ≡ x) ⊎ Has ys x → (Has ys x → Has (filter p ys) x) → Has (cond t (y ∷ filter p ys) (filter p ys)) x
+    by_test true t (inl is) again = inl is
+    by_test true t (inr h) again = inr (again h)
+    by_test false t (inl is) again = absurd (false≢true (sym t ∙ ap p is ∙ e))
+    by_test false t (inr h) again = again h
+
+-- what is kept is an element that passes
+pub filter_has : {A : Type 0} (p : A → Bool) (xs : List A) (x : A) → Has (filter p xs) x → Has xs x × (p x ≡ true)
+filter_has p [] x h = absurd h
+filter_has {A} p (y ∷ ys) x h = by_test (p y) refl h (λ h. filter_has p ys x h)
+  where
+    by_test : (t : Bool) → p y ≡ t → Has (cond t (y ∷ filter p ys) (filter p ys)) x → (Has (filter p ys) x → Has ys x × (p x ≡ true)) → ((y ≡ x) ⊎ Has ys x) × (p x ≡ true)
+    by_test true t (inl is) again = (inl is, ap p (sym is) ∙ t)
+    by_test true t (inr h) again = let more = again h in (inr more.0, more.1)
+    by_test false t h again = let more = again h in (inr more.0, more.1)
+
+-- ---- a bag's paths
+
+-- the paths of files
+abbrev pub paths : List File → List (List ℕ)
+paths files = map (λ f. f.path) files
+
+-- the paths of a list that ascends ascend
+pub ascends_up : (before : List ℕ) (files : List File) → Ascends before files → Up before (paths files)
+ascends_up before [] up = tt
+ascends_up before (f ∷ fs) up = (up.0, ascends_up f.path fs up.1)
+
+-- a bag's paths ascend
+pub bag_ascends : (bag : List File) → IsBag bag → Ascending (paths bag)
+bag_ascends bag is = ascending_rest [] (paths bag) (ascends_up [] bag is.ascending)
+
+-- what is left of a list that ascends ascends, also with one passed over
+pub up_skip : (before p : List ℕ) (ps : List (List ℕ)) → Up before (p ∷ ps) → Up before ps
+up_skip before p [] up = tt
+up_skip before p (q ∷ ps) up = (chain before p q up.0 up.1.0, up.1.1)
+
+-- files that are kept by their paths still ascend
+pub up_filter : (t : List ℕ → Bool) (before : List ℕ) (files : List File) → Up before (paths files) → Up before (paths (filter (λ f. t f.path) files))
+up_filter t before [] up = tt
+up_filter t before (f ∷ fs) up = by_test (t f.path) (λ u. up_filter t f.path fs u) (λ u. up_filter t before fs u)
+  where
+    by_test : (x : Bool) → (Up f.path (paths fs) → Up f.path (paths (filter (λ f. t f.path) fs))) → (Up before (paths fs) → Up before (paths (filter (λ f. t f.path) fs)))
+        → Up before (paths (cond x (f ∷ filter (λ f. t f.path) fs) (filter (λ f. t f.path) fs)))
+    by_test true with_it without = (up.0, with_it up.1)
+    by_test false with_it without = without (up_skip before f.path (paths fs) up)
+
+-- the payload's paths ascend
+pub payload_ascends : (bag : List File) → IsBag bag → Ascending (paths (payload_of bag))
+payload_ascends bag is = ascending_rest [] (paths (payload_of bag)) (up_filter is_payload [] bag (ascends_up [] bag is.ascending))
+
+-- ---- one file at one path
+
+-- two files of an ascending list with one path are the same
+one_file : (files : List File) (f g : File) → Ascending (paths files) → Has files f → Has files g → f.path ≡ g.path → f ≡ g
+one_file [] f g up h k e = absurd h
+one_file (x ∷ xs) f g up (inl is) (inl also) e = sym is ∙ also
+one_file (x ∷ xs) f g up (inl is) (inr more) e =
+    absurd (apart x.path (subst (λ (p : List ℕ). comes_before x.path p ≡ true) (sym (ap (λ (y : File). y.path) is ∙ e)) (later_path x.path (paths xs) up g.path (has_map (λ y. y.path) xs g more))))
+one_file (x ∷ xs) f g up (inr more) (inl is) e =
+    absurd (apart x.path (subst (λ (p : List ℕ). comes_before x.path p ≡ true) (e ∙ sym (ap (λ (y : File). y.path) is)) (later_path x.path (paths xs) up f.path (has_map (λ y. y.path) xs f more))))
+one_file (x ∷ xs) f g up (inr more) (inr others) e = one_file xs f g (ascending_rest x.path (paths xs) up) more others e
+
+-- a file of this path and content
+abbrev at : List ℕ → List ℕ → File
+at path content = record { path = path; content = content }
+
+-- a bag has one content at a path
+pub one_content : (bag : List File) → IsBag bag → (path c d : List ℕ) → Holds bag path c → Holds bag path d → c ≡ d
+one_content bag is path c d h k =
+    ap (λ (f : File). f.content) (one_file bag (at path c) (at path d) (bag_ascends bag is) (contains_has bag (at path c) h) (contains_has bag (at path d) k) refl)
+
+-- ---- looking a path up
+
+-- the content of a file that is found
+abbrev content_in : Option File → Option (List ℕ)
+content_in o = option_map (λ f. f.content) o
+
+-- what is found at a path is a file of the list
+found_has : (files : List File) (path content : List ℕ) → content_at files path ≡ Some content → Has files (at path content)
+found_has [] path content e = absurd cc
+found_has (f ∷ fs) path content e = by_test (bytes_eq f.path path) refl e (λ e. found_has fs path content e)
+  where
+    by_test : (x : Bool) → bytes_eq f.path path ≡ x → content_in (cond x (Some f) (find (λ f. bytes_eq f.path path) fs)) ≡ Some content → (content_at fs path ≡ Some content → Has fs (at path content)) → (f ≡ at path content) ⊎ Has fs (at path content)
+    by_test true t e again =
+        let same : f.path ≡ path = (bytes_eq-Decides f.path path).0 t in
+        let is : f.content ≡ content = same_Some f.content content e in
+        inl (ap (λ (p : List ℕ). at p f.content) same ∙ ap (λ (c : List ℕ). at path c) is)
+    by_test false t e again = inr (again e)
+
+-- where nothing is found no file has the path
+none_found : (files : List File) (path content : List ℕ) → content_at files path ≡ None → Has files (at path content) → ⊥
+none_found [] path content e h = h
+none_found (f ∷ fs) path content e h = by_test (bytes_eq f.path path) refl e h (λ e h. none_found fs path content e h)
+  where
+    by_test : (x : Bool) → bytes_eq f.path path ≡ x → content_in (cond x (Some f) (find (λ f. bytes_eq f.path path) fs)) ≡ None → (f ≡ at path content) ⊎ Has fs (at path content) → (content_at fs path ≡ None → Has fs (at path content) → ⊥) → ⊥
+    by_test true t e h again = absurd cc
+    by_test false t e (inl is) again = false≢true (sym t ∙ (bytes_eq-Decides f.path path).1 (ap (λ (f : File). f.path) is))
+    by_test false t e (inr h) again = again e h
+
+-- what is found at a path stands there
+pub content_found : (bag : List File) (path content : List ℕ) → content_at bag path ≡ Some content → Holds bag path content
+content_found bag path content e = has_contains bag (at path content) (found_has bag path content e)
+
+-- where nothing is found there is no file
+pub no_content : (bag : List File) (path : List ℕ) → content_at bag path ≡ None → HasFile bag path → ⊥
+no_content bag path e (content, holds) = none_found bag path content e (contains_has bag (at path content) holds)
+
+-- what stands at a path is found
+pub content_there : (bag : List File) → IsBag bag → (path content : List ℕ) → Holds bag path content → content_at bag path ≡ Some content
+content_there bag is path content holds = by_found (content_at bag path) refl
+  where
+    by_found : (o : Option (List ℕ)) → content_at bag path ≡ o → content_at bag path ≡ Some content
+    by_found None e = absurd (no_content bag path e (content, holds))
+    by_found (Some other) e = e ∙ ap (λ (c : List ℕ). Some c) (one_content bag is path other content (content_found bag path other e) holds)
+
+-- a path that is found has a file
+pub has_path_is : (bag : List File) (path : List ℕ) → has_path bag path ≡ true → HasFile bag path
+has_path_is bag path e = by_found (content_at bag path) refl e
+  where
+    by_found : (o : Option (List ℕ)) → content_at bag path ≡ o → is_some o ≡ true → HasFile bag path
+    by_found None is e = absurd cc
+    by_found (Some content) is e = (content, content_found bag path content is)
+
+-- a path that isn't found has none
+pub no_path_is : (bag : List File) (path : List ℕ) → has_path bag path ≡ false → HasFile bag path → ⊥
+no_path_is bag path e = by_found (content_at bag path) refl e
+  where
+    by_found : (o : Option (List ℕ)) → content_at bag path ≡ o → is_some o ≡ false → HasFile bag path → ⊥
+    by_found None is e = no_content bag path is
+    by_found (Some content) is e = absurd cc
+
+-- a file's path is one of the bag's
+pub path_of_file : (bag : List File) (f : File) → Has bag f → HasFile bag f.path
+path_of_file bag f h = (f.content, has_contains bag f h)
+
+-- ---- payload paths
+
+-- a path that passes the test is one of the payload
+pub is_payload_is : (path : List ℕ) → is_payload path ≡ true → IsPayload path
+is_payload_is path e = (_, (starts_is Decides-eqb path (codes "data/") (is_payload path) refl).0 e)
+
+-- a path of the payload passes the test
+pub is_payload_again : (path : List ℕ) → IsPayload path → is_payload path ≡ true
+is_payload_again path (rest, is) = (starts_is Decides-eqb path (codes "data/") (is_payload path) refl).1 rest is
+
+-- a payload file is a file of the bag under `data/`
+pub payload_has : (bag : List File) (path : List ℕ) → Has (paths (payload_of bag)) path → HasFile bag path × IsPayload path
+payload_has bag path h =
+    let found = map_has (λ (f : File). f.path) (payload_of bag) path h in
+    let inside = filter_has (λ (f : File). is_payload f.path) bag found.0 found.1 in
+    (subst (λ (p : List ℕ). HasFile bag p) found.2 (path_of_file bag found.0 inside.0), subst IsPayload found.2 (is_payload_is found.0.path inside.1))
+
+-- a file of the bag under `data/` is a payload file
+pub has_payload : (bag : List File) (path : List ℕ) → HasFile bag path → IsPayload path → Has (paths (payload_of bag)) path
+has_payload bag path (content, holds) is =
+    has_map (λ (f : File). f.path) (payload_of bag) (at path content) (has_filter (λ (f : File). is_payload f.path) bag (at path content) (contains_has bag (at path content) holds) (is_payload_again path is))

@@ -1,0 +1,409 @@
+-- Reading and judging, item after item.
+use Rattle.std.proofs.Common.{◌≡◌, ℕ, zero, suc, ◌+◌, ◌*◌, ◌<◌, ◌≤◌, Bool, true, false, cond, not, ◌&&◌, ◌||◌, inl, inr, List, [], ◌∷◌, ◌++◌, length, get_or, drop, map, nat_lt, refl, sym, ap, ◌∙◌, arith, append_assoc}
+use Rattle.std.specs.Prelude.{Option, Some, None, Result, Ok, Err, find, sum_by, option_map, is_some, codes, decimal}
+use Rattle.std.specs.Fmt.{digits}
+use Rattle.std.specs.Ordering.{nat_cmp}
+use Rattle.std.specs.Cmp.Lexicographic.{slice_cmp}
+use Rattle.std.specs.BTreeMap.{is_at}
+use Rattle.std.specs.Map.{lookup}
+use Rattle.std.specs.Cow.{cow_str_bytes}
+use Rattle.std.specs.declared.borrow.CowStr.{CowStr}
+use Rattle.std.specs.Global.{Global}
+use Rattle.std.specs.List.{list_any, AllByRecursion}
+use Rattle.std.proofs.lemmas.List.{append-nil, drop_more}
+use Rattle.std.proofs.lemmas.List.Sums.{sum-map, sum_by-cons}
+use Rattle.std.proofs.lemmas.Bool.Decides.{nat_tests}
+use Rattle.percent_encoding.specs.declared.ascii_set.AsciiSet.{AsciiSet}
+use Rattle.percent_encoding.specs.AsciiSet.{should_percent_encode}
+use Rattle.percent_encoding.specs.Percent.{percent_encode}
+use Rattle.bag_text.specs.TransferForm.{File, Fits, max_content}
+use Rattle.bag_text.specs.declared.listing.Listing.{Listing}
+use Rattle.bag_text.specs.declared.listing.Manifest.{Manifest}
+use Rattle.bag_text.specs.declared.declaration.Version.{Version}
+use Rattle.bag_text.specs.ManifestReading.{Entry, listed, is_listed, manifest_of}
+use Rattle.bag_check.specs.declared.rule.Rule.{Rule}
+use Rattle.bag_check.specs.declared.rule.Rule.TheVariants.{OutsidePayload, TagManifestListed, PayloadInTagManifest, PayloadManifestUnlisted, Missing, Unlisted, ChecksumWrong}
+use Rattle.bag_check.specs.declared.names.Kind.{Kind}
+use Rattle.bag_text.specs.declared.checksum.Algorithm.{Algorithm}
+use Rattle.bag_check.specs.declared.names.Kind.TheVariants.{Payload, Tag}
+use Rattle.bag_check.specs.Contents.{is_payload, payload_of, manifest_name, algorithm_named}
+use Rattle.bag_check.specs.Validity.{payload_files, payload_bytes, manifest_count, Report}
+use Rattle.bag_check.specs.FaultTexts.{is_escaped, printed, printed_byte, fault_text}
+use Rattle.bag_check.specs.Faults.{Fault, Breaks, rule_number}
+use Rattle.bag_check.specs.Judging.{◌>>=◌, Named, Listed, named_of, onto, manifests_in, listed_or_fault, listings_of, breaks_at, first_in, first_place, has_path, named_by, named_or_fault, version_in, no_fetch, some_payload, keeps, all_rules, judge}
+use Rattle.bag_check.specs.Answers.{FailsAs}
+use Rattle.bag_check.specs.Contents.{info_path}
+use Rattle.bag_check.specs.Plain.{IsPlain, is_tag_found, is_tag_manifest_path, is_plain}
+use Rattle.std.proofs.lemmas.Bool.{false≢true}
+use Rattle.bag_check.proofs.OrderLemmas.{Has, contains_has}
+use Rattle.bag_check.proofs.NameLemmas.{name_is, name_again}
+use Rattle.bag_check.proofs.BagLemmas.{has_path_is, no_path_is, path_of_file}
+
+-- ---- bytes that are printed as escapes
+
+-- a test passes at each number below this one
+all_below : (ℕ → Bool) → ℕ → Bool
+all_below test zero = true
+all_below test (suc n) = test n && all_below test n
+
+-- both of two tests passed
+both : (x y : Bool) → (x && y) ≡ true → (x ≡ true) × (y ≡ true)
+both true y h = (refl, h)
+both false y h = absurd cc
+
+-- what passes at each number below passes at one of them
+at_each : (test : ℕ → Bool) (n : ℕ) → all_below test n ≡ true → (k : ℕ) → k < n → test k ≡ true
+unfolding all_below
+at_each test zero h k lt = absurd (omega arith)
+at_each test (suc n) h k lt = by_place (nat_lt k n) refl (at_each test n (both (test n) (all_below test n) h).1 k)
+  where
+    by_place : (b : Bool) → nat_lt k n ≡ b → (k < n → test k ≡ true) → test k ≡ true
+    by_place true e again = again (grind (arith, nat_tests))
+    by_place false e again = let is : n ≡ k = grind (arith, nat_tests) in ap test (sym is) ∙ (both (test n) (all_below test n) h).0
+
+-- whether two truths are one
+same : Bool → Bool → Bool
+same true y = y
+same false y = not y
+
+-- and then they are
+same_is : (x y : Bool) → same x y ≡ true → x ≡ y
+unfolding same
+same_is true true h = refl
+same_is true false h = absurd cc
+same_is false true h = absurd cc
+same_is false false h = refl
+
+-- the set of the bytes below 128 that are escaped
+abbrev escaped_set : AsciiSet
+escaped_set = record { mask = 170141183460469231731687303861912993791 }
+
+-- it has just those bytes below 128
+below : all_below (λ b. same (should_percent_encode escaped_set b) (is_escaped b)) 128 ≡ true
+unfolding all_below same should_percent_encode
+below = refl
+
+-- every byte above is escaped
+above : (b : ℕ) → 128 ≤ b → should_percent_encode escaped_set b ≡ is_escaped b
+unfolding should_percent_encode
+above b h = grind (arith, nat_tests)
+
+-- the set has just the bytes that are escaped
+pub escapes : (b : ℕ) → should_percent_encode escaped_set b ≡ is_escaped b
+escapes b = by_place (nat_lt b 128) refl
+  where
+    by_place : (x : Bool) → nat_lt b 128 ≡ x → should_percent_encode escaped_set b ≡ is_escaped b
+    by_place true e = same_is (should_percent_encode escaped_set b) (is_escaped b) (at_each (λ k. same (should_percent_encode escaped_set k) (is_escaped k)) 128 below b (grind (arith, nat_tests)))
+    by_place false e = above b (grind (arith, nat_tests))
+
+-- what such a set encodes is what is printed
+pub encodes : (set : AsciiSet) → ((b : ℕ) → should_percent_encode set b ≡ is_escaped b) → (bs : List ℕ) → percent_encode set bs ≡ printed bs
+unfolding percent_encode
+encodes set h [] = refl
+encodes set h (b ∷ bs) = rw (h b) (ap (λ (t : List ℕ). printed_byte b ++ t) (encodes set h bs))
+
+-- the codes of the rules
+abbrev code : Rule → List ℕ
+code OutsidePayload = codes "B7"
+code TagManifestListed = codes "B8"
+code PayloadInTagManifest = codes "B9"
+code PayloadManifestUnlisted = codes "B10"
+code Missing = codes "B11"
+code Unlisted = codes "B12"
+code ChecksumWrong = codes "B17"
+
+-- they are `B` and the number
+coded : (rule : Rule) → codes "B" ++ decimal (rule_number rule) ≡ code rule
+unfolding digits
+coded OutsidePayload = refl
+coded TagManifestListed = refl
+coded PayloadInTagManifest = refl
+coded PayloadManifestUnlisted = refl
+coded Missing = refl
+coded Unlisted = refl
+coded ChecksumWrong = refl
+
+-- how a fault of a rule is printed
+pub broken_text : (rule : Rule) (name path : List ℕ) → fault_text (Breaks rule name path) ≡ code rule ++ 32 ∷ printed name ++ 32 ∷ printed path
+broken_text rule name path =
+    ap (λ (t : List ℕ). t ++ codes " " ++ printed name ++ codes " " ++ printed path) (coded rule)
+    ∙ append_assoc (code rule ++ codes " " ++ printed name) (codes " ") (printed path)
+    ∙ ap (λ (t : List ℕ). t ++ 32 ∷ printed path) (append_assoc (code rule) (codes " ") (printed name))
+
+-- ---- manifests, file after file
+
+-- what was found before, and what is still found
+abbrev pub fronted : {A : Type 0} → List A → Result (List A) Fault → Result (List A) Fault
+fronted front read = read >>= λ xs. Ok (front ++ xs)
+
+-- a step that fails makes the whole fail
+pub fails_on : {A B : Type 0} (fault : Option Fault) (r : Result A Fault) (next : A → Result B Fault) → FailsAs fault r → FailsAs fault (r >>= next)
+fails_on None r next h = tt
+fails_on (Some f) r next h = rw h refl
+
+-- what is found goes to what was found before
+again_onto : {A : Type 0} (front : List A) (x : A) (r : Result (List A) Fault) → fronted front (r >>= λ xs. Ok (x ∷ xs)) ≡ fronted (front ++ x ∷ []) r
+again_onto {A = A} front x (Ok xs) = ap (λ (t : List A). Ok t) (sym (append_assoc front (x ∷ []) xs))
+again_onto front x (Err e) = refl
+
+-- nothing is left to be found
+nothing_onto : {A : Type 0} (front : List A) → fronted front (Ok []) ≡ Ok front
+nothing_onto {A = A} front = ap (λ (t : List A). Ok t) (append-nil front)
+
+-- a file whose name is refused refuses all of them
+pub manifests_fail : (front : List Named) (fs more : List File) (f : File) (fault : Option Fault) (total : Result (List Named) Fault)
+    → fs ≡ f ∷ more → FailsAs fault (named_of f) → fronted front (manifests_in fs) ≡ total → FailsAs fault total
+unfolding manifests_in
+manifests_fail front fs more f None total is e so_far = tt
+manifests_fail front fs more f (Some x) total is e so_far =
+    let one : fronted front (manifests_in (f ∷ more)) ≡ Err x = rw e refl in
+    sym so_far ∙ ap (λ (gs : List File). fronted front (manifests_in gs)) is ∙ one
+
+-- a file that is no manifest
+pub manifests_skip : (front : List Named) (fs more : List File) (f : File) (total : Result (List Named) Fault)
+    → fs ≡ f ∷ more → named_of f ≡ Ok None → fronted front (manifests_in fs) ≡ total → fronted front (manifests_in more) ≡ total
+unfolding manifests_in
+manifests_skip front fs more f total is e so_far = sym one ∙ ap (λ (gs : List File). fronted front (manifests_in gs)) (sym is) ∙ so_far
+  where
+    same_again : (r : Result (List Named) Fault) → (r >>= λ ms. Ok (onto None ms)) ≡ r
+    same_again (Ok ms) = refl
+    same_again (Err x) = refl
+
+    one : fronted front (manifests_in (f ∷ more)) ≡ fronted front (manifests_in more)
+    one = rw e (ap (fronted front) (same_again (manifests_in more)))
+
+-- a file that is a manifest
+pub manifests_take : (front now : List Named) (fs more : List File) (f : File) (m : Named) (total : Result (List Named) Fault)
+    → fs ≡ f ∷ more → named_of f ≡ Ok (Some m) → now ≡ front ++ m ∷ [] → fronted front (manifests_in fs) ≡ total → fronted now (manifests_in more) ≡ total
+unfolding manifests_in
+manifests_take front now fs more f m total is e then so_far =
+    let one : fronted front (manifests_in (f ∷ more)) ≡ fronted (front ++ m ∷ []) (manifests_in more) = rw e (again_onto front m (manifests_in more)) in
+    rw then (sym one ∙ ap (λ (gs : List File). fronted front (manifests_in gs)) (sym is) ∙ so_far)
+
+-- no file is left
+pub manifests_done : (front : List Named) (fs : List File) (total : Result (List Named) Fault) → fs ≡ [] → fronted front (manifests_in fs) ≡ total → total ≡ Ok front
+unfolding manifests_in
+manifests_done front fs total is so_far = sym so_far ∙ ap (λ (gs : List File). fronted front (manifests_in gs)) is ∙ nothing_onto front
+
+-- ---- listings, manifest after manifest
+
+-- a manifest whose text is refused refuses all of them
+pub listings_fail : (v : Version) (front : List Listed) (ms more : List Named) (m : Named) (fault : Option Fault) (total : Result (List Listed) Fault)
+    → ms ≡ m ∷ more → FailsAs fault (listed_or_fault m (manifest_of v m.algorithm m.text)) → fronted front (listings_of v ms) ≡ total → FailsAs fault total
+unfolding listings_of
+listings_fail v front ms more m None total is e so_far = tt
+listings_fail v front ms more m (Some x) total is e so_far =
+    let one : fronted front (listings_of v (m ∷ more)) ≡ Err x = rw e refl in
+    sym so_far ∙ ap (λ (ns : List Named). fronted front (listings_of v ns)) is ∙ one
+
+-- a manifest that is read
+pub listings_take : (v : Version) (front now : List Listed) (ms more : List Named) (m : Named) (l : Listed) (total : Result (List Listed) Fault)
+    → ms ≡ m ∷ more → listed_or_fault m (manifest_of v m.algorithm m.text) ≡ Ok l → now ≡ front ++ l ∷ [] → fronted front (listings_of v ms) ≡ total → fronted now (listings_of v more) ≡ total
+unfolding listings_of
+listings_take v front now ms more m l total is e then so_far =
+    let one : fronted front (listings_of v (m ∷ more)) ≡ fronted (front ++ l ∷ []) (listings_of v more) = rw e (again_onto front l (listings_of v more)) in
+    rw then (sym one ∙ ap (λ (ns : List Named). fronted front (listings_of v ns)) (sym is) ∙ so_far)
+
+-- no manifest is left
+pub listings_done : (v : Version) (front : List Listed) (ms : List Named) (total : Result (List Listed) Fault) → ms ≡ [] → fronted front (listings_of v ms) ≡ total → total ≡ Ok front
+unfolding listings_of
+listings_done v front ms total is so_far = sym so_far ∙ ap (λ (ns : List Named). fronted front (listings_of v ns)) is ∙ nothing_onto front
+
+-- ---- places
+
+-- the first file of the payload that a manifest doesn't list
+abbrev pub unlisted : Manifest → List File → Option (List ℕ)
+unlisted manifest files = find (λ path. not (is_listed path (map listed manifest.entries.entries))) (map (λ f. f.path) (payload_of files))
+
+-- a path is found by its bytes
+pub found_by_bytes : (es : List (CowStr Global × Listing)) (path : List ℕ) → is_some (lookup (is_at (λ k. slice_cmp nat_cmp path (cow_str_bytes k))) es) ≡ is_listed path (map listed es)
+found_by_bytes [] path = refl
+found_by_bytes (e ∷ es) path = by_test (is_at (slice_cmp nat_cmp path) (cow_str_bytes e.0)) (found_by_bytes es path)
+  where
+    by_test : (x : Bool) → is_some (lookup (is_at (λ k. slice_cmp nat_cmp path (cow_str_bytes k))) es) ≡ is_listed path (map listed es) → is_some (cond x (Some e.1) (lookup (is_at (λ k. slice_cmp nat_cmp path (cow_str_bytes k))) es)) ≡ is_some (cond x (Some (listed e).1) (lookup (is_at (slice_cmp nat_cmp path)) (map listed es)))
+    by_test true again = refl
+    by_test false again = again
+
+-- what is left of a list begins with the next item
+pub next_item : {A : Type 0} (xs : List A) (i : ℕ) (x : A) → i < length xs → x ≡ get_or xs i x → drop i xs ≡ x ∷ drop (i + 1) xs
+next_item {A = A} xs i x lt is = drop_more xs i x lt ∙ ap (λ (y : A). y ∷ drop (i + 1) xs) (sym is)
+
+-- what is found among what things are seen as
+pub find_map : {A B : Type 0} (view : A → B) (test : B → Bool) (xs : List A) → find test (map view xs) ≡ option_map view (find (λ x. test (view x)) xs)
+find_map view test [] = refl
+find_map view test (x ∷ xs) = by_test (test (view x)) (find_map view test xs)
+  where
+    by_test : (b : Bool) → find test (map view xs) ≡ option_map view (find (λ x. test (view x)) xs) → cond b (Some (view x)) (find test (map view xs)) ≡ option_map view (cond b (Some x) (find (λ x. test (view x)) xs))
+    by_test true again = refl
+    by_test false again = again
+
+-- a rule for listed paths, in the manifests that keep it
+pub outside_place : (bag : List File) (rule : Rule) (l : Listed) → rule ≡ OutsidePayload → l.kind ≡ Payload → option_map (λ e. e.0) (find (breaks_at bag rule) l.entries) ≡ first_in bag rule l
+outside_place bag rule l is kind = rw (is, kind) (sym (find_map (λ (e : List ℕ × Entry). e.0) (λ path. not (is_payload path)) l.entries))
+
+-- the same for the rule that each listed path is there
+pub missing_place : (bag : List File) (rule : Rule) (l : Listed) → rule ≡ Missing → option_map (λ e. e.0) (find (breaks_at bag rule) l.entries) ≡ first_in bag rule l
+missing_place bag rule l is = rw is (sym (find_map (λ (e : List ℕ × Entry). e.0) (λ path. not (has_path bag path)) l.entries))
+
+-- a manifest that breaks the rule
+pub place_found : (bag : List File) (rule : Rule) (ls more : List Listed) (l : Listed) (path : List ℕ) (total : Option (List ℕ × List ℕ)) → ls ≡ l ∷ more → first_in bag rule l ≡ Some path → first_place bag rule ls ≡ total → Some (l.name, path) ≡ total
+unfolding first_place
+place_found bag rule ls more l path total is e so_far =
+    let one : first_place bag rule (l ∷ more) ≡ Some (l.name, path) = rw e refl in
+    sym one ∙ ap (first_place bag rule) (sym is) ∙ so_far
+
+-- a manifest that keeps the rule
+pub place_later : (bag : List File) (rule : Rule) (ls more : List Listed) (l : Listed) (total : Option (List ℕ × List ℕ)) → ls ≡ l ∷ more → first_in bag rule l ≡ None → first_place bag rule ls ≡ total → first_place bag rule more ≡ total
+unfolding first_place
+place_later bag rule ls more l total is e so_far =
+    let one : first_place bag rule (l ∷ more) ≡ first_place bag rule more = rw e refl in
+    sym one ∙ ap (first_place bag rule) (sym is) ∙ so_far
+
+-- no manifest is left
+pub place_none : (bag : List File) (rule : Rule) (ls : List Listed) (total : Option (List ℕ × List ℕ)) → ls ≡ [] → first_place bag rule ls ≡ total → None ≡ total
+unfolding first_place
+place_none bag rule ls total is so_far = sym (ap (first_place bag rule) is) ∙ so_far
+
+-- ---- counts
+
+-- a test of what things are seen as
+pub any_map : {A B : Type 0} (view : A → B) (test : B → Bool) (xs : List A) → list_any test (map view xs) ≡ list_any (λ x. test (view x)) xs
+any_map view test [] = refl
+any_map view test (x ∷ xs) = ap (λ (b : Bool). test (view x) || b) (any_map view test xs)
+
+-- the bytes of a file
+abbrev pub size : File → ℕ
+size f = length f.content
+
+-- the bytes of the payload are the sum of their sizes
+pub bytes_by : (fs : List File) → payload_bytes fs ≡ sum_by size (payload_of fs)
+bytes_by fs = sum-map size (payload_of fs)
+
+-- a payload file is counted
+pub count_take : (fs more : List File) (f : File) → fs ≡ f ∷ more → is_payload f.path ≡ true → (payload_files fs ≡ payload_files more + 1) × (payload_bytes fs ≡ length f.content + payload_bytes more)
+count_take fs more f is e =
+    let one : payload_of fs ≡ f ∷ payload_of more = ap payload_of is ∙ rw e refl in
+    (ap length one ∙ omega arith, bytes_by fs ∙ ap (sum_by size) one ∙ sum_by-cons size f (payload_of more) ∙ ap (λ (n : ℕ). length f.content + n) (sym (bytes_by more)))
+
+-- another file is not counted
+pub count_skip : (fs more : List File) (f : File) → fs ≡ f ∷ more → is_payload f.path ≡ false → (payload_files fs ≡ payload_files more) × (payload_bytes fs ≡ payload_bytes more)
+count_skip fs more f is e =
+    let one : payload_of fs ≡ payload_of more = ap payload_of is ∙ rw e refl in
+    (ap length one, bytes_by fs ∙ ap (sum_by size) one ∙ sym (bytes_by more))
+
+-- there are no more payload files than files
+pub few_payload : (fs : List File) → payload_files fs ≤ length fs
+few_payload [] = omega arith
+few_payload (f ∷ fs) = by_test (is_payload f.path) (few_payload fs)
+  where
+    by_test : (b : Bool) → payload_files fs ≤ length fs → length (cond b (f ∷ payload_of fs) (payload_of fs)) ≤ suc (length fs)
+    by_test true h = omega arith
+    by_test false h = omega arith
+
+-- each of them has at most the most bytes
+small_all : (fs : List File) → AllByRecursion Fits fs → sum_by size (payload_of fs) ≤ max_content * length fs
+small_all [] each = omega arith
+small_all (f ∷ fs) each = by_test (is_payload f.path) (small_all fs each.1)
+  where
+    small : length f.content ≤ max_content
+    small = each.0.small
+
+    by_test : (b : Bool) → sum_by size (payload_of fs) ≤ max_content * length fs → sum_by size (cond b (f ∷ payload_of fs) (payload_of fs)) ≤ max_content * suc (length fs)
+    by_test true h = rw (sum_by-cons size f (payload_of fs)) (omega arith)
+    by_test false h = omega arith
+
+-- the bytes of a payload are bounded
+pub small_payload : (fs : List File) → AllByRecursion Fits fs → payload_bytes fs ≤ max_content * length fs
+small_payload fs each = rw (bytes_by fs) (small_all fs each)
+
+-- as many manifests are found as there are
+pub manifests_counted : (bag : List File) (ms : List Named) → manifests_in bag ≡ Ok ms → length ms ≡ manifest_count bag
+unfolding manifests_in
+manifests_counted [] ms e = let is : ms ≡ [] = cc in ap length is
+manifests_counted (f ∷ fs) ms e = by_name (manifest_name f.path) refl (λ rest h. manifests_counted fs rest h) e
+  where
+    by_rest : (o : Option Named) (r : Result (List Named) Fault) → (r >>= λ ns. Ok (onto o ns)) ≡ Ok ms → ((rest : List Named) → r ≡ Ok rest → length rest ≡ manifest_count fs) → (rest : List Named) × (ms ≡ onto o rest) × (length rest ≡ manifest_count fs)
+    by_rest o (Ok rest) e again = (rest, (let is : onto o rest ≡ ms = cc in sym is), again rest refl)
+    by_rest o (Err x) e again = absurd cc
+
+    by_algorithm : (kind : Kind) (a : Option Algorithm) → manifest_count (f ∷ fs) ≡ suc (manifest_count fs) → ((rest : List Named) → manifests_in fs ≡ Ok rest → length rest ≡ manifest_count fs) → (named_by f kind a >>= λ found. manifests_in fs >>= λ ns. Ok (onto found ns)) ≡ Ok ms → length ms ≡ manifest_count (f ∷ fs)
+    by_algorithm kind None counts again e = absurd cc
+    by_algorithm kind (Some a) counts again e =
+        let p = by_rest (Some (record { name = f.path; kind = kind; algorithm = a; text = f.content })) (manifests_in fs) e again in
+        ap length p.1 ∙ ap suc p.2 ∙ sym counts
+
+    by_name : (o : Option (Kind × List ℕ)) → manifest_name f.path ≡ o → ((rest : List Named) → manifests_in fs ≡ Ok rest → length rest ≡ manifest_count fs) → (named_or_fault f o >>= λ found. manifests_in fs >>= λ ns. Ok (onto found ns)) ≡ Ok ms → length ms ≡ manifest_count (f ∷ fs)
+    by_name None is again e =
+        let p = by_rest None (manifests_in fs) e again in
+        let counts : manifest_count (f ∷ fs) ≡ manifest_count fs = rw is refl in
+        ap length p.1 ∙ p.2 ∙ sym counts
+    by_name (Some found) is again e =
+        let counts : manifest_count (f ∷ fs) ≡ suc (manifest_count fs) = rw is refl in
+        by_algorithm found.0 (algorithm_named found.1) counts again e
+
+-- the verdict on a bag of which no step names a fault
+pub judged : (bag : List File) (v : Version) (unit : Unit {0}) (ms : List Named) (ls : List Listed) (r : Report)
+    → version_in bag ≡ Ok v → no_fetch bag ≡ Ok unit → manifests_in bag ≡ Ok ms → some_payload ms ≡ Ok unit → listings_of v ms ≡ Ok ls → keeps bag ls all_rules ≡ Ok unit
+    → r ≡ record { version = v; files = payload_files bag; bytes = payload_bytes bag; manifests = length ms } → judge bag ≡ Ok r
+judged bag v unit ms ls r version fetch found some read kept is =
+    rw (version, fetch, found, some, read, kept) (ap (λ (x : Report). Ok x) (sym (is ∙ ap (λ (n : ℕ). record { version = v; files = payload_files bag; bytes = payload_bytes bag; manifests = n }) (manifests_counted bag ms found))))
+
+-- ---- bags without tag manifests and without `bag-info.txt`
+
+-- what a test finds in a list
+any_is : {A : Type 0} (test : A → Bool) (xs : List A) → list_any test xs ≡ true → (x : A) × Has xs x × (test x ≡ true)
+any_is test [] e = absurd cc
+any_is {A = A} test (x ∷ xs) e = by_test (test x) refl e (any_is test xs)
+  where
+    by_test : (b : Bool) → test x ≡ b → (b || list_any test xs) ≡ true → (list_any test xs ≡ true → (y : A) × Has xs y × (test y ≡ true)) → (y : A) × Has (x ∷ xs) y × (test y ≡ true)
+    by_test true is e again = (x, inl refl, is)
+    by_test false is e again = let p = again e in (p.0, inr p.1, p.2)
+
+-- what stands in a list is found by a test that it passes
+any_again : {A : Type 0} (test : A → Bool) (xs : List A) (x : A) → Has xs x → test x ≡ true → list_any test xs ≡ true
+any_again test [] x h e = absurd h
+any_again test (y ∷ ys) x (inl is) e = ap (λ (b : Bool). b || list_any test ys) (ap test is ∙ e)
+any_again test (y ∷ ys) x (inr h) e = by_test (test y) (any_again test ys x h e)
+  where
+    by_test : (b : Bool) → list_any test ys ≡ true → (b || list_any test ys) ≡ true
+    by_test true again = refl
+    by_test false again = again
+
+-- two tests of which neither passed
+parts : (x y : Bool) → (not x && not y) ≡ true → (x ≡ false) × (y ≡ false)
+parts false false e = (refl, refl)
+parts false true e = absurd cc
+parts true y e = absurd cc
+
+-- two tests that cannot pass fail
+joined : (x y : Bool) → (x ≡ true → ⊥) → (y ≡ true → ⊥) → (not x && not y) ≡ true
+joined false false no_x no_y = refl
+joined false true no_x no_y = absurd (no_y refl)
+joined true y no_x no_y = absurd (no_x refl)
+
+-- what is found of a tag manifest is its ALG
+tag_found : (o : Option (Kind × List ℕ)) → is_tag_found o ≡ true → (alg : List ℕ) × (o ≡ Some (Tag, alg))
+tag_found None e = absurd cc
+tag_found (Some (Payload, alg)) e = absurd cc
+tag_found (Some (Tag, alg)) e = (alg, refl)
+
+-- a bag that computing calls plain is plain
+pub plain_is : (bag : List File) → is_plain bag ≡ true → IsPlain bag
+plain_is bag e =
+    let p = parts (list_any (λ f. is_tag_manifest_path f.path) bag) (has_path bag info_path) e in
+    record {
+      no_tag_manifest = λ alg name named file.
+          let there = any_again (λ f. is_tag_manifest_path f.path) bag (record { path = name; content = file.0 }) (contains_has bag _ file.1) (ap is_tag_found (name_again name Tag alg named)) in
+          false≢true (sym p.0 ∙ there);
+      no_info = λ file. no_path_is bag info_path p.1 file;
+    }
+
+-- a plain bag is called plain by computing
+pub plain_again : (bag : List File) → IsPlain bag → is_plain bag ≡ true
+plain_again bag plain = joined (list_any (λ f. is_tag_manifest_path f.path) bag) (has_path bag info_path) no_tag (λ e. plain.no_info (has_path_is bag info_path e))
+  where
+    no_tag : list_any (λ f. is_tag_manifest_path f.path) bag ≡ true → ⊥
+    no_tag e =
+        let found = any_is (λ (f : File). is_tag_manifest_path f.path) bag e in
+        let tag = tag_found (manifest_name found.0.path) found.2 in
+        plain.no_tag_manifest tag.0 found.0.path (name_is found.0.path Tag tag.0 tag.1) (path_of_file bag found.0 found.1)

@@ -1,0 +1,16 @@
+pub mod ResultLemmas
+pub mod OrderLemmas
+pub mod TextFacts
+pub mod BagLemmas
+pub mod NameLemmas
+pub mod FaultLemmas
+pub mod ManifestLemmas
+pub mod PlaceLemmas
+pub mod RuleLemmas
+pub mod StepLemmas
+pub mod OxumLemmas
+pub mod ValidLemmas
+pub mod JudgeLaws
+pub mod CodeLemmas
+pub mod AnswerLemmas
+mod Examples

@@ -1,0 +1,30 @@
+-- Steps that may fail, one after the other.
+use Rattle.std.proofs.Common.{◌≡◌, ◌⊎◌, inl, inr, refl}
+use Rattle.std.specs.Prelude.{Result, Ok, Err}
+use Rattle.bag_check.specs.Faults.{Fault}
+use Rattle.bag_check.specs.Judging.{◌>>=◌}
+
+-- where two steps succeed each does
+pub bind_ok : {A B : Type 0} (r : Result A Fault) (k : A → Result B Fault) (b : B) → (r >>= k) ≡ Ok b → (x : A) × (r ≡ Ok x) × (k x ≡ Ok b)
+bind_ok (Ok x) k b e = (x, refl, e)
+bind_ok (Err f) k b e = absurd cc
+
+-- where they fail the first does, or the second with its value
+pub bind_err : {A B : Type 0} (r : Result A Fault) (k : A → Result B Fault) (f : Fault) → (r >>= k) ≡ Err f → (r ≡ Err f) ⊎ ((x : A) × (r ≡ Ok x) × (k x ≡ Err f))
+bind_err (Ok x) k f e = inr (x, refl, e)
+bind_err (Err g) k f e = inl cc
+
+-- a step has one value
+pub same_ok : {A E : Type 0} (x y : A) (r : Result A E) → r ≡ Ok x → r ≡ Ok y → x ≡ y
+same_ok x y (Ok z) e f = cc
+same_ok x y (Err z) e f = absurd cc
+
+-- a step has one fault
+pub same_err : {A E : Type 0} (x y : E) (r : Result A E) → r ≡ Err x → r ≡ Err y → x ≡ y
+same_err x y (Ok z) e f = absurd cc
+same_err x y (Err z) e f = cc
+
+-- no step both succeeds and fails
+pub never_both : {A E : Type 0} (x : A) (y : E) (r : Result A E) → r ≡ Ok x → r ≡ Err y → ⊥
+never_both x y (Ok z) e f = absurd cc
+never_both x y (Err z) e f = absurd cc

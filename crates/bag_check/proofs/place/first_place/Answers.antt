@@ -1,0 +1,25 @@
+use Rattle.std.proofs.Common.{◌∙◌, sym, ap, map}
+use Rattle.std.specs.Prelude.{option_map}
+use Rattle.std.specs.Cow.{cow_str_bytes}
+use Rattle.std.proofs.lemmas.List.{drop_all}
+use Rattle.bag_check.specs.Judging.{first_place}
+use Rattle.bag_check.specs.Answers.{listed_seen}
+use Rattle.bag_check.proofs.CodeLemmas.{next_item, place_found, place_later, place_none}
+use Rattle.bag_check.proofs.place.first_place.Goals as goal
+
+pub returns-in-Some : goal.returns-in-Some
+returns-in-Some c =
+    let is = ap (map listed_seen) (next_item c.args.listed.now c.loop-one.one-index c.one-item.result c.loop-one-test.true c.one-item.is) in
+    let found = sym c.in_ok-path.ensures ∙ ap (option_map cow_str_bytes) c.in-Some.is in
+    place_found c.args.bag.now c.args.rule _ _ (listed_seen c.one-item.result) (cow_str_bytes c.in-Some.path) (first_place c.args.bag.now c.args.rule (map listed_seen c.args.listed.now)) is found c.loop-one.invariant
+
+pub loop-one-preserved : goal.loop-one-preserved
+loop-one-preserved c =
+    let is = ap (map listed_seen) (next_item c.args.listed.now c.loop-one.one-index c.one-item.result c.loop-one-test.true c.one-item.is) in
+    let none = sym c.in_ok-path.ensures ∙ ap (option_map cow_str_bytes) c.in_default.is in
+    place_later c.args.bag.now c.args.rule _ _ (listed_seen c.one-item.result) (first_place c.args.bag.now c.args.rule (map listed_seen c.args.listed.now)) is none c.loop-one.invariant
+
+pub returns : goal.returns
+returns c =
+    let is = ap (map listed_seen) (drop_all c.loop-one.one-index c.args.listed.now c.loop-one-test.false) in
+    place_none c.args.bag.now c.args.rule _ (first_place c.args.bag.now c.args.rule (map listed_seen c.args.listed.now)) is c.loop-one.invariant

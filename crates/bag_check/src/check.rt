@@ -1,0 +1,197 @@
+//! The verdict on a bag.
+
+ghost use Rattle.std.specs.Prelude.{◌≡◌, ◌↔◌, ◌⊎◌, IsTrue, IfOk, IfErr, Ok, Err, Some, map, is_some};
+ghost use Rattle.std.specs.List.{list_any};
+ghost use Rattle.std.specs.Cow.{cow_str_bytes};
+ghost use Rattle.bag_text.specs.TransferForm.{IsBag};
+ghost use Rattle.bag_text.specs.TransferReading.{files_of};
+ghost use Rattle.bag_check.specs.Plain.{IsPlain, is_tag_manifest_path, is_plain};
+ghost use Rattle.bag_check.specs.Validity.{Valid, report_of, payload_files, payload_bytes};
+ghost use Rattle.bag_text.specs.declared.declaration.Version.{Version};
+ghost use Rattle.bag_check.specs.declared.fault.BagFault.TheVariants.{Memory};
+ghost use Rattle.bag_check.specs.Faults.{Fault, Breaks, FirstFault};
+ghost use Rattle.bag_check.specs.Judging.{version_in, no_fetch, is_payload_kind, some_payload, first_place, kept_by, keeps, all_rules, judge};
+ghost use Rattle.bag_check.specs.Answers.{Gives, named_fault, named_seen, listed_seen, report_seen, NamesFirst};
+
+use crate::fault::BagFault;
+use crate::listed::{Listed, Named, find_manifests, read_manifests};
+use crate::names::{Kind, is_payload_path, is_tag_manifest};
+use crate::place::first_place;
+use crate::report::BagReport;
+use crate::rule::Rule;
+use bag_text::{BagSet, Version, read_declaration};
+use std::alloc::Global;
+use std::borrow::CowStr;
+
+/// The version that a bag declares.
+fn read_version<'a>(bag: &BagSet<'a>) -> Result<Version, BagFault<'a>>
+    ensures { Gives (λ version. version) result (version_in bag.now) }
+{
+    let Some(text) = bag.get("bagit.txt") else {
+        return Err(BagFault::NoDeclaration);
+    };
+    match read_declaration(text) {
+        Ok(version) => Ok(version),
+        Err(fault) => Err(BagFault::Declaration(fault)),
+    }
+}
+
+/// Refuses a bag with a `fetch.txt`.
+fn refuse_fetch<'a>(bag: &BagSet<'a>) -> Result<(), BagFault<'a>>
+    ensures { Gives (λ unit. unit) result (no_fetch bag.now) }
+{
+    if bag.get("fetch.txt").is_some() {
+        Err(BagFault::FetchNotSupported)
+    } else {
+        Ok(())
+    }
+}
+
+fn is_of_payload(named: &Named<'_>) -> bool
+    ensures { result ≡ is_payload_kind named.now.kind }
+{
+    named.kind == Kind::Payload
+}
+
+fn has_payload_manifest(found: &[Named<'_>]) -> bool
+    ensures { result ≡ list_any (λ m. is_payload_kind m.kind) (map named_seen found.now) }
+{
+    found.iter().any(|named| is_of_payload(named))
+}
+
+/// Refuses a bag without a payload manifest.
+fn need_payload_manifest<'a>(found: &[Named<'a>]) -> Result<(), BagFault<'a>>
+    ensures { Gives (λ unit. unit) result (some_payload (map named_seen found.now)) }
+{
+    if has_payload_manifest(found) {
+        Ok(())
+    } else {
+        Err(BagFault::NoPayloadManifest)
+    }
+}
+
+/// The fault of a rule that is broken at a place.
+fn broken<'a>(rule: Rule, name: &'a str, path: CowStr<'a, Global>) -> BagFault<'a>
+    ensures { named_fault result ≡ Some (Breaks rule name.entry.now (cow_str_bytes path.entry)) }
+{
+    match rule {
+        Rule::OutsidePayload => BagFault::OutsidePayload(name, path),
+        Rule::TagManifestListed => BagFault::TagManifestListed(name, path),
+        Rule::PayloadInTagManifest => BagFault::PayloadInTagManifest(name, path),
+        Rule::PayloadManifestUnlisted => BagFault::PayloadManifestUnlisted(name, path),
+        Rule::Missing => BagFault::Missing(name, path),
+        Rule::Unlisted => BagFault::Unlisted(name, path),
+        Rule::ChecksumWrong => BagFault::ChecksumWrong(name, path),
+    }
+}
+
+/// Refuses a bag that breaks a rule, at the first place.
+fn keep_rule<'a>(bag: &BagSet<'a>, rule: Rule, listed: &[Listed<'a>]) -> Result<(), BagFault<'a>>
+    ensures { Gives (λ unit. unit) result (kept_by rule (first_place bag.now rule (map listed_seen listed.now))) }
+{
+    match first_place(bag, rule, listed)? {
+        Some((name, path)) => Err(broken(rule, name, path)),
+        None => Ok(()),
+    }
+}
+
+/// Refuses a bag that breaks a rule, the first rule first.
+#[tactic(auto, unfolding(crate::specs::Judging::keeps))]
+fn keep_rules<'a>(bag: &BagSet<'a>, listed: &[Listed<'a>]) -> Result<(), BagFault<'a>>
+    ensures { Gives (λ unit. unit) result (keeps bag.now (map listed_seen listed.now) all_rules) }
+{
+    keep_rule(bag, Rule::OutsidePayload, listed)?;
+    keep_rule(bag, Rule::Missing, listed)?;
+    keep_rule(bag, Rule::Unlisted, listed)?;
+    keep_rule(bag, Rule::ChecksumWrong, listed)?;
+    Ok(())
+}
+
+/// How many payload files there are, and how many bytes they have together.
+fn count_payload(files: &[(&str, &[u8])]) -> (usize, usize)
+    requires { IsBag (files_of files.now) }
+    ensures files { result.0 ≡ payload_files (files_of files.now) }
+    ensures bytes { result.1 ≡ payload_bytes (files_of files.now) }
+{
+    let mut count = 0;
+    let mut bytes = 0;
+    for file in files {
+        if is_payload_path(file.0) {
+            count += 1;
+            bytes += file.1.len();
+        }
+    }
+    (count, bytes)
+}
+
+fn report_on(version: Version, bag: &BagSet<'_>, manifests: usize) -> BagReport
+    ensures { report_seen result ≡ record { version = version; files = payload_files bag.now; bytes = payload_bytes bag.now; manifests = manifests } }
+{
+    let (files, bytes) = count_payload(bag.files());
+    BagReport {
+        version,
+        files,
+        bytes,
+        manifests,
+    }
+}
+
+/// Judges a bag with these files, one number of the faults after the other.
+fn judge_bag<'a>(
+    alloc: Global,
+    bag: &BagSet<'a>,
+    files: &[(&'a str, &'a [u8])],
+) -> Result<BagReport, BagFault<'a>>
+    requires { files_of files.now ≡ bag.now }
+    ensures { Gives report_seen result (judge bag.now) }
+{
+    let version = read_version(bag)?;
+    refuse_fetch(bag)?;
+    let found = find_manifests(alloc, files)?;
+    need_payload_manifest(&found)?;
+    let listed = read_manifests(alloc, version, &found)?;
+    keep_rules(bag, &listed)?;
+    Ok(report_on(version, bag, found.len()))
+}
+
+/// Judges a bag (RFC 8493, section 3): what is counted in a valid bag, or the first fault of another.
+///
+/// Today it takes bags with neither a tag manifest nor `bag-info.txt`, which `is_plain` tells.
+pub fn check_bag<'a>(alloc: Global, bag: &BagSet<'a>) -> Result<BagReport, BagFault<'a>>
+    requires plain { IsPlain bag.now }
+
+    // A bag that is accepted is valid, and its report counts what is there.
+    ensures valid { IfOk result (λ report. Valid bag.now report.version
+        × (report_seen report ≡ report_of report.version bag.now)) }
+    // A valid bag is accepted, unless memory runs out.
+    ensures accepts { (v : Version) → Valid bag.now v → Gives report_seen result (Ok (report_of v bag.now)) }
+
+    // A refusal names the fault that comes first by number, then by the manifest's name, then by the path.
+    ensures refused { IfErr result (λ fault. (fault ≡ Memory) ⊎ NamesFirst bag.now fault) }
+    // Where a fault comes first it is the one that is named, unless memory runs out.
+    ensures first_fault { (fault : Fault) → FirstFault bag.now fault → Gives report_seen result (Err fault) }
+
+    // What judging the bag step by step gives.
+    ensures exact { Gives report_seen result (judge bag.now) }
+{
+    judge_bag(alloc, bag, bag.files())
+}
+
+fn has_tag_manifest(files: &[(&str, &[u8])]) -> bool
+    ensures { result ≡ list_any (λ f. is_tag_manifest_path f.path) (files_of files.now) }
+{
+    files.iter().any(|file| is_tag_manifest(file.0))
+}
+
+fn is_plain_bag(bag: &BagSet<'_>) -> bool
+    ensures { result ≡ is_plain bag.now }
+{
+    !has_tag_manifest(bag.files()) && bag.get("bag-info.txt").is_none()
+}
+
+/// Whether a bag has neither a tag manifest nor a `bag-info.txt`.
+pub fn is_plain(bag: &BagSet<'_>) -> bool
+    ensures { IsTrue result ↔ IsPlain bag.now }
+{
+    is_plain_bag(bag)
+}

@@ -1,0 +1,21 @@
+//! Whether a bag is complete and valid (RFC 8493, section 3), and why it isn't.
+#![tactic(auto)]
+
+mod check;
+mod digest;
+mod display;
+mod fault;
+pub mod laws;
+mod listed;
+mod names;
+mod place;
+mod report;
+mod rule;
+
+pub use check::{check_bag, is_plain};
+pub use digest::digest_matches;
+pub use fault::BagFault;
+pub use report::BagReport;
+
+#[cfg(test)]
+mod tests;

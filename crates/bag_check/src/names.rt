@@ -1,0 +1,88 @@
+//! The names of a bag's files: which are manifests, and which payload.
+
+ghost use Rattle.std.specs.Prelude.{◌≡◌, codes, length, nat_eq, nat_lt, not, ◌&&◌, ◌+◌, ◌==◌, option_copied, option_map};
+ghost use Rattle.std.specs.List.{list_any, starts_with, ends_with};
+ghost use Rattle.bag_check.specs.Contents.{alg_behind, manifest_name, algorithm_named, is_payload};
+ghost use Rattle.bag_check.specs.Plain.{is_tag_manifest_path};
+
+use bag_text::Algorithm;
+
+/// What a manifest lists: payload files, or tag files.
+#[derive(Clone, Copy, Debug, PartialEq, Eq)]
+pub enum Kind {
+    Payload,
+    Tag,
+}
+
+/// Whether a slash stands in a path.
+fn has_slash(path: &[u8]) -> bool
+    ensures { result ≡ list_any (λ b. b == 47) path.now }
+{
+    path.contains(&b'/')
+}
+
+/// Whether a path is `front`, at least one byte, and `.txt`, and at the top.
+fn is_between(front: &[u8], path: &[u8]) -> bool
+    ensures { result ≡ (starts_with nat_eq path.now front.now && ends_with nat_eq path.now (codes ".txt") && nat_lt (length front.now + 4) (length path.now) && not (list_any (λ b. b == 47) path.now)) }
+{
+    path.starts_with(front)
+        && path.ends_with(b".txt")
+        && front.len() + 4 < path.len()
+        && !has_slash(path)
+}
+
+/// ALG in a top path that is `front`, ALG, not empty, and `.txt`.
+fn algorithm_behind<'a>(front: &str, path: &'a str) -> Option<&'a [u8]>
+    ensures { option_copied result ≡ alg_behind front.now path.now }
+{
+    let front = front.as_bytes();
+    let path = path.as_bytes();
+    if !is_between(front, path) {
+        return None;
+    }
+    let named = &path[..path.len() - 4];
+    Some(&named[front.len()..])
+}
+
+/// The kind and ALG of a path that is a manifest's name.
+pub fn manifest_of<'a>(path: &'a str) -> Option<(Kind, &'a [u8])>
+    ensures { option_map (λ found. (found.0, found.1.now)) result ≡ manifest_name path.now }
+{
+    match algorithm_behind("manifest-", path) {
+        Some(alg) => Some((Kind::Payload, alg)),
+        None => match algorithm_behind("tagmanifest-", path) {
+            Some(alg) => Some((Kind::Tag, alg)),
+            None => None,
+        },
+    }
+}
+
+/// Whether a path is the name of a tag manifest.
+pub fn is_tag_manifest(path: &str) -> bool
+    ensures { result ≡ is_tag_manifest_path path.now }
+{
+    match manifest_of(path) {
+        Some((Kind::Tag, _)) => true,
+        _ => false,
+    }
+}
+
+/// The algorithm of this name in a manifest's name.
+pub fn algorithm_of(alg: &[u8]) -> Option<Algorithm>
+    ensures { result ≡ algorithm_named alg.now }
+{
+    if alg == b"sha256".as_slice() {
+        Some(Algorithm::Sha256)
+    } else if alg == b"sha512".as_slice() {
+        Some(Algorithm::Sha512)
+    } else {
+        None
+    }
+}
+
+/// Whether a path is one of the payload.
+pub fn is_payload_path(path: &str) -> bool
+    ensures { result ≡ is_payload path.now }
+{
+    path.as_bytes().starts_with(b"data/")
+}
