@@ -1,0 +1,34 @@
+//! How a run of the program ends.
+
+ghost use Rattle.std.specs.Prelude.{◌≡◌, ◌↔◌};
+ghost use Rattle.commands.specs.declared.ending.Ending.TheVariants.{Accepted, Failed, Misused, Refused};
+
+/// How a run of the program ends.
+#[derive(Clone, Copy, Debug, PartialEq, Eq)]
+pub enum Ending {
+    /// The answer is yes, or the work is done.
+    Accepted,
+    /// The answer is no.
+    Refused,
+    /// The words, or what they name, are no use of the program.
+    Misused,
+    /// A device or memory failed.
+    Failed,
+}
+
+impl Ending {
+    /// The process's exit status.
+    pub fn status(self) -> u8
+        ensures accepted { result ≡ 0 ↔ self ≡ Accepted }
+        ensures refused { result ≡ 1 ↔ self ≡ Refused }
+        ensures misused { result ≡ 2 ↔ self ≡ Misused }
+        ensures failed { result ≡ 3 ↔ self ≡ Failed }
+    {
+        match self {
+            Ending::Accepted => 0,
+            Ending::Refused => 1,
+            Ending::Misused => 2,
+            Ending::Failed => 3,
+        }
+    }
+}

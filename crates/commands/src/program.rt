@@ -1,0 +1,161 @@
+//! The program's whole work, over words, a reader and two writers.
+
+ghost use Rattle.std.specs.Io.KnownBytes.{Appends};
+ghost use Rattle.std.specs.Prelude.{OnOk, ◌≡◌, ◌⊎◌, false, IfOk, IfSome, take};
+ghost use Rattle.commands.specs.CommandLine.{is_taken, texts};
+ghost use Rattle.commands.specs.declared.ending.Ending.TheVariants.{Misused, Failed};
+
+use crate::ending::Ending;
+use crate::line::{Line, UseFault, read_line};
+use crate::said::Verdict;
+use crate::verdict::{MOST_BYTES, line_of};
+use std::alloc::{AllocError, Global};
+use std::io::{Error, ErrorKind, Read, Write};
+use std::rt::Files;
+use std::{fmt, fs, io};
+
+/// A failure of what the program stands on.
+#[derive(Clone, Copy, Debug, PartialEq, Eq)]
+pub enum Failure {
+    /// A file, a standard stream or another device failed.
+    Device,
+    /// A growth was refused.
+    Memory,
+}
+
+impl fmt::Display for Failure {
+    fn fmt<W: fmt::Write>(&self, f: &mut fmt::Formatter<W>) -> fmt::Result {
+        match self {
+            Failure::Device => write!(f, "device"),
+            Failure::Memory => write!(f, "memory"),
+        }
+    }
+}
+
+impl From<Error> for Failure {
+    fn from(error: Error) -> Failure {
+        match error.kind() {
+            ErrorKind::OutOfMemory => Failure::Memory,
+            _ => Failure::Device,
+        }
+    }
+}
+
+impl From<AllocError> for Failure {
+    fn from(_error: AllocError) -> Failure {
+        Failure::Memory
+    }
+}
+
+/// Reads the input to its end, or as many bytes as are wanted at most.
+fn read_bytes<R: Read>(alloc: Global, input: &mut R) -> Result<Vec<u8>, Failure>
+    ensures { IfOk result (λ bytes. IfSome (R.remaining input.old) (λ given. bytes.items ≡ take 16777217 given)) }
+{
+    let mut bytes = Vec::new(alloc);
+    input.take(MOST_BYTES).read_to_end(&mut bytes)?;
+    Ok(bytes)
+}
+
+/// Reads the file, or the input where the file is `-`.
+fn read_named<F: Files, R: Read>(
+    rt: &F,
+    alloc: Global,
+    file: &str,
+    input: &mut R,
+) -> Result<Vec<u8>, Failure> {
+    if file == "-" {
+        return read_bytes(alloc, input);
+    }
+    let mut opened = fs::open(rt, file)?;
+    read_bytes(alloc, &mut opened)
+}
+
+/// Writes a text, which ends with a line's end.
+fn write_text<W: Write>(text: &str, out: &mut W) -> Result<(), Failure>
+    ensures { OnOk result (Appends (W.contents out.old) (W.contents out.new) text.now) }
+{
+    out.write_all(text.as_bytes())?;
+    out.flush()?;
+    Ok(())
+}
+
+/// `check`: judges a bag and prints the line.
+fn check<F: Files + AllocGlobal, R: Read, O: Write, E: Write>(
+    rt: &F,
+    file: &str,
+    input: &mut R,
+    out: &mut O,
+    err: &mut E,
+) -> Result<Ending, Failure> {
+    let bytes = read_named(rt, rt.alloc(), file, input)?;
+    match line_of(rt.alloc(), bytes.as_slice())? {
+        Verdict::Line(line, ending) => {
+            write_text(line.as_str(), out)?;
+            Ok(ending)
+        }
+        Verdict::Excluded(why) => {
+            write_text(why.as_str(), err)?;
+            Ok(Ending::Misused)
+        }
+    }
+}
+
+/// Does what the words ask for.
+fn work<F: Files + AllocGlobal, R: Read, O: Write, E: Write>(
+    rt: &F,
+    words: &[&str],
+    input: &mut R,
+    out: &mut O,
+    err: &mut E,
+) -> Result<Ending, Failure>
+    ensures { is_taken (texts words.now) ≡ false → IfOk result (λ ending. ending ≡ Misused) }
+{
+    match read_line(rt.alloc(), words) {
+        Ok(Line::Check { file }) => check(rt, file, input, out, err),
+        Err(UseFault::Use(text)) => {
+            write_text(text.as_str(), err)?;
+            Ok(Ending::Misused)
+        }
+        Err(UseFault::Memory) => Err(Failure::Memory),
+    }
+}
+
+/// The program's whole work on the words after its name. A file `-` is the input.
+pub fn run<F: Files + AllocGlobal, R: Read, O: Write, E: Write>(
+    rt: &F,
+    words: &[&str],
+    input: &mut R,
+    out: &mut O,
+    err: &mut E,
+) -> Ending
+    // Words that are no use of the program end as such, unless a device or memory fails.
+    ensures misused { is_taken (texts words.now) ≡ false → (result ≡ Misused) ⊎ (result ≡ Failed) }
+{
+    match work(rt, words, input, out, err) {
+        Ok(ending) => ending,
+        Err(failure) => failed(failure, err),
+    }
+}
+
+/// Says that the program failed. Where that can't be said either, the status alone does.
+fn failed<E: Write>(failure: Failure, err: &mut E) -> Ending
+    ensures { result ≡ Failed }
+{
+    let _ = writeln!(err, "{failure}");
+    Ending::Failed
+}
+
+/// The ending where the process's words could not be had: one of them is no text, or memory ran out.
+pub fn words_refused<E: Write>(error: &Error, err: &mut E) -> Ending
+    // Words that could not be had are never judged.
+    ensures unjudged { (result ≡ Misused) ⊎ (result ≡ Failed) }
+{
+    match error.kind() {
+        ErrorKind::InvalidData => {
+            let _ = writeln!(err, "a word is not UTF-8");
+            Ending::Misused
+        }
+        ErrorKind::OutOfMemory => failed(Failure::Memory, err),
+        _ => failed(Failure::Device, err),
+    }
+}

@@ -1,0 +1,107 @@
+//! What `check` says of the worked bags, and of inputs at the limits.
+
+use super::*;
+use commands::run;
+use std::alloc::Global;
+use std::io::{Error, ErrorKind, Read};
+use std::test::*;
+use std::{fs, io};
+
+/// What a run on the input prints on standard output and on standard error, and how it ends.
+fn printed<R: Read>(rt: &HostRuntime, file: &str, input: &mut R) -> (Vec<u8>, Vec<u8>, Ending) {
+    let mut out = Vec::new(rt.alloc());
+    let mut err = Vec::new(rt.alloc());
+    let ending = run(rt, ["check", file].as_slice(), input, &mut out, &mut err);
+    (out, err, ending)
+}
+
+#[test]
+fn says_what_was_worked_out(rt: HostRuntime) {
+    for (form, line, ending) in WORKED_BAGS {
+        let mut input = form;
+        let (out, err, found) = printed(&rt, "-", &mut input);
+        assert_eq!(rt; out.as_slice(), line.as_bytes(), "{line}");
+        assert_eq!(rt; err.as_slice(), b"".as_slice(), "{line}");
+        assert_eq!(rt; found, ending, "{line}");
+    }
+}
+
+#[test]
+fn says_why_a_bag_is_not_judged(rt: HostRuntime) {
+    for form in [TAG_MANIFEST, BAG_INFO] {
+        let mut input = form;
+        let (out, err, ending) = printed(&rt, "-", &mut input);
+        assert_eq!(rt; out.as_slice(), b"".as_slice());
+        assert_eq!(rt;
+            err.as_slice(),
+            b"bags with a tag manifest or bag-info.txt are not judged yet\n".as_slice()
+        );
+        assert_eq!(rt; ending, Ending::Misused);
+    }
+}
+
+/// A form of 16,777,216 bytes, the most that are read: a declaration and one payload file.
+fn longest_form(alloc: Global) -> Result<Vec<u8>, Fail> {
+    let front =
+        "BAGSET 1\nFILE 9 54\nbagit.txtBagIt-Version: 1.0\nTag-File-Character-Encoding: UTF-8\n\nFILE 6 16777106\ndata/a";
+    let content = vec![in alloc; b'x'; 16_777_106]?;
+    let mut form = Vec::with_capacity(alloc, 16_777_216)?;
+    form.extend_from_slice(front.as_bytes())?;
+    form.extend_from_slice(content.as_slice())?;
+    form.extend_from_slice(b"\nEND\n")?;
+    Ok(form)
+}
+
+#[test]
+fn reads_up_to_the_limit(rt: HostRuntime) -> Result<(), Fail> {
+    let form = longest_form(rt.alloc())?;
+    assert_eq!(rt; form.len(), 16_777_216);
+    let mut input = form.as_slice();
+    let (out, _, ending) = printed(&rt, "-", &mut input);
+    assert_eq!(rt; out.as_slice(), b"invalid B5\n".as_slice());
+    assert_eq!(rt; ending, Ending::Refused);
+    let (out, _, ending) = printed(&rt, "-", &mut io::repeat(b'x').take(16_777_217));
+    assert_eq!(rt; out.as_slice(), b"unreadable SIZE\n".as_slice());
+    assert_eq!(rt; ending, Ending::Refused);
+    Ok(())
+}
+
+#[test]
+fn reads_a_file(rt: HostRuntime) -> Result<(), Fail> {
+    fs::write(&rt, "bag-a.bagset", BAG)?;
+    let mut input = b"".as_slice();
+    let (out, err, ending) = printed(&rt, "bag-a.bagset", &mut input);
+    assert_eq!(rt;
+        out.as_slice(),
+        b"valid 1.0 files 1 bytes 3 manifests 1\n".as_slice()
+    );
+    assert_eq!(rt; err.as_slice(), b"".as_slice());
+    assert_eq!(rt; ending, Ending::Accepted);
+    fs::remove_file(&rt, "bag-a.bagset")?;
+    Ok(())
+}
+
+/// A reader that gives bag A's form to its middle, and fails then.
+#[derive(Drop)]
+struct Torn {
+    given: bool,
+}
+
+impl Read for Torn {
+    fn read(&mut self, buf: &mut [u8]) -> io::Result<usize> {
+        if self.given || buf.len() < 100 {
+            return Err(Error::from(ErrorKind::BrokenPipe));
+        }
+        self.given = true;
+        let mut front = &BAG[..100];
+        front.read(buf)
+    }
+}
+
+#[test]
+fn a_torn_input_is_a_fault_of_the_device(rt: HostRuntime) {
+    let (out, err, ending) = printed(&rt, "-", &mut Torn { given: false });
+    assert_eq!(rt; out.as_slice(), b"".as_slice());
+    assert_eq!(rt; err.as_slice(), b"device\n".as_slice());
+    assert_eq!(rt; ending, Ending::Failed);
+}
