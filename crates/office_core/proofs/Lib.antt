@@ -1,0 +1,4 @@
+pub mod OptionLemmas
+pub mod DayLemmas
+pub mod RuleLemmas
+pub mod PolicyLemmas

@@ -1,0 +1,42 @@
+-- What a chain of readings that may fail gives.
+use Rattle.std.proofs.Common.{◌≡◌, Bool, true, false, Option, Some, None, Result, Ok, Err, IsOk, IfOk, IsSome, IfSome, IsSomeAnd, refl, if◌then◌else◌, List, [], ◌∷◌, find, inl, inr}
+use Rattle.std.proofs.lemmas.Bool.{cases_Bool}
+use Rattle.std.proofs.lemmas.Option.{same_Some}
+use Rattle.std.proofs.lemmas.Bool.{false≢true}
+use Rattle.std.specs.Result.{result_ok}
+use Rattle.office_core.specs.DayReading.{◌>>=◌}
+
+-- a result that is there is there as an option
+pub some_ok : {A E : Type 0} (o : Option A) (r : Result A E) → o ≡ result_ok r → IsOk r → IsSome o
+some_ok o (Ok x) e h = rw e refl
+some_ok o (Err x) e h = absurd (false≢true h)
+
+pub some_and_ok : {A E : Type 0} (P : A → Type 0) (o : Option A) (r : Result A E) → o ≡ result_ok r → IsOk r → IfOk r P → IsSomeAnd o P
+some_and_ok P o (Ok x) e h p = rw e p
+some_and_ok P o (Err x) e h p = absurd (false≢true h)
+
+-- a value that is there, with a fact of it
+pub some_and : {A : Type 0} (P Q : A → Type 0) (o : Option A) → IsSome o → IfSome o P → ((x : A) → P x → Q x) → IsSomeAnd o Q
+some_and P Q (Some x) h p f = f x p
+some_and P Q None h p f = absurd (false≢true h)
+
+pub some_if : {A : Type 0} (b : Bool) (o : Option A) (x : A) → (if b then o else None) ≡ Some x → (b ≡ true) × (o ≡ Some x)
+some_if true o x e = (refl, e)
+some_if false o x e = cc
+
+pub some_and_then : {A B : Type 0} (o : Option A) (f : A → Option B) (y : B) → (o >>= f) ≡ Some y → (x : A) × (o ≡ Some x) × (f x ≡ Some y)
+some_and_then (Some x) f y e = (x, refl, e)
+some_and_then None f y e = cc
+
+pub IfSome_from : {A : Type 0} {P : A → Type 0} (o : Option A) → ((x : A) → o ≡ Some x → P x) → IfSome o P
+IfSome_from (Some x) f = f x refl
+IfSome_from None f = tt
+
+-- what is found passes the test
+pub find_some : {A : Type 0} (p : A → Bool) (xs : List A) (x : A) → find p xs ≡ Some x → p x ≡ true
+find_some p [] x e = cc
+find_some p (y ∷ ys) x e =
+    elim (cases_Bool (p y)) [
+      | inl hit ↦ let same : y ≡ x = same_Some _ _ (rw hit at e) in rw (← same) hit
+      | inr miss ↦ find_some p ys x (rw miss at e)
+    ]

@@ -1,0 +1,127 @@
+-- Which rule decides, and what follows from its effect.
+use Rattle.std.proofs.Common.{◌≡◌, ◌<◌, ◌<ℤ◌, ℕ, zero, suc, ◌+◌, Bool, true, false, ◌&&◌, ◌++◌, List, [], ◌∷◌, length, Option, Some, None, refl, sym, ap, ◌∙◌, inl, inr, arith, rules, slice_get, position, unwrap_or, int_lt, option_and_then, option_map, not, nat_lt, length-append}
+use Rattle.std.specs.List.{list_any, position_or_len, prefix_len}
+use Rattle.std.proofs.lemmas.Bool.{cases_Bool, false≢true, and_parts}
+use Rattle.std.proofs.lemmas.Bool.Decides.{nat_tests}
+use Rattle.std.proofs.lemmas.Int.{by_lt_z}
+use Rattle.std.proofs.lemmas.Option.{same_Some, cond_some, option_and_then_some, get_or_from_slice_get}
+use Rattle.std.proofs.lemmas.List.Quantifiers.{position-Some}
+use Rattle.jiff.specs.Types.{Date}
+use Rattle.jiff.specs.Words.{epoch_day}
+use Rattle.office_core.specs.FirstOf.{first_some}
+use Rattle.office_core.specs.Rules.{Question, matches, matches_name, first_place, decision_of, decision_at, some_rule_allows, allows}
+use Rattle.office_core.specs.Verdicts.{verdict_of, is_denied, denies, IsReadyForDisposal, held, not_due, permanent}
+use Rattle.office_core.specs.declared.action.Action.TheVariants.{Dispose}
+use Rattle.office_core.specs.declared.rule.Rule.{Rule}
+use Rattle.office_core.specs.declared.rule.Effect.{Effect}
+use Rattle.office_core.specs.declared.rule.Effect.TheVariants as effects
+use Rattle.office_core.specs.declared.rule.Decision.{Decision}
+use Rattle.office_core.specs.declared.retention.Due.{Due}
+use Rattle.office_core.specs.declared.retention.Due.TheVariants.{On, Never}
+use Rattle.office_core.specs.declared.facts.Facts.{Facts}
+use Rattle.office_core.specs.declared.facts.Verdict.TheVariants.{DeniedByRule, DeniedByDefault, Gone, NotDue, Allow}
+
+-- what passes at some place passes somewhere
+list_any_at : {A : Type 0} (p : A → Bool) (xs : List A) (i : ℕ) (x : A) → slice_get xs i ≡ Some x → p x ≡ true → list_any p xs ≡ true
+list_any_at p [] i x e h = cc
+list_any_at p (y ∷ ys) zero x e h = let same : y ≡ x = same_Some _ _ e in rw (same, h) refl
+list_any_at p (y ∷ ys) (suc i) x e h =
+    elim (cases_Bool (p y)) [
+      | inl hit ↦ rw hit refl
+      | inr miss ↦ rw miss (list_any_at p ys i x e h)
+    ]
+
+-- an item of a list is one of a longer list
+slice_get-append : {A : Type 0} (xs ys : List A) (i : ℕ) (x : A) → slice_get xs i ≡ Some x → slice_get (xs ++ ys) i ≡ Some x
+slice_get-append [] ys i x e = cc
+slice_get-append (y ∷ xs) ys zero x e = e
+slice_get-append (y ∷ xs) ys (suc i) x e = slice_get-append xs ys i x e
+
+prefix_len-append : {A : Type 0} (p : A → Bool) (xs ys : List A) → prefix_len p xs < length xs → prefix_len p (xs ++ ys) ≡ prefix_len p xs
+prefix_len-append p [] ys h = absurd (omega (arith, h))
+prefix_len-append p (x ∷ xs) ys h =
+    elim (cases_Bool (p x)) [
+      | inl hit ↦ rw hit (ap (λ n. 1 + n) (prefix_len-append p xs ys (omega (arith, rw hit at h))))
+      | inr miss ↦ rw miss refl
+    ]
+
+-- the first place of a list is that of a longer list
+position-append : {A : Type 0} (p : A → Bool) (xs ys : List A) (i : ℕ) → position p xs ≡ Some i → position p (xs ++ ys) ≡ Some i
+position-append p xs ys i e =
+    let (within, same) = cond_some (nat_lt (position_or_len p xs) (length xs)) (position_or_len p xs) i e in
+    let under : position_or_len p xs < length xs = grind (arith, nat_tests, within) in
+    let longer : nat_lt (position_or_len p xs) (length (xs ++ ys)) ≡ true = grind (arith, nat_tests, under, length-append xs ys) in
+    rw (prefix_len-append (λ x. not (p x)) xs ys under, longer) (ap Some same)
+
+option_map_some : {A B P : Type 0} (f : A → B) (o : Option A) (y : B) → option_map f o ≡ Some y → ((x : A) → o ≡ Some x → f x ≡ y → P) → P
+option_map_some f (Some x) y e k = k x refl (same_Some _ _ e)
+option_map_some f None y e k = cc
+
+-- the rule that decides matches
+pub decided : (rules : List Rule) (asked : Question) (decision : Decision) → decision_of rules asked ≡ Some decision
+    → (place : ℕ) × (rule : Rule) × (first_place rules asked ≡ Some place) × (slice_get rules place ≡ Some rule) × (decision_at place rule ≡ decision) × (matches rule asked ≡ true)
+decided rules asked decision e =
+    option_and_then_some _ (first_place rules asked) decision e
+    (λ place at is. option_map_some (decision_at place) (slice_get rules place) decision is
+    (λ rule found same. (
+      place,
+      rule,
+      at,
+      found,
+      same,
+      rw (get_or_from_slice_get rules place rule rule found) at ((position-Some (λ r. matches r asked) rules place rule at).1),
+    )))
+
+denies_else : (a b : Effect) → a ≡ b → ¬ (allows a ≡ true) → denies b ≡ true
+denies_else effects.Allow b e h = absurd (h refl)
+denies_else effects.Deny b e h = rw (← e) refl
+
+not_before : (day date : Date) → epoch_day day <ℤ epoch_day date → unwrap_or (first_some (not_due day (On date) ∷ None ∷ [])) Allow ≡ Allow → ⊥
+not_before day date lt is =
+    let before : int_lt (epoch_day day) (epoch_day date) ≡ true = search (rules, lt) in
+    let wrong : NotDue date ≡ Allow = rw before at is in
+    cc
+
+-- a rule that allows a role is one that allows
+pub denied_role : (rules : List Rule) (asked : Question) (decision : Decision) → some_rule_allows rules asked.role ≡ false → decision_of rules asked ≡ Some decision → denies decision.effect ≡ true
+denied_role rules asked decision none e =
+    let (place, rule, first, found, same, matched) = decided rules asked decision e in
+    let role : matches_name rule.role asked.role ≡ true = (and_parts _ _ (and_parts _ _ (and_parts _ _ matched).0).0).0 in
+    let effect : rule.effect ≡ decision.effect = ap (λ d. d.effect) same in
+    denies_else rule.effect decision.effect effect
+    (λ allowed. false≢true (sym none ∙ list_any_at (λ r. allows r.effect && matches_name r.role asked.role) rules place rule found (rw (allowed, role) refl)))
+
+-- a denied decision is a denial
+pub denied_verdict : (facts : Facts) (day : Date) (decision : Option Decision) → facts.decision ≡ decision → ((d : Decision) → decision ≡ Some d → denies d.effect ≡ true) → is_denied (verdict_of facts day) ≡ true
+denied_verdict facts day None e h = rw e refl
+denied_verdict facts day (Some d) e h = rw (e, h d refl) refl
+
+-- what an allowed disposal stands on
+ready : (facts : Facts) (day : Date) (decision : Decision) (hold : Option ℕ) (due : Due) → facts.decision ≡ Some decision → decision.effect ≡ effects.Allow → facts.gone ≡ None → facts.hold ≡ hold → facts.due ≡ due
+    → unwrap_or (first_some (held hold ∷ not_due day due ∷ permanent due ∷ [])) Allow ≡ Allow → IsReadyForDisposal facts day
+ready facts day decision (Some k) due a b c d e is = cc
+ready facts day decision None Never a b c d e is = cc
+ready facts day decision None (On date) a b c d e is =
+    by_lt_z (epoch_day day) (epoch_day date)
+    (λ lt. absurd (not_before day date lt is))
+    (λ ge. record { decision = decision; date = date; decided = a; allowed = b; kept = c; unheld = d; due = e; has_come = ge })
+
+-- rules that are added behind a list change no decision of it
+pub kept_decision : (rules more : List Rule) (asked : Question) (decision : Decision) → decision_of rules asked ≡ Some decision → decision_of (rules ++ more) asked ≡ Some decision
+kept_decision rules more asked decision e =
+    let (place, rule, first, found, same, matched) = decided rules asked decision e in
+    ap (option_and_then (λ at. option_map (decision_at at) (slice_get (rules ++ more) at))) (position-append (λ r. matches r asked) rules more place first)
+    ∙ ap (option_map (decision_at place)) (slice_get-append rules more place rule found) ∙ ap Some same
+
+allowed_by : (facts : Facts) (day : Date) (decision : Decision) (effect : Effect) (destroyed : Option Date) → facts.decision ≡ Some decision → decision.effect ≡ effect → facts.gone ≡ destroyed → facts.action ≡ Dispose → verdict_of facts day ≡ Allow → IsReadyForDisposal facts day
+allowed_by facts day decision effects.Deny destroyed a b c d is = let wrong : DeniedByRule decision.rule ≡ Allow = rw (a, b) at is in cc
+allowed_by facts day decision effects.Allow (Some on) a b c d is = let wrong : Gone on ≡ Allow = rw (a, b, c) at is in cc
+allowed_by facts day decision effects.Allow None a b c d is = ready facts day decision facts.hold facts.due a b c refl refl (rw (a, b, c, d) at is)
+
+allowed_from : (facts : Facts) (day : Date) (decision : Option Decision) → facts.decision ≡ decision → facts.action ≡ Dispose → verdict_of facts day ≡ Allow → IsReadyForDisposal facts day
+allowed_from facts day None a d is = let wrong : DeniedByDefault ≡ Allow = rw a at is in cc
+allowed_from facts day (Some decision) a d is = allowed_by facts day decision decision.effect facts.gone a refl refl d is
+
+-- an allowed disposal is ready
+pub allowed_disposal : (facts : Facts) (day : Date) → facts.action ≡ Dispose → verdict_of facts day ≡ Allow → IsReadyForDisposal facts day
+allowed_disposal facts day d is = allowed_from facts day facts.decision refl d is

@@ -1,0 +1,30 @@
+-- Days of the civil calendar, by jiff's dates: `year`, `month` and `day`, and the day number `epoch_day`.
+use Rattle.std.specs.Prelude.{◌≡◌, ℕ, ◌+◌, ◌/◌, ◌%◌, List, [], ◌∷◌, ◌++◌, unsigned_abs, ℤ, pos, neg_ℤ, ◌+ℤ◌, ◌==◌, ◌&&◌, not, Bool, if◌then◌else◌}
+use Rattle.jiff.specs.Types.{Date}
+use Rattle.jiff.specs.Words.{IsBetween, is_leap_year}
+
+-- a day of the office lies in the years 1900 to 9799
+abbrev pub IsDay : Date → Type 0
+IsDay date = IsBetween (pos 1900) (pos 9799) date.year
+
+-- the numbers of the days of the office, where 1 January 1970 has the number 0
+abbrev pub IsDayNumber : ℤ → Type 0
+IsDayNumber number = IsBetween (neg_ℤ (pos 25_567)) (pos 2_859_848) number
+
+-- a number below 100, in two digits
+abbrev pub digits : ℕ → List ℕ
+digits n = (48 + n / 10) ∷ (48 + n % 10) ∷ []
+
+-- how a day is written: four digits of the year, two of the month and two of the day, as `2024-02-29`
+abbrev pub day_text : Date → List ℕ
+day_text date = digits (unsigned_abs date.year / 100) ++ digits (unsigned_abs date.year % 100) ++ 45 ∷ [] ++ digits date.month ++ 45 ∷ [] ++ digits date.day
+
+-- 29 February stands in leap years alone
+abbrev pub is_missing : ℤ → ℕ → ℕ → Bool
+is_missing year month day = (month == 2) && not (is_leap_year year) && (day == 29)
+
+-- that many years after a date: the same month and day, and 28 February for a 29 February that the year doesn't have
+pub record IsYearsAfter (date : Date) (years : ℕ) (due : Date) : Type 0 where
+  pub year : due.year ≡ date.year +ℤ pos years
+  pub month : due.month ≡ date.month
+  pub day : due.day ≡ (if is_missing due.year date.month date.day then 28 else date.day)

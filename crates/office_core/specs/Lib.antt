@@ -1,0 +1,11 @@
+pub mod Days
+pub mod DayReading
+pub mod Retention
+pub mod Names
+pub mod FirstOf
+pub mod Actions
+pub mod Rules
+pub mod Verdicts
+pub mod FaultTexts
+pub mod Policies
+pub mod PolicyReading

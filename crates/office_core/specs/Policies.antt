@@ -1,0 +1,200 @@
+-- The policy file: the callers and the rules that the tree of a TOML text spells, and its faults.
+use Rattle.std.specs.Prelude.{◌≡◌, ℕ, suc, pos, Bool, true, false, not, ◌&&◌, ◌||◌, List, [], ◌∷◌, length, Option, Some, None, Result, Ok, Err, is_none, nat_lt, codes, bytes_eq, find, option_map, option_and_then, if◌then◌else◌}
+use Rattle.std.specs.List.{list_all, list_any, filter_map}
+use Rattle.std.specs.Option.{option_map_or}
+use Rattle.std.specs.Ordering.{int_eq}
+use Rattle.toml.specs.Data.{Data, Items, no_items, item, Members, no_members, member, get_member, as_str, as_integer, as_table, as_array}
+use Rattle.toml.specs.Parse.{parse_document}
+use Rattle.office_core.specs.FirstOf.{first_some, answer_if}
+use Rattle.office_core.specs.Names.{is_name}
+use Rattle.office_core.specs.Actions.{action_of}
+use Rattle.office_core.specs.DayReading.{◌>>=◌}
+use Rattle.office_core.specs.declared.policy_fault.PolicyFault.{PolicyFault}
+use Rattle.office_core.specs.declared.policy_fault.PolicyFault.TheVariants.{NotToml, BadVersion, UnknownKey, BadCaller, BadRule, TooMany, Memory}
+use Rattle.office_core.specs.declared.rule.Effect.{Effect}
+use Rattle.office_core.specs.declared.rule.Effect.TheVariants.{Allow, Deny}
+use Rattle.office_core.specs.declared.rule.Pattern.{Pattern}
+use Rattle.office_core.specs.declared.rule.Pattern.TheVariants as names
+use Rattle.office_core.specs.declared.rule.ActionPattern.{ActionPattern}
+use Rattle.office_core.specs.declared.rule.ActionPattern.TheVariants as acts
+use Rattle.office_core.specs.declared.rule.Rule.{Rule}
+use Rattle.office_core.specs.declared.caller.Caller.{Caller}
+
+-- a policy: its callers, each with its role, and its rules in their order
+pub record Contents : Type 0 where
+  pub callers : List Caller
+  pub rules : List Rule
+
+-- the keys of a table with their values, and the values of an array
+abbrev pub entries : Members → List (List ℕ × Data)
+entries no_members = []
+entries (member key value more) = (key, value) ∷ entries more
+
+abbrev pub elements : Items → List Data
+elements no_items = []
+elements (item value more) = value ∷ elements more
+
+abbrev pub is_one_of : List (List ℕ) → List ℕ → Bool
+is_one_of keys key = list_any (bytes_eq key) keys
+
+-- ---- callers
+
+-- a caller and its role, both names
+abbrev pub caller_in : List ℕ × Data → Option Caller
+caller_in entry = do
+  role ← as_str entry.1
+  answer_if (is_name entry.0 && is_name role) (record { name = entry.0; role = role })
+
+-- the entries of the table `callers`, none where it isn't there; nothing where it is no table
+abbrev pub table_entries : Option Data → Option (List (List ℕ × Data))
+table_entries None = Some []
+table_entries (Some value) = option_map entries (as_table value)
+
+abbrev pub caller_entries : Members → Option (List (List ℕ × Data))
+caller_entries tree = table_entries (get_member (codes "callers") tree)
+
+abbrev pub callers_among : Option (List (List ℕ × Data)) → List Caller
+callers_among found = option_map_or (filter_map caller_in) found []
+
+abbrev pub is_bad_among : Option (List (List ℕ × Data)) → Bool
+is_bad_among found = option_map_or (list_any (λ entry. is_none (caller_in entry))) found true
+
+abbrev pub callers_of : Members → List Caller
+callers_of tree = callers_among (caller_entries tree)
+
+-- ---- rules
+
+abbrev pub effect_in : List ℕ → Option Effect
+effect_in text = if bytes_eq text (codes "allow") then Some Allow else answer_if (bytes_eq text (codes "deny")) Deny
+
+-- `*` or a name
+abbrev pub pattern_in : List ℕ → Option Pattern
+pattern_in text = if bytes_eq text (codes "*") then Some names.Any else answer_if (is_name text) (names.Named text)
+
+-- `*` or an action
+abbrev pub action_pattern_in : List ℕ → Option ActionPattern
+action_pattern_in text = if bytes_eq text (codes "*") then Some acts.Any else option_map acts.Only (action_of text)
+
+abbrev pub rule_keys : List (List ℕ)
+rule_keys = codes "effect" ∷ codes "role" ∷ codes "action" ∷ codes "collection" ∷ codes "class" ∷ []
+
+-- the text at a key
+abbrev pub text_at : List ℕ → Members → Option (List ℕ)
+text_at key ms = option_and_then as_str (get_member key ms)
+
+abbrev pub effect_at : Members → Option Effect
+effect_at ms = text_at (codes "effect") ms >>= effect_in
+
+abbrev pub pattern_at : List ℕ → Members → Option Pattern
+pattern_at key ms = text_at key ms >>= pattern_in
+
+abbrev pub action_at : Members → Option ActionPattern
+action_at ms = text_at (codes "action") ms >>= action_pattern_in
+
+-- the rule that a table of exactly the five keys spells
+unfoldable pub rule_of : Members → Option Rule
+rule_of ms = if list_all (λ entry. is_one_of rule_keys entry.0) (entries ms) then (do
+  effect ← effect_at ms
+  role ← pattern_at (codes "role") ms
+  action ← action_at ms
+  collection ← pattern_at (codes "collection") ms
+  class ← pattern_at (codes "class") ms
+  Some (record { effect = effect; role = role; action = action; collection = collection; class = class })) else None
+
+abbrev pub rule_in : Data → Option Rule
+rule_in value = as_table value >>= rule_of
+
+-- the values of the array `rule`, none where it isn't there; nothing where it is no array
+abbrev pub array_elements : Option Data → Option (List Data)
+array_elements None = Some []
+array_elements (Some value) = option_map elements (as_array value)
+
+abbrev pub rule_values : Members → Option (List Data)
+rule_values tree = array_elements (get_member (codes "rule") tree)
+
+-- the place of the first value that spells no rule, counted from that number
+abbrev pub first_bad : ℕ → List Data → Option ℕ
+first_bad number [] = None
+first_bad number (value ∷ more) = if is_none (rule_in value) then Some number else first_bad (suc number) more
+
+abbrev pub rules_among : Option (List Data) → List Rule
+rules_among found = option_map_or (filter_map rule_in) found []
+
+abbrev pub bad_rule_among : Option (List Data) → Option ℕ
+bad_rule_among found = option_map_or (first_bad 1) found (Some 0)
+
+abbrev pub rules_of : Members → List Rule
+rules_of tree = rules_among (rule_values tree)
+
+-- the number of the first bad rule, from 1, or 0 where there is no array of rules
+abbrev pub bad_rule : Members → Option ℕ
+bad_rule tree = bad_rule_among (rule_values tree)
+
+-- ---- the faults of a tree, and what it spells
+
+-- Y2: the version is missing, or isn't the whole number 1
+abbrev pub has_bad_version : Members → Bool
+has_bad_version tree = not (option_map_or (int_eq (pos 1)) (option_and_then as_integer (get_member (codes "version") tree)) false)
+
+abbrev pub top_keys : List (List ℕ)
+top_keys = codes "version" ∷ codes "callers" ∷ codes "rule" ∷ []
+
+-- Y3: a key at the top is none of the three
+abbrev pub has_unknown_key : Members → Bool
+has_unknown_key tree = not (list_all (λ entry. is_one_of top_keys entry.0) (entries tree))
+
+-- Y4: `callers` is no table, or a key or a role in it is no name
+abbrev pub has_bad_caller : Members → Bool
+has_bad_caller tree = is_bad_among (caller_entries tree)
+
+-- Y6: more than 200 rules or 1,000 callers
+abbrev pub has_too_many : Members → Bool
+has_too_many tree = nat_lt 200 (length (rules_of tree)) || nat_lt 1000 (length (callers_of tree))
+
+-- the faults from Y2 to Y6, each where it stands
+abbrev pub faults : Members → List (Option PolicyFault)
+faults tree =
+    answer_if (has_bad_version tree) BadVersion
+    ∷ answer_if (has_unknown_key tree) UnknownKey
+    ∷ answer_if (has_bad_caller tree) BadCaller
+    ∷ option_map BadRule (bad_rule tree)
+    ∷ answer_if (has_too_many tree) TooMany
+    ∷ []
+
+abbrev pub contents_of : Members → Contents
+contents_of tree = record { callers = callers_of tree; rules = rules_of tree }
+
+-- the first fault of a tree, or the policy that it spells
+abbrev pub spelled : Contents → Option PolicyFault → Result Contents PolicyFault
+spelled contents (Some fault) = Err fault
+spelled contents None = Ok contents
+
+abbrev pub read_tree : Option Members → Result Contents PolicyFault
+read_tree None = Err NotToml
+read_tree (Some tree) = spelled (contents_of tree) (first_some (faults tree))
+
+-- Y1 where the text is no TOML, else what its tree gives
+abbrev pub policy_of : List ℕ → Result Contents PolicyFault
+policy_of text = read_tree (parse_document text)
+
+-- ---- what a call answers, memory aside
+
+abbrev pub FailsAs : {Y : Type 0} → PolicyFault → Result Y PolicyFault → Type 0
+FailsAs Memory read = Unit {0}
+FailsAs fault read = read ≡ Err fault
+
+abbrev pub Gives : {X Y : Type 0} → (X → Y) → Result X PolicyFault → Result Y PolicyFault → Type 0
+Gives view (Ok x) read = read ≡ Ok (view x)
+Gives view (Err e) read = FailsAs e read
+
+-- a call answers this, unless memory ran out
+abbrev pub Answers : {Y : Type 0} → Result Y PolicyFault → Result Y PolicyFault → Type 0
+Answers result wanted = Gives (λ found. found) result wanted
+
+-- the role that a policy gives a caller, else `stranger`
+abbrev pub role_or_stranger : Option Caller → List ℕ
+role_or_stranger None = codes "stranger"
+role_or_stranger (Some caller) = caller.role
+
+abbrev pub role_of : Contents → List ℕ → List ℕ
+role_of policy name = role_or_stranger (find (λ caller. bytes_eq caller.name name) policy.callers)

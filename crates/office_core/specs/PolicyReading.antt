@@ -1,0 +1,42 @@
+-- What reading a policy gives, step by step.
+use Rattle.std.specs.Prelude.{◌≡◌, ℕ, ◌||◌, List, length, Option, Some, None, Result, Ok, Err, nat_lt, if◌then◌else◌}
+use Rattle.toml.specs.Data.{Data, Members}
+use Rattle.office_core.specs.Policies.{Contents, callers_among, is_bad_among, caller_entries, rules_among, bad_rule_among, rule_values, has_bad_version, has_unknown_key}
+use Rattle.office_core.specs.declared.policy_fault.PolicyFault.{PolicyFault}
+use Rattle.office_core.specs.declared.policy_fault.PolicyFault.TheVariants.{BadVersion, UnknownKey, BadCaller, BadRule, TooMany}
+use Rattle.office_core.specs.declared.rule.Rule.{Rule}
+use Rattle.office_core.specs.declared.caller.Caller.{Caller}
+use Rattle.office_core.specs.declared.rule_flaw.RuleFlaw.{RuleFlaw}
+use Rattle.office_core.specs.declared.rule_flaw.RuleFlaw.TheVariants.{Bad, Memory}
+
+infixl 10 ◌>>=◌
+abbrev pub ◌>>=◌ : {A B : Type 0} → Result A PolicyFault → (A → Result B PolicyFault) → Result B PolicyFault
+(Ok x) >>= f = f x
+(Err e) >>= f = Err e
+
+abbrev pub read_callers : Option (List (List ℕ × Data)) → Result (List Caller) PolicyFault
+read_callers found = if is_bad_among found then Err BadCaller else Ok (callers_among found)
+
+abbrev pub rules_or : List Rule → Option ℕ → Result (List Rule) PolicyFault
+rules_or rules (Some number) = Err (BadRule number)
+rules_or rules None = Ok rules
+
+abbrev pub read_rules : Option (List Data) → Result (List Rule) PolicyFault
+read_rules found = rules_or (rules_among found) (bad_rule_among found)
+
+abbrev pub counted : List Caller → List Rule → Result Contents PolicyFault
+counted callers rules =
+    if nat_lt 200 (length rules) || nat_lt 1000 (length callers) then Err TooMany else Ok (record { callers = callers; rules = rules })
+
+-- what reading a tree gives
+abbrev pub read_contents : Members → Result Contents PolicyFault
+read_contents tree =
+    if has_bad_version tree then Err BadVersion
+    else if has_unknown_key tree then Err UnknownKey
+    else (read_callers (caller_entries tree) >>= λ callers. read_rules (rule_values tree) >>= λ rules. counted callers rules)
+
+-- a part of a rule is read, or isn't there, memory aside
+abbrev pub Reads : {A : Type 0} → Result A RuleFlaw → Option A → Type 0
+Reads (Ok x) found = found ≡ Some x
+Reads (Err Bad) found = found ≡ None
+Reads (Err Memory) found = Unit {0}

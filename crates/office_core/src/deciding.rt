@@ -1,0 +1,65 @@
+//! What the office decides, once the facts are known.
+
+ghost use Rattle.std.specs.Prelude.{◌≡◌, int_lt};
+ghost use Rattle.jiff.specs.Words.{epoch_day};
+ghost use Rattle.office_core.specs.Verdicts.{disposal_of, verdict_of};
+
+use crate::action::Action;
+use crate::day::Day;
+use crate::facts::{Facts, Verdict};
+use crate::retention::Due;
+use crate::rule::Effect;
+use jiff::civil;
+
+fn number_of(date: civil::Date) -> i32
+    ensures { result ≡ epoch_day date }
+{
+    date.to_plain().to_unix_epoch_day()
+}
+
+fn is_before(day: Day, date: civil::Date) -> bool
+    ensures { result ≡ int_lt (epoch_day day) (epoch_day date) }
+{
+    number_of(day.date()) < number_of(date)
+}
+
+/// The verdict on those facts that day: the first refusal that applies, in the order of `Verdict`, of which
+/// the last three are of disposals alone.
+pub fn verdict(facts: &Facts, day: Day) -> Verdict
+    ensures { result ≡ verdict_of facts.now day }
+{
+    match facts.decision {
+        None => return Verdict::DeniedByDefault,
+        Some(decision) => {
+            if let Effect::Deny = decision.effect {
+                return Verdict::DeniedByRule(decision.rule);
+            }
+        }
+    }
+    if let Some(gone) = facts.gone {
+        return Verdict::Gone(gone);
+    }
+    if let Action::Dispose = facts.action {
+        return disposal(facts.hold, facts.due, day);
+    }
+    Verdict::Allow
+}
+
+/// The verdict on a disposal that the rules allow.
+fn disposal(hold: Option<u32>, due: Due, day: Day) -> Verdict
+    ensures { result ≡ disposal_of hold due day }
+{
+    if let Some(hold) = hold {
+        return Verdict::Held(hold);
+    }
+    match due {
+        Due::On(date) => {
+            if is_before(day, date) {
+                Verdict::NotDue(date)
+            } else {
+                Verdict::Allow
+            }
+        }
+        Due::Never => Verdict::Permanent,
+    }
+}

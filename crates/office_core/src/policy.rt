@@ -1,0 +1,100 @@
+//! A policy: who has which role, and what the roles may do.
+
+ghost use Rattle.std.specs.Prelude.{◌≡◌, option_copied, find, bytes_eq};
+ghost use Rattle.toml.specs.View.{table_view};
+ghost use Rattle.office_core.specs.Policies.{policy_of, role_of, role_or_stranger, Answers};
+ghost use Rattle.office_core.specs.PolicyReading.{read_contents};
+
+use crate::caller::Caller;
+use crate::policy_fault::PolicyFault;
+use crate::policy_reading::{callers_of, has_top_keys, has_version_1, rules_of};
+use crate::rule::Rule;
+use std::alloc::Global;
+use std::marker::Model;
+use toml::Table;
+
+/// A policy: callers, each with its role, and rules, of which the first that matches decides.
+#[derive(Debug, Drop)]
+pub struct Policy {
+    callers: Vec<Caller>,
+    rules: Vec<Rule>,
+}
+
+impl Model for Policy {
+    ghost use Rattle.office_core.specs.Policies.{Contents};
+
+    ghost Value = { Contents };
+
+    ghost view = { λ policy. record { callers = policy.callers.items; rules = policy.rules.items } };
+}
+
+impl Policy {
+    /// The callers, ascending by name.
+    pub fn callers(&self) -> &[Caller]
+        ensures { result.now ≡ self.now.callers }
+    {
+        self.callers.as_slice()
+    }
+
+    /// The rules, in the order of the file.
+    pub fn rules(&self) -> &[Rule]
+        ensures { result.now ≡ self.now.rules }
+    {
+        self.rules.as_slice()
+    }
+
+    /// The role that the policy gives a caller, else `stranger`.
+    pub fn role_of(&self, caller: &str) -> &str
+        ensures { result.now ≡ role_of self.now caller.now }
+    {
+        role_in(self.callers.as_slice(), caller)
+    }
+}
+
+fn listed<'a>(callers: &'a [Caller], name: &str) -> Option<&'a Caller>
+    ensures { option_copied result ≡ find (λ caller. bytes_eq caller.name name.now) callers.now }
+{
+    callers.iter().find(|caller| caller.name.as_str() == name)
+}
+
+fn role_in<'a>(callers: &'a [Caller], name: &str) -> &'a str
+    ensures { result.now ≡ role_or_stranger (find (λ caller. bytes_eq caller.name name.now) callers.now) }
+{
+    match listed(callers, name) {
+        Some(caller) => caller.role.as_str(),
+        None => "stranger",
+    }
+}
+
+fn read_tree(alloc: Global, tree: &Table) -> Result<Policy, PolicyFault>
+    ensures { Answers result (read_contents (table_view tree.now)) }
+{
+    if !has_version_1(tree) {
+        return Err(PolicyFault::BadVersion);
+    }
+    if !has_top_keys(tree) {
+        return Err(PolicyFault::UnknownKey);
+    }
+    let callers = callers_of(alloc, tree)?;
+    let rules = rules_of(alloc, tree)?;
+    if rules.len() > 200 || callers.len() > 1000 {
+        return Err(PolicyFault::TooMany);
+    }
+    Ok(Policy { callers, rules })
+}
+
+/// The policy that a text spells, or the first fault of it.
+pub fn read_policy(alloc: Global, text: &str) -> Result<Policy, PolicyFault>
+    ensures { Answers result (policy_of text.now) }
+{
+    match toml::table_from_str(alloc, text) {
+        Ok(tree) => read_tree(alloc, &tree),
+        Err(error) => {
+            if error.is_memory() {
+                Err(PolicyFault::Memory)
+            } else {
+                Err(PolicyFault::NotToml)
+            }
+        }
+    }
+}
