@@ -10,6 +10,7 @@ ghost use Rattle.bag_text.specs.BagInfo.{Pair, SaysInfo, InfoFaultIs};
 ghost use Rattle.bag_text.specs.InfoReading.{info_of};
 ghost use Rattle.bag_text.specs.TransferForm.{File, IsBag, set_text, Clashes, clashes};
 ghost use Rattle.bag_text.specs.TransferFaults.{FaultIs};
+ghost use Rattle.bag_text.specs.TransferReading.{set_of};
 ghost use Rattle.bag_text.specs.BagList.{ListFault, list_fault};
 ghost use Rattle.bag_text.specs.declared.bag_info.InfoFault.{InfoFault};
 ghost use Rattle.bag_text.specs.declared.checksum.Algorithm.{Algorithm};
@@ -29,6 +30,13 @@ pub fn one_fault()
     ensures whole { (t : List ℕ) → ((files : List File) × IsBag files × (t ≡ set_text files)) ⊎ ((fault : SetFault) × FaultIs t fault) }
     ensures apart { (files : List File) (fault : SetFault) → IsBag files → FaultIs (set_text files) fault → ⊥ }
     ensures one { (t : List ℕ) (a b : SetFault) → FaultIs t a → FaultIs t b → a ≡ b }
+{}
+
+/// Reading a text answers a bag exactly where the text is the bag's transfer form, and a fault exactly where it is the
+/// text's first.
+pub fn transfer_forms()
+    ensures read { (t : List ℕ) (files : List File) → (set_of t ≡ Ok files) ↔ (IsBag files × (t ≡ set_text files)) }
+    ensures first { (t : List ℕ) (fault : SetFault) → (set_of t ≡ Err fault) ↔ FaultIs t fault }
 {}
 
 /// Paths clash exactly where the test says so.

@@ -209,3 +209,45 @@ fn names_the_faults_of_bag_info(rt: HostRuntime) {
         }
     }
 }
+
+/// The fault of a text as a path, where it has one.
+fn fault_of_path(text: &str) -> Option<PathFault> {
+    match BagPath::read(text) {
+        Ok(_) => None,
+        Err(fault) => Some(fault),
+    }
+}
+
+#[test]
+fn names_the_faults_of_paths(rt: HostRuntime) {
+    for (text, fault) in [
+        ("", PathFault::Empty),
+        ("/", PathFault::EmptySegment),
+        ("/a", PathFault::EmptySegment),
+        ("a/", PathFault::EmptySegment),
+        ("a//b", PathFault::EmptySegment),
+        (".", PathFault::DotSegment),
+        ("./a", PathFault::DotSegment),
+        ("a/../b", PathFault::DotSegment),
+        ("a\0b", PathFault::Nul),
+        // The least that stands.
+        ("../", PathFault::EmptySegment),
+        ("\0/..", PathFault::DotSegment),
+    ] {
+        assert_eq!(rt; fault_of_path(text), Some(fault), "{fault}");
+    }
+    for text in ["a", "...", "a b/.c", "\u{e9}\n\r%*\\"] {
+        assert_eq!(rt; fault_of_path(text), None);
+    }
+}
+
+#[test]
+fn paths_have_at_most_1024_bytes(rt: HostRuntime) -> Result<(), Fail> {
+    let longest = "\u{e9}".repeat(rt.alloc(), 512)?;
+    assert_eq!(rt; fault_of_path(longest.as_str()), None);
+    let longer = format!(in rt.alloc(); "{longest}a")?;
+    assert_eq!(rt; fault_of_path(longer.as_str()), Some(PathFault::TooLong));
+    let worse = format!(in rt.alloc(); "{longer}/../\0")?;
+    assert_eq!(rt; fault_of_path(worse.as_str()), Some(PathFault::TooLong));
+    Ok(())
+}

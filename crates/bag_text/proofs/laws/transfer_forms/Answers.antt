@@ -1,0 +1,12 @@
+use Rattle.std.proofs.Common.{◌∙◌, ap}
+use Rattle.bag_text.specs.TransferReading.{set_of}
+use Rattle.bag_text.proofs.FormLemmas.{set_ok, set_again}
+use Rattle.bag_text.proofs.TableLemmas.{set_fault}
+use Rattle.bag_text.proofs.RefusalLemmas.{refuses}
+use Rattle.bag_text.proofs.laws.transfer_forms.Goals as goal
+
+pub returns-clause-read : goal.returns-clause-read
+returns-clause-read c = λ t files. (λ e. let read = set_ok t files e in (read.bag, read.text), λ is. ap set_of is.1 ∙ set_again files is.0)
+
+pub returns-clause-first : goal.returns-clause-first
+returns-clause-first c = λ t fault. (set_fault t fault, refuses t fault)
