@@ -6,7 +6,6 @@ use Rattle.bag_text.specs.declared.declaration.Version.{Version}
 use Rattle.bag_check.specs.declared.fault.BagFault.{BagFault}
 use Rattle.bag_check.specs.declared.fault.BagFault.TheVariants as faults
 use Rattle.bag_check.specs.declared.report.BagReport.{BagReport}
-use Rattle.bag_check.specs.Plain.{IsPlain}
 use Rattle.bag_check.specs.Validity.{Report, Valid, report_of}
 use Rattle.bag_check.specs.Faults.{Fault, FirstFault}
 use Rattle.bag_check.specs.Judging.{judge}
@@ -17,11 +16,11 @@ use Rattle.bag_check.proofs.JudgeLaws.{judged_valid, judged_fault, valid_judged,
 abbrev pub Answered : List File → Result BagReport BagFault → Type 0
 Answered bag result = Gives report_seen result (judge bag)
 
-pub accepted_is_valid : (bag : List File) → IsBag bag → IsPlain bag → (result : Result BagReport BagFault) → Answered bag result
+pub accepted_is_valid : (bag : List File) → IsBag bag → (result : Result BagReport BagFault) → Answered bag result
     → IfOk result (λ report. Valid bag report.version × (report_seen report ≡ report_of report.version bag))
-accepted_is_valid bag is plain (Err fault) e = tt
-accepted_is_valid bag is plain (Ok report) e =
-    let found = judged_valid bag is plain (report_seen report) e in
+accepted_is_valid bag is (Err fault) e = tt
+accepted_is_valid bag is (Ok report) e =
+    let found = judged_valid bag is (report_seen report) e in
     let version : found.0 ≡ report.version = sym (ap (λ (r : Report). r.version) found.2) in
     (subst (λ (v : Version). Valid bag v) version found.1, found.2 ∙ ap (λ (v : Version). report_of v bag) version)
 
@@ -29,13 +28,13 @@ accepted_is_valid bag is plain (Ok report) e =
 given : (bag : List File) (judged : Result Report Fault) → judge bag ≡ judged → (result : Result BagReport BagFault) → Answered bag result → Gives report_seen result judged
 given bag judged e result answered = subst (λ (r : Result Report Fault). Gives report_seen result r) e answered
 
-pub valid_is_accepted : (bag : List File) → IsBag bag → IsPlain bag → (result : Result BagReport BagFault) → Answered bag result
+pub valid_is_accepted : (bag : List File) → IsBag bag → (result : Result BagReport BagFault) → Answered bag result
     → (v : Version) → Valid bag v → Gives report_seen result (Ok (report_of v bag))
-valid_is_accepted bag is plain result answered v valid = given bag (Ok (report_of v bag)) (valid_judged bag is plain v valid) result answered
+valid_is_accepted bag is result answered v valid = given bag (Ok (report_of v bag)) (valid_judged bag is v valid) result answered
 
-pub first_is_refused : (bag : List File) → IsBag bag → IsPlain bag → (result : Result BagReport BagFault) → Answered bag result
+pub first_is_refused : (bag : List File) → IsBag bag → (result : Result BagReport BagFault) → Answered bag result
     → (fault : Fault) → FirstFault bag fault → Gives report_seen result (Err fault)
-first_is_refused bag is plain result answered fault first = given bag (Err fault) (fault_judged bag is plain fault first) result answered
+first_is_refused bag is result answered fault first = given bag (Err fault) (fault_judged bag is fault first) result answered
 
 -- no fault but want of memory names none
 only_memory : (fault : BagFault) → named_fault fault ≡ None → fault ≡ faults.Memory
@@ -58,11 +57,11 @@ only_memory faults.OxumWrong e = absurd cc
 only_memory (faults.ChecksumWrong name path) e = absurd cc
 only_memory faults.Memory e = refl
 
-pub refused_is_first : (bag : List File) → IsBag bag → IsPlain bag → (result : Result BagReport BagFault) → Answered bag result
+pub refused_is_first : (bag : List File) → IsBag bag → (result : Result BagReport BagFault) → Answered bag result
     → IfErr result (λ fault. (fault ≡ faults.Memory) ⊎ NamesFirst bag fault)
-refused_is_first bag is plain (Ok report) e = tt
-refused_is_first bag is plain (Err fault) e = by_name (named_fault fault) refl e
+refused_is_first bag is (Ok report) e = tt
+refused_is_first bag is (Err fault) e = by_name (named_fault fault) refl e
   where
     by_name : (name : Option Fault) → named_fault fault ≡ name → FailsAs {Y = Report} name (judge bag) → (fault ≡ faults.Memory) ⊎ NamesFirst bag fault
     by_name None names e = inl (only_memory fault names)
-    by_name (Some first) names e = inr (first, names, judged_fault bag is plain first e)
+    by_name (Some first) names e = inr (first, names, judged_fault bag is first e)

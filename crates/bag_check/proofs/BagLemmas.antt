@@ -7,7 +7,7 @@ use Rattle.std.proofs.lemmas.Bool.Decides.{Decides-eqb}
 use Rattle.std.proofs.lemmas.Slice.Eq.{bytes_eq-Decides, starts_is}
 use Rattle.bag_text.specs.Paths.{comes_before}
 use Rattle.bag_text.specs.TransferForm.{File, IsBag, Ascends, content_at}
-use Rattle.bag_check.specs.Contents.{Holds, HasFile, IsPayload, is_payload, payload_of}
+use Rattle.bag_check.specs.Contents.{Holds, HasFile, IsPayload, is_payload}
 use Rattle.bag_check.specs.Judging.{has_path}
 use Rattle.bag_check.proofs.OrderLemmas.{Has, contains_has, has_contains, apart, chain, Up, Ascending, ascending_rest, later_path}
 
@@ -76,9 +76,9 @@ up_filter t before (f ∷ fs) up = by_test (t f.path) (λ u. up_filter t f.path 
     by_test true with_it without = (up.0, with_it up.1)
     by_test false with_it without = without (up_skip before f.path (paths fs) up)
 
--- the payload's paths ascend
-pub payload_ascends : (bag : List File) → IsBag bag → Ascending (paths (payload_of bag))
-payload_ascends bag is = ascending_rest [] (paths (payload_of bag)) (up_filter is_payload [] bag (ascends_up [] bag is.ascending))
+-- the paths of files that are kept by their paths ascend
+pub kept_ascends : (t : List ℕ → Bool) (bag : List File) → IsBag bag → Ascending (paths (filter (λ f. t f.path) bag))
+kept_ascends t bag is = ascending_rest [] (paths (filter (λ f. t f.path) bag)) (up_filter t [] bag (ascends_up [] bag is.ascending))
 
 -- ---- one file at one path
 
@@ -175,14 +175,16 @@ is_payload_is path e = (_, (starts_is Decides-eqb path (codes "data/") (is_paylo
 pub is_payload_again : (path : List ℕ) → IsPayload path → is_payload path ≡ true
 is_payload_again path (rest, is) = (starts_is Decides-eqb path (codes "data/") (is_payload path) refl).1 rest is
 
--- a payload file is a file of the bag under `data/`
-pub payload_has : (bag : List File) (path : List ℕ) → Has (paths (payload_of bag)) path → HasFile bag path × IsPayload path
-payload_has bag path h =
-    let found = map_has (λ (f : File). f.path) (payload_of bag) path h in
-    let inside = filter_has (λ (f : File). is_payload f.path) bag found.0 found.1 in
-    (subst (λ (p : List ℕ). HasFile bag p) found.2 (path_of_file bag found.0 inside.0), subst IsPayload found.2 (is_payload_is found.0.path inside.1))
+-- ---- files that are kept by their paths
 
--- a file of the bag under `data/` is a payload file
-pub has_payload : (bag : List File) (path : List ℕ) → HasFile bag path → IsPayload path → Has (paths (payload_of bag)) path
-has_payload bag path (content, holds) is =
-    has_map (λ (f : File). f.path) (payload_of bag) (at path content) (has_filter (λ (f : File). is_payload f.path) bag (at path content) (contains_has bag (at path content) holds) (is_payload_again path is))
+-- a path that is kept is a file's, and passes the test
+pub kept_has : (t : List ℕ → Bool) (bag : List File) (path : List ℕ) → Has (paths (filter (λ f. t f.path) bag)) path → HasFile bag path × (t path ≡ true)
+kept_has t bag path h =
+    let found = map_has (λ (f : File). f.path) (filter (λ f. t f.path) bag) path h in
+    let kept = filter_has (λ (f : File). t f.path) bag found.0 found.1 in
+    (subst (λ (p : List ℕ). HasFile bag p) found.2 (path_of_file bag found.0 kept.0), ap t (sym found.2) ∙ kept.1)
+
+-- a file's path that passes the test is kept
+pub has_kept : (t : List ℕ → Bool) (bag : List File) (path : List ℕ) → HasFile bag path → t path ≡ true → Has (paths (filter (λ f. t f.path) bag)) path
+has_kept t bag path (content, holds) passes =
+    has_map (λ (f : File). f.path) (filter (λ f. t f.path) bag) (at path content) (has_filter (λ (f : File). t f.path) bag (at path content) (contains_has bag (at path content) holds) passes)

@@ -1,6 +1,6 @@
 -- Reading and judging, item after item.
-use Rattle.std.proofs.Common.{◌≡◌, ℕ, zero, suc, ◌+◌, ◌*◌, ◌<◌, ◌≤◌, Bool, true, false, cond, not, ◌&&◌, ◌||◌, inl, inr, List, [], ◌∷◌, ◌++◌, length, get_or, drop, map, nat_lt, refl, sym, ap, ◌∙◌, arith, append_assoc}
-use Rattle.std.specs.Prelude.{Option, Some, None, Result, Ok, Err, find, sum_by, option_map, is_some, codes, decimal}
+use Rattle.std.proofs.Common.{◌≡◌, ℕ, zero, suc, ◌+◌, ◌*◌, ◌<◌, ◌≤◌, Bool, true, false, cond, not, ◌&&◌, ◌||◌, List, [], ◌∷◌, ◌++◌, length, get_or, drop, map, filter, nat_lt, refl, sym, ap, ◌∙◌, arith, append_assoc}
+use Rattle.std.specs.Prelude.{Option, Some, None, Result, Ok, Err, sum_by, is_some, codes, decimal}
 use Rattle.std.specs.Fmt.{digits}
 use Rattle.std.specs.Ordering.{nat_cmp}
 use Rattle.std.specs.Cmp.Lexicographic.{slice_cmp}
@@ -9,8 +9,9 @@ use Rattle.std.specs.Map.{lookup}
 use Rattle.std.specs.Cow.{cow_str_bytes}
 use Rattle.std.specs.declared.borrow.CowStr.{CowStr}
 use Rattle.std.specs.Global.{Global}
-use Rattle.std.specs.List.{list_any, AllByRecursion}
+use Rattle.std.specs.List.{list_any, count_by, AllByRecursion}
 use Rattle.std.proofs.lemmas.List.{append-nil, drop_more}
+use Rattle.std.proofs.lemmas.List.Recursion.{is_count_by}
 use Rattle.std.proofs.lemmas.List.Sums.{sum-map, sum_by-cons}
 use Rattle.std.proofs.lemmas.Bool.Decides.{nat_tests}
 use Rattle.percent_encoding.specs.declared.ascii_set.AsciiSet.{AsciiSet}
@@ -20,24 +21,19 @@ use Rattle.bag_text.specs.TransferForm.{File, Fits, max_content}
 use Rattle.bag_text.specs.declared.listing.Listing.{Listing}
 use Rattle.bag_text.specs.declared.listing.Manifest.{Manifest}
 use Rattle.bag_text.specs.declared.declaration.Version.{Version}
-use Rattle.bag_text.specs.ManifestReading.{Entry, listed, is_listed, manifest_of}
+use Rattle.bag_text.specs.ManifestReading.{listed, is_listed, manifest_of}
+use Rattle.bag_text.specs.BagInfo.{Pair}
+use Rattle.bag_text.specs.InfoReading.{Kept, pair_in, pairs_of}
 use Rattle.bag_check.specs.declared.rule.Rule.{Rule}
 use Rattle.bag_check.specs.declared.rule.Rule.TheVariants.{OutsidePayload, TagManifestListed, PayloadInTagManifest, PayloadManifestUnlisted, Missing, Unlisted, ChecksumWrong}
 use Rattle.bag_check.specs.declared.names.Kind.{Kind}
 use Rattle.bag_text.specs.declared.checksum.Algorithm.{Algorithm}
-use Rattle.bag_check.specs.declared.names.Kind.TheVariants.{Payload, Tag}
 use Rattle.bag_check.specs.Contents.{is_payload, payload_of, manifest_name, algorithm_named}
-use Rattle.bag_check.specs.Validity.{payload_files, payload_bytes, manifest_count, Report}
+use Rattle.bag_check.specs.Validity.{is_oxum, oxums_of, payload_files, payload_bytes, manifest_count, Report}
 use Rattle.bag_check.specs.FaultTexts.{is_escaped, printed, printed_byte, fault_text}
 use Rattle.bag_check.specs.Faults.{Fault, Breaks, rule_number}
-use Rattle.bag_check.specs.Judging.{◌>>=◌, Named, Listed, named_of, onto, manifests_in, listed_or_fault, listings_of, breaks_at, first_in, first_place, has_path, named_by, named_or_fault, version_in, no_fetch, some_payload, keeps, all_rules, judge}
+use Rattle.bag_check.specs.Judging.{◌>>=◌, Named, Listed, named_of, onto, manifests_in, listed_or_fault, listings_of, asks_for, first_unlisted, first_in, first_place, named_by, named_or_fault, version_in, no_fetch, some_payload, keeps, listing_rules, keeps_contents, judge}
 use Rattle.bag_check.specs.Answers.{FailsAs}
-use Rattle.bag_check.specs.Contents.{info_path}
-use Rattle.bag_check.specs.Plain.{IsPlain, is_tag_found, is_tag_manifest_path, is_plain}
-use Rattle.std.proofs.lemmas.Bool.{false≢true}
-use Rattle.bag_check.proofs.OrderLemmas.{Has, contains_has}
-use Rattle.bag_check.proofs.NameLemmas.{name_is, name_again}
-use Rattle.bag_check.proofs.BagLemmas.{has_path_is, no_path_is, path_of_file}
 
 -- ---- bytes that are printed as escapes
 
@@ -211,9 +207,31 @@ listings_done v front ms total is so_far = sym so_far ∙ ap (λ (ns : List Name
 
 -- ---- places
 
--- the first file of the payload that a manifest doesn't list
-abbrev pub unlisted : Manifest → List File → Option (List ℕ)
-unlisted manifest files = find (λ path. not (is_listed path (map listed manifest.entries.entries))) (map (λ f. f.path) (payload_of files))
+-- the first file that a rule asks for and a manifest doesn't list
+abbrev pub unlisted : Rule → Manifest → List File → Option (List ℕ)
+unlisted rule manifest files = first_unlisted files rule (map listed manifest.entries.entries)
+
+-- whether a manifest lists a file's path
+abbrev is_its : Manifest → File → Bool
+is_its manifest f = is_listed f.path (map listed manifest.entries.entries)
+
+-- a file that the rule asks for and the manifest doesn't list
+pub unlisted_here : (rule : Rule) (manifest : Manifest) (fs more : List File) (f : File) (total : Option (List ℕ)) → fs ≡ f ∷ more → asks_for rule f.path ≡ true → is_its manifest f ≡ false → unlisted rule manifest fs ≡ total → Some f.path ≡ total
+unlisted_here rule manifest fs more f total is asks not_its so_far =
+    let one : unlisted rule manifest (f ∷ more) ≡ Some f.path = rw (asks, not_its) refl in
+    sym one ∙ ap (unlisted rule manifest) (sym is) ∙ so_far
+
+-- a file that the rule doesn't ask for
+pub unlisted_passed : (rule : Rule) (manifest : Manifest) (fs more : List File) (f : File) (total : Option (List ℕ)) → fs ≡ f ∷ more → asks_for rule f.path ≡ false → unlisted rule manifest fs ≡ total → unlisted rule manifest more ≡ total
+unlisted_passed rule manifest fs more f total is asks so_far =
+    let one : unlisted rule manifest (f ∷ more) ≡ unlisted rule manifest more = rw asks refl in
+    sym one ∙ ap (unlisted rule manifest) (sym is) ∙ so_far
+
+-- a file that the manifest lists
+pub unlisted_listed : (rule : Rule) (manifest : Manifest) (fs more : List File) (f : File) (total : Option (List ℕ)) → fs ≡ f ∷ more → asks_for rule f.path ≡ true → is_its manifest f ≡ true → unlisted rule manifest fs ≡ total → unlisted rule manifest more ≡ total
+unlisted_listed rule manifest fs more f total is asks its so_far =
+    let one : unlisted rule manifest (f ∷ more) ≡ unlisted rule manifest more = rw (asks, its) refl in
+    sym one ∙ ap (unlisted rule manifest) (sym is) ∙ so_far
 
 -- a path is found by its bytes
 pub found_by_bytes : (es : List (CowStr Global × Listing)) (path : List ℕ) → is_some (lookup (is_at (λ k. slice_cmp nat_cmp path (cow_str_bytes k))) es) ≡ is_listed path (map listed es)
@@ -227,23 +245,6 @@ found_by_bytes (e ∷ es) path = by_test (is_at (slice_cmp nat_cmp path) (cow_st
 -- what is left of a list begins with the next item
 pub next_item : {A : Type 0} (xs : List A) (i : ℕ) (x : A) → i < length xs → x ≡ get_or xs i x → drop i xs ≡ x ∷ drop (i + 1) xs
 next_item {A = A} xs i x lt is = drop_more xs i x lt ∙ ap (λ (y : A). y ∷ drop (i + 1) xs) (sym is)
-
--- what is found among what things are seen as
-pub find_map : {A B : Type 0} (view : A → B) (test : B → Bool) (xs : List A) → find test (map view xs) ≡ option_map view (find (λ x. test (view x)) xs)
-find_map view test [] = refl
-find_map view test (x ∷ xs) = by_test (test (view x)) (find_map view test xs)
-  where
-    by_test : (b : Bool) → find test (map view xs) ≡ option_map view (find (λ x. test (view x)) xs) → cond b (Some (view x)) (find test (map view xs)) ≡ option_map view (cond b (Some x) (find (λ x. test (view x)) xs))
-    by_test true again = refl
-    by_test false again = again
-
--- a rule for listed paths, in the manifests that keep it
-pub outside_place : (bag : List File) (rule : Rule) (l : Listed) → rule ≡ OutsidePayload → l.kind ≡ Payload → option_map (λ e. e.0) (find (breaks_at bag rule) l.entries) ≡ first_in bag rule l
-outside_place bag rule l is kind = rw (is, kind) (sym (find_map (λ (e : List ℕ × Entry). e.0) (λ path. not (is_payload path)) l.entries))
-
--- the same for the rule that each listed path is there
-pub missing_place : (bag : List File) (rule : Rule) (l : Listed) → rule ≡ Missing → option_map (λ e. e.0) (find (breaks_at bag rule) l.entries) ≡ first_in bag rule l
-missing_place bag rule l is = rw is (sym (find_map (λ (e : List ℕ × Entry). e.0) (λ path. not (has_path bag path)) l.entries))
 
 -- a manifest that breaks the rule
 pub place_found : (bag : List File) (rule : Rule) (ls more : List Listed) (l : Listed) (path : List ℕ) (total : Option (List ℕ × List ℕ)) → ls ≡ l ∷ more → first_in bag rule l ≡ Some path → first_place bag rule ls ≡ total → Some (l.name, path) ≡ total
@@ -263,6 +264,29 @@ place_later bag rule ls more l total is e so_far =
 pub place_none : (bag : List File) (rule : Rule) (ls : List Listed) (total : Option (List ℕ × List ℕ)) → ls ≡ [] → first_place bag rule ls ≡ total → None ≡ total
 unfolding first_place
 place_none bag rule ls total is so_far = sym (ap (first_place bag rule) is) ∙ so_far
+
+-- ---- the values of `Payload-Oxum`
+
+-- a test of the values of the pairs that are a Payload-Oxum
+pub any_oxum : (test : List ℕ → Bool) (kept : List Kept) → list_any test (oxums_of (pairs_of kept)) ≡ list_any (λ k. is_oxum (pair_in k) && test (cow_str_bytes k.1)) kept
+any_oxum test [] = refl
+any_oxum test (k ∷ ks) = by_label (is_oxum (pair_in k)) (any_oxum test ks)
+  where
+    by_label : (x : Bool) → list_any test (oxums_of (pairs_of ks)) ≡ list_any (λ k. is_oxum (pair_in k) && test (cow_str_bytes k.1)) ks
+        → list_any test (map (λ pair. pair.value) (cond x (pair_in k ∷ filter is_oxum (pairs_of ks)) (filter is_oxum (pairs_of ks)))) ≡ (x && test (cow_str_bytes k.1) || list_any (λ k. is_oxum (pair_in k) && test (cow_str_bytes k.1)) ks)
+    by_label true again = ap (λ (b : Bool). test (cow_str_bytes k.1) || b) again
+    by_label false again = again
+
+-- how many there are
+abbrev oxum_count : List Kept → ℕ
+oxum_count kept = length (oxums_of (pairs_of kept))
+
+pub count_oxums : (kept : List Kept) → oxum_count kept ≡ count_by (λ k. is_oxum (pair_in k)) kept
+count_oxums kept = is_count_by oxum_count (λ k. is_oxum (pair_in k)) refl (λ k ks. by_label k ks (is_oxum (pair_in k))) kept
+  where
+    by_label : (k : Kept) (ks : List Kept) (x : Bool) → length (map (λ (pair : Pair). pair.value) (cond x (pair_in k ∷ filter is_oxum (pairs_of ks)) (filter is_oxum (pairs_of ks)))) ≡ cond x (1 + oxum_count ks) (oxum_count ks)
+    by_label k ks true = omega arith
+    by_label k ks false = refl
 
 -- ---- counts
 
@@ -343,67 +367,7 @@ manifests_counted (f ∷ fs) ms e = by_name (manifest_name f.path) refl (λ rest
 
 -- the verdict on a bag of which no step names a fault
 pub judged : (bag : List File) (v : Version) (unit : Unit {0}) (ms : List Named) (ls : List Listed) (r : Report)
-    → version_in bag ≡ Ok v → no_fetch bag ≡ Ok unit → manifests_in bag ≡ Ok ms → some_payload ms ≡ Ok unit → listings_of v ms ≡ Ok ls → keeps bag ls all_rules ≡ Ok unit
+    → version_in bag ≡ Ok v → no_fetch bag ≡ Ok unit → manifests_in bag ≡ Ok ms → some_payload ms ≡ Ok unit → listings_of v ms ≡ Ok ls → keeps bag ls listing_rules ≡ Ok unit → keeps_contents bag ls ≡ Ok unit
     → r ≡ record { version = v; files = payload_files bag; bytes = payload_bytes bag; manifests = length ms } → judge bag ≡ Ok r
-judged bag v unit ms ls r version fetch found some read kept is =
-    rw (version, fetch, found, some, read, kept) (ap (λ (x : Report). Ok x) (sym (is ∙ ap (λ (n : ℕ). record { version = v; files = payload_files bag; bytes = payload_bytes bag; manifests = n }) (manifests_counted bag ms found))))
-
--- ---- bags without tag manifests and without `bag-info.txt`
-
--- what a test finds in a list
-any_is : {A : Type 0} (test : A → Bool) (xs : List A) → list_any test xs ≡ true → (x : A) × Has xs x × (test x ≡ true)
-any_is test [] e = absurd cc
-any_is {A = A} test (x ∷ xs) e = by_test (test x) refl e (any_is test xs)
-  where
-    by_test : (b : Bool) → test x ≡ b → (b || list_any test xs) ≡ true → (list_any test xs ≡ true → (y : A) × Has xs y × (test y ≡ true)) → (y : A) × Has (x ∷ xs) y × (test y ≡ true)
-    by_test true is e again = (x, inl refl, is)
-    by_test false is e again = let p = again e in (p.0, inr p.1, p.2)
-
--- what stands in a list is found by a test that it passes
-any_again : {A : Type 0} (test : A → Bool) (xs : List A) (x : A) → Has xs x → test x ≡ true → list_any test xs ≡ true
-any_again test [] x h e = absurd h
-any_again test (y ∷ ys) x (inl is) e = ap (λ (b : Bool). b || list_any test ys) (ap test is ∙ e)
-any_again test (y ∷ ys) x (inr h) e = by_test (test y) (any_again test ys x h e)
-  where
-    by_test : (b : Bool) → list_any test ys ≡ true → (b || list_any test ys) ≡ true
-    by_test true again = refl
-    by_test false again = again
-
--- two tests of which neither passed
-parts : (x y : Bool) → (not x && not y) ≡ true → (x ≡ false) × (y ≡ false)
-parts false false e = (refl, refl)
-parts false true e = absurd cc
-parts true y e = absurd cc
-
--- two tests that cannot pass fail
-joined : (x y : Bool) → (x ≡ true → ⊥) → (y ≡ true → ⊥) → (not x && not y) ≡ true
-joined false false no_x no_y = refl
-joined false true no_x no_y = absurd (no_y refl)
-joined true y no_x no_y = absurd (no_x refl)
-
--- what is found of a tag manifest is its ALG
-tag_found : (o : Option (Kind × List ℕ)) → is_tag_found o ≡ true → (alg : List ℕ) × (o ≡ Some (Tag, alg))
-tag_found None e = absurd cc
-tag_found (Some (Payload, alg)) e = absurd cc
-tag_found (Some (Tag, alg)) e = (alg, refl)
-
--- a bag that computing calls plain is plain
-pub plain_is : (bag : List File) → is_plain bag ≡ true → IsPlain bag
-plain_is bag e =
-    let p = parts (list_any (λ f. is_tag_manifest_path f.path) bag) (has_path bag info_path) e in
-    record {
-      no_tag_manifest = λ alg name named file.
-          let there = any_again (λ f. is_tag_manifest_path f.path) bag (record { path = name; content = file.0 }) (contains_has bag _ file.1) (ap is_tag_found (name_again name Tag alg named)) in
-          false≢true (sym p.0 ∙ there);
-      no_info = λ file. no_path_is bag info_path p.1 file;
-    }
-
--- a plain bag is called plain by computing
-pub plain_again : (bag : List File) → IsPlain bag → is_plain bag ≡ true
-plain_again bag plain = joined (list_any (λ f. is_tag_manifest_path f.path) bag) (has_path bag info_path) no_tag (λ e. plain.no_info (has_path_is bag info_path e))
-  where
-    no_tag : list_any (λ f. is_tag_manifest_path f.path) bag ≡ true → ⊥
-    no_tag e =
-        let found = any_is (λ (f : File). is_tag_manifest_path f.path) bag e in
-        let tag = tag_found (manifest_name found.0.path) found.2 in
-        plain.no_tag_manifest tag.0 found.0.path (name_is found.0.path Tag tag.0 tag.1) (path_of_file bag found.0 found.1)
+judged bag v unit ms ls r version fetch found some read kept contents is =
+    rw (version, fetch, found, some, read, kept, contents) (ap (λ (x : Report). Ok x) (sym (is ∙ ap (λ (n : ℕ). record { version = v; files = payload_files bag; bytes = payload_bytes bag; manifests = n }) (manifests_counted bag ms found))))

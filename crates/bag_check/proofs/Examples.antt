@@ -9,6 +9,7 @@ use Rattle.bag_check.specs.declared.names.Kind.TheVariants.{Payload, Tag}
 use Rattle.bag_check.specs.declared.rule.Rule.TheVariants.{Missing}
 use Rattle.bag_check.specs.Contents.{manifest_name}
 use Rattle.bag_check.specs.Validity.{NamesCounts, oxums_of}
+use Rattle.bag_check.specs.OxumReading.{counts_of}
 use Rattle.bag_check.specs.Faults.{NoDeclaration, NoPayloadManifest, Breaks}
 use Rattle.bag_check.specs.FaultTexts.{printed, fault_text}
 use Rattle.bag_check.specs.Judging.{judge, manifests_in}
@@ -37,6 +38,12 @@ names_counts = (codes "3", codes "1", [], refl, refl, record { some = omega arit
 -- zeros before the number, and blanks behind
 names_the_same : NamesCounts (codes "003.01  ") 3 1
 names_the_same = (codes "003", codes "01", codes "  ", refl, refl, record { some = omega arith; few = omega arith; all = refl; is = refl }, record { some = omega arith; few = omega arith; all = refl; is = refl })
+
+-- what is read of a value: 20 digits at most, and nothing behind but blanks
+reads_counts :
+    (counts_of (codes "003.01  ") ≡ Some (3, 1)) × (counts_of (codes "18446744073709551619.1") ≡ Some (18446744073709551619, 1))
+    × (counts_of (codes "000000000000000000003.1") ≡ None) × (counts_of (codes "3.1" ++ 10 ∷ []) ≡ None) × (counts_of (codes "3.") ≡ None)
+reads_counts = (refl, refl, refl, refl, refl)
 
 -- a label in any case
 counts_among_pairs : oxums_of (record { label = codes "payload-OXUM"; value = codes "3.1" } ∷ record { label = codes "Source"; value = codes "4.1" } ∷ []) ≡ codes "3.1" ∷ []

@@ -21,7 +21,7 @@ use Rattle.bag_check.specs.declared.rule.Rule.TheVariants as rules_of
 use Rattle.bag_check.specs.Contents.{declaration_path, info_path, DeclaresVersion, HasManifest, word_of}
 use Rattle.bag_check.specs.Faults.{Fault, NoDeclaration, Declaration, FetchNotSupported, UnsupportedAlgorithm, NoPayloadManifest, ManifestText, Breaks, InfoText, OxumForm, OxumTwice, OxumWrong, Stands, rule_number, fault_number, fault_name, fault_path, PlaceBefore, ComesFirst, FirstFault}
 use Rattle.bag_check.proofs.ResultLemmas.{same_ok, same_err}
-use Rattle.bag_check.proofs.OrderLemmas.{one_first}
+use Rattle.bag_check.proofs.OrderLemmas.{apart, one_first}
 use Rattle.bag_check.proofs.TextFacts.{declares_again, fault_again}
 use Rattle.bag_check.proofs.BagLemmas.{one_content}
 use Rattle.bag_check.proofs.NameLemmas.{one_name, one_algorithm}
@@ -148,6 +148,17 @@ some_number (Breaks rules_of.Unlisted name path) = omega arith
 some_number (Breaks rules_of.ChecksumWrong name path) = omega arith
 some_number _ = omega arith
 
+-- and at most 17
+pub last_number : (g : Fault) → fault_number g < 18
+last_number (Breaks rules_of.OutsidePayload name path) = omega arith
+last_number (Breaks rules_of.TagManifestListed name path) = omega arith
+last_number (Breaks rules_of.PayloadInTagManifest name path) = omega arith
+last_number (Breaks rules_of.PayloadManifestUnlisted name path) = omega arith
+last_number (Breaks rules_of.Missing name path) = omega arith
+last_number (Breaks rules_of.Unlisted name path) = omega arith
+last_number (Breaks rules_of.ChecksumWrong name path) = omega arith
+last_number _ = omega arith
+
 -- ---- one number after the other
 
 -- no fault of a lower number stands
@@ -157,6 +168,15 @@ NoneBelow bag n = (g : Fault) → fault_number g < n → Stands bag g → ⊥
 -- no fault of this number stands
 abbrev pub NoneAt : List File → ℕ → Type 0
 NoneAt bag n = (g : Fault) → fault_number g ≡ n → Stands bag g → ⊥
+
+-- what a fault names comes before what another names
+abbrev pub Earlier : Fault → Fault → Type 0
+Earlier g f = PlaceBefore (fault_name g, fault_path g) (fault_name f, fault_path f)
+
+-- nothing comes before an empty name and an empty path with the same
+pub none_earlier : PlaceBefore ([], []) ([], []) → ⊥
+none_earlier (inl before) = apart [] before
+none_earlier (inr before) = apart [] before.1
 
 -- a fault that comes first among those of its number
 pub record IsLeast (bag : List File) (f : Fault) : Type 0 where

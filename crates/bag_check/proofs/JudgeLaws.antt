@@ -14,32 +14,22 @@ use Rattle.bag_check.specs.declared.rule.Rule.TheVariants as rules_of
 use Rattle.bag_check.specs.Contents.{Holds, HasFile, IsPayload, is_payload, fetch_path, DeclaresVersion, IsManifestName, word_of, HasManifest, ListsAt, digest}
 use Rattle.bag_check.specs.Fixity.{matches_of}
 use Rattle.bag_check.specs.Validity.{Report, report_of, Valid}
-use Rattle.bag_check.specs.Faults.{Fault, Breaks, IsBroken, Stands, rule_number, FirstFault}
-use Rattle.bag_check.specs.Plain.{IsPlain}
-use Rattle.bag_check.specs.Judging.{◌>>=◌, has_path, version_in, no_fetch, Named, manifests_in, some_payload, Listed, listings_of, first_place, kept_by, keeps, all_rules, judge}
+use Rattle.bag_check.specs.Faults.{Fault, Breaks, IsBroken, Stands, FirstFault}
+use Rattle.bag_check.specs.Judging.{◌>>=◌, has_path, version_in, no_fetch, Named, manifests_in, some_payload, Listed, listings_of, keeps, listing_rules, keeps_info, keeps_contents, judge}
 use Rattle.bag_check.proofs.ResultLemmas.{bind_ok, bind_err, same_ok}
 use Rattle.bag_check.proofs.OrderLemmas.{Has, contains_has, has_contains}
 use Rattle.bag_check.proofs.TextFacts.{manifest_is}
 use Rattle.bag_check.proofs.BagLemmas.{has_path_is, no_path_is, is_payload_is, is_payload_again}
-use Rattle.bag_check.proofs.FaultLemmas.{NoneBelow, NoneAt, none_more, one_version, one_first_fault}
+use Rattle.bag_check.proofs.FaultLemmas.{last_number, NoneBelow, one_version, one_first_fault}
 use Rattle.bag_check.proofs.ManifestLemmas.{at, Found, found_all, payload_manifest, all_read}
-use Rattle.bag_check.proofs.RuleLemmas.{AreListed, listed, no_tag, lists_found, found_lists, matches_is, matches_again}
-use Rattle.bag_check.proofs.StepLemmas.{version_ok, version_err, below_3, fetch_ok, fetch_err, below_4, names_err, below_5, payload_err, below_6, are_listed, texts_err, below_7, rule_ok, rule_err, below_11, below_17}
+use Rattle.bag_check.proofs.RuleLemmas.{AreListed, listed, lists_found, found_lists, matches_is, matches_again}
+use Rattle.bag_check.proofs.StepLemmas.{version_ok, version_err, below_3, fetch_ok, fetch_err, below_4, names_err, below_5, payload_err, below_6, are_listed, texts_err, below_7, Follow, rules_ok, rules_err}
+use Rattle.bag_check.proofs.InfoStepLemmas.{info_ok, info_err, info_right}
 use Rattle.bag_check.proofs.ValidLemmas.{none_stands}
-
--- ---- the rules, one after the other
-
--- no rule is broken
-record AreKept (bag : List File) (v : Version) : Type 0 where
-  inside : NoneAt bag 7
-  there : NoneAt bag 11
-  all : NoneAt bag 12
-  right : NoneAt bag 17
 
 -- what judging knows once the manifests are read
 record IsRead (bag : List File) (v : Version) (ms : List Named) (ls : List Listed) : Type 0 where
   is : IsBag bag
-  plain : IsPlain bag
   declares : DeclaresVersion bag v
   fetch : HasFile bag fetch_path → ⊥
   found : Found bag ms
@@ -47,57 +37,11 @@ record IsRead (bag : List File) (v : Version) (ms : List Named) (ls : List Liste
   read : AreListed bag v ls
   below : NoneBelow bag 7
 
--- where judging finds no rule broken none is
-rules_ok : (bag : List File) (v : Version) (ms : List Named) (ls : List Listed) → IsRead bag v ms ls → (done : Unit {0}) → keeps bag ls all_rules ≡ Ok done → AreKept bag v
-unfolding keeps
-rules_ok bag v ms ls r done e =
-    let one = bind_ok (kept_by rules_of.OutsidePayload (first_place bag rules_of.OutsidePayload ls)) (λ _. keeps bag ls (rules_of.Missing ∷ rules_of.Unlisted ∷ rules_of.ChecksumWrong ∷ [])) done e in
-    let two = bind_ok (kept_by rules_of.Missing (first_place bag rules_of.Missing ls)) (λ _. keeps bag ls (rules_of.Unlisted ∷ rules_of.ChecksumWrong ∷ [])) done one.2 in
-    let three = bind_ok (kept_by rules_of.Unlisted (first_place bag rules_of.Unlisted ls)) (λ _. keeps bag ls (rules_of.ChecksumWrong ∷ [])) done two.2 in
-    let four = bind_ok (kept_by rules_of.ChecksumWrong (first_place bag rules_of.ChecksumWrong ls)) (λ _. keeps bag ls []) done three.2 in
-    record {
-      inside = rule_ok bag r.is r.plain v r.declares ls r.read rules_of.OutsidePayload one.0 one.1;
-      there = rule_ok bag r.is r.plain v r.declares ls r.read rules_of.Missing two.0 two.1;
-      all = rule_ok bag r.is r.plain v r.declares ls r.read rules_of.Unlisted three.0 three.1;
-      right = rule_ok bag r.is r.plain v r.declares ls r.read rules_of.ChecksumWrong four.0 four.1;
-    }
+-- ---- a bag in which no fault stands is valid
 
--- the broken rule that judging names comes first
-rules_err : (bag : List File) (v : Version) (ms : List Named) (ls : List Listed) → IsRead bag v ms ls → (f : Fault) → keeps bag ls all_rules ≡ Err f → FirstFault bag f
-unfolding keeps
-rules_err bag v ms ls r f e = outside (bind_err (kept_by rules_of.OutsidePayload (first_place bag rules_of.OutsidePayload ls)) (λ _. keeps bag ls (rules_of.Missing ∷ rules_of.Unlisted ∷ rules_of.ChecksumWrong ∷ [])) f e)
-  where
-    wrong : NoneBelow bag 17 → (kept_by rules_of.ChecksumWrong (first_place bag rules_of.ChecksumWrong ls) ≡ Err f) ⊎ ((done : Unit {0}) × (kept_by rules_of.ChecksumWrong (first_place bag rules_of.ChecksumWrong ls) ≡ Ok done) × (keeps bag ls [] ≡ Err f)) → FirstFault bag f
-    wrong below (inl e) = rule_err bag r.is r.plain v r.declares ls r.read rules_of.ChecksumWrong f below e
-    wrong below (inr (done, ok, e)) = absurd cc
-
-    unlisted : NoneBelow bag 12 → (kept_by rules_of.Unlisted (first_place bag rules_of.Unlisted ls) ≡ Err f) ⊎ ((done : Unit {0}) × (kept_by rules_of.Unlisted (first_place bag rules_of.Unlisted ls) ≡ Ok done) × (keeps bag ls (rules_of.ChecksumWrong ∷ []) ≡ Err f)) → FirstFault bag f
-    unlisted below (inl e) = rule_err bag r.is r.plain v r.declares ls r.read rules_of.Unlisted f below e
-    unlisted below (inr (done, ok, e)) =
-        wrong (below_17 bag r.plain (none_more bag 12 13 refl below (rule_ok bag r.is r.plain v r.declares ls r.read rules_of.Unlisted done ok)))
-        (bind_err (kept_by rules_of.ChecksumWrong (first_place bag rules_of.ChecksumWrong ls)) (λ _. keeps bag ls []) f e)
-
-    missing : NoneBelow bag 11 → (kept_by rules_of.Missing (first_place bag rules_of.Missing ls) ≡ Err f) ⊎ ((done : Unit {0}) × (kept_by rules_of.Missing (first_place bag rules_of.Missing ls) ≡ Ok done) × (keeps bag ls (rules_of.Unlisted ∷ rules_of.ChecksumWrong ∷ []) ≡ Err f)) → FirstFault bag f
-    missing below (inl e) = rule_err bag r.is r.plain v r.declares ls r.read rules_of.Missing f below e
-    missing below (inr (done, ok, e)) =
-        unlisted (none_more bag 11 12 refl below (rule_ok bag r.is r.plain v r.declares ls r.read rules_of.Missing done ok))
-        (bind_err (kept_by rules_of.Unlisted (first_place bag rules_of.Unlisted ls)) (λ _. keeps bag ls (rules_of.ChecksumWrong ∷ [])) f e)
-
-    outside : (kept_by rules_of.OutsidePayload (first_place bag rules_of.OutsidePayload ls) ≡ Err f) ⊎ ((done : Unit {0}) × (kept_by rules_of.OutsidePayload (first_place bag rules_of.OutsidePayload ls) ≡ Ok done) × (keeps bag ls (rules_of.Missing ∷ rules_of.Unlisted ∷ rules_of.ChecksumWrong ∷ []) ≡ Err f)) → FirstFault bag f
-    outside (inl e) = rule_err bag r.is r.plain v r.declares ls r.read rules_of.OutsidePayload f r.below e
-    outside (inr (done, ok, e)) =
-        missing (below_11 bag r.plain (none_more bag 7 8 refl r.below (rule_ok bag r.is r.plain v r.declares ls r.read rules_of.OutsidePayload done ok)))
-        (bind_err (kept_by rules_of.Missing (first_place bag rules_of.Missing ls)) (λ _. keeps bag ls (rules_of.Unlisted ∷ rules_of.ChecksumWrong ∷ [])) f e)
-
--- ---- a bag in which no rule is broken is valid
-
--- where no fault of its number stands a rule is broken nowhere
-not_broken : (bag : List File) (v : Version) → DeclaresVersion bag v → (rule : Rule) (n : ℕ) → NoneAt bag n → rule_number rule ≡ n → (name path : List ℕ) → IsBroken bag v rule name path → ⊥
-not_broken bag v declares rule n none is name path broken = none (Breaks rule name path) is (v, declares, broken)
-
--- a bag whose manifests are read, and in which no rule is broken, is valid
-valid_from : (bag : List File) (v : Version) (ms : List Named) (ls : List Listed) → IsRead bag v ms ls → AreKept bag v → Valid bag v
-valid_from bag v ms ls r kept = record {
+-- a bag whose manifests are read, and in which no fault stands, is valid
+valid_from : (bag : List File) (v : Version) (ms : List Named) (ls : List Listed) → IsRead bag v ms ls → ((f : Fault) → Stands bag f → ⊥) → Valid bag v
+valid_from bag v ms ls r none = record {
   complete = record {
     declares = r.declares;
     no_fetch = r.fetch;
@@ -110,51 +54,78 @@ valid_from bag v ms ls r kept = record {
         (m.0.algorithm, m.0.name, m.0.text, (subst (λ (k : Kind). IsManifestName k (word_of m.0.algorithm) m.0.name) m.2 file.1, has_contains bag (at m.0.name m.0.text) file.0));
     well_formed = λ kind a name text has. let found = r.read.there kind a name text has in manifest_is v a text found.0 found.1;
     lists_payload = λ name path lists. (inside name path lists (is_payload path) refl, there name path Payload lists (has_path bag path) refl);
-    lists_all = λ a name text path has is file. all a name text path has is file;
+    lists_all = λ a name text path has is file. unless_left_out Payload a name text path has (λ left. not_broken rules_of.Unlisted name path ((a, text, has), is, file, left));
     tags_are_there = λ name path lists. there name path Tag lists (has_path bag path) refl;
-    no_payload = λ name path lists is. none_listed name path lists;
-    no_tag_manifest = λ name path alg lists n. none_listed name path lists;
-    lists_manifests = λ a name text alg path has n file. absurd (no_tag bag r.plain a name text has);
-    info = λ text holds. absurd (r.plain.no_info (text, holds));
+    no_payload = λ name path lists is. not_broken rules_of.PayloadInTagManifest name path (lists, is);
+    no_tag_manifest = λ name path alg lists n. not_broken rules_of.TagManifestListed name path (lists, (alg, n));
+    lists_manifests = λ a name text alg path has n file. unless_left_out Tag a name text path has (λ left. not_broken rules_of.PayloadManifestUnlisted name path ((a, text, has), (alg, n), file, left));
+    info = info_right bag v r.declares none;
   };
   fixity = λ kind a name text path checksum content has lists holds. right kind a name text path checksum content has lists holds (matches_of content (checksum_of a checksum)) refl;
 }
   where
-    none_listed : (name path : List ℕ) → ListsAt bag v Tag name path → ⊥
-    none_listed name path (a, text, checksum, has, lists) = no_tag bag r.plain a name text has
+    not_broken : (rule : Rule) (name path : List ℕ) → IsBroken bag v rule name path → ⊥
+    not_broken rule name path broken = none (Breaks rule name path) (v, r.declares, broken)
 
     inside : (name path : List ℕ) → ListsAt bag v Payload name path → (x : Bool) → is_payload path ≡ x → IsPayload path
     inside name path lists true t = is_payload_is path t
-    inside name path lists false t = absurd (not_broken bag v r.declares rules_of.OutsidePayload 7 kept.inside refl name path (lists, λ is. false≢true (sym t ∙ is_payload_again path is)))
+    inside name path lists false t = absurd (not_broken rules_of.OutsidePayload name path (lists, λ is. false≢true (sym t ∙ is_payload_again path is)))
 
     there : (name path : List ℕ) (kind : Kind) → ListsAt bag v kind name path → (x : Bool) → has_path bag path ≡ x → HasFile bag path
     there name path kind lists true t = has_path_is bag path t
-    there name path kind lists false t = absurd (not_broken bag v r.declares rules_of.Missing 11 kept.there refl name path ((kind, lists), no_path_is bag path t))
+    there name path kind lists false t = absurd (not_broken rules_of.Missing name path ((kind, lists), no_path_is bag path t))
 
-    all : (a : Algorithm) (name text path : List ℕ) → HasManifest bag Payload a name text → IsPayload path → HasFile bag path → ListsAt bag v Payload name path
-    all a name text path has is file =
-        let found = r.read.there Payload a name text has in
-        by_test (listed name Payload a found.0) found.2 refl refl (is_listed path found.0) refl
+    unless_left_out : (kind : Kind) (a : Algorithm) (name text path : List ℕ) → HasManifest bag kind a name text → ((ListsAt bag v kind name path → ⊥) → ⊥) → ListsAt bag v kind name path
+    unless_left_out kind a name text path has not_left =
+        let found = r.read.there kind a name text has in
+        by_test (listed name kind a found.0) found.2 refl refl (is_listed path found.0) refl
       where
-        by_test : (l : Listed) → Has ls l → l.kind ≡ Payload → l.name ≡ name → (x : Bool) → is_listed path l.entries ≡ x → ListsAt bag v Payload name path
-        by_test l h payload at true t = subst (λ (k : Kind). ListsAt bag v k name path) payload (subst (λ (n : List ℕ). ListsAt bag v l.kind n path) at (found_lists bag v ls r.read l path h t))
-        by_test l h payload at false t = absurd (not_broken bag v r.declares rules_of.Unlisted 12 kept.all refl name path (
-          (a, text, has),
-          is,
-          file,
-          λ lists. false≢true (sym t ∙ lists_found bag r.is v ls r.read l Payload path h (subst (λ (n : List ℕ). ListsAt bag v Payload n path) (sym at) lists)),
-        ))
+        by_test : (l : Listed) → Has ls l → l.kind ≡ kind → l.name ≡ name → (x : Bool) → is_listed path l.entries ≡ x → ListsAt bag v kind name path
+        by_test l h same at true t = subst (λ (k : Kind). ListsAt bag v k name path) same (subst (λ (n : List ℕ). ListsAt bag v l.kind n path) at (found_lists bag v ls r.read l path h t))
+        by_test l h same at false t = absurd (not_left (λ lists. false≢true (sym t ∙ lists_found bag r.is v ls r.read l kind path h (subst (λ (n : List ℕ). ListsAt bag v kind n path) (sym at) lists))))
 
     right : (kind : Kind) (a : Algorithm) (name text path checksum content : List ℕ) → HasManifest bag kind a name text → Lists v a text path checksum → Holds bag path content → (x : Bool) → matches_of content (checksum_of a checksum) ≡ x → digest a content ≡ checksum
     right kind a name text path checksum content has lists holds true t = matches_is a content checksum t
-    right kind a name text path checksum content has lists holds false t = absurd (not_broken bag v r.declares rules_of.ChecksumWrong 17 kept.right refl name path
+    right kind a name text path checksum content has lists holds false t = absurd (not_broken rules_of.ChecksumWrong name path
         (kind, a, text, checksum, content, has, lists, holds, λ same. false≢true (sym t ∙ matches_again a content checksum same)))
+
+-- ---- the rules and `bag-info.txt`, one after the other
+
+-- the rules about what is listed have the numbers 7 to 12, and that about checksums 17
+listing_numbers : Follow 7 listing_rules 13
+listing_numbers = (refl, (refl, (refl, (refl, (refl, (refl, refl))))))
+
+checksum_number : Follow 17 (rules_of.ChecksumWrong ∷ []) 18
+checksum_number = (refl, refl)
+
+-- where the rules about what is listed are found kept no fault below 13 stands
+below_13 : (bag : List File) (v : Version) (ms : List Named) (ls : List Listed) → IsRead bag v ms ls → (done : Unit {0}) → keeps bag ls listing_rules ≡ Ok done → NoneBelow bag 13
+below_13 bag v ms ls r done e = rules_ok bag r.is v r.declares ls r.read listing_rules 7 13 listing_numbers r.below done e
+
+-- where judging finds no fault none stands
+steps_ok : (bag : List File) (v : Version) (ms : List Named) (ls : List Listed) → IsRead bag v ms ls → (done next : Unit {0}) → keeps bag ls listing_rules ≡ Ok done → keeps_contents bag ls ≡ Ok next → (f : Fault) → Stands bag f → ⊥
+steps_ok bag v ms ls r done next listing contents f stands =
+    let parts = bind_ok (keeps_info bag) (λ _. keeps bag ls (rules_of.ChecksumWrong ∷ [])) next contents in
+    let below_17 = info_ok bag r.is (below_13 bag v ms ls r done listing) parts.0 parts.1 in
+    rules_ok bag r.is v r.declares ls r.read (rules_of.ChecksumWrong ∷ []) 17 18 checksum_number below_17 next parts.2 f (last_number f) stands
+
+-- the fault of bag-info.txt or of a checksum that judging names comes first
+contents_err : (bag : List File) (v : Version) (ms : List Named) (ls : List Listed) → IsRead bag v ms ls → NoneBelow bag 13 → (f : Fault) → keeps_contents bag ls ≡ Err f → FirstFault bag f
+contents_err bag v ms ls r below f e = by_first (bind_err (keeps_info bag) (λ _. keeps bag ls (rules_of.ChecksumWrong ∷ [])) f e)
+  where
+    by_first : (keeps_info bag ≡ Err f) ⊎ ((done : Unit {0}) × (keeps_info bag ≡ Ok done) × (keeps bag ls (rules_of.ChecksumWrong ∷ []) ≡ Err f)) → FirstFault bag f
+    by_first (inl e) = info_err bag r.is v r.declares below f e
+    by_first (inr (done, ok, e)) = rules_err bag r.is v r.declares ls r.read (rules_of.ChecksumWrong ∷ []) 17 18 checksum_number (info_ok bag r.is below done ok) f e
 
 -- ---- judging, step by step
 
--- what is left to judge once the manifests are read
+-- what is left to judge once the rules about what is listed are kept
+abbrev after_rules : List File → Version → List Listed → Result Report Fault
+after_rules bag v ls = keeps_contents bag ls >>= λ _. Ok (report_of v bag)
+
+-- once the manifests are read
 abbrev after_texts : List File → Version → List Listed → Result Report Fault
-after_texts bag v ls = keeps bag ls all_rules >>= λ _. Ok (report_of v bag)
+after_texts bag v ls = keeps bag ls listing_rules >>= λ _. after_rules bag v ls
 
 -- once a payload manifest was found
 abbrev after_payload : List File → Version → List Named → Result Report Fault
@@ -173,14 +144,13 @@ abbrev after_version : List File → Version → Result Report Fault
 after_version bag v = no_fetch bag >>= λ _. after_fetch bag v
 
 -- what judging knows once the manifests are read
-read_from : (bag : List File) → IsBag bag → IsPlain bag → (v : Version) → DeclaresVersion bag v → (HasFile bag fetch_path → ⊥) → (ms : List Named) → manifests_in bag ≡ Ok ms → (done : Unit {0}) → some_payload ms ≡ Ok done → (ls : List Listed) → listings_of v ms ≡ Ok ls → IsRead bag v ms ls
-read_from bag is plain v declares fetch ms named done some ls texts =
+read_from : (bag : List File) → IsBag bag → (v : Version) → DeclaresVersion bag v → (HasFile bag fetch_path → ⊥) → (ms : List Named) → manifests_in bag ≡ Ok ms → (done : Unit {0}) → some_payload ms ≡ Ok done → (ls : List Listed) → listings_of v ms ≡ Ok ls → IsRead bag v ms ls
+read_from bag is v declares fetch ms named done some ls texts =
     let found = found_all bag ms named in
     let payload = payload_manifest ms done some in
     let read = are_listed bag is v ms ls found (all_read v ms ls texts) in
     record {
       is = is;
-      plain = plain;
       declares = declares;
       fetch = fetch;
       found = found;
@@ -190,25 +160,31 @@ read_from bag is plain v declares fetch ms named done some ls texts =
     }
 
 -- A bag that is judged without fault is valid, and the report is its own.
-pub judged_valid : (bag : List File) → IsBag bag → IsPlain bag → (r : Report) → judge bag ≡ Ok r → (v : Version) × Valid bag v × (r ≡ report_of v bag)
-judged_valid bag is plain r e =
+pub judged_valid : (bag : List File) → IsBag bag → (r : Report) → judge bag ≡ Ok r → (v : Version) × Valid bag v × (r ≡ report_of v bag)
+judged_valid bag is r e =
     let version = bind_ok (version_in bag) (after_version bag) r e in
     let v = version.0 in
     let fetch = bind_ok (no_fetch bag) (λ _. after_fetch bag v) r version.2 in
     let named = bind_ok (manifests_in bag) (after_names bag v) r fetch.2 in
     let payload = bind_ok (some_payload named.0) (λ _. after_payload bag v named.0) r named.2 in
     let texts = bind_ok (listings_of v named.0) (after_texts bag v) r payload.2 in
-    let rules = bind_ok (keeps bag texts.0 all_rules) (λ _. Ok (report_of v bag)) r texts.2 in
-    let read = read_from bag is plain v (version_ok bag v version.1) (fetch_ok bag fetch.0 fetch.1) named.0 named.1 payload.0 payload.1 texts.0 texts.1 in
-    (v, valid_from bag v named.0 texts.0 read (rules_ok bag v named.0 texts.0 read rules.0 rules.1), same_ok r (report_of v bag) (Ok (report_of v bag)) rules.2 refl)
+    let listing = bind_ok (keeps bag texts.0 listing_rules) (λ _. after_rules bag v texts.0) r texts.2 in
+    let contents = bind_ok (keeps_contents bag texts.0) (λ _. Ok (report_of v bag)) r listing.2 in
+    let read = read_from bag is v (version_ok bag v version.1) (fetch_ok bag fetch.0 fetch.1) named.0 named.1 payload.0 payload.1 texts.0 texts.1 in
+    (v, valid_from bag v named.0 texts.0 read (steps_ok bag v named.0 texts.0 read listing.0 contents.0 listing.1 contents.1), same_ok r (report_of v bag) (Ok (report_of v bag)) contents.2 refl)
 
 -- The fault that judging names is the one that comes first.
-pub judged_fault : (bag : List File) → IsBag bag → IsPlain bag → (f : Fault) → judge bag ≡ Err f → FirstFault bag f
-judged_fault bag is plain f e = of_version (bind_err (version_in bag) (after_version bag) f e)
+pub judged_fault : (bag : List File) → IsBag bag → (f : Fault) → judge bag ≡ Err f → FirstFault bag f
+judged_fault bag is f e = of_version (bind_err (version_in bag) (after_version bag) f e)
   where
-    of_rules : (v : Version) (ms : List Named) (ls : List Listed) → IsRead bag v ms ls → (keeps bag ls all_rules ≡ Err f) ⊎ ((done : Unit {0}) × (keeps bag ls all_rules ≡ Ok done) × (Ok (report_of v bag) ≡ Err f)) → FirstFault bag f
-    of_rules v ms ls read (inl e) = rules_err bag v ms ls read f e
-    of_rules v ms ls read (inr (done, ok, e)) = absurd cc
+    of_contents : (v : Version) (ms : List Named) (ls : List Listed) → IsRead bag v ms ls → (done : Unit {0}) → keeps bag ls listing_rules ≡ Ok done
+        → (keeps_contents bag ls ≡ Err f) ⊎ ((next : Unit {0}) × (keeps_contents bag ls ≡ Ok next) × (Ok (report_of v bag) ≡ Err f)) → FirstFault bag f
+    of_contents v ms ls read done ok (inl e) = contents_err bag v ms ls read (below_13 bag v ms ls read done ok) f e
+    of_contents v ms ls read done ok (inr (next, fine, e)) = absurd cc
+
+    of_rules : (v : Version) (ms : List Named) (ls : List Listed) → IsRead bag v ms ls → (keeps bag ls listing_rules ≡ Err f) ⊎ ((done : Unit {0}) × (keeps bag ls listing_rules ≡ Ok done) × (after_rules bag v ls ≡ Err f)) → FirstFault bag f
+    of_rules v ms ls read (inl e) = rules_err bag is v read.declares ls read.read listing_rules 7 13 listing_numbers read.below f e
+    of_rules v ms ls read (inr (done, ok, e)) = of_contents v ms ls read done ok (bind_err (keeps_contents bag ls) (λ _. Ok (report_of v bag)) f e)
 
     of_texts : (v : Version) → DeclaresVersion bag v → (HasFile bag fetch_path → ⊥) → (ms : List Named) → manifests_in bag ≡ Ok ms → (done : Unit {0}) → some_payload ms ≡ Ok done
         → (listings_of v ms ≡ Err f) ⊎ ((ls : List Listed) × (listings_of v ms ≡ Ok ls) × (after_texts bag v ls ≡ Err f)) → FirstFault bag f
@@ -217,7 +193,7 @@ judged_fault bag is plain f e = of_version (bind_err (version_in bag) (after_ver
         let payload = payload_manifest ms done some in
         texts_err bag is v declares ms f (below_6 bag ms (below_5 bag ms (below_4 bag (below_3 bag is v declares) fetch) found) found payload.0 payload.1 payload.2) found e
     of_texts v declares fetch ms named done some (inr (ls, texts, e)) =
-        of_rules v ms ls (read_from bag is plain v declares fetch ms named done some ls texts) (bind_err (keeps bag ls all_rules) (λ _. Ok (report_of v bag)) f e)
+        of_rules v ms ls (read_from bag is v declares fetch ms named done some ls texts) (bind_err (keeps bag ls listing_rules) (λ _. after_rules bag v ls) f e)
 
     of_payload : (v : Version) → DeclaresVersion bag v → (HasFile bag fetch_path → ⊥) → (ms : List Named) → manifests_in bag ≡ Ok ms
         → (some_payload ms ≡ Err f) ⊎ ((done : Unit {0}) × (some_payload ms ≡ Ok done) × (after_payload bag v ms ≡ Err f)) → FirstFault bag f
@@ -239,30 +215,30 @@ judged_fault bag is plain f e = of_version (bind_err (version_in bag) (after_ver
     of_version (inr (v, ok, e)) = of_fetch v (version_ok bag v ok) (bind_err (no_fetch bag) (λ _. after_fetch bag v) f e)
 
 -- A valid bag is judged without fault, with its report.
-pub valid_judged : (bag : List File) → IsBag bag → IsPlain bag → (v : Version) → Valid bag v → judge bag ≡ Ok (report_of v bag)
-valid_judged bag is plain v valid = by_answer (judge bag) refl
+pub valid_judged : (bag : List File) → IsBag bag → (v : Version) → Valid bag v → judge bag ≡ Ok (report_of v bag)
+valid_judged bag is v valid = by_answer (judge bag) refl
   where
     by_answer : (r : Result Report Fault) → judge bag ≡ r → judge bag ≡ Ok (report_of v bag)
     by_answer (Ok report) e =
-        let found = judged_valid bag is plain report e in
+        let found = judged_valid bag is report e in
         let version : found.0 ≡ v = one_version bag is found.0 v found.1.complete.declares valid.complete.declares in
         e ∙ ap (λ (x : Report). Ok x) (found.2 ∙ ap (λ (w : Version). report_of w bag) version)
-    by_answer (Err f) e = absurd (none_stands bag is v valid f (judged_fault bag is plain f e).0)
+    by_answer (Err f) e = absurd (none_stands bag is v valid f (judged_fault bag is f e).0)
 
 -- The fault that comes first is the one that judging names.
-pub fault_judged : (bag : List File) → IsBag bag → IsPlain bag → (f : Fault) → FirstFault bag f → judge bag ≡ Err f
-fault_judged bag is plain f first = by_answer (judge bag) refl
+pub fault_judged : (bag : List File) → IsBag bag → (f : Fault) → FirstFault bag f → judge bag ≡ Err f
+fault_judged bag is f first = by_answer (judge bag) refl
   where
     by_answer : (r : Result Report Fault) → judge bag ≡ r → judge bag ≡ Err f
     by_answer (Ok report) e =
-        let found = judged_valid bag is plain report e in
+        let found = judged_valid bag is report e in
         absurd (none_stands bag is found.0 found.1 f first.0)
-    by_answer (Err g) e = e ∙ ap (λ (x : Fault). Err x) (one_first_fault bag is g f (judged_fault bag is plain g e) first)
+    by_answer (Err g) e = e ∙ ap (λ (x : Fault). Err x) (one_first_fault bag is g f (judged_fault bag is g e) first)
 
 -- A bag is valid exactly where no fault stands.
-pub valid_exactly : (bag : List File) → IsBag bag → IsPlain bag → ((v : Version) × Valid bag v) ↔ ((f : Fault) → Stands bag f → ⊥)
-valid_exactly bag is plain = (λ valid. none_stands bag is valid.0 valid.1, λ none. by_answer none (judge bag) refl)
+pub valid_exactly : (bag : List File) → IsBag bag → ((v : Version) × Valid bag v) ↔ ((f : Fault) → Stands bag f → ⊥)
+valid_exactly bag is = (λ valid. none_stands bag is valid.0 valid.1, λ none. by_answer none (judge bag) refl)
   where
     by_answer : ((f : Fault) → Stands bag f → ⊥) → (r : Result Report Fault) → judge bag ≡ r → (v : Version) × Valid bag v
-    by_answer none (Ok report) e = let found = judged_valid bag is plain report e in (found.0, found.1)
-    by_answer none (Err f) e = absurd (none f (judged_fault bag is plain f e).0)
+    by_answer none (Ok report) e = let found = judged_valid bag is report e in (found.0, found.1)
+    by_answer none (Err f) e = absurd (none f (judged_fault bag is f e).0)

@@ -9,6 +9,8 @@ pub mod PlaceLemmas
 pub mod RuleLemmas
 pub mod StepLemmas
 pub mod OxumLemmas
+pub mod CountsLemmas
+pub mod InfoStepLemmas
 pub mod ValidLemmas
 pub mod JudgeLaws
 pub mod CodeLemmas

@@ -1,5 +1,5 @@
 -- The manifests of a bag, found and read.
-use Rattle.std.proofs.Common.{◌≡◌, ℕ, ◌⊎◌, inl, inr, Bool, true, false, cond, ◌||◌, List, [], ◌∷◌, map, refl, sym, ap, subst, ◌∙◌}
+use Rattle.std.proofs.Common.{◌≡◌, ℕ, ◌⊎◌, inl, inr, Bool, true, false, cond, List, [], ◌∷◌, map, refl, sym, ap, subst, ◌∙◌}
 use Rattle.std.specs.Prelude.{Option, Some, None, Result, Ok, Err, ◌≢◌}
 use Rattle.std.specs.List.{list_any}
 use Rattle.bag_text.specs.Paths.{comes_before}
@@ -9,14 +9,14 @@ use Rattle.bag_text.specs.declared.checksum.Algorithm.{Algorithm}
 use Rattle.bag_text.specs.declared.listing.LineFault.{LineFault}
 use Rattle.bag_text.specs.ManifestReading.{Entries, manifest_of}
 use Rattle.bag_check.specs.declared.names.Kind.{Kind}
-use Rattle.bag_check.specs.declared.names.Kind.TheVariants.{Payload, Tag}
-use Rattle.bag_check.specs.Contents.{IsManifestName, manifest_name, word_of, algorithm_named}
+use Rattle.bag_check.specs.declared.names.Kind.TheVariants.{Payload}
+use Rattle.bag_check.specs.Contents.{IsManifestName, manifest_name, is_kind, word_of, algorithm_named}
 use Rattle.bag_check.specs.Faults.{Fault, UnsupportedAlgorithm, NoPayloadManifest, ManifestText}
-use Rattle.bag_check.specs.Judging.{◌>>=◌, Named, named_by, named_or_fault, named_of, onto, manifests_in, is_payload_kind, some_payload, Listed, listed_or_fault, listings_of}
+use Rattle.bag_check.specs.Judging.{◌>>=◌, Named, named_by, named_or_fault, named_of, onto, manifests_in, some_payload, Listed, listed_or_fault, listings_of}
 use Rattle.bag_check.proofs.ResultLemmas.{bind_ok, bind_err, same_ok, same_err, never_both}
-use Rattle.bag_check.proofs.OrderLemmas.{Has, apart, chain, Up, Ascending, ascending_rest, later_path}
+use Rattle.bag_check.proofs.OrderLemmas.{Has, any_has, none_has, apart, chain, Up, Ascending, ascending_rest, later_path}
 use Rattle.bag_check.proofs.BagLemmas.{paths, has_map, up_skip}
-use Rattle.bag_check.proofs.NameLemmas.{name_is, no_name, one_name, algorithm_is, no_algorithm}
+use Rattle.bag_check.proofs.NameLemmas.{kind_is, kind_again, name_is, no_name, one_name, algorithm_is, no_algorithm}
 
 -- ---- what a file is
 
@@ -148,49 +148,25 @@ first_unsupported (f ∷ fs) fault up e = by_first (bind_err (named_of f) (λ fo
 
 -- ---- some payload manifest
 
--- where some element passes there is one
-any_has : {A : Type 0} (p : A → Bool) (xs : List A) → list_any p xs ≡ true → (x : A) × Has xs x × (p x ≡ true)
-any_has p [] e = absurd cc
-any_has {A} p (x ∷ xs) e = by_test (p x) refl e (λ e. any_has p xs e)
-  where
-    by_test : (t : Bool) → p x ≡ t → (t || list_any p xs) ≡ true → (list_any p xs ≡ true → (y : A) × Has xs y × (p y ≡ true)) → (y : A) × ((x ≡ y) ⊎ Has xs y) × (p y ≡ true)
-    by_test true t e again = (x, inl refl, t)
-    by_test false t e again = let found = again e in (found.0, inr found.1, found.2)
-
--- where none passes no element does
-none_has : {A : Type 0} (p : A → Bool) (xs : List A) (x : A) → list_any p xs ≡ false → Has xs x → p x ≡ true → ⊥
-none_has p [] x none h e = h
-none_has {A} p (y ∷ ys) x none h e = by_test (p y) refl none h (λ n h. none_has p ys x n h e)
-  where
-    by_test : (t : Bool) → p y ≡ t → (t || list_any p ys) ≡ false → (y ≡ x) ⊎ Has ys x → (list_any p ys ≡ false → Has ys x → ⊥) → ⊥
-    by_test true t none h again = absurd cc
-    by_test false t none (inl is) again = let same : p y ≡ p x = ap p is in absurd cc
-    by_test false t none (inr h) again = again none h
-
--- a kind that passes the test is the payload's
-is_payload_manifest : (kind : Kind) → is_payload_kind kind ≡ true → kind ≡ Payload
-is_payload_manifest Payload e = refl
-is_payload_manifest Tag e = absurd cc
-
 -- what follows from whether there is a payload manifest
 abbrev payload_step : Bool → Result (Unit {0}) Fault
 payload_step x = cond x (Ok tt) (Err NoPayloadManifest)
 
 -- where one is said to be there, there is one
 pub payload_manifest : (ms : List Named) (done : Unit {0}) → some_payload ms ≡ Ok done → (m : Named) × Has ms m × (m.kind ≡ Payload)
-payload_manifest ms done e = by_test (list_any (λ m. is_payload_kind m.kind) ms) refl e
+payload_manifest ms done e = by_test (list_any (λ m. is_kind Payload m.kind) ms) refl e
   where
-    by_test : (x : Bool) → list_any (λ m. is_payload_kind m.kind) ms ≡ x → payload_step x ≡ Ok done → (m : Named) × Has ms m × (m.kind ≡ Payload)
-    by_test true t e = let some = any_has (λ (m : Named). is_payload_kind m.kind) ms t in (some.0, some.1, is_payload_manifest some.0.kind some.2)
+    by_test : (x : Bool) → list_any (λ m. is_kind Payload m.kind) ms ≡ x → payload_step x ≡ Ok done → (m : Named) × Has ms m × (m.kind ≡ Payload)
+    by_test true t e = let some = any_has (λ (m : Named). is_kind Payload m.kind) ms t in (some.0, some.1, kind_is Payload some.0.kind some.2)
     by_test false t e = absurd cc
 
 -- where none is said to be there, there is none
 pub no_payload_manifest : (ms : List Named) (fault : Fault) → some_payload ms ≡ Err fault → (fault ≡ NoPayloadManifest) × ((m : Named) → Has ms m → m.kind ≡ Payload → ⊥)
-no_payload_manifest ms fault e = by_test (list_any (λ m. is_payload_kind m.kind) ms) refl e
+no_payload_manifest ms fault e = by_test (list_any (λ m. is_kind Payload m.kind) ms) refl e
   where
-    by_test : (x : Bool) → list_any (λ m. is_payload_kind m.kind) ms ≡ x → payload_step x ≡ Err fault → (fault ≡ NoPayloadManifest) × ((m : Named) → Has ms m → m.kind ≡ Payload → ⊥)
+    by_test : (x : Bool) → list_any (λ m. is_kind Payload m.kind) ms ≡ x → payload_step x ≡ Err fault → (fault ≡ NoPayloadManifest) × ((m : Named) → Has ms m → m.kind ≡ Payload → ⊥)
     by_test true t e = absurd cc
-    by_test false t e = (cc, λ m h is. none_has (λ (m : Named). is_payload_kind m.kind) ms m t h (ap is_payload_kind is))
+    by_test false t e = (cc, λ m h is. none_has (λ (m : Named). is_kind Payload m.kind) ms m t h (kind_again Payload m.kind is))
 
 -- ---- the manifests, read
 

@@ -3,7 +3,7 @@ use Rattle.std.proofs.Common.{◌≡◌, ℕ, ◌+◌, ◌-◌, ◌<◌, Bool, t
 use Rattle.std.specs.Prelude.{Option, Some, None, bytes_eq, nat_eq, codes, ◌≢◌}
 use Rattle.std.specs.List.{list_any, starts_with, ends_with}
 use Rattle.std.proofs.lemmas.Option.{same_Some}
-use Rattle.std.proofs.lemmas.Bool.{and_parts, and_from, ltb-true, lt-ltb, not-true, not_from_false}
+use Rattle.std.proofs.lemmas.Bool.{false≢true, and_parts, and_from, ltb-true, lt-ltb, not-true, not_from_false}
 use Rattle.std.proofs.lemmas.Bool.Decides.{Decides-eqb}
 use Rattle.std.proofs.lemmas.List.{take-append-drop, take-take, take_at, drop_at, length-take-le, length-drop}
 use Rattle.std.proofs.lemmas.Slice.Eq.{bytes_eq-Decides, starts_is, ends_is}
@@ -11,7 +11,7 @@ use Rattle.bag_text.specs.declared.checksum.Algorithm.{Algorithm}
 use Rattle.bag_text.specs.declared.checksum.Algorithm.TheVariants.{Sha256, Sha512}
 use Rattle.bag_check.specs.declared.names.Kind.{Kind}
 use Rattle.bag_check.specs.declared.names.Kind.TheVariants.{Payload, Tag}
-use Rattle.bag_check.specs.Contents.{IsTop, stem, IsManifestName, alg_behind, or_tag, manifest_name, word_of, algorithm_named}
+use Rattle.bag_check.specs.Contents.{IsTop, stem, IsManifestName, alg_behind, or_tag, manifest_name, is_kind, is_found_of, is_manifest_of, word_of, algorithm_named}
 
 -- ---- what stands between the front and `.txt`
 
@@ -139,6 +139,36 @@ pub one_name : (name : List ℕ) (k l : Kind) (one two : List ℕ) → IsManifes
 one_name name k l one two n m =
     let same : (k, one) ≡ (l, two) = same_Some (k, one) (l, two) (sym (name_again name k one n) ∙ name_again name l two m) in
     (ap (λ (x : Kind × List ℕ). x.0) same, ap (λ (x : Kind × List ℕ). x.1) same)
+
+-- ---- the names of manifests of one kind
+
+-- kinds that pass for one are one
+pub kind_is : (k l : Kind) → is_kind k l ≡ true → l ≡ k
+kind_is Payload Payload e = refl
+kind_is Payload Tag e = absurd (false≢true e)
+kind_is Tag Payload e = absurd (false≢true e)
+kind_is Tag Tag e = refl
+
+-- a kind passes for itself
+same_kind : (k : Kind) → is_kind k k ≡ true
+same_kind Payload = refl
+same_kind Tag = refl
+
+-- kinds that are one pass for one
+pub kind_again : (k l : Kind) → l ≡ k → is_kind k l ≡ true
+kind_again k l e = ap (is_kind k) e ∙ same_kind k
+
+-- a path that passes the test is the name of a manifest of this kind
+pub manifest_of_is : (kind : Kind) (path : List ℕ) → is_manifest_of kind path ≡ true → (alg : List ℕ) × IsManifestName kind alg path
+manifest_of_is kind path e = by_found (manifest_name path) refl e
+  where
+    by_found : (o : Option (Kind × List ℕ)) → manifest_name path ≡ o → is_found_of kind o ≡ true → (alg : List ℕ) × IsManifestName kind alg path
+    by_found None is e = absurd (false≢true e)
+    by_found (Some (other, alg)) is e = (alg, subst (λ (k : Kind). IsManifestName k alg path) (kind_is kind other e) (name_is path other alg is))
+
+-- the name of a manifest of this kind passes the test
+pub manifest_of_again : (kind : Kind) (path alg : List ℕ) → IsManifestName kind alg path → is_manifest_of kind path ≡ true
+manifest_of_again kind path alg n = ap (is_found_of kind) (name_again path kind alg n) ∙ same_kind kind
 
 -- ---- algorithms
 

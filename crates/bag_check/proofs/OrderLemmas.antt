@@ -1,6 +1,7 @@
 -- The order of paths by bytes, and what comes first in an ascending list.
-use Rattle.std.proofs.Common.{◌≡◌, ℕ, ◌⊎◌, inl, inr, Bool, true, false, cond, List, [], ◌∷◌, zero, suc, refl, sym, ap, subst, ◌∙◌, arith}
+use Rattle.std.proofs.Common.{◌≡◌, ℕ, ◌⊎◌, inl, inr, Bool, true, false, cond, ◌||◌, List, [], ◌∷◌, zero, suc, refl, sym, ap, subst, ◌∙◌, arith}
 use Rattle.std.specs.Prelude.{Option, Some, None, find, Contains}
+use Rattle.std.specs.List.{list_any}
 use Rattle.std.specs.Cmp.Lexicographic.{slice_cmp}
 use Rattle.std.specs.declared.cmp.Ordering.{Ordering}
 use Rattle.std.specs.declared.cmp.Ordering.TheVariants.{Less, Equal, Greater}
@@ -28,6 +29,25 @@ pub has_contains : {A : Type 0} (xs : List A) (x : A) → Has xs x → Contains 
 has_contains [] x h = absurd h
 has_contains (y ∷ ys) x (inl e) = (0, omega arith, e)
 has_contains (y ∷ ys) x (inr h) = let rest = has_contains ys x h in (suc rest.0, omega (arith, rest.1), rest.2)
+
+-- where some element passes there is one
+pub any_has : {A : Type 0} (p : A → Bool) (xs : List A) → list_any p xs ≡ true → (x : A) × Has xs x × (p x ≡ true)
+any_has p [] e = absurd cc
+any_has {A} p (x ∷ xs) e = by_test (p x) refl e (λ e. any_has p xs e)
+  where
+    by_test : (t : Bool) → p x ≡ t → (t || list_any p xs) ≡ true → (list_any p xs ≡ true → (y : A) × Has xs y × (p y ≡ true)) → (y : A) × ((x ≡ y) ⊎ Has xs y) × (p y ≡ true)
+    by_test true t e again = (x, inl refl, t)
+    by_test false t e again = let found = again e in (found.0, inr found.1, found.2)
+
+-- where none passes no element does
+pub none_has : {A : Type 0} (p : A → Bool) (xs : List A) (x : A) → list_any p xs ≡ false → Has xs x → p x ≡ true → ⊥
+none_has p [] x none h e = h
+none_has {A} p (y ∷ ys) x none h e = by_test (p y) refl none h (λ n h. none_has p ys x n h e)
+  where
+    by_test : (t : Bool) → p y ≡ t → (t || list_any p ys) ≡ false → (y ≡ x) ⊎ Has ys x → (list_any p ys ≡ false → Has ys x → ⊥) → ⊥
+    by_test true t none h again = absurd cc
+    by_test false t none (inl is) again = let same : p y ≡ p x = ap p is in absurd cc
+    by_test false t none (inr h) again = again none h
 
 -- ---- the order by bytes
 

@@ -19,12 +19,12 @@ use Rattle.bag_check.proofs.ResultLemmas.{same_ok, never_both}
 -- ---- a run of digits ends at one place
 
 -- it doesn't go on with one that passes
-abbrev Stops : (ℕ → Bool) → List ℕ → Type 0
+abbrev pub Stops : (ℕ → Bool) → List ℕ → Type 0
 Stops p [] = Unit {0}
 Stops p (b ∷ t) = p b ≡ false
 
 -- two lists that are the same have one head and one rest
-heads : (x y : ℕ) (xs ys : List ℕ) → x ∷ xs ≡ y ∷ ys → (x ≡ y) × (xs ≡ ys)
+pub heads : (x y : ℕ) (xs ys : List ℕ) → x ∷ xs ≡ y ∷ ys → (x ≡ y) × (xs ≡ ys)
 heads x y xs ys e = (cc, cc)
 
 -- what stops doesn't go on with one that passes
@@ -33,7 +33,7 @@ stopped p [] y ys stops e passes = absurd cc
 stopped p (b ∷ t) y ys stops e passes = false≢true (sym stops ∙ ap p (heads b y t ys e).0 ∙ passes)
 
 -- two runs with what follows them
-same_run : (p : ℕ → Bool) (xs ys r s : List ℕ) → list_all p xs ≡ true → list_all p ys ≡ true → Stops p r → Stops p s → xs ++ r ≡ ys ++ s → (xs ≡ ys) × (r ≡ s)
+pub same_run : (p : ℕ → Bool) (xs ys r s : List ℕ) → list_all p xs ≡ true → list_all p ys ≡ true → Stops p r → Stops p s → xs ++ r ≡ ys ++ s → (xs ≡ ys) × (r ≡ s)
 same_run p [] [] r s all also stops stops_too e = (refl, e)
 same_run p [] (y ∷ ys) r s all also stops stops_too e = absurd (stopped p r y (ys ++ s) stops e (and_parts (p y) (list_all p ys) also).0)
 same_run p (x ∷ xs) [] r s all also stops stops_too e = absurd (stopped p s x (xs ++ r) stops_too (sym e) (and_parts (p x) (list_all p xs) all).0)
@@ -51,7 +51,7 @@ blank_no_digit b e = by_cases (or_cases (eqb b 32) (eqb b 9) e)
     by_cases (inr is) = ap is_ascii_digit (eqb-true b 9 is)
 
 -- blanks stop a run of digits
-blanks_stop : (t : List ℕ) → AreBlanks t → Stops is_ascii_digit t
+pub blanks_stop : (t : List ℕ) → AreBlanks t → Stops is_ascii_digit t
 blanks_stop [] blanks = tt
 blanks_stop (b ∷ t) blanks = blank_no_digit b (and_parts (is_blank b) (list_all is_blank t) blanks).0
 
@@ -70,7 +70,7 @@ one_pair_of_counts value b f c g (x, y, after, is, blanks, first, second) (u, w,
 -- ---- a valid bag's bag-info.txt has no fault
 
 -- a text says one list of pairs
-one_info : (text : List ℕ) (ps qs : List Pair) → SaysInfo text ps → SaysInfo text qs → ps ≡ qs
+pub one_info : (text : List ℕ) (ps qs : List Pair) → SaysInfo text ps → SaysInfo text qs → ps ≡ qs
 one_info text ps qs says says_too = same_ok ps qs (info_of text) ((info_said text ps).1 says) ((info_said text qs).1 says_too)
 
 -- of any label `Payload-Oxum` the counts are the payload's

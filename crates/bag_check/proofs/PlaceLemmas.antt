@@ -3,30 +3,37 @@ use Rattle.std.proofs.Common.{◌≡◌, ℕ, inl, inr, Bool, true, false, cond,
 use Rattle.std.specs.Prelude.{Option, Some, None, option_map, find}
 use Rattle.std.proofs.lemmas.Bool.{false≢true}
 use Rattle.bag_text.specs.Paths.{comes_before}
-use Rattle.bag_text.specs.TransferForm.{File, content_at}
+use Rattle.bag_text.specs.TransferForm.{File}
 use Rattle.bag_text.specs.ManifestReading.{Entry, is_listed}
-use Rattle.bag_check.specs.declared.names.Kind.{Kind}
-use Rattle.bag_check.specs.declared.names.Kind.TheVariants.{Payload, Tag}
 use Rattle.bag_check.specs.declared.rule.Rule.{Rule}
-use Rattle.bag_check.specs.declared.rule.Rule.TheVariants as rules_of
-use Rattle.bag_check.specs.Contents.{is_payload, payload_of}
 use Rattle.bag_check.specs.Faults.{PlaceBefore}
-use Rattle.bag_check.specs.Judging.{has_path, is_payload_kind, Listed, paths_of, is_wrong, first_in, or_place, first_place}
+use Rattle.bag_check.specs.Judging.{Listed, concerns, is_about_files, breaks_at, asked_of, first_listed, first_unlisted, first_in, or_place, first_place}
 use Rattle.bag_check.proofs.OrderLemmas.{Has, apart, chain, Ascending, ascending_rest, later_path, IsLeastPath, find_is_least}
 use Rattle.bag_check.proofs.BagLemmas.{paths, has_map}
 use Rattle.bag_check.proofs.ManifestLemmas.{list_names}
 
 -- ---- in one manifest
 
+-- the paths that a manifest lists
+abbrev pub paths_of : Listed → List (List ℕ)
+paths_of l = map (λ e. e.0) l.entries
+
+-- what is listed of this path breaks the rule
+abbrev pub BreaksListed : List File → Rule → Listed → List ℕ → Type 0
+BreaksListed bag rule l path = (entry : Entry) × Has l.entries (path, entry) × (breaks_at bag rule (path, entry) ≡ true)
+
+-- the rule asks for the file of this path, which isn't listed
+abbrev pub LeavesOut : List File → Rule → Listed → List ℕ → Type 0
+LeavesOut bag rule l path = Has (paths (asked_of bag rule)) path × (not (is_listed path l.entries) ≡ true)
+
+-- the one or the other
+abbrev pub BreaksIn : List File → Rule → Listed → Bool → List ℕ → Type 0
+BreaksIn bag rule l true path = LeavesOut bag rule l path
+BreaksIn bag rule l false path = BreaksListed bag rule l path
+
 -- at this path of a manifest the rule is broken, as far as is computed
 abbrev pub Breaking : List File → Rule → Listed → List ℕ → Type 0
-Breaking bag rules_of.OutsidePayload l path = (l.kind ≡ Payload) × Has (paths_of l) path × (not (is_payload path) ≡ true)
-Breaking bag rules_of.Missing l path = Has (paths_of l) path × (not (has_path bag path) ≡ true)
-Breaking bag rules_of.Unlisted l path = (l.kind ≡ Payload) × Has (paths (payload_of bag)) path × (not (is_listed path l.entries) ≡ true)
-Breaking bag rules_of.ChecksumWrong l path = (e : List ℕ × Entry) × Has l.entries e × (e.0 ≡ path) × (is_wrong e.1.checksum (content_at bag e.0) ≡ true)
-Breaking bag rules_of.TagManifestListed l path = ⊥
-Breaking bag rules_of.PayloadInTagManifest l path = ⊥
-Breaking bag rules_of.PayloadManifestUnlisted l path = ⊥
+Breaking bag rule l path = (concerns rule l.kind ≡ true) × BreaksIn bag rule l (is_about_files rule) path
 
 -- an element with this key passes a test
 abbrev PassesAt : {A : Type 0} → (A → List ℕ) → (A → Bool) → List A → List ℕ → Type 0
@@ -61,31 +68,24 @@ pub same_least : (S T : List ℕ → Type 0) → ((path : List ℕ) → S path �
 same_least S T there back None least = λ path h. least path (back path h)
 same_least S T there back (Some path) least = (there path least.0, λ other h. least.1 other (back other h))
 
--- what is asked of payload manifests alone
-of_payload : (P : List ℕ → Type 0) (o : Option (List ℕ)) (k : Kind) → IsLeastPath P o → IsLeastPath (λ path. (k ≡ Payload) × P path) (cond (is_payload_kind k) o None)
-of_payload P o Payload least = same_least P (λ path. (Payload ≡ Payload) × P path) (λ path h. (refl, h)) (λ path h. h.1) o least
-of_payload P o Tag least = λ path h. differ (λ (k : Kind). is_payload_kind k) h.0
-  where
-    differ : (f : Kind → Bool) → Tag ≡ Payload → ⊥
-    differ f e = false≢true (ap is_payload_kind e)
-
 -- in one manifest the first path is the least
-pub first_is_least : (bag : List File) (rule : Rule) (l : Listed) → Ascending (paths (payload_of bag)) → Ascending (paths_of l) → IsLeastPath (Breaking bag rule l) (first_in bag rule l)
-first_is_least bag rules_of.OutsidePayload l files up =
-    by_parts (of_payload (λ path. Has (paths_of l) path × (not (is_payload path) ≡ true)) (find (λ path. not (is_payload path)) (paths_of l)) l.kind (find_is_least (λ path. not (is_payload path)) (paths_of l) up))
+pub first_is_least : (bag : List File) (rule : Rule) (l : Listed) → Ascending (paths (asked_of bag rule)) → Ascending (paths_of l) → IsLeastPath (Breaking bag rule l) (first_in bag rule l)
+first_is_least bag rule l files up = by_kind (concerns rule l.kind) (BreaksIn bag rule l (is_about_files rule)) (cond (is_about_files rule) (first_unlisted bag rule l.entries) (first_listed bag rule l.entries)) (by_rule (is_about_files rule))
   where
-    by_parts : IsLeastPath (λ path. (l.kind ≡ Payload) × (Has (paths_of l) path × (not (is_payload path) ≡ true))) (first_in bag rules_of.OutsidePayload l) → IsLeastPath (Breaking bag rules_of.OutsidePayload l) (first_in bag rules_of.OutsidePayload l)
-    by_parts least = same_least (λ path. (l.kind ≡ Payload) × (Has (paths_of l) path × (not (is_payload path) ≡ true))) (Breaking bag rules_of.OutsidePayload l) (λ path h. (h.0, h.1.0, h.1.1)) (λ path h. (h.0, (h.1, h.2))) (first_in bag rules_of.OutsidePayload l) least
-first_is_least bag rules_of.Missing l files up = find_is_least (λ path. not (has_path bag path)) (paths_of l) up
-first_is_least bag rules_of.Unlisted l files up =
-    by_parts (of_payload (λ path. Has (paths (payload_of bag)) path × (not (is_listed path l.entries) ≡ true)) (find (λ path. not (is_listed path l.entries)) (paths (payload_of bag))) l.kind (find_is_least (λ path. not (is_listed path l.entries)) (paths (payload_of bag)) files))
-  where
-    by_parts : IsLeastPath (λ path. (l.kind ≡ Payload) × (Has (paths (payload_of bag)) path × (not (is_listed path l.entries) ≡ true))) (first_in bag rules_of.Unlisted l) → IsLeastPath (Breaking bag rules_of.Unlisted l) (first_in bag rules_of.Unlisted l)
-    by_parts least = same_least (λ path. (l.kind ≡ Payload) × (Has (paths (payload_of bag)) path × (not (is_listed path l.entries) ≡ true))) (Breaking bag rules_of.Unlisted l) (λ path h. (h.0, h.1.0, h.1.1)) (λ path h. (h.0, (h.1, h.2))) (first_in bag rules_of.Unlisted l) least
-first_is_least bag rules_of.ChecksumWrong l files up = find_key_is_least (λ e. e.0) (λ e. is_wrong e.1.checksum (content_at bag e.0)) l.entries up
-first_is_least bag rules_of.TagManifestListed l files up = λ path h. h
-first_is_least bag rules_of.PayloadInTagManifest l files up = λ path h. h
-first_is_least bag rules_of.PayloadManifestUnlisted l files up = λ path h. h
+    there : (path : List ℕ) → PassesAt (λ (e : List ℕ × Entry). e.0) (breaks_at bag rule) l.entries path → BreaksListed bag rule l path
+    there path (e, has, at, breaks) =
+        (e.1, subst (λ (p : List ℕ). Has l.entries (p, e.1)) at has, subst (λ (p : List ℕ). breaks_at bag rule (p, e.1) ≡ true) at breaks)
+
+    back : (path : List ℕ) → BreaksListed bag rule l path → PassesAt (λ (e : List ℕ × Entry). e.0) (breaks_at bag rule) l.entries path
+    back path (entry, has, breaks) = ((path, entry), has, refl, breaks)
+
+    by_rule : (x : Bool) → IsLeastPath (BreaksIn bag rule l x) (cond x (first_unlisted bag rule l.entries) (first_listed bag rule l.entries))
+    by_rule true = find_is_least (λ path. not (is_listed path l.entries)) (paths (asked_of bag rule)) files
+    by_rule false = same_least (PassesAt (λ (e : List ℕ × Entry). e.0) (breaks_at bag rule) l.entries) (BreaksListed bag rule l) there back (first_listed bag rule l.entries) (find_key_is_least (λ e. e.0) (breaks_at bag rule) l.entries up)
+
+    by_kind : (x : Bool) (P : List ℕ → Type 0) (o : Option (List ℕ)) → IsLeastPath P o → IsLeastPath (λ path. (x ≡ true) × P path) (cond (not x) None o)
+    by_kind true P o least = same_least P (λ path. (true ≡ true) × P path) (λ path h. (refl, h)) (λ path h. h.1) o least
+    by_kind false P o least = λ path h. false≢true h.0
 
 -- ---- in all of them
 

@@ -1,5 +1,5 @@
 -- Each step of judging a bag: it names the first fault of its number, or none of that number stands.
-use Rattle.std.proofs.Common.{◌≡◌, ℕ, ◌⊎◌, inl, inr, Bool, true, false, cond, List, [], refl, sym, ap, subst, ◌∙◌}
+use Rattle.std.proofs.Common.{◌≡◌, ℕ, ◌+◌, ◌⊎◌, inl, inr, Bool, true, false, cond, List, [], ◌∷◌, refl, sym, ap, subst, ◌∙◌}
 use Rattle.std.specs.Prelude.{Option, Some, None, Result, Ok, Err}
 use Rattle.bag_text.specs.TransferForm.{File, IsBag, content_at}
 use Rattle.bag_text.specs.declared.declaration.Version.{Version}
@@ -11,29 +11,18 @@ use Rattle.bag_text.specs.ManifestReading.{Entries, manifest_of}
 use Rattle.bag_check.specs.declared.names.Kind.{Kind}
 use Rattle.bag_check.specs.declared.names.Kind.TheVariants.{Payload}
 use Rattle.bag_check.specs.declared.rule.Rule.{Rule}
-use Rattle.bag_check.specs.declared.rule.Rule.TheVariants as rules_of
-use Rattle.bag_check.specs.Contents.{Holds, HasFile, declaration_path, info_path, fetch_path, DeclaresVersion, IsManifestName, word_of, HasManifest}
-use Rattle.bag_check.specs.Faults.{Fault, NoDeclaration, Declaration, FetchNotSupported, UnsupportedAlgorithm, NoPayloadManifest, ManifestText, Breaks, IsBroken, Stands, rule_number, fault_number, fault_name, fault_path, PlaceBefore, FirstFault}
-use Rattle.bag_check.specs.Plain.{IsPlain}
-use Rattle.bag_check.specs.Judging.{has_path, or_declaration, declared_by, version_in, no_fetch, Named, manifests_in, some_payload, Listed, listings_of, first_place, kept_by}
-use Rattle.bag_check.proofs.ResultLemmas.{same_err, never_both}
+use Rattle.bag_check.specs.Contents.{Holds, HasFile, declaration_path, fetch_path, DeclaresVersion, IsManifestName, word_of, HasManifest}
+use Rattle.bag_check.specs.Faults.{Fault, NoDeclaration, Declaration, FetchNotSupported, UnsupportedAlgorithm, NoPayloadManifest, ManifestText, Breaks, IsBroken, Stands, rule_number, PlaceBefore, FirstFault}
+use Rattle.bag_check.specs.Judging.{has_path, or_declaration, declared_by, version_in, no_fetch, Named, manifests_in, some_payload, Listed, listings_of, first_place, kept_by, keeps}
+use Rattle.bag_check.proofs.ResultLemmas.{bind_ok, bind_err, same_err, never_both}
 use Rattle.bag_check.proofs.OrderLemmas.{Has, apart, contains_has, has_contains, Ascending, ascending_rest}
 use Rattle.bag_check.proofs.TextFacts.{declares_is, declares_again, refused_is, refused_again, fault_is, fault_again}
 use Rattle.bag_check.proofs.BagLemmas.{bag_ascends, ascends_up, path_of_file, one_content, content_found, no_content, has_path_is, no_path_is}
 use Rattle.bag_check.proofs.NameLemmas.{one_algorithm}
-use Rattle.bag_check.proofs.FaultLemmas.{at_1, at_2, at_3, at_4, at_5, at_6, at_13, at_14, at_15, at_16, at_rule, NoneBelow, NoneAt, IsLeast, none_below_1, none_more, named_first, one_version}
+use Rattle.bag_check.proofs.FaultLemmas.{at_1, at_2, at_3, at_4, at_5, at_6, at_rule, Earlier, none_earlier, NoneBelow, NoneAt, IsLeast, none_below_1, none_more, named_first, one_version}
 use Rattle.bag_check.proofs.ManifestLemmas.{at, as_named, as_listed, read_of, names, Found, IsFirstUnsupported, first_unsupported, no_payload_manifest, AreRead, IsFirstRefused, first_refused}
 use Rattle.bag_check.proofs.PlaceLemmas.{Place, IsLeastPlace}
-use Rattle.bag_check.proofs.RuleLemmas.{AreListed, listed, no_tag, broken_first}
-
--- what a fault names comes before what another names
-abbrev Earlier : Fault → Fault → Type 0
-Earlier g f = PlaceBefore (fault_name g, fault_path g) (fault_name f, fault_path f)
-
--- nothing comes before an empty name and an empty path with the same
-none_earlier : PlaceBefore ([], []) ([], []) → ⊥
-none_earlier (inl before) = apart [] before
-none_earlier (inr before) = apart [] before.1
+use Rattle.bag_check.proofs.RuleLemmas.{AreListed, listed, broken_first}
 
 -- ---- the declaration
 
@@ -239,56 +228,46 @@ rule_broken bag is v declares rule name path broken least = record {
         least other place (subst (λ (x : Version). IsBroken bag x rule other place) (sym (one_version bag is v w declares declares_too)) also) before
 
 -- a rule that is found kept is broken nowhere
-pub rule_ok : (bag : List File) → IsBag bag → IsPlain bag → (v : Version) → DeclaresVersion bag v → (ls : List Listed) → AreListed bag v ls → (rule : Rule) (done : Unit {0}) → kept_by rule (first_place bag rule ls) ≡ Ok done → NoneAt bag (rule_number rule)
-rule_ok bag is plain v declares ls read rule done e = by_place (first_place bag rule ls) (broken_first bag is plain v ls read rule) e
+pub rule_ok : (bag : List File) → IsBag bag → (v : Version) → DeclaresVersion bag v → (ls : List Listed) → AreListed bag v ls → (rule : Rule) (done : Unit {0}) → kept_by rule (first_place bag rule ls) ≡ Ok done → NoneAt bag (rule_number rule)
+rule_ok bag is v declares ls read rule done e = by_place (first_place bag rule ls) (broken_first bag is v ls read rule) e
   where
     by_place : (o : Option Place) → IsLeastPlace (IsBroken bag v rule) o → kept_by rule o ≡ Ok done → NoneAt bag (rule_number rule)
     by_place None least e = rule_kept bag is v declares rule least
     by_place (Some place) least e = absurd cc
 
 -- the broken rule that is named comes first
-pub rule_err : (bag : List File) → IsBag bag → IsPlain bag → (v : Version) → DeclaresVersion bag v → (ls : List Listed) → AreListed bag v ls → (rule : Rule) (f : Fault) → NoneBelow bag (rule_number rule) → kept_by rule (first_place bag rule ls) ≡ Err f → FirstFault bag f
-rule_err bag is plain v declares ls read rule f below e = by_place (first_place bag rule ls) (broken_first bag is plain v ls read rule) e
+pub rule_err : (bag : List File) → IsBag bag → (v : Version) → DeclaresVersion bag v → (ls : List Listed) → AreListed bag v ls → (rule : Rule) (f : Fault) → NoneBelow bag (rule_number rule) → kept_by rule (first_place bag rule ls) ≡ Err f → FirstFault bag f
+rule_err bag is v declares ls read rule f below e = by_place (first_place bag rule ls) (broken_first bag is v ls read rule) e
   where
     by_place : (o : Option Place) → IsLeastPlace (IsBroken bag v rule) o → kept_by rule o ≡ Err f → FirstFault bag f
     by_place None least e = absurd cc
     by_place (Some place) least e = subst (FirstFault bag) (same_err (Breaks rule place.0 place.1) f (kept_by rule (Some place)) refl e)
         (named_first bag (Breaks rule place.0 place.1) below (rule_broken bag is v declares rule place.0 place.1 least.0 least.1))
 
--- ---- the rules of tag manifests, and of bag-info.txt, in a bag without either
+-- ---- rule after rule
 
--- no rule of tag manifests is broken
-pub below_11 : (bag : List File) → IsPlain bag → NoneBelow bag 8 → NoneBelow bag 11
-below_11 bag plain below =
-    none_more bag 10 11 refl
-    (none_more bag 9 10 refl
-    (none_more bag 8 9 refl below (λ g n s. at_rule rules_of.TagManifestListed (λ x. Stands bag x → ⊥) tag_listed g n s))
-    (λ g n s. at_rule rules_of.PayloadInTagManifest (λ x. Stands bag x → ⊥) payload_listed g n s))
-    (λ g n s. at_rule rules_of.PayloadManifestUnlisted (λ x. Stands bag x → ⊥) unlisted g n s)
+-- the numbers of these rules follow one another, from n on, and m is the next
+abbrev pub Follow : ℕ → List Rule → ℕ → Type 0
+Follow n [] m = n ≡ m
+Follow n (rule ∷ rules) m = (rule_number rule ≡ n) × Follow (n + 1) rules m
+
+-- where the rules are found kept none of their numbers stands
+pub rules_ok : (bag : List File) → IsBag bag → (v : Version) → DeclaresVersion bag v → (ls : List Listed) → AreListed bag v ls → (rules : List Rule) (n m : ℕ) → Follow n rules m → NoneBelow bag n → (done : Unit {0}) → keeps bag ls rules ≡ Ok done → NoneBelow bag m
+unfolding keeps
+rules_ok bag is v declares ls read [] n m follow below done e = subst (λ (k : ℕ). NoneBelow bag k) follow below
+rules_ok bag is v declares ls read (rule ∷ rules) n m follow below done e =
+    let one = bind_ok (kept_by rule (first_place bag rule ls)) (λ _. keeps bag ls rules) done e in
+    let none = subst (λ (k : ℕ). NoneAt bag k) follow.0 (rule_ok bag is v declares ls read rule one.0 one.1) in
+    rules_ok bag is v declares ls read rules (n + 1) m follow.1 (none_more bag n (n + 1) refl below none) done one.2
+
+-- the broken rule that is named comes first
+pub rules_err : (bag : List File) → IsBag bag → (v : Version) → DeclaresVersion bag v → (ls : List Listed) → AreListed bag v ls → (rules : List Rule) (n m : ℕ) → Follow n rules m → NoneBelow bag n → (f : Fault) → keeps bag ls rules ≡ Err f → FirstFault bag f
+unfolding keeps
+rules_err bag is v declares ls read [] n m follow below f e = absurd cc
+rules_err bag is v declares ls read (rule ∷ rules) n m follow below f e =
+    by_first (bind_err (kept_by rule (first_place bag rule ls)) (λ _. keeps bag ls rules) f e) (λ next e. rules_err bag is v declares ls read rules (n + 1) m follow.1 next f e)
   where
-    tag_listed : (name path : List ℕ) → Stands bag (Breaks rules_of.TagManifestListed name path) → ⊥
-    tag_listed name path (v, declares, ((a, text, checksum, has, lists), also)) = no_tag bag plain a name text has
-
-    payload_listed : (name path : List ℕ) → Stands bag (Breaks rules_of.PayloadInTagManifest name path) → ⊥
-    payload_listed name path (v, declares, ((a, text, checksum, has, lists), also)) = no_tag bag plain a name text has
-
-    unlisted : (name path : List ℕ) → Stands bag (Breaks rules_of.PayloadManifestUnlisted name path) → ⊥
-    unlisted name path (v, declares, ((a, text, has), manifest, file, also)) = no_tag bag plain a name text has
-
--- no fault of bag-info.txt stands where there is none
-pub no_info_fault : (bag : List File) → (HasFile bag info_path → ⊥) → (i : Fault) → (13 ≡ fault_number i) ⊎ ((14 ≡ fault_number i) ⊎ ((15 ≡ fault_number i) ⊎ (16 ≡ fault_number i))) → Stands bag i → ⊥
-no_info_fault bag none i (inl n) s = at_13 (λ x. Stands bag x → ⊥) (λ f stands. none (stands.2.0, stands.2.1)) i (sym n) s
-no_info_fault bag none i (inr (inl n)) s = at_14 (λ x. Stands bag x → ⊥) (λ stands. none (stands.2.1.0, stands.2.1.2)) i (sym n) s
-no_info_fault bag none i (inr (inr (inl n))) s = at_15 (λ x. Stands bag x → ⊥) (λ stands. none (stands.2.0, stands.2.2)) i (sym n) s
-no_info_fault bag none i (inr (inr (inr n))) s = at_16 (λ x. Stands bag x → ⊥) (λ stands. none (stands.2.3.0, stands.2.3.2)) i (sym n) s
-
--- no fault of bag-info.txt stands
-pub below_17 : (bag : List File) → IsPlain bag → NoneBelow bag 13 → NoneBelow bag 17
-below_17 bag plain below =
-    none_more bag 16 17 refl
-    (none_more bag 15 16 refl
-    (none_more bag 14 15 refl
-    (none_more bag 13 14 refl below (λ g n s. no_info_fault bag plain.no_info g (inl (sym n)) s))
-    (λ g n s. no_info_fault bag plain.no_info g (inr (inl (sym n))) s))
-    (λ g n s. no_info_fault bag plain.no_info g (inr (inr (inl (sym n)))) s))
-    (λ g n s. no_info_fault bag plain.no_info g (inr (inr (inr (sym n)))) s)
+    by_first : (kept_by rule (first_place bag rule ls) ≡ Err f) ⊎ ((done : Unit {0}) × (kept_by rule (first_place bag rule ls) ≡ Ok done) × (keeps bag ls rules ≡ Err f)) → (NoneBelow bag (n + 1) → keeps bag ls rules ≡ Err f → FirstFault bag f) → FirstFault bag f
+    by_first (inl e) again = rule_err bag is v declares ls read rule f (subst (λ (k : ℕ). NoneBelow bag k) (sym follow.0) below) e
+    by_first (inr (done, ok, e)) again =
+        again (none_more bag n (n + 1) refl below (subst (λ (k : ℕ). NoneAt bag k) follow.0 (rule_ok bag is v declares ls read rule done ok))) e

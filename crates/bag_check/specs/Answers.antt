@@ -9,6 +9,7 @@ use Rattle.bag_check.specs.declared.fault.BagFault.{BagFault}
 use Rattle.bag_check.specs.declared.fault.BagFault.TheVariants as faults
 use Rattle.bag_check.specs.declared.rule.Rule.TheVariants as rules_of
 use Rattle.bag_check.specs.declared.report.BagReport.{BagReport}
+use Rattle.bag_check.specs.declared.oxum.Counts.{Counts}
 use Rattle.bag_check.specs.declared.listed.Named.{Named}
 use Rattle.bag_check.specs.declared.listed.Listed.{Listed}
 use Rattle.bag_check.specs.Faults.{Fault, NoDeclaration, Declaration, FetchNotSupported, UnsupportedAlgorithm, NoPayloadManifest, ManifestText, Breaks, InfoText, OxumForm, OxumTwice, OxumWrong, FirstFault}
@@ -66,6 +67,10 @@ named_seen m = record { name = m.name.now; kind = m.kind; algorithm = m.algorith
 
 abbrev pub listed_seen : Listed → judging.Listed
 listed_seen l = record { name = l.name.now; kind = l.kind; algorithm = l.algorithm; entries = map listed l.manifest.entries.entries }
+
+-- the counts that a value names, as the definitions speak of them: the bytes, and the files
+abbrev pub counts_seen : Counts → ℕ × ℕ
+counts_seen counts = (counts.bytes, counts.files)
 
 -- a place as the definitions speak of it: the manifest's name, and the path
 abbrev pub place_seen : Bor (List ℕ) × CowStr Global → List ℕ × List ℕ

@@ -1,5 +1,5 @@
 -- What is in a bag: payload, manifests, declaration (RFC 8493, sections 2.1 and 2.2).
-use Rattle.std.specs.Prelude.{◌≡◌, ℕ, ◌+◌, ◌-◌, Bool, false, not, List, [], ◌++◌, length, filter, Option, Some, None, ◌==◌, ◌&&◌, ◌≢◌, codes, nat_eq, nat_lt, take, drop, is_some, bytes_eq, Contains, if◌then◌else◌}
+use Rattle.std.specs.Prelude.{◌≡◌, ℕ, ◌+◌, ◌-◌, Bool, true, false, not, List, [], ◌++◌, length, filter, Option, Some, None, ◌==◌, ◌&&◌, ◌≢◌, codes, nat_eq, nat_lt, take, drop, is_some, bytes_eq, Contains, if◌then◌else◌}
 use Rattle.std.specs.List.{list_any, starts_with, ends_with}
 use Rattle.sha2.specs.Sha256.{sha256}
 use Rattle.sha2.specs.Sha512.{sha512}
@@ -77,6 +77,21 @@ manifest_name name = or_tag (alg_behind (stem Payload) name) (alg_behind (stem T
 
 abbrev pub is_manifest_path : List ℕ → Bool
 is_manifest_path name = is_some (manifest_name name)
+
+-- whether the second kind is the first
+abbrev pub is_kind : Kind → Kind → Bool
+is_kind Payload Payload = true
+is_kind Payload Tag = false
+is_kind Tag Payload = false
+is_kind Tag Tag = true
+
+abbrev pub is_found_of : Kind → Option (Kind × List ℕ) → Bool
+is_found_of kind None = false
+is_found_of kind (Some found) = is_kind kind found.0
+
+-- whether a path is the name of a manifest of this kind
+abbrev pub is_manifest_of : Kind → List ℕ → Bool
+is_manifest_of kind path = is_found_of kind (manifest_name path)
 
 abbrev pub word_of : Algorithm → List ℕ
 word_of Sha256 = codes "sha256"

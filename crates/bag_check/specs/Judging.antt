@@ -1,6 +1,6 @@
 -- The verdict on a bag by computing, one number of the faults after the other: what the code is proved to
--- answer. It judges bags with neither tag manifests nor `bag-info.txt`.
-use Rattle.std.specs.Prelude.{ℕ, Bool, true, false, not, List, [], ◌∷◌, map, find, Option, Some, None, is_some, option_map, Result, Ok, Err, if◌then◌else◌}
+-- answer.
+use Rattle.std.specs.Prelude.{ℕ, Bool, true, false, not, List, [], ◌∷◌, length, map, filter, find, Option, Some, None, is_some, option_map, Result, Ok, Err, ◌==◌, ◌||◌, nat_lt, if◌then◌else◌}
 use Rattle.std.specs.List.{list_any}
 use Rattle.bag_text.specs.TransferForm.{File, content_at}
 use Rattle.bag_text.specs.declared.declaration.Version.{Version}
@@ -8,16 +8,20 @@ use Rattle.bag_text.specs.declared.declaration.DeclFault.{DeclFault}
 use Rattle.bag_text.specs.declared.checksum.Algorithm.{Algorithm}
 use Rattle.bag_text.specs.declared.checksum.Checksum.{Checksum}
 use Rattle.bag_text.specs.declared.listing.LineFault.{LineFault}
+use Rattle.bag_text.specs.declared.bag_info.InfoFault.{InfoFault}
 use Rattle.bag_text.specs.DeclarationReading.{declaration_of}
 use Rattle.bag_text.specs.ManifestReading.{Entries, Entry, manifest_of, is_listed}
+use Rattle.bag_text.specs.BagInfo.{Pair}
+use Rattle.bag_text.specs.InfoReading.{info_of}
 use Rattle.bag_check.specs.declared.names.Kind.{Kind}
 use Rattle.bag_check.specs.declared.names.Kind.TheVariants.{Payload, Tag}
 use Rattle.bag_check.specs.declared.rule.Rule.{Rule}
 use Rattle.bag_check.specs.declared.rule.Rule.TheVariants.{OutsidePayload, TagManifestListed, PayloadInTagManifest, PayloadManifestUnlisted, Missing, Unlisted, ChecksumWrong}
-use Rattle.bag_check.specs.Contents.{declaration_path, fetch_path, is_payload, payload_of, manifest_name, algorithm_named}
+use Rattle.bag_check.specs.Contents.{declaration_path, info_path, fetch_path, is_payload, manifest_name, is_kind, is_manifest_of, algorithm_named}
 use Rattle.bag_check.specs.Fixity.{matches_of}
-use Rattle.bag_check.specs.Validity.{Report, report_of}
-use Rattle.bag_check.specs.Faults.{Fault, NoDeclaration, Declaration, FetchNotSupported, UnsupportedAlgorithm, NoPayloadManifest, ManifestText, Breaks}
+use Rattle.bag_check.specs.Validity.{oxums_of, payload_bytes, payload_files, Report, report_of}
+use Rattle.bag_check.specs.Faults.{Fault, NoDeclaration, Declaration, FetchNotSupported, UnsupportedAlgorithm, NoPayloadManifest, ManifestText, Breaks, InfoText, OxumForm, OxumTwice, OxumWrong}
+use Rattle.bag_check.specs.OxumReading.{counts_of}
 
 infixl 10 ◌>>=◌
 abbrev pub ◌>>=◌ : {A B : Type 0} → Result A Fault → (A → Result B Fault) → Result B Fault
@@ -72,12 +76,8 @@ unfoldable pub manifests_in : List File → Result (List Named) Fault
 manifests_in [] = Ok []
 manifests_in (f ∷ fs) = named_of f >>= λ found. manifests_in fs >>= λ ms. Ok (onto found ms)
 
-abbrev pub is_payload_kind : Kind → Bool
-is_payload_kind Payload = true
-is_payload_kind Tag = false
-
 abbrev pub some_payload : List Named → Result (Unit {0}) Fault
-some_payload ms = if list_any (λ m. is_payload_kind m.kind) ms then Ok tt else Err NoPayloadManifest
+some_payload ms = if list_any (λ m. is_kind Payload m.kind) ms then Ok tt else Err NoPayloadManifest
 
 -- a manifest that is read
 pub record Listed : Type 0 where
@@ -96,32 +96,66 @@ listings_of v (m ∷ ms) = listed_or_fault m (manifest_of v m.algorithm m.text) 
 
 -- ---- the first place at which a rule is broken
 
-abbrev pub paths_of : Listed → List (List ℕ)
-paths_of l = map (λ e. e.0) l.entries
+-- the manifests that a rule is for: those of one kind, or all
+abbrev pub concerns : Rule → Kind → Bool
+concerns OutsidePayload kind = is_kind Payload kind
+concerns TagManifestListed kind = is_kind Tag kind
+concerns PayloadInTagManifest kind = is_kind Tag kind
+concerns PayloadManifestUnlisted kind = is_kind Tag kind
+concerns Missing kind = true
+concerns Unlisted kind = is_kind Payload kind
+concerns ChecksumWrong kind = true
+
+-- whether a rule is about files that are to be listed; the others are about what is listed
+abbrev pub is_about_files : Rule → Bool
+is_about_files OutsidePayload = false
+is_about_files TagManifestListed = false
+is_about_files PayloadInTagManifest = false
+is_about_files PayloadManifestUnlisted = true
+is_about_files Missing = false
+is_about_files Unlisted = true
+is_about_files ChecksumWrong = false
 
 abbrev pub is_wrong : Checksum → Option (List ℕ) → Bool
 is_wrong checksum None = false
 is_wrong checksum (Some content) = not (matches_of content checksum)
 
--- whether what is listed of a path breaks a rule that each listed path keeps
+-- whether what is listed of a path breaks a rule
 abbrev pub breaks_at : List File → Rule → List ℕ × Entry → Bool
 breaks_at bag OutsidePayload e = not (is_payload e.0)
-breaks_at bag Missing e = not (has_path bag e.0)
-breaks_at bag ChecksumWrong e = is_wrong e.1.checksum (content_at bag e.0)
-breaks_at bag TagManifestListed e = false
-breaks_at bag PayloadInTagManifest e = false
+breaks_at bag TagManifestListed e = is_manifest_of Tag e.0
+breaks_at bag PayloadInTagManifest e = is_payload e.0
 breaks_at bag PayloadManifestUnlisted e = false
+breaks_at bag Missing e = not (has_path bag e.0)
 breaks_at bag Unlisted e = false
+breaks_at bag ChecksumWrong e = is_wrong e.1.checksum (content_at bag e.0)
+
+-- whether a rule asks for the file of this path to be listed
+abbrev pub asks_for : Rule → List ℕ → Bool
+asks_for OutsidePayload path = false
+asks_for TagManifestListed path = false
+asks_for PayloadInTagManifest path = false
+asks_for PayloadManifestUnlisted path = is_manifest_of Payload path
+asks_for Missing path = false
+asks_for Unlisted path = is_payload path
+asks_for ChecksumWrong path = false
+
+abbrev pub asked_of : List File → Rule → List File
+asked_of bag rule = filter (λ f. asks_for rule f.path) bag
+
+-- the least path that is listed and breaks a rule, and the least one that is to be listed and isn't
+abbrev pub first_listed : List File → Rule → Entries → Option (List ℕ)
+first_listed bag rule entries = option_map (λ e. e.0) (find (breaks_at bag rule) entries)
+
+abbrev pub first_unlisted : List File → Rule → Entries → Option (List ℕ)
+first_unlisted bag rule entries = find (λ path. not (is_listed path entries)) (map (λ f. f.path) (asked_of bag rule))
 
 -- in one manifest: the least path
 abbrev pub first_in : List File → Rule → Listed → Option (List ℕ)
-first_in bag OutsidePayload l = if is_payload_kind l.kind then find (λ path. not (is_payload path)) (paths_of l) else None
-first_in bag Missing l = find (λ path. not (has_path bag path)) (paths_of l)
-first_in bag Unlisted l = if is_payload_kind l.kind then find (λ path. not (is_listed path l.entries)) (map (λ f. f.path) (payload_of bag)) else None
-first_in bag ChecksumWrong l = option_map (λ e. e.0) (find (λ e. is_wrong e.1.checksum (content_at bag e.0)) l.entries)
-first_in bag TagManifestListed l = None
-first_in bag PayloadInTagManifest l = None
-first_in bag PayloadManifestUnlisted l = None
+first_in bag rule l =
+    if not (concerns rule l.kind) then None
+    else if is_about_files rule then first_unlisted bag rule l.entries
+    else first_listed bag rule l.entries
 
 abbrev pub or_place : List ℕ → Option (List ℕ) → Option (List ℕ × List ℕ) → Option (List ℕ × List ℕ)
 or_place name (Some path) later = Some (name, path)
@@ -141,10 +175,41 @@ unfoldable pub keeps : List File → List Listed → List Rule → Result (Unit 
 keeps bag ls [] = Ok tt
 keeps bag ls (rule ∷ rules) = kept_by rule (first_place bag rule ls) >>= λ _. keeps bag ls rules
 
-abbrev pub all_rules : List Rule
-all_rules = OutsidePayload ∷ Missing ∷ Unlisted ∷ ChecksumWrong ∷ []
+-- the rules about what is listed, checksums aside, by their numbers
+abbrev pub listing_rules : List Rule
+listing_rules = OutsidePayload ∷ TagManifestListed ∷ PayloadInTagManifest ∷ PayloadManifestUnlisted ∷ Missing ∷ Unlisted ∷ []
+
+-- ---- `bag-info.txt`
+
+-- whether counts that a value names aren't the payload's
+abbrev pub are_others : List File → Option (ℕ × ℕ) → Bool
+are_others bag None = false
+are_others bag (Some counts) = not (counts.0 == payload_bytes bag) || not (counts.1 == payload_files bag)
+
+-- what the values of `Payload-Oxum` give
+abbrev pub oxums_kept : List File → List (List ℕ) → Result (Unit {0}) Fault
+oxums_kept bag values =
+    if list_any (λ value. not (is_some (counts_of value))) values then Err OxumForm
+    else if nat_lt 1 (length values) then Err OxumTwice
+    else if list_any (λ value. are_others bag (counts_of value)) values then Err OxumWrong
+    else Ok tt
+
+abbrev pub or_info : Result (List Pair) InfoFault → Result (List Pair) Fault
+or_info (Ok pairs) = Ok pairs
+or_info (Err f) = Err (InfoText f)
+
+abbrev pub info_kept : List File → Option (List ℕ) → Result (Unit {0}) Fault
+info_kept bag None = Ok tt
+info_kept bag (Some text) = or_info (info_of text) >>= λ pairs. oxums_kept bag (oxums_of pairs)
+
+abbrev pub keeps_info : List File → Result (Unit {0}) Fault
+keeps_info bag = info_kept bag (content_at bag info_path)
 
 -- ---- the verdict
+
+-- the last steps: `bag-info.txt`, then the checksums
+abbrev pub keeps_contents : List File → List Listed → Result (Unit {0}) Fault
+keeps_contents bag ls = keeps_info bag >>= λ _. keeps bag ls (ChecksumWrong ∷ [])
 
 abbrev pub judge : List File → Result Report Fault
 judge bag = do
@@ -153,5 +218,6 @@ judge bag = do
   ms ← manifests_in bag
   _ ← some_payload ms
   ls ← listings_of v ms
-  _ ← keeps bag ls all_rules
+  _ ← keeps bag ls listing_rules
+  _ ← keeps_contents bag ls
   Ok (report_of v bag)

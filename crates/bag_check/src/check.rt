@@ -1,21 +1,23 @@
 //! The verdict on a bag.
 
-ghost use Rattle.std.specs.Prelude.{◌≡◌, ◌↔◌, ◌⊎◌, IsTrue, IfOk, IfErr, Ok, Err, Some, map, is_some};
+ghost use Rattle.std.specs.Prelude.{◌≡◌, ◌⊎◌, IfOk, IfErr, Ok, Err, Some, map};
 ghost use Rattle.std.specs.List.{list_any};
 ghost use Rattle.std.specs.Cow.{cow_str_bytes};
-ghost use Rattle.bag_text.specs.TransferForm.{IsBag};
 ghost use Rattle.bag_text.specs.TransferReading.{files_of};
-ghost use Rattle.bag_check.specs.Plain.{IsPlain, is_tag_manifest_path, is_plain};
+ghost use Rattle.bag_check.specs.declared.names.Kind.TheVariants.{Payload};
+ghost use Rattle.bag_check.specs.Contents.{is_kind};
 ghost use Rattle.bag_check.specs.Validity.{Valid, report_of, payload_files, payload_bytes};
 ghost use Rattle.bag_text.specs.declared.declaration.Version.{Version};
 ghost use Rattle.bag_check.specs.declared.fault.BagFault.TheVariants.{Memory};
 ghost use Rattle.bag_check.specs.Faults.{Fault, Breaks, FirstFault};
-ghost use Rattle.bag_check.specs.Judging.{version_in, no_fetch, is_payload_kind, some_payload, first_place, kept_by, keeps, all_rules, judge};
+ghost use Rattle.bag_check.specs.Judging.{version_in, no_fetch, some_payload, first_place, kept_by, keeps, listing_rules, keeps_contents, judge};
 ghost use Rattle.bag_check.specs.Answers.{Gives, named_fault, named_seen, listed_seen, report_seen, NamesFirst};
 
 use crate::fault::BagFault;
+use crate::info::keep_info;
 use crate::listed::{Listed, Named, find_manifests, read_manifests};
-use crate::names::{Kind, is_payload_path, is_tag_manifest};
+use crate::names::{Kind, is_kind};
+use crate::payload::count_payload;
 use crate::place::first_place;
 use crate::report::BagReport;
 use crate::rule::Rule;
@@ -48,13 +50,13 @@ fn refuse_fetch<'a>(bag: &BagSet<'a>) -> Result<(), BagFault<'a>>
 }
 
 fn is_of_payload(named: &Named<'_>) -> bool
-    ensures { result ≡ is_payload_kind named.now.kind }
+    ensures { result ≡ is_kind Payload named.now.kind }
 {
-    named.kind == Kind::Payload
+    is_kind(Kind::Payload, named.kind)
 }
 
 fn has_payload_manifest(found: &[Named<'_>]) -> bool
-    ensures { result ≡ list_any (λ m. is_payload_kind m.kind) (map named_seen found.now) }
+    ensures { result ≡ list_any (λ m. is_kind Payload m.kind) (map named_seen found.now) }
 {
     found.iter().any(|named| is_of_payload(named))
 }
@@ -95,33 +97,32 @@ fn keep_rule<'a>(bag: &BagSet<'a>, rule: Rule, listed: &[Listed<'a>]) -> Result<
     }
 }
 
-/// Refuses a bag that breaks a rule, the first rule first.
+/// Refuses a bag that breaks a rule about what is listed, the first rule first.
 #[tactic(auto, unfolding(crate::specs::Judging::keeps))]
-fn keep_rules<'a>(bag: &BagSet<'a>, listed: &[Listed<'a>]) -> Result<(), BagFault<'a>>
-    ensures { Gives (λ unit. unit) result (keeps bag.now (map listed_seen listed.now) all_rules) }
+fn keep_listing_rules<'a>(bag: &BagSet<'a>, listed: &[Listed<'a>]) -> Result<(), BagFault<'a>>
+    ensures { Gives (λ unit. unit) result (keeps bag.now (map listed_seen listed.now) listing_rules) }
 {
     keep_rule(bag, Rule::OutsidePayload, listed)?;
+    keep_rule(bag, Rule::TagManifestListed, listed)?;
+    keep_rule(bag, Rule::PayloadInTagManifest, listed)?;
+    keep_rule(bag, Rule::PayloadManifestUnlisted, listed)?;
     keep_rule(bag, Rule::Missing, listed)?;
     keep_rule(bag, Rule::Unlisted, listed)?;
-    keep_rule(bag, Rule::ChecksumWrong, listed)?;
     Ok(())
 }
 
-/// How many payload files there are, and how many bytes they have together.
-fn count_payload(files: &[(&str, &[u8])]) -> (usize, usize)
-    requires { IsBag (files_of files.now) }
-    ensures files { result.0 ≡ payload_files (files_of files.now) }
-    ensures bytes { result.1 ≡ payload_bytes (files_of files.now) }
+/// Refuses a bag with a wrong `bag-info.txt`, and then one with a wrong checksum.
+#[tactic(auto, unfolding(crate::specs::Judging::keeps))]
+fn keep_contents<'a>(
+    alloc: Global,
+    bag: &BagSet<'a>,
+    listed: &[Listed<'a>],
+) -> Result<(), BagFault<'a>>
+    ensures { Gives (λ unit. unit) result (keeps_contents bag.now (map listed_seen listed.now)) }
 {
-    let mut count = 0;
-    let mut bytes = 0;
-    for file in files {
-        if is_payload_path(file.0) {
-            count += 1;
-            bytes += file.1.len();
-        }
-    }
-    (count, bytes)
+    keep_info(alloc, bag)?;
+    keep_rule(bag, Rule::ChecksumWrong, listed)?;
+    Ok(())
 }
 
 fn report_on(version: Version, bag: &BagSet<'_>, manifests: usize) -> BagReport
@@ -150,16 +151,13 @@ fn judge_bag<'a>(
     let found = find_manifests(alloc, files)?;
     need_payload_manifest(&found)?;
     let listed = read_manifests(alloc, version, &found)?;
-    keep_rules(bag, &listed)?;
+    keep_listing_rules(bag, &listed)?;
+    keep_contents(alloc, bag, &listed)?;
     Ok(report_on(version, bag, found.len()))
 }
 
 /// Judges a bag (RFC 8493, section 3): what is counted in a valid bag, or the first fault of another.
-///
-/// Today it takes bags with neither a tag manifest nor `bag-info.txt`, which `is_plain` tells.
 pub fn check_bag<'a>(alloc: Global, bag: &BagSet<'a>) -> Result<BagReport, BagFault<'a>>
-    requires plain { IsPlain bag.now }
-
     // A bag that is accepted is valid, and its report counts what is there.
     ensures valid { IfOk result (λ report. Valid bag.now report.version
         × (report_seen report ≡ report_of report.version bag.now)) }
@@ -175,23 +173,4 @@ pub fn check_bag<'a>(alloc: Global, bag: &BagSet<'a>) -> Result<BagReport, BagFa
     ensures exact { Gives report_seen result (judge bag.now) }
 {
     judge_bag(alloc, bag, bag.files())
-}
-
-fn has_tag_manifest(files: &[(&str, &[u8])]) -> bool
-    ensures { result ≡ list_any (λ f. is_tag_manifest_path f.path) (files_of files.now) }
-{
-    files.iter().any(|file| is_tag_manifest(file.0))
-}
-
-fn is_plain_bag(bag: &BagSet<'_>) -> bool
-    ensures { result ≡ is_plain bag.now }
-{
-    !has_tag_manifest(bag.files()) && bag.get("bag-info.txt").is_none()
-}
-
-/// Whether a bag has neither a tag manifest nor a `bag-info.txt`.
-pub fn is_plain(bag: &BagSet<'_>) -> bool
-    ensures { IsTrue result ↔ IsPlain bag.now }
-{
-    is_plain_bag(bag)
 }

@@ -5,14 +5,17 @@ mod check;
 mod digest;
 mod display;
 mod fault;
+mod info;
 pub mod laws;
 mod listed;
 mod names;
+mod oxum;
+mod payload;
 mod place;
 mod report;
 mod rule;
 
-pub use check::{check_bag, is_plain};
+pub use check::check_bag;
 pub use digest::digest_matches;
 pub use fault::BagFault;
 pub use report::BagReport;

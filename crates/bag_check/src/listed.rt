@@ -1,6 +1,6 @@
 //! The manifests of a bag, found and read.
 
-ghost use Rattle.std.specs.Prelude.{◌≡◌, map, option_map};
+ghost use Rattle.std.specs.Prelude.{map, option_map};
 ghost use Rattle.bag_text.specs.TransferReading.{files_of};
 ghost use Rattle.bag_text.specs.ManifestReading.{manifest_of};
 ghost use Rattle.bag_check.specs.Judging.{named_of, manifests_in, listed_or_fault, listings_of};
@@ -8,7 +8,7 @@ ghost use Rattle.bag_check.specs.Answers.{Gives, named_seen, listed_seen};
 
 use crate::fault::BagFault;
 use crate::names::{Kind, algorithm_of, manifest_of};
-use bag_text::{Algorithm, BagSet, LineFault, Manifest, Version, read_manifest};
+use bag_text::{Algorithm, LineFault, Manifest, Version, read_manifest};
 use std::alloc::Global;
 
 /// A file of the bag that is a manifest.

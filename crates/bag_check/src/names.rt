@@ -2,8 +2,7 @@
 
 ghost use Rattle.std.specs.Prelude.{◌≡◌, codes, length, nat_eq, nat_lt, not, ◌&&◌, ◌+◌, ◌==◌, option_copied, option_map};
 ghost use Rattle.std.specs.List.{list_any, starts_with, ends_with};
-ghost use Rattle.bag_check.specs.Contents.{alg_behind, manifest_name, algorithm_named, is_payload};
-ghost use Rattle.bag_check.specs.Plain.{is_tag_manifest_path};
+ghost use Rattle.bag_check.specs.Contents.{alg_behind, manifest_name, is_kind, is_manifest_of, algorithm_named, is_payload};
 
 use bag_text::Algorithm;
 
@@ -57,13 +56,20 @@ pub fn manifest_of<'a>(path: &'a str) -> Option<(Kind, &'a [u8])>
     }
 }
 
-/// Whether a path is the name of a tag manifest.
-pub fn is_tag_manifest(path: &str) -> bool
-    ensures { result ≡ is_tag_manifest_path path.now }
+/// Whether the second kind is the first.
+pub fn is_kind(wanted: Kind, kind: Kind) -> bool
+    ensures { result ≡ is_kind wanted kind }
+{
+    kind == wanted
+}
+
+/// Whether a path is the name of a manifest of this kind.
+pub fn is_manifest_of(wanted: Kind, path: &str) -> bool
+    ensures { result ≡ is_manifest_of wanted path.now }
 {
     match manifest_of(path) {
-        Some((Kind::Tag, _)) => true,
-        _ => false,
+        Some((kind, _)) => is_kind(wanted, kind),
+        None => false,
     }
 }
 

@@ -1,17 +1,16 @@
 //! The first place at which a rule of manifests is broken.
 
-ghost use Rattle.std.specs.Prelude.{◌≡◌, map, find, not, IfOk, option_map, option_copied};
+ghost use Rattle.std.specs.Prelude.{◌≡◌, map, IfOk, option_map, option_copied};
 ghost use Rattle.std.specs.Cow.{cow_str_bytes};
 ghost use Rattle.bag_text.specs.TransferForm.{content_at};
 ghost use Rattle.bag_text.specs.TransferReading.{files_of};
-ghost use Rattle.bag_text.specs.ManifestReading.{is_listed, listed};
-ghost use Rattle.bag_check.specs.Contents.{payload_of};
-ghost use Rattle.bag_check.specs.Judging.{is_wrong, breaks_at, first_in, first_place};
+ghost use Rattle.bag_text.specs.ManifestReading.{listed};
+ghost use Rattle.bag_check.specs.Judging.{concerns, is_about_files, asks_for, is_wrong, breaks_at, first_listed, first_unlisted, first_in, first_place};
 ghost use Rattle.bag_check.specs.Answers.{listed_seen, place_seen};
 
 use crate::digest::is_digest;
 use crate::listed::Listed;
-use crate::names::{Kind, is_payload_path};
+use crate::names::{Kind, is_kind, is_manifest_of, is_payload_path};
 use crate::rule::Rule;
 use bag_text::{BagSet, Checksum, Listing, Manifest};
 use std::alloc::{AllocError, Global};
@@ -27,28 +26,68 @@ fn is_wrong(bag: &BagSet<'_>, path: &str, checksum: &Checksum) -> bool
     }
 }
 
-/// Whether what is listed of a path breaks a rule that each listed path keeps.
+/// Whether a rule is for manifests of this kind.
+fn concerns(rule: Rule, kind: Kind) -> bool
+    ensures { result ≡ concerns rule kind }
+{
+    match rule {
+        Rule::OutsidePayload | Rule::Unlisted => is_kind(Kind::Payload, kind),
+        Rule::TagManifestListed | Rule::PayloadInTagManifest | Rule::PayloadManifestUnlisted =>
+            is_kind(Kind::Tag, kind),
+        Rule::Missing | Rule::ChecksumWrong => true,
+    }
+}
+
+/// Whether a rule is about files that are to be listed; the others are about what is listed.
+fn is_about_files(rule: Rule) -> bool
+    ensures { result ≡ is_about_files rule }
+{
+    match rule {
+        Rule::PayloadManifestUnlisted | Rule::Unlisted => true,
+        Rule::OutsidePayload
+        | Rule::TagManifestListed
+        | Rule::PayloadInTagManifest
+        | Rule::Missing
+        | Rule::ChecksumWrong => false,
+    }
+}
+
+/// Whether a rule asks for the file of this path to be listed.
+fn asks_for(rule: Rule, path: &str) -> bool
+    ensures { result ≡ asks_for rule path.now }
+{
+    match rule {
+        Rule::PayloadManifestUnlisted => is_manifest_of(Kind::Payload, path),
+        Rule::Unlisted => is_payload_path(path),
+        Rule::OutsidePayload
+        | Rule::TagManifestListed
+        | Rule::PayloadInTagManifest
+        | Rule::Missing
+        | Rule::ChecksumWrong => false,
+    }
+}
+
+/// Whether what is listed of a path breaks a rule.
 fn breaks(bag: &BagSet<'_>, rule: Rule, path: &CowStr<'_, Global>, listing: &Listing) -> bool
     ensures { result ≡ breaks_at bag.now rule (listed (path.now, listing.now)) }
 {
     match rule {
         Rule::OutsidePayload => !is_payload_path(path.as_str()),
+        Rule::TagManifestListed => is_manifest_of(Kind::Tag, path.as_str()),
+        Rule::PayloadInTagManifest => is_payload_path(path.as_str()),
         Rule::Missing => bag.get(path.as_str()).is_none(),
         Rule::ChecksumWrong => is_wrong(bag, path.as_str(), &listing.checksum),
-        Rule::TagManifestListed
-        | Rule::PayloadInTagManifest
-        | Rule::PayloadManifestUnlisted
-        | Rule::Unlisted => false,
+        Rule::PayloadManifestUnlisted | Rule::Unlisted => false,
     }
 }
 
-/// The first path that is listed and breaks a rule for listed paths.
+/// The first path that is listed and breaks a rule.
 fn first_listed<'a>(
     bag: &BagSet<'_>,
     rule: Rule,
     manifest: &Manifest<'a>,
 ) -> Result<Option<CowStr<'a, Global>>, AllocError>
-    ensures { IfOk result (λ path. option_map cow_str_bytes path ≡ option_map (λ e. e.0) (find (breaks_at bag.now rule) (map listed manifest.now.entries.entries))) }
+    ensures { IfOk result (λ path. option_map cow_str_bytes path ≡ first_listed bag.now rule (map listed manifest.now.entries.entries)) }
 {
     for (path, listing) in &manifest.entries {
         if breaks(bag, rule, path, listing) {
@@ -58,18 +97,16 @@ fn first_listed<'a>(
     Ok(None)
 }
 
-fn lists(manifest: &Manifest<'_>, path: &str) -> bool
-    ensures { result ≡ is_listed path.now (map listed manifest.now.entries.entries) }
-{
-    manifest.entries.contains_key(path)
-}
-
-/// The first file of the payload that the manifest doesn't list.
-fn first_unlisted<'a>(files: &[(&'a str, &'a [u8])], manifest: &Manifest<'a>) -> Option<&'a str>
-    ensures { option_copied result ≡ find (λ path. not (is_listed path (map listed manifest.now.entries.entries))) (map (λ f. f.path) (payload_of (files_of files.now))) }
+/// The first file that a rule asks for and the manifest doesn't list.
+fn first_unlisted<'a>(
+    files: &[(&'a str, &'a [u8])],
+    rule: Rule,
+    manifest: &Manifest<'a>,
+) -> Option<&'a str>
+    ensures { option_copied result ≡ first_unlisted (files_of files.now) rule (map listed manifest.now.entries.entries) }
 {
     for file in files {
-        if is_payload_path(file.0) && !lists(manifest, file.0) {
+        if asks_for(rule, file.0) && !manifest.lists(file.0) {
             return Some(file.0);
         }
     }
@@ -84,23 +121,15 @@ fn first_in<'a>(
 ) -> Result<Option<CowStr<'a, Global>>, AllocError>
     ensures { IfOk result (λ path. option_map cow_str_bytes path ≡ first_in bag.now rule (listed_seen listed.now)) }
 {
-    match rule {
-        Rule::OutsidePayload => match listed.kind {
-            Kind::Payload => first_listed(bag, rule, &listed.manifest),
-            Kind::Tag => Ok(None),
-        },
-        Rule::Missing => first_listed(bag, rule, &listed.manifest),
-        Rule::ChecksumWrong => first_listed(bag, rule, &listed.manifest),
-        Rule::Unlisted => match listed.kind {
-            Kind::Payload => match first_unlisted(bag.files(), &listed.manifest) {
-                Some(path) => Ok(Some(CowStr::Borrowed(path))),
-                None => Ok(None),
-            },
-            Kind::Tag => Ok(None),
-        },
-        Rule::TagManifestListed | Rule::PayloadInTagManifest | Rule::PayloadManifestUnlisted => Ok(
-            None,
-        ),
+    if !concerns(rule, listed.kind) {
+        return Ok(None);
+    }
+    if !is_about_files(rule) {
+        return first_listed(bag, rule, &listed.manifest);
+    }
+    match first_unlisted(bag.files(), rule, &listed.manifest) {
+        Some(path) => Ok(Some(CowStr::Borrowed(path))),
+        None => Ok(None),
     }
 }
 

@@ -1,5 +1,5 @@
 use super::*;
-use bag_text::{Checksum, read_bagset};
+use bag_text::{BagSet, Checksum, read_bagset};
 use std::alloc::Global;
 use std::test::*;
 
@@ -26,10 +26,12 @@ fn transfer_form(alloc: Global, files: &[(&str, &str)]) -> Result<String, Fail> 
 fn verdict(alloc: Global, files: &[(&str, &str)]) -> Result<String, Fail> {
     let text = transfer_form(alloc, files)?;
     let bag = read_bagset(alloc, text.as_bytes())?;
-    if !is_plain(&bag) {
-        return Ok(format!(in alloc; "not judged")?);
-    }
-    match check_bag(alloc, &bag) {
+    verdict_on(alloc, &bag)
+}
+
+/// What is said of a bag.
+fn verdict_on(alloc: Global, bag: &BagSet<'_>) -> Result<String, Fail> {
+    match check_bag(alloc, bag) {
         Ok(report) => {
             let BagReport {
                 version,
@@ -150,7 +152,7 @@ fn faults_by_number(rt: HostRuntime) -> Result<(), Fail> {
         ),
         ("manifest-md5.txt", "", "invalid B4 manifest-md5.txt"),
         ("tag", "", "invalid B5"),
-        ("tagmanifest-sha256.txt", "", "not judged"),
+        ("tagmanifest-sha256.txt", "", "invalid B5"),
     ] {
         let said = verdict(
             rt.alloc(),
@@ -194,6 +196,184 @@ fn faults_of_tag_files(rt: HostRuntime) -> Result<(), Fail> {
     Ok(())
 }
 
+/// What is said of a bag of one payload file of three bytes, with this `bag-info.txt`.
+fn verdict_with_info(alloc: Global, info: &str) -> Result<String, Fail> {
+    verdict(
+        alloc,
+        &[
+            ("bag-info.txt", info),
+            ("bagit.txt", DECLARED),
+            ("data/a", "abc"),
+            ("manifest-sha256.txt", LISTED),
+        ],
+    )
+}
+
+/// What is said of a bag of one payload file of three bytes, with this tag manifest.
+fn verdict_with_tag_manifest(alloc: Global, listed: &str) -> Result<String, Fail> {
+    verdict(
+        alloc,
+        &[
+            ("bagit.txt", DECLARED),
+            ("data/a", "abc"),
+            ("manifest-sha256.txt", LISTED),
+            ("tagmanifest-sha256.txt", listed),
+        ],
+    )
+}
+
+#[test]
+fn a_bag_without_payload_is_valid(rt: HostRuntime) -> Result<(), Fail> {
+    let said = verdict(
+        rt.alloc(),
+        &[
+            ("bagit.txt", DECLARED),
+            ("manifest-sha256.txt", ""),
+            (
+                "tagmanifest-sha256.txt",
+                "e3b0c44298fc1c149afbf4c8996fb92427ae41e4649b934ca495991b7852b855  manifest-sha256.txt\n",
+            ),
+        ],
+    )?;
+    assert_eq!(rt; said.as_str(), "valid 1.0 files 0 bytes 0 manifests 2");
+    Ok(())
+}
+
+#[test]
+fn faults_of_tag_manifests(rt: HostRuntime) -> Result<(), Fail> {
+    let manifest =
+        "229b690bb74c455dcf323fbf029f56af1d20b126231aa2b2047923926e7d99fe  manifest-sha256.txt\n";
+    for (more, want) in [
+        (
+            "1712ecfb074bf29c4188ad3421032509159a09739fd604f8fe57038b4ddefcc9  bagit.txt\n",
+            "valid 1.0 files 1 bytes 3 manifests 2",
+        ),
+        (
+            "e3b0c44298fc1c149afbf4c8996fb92427ae41e4649b934ca495991b7852b855  tagmanifest-sha512.txt\n",
+            "invalid B8 tagmanifest-sha256.txt tagmanifest-sha512.txt",
+        ),
+        (
+            "ba7816bf8f01cfea414140de5dae2223b00361a396177a9cb410ff61f20015ad  data/a\n",
+            "invalid B9 tagmanifest-sha256.txt data/a",
+        ),
+        (
+            "e3b0c44298fc1c149afbf4c8996fb92427ae41e4649b934ca495991b7852b855  data.txt\n",
+            "invalid B11 tagmanifest-sha256.txt data.txt",
+        ),
+        (
+            "e3b0c44298fc1c149afbf4c8996fb92427ae41e4649b934ca495991b7852b855  bagit.txt\n",
+            "invalid B17 tagmanifest-sha256.txt bagit.txt",
+        ),
+    ] {
+        let listed = format!(in rt.alloc(); "{manifest}{more}")?;
+        let said = verdict_with_tag_manifest(rt.alloc(), listed.as_str())?;
+        assert_eq!(rt; said.as_str(), want);
+    }
+    let said = verdict_with_tag_manifest(rt.alloc(), "")?;
+    assert_eq!(rt;
+        said.as_str(),
+        "invalid B10 tagmanifest-sha256.txt manifest-sha256.txt"
+    );
+    Ok(())
+}
+
+#[test]
+fn a_wrong_oxum_comes_before_a_wrong_checksum(rt: HostRuntime) -> Result<(), Fail> {
+    for (info, want) in [
+        ("Payload-Oxum: 4.1\n", "invalid B16"),
+        (
+            "Payload-Oxum: 3.1\n",
+            "invalid B17 manifest-sha256.txt data/a",
+        ),
+    ] {
+        let said = verdict(
+            rt.alloc(),
+            &[
+                ("bag-info.txt", info),
+                ("bagit.txt", DECLARED),
+                ("data/a", "abc"),
+                (
+                    "manifest-sha256.txt",
+                    "ba7816bf8f01cfea414140de5dae2223b00361a396177a9cb410ff61f20015ae  data/a\n",
+                ),
+            ],
+        )?;
+        assert_eq!(rt; said.as_str(), want);
+    }
+    Ok(())
+}
+
+#[test]
+fn an_oxum_is_two_numbers(rt: HostRuntime) -> Result<(), Fail> {
+    for info in [
+        "",
+        "Payload-Oxum: 3.1\n",
+        "Payload-Oxum:003.01 \t\n",
+        "payload-OXUM : 00000000000000000003.00000000000000000001\r\n",
+        "Source-Organization: a\n b\n\n\tc: d\nPayload-Oxum: 3.1",
+    ] {
+        let said = verdict_with_info(rt.alloc(), info)?;
+        assert_eq!(rt; said.as_str(), "valid 1.0 files 1 bytes 3 manifests 1");
+    }
+    for info in [
+        "Payload-Oxum: 3.2\n",
+        "Payload-Oxum: 30.1\n",
+        "Payload-Oxum: 18446744073709551619.1\n",
+        "Payload-Oxum: 99999999999999999999.99999999999999999999\n",
+    ] {
+        let said = verdict_with_info(rt.alloc(), info)?;
+        assert_eq!(rt; said.as_str(), "invalid B16");
+    }
+    Ok(())
+}
+
+#[test]
+fn faults_of_bag_info(rt: HostRuntime) -> Result<(), Fail> {
+    for (info, want) in [
+        ("\u{feff}a: b\n", "invalid B13 I2"),
+        ("a: b\nc\n", "invalid B13 I3 2"),
+        (" \n: b\n", "invalid B13 I4 2"),
+        (": b\n", "invalid B13 I4 1"),
+        ("\n a: b\n", "invalid B13 I5 2"),
+        ("Payload-Oxum:\n", "invalid B14"),
+        ("Payload-Oxum: 3\n", "invalid B14"),
+        ("Payload-Oxum: .1\n", "invalid B14"),
+        ("Payload-Oxum: 3.\n", "invalid B14"),
+        ("Payload-Oxum: 3 .1\n", "invalid B14"),
+        ("Payload-Oxum: +3.1\n", "invalid B14"),
+        ("Payload-Oxum: 3.1.1\n", "invalid B14"),
+        (
+            "Payload-Oxum: 3.1\n  \n",
+            "valid 1.0 files 1 bytes 3 manifests 1",
+        ),
+        ("Payload-Oxum: 3.1\n \u{a0}\n", "invalid B14"),
+        ("Payload-Oxum:\n 3.1\n", "invalid B14"),
+        ("Payload-Oxum: 000000000000000000003.1\n", "invalid B14"),
+        ("Payload-Oxum: 3.1\npayload-oxum: 3.1\n", "invalid B15"),
+        ("Payload-Oxum: 4.1\npayload-oxum: 3.1\n", "invalid B15"),
+        ("Payload-Oxum: 3.1\npayload-oxum: 3\n", "invalid B14"),
+    ] {
+        let said = verdict_with_info(rt.alloc(), info)?;
+        assert_eq!(rt; said.as_str(), want);
+    }
+    Ok(())
+}
+
+#[test]
+fn bag_info_is_text(rt: HostRuntime) -> Result<(), Fail> {
+    let bag = BagSet::of(
+        rt.alloc(),
+        &[
+            ("bag-info.txt", b"a: \xFF\n".as_slice()),
+            ("bagit.txt", DECLARED.as_bytes()),
+            ("manifest-sha256.txt", b"".as_slice()),
+        ],
+    )?;
+    let said = verdict_on(rt.alloc(), &bag)?;
+    assert_eq!(rt; said.as_str(), "invalid B13 I1");
+    Ok(())
+}
+
 #[test]
 fn a_digest_matches_its_checksum_alone(rt: HostRuntime) {
     let none = [
@@ -203,4 +383,13 @@ fn a_digest_matches_its_checksum_alone(rt: HostRuntime) {
     ];
     assert!(rt; digest_matches(b"", &Checksum::Sha256(none)));
     assert!(rt; !digest_matches(b"a", &Checksum::Sha256(none)));
+    let none = [
+        0xcf, 0x83, 0xe1, 0x35, 0x7e, 0xef, 0xb8, 0xbd, 0xf1, 0x54, 0x28, 0x50, 0xd6, 0x6d, 0x80,
+        0x07, 0xd6, 0x20, 0xe4, 0x05, 0x0b, 0x57, 0x15, 0xdc, 0x83, 0xf4, 0xa9, 0x21, 0xd3, 0x6c,
+        0xe9, 0xce, 0x47, 0xd0, 0xd1, 0x3c, 0x5d, 0x85, 0xf2, 0xb0, 0xff, 0x83, 0x18, 0xd2, 0x87,
+        0x7e, 0xec, 0x2f, 0x63, 0xb9, 0x31, 0xbd, 0x47, 0x41, 0x7a, 0x81, 0xa5, 0x38, 0x32, 0x7a,
+        0xf9, 0x27, 0xda, 0x3e,
+    ];
+    assert!(rt; digest_matches(b"", &Checksum::Sha512(none)));
+    assert!(rt; !digest_matches(b"a", &Checksum::Sha512(none)));
 }

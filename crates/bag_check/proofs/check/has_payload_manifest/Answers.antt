@@ -1,12 +1,13 @@
 use Rattle.std.proofs.Common.{◌∙◌, sym, rules}
 use Rattle.std.proofs.lemmas.Iterator.{YieldsList-from_slice}
 use Rattle.std.proofs.lemmas.Iterator.Search.{any_from_yields_List}
-use Rattle.bag_check.specs.Judging.{is_payload_kind}
+use Rattle.bag_check.specs.Contents.{is_kind}
+use Rattle.bag_check.specs.declared.names.Kind.TheVariants.{Payload}
 use Rattle.bag_check.specs.Answers.{named_seen}
 use Rattle.bag_check.proofs.CodeLemmas.{any_map}
 use Rattle.bag_check.proofs.check.has_payload_manifest.Goals as goal
 
 pub returns : goal.returns
 returns c =
-    any_from_yields_List (λ named. is_payload_kind (named_seen named).kind) _ _ _ c.any.ensures.ran (YieldsList-from_slice _ c.iter.ensures.rest) (λ x b q k. search rules)
-    ∙ sym (any_map named_seen (λ m. is_payload_kind m.kind) c.args.found.now)
+    any_from_yields_List (λ named. is_kind Payload (named_seen named).kind) _ _ _ c.any.ensures.ran (YieldsList-from_slice _ c.iter.ensures.rest) (λ x b q k. search rules)
+    ∙ sym (any_map named_seen (λ m. is_kind Payload m.kind) c.args.found.now)

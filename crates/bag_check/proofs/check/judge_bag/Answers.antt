@@ -1,7 +1,7 @@
 use Rattle.std.proofs.Common.{◌≡◌, ◌∙◌, ap, sym, map, length}
 use Rattle.std.specs.Prelude.{Ok}
 use Rattle.std.proofs.lemmas.List.{length-map}
-use Rattle.bag_check.specs.Judging.{manifests_in, some_payload, listings_of, keeps, all_rules}
+use Rattle.bag_check.specs.Judging.{manifests_in, some_payload, listings_of, keeps, listing_rules, keeps_contents}
 use Rattle.bag_check.specs.Validity.{payload_files, payload_bytes}
 use Rattle.bag_check.specs.Answers.{named_seen, listed_seen, report_seen}
 use Rattle.bag_check.proofs.CodeLemmas.{judged}
@@ -12,7 +12,8 @@ returns c =
     let found : manifests_in c.args.bag.now ≡ Ok (map named_seen c.in_ok-found.found.items) = rw (← c.requires) c.in_ok-found.ensures in
     let some : some_payload (map named_seen c.in_ok-found.found.items) ≡ Ok tt = rw (← c.deref.ensures.value) c.in_ok-need_payload_manifest.ensures in
     let read : listings_of c.in_ok-version.version (map named_seen c.in_ok-found.found.items) ≡ Ok (map listed_seen c.in_ok-listed.listed.items) = rw (← c.deref-2.ensures.value) c.in_ok-listed.ensures in
-    let kept : keeps c.args.bag.now (map listed_seen c.in_ok-listed.listed.items) all_rules ≡ Ok tt = rw (← c.deref-3.ensures.value) c.in_ok-keep_rules.ensures in
+    let kept : keeps c.args.bag.now (map listed_seen c.in_ok-listed.listed.items) listing_rules ≡ Ok tt = rw (← c.deref-3.ensures.value) c.in_ok-keep_listing_rules.ensures in
+    let contents : keeps_contents c.args.bag.now (map listed_seen c.in_ok-listed.listed.items) ≡ Ok tt = rw (← c.deref-4.ensures.value) c.in_ok-keep_contents.ensures in
     let count : c.len.result ≡ length (map named_seen c.in_ok-found.found.items) = c.len.ensures ∙ c.in_ok-found.found.ok.0 ∙ sym (length-map c.in_ok-found.found.items named_seen) in
-    judged c.args.bag.now c.in_ok-version.version tt _ _ (report_seen c.report_on.result) c.in_ok-version.ensures c.in_ok-refuse_fetch.ensures found some read kept
+    judged c.args.bag.now c.in_ok-version.version tt _ _ (report_seen c.report_on.result) c.in_ok-version.ensures c.in_ok-refuse_fetch.ensures found some read kept contents
     (c.report_on.ensures ∙ ap (λ n. record { version = c.in_ok-version.version; files = payload_files c.args.bag.now; bytes = payload_bytes c.args.bag.now; manifests = n }) count)

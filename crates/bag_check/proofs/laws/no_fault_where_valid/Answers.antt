@@ -6,4 +6,4 @@ pub returns-clause-none : goal.returns-clause-none
 returns-clause-none c = λ files v fault is valid stands. none_stands files is v valid fault stands
 
 pub returns-clause-exactly : goal.returns-clause-exactly
-returns-clause-exactly c = λ files is plain. valid_exactly files is plain
+returns-clause-exactly c = λ files is. valid_exactly files is

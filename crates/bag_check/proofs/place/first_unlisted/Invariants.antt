@@ -4,4 +4,4 @@ use Rattle.bag_check.proofs.CodeLemmas.{unlisted}
 use Rattle.bag_check.proofs.place.first_unlisted.Given as goal
 
 abbrev pub invariant-loop-file : goal.invariant-loop-file
-invariant-loop-file l = unlisted l.manifest (files_of (drop l.file-index l.files)) ≡ unlisted l.manifest (files_of l.files)
+invariant-loop-file l = unlisted l.rule l.manifest (files_of (drop l.file-index l.files)) ≡ unlisted l.rule l.manifest (files_of l.files)

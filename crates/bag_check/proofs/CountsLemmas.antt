@@ -1,0 +1,136 @@
+-- Reading the value of a `Payload-Oxum` gives the counts that it names.
+use Rattle.std.proofs.Common.{◌≡◌, ℕ, ◌+◌, ◌≤◌, suc, Bool, true, false, cond, not, eqb, ◌&&◌, List, [], ◌∷◌, ◌++◌, length, take, drop, refl, sym, ap, subst, ◌∙◌, arith, append_assoc}
+use Rattle.std.specs.Prelude.{Option, Some, None, nat_le}
+use Rattle.std.specs.List.{list_all}
+use Rattle.std.specs.Char.{is_ascii_digit}
+use Rattle.std.proofs.lemmas.Bool.{and_parts, and_from, eqb-true}
+use Rattle.std.proofs.lemmas.Bool.Decides.{nat_tests}
+use Rattle.std.proofs.lemmas.List.{take-append-drop}
+use Rattle.std.proofs.lemmas.List.Sums.{prefix_len-le-length}
+use Rattle.std.proofs.lemmas.Option.{same_Some}
+use Rattle.bag_text.specs.Text.{is_blank, AreBlanks}
+use Rattle.bag_check.specs.Validity.{number_from, IsNumber, NamesCounts}
+use Rattle.bag_check.specs.OxumReading.{digit_len, digits_in, behind_digits, number_of, behind_stop, last_number, with_files, with_rest, with_bytes, counts_of}
+use Rattle.bag_check.proofs.OxumLemmas.{Stops, same_run, blanks_stop}
+
+-- ---- the digits at the front
+
+-- one more than a number is the next
+one_plus : (n : ℕ) → 1 + n ≡ suc n
+one_plus n = omega arith
+
+-- they stand within the text
+pub digits_fit : (t : List ℕ) → digit_len t ≤ length t
+digits_fit t = prefix_len-le-length (λ b. not (not (is_ascii_digit b))) t
+
+-- they are digits
+pub digits_all : (t : List ℕ) → list_all is_ascii_digit (digits_in t) ≡ true
+digits_all [] = refl
+digits_all (b ∷ t) = by_first (is_ascii_digit b) refl (digit_len t) (digits_all t)
+  where
+    by_first : (x : Bool) → is_ascii_digit b ≡ x → (n : ℕ) → list_all is_ascii_digit (take n t) ≡ true → list_all is_ascii_digit (take (cond (not (not x)) (1 + n) 0) (b ∷ t)) ≡ true
+    by_first true is n again = ap (λ (k : ℕ). list_all is_ascii_digit (take k (b ∷ t))) (one_plus n) ∙ and_from (is_ascii_digit b) (list_all is_ascii_digit (take n t)) is again
+    by_first false is n again = refl
+
+-- no digit follows them
+digits_stop : (t : List ℕ) → Stops is_ascii_digit (behind_digits t)
+digits_stop [] = tt
+digits_stop (b ∷ t) = by_first (is_ascii_digit b) refl (digit_len t) (digits_stop t)
+  where
+    by_first : (x : Bool) → is_ascii_digit b ≡ x → (n : ℕ) → Stops is_ascii_digit (drop n t) → Stops is_ascii_digit (drop (cond (not (not x)) (1 + n) 0) (b ∷ t))
+    by_first true is n again = subst (λ (k : ℕ). Stops is_ascii_digit (drop k (b ∷ t))) (sym (one_plus n)) again
+    by_first false is n again = is
+
+-- a text is its digits and what follows them
+cut : (t : List ℕ) → digits_in t ++ behind_digits t ≡ t
+cut t = take-append-drop (digit_len t) t
+
+-- digits that no digit follows are the digits at the front
+run_found : (t xs r : List ℕ) → t ≡ xs ++ r → list_all is_ascii_digit xs ≡ true → Stops is_ascii_digit r → (digits_in t ≡ xs) × (behind_digits t ≡ r)
+run_found t xs r is all stops = same_run is_ascii_digit (digits_in t) xs (behind_digits t) r (digits_all t) all (digits_stop t) stops (cut t ∙ is)
+
+-- ---- numbers
+
+-- the digits of a number are 1 to 20
+abbrev is_short : List ℕ → Bool
+is_short digits = nat_le 1 (length digits) && nat_le (length digits) 20
+
+-- digits that are read spell that number
+number_is : (digits : List ℕ) (n : ℕ) → list_all is_ascii_digit digits ≡ true → number_of digits ≡ Some n → IsNumber digits n
+number_is digits n all e = by_test (is_short digits) refl e
+  where
+    by_test : (x : Bool) → is_short digits ≡ x → cond x (Some (number_from 0 digits)) None ≡ Some n → IsNumber digits n
+    by_test true is e =
+        let sizes = and_parts (nat_le 1 (length digits)) (nat_le (length digits) 20) is in
+        record { some = grind (arith, nat_tests, sizes.0); few = grind (arith, nat_tests, sizes.1); all = all; is = same_Some (number_from 0 digits) n e }
+    by_test false is e = absurd cc
+
+-- digits that spell a number are read so
+number_again : (digits : List ℕ) (n : ℕ) → IsNumber digits n → number_of digits ≡ Some n
+number_again digits n is =
+    let one : 1 ≤ length digits = is.some in
+    let most : length digits ≤ 20 = is.few in
+    let some : nat_le 1 (length digits) ≡ true = grind (arith, nat_tests) in
+    let few : nat_le (length digits) 20 ≡ true = grind (arith, nat_tests) in
+    ap (λ (x : Bool). cond x (Some (number_from 0 digits)) None) (and_from (nat_le 1 (length digits)) (nat_le (length digits) 20) some few) ∙ ap (λ (k : ℕ). Some k) is.is
+
+-- ---- the parts of a value
+
+-- what stands behind a full stop
+stop_is : (t rest : List ℕ) → behind_stop t ≡ Some rest → t ≡ 46 ∷ rest
+stop_is [] rest e = absurd cc
+stop_is (b ∷ t) rest e = by_test (eqb b 46) refl e
+  where
+    by_test : (x : Bool) → eqb b 46 ≡ x → cond x (Some t) None ≡ Some rest → b ∷ t ≡ 46 ∷ rest
+    by_test true is e = ap (λ (c : ℕ). c ∷ t) (eqb-true b 46 is) ∙ ap (λ (r : List ℕ). 46 ∷ r) (same_Some t rest e)
+    by_test false is e = absurd cc
+
+-- a number at the end has only blanks behind it
+last_is : (t : List ℕ) (n : ℕ) → last_number t ≡ Some n → AreBlanks (behind_digits t) × (number_of (digits_in t) ≡ Some n)
+last_is t n e = by_test (list_all is_blank (behind_digits t)) refl e
+  where
+    by_test : (x : Bool) → list_all is_blank (behind_digits t) ≡ x → cond x (number_of (digits_in t)) None ≡ Some n → AreBlanks (behind_digits t) × (number_of (digits_in t) ≡ Some n)
+    by_test true is e = (is, e)
+    by_test false is e = absurd cc
+
+-- two numbers of which the second is read
+with_files_is : (bytes b f : ℕ) (o : Option ℕ) → with_files bytes o ≡ Some (b, f) → (bytes ≡ b) × (o ≡ Some f)
+with_files_is bytes b f None e = absurd cc
+with_files_is bytes b f (Some files) e =
+    let same : (bytes, files) ≡ (b, f) = same_Some (bytes, files) (b, f) e in
+    (ap (λ (x : ℕ × ℕ). x.0) same, ap (λ (x : ℕ × ℕ). Some x.1) same)
+
+-- a value of which counts are read names them
+pub counts_is : (value : List ℕ) (b f : ℕ) → counts_of value ≡ Some (b, f) → NamesCounts value b f
+counts_is value b f e = by_bytes (number_of (digits_in value)) refl e
+  where
+    by_rest : (bytes : ℕ) → number_of (digits_in value) ≡ Some bytes → (o : Option (List ℕ)) → behind_stop (behind_digits value) ≡ o → with_rest bytes o ≡ Some (b, f) → NamesCounts value b f
+    by_rest bytes first None stop e = absurd cc
+    by_rest bytes first (Some rest) stop e =
+        let both = with_files_is bytes b f (last_number rest) e in
+        let last = last_is rest f both.1 in
+        let behind : behind_digits value ≡ 46 ∷ (digits_in rest ++ behind_digits rest) = stop_is (behind_digits value) rest stop ∙ ap (λ (r : List ℕ). 46 ∷ r) (sym (cut rest)) in (
+          digits_in value,
+          digits_in rest,
+          behind_digits rest,
+          sym (cut value) ∙ ap (λ (r : List ℕ). digits_in value ++ r) behind ∙ sym (append_assoc (digits_in value) (46 ∷ digits_in rest) (behind_digits rest)),
+          last.0,
+          number_is (digits_in value) b (digits_all value) (first ∙ ap (λ (k : ℕ). Some k) both.0),
+          number_is (digits_in rest) f (digits_all rest) last.1,
+        )
+
+    by_bytes : (o : Option ℕ) → number_of (digits_in value) ≡ o → with_bytes o (behind_stop (behind_digits value)) ≡ Some (b, f) → NamesCounts value b f
+    by_bytes None first e = absurd cc
+    by_bytes (Some bytes) first e = by_rest bytes first (behind_stop (behind_digits value)) refl e
+
+-- the counts that a value names are read of it
+pub counts_again : (value : List ℕ) (b f : ℕ) → NamesCounts value b f → counts_of value ≡ Some (b, f)
+counts_again value b f (first, second, after, is, blanks, bytes, files) =
+    let whole : value ≡ first ++ (46 ∷ (second ++ after)) = is ∙ append_assoc first (46 ∷ second) after in
+    let one = run_found value first (46 ∷ (second ++ after)) whole bytes.all refl in
+    let two = run_found (second ++ after) second after refl files.all (blanks_stop after blanks) in
+    let number : number_of (digits_in value) ≡ Some b = ap number_of one.0 ∙ number_again first b bytes in
+    let rest : behind_stop (behind_digits value) ≡ Some (second ++ after) = ap behind_stop one.1 in
+    let only : list_all is_blank (behind_digits (second ++ after)) ≡ true = ap (list_all is_blank) two.1 ∙ blanks in
+    let last : last_number (second ++ after) ≡ Some f = ap (λ (x : Bool). cond x (number_of (digits_in (second ++ after))) None) only ∙ ap number_of two.0 ∙ number_again second f files in
+    ap (λ (o : Option ℕ). with_bytes o (behind_stop (behind_digits value))) number ∙ ap (with_rest b) rest ∙ ap (with_files b) last

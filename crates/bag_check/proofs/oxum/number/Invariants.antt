@@ -1,0 +1,11 @@
+use Rattle.std.proofs.Common.{◌≡◌, ◌<◌, ◌^◌, true, drop}
+use Rattle.std.specs.List.{list_all}
+use Rattle.std.specs.Char.{is_ascii_digit}
+use Rattle.bag_check.specs.Validity.{number_from}
+use Rattle.bag_check.proofs.oxum.number.Given as goal
+
+abbrev pub invariant-loop-digit : goal.invariant-loop-digit
+invariant-loop-digit l =
+    (number_from l.number (drop l.digit-index l.digits) ≡ number_from 0 l.digits)
+    × (list_all is_ascii_digit (drop l.digit-index l.digits) ≡ true)
+    × (l.number < 10 ^ l.digit-index)

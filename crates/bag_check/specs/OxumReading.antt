@@ -1,0 +1,45 @@
+-- What reading the value of a `Payload-Oxum` gives, by computing.
+use Rattle.std.specs.Prelude.{ℕ, not, List, [], ◌∷◌, length, take, drop, Option, Some, None, ◌==◌, ◌&&◌, nat_le, if◌then◌else◌}
+use Rattle.std.specs.List.{list_all, position_or_len}
+use Rattle.std.specs.Char.{is_ascii_digit}
+use Rattle.bag_text.specs.Text.{is_blank}
+use Rattle.bag_check.specs.Validity.{number_from}
+
+-- the digits at the front of a text, and what stands behind them
+abbrev pub digit_len : List ℕ → ℕ
+digit_len t = position_or_len (λ b. not (is_ascii_digit b)) t
+
+abbrev pub digits_in : List ℕ → List ℕ
+digits_in t = take (digit_len t) t
+
+abbrev pub behind_digits : List ℕ → List ℕ
+behind_digits t = drop (digit_len t) t
+
+-- the number that 1 to 20 digits spell
+abbrev pub number_of : List ℕ → Option ℕ
+number_of digits = if nat_le 1 (length digits) && nat_le (length digits) 20 then Some (number_from 0 digits) else None
+
+-- what stands behind a full stop
+abbrev pub behind_stop : List ℕ → Option (List ℕ)
+behind_stop [] = None
+behind_stop (b ∷ t) = if b == 46 then Some t else None
+
+-- a number with nothing but blanks behind it
+abbrev pub last_number : List ℕ → Option ℕ
+last_number t = if list_all is_blank (behind_digits t) then number_of (digits_in t) else None
+
+abbrev pub with_files : ℕ → Option ℕ → Option (ℕ × ℕ)
+with_files bytes None = None
+with_files bytes (Some files) = Some (bytes, files)
+
+abbrev pub with_rest : ℕ → Option (List ℕ) → Option (ℕ × ℕ)
+with_rest bytes None = None
+with_rest bytes (Some rest) = with_files bytes (last_number rest)
+
+abbrev pub with_bytes : Option ℕ → Option (List ℕ) → Option (ℕ × ℕ)
+with_bytes None rest = None
+with_bytes (Some bytes) rest = with_rest bytes rest
+
+-- the bytes and the files that a value names
+abbrev pub counts_of : List ℕ → Option (ℕ × ℕ)
+counts_of value = with_bytes (number_of (digits_in value)) (behind_stop (behind_digits value))
