@@ -2,3 +2,4 @@ pub mod OptionLemmas
 pub mod DayLemmas
 pub mod RuleLemmas
 pub mod PolicyLemmas
+pub mod DueLemmas

@@ -3,7 +3,7 @@
 ghost use Rattle.std.specs.Prelude.{◌≡◌, ◌≤◌, ◌≤ℤ◌, ◌+ℤ◌, pos, if◌then◌else◌};
 ghost use Rattle.jiff.specs.Words.{is_leap_year};
 ghost use Rattle.office_core.specs.Days.{IsDay, is_missing, IsYearsAfter};
-ghost use Rattle.office_core.specs.Retention.{IsDue};
+ghost use Rattle.office_core.specs.Retention.{IsDue, due_of};
 
 use crate::day::Day;
 use crate::retention::{Due, Years};
@@ -48,14 +48,21 @@ fn years_after(date: civil::Date, count: u8) -> civil::Date
     civil::date(year, date.month(), day_in(year, date))
 }
 
-/// The day from which a deposit that was closed on `closing` may be destroyed: the same month and day that
-/// many years later, 28 February for a 29 February that the year doesn't have, and never where it is kept
-/// for good.
-pub fn due(closing: Day, years: Years) -> Due
+fn due_on(closing: Day, years: Years) -> Due
     ensures { IsDue closing years result }
 {
     match years.count() {
         Some(count) => Due::On(years_after(closing.date(), count)),
         None => Due::Never,
     }
+}
+
+/// The day from which a deposit that was closed on `closing` may be destroyed: the same month and day that
+/// many years later, 28 February for a 29 February that the year doesn't have, and never where it is kept
+/// for good.
+pub fn due(closing: Day, years: Years) -> Due
+    ensures due { IsDue closing years result }
+    ensures exact { result ≡ due_of closing years }
+{
+    due_on(closing, years)
 }

@@ -1,8 +1,10 @@
 //! Laws of the definitions alone.
 
-ghost use Rattle.std.specs.Prelude.{◌≡◌, ◌++◌, List, Some, true, false};
+ghost use Rattle.std.specs.Prelude.{◌≡◌, ◌++◌, ℕ, List, Option, Some, true, false};
 ghost use Rattle.jiff.specs.Types.{Date};
 ghost use Rattle.office_core.specs.Rules.{Question, decision_of, some_rule_allows};
+ghost use Rattle.office_core.specs.Retention.{IsDue, due_of};
+ghost use Rattle.office_core.specs.declared.retention.Due.{Due};
 ghost use Rattle.office_core.specs.Verdicts.{verdict_of, is_denied, IsReadyForDisposal};
 ghost use Rattle.office_core.specs.declared.rule.Rule.{Rule};
 ghost use Rattle.office_core.specs.declared.rule.Decision.{Decision};
@@ -24,4 +26,9 @@ pub fn no_allow_rule()
 /// has come.
 pub fn allowed_disposal()
     ensures { (facts : Facts) (day : Date) → facts.action ≡ Dispose → verdict_of facts day ≡ Allow → IsReadyForDisposal facts day }
+{}
+
+/// The due day that is computed is the one that the calendar has.
+pub fn one_due()
+    ensures { (closing : Date) (years : Option ℕ) (due : Due) → IsDue closing years due → due_of closing years ≡ due }
 {}

@@ -2,6 +2,7 @@
 #![tactic(auto)]
 
 mod action;
+mod answer;
 mod caller;
 mod closing;
 mod day;
@@ -13,24 +14,33 @@ mod names;
 mod policy;
 mod policy_fault;
 mod policy_reading;
+mod refusal;
+mod request;
 mod retention;
 mod rule;
 mod rule_flaw;
 mod rule_reading;
+mod sequence;
+mod text;
 mod tree;
 
 pub use action::Action;
+pub use answer::{Answer, AuditReport, DepositRecord, LiveHold, Scope};
 pub use caller::Caller;
 pub use closing::due;
 pub use day::Day;
 pub use deciding::verdict;
 pub use facts::{Facts, Verdict};
 pub use limits::Limits;
-pub use names::{Accession, Matter, Name, OwnedName};
+pub use names::{Accession, Matter, Name, OwnedAccession, OwnedMatter, OwnedName};
 pub use policy::{Policy, read_policy};
 pub use policy_fault::PolicyFault;
+pub use refusal::{Refusal, Subject};
+pub use request::Request;
 pub use retention::{Due, Years};
 pub use rule::{ActionPattern, Ask, Decision, Effect, Pattern, Rule, decide, first_match};
+pub use sequence::Sequence;
+pub use text::FaultText;
 
 #[cfg(test)]
 mod tests;

@@ -184,6 +184,41 @@ impl<'a> Accession<'a> {
     {
         self.text
     }
+
+    /// The accession number with a text of its own.
+    pub fn to_owned(&self, alloc: Global) -> Result<OwnedAccession, AllocError>
+        ensures { IfOk result (λ owned. owned ≡ self.now) }
+    {
+        Ok(OwnedAccession {
+            text: String::from_str(alloc, self.text)?,
+        })
+    }
+}
+
+/// An accession number that owns its text.
+#[derive(Debug, Drop)]
+pub struct OwnedAccession {
+    text: String,
+}
+
+impl Model for OwnedAccession {
+    ghost use Rattle.std.specs.Prelude.{List, ℕ, string_bytes};
+    ghost use Rattle.office_core.specs.Names.{IsAccession};
+
+    ghost Value = { List ℕ };
+
+    ghost view = { λ accession. string_bytes accession.text };
+
+    ghost invariant = { λ accession. IsAccession (string_bytes accession.text) };
+}
+
+impl OwnedAccession {
+    pub fn as_str(&self) -> &str
+        ensures text { result.now ≡ self.now }
+        ensures accession { IsAccession result.now }
+    {
+        self.text.as_str()
+    }
 }
 
 /// The matter of a hold: 1 to 200 bytes of text without a character below U+0020 and without U+007F.
@@ -220,5 +255,40 @@ impl<'a> Matter<'a> {
         ensures matter { IsMatter result.now }
     {
         self.text
+    }
+
+    /// The matter with a text of its own.
+    pub fn to_owned(&self, alloc: Global) -> Result<OwnedMatter, AllocError>
+        ensures { IfOk result (λ owned. owned ≡ self.now) }
+    {
+        Ok(OwnedMatter {
+            text: String::from_str(alloc, self.text)?,
+        })
+    }
+}
+
+/// A matter that owns its text.
+#[derive(Debug, Drop)]
+pub struct OwnedMatter {
+    text: String,
+}
+
+impl Model for OwnedMatter {
+    ghost use Rattle.std.specs.Prelude.{List, ℕ, string_bytes};
+    ghost use Rattle.office_core.specs.Names.{IsMatter};
+
+    ghost Value = { List ℕ };
+
+    ghost view = { λ matter. string_bytes matter.text };
+
+    ghost invariant = { λ matter. IsMatter (string_bytes matter.text) };
+}
+
+impl OwnedMatter {
+    pub fn as_str(&self) -> &str
+        ensures text { result.now ≡ self.now }
+        ensures matter { IsMatter result.now }
+    {
+        self.text.as_str()
     }
 }

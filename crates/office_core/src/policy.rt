@@ -29,7 +29,7 @@ impl Model for Policy {
 }
 
 impl Policy {
-    /// The callers, ascending by name.
+    /// The callers, each with its role.
     pub fn callers(&self) -> &[Caller]
         ensures { result.now ≡ self.now.callers }
     {

@@ -58,7 +58,7 @@ fn due_days(rt: HostRuntime) -> Result<(), Fail> {
 }
 
 #[test]
-fn names(rt: HostRuntime) {
+fn names(rt: HostRuntime) -> Result<(), Fail> {
     let forty = "abcdefghijabcdefghijabcdefghijabcdefghij";
     assert!(rt; Name::read("y-1_0.a").is_some());
     assert!(rt; Name::read(forty).is_some());
@@ -70,6 +70,13 @@ fn names(rt: HostRuntime) {
     assert!(rt; Matter::read("Case 7, \u{00e9}").is_some());
     assert!(rt; Matter::read("a\nb").is_none());
     assert!(rt; Matter::read("a\u{007f}").is_none());
+    if let Some(accession) = Accession::read("A-1") {
+        assert_eq!(rt; accession.to_owned(rt.alloc())?.as_str(), "A-1");
+    }
+    if let Some(matter) = Matter::read("Case 7") {
+        assert_eq!(rt; matter.to_owned(rt.alloc())?.as_str(), "Case 7");
+    }
+    Ok(())
 }
 
 #[test]

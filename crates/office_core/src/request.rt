@@ -1,0 +1,74 @@
+//! What a caller asks of the office.
+
+use crate::day::Day;
+use crate::names::{Accession, Matter, Name};
+use crate::retention::Years;
+
+/// What a caller asks of the office. Deposits and holds are asked for by their numbers, from 1.
+#[derive(Debug, Drop)]
+pub enum Request<'a> {
+    /// Define a class, or set the years of one that is there.
+    DefineClass {
+        name: Name<'a>,
+        years: Years,
+    },
+    /// Define a collection. One that is there stays as it is.
+    DefineCollection {
+        name: Name<'a>,
+    },
+    /// Deposit the bag whose transfer form the bytes are.
+    Deposit {
+        collection: Name<'a>,
+        class: Name<'a>,
+        accession: Accession<'a>,
+        /// The day on which the records were closed.
+        closed: Day,
+        bag: &'a [u8],
+    },
+    /// List the kept deposits: of one collection, of one class, or of all.
+    List {
+        collection: Option<Name<'a>>,
+        class: Option<Name<'a>>,
+    },
+    /// The record of a deposit.
+    Record {
+        deposit: u32,
+    },
+    /// The live holds that cover a deposit.
+    Holds {
+        deposit: u32,
+    },
+    /// The transfer form of a deposit's bag.
+    DownloadBag {
+        deposit: u32,
+    },
+    /// The file of a deposit's bag at a path.
+    DownloadFile {
+        deposit: u32,
+        path: &'a [u8],
+    },
+    /// Check the bag of a deposit, as it is stored.
+    Audit {
+        deposit: u32,
+    },
+    /// Hold a deposit.
+    HoldDeposit {
+        deposit: u32,
+        matter: Matter<'a>,
+    },
+    /// Hold a collection: all its deposits, those that come later too.
+    HoldCollection {
+        collection: Name<'a>,
+        matter: Matter<'a>,
+    },
+    /// Release a hold.
+    Release {
+        hold: u32,
+    },
+    /// Destroy a deposit.
+    Dispose {
+        deposit: u32,
+    },
+    /// The deposits that the caller may destroy that day.
+    DueList,
+}
