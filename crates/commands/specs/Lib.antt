@@ -1,2 +1,6 @@
 pub mod CommandLine
+pub mod CommandBuilding
+pub mod AskingReading
+pub mod Saying
+pub mod Explaining
 pub mod Verdicts

@@ -10,7 +10,7 @@ pub enum Ending {
     Accepted,
     /// The answer is no.
     Refused,
-    /// The words, or what they name, are no use of the program.
+    /// The words are no use of the program.
     Misused,
     /// A device or memory failed.
     Failed,

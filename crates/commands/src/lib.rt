@@ -1,16 +1,23 @@
 //! The program's words, and its whole work over them, a reader and two writers.
 #![tactic(auto)]
 
+mod asking;
 mod ending;
+mod explain;
 mod line;
 mod program;
 mod said;
+mod use_fault;
 mod verdict;
+mod words;
 
+pub use asking::Asked;
 pub use ending::Ending;
-pub use line::{Line, UseFault, read_line};
+pub use explain::explained;
+pub use line::{Line, read_line};
 pub use program::{Failure, run, words_refused};
-pub use said::Verdict;
+pub use said::Said;
+pub use use_fault::UseFault;
 pub use verdict::{MOST_BYTES, line_of};
 
 #[cfg(test)]

@@ -1,85 +1,39 @@
 //! The words of a command line: a subcommand's name, and the words that it wants.
 
-ghost use Rattle.std.specs.Prelude.{◌≡◌, ◌⊎◌, ◌∷◌, [], List, ℕ, IfOk, IfErr, MatchResult, Some, codes, true, false};
-ghost use Rattle.clap.specs.Words.{FailsBy, Text, fault_of, first_of, kind_of, matches_of};
-ghost use Rattle.clap.specs.declared.error.kind.ErrorKind.TheVariants.{OutOfMemory};
-ghost use Rattle.commands.specs.CommandLine.{HasValues, IsCheckOf, IsPlainWord, check_command, check_words, is_taken, texts};
-ghost use Rattle.commands.specs.declared.line.UseFault.TheVariants.{Memory};
+ghost use Rattle.std.specs.Prelude.{◌≡◌, ◌⊎◌, IfOk, IfErr, MatchResult, Some, codes, true, false};
+ghost use Rattle.clap.specs.Words.{FailsBy, Text, fault_of};
+ghost use Rattle.commands.specs.CommandLine.{HasValues, IsCheckOf, IsExplainOf, IsPlainQuestion, IsPlainWord, check_command, check_words, explain_words, is_taken, texts, value_of};
+ghost use Rattle.commands.specs.declared.asking.Asked.{Asked};
+ghost use Rattle.commands.specs.declared.use_fault.UseFault.TheVariants.{Memory};
 
-use clap::error::ErrorKind;
-use clap::{Arg, ArgAction, Command, Error};
-use std::alloc::{AllocError, AllocFailed, Global};
-use std::fmt;
+use crate::asking::{Asked, asked_by, given_words};
+use crate::use_fault::{UseFault, by_clap, explained_by};
+use crate::words::{matches_of, word_at};
+use clap::Error;
+use std::alloc::Global;
 
 /// What a command line asks for.
-#[derive(Clone, Copy, Debug, PartialEq, Eq)]
+#[derive(Debug, Drop)]
 pub enum Line<'a> {
     /// Judge the bag in this file; `-` is standard input.
     Check { file: &'a str },
+    /// Say which rule decides.
+    Explain(Asked<'a>),
 }
 
-/// Why a command line asks for nothing.
-#[derive(Debug, Drop)]
-pub enum UseFault {
-    /// The words are no use of the program. The text says why, or how the program is used.
-    Use(String),
-    /// A growth was refused.
-    Memory,
-}
+const USES: &str =
+    "Usage: depot check FILE\n       depot explain POLICY CALLER ACTION COLLECTION CLASS\n";
 
-impl fmt::Display for UseFault {
-    fn fmt<W: fmt::Write>(&self, f: &mut fmt::Formatter<W>) -> fmt::Result {
-        match self {
-            UseFault::Use(text) => write!(f, "{text}"),
-            UseFault::Memory => write!(f, "memory"),
-        }
-    }
-}
-
-impl std::error::Error for UseFault {}
-
-impl From<AllocError> for UseFault {
-    ghost from_gives = { λ _ e. e ≡ Memory };
-
-    fn from(_error: AllocError) -> UseFault {
-        UseFault::Memory
-    }
-}
-
-const USES: &str = "Usage: depot check FILE\n";
+/// The names of the words that `check` wants.
+static NAMES: [&str; 1] = ["FILE"];
 
 /// The file that the words of `check` name.
 fn checked_file<'a>(alloc: Global, words: &'a [&'a str]) -> Result<&'a str, Error>
-    ensures file { IfOk result (λ file. first_of (codes "FILE") (matches_of check_command (texts words.now)) ≡ Some file.now) }
-    ensures faults { FailsBy (fault_of check_command (texts words.now)) result }
+    ensures file { IfOk result (λ file. value_of check_command (codes "FILE") (texts words.entry.now) ≡ Some file.now) }
+    ensures faults { FailsBy (fault_of check_command (texts words.entry.now)) result }
 {
-    let file = Arg::new(alloc, "FILE")
-        .required(true)
-        .action(ArgAction::Set);
-    let command = Command::new(alloc, "check").arg(file)?;
-    let matches = command.try_get_matches_from(words)?;
-    Ok(matches.get_str("FILE").unwrap())
-}
-
-/// What a refusal of clap's comes to.
-fn use_fault(alloc: Global, error: &Error) -> UseFault
-    ensures memory { kind_of error.now ≡ OutOfMemory → result ≡ Memory }
-{
-    if error.kind() == ErrorKind::OutOfMemory {
-        return UseFault::Memory;
-    }
-    match format!(in alloc; "{error}") {
-        Ok(text) => UseFault::Use(text),
-        Err(_) => UseFault::Memory,
-    }
-}
-
-/// The words that name no subcommand.
-fn no_subcommand(alloc: Global) -> UseFault {
-    match String::from_str(alloc, USES) {
-        Ok(text) => UseFault::Use(text),
-        Err(_) => UseFault::Memory,
-    }
+    let matches = matches_of(alloc, "check", NAMES.as_slice(), words)?;
+    Ok(word_at(&matches, "FILE"))
 }
 
 /// Reads the words after the program's name.
@@ -89,15 +43,21 @@ pub fn read_line<'a>(alloc: Global, words: &'a [&'a str]) -> Result<Line<'a>, Us
     ensures refused { IfErr result (λ fault. (fault ≡ Memory) ⊎ (is_taken (texts words.now) ≡ false)) }
     ensures plain { (file : Text) → IsPlainWord file → texts words.now ≡ check_words file
         → MatchResult result (IsCheckOf file) (λ fault. fault ≡ Memory) }
+    ensures plain_question { (asked : Asked) → IsPlainQuestion asked → texts words.now ≡ explain_words asked
+        → MatchResult result (IsExplainOf asked) (λ fault. fault ≡ Memory) }
 {
     let Some(name) = words.first() else {
-        return Err(no_subcommand(alloc));
+        return Err(explained_by(alloc, USES));
     };
     match *name {
         "check" => match checked_file(alloc, words) {
             Ok(file) => Ok(Line::Check { file }),
-            Err(error) => Err(use_fault(alloc, &error)),
+            Err(error) => Err(by_clap(alloc, &error)),
         },
-        _ => Err(no_subcommand(alloc)),
+        "explain" => match given_words(alloc, words) {
+            Ok(given) => Ok(Line::Explain(asked_by(alloc, given)?)),
+            Err(error) => Err(by_clap(alloc, &error)),
+        },
+        _ => Err(explained_by(alloc, USES)),
     }
 }

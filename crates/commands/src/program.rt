@@ -1,13 +1,18 @@
 //! The program's whole work, over words, a reader and two writers.
 
 ghost use Rattle.std.specs.Io.KnownBytes.{Appends};
-ghost use Rattle.std.specs.Prelude.{OnOk, ◌≡◌, ◌⊎◌, false, IfOk, IfSome, take};
+ghost use Rattle.std.specs.Prelude.{OnOk, ◌≡◌, ◌≢◌, ◌⊎◌, false, IfOk, IfSome, take};
+ghost use Rattle.std.specs.IoError.{error_kind};
+ghost use Rattle.std.specs.declared.io.ErrorKind.TheVariants.{InvalidData};
 ghost use Rattle.commands.specs.CommandLine.{is_taken, texts};
 ghost use Rattle.commands.specs.declared.ending.Ending.TheVariants.{Misused, Failed};
 
+use crate::asking::Asked;
 use crate::ending::Ending;
-use crate::line::{Line, UseFault, read_line};
-use crate::said::Verdict;
+use crate::explain::explained;
+use crate::line::{Line, read_line};
+use crate::said::Said;
+use crate::use_fault::UseFault;
 use crate::verdict::{MOST_BYTES, line_of};
 use std::alloc::{AllocError, Global};
 use std::io::{Error, ErrorKind, Read, Write};
@@ -56,6 +61,15 @@ fn read_bytes<R: Read>(alloc: Global, input: &mut R) -> Result<Vec<u8>, Failure>
     Ok(bytes)
 }
 
+/// Reads the input to its end.
+fn read_all<R: Read>(alloc: Global, input: &mut R) -> Result<Vec<u8>, Failure>
+    ensures { IfOk result (λ bytes. IfSome (R.remaining input.old) (λ given. bytes.items ≡ given)) }
+{
+    let mut bytes = Vec::new(alloc);
+    input.read_to_end(&mut bytes)?;
+    Ok(bytes)
+}
+
 /// Reads the file, or the input where the file is `-`.
 fn read_named<F: Files, R: Read>(
     rt: &F,
@@ -79,25 +93,34 @@ fn write_text<W: Write>(text: &str, out: &mut W) -> Result<(), Failure>
     Ok(())
 }
 
+/// Prints what is said.
+fn say<W: Write>(said: Said, out: &mut W) -> Result<Ending, Failure>
+    ensures { IfOk result (λ ending. ending ≡ said.ending) }
+{
+    write_text(said.line.as_str(), out)?;
+    Ok(said.ending)
+}
+
 /// `check`: judges a bag and prints the line.
-fn check<F: Files + AllocGlobal, R: Read, O: Write, E: Write>(
+fn check<F: Files + AllocGlobal, R: Read, O: Write>(
     rt: &F,
     file: &str,
     input: &mut R,
     out: &mut O,
-    err: &mut E,
 ) -> Result<Ending, Failure> {
     let bytes = read_named(rt, rt.alloc(), file, input)?;
-    match line_of(rt.alloc(), bytes.as_slice())? {
-        Verdict::Line(line, ending) => {
-            write_text(line.as_str(), out)?;
-            Ok(ending)
-        }
-        Verdict::Excluded(why) => {
-            write_text(why.as_str(), err)?;
-            Ok(Ending::Misused)
-        }
-    }
+    say(line_of(rt.alloc(), bytes.as_slice())?, out)
+}
+
+/// `explain`: says which rule of a policy decides.
+fn explain<F: Files + AllocGlobal, O: Write>(
+    rt: &F,
+    asked: &Asked<'_>,
+    out: &mut O,
+) -> Result<Ending, Failure> {
+    let mut file = fs::open(rt, asked.policy)?;
+    let policy = read_all(rt.alloc(), &mut file)?;
+    say(explained(rt.alloc(), policy.as_slice(), asked)?, out)
 }
 
 /// Does what the words ask for.
@@ -111,7 +134,8 @@ fn work<F: Files + AllocGlobal, R: Read, O: Write, E: Write>(
     ensures { is_taken (texts words.now) ≡ false → IfOk result (λ ending. ending ≡ Misused) }
 {
     match read_line(rt.alloc(), words) {
-        Ok(Line::Check { file }) => check(rt, file, input, out, err),
+        Ok(Line::Check { file }) => check(rt, file, input, out),
+        Ok(Line::Explain(asked)) => explain(rt, &asked, out),
         Err(UseFault::Use(text)) => {
             write_text(text.as_str(), err)?;
             Ok(Ending::Misused)
@@ -147,8 +171,9 @@ fn failed<E: Write>(failure: Failure, err: &mut E) -> Ending
 
 /// The ending where the process's words could not be had: one of them is no text, or memory ran out.
 pub fn words_refused<E: Write>(error: &Error, err: &mut E) -> Ending
-    // Words that could not be had are never judged.
-    ensures unjudged { (result ≡ Misused) ⊎ (result ≡ Failed) }
+    // A word that is no text is a fault of use, and whatever else the words failed for a failure.
+    ensures no_text { error_kind error.now ≡ InvalidData → result ≡ Misused }
+    ensures failed { error_kind error.now ≢ InvalidData → result ≡ Failed }
 {
     match error.kind() {
         ErrorKind::InvalidData => {

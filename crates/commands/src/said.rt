@@ -1,12 +1,10 @@
-//! What the program says of a bag.
+//! What the program says.
 
 use crate::ending::Ending;
 
-/// What the program says of a bag.
+/// A line for standard output, with its end, and how the program ends.
 #[derive(Debug, Drop)]
-pub enum Verdict {
-    /// A line for standard output, with its end, and how the program ends.
-    Line(String, Ending),
-    /// The bag is none that is judged today; the line, with its end, says why.
-    Excluded(String),
+pub struct Said {
+    pub line: String,
+    pub ending: Ending,
 }

@@ -5,18 +5,18 @@ ghost use Rattle.bag_text.specs.TransferForm.{File, IsBag, set_text};
 ghost use Rattle.bag_text.specs.TransferFaults.{FaultIs};
 ghost use Rattle.bag_text.specs.declared.declaration.Version.{Version};
 ghost use Rattle.bag_text.specs.declared.set_fault.SetFault.{SetFault};
-ghost use Rattle.bag_check.specs.Plain.{IsPlain};
 ghost use Rattle.bag_check.specs.Validity.{Valid, report_of};
 ghost use Rattle.bag_check.specs.Faults.{Fault, FirstFault};
 ghost use Rattle.bag_check.specs.Answers.{report_seen, named_fault};
-ghost use Rattle.commands.specs.Verdicts.{too_many, valid_line, invalid_line, unreadable_line, too_long_line, Prints, IsExcluded, IsFormOf, SaysOfBag, Says};
+ghost use Rattle.commands.specs.Saying.{Prints};
+ghost use Rattle.commands.specs.Verdicts.{too_many, valid_line, invalid_line, unreadable_line, too_long_line, IsFormOf, SaysOfBag, Says};
 ghost use Rattle.bag_check.specs.declared.fault.BagFault.TheVariants.{Memory};
 ghost use Rattle.bag_text.specs.declared.set_fault.SetFault.TheVariants as sets;
 ghost use Rattle.commands.specs.declared.ending.Ending.TheVariants.{Accepted, Refused};
 
 use crate::ending::Ending;
-use crate::said::Verdict;
-use bag_check::{BagFault, BagReport, check_bag, is_plain};
+use crate::said::Said;
+use bag_check::{BagFault, BagReport, check_bag};
 use bag_text::{BagSet, SetFault, read_bagset};
 use std::alloc::{AllocError, Global};
 use std::fmt::Write;
@@ -24,11 +24,9 @@ use std::fmt::Write;
 /// The most bytes that are read. Where so many come they are too many to be judged.
 pub const MOST_BYTES: u64 = 16_777_217;
 
-const EXCLUDED: &str = "bags with a tag manifest or bag-info.txt are not judged yet\n";
-
 /// The line of a valid bag.
-fn valid(alloc: Global, report: BagReport) -> Result<Verdict, AllocError>
-    ensures { IfOk result (λ verdict. Prints verdict (valid_line (report_seen report)) Accepted) }
+fn valid(alloc: Global, report: BagReport) -> Result<Said, AllocError>
+    ensures { IfOk result (λ said. Prints said (valid_line (report_seen report)) Accepted) }
 {
     let BagReport {
         version,
@@ -40,48 +38,57 @@ fn valid(alloc: Global, report: BagReport) -> Result<Verdict, AllocError>
     write!(line, " files {files}")?;
     write!(line, " bytes {bytes}")?;
     write!(line, " manifests {manifests}\n")?;
-    Ok(Verdict::Line(line, Ending::Accepted))
+    Ok(Said {
+        line,
+        ending: Ending::Accepted,
+    })
 }
 
 /// The line of a bag that isn't valid.
-fn invalid(alloc: Global, fault: &BagFault<'_>) -> Result<Verdict, AllocError>
+fn invalid(alloc: Global, fault: &BagFault<'_>) -> Result<Said, AllocError>
     ensures memory { fault.now ≡ Memory → IsErr result }
-    ensures line { IfOk result (λ verdict. (first : Fault) → named_fault fault.now ≡ Some first → Prints verdict (invalid_line first) Refused) }
+    ensures line { IfOk result (λ said. (first : Fault) → named_fault fault.now ≡ Some first → Prints said (invalid_line first) Refused) }
 {
     if matches!(fault, BagFault::Memory) {
         return Err(AllocError);
     }
     let line = format!(in alloc; "invalid {fault}\n")?;
-    Ok(Verdict::Line(line, Ending::Refused))
+    Ok(Said {
+        line,
+        ending: Ending::Refused,
+    })
 }
 
 /// The line of bytes that are no form.
-fn unreadable(alloc: Global, fault: SetFault) -> Result<Verdict, AllocError>
+fn unreadable(alloc: Global, fault: SetFault) -> Result<Said, AllocError>
     ensures memory { fault ≡ sets.Memory → IsErr result }
-    ensures line { IfOk result (λ verdict. Prints verdict (unreadable_line fault) Refused) }
+    ensures line { IfOk result (λ said. Prints said (unreadable_line fault) Refused) }
 {
     if fault == SetFault::Memory {
         return Err(AllocError);
     }
     let line = format!(in alloc; "unreadable {fault}\n")?;
-    Ok(Verdict::Line(line, Ending::Refused))
+    Ok(Said {
+        line,
+        ending: Ending::Refused,
+    })
 }
 
 /// The line of too many bytes.
-fn too_long(alloc: Global) -> Result<Verdict, AllocError>
-    ensures { IfOk result (λ verdict. Prints verdict too_long_line Refused) }
+fn too_long(alloc: Global) -> Result<Said, AllocError>
+    ensures { IfOk result (λ said. Prints said too_long_line Refused) }
 {
     let line = String::from_str(alloc, "unreadable SIZE\n")?;
-    Ok(Verdict::Line(line, Ending::Refused))
+    Ok(Said {
+        line,
+        ending: Ending::Refused,
+    })
 }
 
 /// What is said of a bag.
-fn line_of_bag(alloc: Global, bag: &BagSet<'_>) -> Result<Verdict, AllocError>
+fn line_of_bag(alloc: Global, bag: &BagSet<'_>) -> Result<Said, AllocError>
     ensures { IfOk result (SaysOfBag bag.now) }
 {
-    if !is_plain(bag) {
-        return Ok(Verdict::Excluded(String::from_str(alloc, EXCLUDED)?));
-    }
     match check_bag(alloc, bag) {
         Ok(report) => valid(alloc, report),
         Err(fault) => invalid(alloc, &fault),
@@ -89,7 +96,7 @@ fn line_of_bag(alloc: Global, bag: &BagSet<'_>) -> Result<Verdict, AllocError>
 }
 
 /// What is said of the bytes.
-fn line_of_bytes(alloc: Global, bytes: &[u8]) -> Result<Verdict, AllocError>
+fn line_of_bytes(alloc: Global, bytes: &[u8]) -> Result<Said, AllocError>
     ensures { IfOk result (Says bytes.now) }
 {
     if bytes.len() as u64 >= MOST_BYTES {
@@ -102,24 +109,22 @@ fn line_of_bytes(alloc: Global, bytes: &[u8]) -> Result<Verdict, AllocError>
 }
 
 /// Judges the bytes that were read: the line that `check` prints, and how it ends.
-pub fn line_of(alloc: Global, bytes: &[u8]) -> Result<Verdict, AllocError>
+pub fn line_of(alloc: Global, bytes: &[u8]) -> Result<Said, AllocError>
     // What is said is so.
     ensures says { IfOk result (Says bytes.now) }
 
     // Too many bytes are refused as such.
-    ensures too_long { too_many ≤ length bytes.now → IfOk result (λ verdict. Prints verdict too_long_line Refused) }
+    ensures too_long { too_many ≤ length bytes.now → IfOk result (λ said. Prints said too_long_line Refused) }
 
     // The form of a valid bag is accepted, unless memory runs out; that nothing else is follows from what is said.
-    ensures valid { (files : List File) (v : Version) → IsFormOf bytes.now files → IsPlain files → Valid files v
-        → IfOk result (λ verdict. Prints verdict (valid_line (report_of v files)) Accepted) }
+    ensures valid { (files : List File) (v : Version) → IsFormOf bytes.now files → Valid files v
+        → IfOk result (λ said. Prints said (valid_line (report_of v files)) Accepted) }
     // A bag that isn't valid is refused with its first fault.
-    ensures invalid { (files : List File) (fault : Fault) → IsFormOf bytes.now files → IsPlain files → FirstFault files fault
-        → IfOk result (λ verdict. Prints verdict (invalid_line fault) Refused) }
-    // A bag with a tag manifest or `bag-info.txt` is said to be none that is judged.
-    ensures excluded { (files : List File) → IsFormOf bytes.now files → (IsPlain files → ⊥) → IfOk result IsExcluded }
+    ensures invalid { (files : List File) (fault : Fault) → IsFormOf bytes.now files → FirstFault files fault
+        → IfOk result (λ said. Prints said (invalid_line fault) Refused) }
     // Bytes that are no form are refused with their fault.
     ensures unreadable { (fault : SetFault) → length bytes.now < too_many → FaultIs bytes.now fault
-        → IfOk result (λ verdict. Prints verdict (unreadable_line fault) Refused) }
+        → IfOk result (λ said. Prints said (unreadable_line fault) Refused) }
 {
     line_of_bytes(alloc, bytes)
 }

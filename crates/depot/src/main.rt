@@ -1,4 +1,4 @@
-//! Judges BagIt bags (RFC 8493) from the command line.
+//! Judges BagIt bags (RFC 8493), and says which rule of a policy decides, from the command line.
 #![tactic(auto)]
 
 use commands::{Ending, run, words_refused};

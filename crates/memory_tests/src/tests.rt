@@ -1,11 +1,13 @@
 use bag_text::{BagSet, InfoFault, SetFault, read_bag_info, read_bagset, write_bagset};
 use commands::{Ending, Line, UseFault, read_line, run};
 use std::alloc::AllocError;
+use std::fs;
 use std::process::Abort;
 use std::rt::Files;
 use std::test::*;
 use worked_bags::{
-    BAG, CHECKSUM, LISTED_IN_ONE, PERCENT_SIGN_0_97, PRINTED_NAME, SMALL, TWO_LINES, WorkedBag,
+    BAG, CHECKSUM, COUNTED, DENIED_EVERYTHING, LISTED_IN_ONE, PERCENT_SIGN_0_97, PRINTED_NAME,
+    SMALL, TAG_MANIFEST, TWO_LINES, WorkedBag, WorkedQuestion,
 };
 
 /// Says that memory was refused: the script stops once no test says so.
@@ -29,6 +31,49 @@ fn printed<R: Files + AllocGlobal>(
         &mut err,
     );
     Ok((out, err, ending))
+}
+
+/// What a run on these words prints and how it ends, with room for the lines taken first.
+fn explained<R: Files + AllocGlobal>(
+    rt: &R,
+    words: &[&str],
+) -> Result<(Vec<u8>, Vec<u8>, Ending), AllocError> {
+    let mut out = Vec::with_capacity(rt.alloc(), 4096)?;
+    let mut err = Vec::with_capacity(rt.alloc(), 4096)?;
+    let mut input = b"".as_slice();
+    let ending = run(rt, words, &mut input, &mut out, &mut err);
+    Ok((out, err, ending))
+}
+
+/// Takes the line that was worked out, or want of memory with nothing on standard output.
+fn explain<R: Files + AllocGlobal + Print + Abort>(rt: &R, worked: WorkedQuestion) {
+    if fs::write(rt, "policy.toml", worked.policy).is_err() {
+        refused(rt);
+        return;
+    }
+    let words = [
+        "explain",
+        "policy.toml",
+        worked.caller,
+        worked.action,
+        worked.collection,
+        worked.class,
+    ];
+    let found = explained(rt, words.as_slice());
+    let _ = fs::remove_file(rt, "policy.toml");
+    match found {
+        Err(_) => refused(rt),
+        Ok((out, err, Ending::Failed)) => {
+            assert_eq!(rt; out.as_slice(), b"".as_slice());
+            assert_eq!(rt; err.as_slice(), b"memory\n".as_slice());
+            refused(rt);
+        }
+        Ok((out, err, found)) => {
+            assert_eq!(rt; out.as_slice(), worked.line.as_bytes());
+            assert_eq!(rt; err.as_slice(), b"".as_slice());
+            assert_eq!(rt; found, worked.ending);
+        }
+    }
 }
 
 /// Takes the line that was worked out, or want of memory with nothing on standard output.
@@ -80,9 +125,38 @@ fn prints_a_strange_name(rt: HostRuntime) {
 }
 
 #[test]
+fn reads_a_tag_manifest(rt: HostRuntime) {
+    judge(&rt, TAG_MANIFEST);
+}
+
+#[test]
+fn counts_the_payload(rt: HostRuntime) {
+    judge(&rt, COUNTED);
+}
+
+#[test]
+fn explains_a_denial(rt: HostRuntime) {
+    explain(&rt, DENIED_EVERYTHING);
+}
+
+#[test]
 fn reads_words(rt: HostRuntime) {
     match read_line(rt.alloc(), ["check", "-"].as_slice()) {
         Ok(Line::Check { file }) => assert_eq!(rt; file, "-"),
+        Ok(Line::Explain(_)) => assert!(rt; false),
+        Err(UseFault::Use(_)) => assert!(rt; false),
+        Err(UseFault::Memory) => refused(&rt),
+    }
+}
+
+#[test]
+fn reads_words_of_explain(rt: HostRuntime) {
+    match read_line(
+        rt.alloc(),
+        ["explain", "p", "anna", "list", "-", "y1"].as_slice(),
+    ) {
+        Ok(Line::Explain(asked)) => assert_eq!(rt; asked.caller, "anna"),
+        Ok(Line::Check { .. }) => assert!(rt; false),
         Err(UseFault::Use(_)) => assert!(rt; false),
         Err(UseFault::Memory) => refused(&rt),
     }

@@ -60,13 +60,37 @@ pub const WRONG_CHECKSUM: &[u8] =
 pub const NOT_LISTED_FIRST: &[u8] =
     b"BAGSET 1\nFILE 9 54\nbagit.txtBagIt-Version: 1.0\nTag-File-Character-Encoding: UTF-8\n\nFILE 6 3\ndata/aabc\nFILE 6 0\ndata/b\nFILE 19 73\nmanifest-sha256.txtba7816bf8f01cfea414140de5dae2223b00361a396177a9cb410ff61f20015ae  data/a\n\nEND\n";
 
-/// Bag A with an empty tag manifest.
-pub const TAG_MANIFEST: &[u8] =
+/// Bag A with an empty tag manifest of another algorithm.
+pub const TAG_MANIFEST_MD5: &[u8] =
     b"BAGSET 1\nFILE 9 54\nbagit.txtBagIt-Version: 1.0\nTag-File-Character-Encoding: UTF-8\n\nFILE 6 3\ndata/aabc\nFILE 19 73\nmanifest-sha256.txtba7816bf8f01cfea414140de5dae2223b00361a396177a9cb410ff61f20015ad  data/a\n\nFILE 19 0\ntagmanifest-md5.txt\nEND\n";
+
+/// No payload, an empty payload manifest, and a tag manifest that lists it.
+pub const TAGGED: &[u8] =
+    b"BAGSET 1\nFILE 9 54\nbagit.txtBagIt-Version: 1.0\nTag-File-Character-Encoding: UTF-8\n\nFILE 19 0\nmanifest-sha256.txt\nFILE 22 86\ntagmanifest-sha256.txte3b0c44298fc1c149afbf4c8996fb92427ae41e4649b934ca495991b7852b855  manifest-sha256.txt\n\nEND\n";
+
+/// The same with an empty tag manifest.
+pub const NOT_TAGGED: &[u8] =
+    b"BAGSET 1\nFILE 9 54\nbagit.txtBagIt-Version: 1.0\nTag-File-Character-Encoding: UTF-8\n\nFILE 19 0\nmanifest-sha256.txt\nFILE 22 0\ntagmanifest-sha256.txt\nEND\n";
 
 /// Bag A with an empty `bag-info.txt`.
 pub const BAG_INFO: &[u8] =
     b"BAGSET 1\nFILE 12 0\nbag-info.txt\nFILE 9 54\nbagit.txtBagIt-Version: 1.0\nTag-File-Character-Encoding: UTF-8\n\nFILE 6 3\ndata/aabc\nFILE 19 73\nmanifest-sha256.txtba7816bf8f01cfea414140de5dae2223b00361a396177a9cb410ff61f20015ad  data/a\n\nEND\n";
+
+/// Bag A with a right `Payload-Oxum`, in capitals, among other labels.
+pub const OXUM: &[u8] =
+    b"BAGSET 1\nFILE 12 34\nbag-info.txtSource: a\n  b\nPAYLOAD-OXUM : 3.1 \n\nFILE 9 54\nbagit.txtBagIt-Version: 1.0\nTag-File-Character-Encoding: UTF-8\n\nFILE 6 3\ndata/aabc\nFILE 19 73\nmanifest-sha256.txtba7816bf8f01cfea414140de5dae2223b00361a396177a9cb410ff61f20015ad  data/a\n\nEND\n";
+
+/// A wrong checksum, and a `Payload-Oxum` that is wrong.
+pub const WRONG_OXUM: &[u8] =
+    b"BAGSET 1\nFILE 12 18\nbag-info.txtPayload-Oxum: 4.1\n\nFILE 9 54\nbagit.txtBagIt-Version: 1.0\nTag-File-Character-Encoding: UTF-8\n\nFILE 6 3\ndata/aabc\nFILE 19 73\nmanifest-sha256.txtba7816bf8f01cfea414140de5dae2223b00361a396177a9cb410ff61f20015ae  data/a\n\nEND\n";
+
+/// A wrong checksum, and a `Payload-Oxum` that is right.
+pub const RIGHT_OXUM: &[u8] =
+    b"BAGSET 1\nFILE 12 18\nbag-info.txtPayload-Oxum: 3.1\n\nFILE 9 54\nbagit.txtBagIt-Version: 1.0\nTag-File-Character-Encoding: UTF-8\n\nFILE 6 3\ndata/aabc\nFILE 19 73\nmanifest-sha256.txtba7816bf8f01cfea414140de5dae2223b00361a396177a9cb410ff61f20015ae  data/a\n\nEND\n";
+
+/// A `bag-info.txt` whose third line has no colon.
+pub const NO_COLON: &[u8] =
+    b"BAGSET 1\nFILE 12 8\nbag-info.txtA: b\n\nC\n\nFILE 9 54\nbagit.txtBagIt-Version: 1.0\nTag-File-Character-Encoding: UTF-8\n\nFILE 6 3\ndata/aabc\nFILE 19 73\nmanifest-sha256.txtba7816bf8f01cfea414140de5dae2223b00361a396177a9cb410ff61f20015ad  data/a\n\nEND\n";
 
 /// A payload file whose name has LF, CR, `%`, a blank and bytes past ASCII, and which isn't listed.
 pub const STRANGE_NAME: &[u8] =

@@ -1,14 +1,18 @@
-//! Small bags, written out, and what `check` says of each.
+//! Small bags, written out, and what `check` says of each; small policies, and what `explain` says.
 #![tactic(auto)]
 
 mod forms;
+mod policies;
 
 use commands::Ending;
-pub use forms::{BAG, BAG_INFO, TAG_MANIFEST};
+pub use forms::BAG;
 use forms::{
-    BAG_0_97, CLASH, CUT, FETCH_AND_MD5, LEADING_ZERO, LISTED_TWICE, MD5, NOT_LISTED_FIRST,
-    OTHER_LINE_ENDS, PERCENT, PERCENT_0_97, STRANGE_NAME, TRAILING, UNLISTED, WRONG_CHECKSUM,
+    BAG_0_97, BAG_INFO, CLASH, CUT, FETCH_AND_MD5, LEADING_ZERO, LISTED_TWICE, MD5, NO_COLON,
+    NOT_LISTED_FIRST, NOT_TAGGED, OTHER_LINE_ENDS, OXUM, PERCENT, PERCENT_0_97, RIGHT_OXUM,
+    STRANGE_NAME, TAG_MANIFEST_MD5, TAGGED, TRAILING, UNLISTED, WRONG_CHECKSUM, WRONG_OXUM,
 };
+pub use policies::POLICY;
+use policies::{NO_TEXT, NOTE, NOTE_AND_PERMIT, ONE_RULE, PERMIT, STRANGERS, VERSION_3};
 
 /// A transfer form, the line that `check` prints of it, and how it ends.
 pub type WorkedBag = (&'static [u8], &'static str, Ending);
@@ -89,6 +93,54 @@ pub const PRINTED_NAME: WorkedBag = (
     Ending::Refused,
 );
 
+/// A tag manifest, and no payload.
+pub const TAG_MANIFEST: WorkedBag = (
+    TAGGED,
+    "valid 1.0 files 0 bytes 0 manifests 2\n",
+    Ending::Accepted,
+);
+
+/// A tag manifest that leaves out the payload manifest.
+pub const EMPTY_TAG_MANIFEST: WorkedBag = (
+    NOT_TAGGED,
+    "invalid B10 tagmanifest-sha256.txt manifest-sha256.txt\n",
+    Ending::Refused,
+);
+
+/// A tag manifest of another algorithm.
+pub const OTHER_TAG_ALGORITHM: WorkedBag = (
+    TAG_MANIFEST_MD5,
+    "invalid B4 tagmanifest-md5.txt\n",
+    Ending::Refused,
+);
+
+/// An empty `bag-info.txt`.
+pub const EMPTY_INFO: WorkedBag = (
+    BAG_INFO,
+    "valid 1.0 files 1 bytes 3 manifests 1\n",
+    Ending::Accepted,
+);
+
+/// A `Payload-Oxum` that is right.
+pub const COUNTED: WorkedBag = (
+    OXUM,
+    "valid 1.0 files 1 bytes 3 manifests 1\n",
+    Ending::Accepted,
+);
+
+/// A `Payload-Oxum` that is wrong comes before a wrong checksum.
+pub const MISCOUNTED: WorkedBag = (WRONG_OXUM, "invalid B16\n", Ending::Refused);
+
+/// A wrong checksum beside a `Payload-Oxum` that is right.
+pub const COUNTED_CHECKSUM: WorkedBag = (
+    RIGHT_OXUM,
+    "invalid B17 manifest-sha256.txt data/a\n",
+    Ending::Refused,
+);
+
+/// A line without a colon.
+pub const INFO_LINE: WorkedBag = (NO_COLON, "invalid B13 I3 3\n", Ending::Refused);
+
 /// A form without its last byte.
 pub const NO_LAST_BYTE: WorkedBag = (CUT, "unreadable S3\n", Ending::Refused);
 
@@ -105,7 +157,7 @@ pub const BYTE_BEHIND: WorkedBag = (TRAILING, "unreadable S7\n", Ending::Refused
 pub const NOTHING: WorkedBag = (b"", "unreadable S3\n", Ending::Refused);
 
 /// The worked bags.
-pub const WORKED_BAGS: [WorkedBag; 17] = [
+pub const WORKED_BAGS: [WorkedBag; 25] = [
     SMALL,
     OLD_VERSION,
     PERCENT_SIGN,
@@ -118,6 +170,14 @@ pub const WORKED_BAGS: [WorkedBag; 17] = [
     CHECKSUM,
     TWO_FAULTS,
     PRINTED_NAME,
+    TAG_MANIFEST,
+    EMPTY_TAG_MANIFEST,
+    OTHER_TAG_ALGORITHM,
+    EMPTY_INFO,
+    COUNTED,
+    MISCOUNTED,
+    COUNTED_CHECKSUM,
+    INFO_LINE,
     NO_LAST_BYTE,
     ZERO_IN_FRONT,
     FILE_AND_FOLDER,
@@ -125,5 +185,197 @@ pub const WORKED_BAGS: [WorkedBag; 17] = [
     NOTHING,
 ];
 
+/// A policy and what `explain` is asked, the line that it prints, and how it ends.
+#[derive(Clone, Copy, Debug)]
+pub struct WorkedQuestion {
+    pub policy: &'static [u8],
+    pub caller: &'static str,
+    pub action: &'static str,
+    pub collection: &'static str,
+    pub class: &'static str,
+    pub line: &'static str,
+    pub ending: Ending,
+}
+
+/// The first rule denies.
+pub const DENIED: WorkedQuestion = WorkedQuestion {
+    policy: POLICY,
+    caller: "anna",
+    action: "dispose",
+    collection: "tax",
+    class: "y1",
+    line: "deny rule 1\n",
+    ending: Ending::Refused,
+};
+
+/// The first rule asks for another collection, so the second allows.
+pub const ALLOWED: WorkedQuestion = WorkedQuestion {
+    policy: POLICY,
+    caller: "anna",
+    action: "dispose",
+    collection: "maps",
+    class: "y1",
+    line: "allow rule 2\n",
+    ending: Ending::Accepted,
+};
+
+/// No rule speaks of strangers.
+pub const BY_DEFAULT: WorkedQuestion = WorkedQuestion {
+    policy: POLICY,
+    caller: "eve",
+    action: "list",
+    collection: "maps",
+    class: "y10",
+    line: "deny default\n",
+    ending: Ending::Refused,
+};
+
+/// The one rule denies everything: a policy of few allocations.
+pub const DENIED_EVERYTHING: WorkedQuestion = WorkedQuestion {
+    policy: ONE_RULE,
+    caller: "eve",
+    action: "list",
+    collection: "maps",
+    class: "y10",
+    line: "deny rule 1\n",
+    ending: Ending::Refused,
+};
+
+/// The worked questions.
+pub const WORKED_QUESTIONS: [WorkedQuestion; 17] = [
+    DENIED_EVERYTHING,
+    DENIED,
+    ALLOWED,
+    BY_DEFAULT,
+    // A name never matches what is absent, and `*` does.
+    WorkedQuestion {
+        policy: POLICY,
+        caller: "anna",
+        action: "dispose",
+        collection: "-",
+        class: "y1",
+        line: "allow rule 2\n",
+        ending: Ending::Accepted,
+    },
+    WorkedQuestion {
+        policy: POLICY,
+        caller: "anna",
+        action: "class",
+        collection: "-",
+        class: "y1",
+        line: "allow rule 2\n",
+        ending: Ending::Accepted,
+    },
+    WorkedQuestion {
+        policy: POLICY,
+        caller: "carl",
+        action: "list",
+        collection: "maps",
+        class: "y10",
+        line: "allow rule 3\n",
+        ending: Ending::Accepted,
+    },
+    WorkedQuestion {
+        policy: POLICY,
+        caller: "carl",
+        action: "list",
+        collection: "maps",
+        class: "-",
+        line: "deny default\n",
+        ending: Ending::Refused,
+    },
+    // Callers that are no names, and one that is no word of a policy.
+    WorkedQuestion {
+        policy: POLICY,
+        caller: "",
+        action: "list",
+        collection: "maps",
+        class: "y10",
+        line: "deny default\n",
+        ending: Ending::Refused,
+    },
+    WorkedQuestion {
+        policy: POLICY,
+        caller: "Anna \u{00e9}\n\"",
+        action: "list",
+        collection: "maps",
+        class: "y10",
+        line: "deny default\n",
+        ending: Ending::Refused,
+    },
+    WorkedQuestion {
+        policy: STRANGERS,
+        caller: "-",
+        action: "download",
+        collection: "maps",
+        class: "y10",
+        line: "allow rule 2\n",
+        ending: Ending::Accepted,
+    },
+    // `-` is none, and not the collection of that name.
+    WorkedQuestion {
+        policy: STRANGERS,
+        caller: "bert",
+        action: "download",
+        collection: "-",
+        class: "-",
+        line: "allow rule 2\n",
+        ending: Ending::Accepted,
+    },
+    WorkedQuestion {
+        policy: VERSION_3,
+        caller: "anna",
+        action: "dispose",
+        collection: "tax",
+        class: "y1",
+        line: "policy Y2\n",
+        ending: Ending::Refused,
+    },
+    WorkedQuestion {
+        policy: NOTE,
+        caller: "anna",
+        action: "dispose",
+        collection: "tax",
+        class: "y1",
+        line: "policy Y3\n",
+        ending: Ending::Refused,
+    },
+    WorkedQuestion {
+        policy: PERMIT,
+        caller: "anna",
+        action: "dispose",
+        collection: "tax",
+        class: "y1",
+        line: "policy Y5 2\n",
+        ending: Ending::Refused,
+    },
+    WorkedQuestion {
+        policy: NOTE_AND_PERMIT,
+        caller: "anna",
+        action: "dispose",
+        collection: "tax",
+        class: "y1",
+        line: "policy Y3\n",
+        ending: Ending::Refused,
+    },
+    WorkedQuestion {
+        policy: NO_TEXT,
+        caller: "anna",
+        action: "dispose",
+        collection: "tax",
+        class: "y1",
+        line: "policy Y1\n",
+        ending: Ending::Refused,
+    },
+];
+
+#[cfg(test)]
+mod codes;
+#[cfg(test)]
+mod strange_names;
 #[cfg(test)]
 mod tests;
+#[cfg(test)]
+mod tests_codes;
+#[cfg(test)]
+mod tool_bag;

@@ -1,4 +1,4 @@
-//! What `check` says of the worked bags, and of inputs at the limits.
+//! What `check` says of the worked bags, and of inputs at the limits, and what `explain` says of the worked policies.
 
 use super::*;
 use commands::run;
@@ -23,20 +23,6 @@ fn says_what_was_worked_out(rt: HostRuntime) {
         assert_eq!(rt; out.as_slice(), line.as_bytes(), "{line}");
         assert_eq!(rt; err.as_slice(), b"".as_slice(), "{line}");
         assert_eq!(rt; found, ending, "{line}");
-    }
-}
-
-#[test]
-fn says_why_a_bag_is_not_judged(rt: HostRuntime) {
-    for form in [TAG_MANIFEST, BAG_INFO] {
-        let mut input = form;
-        let (out, err, ending) = printed(&rt, "-", &mut input);
-        assert_eq!(rt; out.as_slice(), b"".as_slice());
-        assert_eq!(rt;
-            err.as_slice(),
-            b"bags with a tag manifest or bag-info.txt are not judged yet\n".as_slice()
-        );
-        assert_eq!(rt; ending, Ending::Misused);
     }
 }
 
@@ -104,4 +90,60 @@ fn a_torn_input_is_a_fault_of_the_device(rt: HostRuntime) {
     assert_eq!(rt; out.as_slice(), b"".as_slice());
     assert_eq!(rt; err.as_slice(), b"device\n".as_slice());
     assert_eq!(rt; ending, Ending::Failed);
+}
+
+/// What a run on these words prints on standard output and on standard error, and how it ends.
+fn explained(rt: &HostRuntime, words: &[&str]) -> (Vec<u8>, Vec<u8>, Ending) {
+    let mut input = b"".as_slice();
+    let mut out = Vec::new(rt.alloc());
+    let mut err = Vec::new(rt.alloc());
+    let ending = run(rt, words, &mut input, &mut out, &mut err);
+    (out, err, ending)
+}
+
+#[test]
+fn explains_what_was_worked_out(rt: HostRuntime) -> Result<(), Fail> {
+    for worked in WORKED_QUESTIONS {
+        fs::write(&rt, "policy.toml", worked.policy)?;
+        let words = [
+            "explain",
+            "policy.toml",
+            worked.caller,
+            worked.action,
+            worked.collection,
+            worked.class,
+        ];
+        let (out, err, ending) = explained(&rt, words.as_slice());
+        let line = worked.line;
+        assert_eq!(rt; out.as_slice(), line.as_bytes(), "{line}");
+        assert_eq!(rt; err.as_slice(), b"".as_slice(), "{line}");
+        assert_eq!(rt; ending, worked.ending, "{line}");
+    }
+    fs::remove_file(&rt, "policy.toml")?;
+    Ok(())
+}
+
+#[test]
+fn a_dash_is_a_file_here(rt: HostRuntime) -> Result<(), Fail> {
+    fs::write(&rt, "-", POLICY)?;
+    let words = ["explain", "-", "carl", "list", "tax", "y10"];
+    let (out, _, ending) = explained(&rt, words.as_slice());
+    assert_eq!(rt; out.as_slice(), b"allow rule 3\n".as_slice());
+    assert_eq!(rt; ending, Ending::Accepted);
+    fs::remove_file(&rt, "-")?;
+    Ok(())
+}
+
+#[test]
+fn a_missing_policy_is_a_fault_of_the_device(rt: HostRuntime) {
+    let words = ["explain", "no-policy.toml", "anna", "list", "maps", "y1"];
+    let (out, err, ending) = explained(&rt, words.as_slice());
+    assert_eq!(rt; out.as_slice(), b"".as_slice());
+    assert_eq!(rt; err.as_slice(), b"device\n".as_slice());
+    assert_eq!(rt; ending, Ending::Failed);
+    // The words come first.
+    let words = ["explain", "no-policy.toml", "anna", "*", "maps", "y1"];
+    let (_, err, ending) = explained(&rt, words.as_slice());
+    assert!(rt; err.as_slice().starts_with(b"ACTION is one of "));
+    assert_eq!(rt; ending, Ending::Misused);
 }

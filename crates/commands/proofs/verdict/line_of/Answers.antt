@@ -1,4 +1,4 @@
-use Rattle.commands.proofs.VerdictLemmas.{too_long_is_said, excluded_is_said, valid_is_said, invalid_is_said, unreadable_is_said}
+use Rattle.commands.proofs.VerdictLemmas.{too_long_is_said, valid_is_said, invalid_is_said, unreadable_is_said}
 use Rattle.commands.proofs.verdict.line_of.Goals as goal
 
 pub returns-clause-valid : goal.returns-clause-valid
@@ -12,6 +12,3 @@ returns-clause-unreadable c = unreadable_is_said c.args.bytes.now c.line_of_byte
 
 pub returns-clause-too_long : goal.returns-clause-too_long
 returns-clause-too_long c = too_long_is_said c.args.bytes.now c.line_of_bytes.result c.line_of_bytes.ensures
-
-pub returns-clause-excluded : goal.returns-clause-excluded
-returns-clause-excluded c = excluded_is_said c.args.bytes.now c.line_of_bytes.result c.line_of_bytes.ensures

@@ -1,0 +1,98 @@
+-- What is said of a policy file is one thing.
+use Rattle.std.proofs.Common.{◌≡◌, ◌∙◌, ℕ, List, Option, Some, None, Result, Ok, Err, IfOk, IsUtf8, inl, inr, refl, sym, ap, subst}
+use Rattle.std.specs.declared.alloc.AllocError.{AllocError}
+use Rattle.office_core.specs.Policies.{Contents, policy_of}
+use Rattle.office_core.specs.declared.policy_fault.PolicyFault.{PolicyFault}
+use Rattle.office_core.specs.declared.policy_fault.PolicyFault.TheVariants.{NotToml}
+use Rattle.office_core.specs.declared.rule.Decision.{Decision}
+use Rattle.office_core.specs.declared.rule.Effect.{Effect}
+use Rattle.office_core.specs.declared.rule.Effect.TheVariants.{Allow, Deny}
+use Rattle.commands.specs.Saying.{Prints}
+use Rattle.commands.specs.Explaining.{Explains, allowed, denied, by_default, refused, HasFault, Says, SaysRule, Spells, decision_on, fault_line}
+use Rattle.commands.specs.declared.asking.Asked.{Asked}
+use Rattle.commands.specs.declared.ending.Ending.TheVariants.{Refused}
+use Rattle.commands.specs.declared.said.Said.{Said}
+
+abbrev Answer : Type 0
+Answer = Result Said AllocError
+
+-- ---- what the steps say
+
+by_rule : (bytes : List ℕ) (asked : Asked) (said : Said) (policy : Contents) (rule : ℕ) (effect : Effect) → Spells bytes policy
+    → decision_on policy asked ≡ Some (record { rule = rule; effect = effect }) → SaysRule rule effect said → Explains bytes asked said
+by_rule bytes asked said policy rule Allow spells by says = allowed policy rule spells by says
+by_rule bytes asked said policy rule Deny spells by says = denied policy rule spells by says
+
+by_decision : (bytes : List ℕ) (asked : Asked) (said : Said) (policy : Contents) (decision : Option Decision) → Spells bytes policy
+    → decision_on policy asked ≡ decision → Says decision said → Explains bytes asked said
+by_decision bytes asked said policy None spells by says = by_default policy spells by says
+by_decision bytes asked said policy (Some decision) spells by says = by_rule bytes asked said policy decision.rule decision.effect spells by says
+
+pub text_is_explained : (bytes text : List ℕ) (asked : Asked) (r : Answer) → text ≡ bytes → IsUtf8 bytes
+    → ((policy : Contents) → policy_of text ≡ Ok policy → IfOk r (Says (decision_on policy asked)))
+    → ((fault : PolicyFault) → policy_of text ≡ Err fault → IfOk r (λ said. Prints said (fault_line fault) Refused))
+    → IfOk r (Explains bytes asked)
+text_is_explained bytes text asked (Err e) same utf8 policies faults = tt
+text_is_explained bytes text asked (Ok said) same utf8 policies faults = go (policy_of text) refl
+  where
+    go : (read : Result Contents PolicyFault) → policy_of text ≡ read → Explains bytes asked said
+    go (Ok policy) is =
+        by_decision bytes asked said policy (decision_on policy asked) (record { utf8 = utf8; read = ap policy_of (sym same) ∙ is }) refl (policies policy is)
+    go (Err fault) is = refused fault (inr (utf8, ap policy_of (sym same) ∙ is)) (faults fault is)
+
+pub no_text_is_explained : (bytes : List ℕ) (asked : Asked) (r : Answer) → ¬ (IsUtf8 bytes) → IfOk r (λ said. Prints said (fault_line NotToml) Refused)
+    → IfOk r (Explains bytes asked)
+no_text_is_explained bytes asked (Err e) none prints = tt
+no_text_is_explained bytes asked (Ok said) none prints = refused NotToml (inl (none, refl)) prints
+
+-- ---- only one thing is said
+
+same_policy : (bytes : List ℕ) (a b : Contents) → Spells bytes a → Spells bytes b → a ≡ b
+same_policy bytes a b of of_too =
+    let read : Result Contents PolicyFault = Ok a in
+    let same : read ≡ Ok b = sym of.read ∙ of_too.read in
+    cc
+
+never_both : (bytes : List ℕ) (policy : Contents) (fault : PolicyFault) → Spells bytes policy → HasFault bytes fault → ⊥
+never_both bytes policy fault of (inl (none, is)) = none of.utf8
+never_both bytes policy fault of (inr (utf8, is)) = let same : Ok policy ≡ Err fault = sym of.read ∙ is in cc
+
+same_fault : (bytes : List ℕ) (a b : PolicyFault) → HasFault bytes a → HasFault bytes b → a ≡ b
+same_fault bytes a b (inl (none, is)) (inl (none_too, is_too)) = is ∙ sym is_too
+same_fault bytes a b (inl (none, is)) (inr (utf8, is_too)) = absurd (none utf8)
+same_fault bytes a b (inr (utf8, is)) (inl (none, is_too)) = absurd (none utf8)
+same_fault bytes a b (inr (utf8, is)) (inr (utf8_too, is_too)) = let read : Result Contents PolicyFault = Err a in let same : read ≡ Err b = sym is ∙ is_too in cc
+
+decision_here : (bytes : List ℕ) (asked : Asked) (said : Said) (policy found : Contents) (decision : Option Decision) → Spells bytes found → Spells bytes policy
+    → decision_on found asked ≡ decision → Says decision said → Says (decision_on policy asked) said
+decision_here bytes asked said policy found decision of of_too by says =
+    let here : decision ≡ decision_on policy asked = sym by ∙ ap (λ (p : Contents). decision_on p asked) (same_policy bytes found policy of of_too) in
+    subst (λ (d : Option Decision). Says d said) here says
+
+says_decision : (bytes : List ℕ) (asked : Asked) (said : Said) (policy : Contents) → Spells bytes policy → Explains bytes asked said → Says (decision_on policy asked) said
+says_decision bytes asked said policy of (allowed found rule found_of by prints) =
+    decision_here bytes asked said policy found (Some (record { rule = rule; effect = Allow })) found_of of by prints
+says_decision bytes asked said policy of (denied found rule found_of by prints) =
+    decision_here bytes asked said policy found (Some (record { rule = rule; effect = Deny })) found_of of by prints
+says_decision bytes asked said policy of (by_default found found_of by prints) = decision_here bytes asked said policy found None found_of of by prints
+says_decision bytes asked said policy of (refused fault has prints) = absurd (never_both bytes policy fault of has)
+
+-- the decision on the policy of the file is what is said
+pub decision_is_said : (bytes : List ℕ) (asked : Asked) (r : Answer) → IfOk r (Explains bytes asked) → (policy : Contents) (decision : Option Decision) → Spells bytes policy
+    → decision_on policy asked ≡ decision → IfOk r (Says decision)
+decision_is_said bytes asked (Err e) explains policy decision of is = tt
+decision_is_said bytes asked (Ok said) explains policy decision of is =
+    subst (λ (d : Option Decision). Says d said) is (says_decision bytes asked said policy of explains)
+
+says_fault : (bytes : List ℕ) (asked : Asked) (said : Said) (fault : PolicyFault) → HasFault bytes fault → Explains bytes asked said → Prints said (fault_line fault) Refused
+says_fault bytes asked said fault has (allowed found rule found_of by prints) = absurd (never_both bytes found fault found_of has)
+says_fault bytes asked said fault has (denied found rule found_of by prints) = absurd (never_both bytes found fault found_of has)
+says_fault bytes asked said fault has (by_default found found_of by prints) = absurd (never_both bytes found fault found_of has)
+says_fault bytes asked said fault has (refused other has_too prints) =
+    subst (λ (f : PolicyFault). Prints said (fault_line f) Refused) (same_fault bytes other fault has_too has) prints
+
+-- and so is the file's fault
+pub fault_is_said : (bytes : List ℕ) (asked : Asked) (r : Answer) → IfOk r (Explains bytes asked) → (fault : PolicyFault) → HasFault bytes fault
+    → IfOk r (λ said. Prints said (fault_line fault) Refused)
+fault_is_said bytes asked (Err e) explains fault has = tt
+fault_is_said bytes asked (Ok said) explains fault has = says_fault bytes asked said fault has explains

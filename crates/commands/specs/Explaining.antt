@@ -1,0 +1,80 @@
+-- What `explain` prints of a policy file, and how it ends.
+use Rattle.std.specs.Prelude.{◌≡◌, ◌⊎◌, ℕ, List, [], ◌∷◌, ◌++◌, Option, Some, None, Ok, Err, IsUtf8, codes, decimal}
+use Rattle.office_core.specs.FaultTexts.{policy_fault_text}
+use Rattle.office_core.specs.Policies.{Contents, policy_of, role_of}
+use Rattle.office_core.specs.Rules.{Question, decision_of}
+use Rattle.office_core.specs.declared.policy_fault.PolicyFault.{PolicyFault}
+use Rattle.office_core.specs.declared.policy_fault.PolicyFault.TheVariants.{NotToml}
+use Rattle.office_core.specs.declared.rule.Decision.{Decision}
+use Rattle.office_core.specs.declared.rule.Effect.{Effect}
+use Rattle.office_core.specs.declared.rule.Effect.TheVariants.{Allow, Deny}
+use Rattle.commands.specs.Saying.{Prints}
+use Rattle.commands.specs.declared.asking.Asked.{Asked}
+use Rattle.commands.specs.declared.ending.Ending.TheVariants.{Accepted, Refused}
+use Rattle.commands.specs.declared.said.Said.{Said}
+
+-- ---- the lines, each with its end
+
+abbrev pub allow_line : ℕ → List ℕ
+allow_line rule = codes "allow rule " ++ decimal rule ++ 10 ∷ []
+
+abbrev pub deny_line : ℕ → List ℕ
+deny_line rule = codes "deny rule " ++ decimal rule ++ 10 ∷ []
+
+abbrev pub default_line : List ℕ
+default_line = codes "deny default" ++ 10 ∷ []
+
+abbrev pub fault_line : PolicyFault → List ℕ
+fault_line fault = codes "policy " ++ policy_fault_text fault ++ 10 ∷ []
+
+-- ---- the file
+
+-- the bytes are the text of this policy
+pub record Spells (bytes : List ℕ) (policy : Contents) : Type 0 where
+  pub utf8 : IsUtf8 bytes
+  pub read : policy_of bytes ≡ Ok policy
+
+-- this is the first fault of the bytes: they are no text, or the text has it
+abbrev pub HasFault : List ℕ → PolicyFault → Type 0
+HasFault bytes fault = (¬ (IsUtf8 bytes) × (fault ≡ NotToml)) ⊎ (IsUtf8 bytes × (policy_of bytes ≡ Err fault))
+
+-- ---- which rule decides
+
+-- what the rules are asked: the role is the one that the policy gives the caller
+abbrev pub asked_of : Contents → Asked → Question
+asked_of policy asked =
+    record { role = role_of policy asked.caller.now; action = asked.action; collection = asked.collection; class = asked.class }
+
+abbrev pub decision_on : Contents → Asked → Option Decision
+decision_on policy asked = decision_of policy.rules (asked_of policy asked)
+
+-- the first rule that matches has this number, from 1, and allows
+abbrev pub IsAllowedBy : Contents → Asked → ℕ → Type 0
+IsAllowedBy policy asked rule = decision_on policy asked ≡ Some (record { rule = rule; effect = Allow })
+
+-- or denies
+abbrev pub IsDeniedBy : Contents → Asked → ℕ → Type 0
+IsDeniedBy policy asked rule = decision_on policy asked ≡ Some (record { rule = rule; effect = Deny })
+
+-- no rule matches
+abbrev pub IsUndecided : Contents → Asked → Type 0
+IsUndecided policy asked = decision_on policy asked ≡ None
+
+-- ---- what is said
+
+-- what is said where a rule with this number decides by this effect
+abbrev pub SaysRule : ℕ → Effect → Said → Type 0
+SaysRule rule Allow said = Prints said (allow_line rule) Accepted
+SaysRule rule Deny said = Prints said (deny_line rule) Refused
+
+-- what is said where this rule decides, or none
+abbrev pub Says : Option Decision → Said → Type 0
+Says None said = Prints said default_line Refused
+Says (Some decision) said = SaysRule decision.rule decision.effect said
+
+-- What is said of a file: the rule that decides, that none does, or the file's fault.
+pub data Explains (bytes : List ℕ) (asked : Asked) (said : Said) : Type 0 where
+  allowed : (policy : Contents) (rule : ℕ) → Spells bytes policy → IsAllowedBy policy asked rule → Prints said (allow_line rule) Accepted → Explains bytes asked said
+  denied : (policy : Contents) (rule : ℕ) → Spells bytes policy → IsDeniedBy policy asked rule → Prints said (deny_line rule) Refused → Explains bytes asked said
+  by_default : (policy : Contents) → Spells bytes policy → IsUndecided policy asked → Prints said default_line Refused → Explains bytes asked said
+  refused : (fault : PolicyFault) → HasFault bytes fault → Prints said (fault_line fault) Refused → Explains bytes asked said

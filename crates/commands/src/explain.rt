@@ -1,0 +1,124 @@
+//! What `explain` says of the bytes of a policy file.
+
+ghost use Rattle.std.specs.Prelude.{◌≡◌, ℕ, Option, Some, None, IfOk, IsErr, option_copied};
+ghost use Rattle.office_core.specs.Policies.{Contents, policy_of};
+ghost use Rattle.office_core.specs.Rules.{decision_of, question_of};
+ghost use Rattle.office_core.specs.declared.policy_fault.PolicyFault.{PolicyFault};
+ghost use Rattle.office_core.specs.declared.policy_fault.PolicyFault.TheVariants.{Memory};
+ghost use Rattle.commands.specs.Saying.{Prints};
+ghost use Rattle.commands.specs.Explaining.{Explains, HasFault, IsAllowedBy, IsDeniedBy, IsUndecided, Says, Spells, allow_line, deny_line, default_line, fault_line, asked_of};
+ghost use Rattle.commands.specs.declared.ending.Ending.TheVariants.{Accepted, Refused};
+
+use crate::asking::Asked;
+use crate::ending::Ending;
+use crate::said::Said;
+use office_core::{Ask, Decision, Effect, Name, Policy, PolicyFault, decide, read_policy};
+use std::alloc::{AllocError, Global};
+
+/// The text of a name, where there is one.
+fn text_of<'a>(name: &Option<Name<'a>>) -> Option<&'a str>
+    ensures { option_copied result ≡ name.now }
+{
+    match name {
+        Some(name) => Some(name.as_str()),
+        None => None,
+    }
+}
+
+/// What is said where this rule decides, or none.
+fn of_decision(alloc: Global, decision: Option<Decision>) -> Result<Said, AllocError>
+    ensures { IfOk result (Says decision) }
+{
+    let Some(Decision { rule, effect }) = decision else {
+        let line = String::from_str(alloc, "deny default\n")?;
+        return Ok(Said {
+            line,
+            ending: Ending::Refused,
+        });
+    };
+    match effect {
+        Effect::Allow => {
+            let line = format!(in alloc; "allow rule {rule}\n")?;
+            Ok(Said {
+                line,
+                ending: Ending::Accepted,
+            })
+        }
+        Effect::Deny => {
+            let line = format!(in alloc; "deny rule {rule}\n")?;
+            Ok(Said {
+                line,
+                ending: Ending::Refused,
+            })
+        }
+    }
+}
+
+/// What is said of a policy.
+fn of_policy(alloc: Global, policy: &Policy, asked: &Asked<'_>) -> Result<Said, AllocError>
+    ensures { IfOk result (Says (decision_of policy.now.rules (asked_of policy.now asked.now))) }
+{
+    let ask = Ask {
+        role: policy.role_of(asked.caller),
+        action: asked.action,
+        collection: text_of(&asked.collection),
+        class: text_of(&asked.class),
+    };
+    of_decision(alloc, decide(policy.rules(), &ask))
+}
+
+/// What is said of a file that is no policy.
+fn of_fault(alloc: Global, fault: PolicyFault) -> Result<Said, AllocError>
+    ensures memory { fault ≡ Memory → IsErr result }
+    ensures line { IfOk result (λ said. Prints said (fault_line fault) Refused) }
+{
+    if fault == PolicyFault::Memory {
+        return Err(AllocError);
+    }
+    let line = format!(in alloc; "policy {fault}\n")?;
+    Ok(Said {
+        line,
+        ending: Ending::Refused,
+    })
+}
+
+/// What is said of the text of a policy file.
+fn of_text(alloc: Global, text: &str, asked: &Asked<'_>) -> Result<Said, AllocError>
+    ensures policy { (policy : Contents) → policy_of text.now ≡ Ok policy → IfOk result (Says (decision_of policy.rules (asked_of policy asked.now))) }
+    ensures fault { (fault : PolicyFault) → policy_of text.now ≡ Err fault → IfOk result (λ said. Prints said (fault_line fault) Refused) }
+{
+    match read_policy(alloc, text) {
+        Ok(policy) => of_policy(alloc, &policy, asked),
+        Err(fault) => of_fault(alloc, fault),
+    }
+}
+
+/// What is said of the bytes.
+fn of_bytes(alloc: Global, bytes: &[u8], asked: &Asked<'_>) -> Result<Said, AllocError>
+    ensures { IfOk result (Explains bytes.now asked.now) }
+{
+    match str::from_utf8(bytes) {
+        Ok(text) => of_text(alloc, text, asked),
+        Err(_) => of_fault(alloc, PolicyFault::NotToml),
+    }
+}
+
+/// Says which rule of the policy decides: the line that `explain` prints of the bytes of the policy file, and how it ends.
+pub fn explained(alloc: Global, bytes: &[u8], asked: &Asked<'_>) -> Result<Said, AllocError>
+    // What is said is so.
+    ensures says { IfOk result (Explains bytes.now asked.now) }
+
+    // Where the first rule that matches allows, its number is said, from 1.
+    ensures allowed { (policy : Contents) (rule : ℕ) → Spells bytes.now policy → IsAllowedBy policy asked.now rule
+        → IfOk result (λ said. Prints said (allow_line rule) Accepted) }
+    // And likewise where it denies.
+    ensures denied { (policy : Contents) (rule : ℕ) → Spells bytes.now policy → IsDeniedBy policy asked.now rule
+        → IfOk result (λ said. Prints said (deny_line rule) Refused) }
+    // Where no rule matches, it is denied by default.
+    ensures by_default { (policy : Contents) → Spells bytes.now policy → IsUndecided policy asked.now
+        → IfOk result (λ said. Prints said default_line Refused) }
+    // A file that is no policy is refused with its first fault.
+    ensures refused { (fault : PolicyFault) → HasFault bytes.now fault → IfOk result (λ said. Prints said (fault_line fault) Refused) }
+{
+    of_bytes(alloc, bytes, asked)
+}

@@ -1,0 +1,60 @@
+//! Words that are no use of the program.
+
+ghost use Rattle.std.specs.Prelude.{◌≡◌};
+ghost use Rattle.clap.specs.Words.{kind_of};
+ghost use Rattle.clap.specs.declared.error.kind.ErrorKind.TheVariants.{OutOfMemory};
+ghost use Rattle.commands.specs.declared.use_fault.UseFault.TheVariants.{Memory};
+
+use clap::Error;
+use clap::error::ErrorKind;
+use std::alloc::{AllocError, Global};
+use std::fmt;
+
+/// Why a command line asks for nothing.
+#[derive(Debug, Drop)]
+pub enum UseFault {
+    /// The words are no use of the program. The text says why, or how the program is used.
+    Use(String),
+    /// A growth was refused.
+    Memory,
+}
+
+impl fmt::Display for UseFault {
+    fn fmt<W: fmt::Write>(&self, f: &mut fmt::Formatter<W>) -> fmt::Result {
+        match self {
+            UseFault::Use(text) => write!(f, "{text}"),
+            UseFault::Memory => write!(f, "memory"),
+        }
+    }
+}
+
+impl std::error::Error for UseFault {}
+
+impl From<AllocError> for UseFault {
+    ghost from_gives = { λ _ e. e ≡ Memory };
+
+    fn from(_error: AllocError) -> UseFault {
+        UseFault::Memory
+    }
+}
+
+/// What a refusal of clap's comes to.
+pub fn by_clap(alloc: Global, error: &Error) -> UseFault
+    ensures memory { kind_of error.now ≡ OutOfMemory → result ≡ Memory }
+{
+    if error.kind() == ErrorKind::OutOfMemory {
+        return UseFault::Memory;
+    }
+    match format!(in alloc; "{error}") {
+        Ok(text) => UseFault::Use(text),
+        Err(_) => UseFault::Memory,
+    }
+}
+
+/// A fault of use that this text explains.
+pub fn explained_by(alloc: Global, why: &str) -> UseFault {
+    match String::from_str(alloc, why) {
+        Ok(text) => UseFault::Use(text),
+        Err(_) => UseFault::Memory,
+    }
+}

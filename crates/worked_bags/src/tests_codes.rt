@@ -1,0 +1,205 @@
+//! What is said of each fault, of a bag as the usual tool writes it, and of strange names.
+
+use crate::codes::{
+    DECLARATION_CODES, DECLARED, ENTRY_CODES, FILE_CODES, File, Given, INFO_CODES, LINE_CODES,
+    LISTED, LISTING_CODES, OXUM_CODES, PATH_CODES, PAYLOAD, PAYLOAD_CODES,
+};
+use crate::strange_names::{
+    LISTED_NAME, LISTED_NAME_0_97, MISSING_NAME, SPOILED_NAME, UNLISTED_NAME,
+};
+use crate::tool_bag::{SPOILED_TOOL_BAG, TOOL_BAG};
+use commands::{Ending, line_of};
+use std::alloc::Global;
+use std::process::Abort;
+use std::test::*;
+
+/// The transfer form of these files.
+fn form_of(alloc: Global, files: &[File]) -> Result<Vec<u8>, Fail> {
+    let mut form = Vec::new(alloc);
+    form.extend_from_slice(b"BAGSET 1\n")?;
+    for (path, content) in files {
+        let (path_len, content_len) = (path.len(), content.len());
+        let header = format!(in alloc; "FILE {path_len} {content_len}\n{path}")?;
+        form.extend_from_slice(header.as_bytes())?;
+        form.extend_from_slice(content)?;
+        form.extend_from_slice(b"\n")?;
+    }
+    form.extend_from_slice(b"END\n")?;
+    Ok(form)
+}
+
+/// The bytes that are handed to the program.
+fn bytes_of(alloc: Global, given: Given) -> Result<Vec<u8>, Fail> {
+    match given {
+        Given::Declared(text) => form_of(alloc, &[("bagit.txt", text), PAYLOAD, LISTED]),
+        Given::Listed(text) => form_of(alloc, &[DECLARED, PAYLOAD, ("manifest-sha256.txt", text)]),
+        Given::Tagged(text) => form_of(
+            alloc,
+            &[DECLARED, PAYLOAD, LISTED, ("tagmanifest-sha256.txt", text)],
+        ),
+        Given::Described(text) => form_of(
+            alloc,
+            &[("bag-info.txt", text), DECLARED, PAYLOAD, LISTED],
+        ),
+        Given::Files(files) => form_of(alloc, files),
+        Given::Bytes(bytes) => {
+            let mut copy = Vec::new(alloc);
+            copy.extend_from_slice(bytes)?;
+            Ok(copy)
+        }
+    }
+}
+
+/// Takes this line and this end, and nothing else.
+fn says<R: AllocGlobal + Abort>(
+    rt: &R,
+    bytes: &[u8],
+    line: &str,
+    ending: Ending,
+) -> Result<(), Fail> {
+    let said = line_of(rt.alloc(), bytes)?;
+    assert_eq!(rt; said.line.as_str(), line);
+    assert_eq!(rt; said.ending, ending, "{line}");
+    Ok(())
+}
+
+#[test]
+fn faults_of_bagit_txt(rt: HostRuntime) -> Result<(), Fail> {
+    for (given, line) in DECLARATION_CODES {
+        let bytes = bytes_of(rt.alloc(), given)?;
+        says(&rt, bytes.as_slice(), line, Ending::Refused)?;
+    }
+    Ok(())
+}
+
+#[test]
+fn faults_of_names(rt: HostRuntime) -> Result<(), Fail> {
+    for (given, line) in FILE_CODES {
+        let bytes = bytes_of(rt.alloc(), given)?;
+        says(&rt, bytes.as_slice(), line, Ending::Refused)?;
+    }
+    Ok(())
+}
+
+#[test]
+fn faults_of_lines(rt: HostRuntime) -> Result<(), Fail> {
+    for (given, line) in LINE_CODES {
+        let bytes = bytes_of(rt.alloc(), given)?;
+        says(&rt, bytes.as_slice(), line, Ending::Refused)?;
+    }
+    Ok(())
+}
+
+#[test]
+fn faults_of_listings(rt: HostRuntime) -> Result<(), Fail> {
+    for (given, line) in LISTING_CODES {
+        let bytes = bytes_of(rt.alloc(), given)?;
+        says(&rt, bytes.as_slice(), line, Ending::Refused)?;
+    }
+    Ok(())
+}
+
+#[test]
+fn faults_of_payload(rt: HostRuntime) -> Result<(), Fail> {
+    for (given, line) in PAYLOAD_CODES {
+        let bytes = bytes_of(rt.alloc(), given)?;
+        says(&rt, bytes.as_slice(), line, Ending::Refused)?;
+    }
+    Ok(())
+}
+
+#[test]
+fn faults_of_bag_info(rt: HostRuntime) -> Result<(), Fail> {
+    for (given, line) in INFO_CODES {
+        let bytes = bytes_of(rt.alloc(), given)?;
+        says(&rt, bytes.as_slice(), line, Ending::Refused)?;
+    }
+    Ok(())
+}
+
+#[test]
+fn faults_of_oxums(rt: HostRuntime) -> Result<(), Fail> {
+    for (given, line) in OXUM_CODES {
+        let bytes = bytes_of(rt.alloc(), given)?;
+        says(&rt, bytes.as_slice(), line, Ending::Refused)?;
+    }
+    Ok(())
+}
+
+#[test]
+fn faults_of_entries(rt: HostRuntime) -> Result<(), Fail> {
+    for (given, line) in ENTRY_CODES {
+        let bytes = bytes_of(rt.alloc(), given)?;
+        says(&rt, bytes.as_slice(), line, Ending::Refused)?;
+    }
+    Ok(())
+}
+
+#[test]
+fn faults_of_paths_in_forms(rt: HostRuntime) -> Result<(), Fail> {
+    for (given, line) in PATH_CODES {
+        let bytes = bytes_of(rt.alloc(), given)?;
+        says(&rt, bytes.as_slice(), line, Ending::Refused)?;
+    }
+    Ok(())
+}
+
+/// A form that lacks its `END`, of so many empty files with names of four digits.
+fn many_files(alloc: Global, count: u32) -> Result<Vec<u8>, Fail> {
+    let mut form = Vec::new(alloc);
+    form.extend_from_slice(b"BAGSET 1\n")?;
+    for number in 0..count {
+        let entry = format!(in alloc; "FILE 4 0\n{number:04}\n")?;
+        form.extend_from_slice(entry.as_bytes())?;
+    }
+    Ok(form)
+}
+
+#[test]
+fn two_thousand_files_and_one_more(rt: HostRuntime) -> Result<(), Fail> {
+    let mut form = many_files(rt.alloc(), 2000)?;
+    for (rest, line) in [
+        ("END\n", "invalid B1\n"),
+        ("FILE 4 0", "unreadable S3\n"),
+        ("FILE 4 0\n", "unreadable S6\n"),
+        ("FILE 4 0\n2000\nEND\n", "unreadable S6\n"),
+    ] {
+        form.truncate(28_009);
+        form.extend_from_slice(rest.as_bytes())?;
+        says(&rt, form.as_slice(), line, Ending::Refused)?;
+    }
+    Ok(())
+}
+
+#[test]
+fn the_usual_tool_writes_valid_bags(rt: HostRuntime) -> Result<(), Fail> {
+    let form = form_of(rt.alloc(), TOOL_BAG)?;
+    let line = "valid 0.97 files 2 bytes 13 manifests 4\n";
+    says(&rt, form.as_slice(), line, Ending::Accepted)?;
+    let form = form_of(rt.alloc(), SPOILED_TOOL_BAG)?;
+    let line = "invalid B17 tagmanifest-sha512.txt bag-info.txt\n";
+    says(&rt, form.as_slice(), line, Ending::Refused)
+}
+
+#[test]
+fn strange_names_may_be_listed(rt: HostRuntime) -> Result<(), Fail> {
+    let form = form_of(rt.alloc(), LISTED_NAME)?;
+    let line = "valid 1.0 files 1 bytes 3 manifests 1\n";
+    says(&rt, form.as_slice(), line, Ending::Accepted)?;
+    let form = form_of(rt.alloc(), LISTED_NAME_0_97)?;
+    let line = "valid 0.97 files 1 bytes 3 manifests 1\n";
+    says(&rt, form.as_slice(), line, Ending::Accepted)
+}
+
+#[test]
+fn strange_names_are_printed_with_percent_signs(rt: HostRuntime) -> Result<(), Fail> {
+    let form = form_of(rt.alloc(), MISSING_NAME)?;
+    let line = "invalid B11 manifest-sha256.txt data/%20a%0A%0D%25%09%7F%C3%A9%F0%9F%93%98~!%20\n";
+    says(&rt, form.as_slice(), line, Ending::Refused)?;
+    let form = form_of(rt.alloc(), UNLISTED_NAME)?;
+    let line = "invalid B12 manifest-sha256.txt data/%20a%0A%0D%25%09%7F%C3%A9%F0%9F%93%98~!%20\n";
+    says(&rt, form.as_slice(), line, Ending::Refused)?;
+    let form = form_of(rt.alloc(), SPOILED_NAME)?;
+    let line = "invalid B17 manifest-sha256.txt data/%20a%0A%0D%25%09%7F%C3%A9%F0%9F%93%98~!%20\n";
+    says(&rt, form.as_slice(), line, Ending::Refused)
+}
