@@ -1,0 +1,12 @@
+pub mod Writing
+pub mod Scanning
+pub mod Keys
+pub mod Typed
+pub mod Edits
+pub mod Whole
+pub mod Inside
+pub mod Creating
+pub mod TextKeys
+pub mod Reading
+pub mod Results
+pub mod RowidKeys

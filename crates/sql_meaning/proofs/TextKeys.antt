@@ -1,0 +1,58 @@
+-- A text column that is a key: the test by it, and that it names at most one row.
+use Rattle.std.proofs.Common.{◌≡◌, ◌&&◌, ◌⊎◌, not, ℕ, List, [], ◌∷◌, filter, bytes_eq, Bool, true, false, refl, sym, ap, subst, ◌∙◌}
+use Rattle.std.specs.List.{AllByRecursion}
+use Rattle.sqlite.specs.declared.types.Value.TheVariants.{Text}
+use Rattle.sqlite.specs.Order.{Row, column}
+use Rattle.sqlite.specs.Term.{Term, col, op2}
+use Rattle.sqlite.specs.Ops.{binary, is_true}
+use Rattle.sqlite.specs.Collation.TheVariants.{Binary}
+use Rattle.sqlite_sql.specs.declared.ops.BinaryOp.TheVariants.{Compare}
+use Rattle.sqlite_sql.specs.declared.ops.CompareOp.TheVariants.{Eq}
+use Rattle.sqlite_value.specs.Keys.{first_key, plain}
+use Rattle.sqlite_schema.specs.Rules.{clashes, agree, equal}
+use Rattle.sqlite_rules.specs.Lists.{Has}
+use Rattle.sqlite_rules.proofs.KeyLemmas.{agree_back, agree_chain}
+use Rattle.sqlite_rules.proofs.ListLemmas.{all_has, all_from}
+use Rattle.sqlite_trees.specs.View.{IsShaped}
+use Rattle.sqlite_trees.specs.declared.store.Shape.TheVariants as shape
+use Rattle.sql_meaning.specs.Columns.{bytes_at}
+use Rattle.sql_meaning.proofs.Scanning.{passes}
+use Rattle.sql_meaning.proofs.Keys.{trailing, same_text, same_key, lone}
+
+abbrev pub has_text : ℕ → List ℕ → Row → Bool
+has_text place name r = bytes_eq (bytes_at r place) name
+
+abbrev pub IsText : ℕ → Row → Type 0
+IsText place r = column r place ≡ Text (bytes_at r place)
+
+-- WHERE column = ?1
+abbrev pub by_text : ℕ → List Term
+by_text place = op2 (Compare Eq Binary) (col 1 place) (col 0 0) ∷ []
+
+passes_text : (place : ℕ) (name : List ℕ) (more r : Row) → IsText place r → passes (Text name ∷ more) (by_text place) r ≡ has_text place name r
+passes_text place name more r is = trailing _ ∙ ap (λ v. is_true (binary (Compare Eq Binary) v (Text name))) is ∙ same_text (bytes_at r place) name
+
+pub each_passes : (place : ℕ) (name : List ℕ) (more : Row) (rows : List Row) → AllByRecursion (IsText place) rows → AllByRecursion (λ r. passes (Text name ∷ more) (by_text place) r ≡ has_text place name r) rows
+each_passes place name more rows typed = all_from _ rows (λ r there. passes_text place name more r (all_has (IsText place) rows r typed there))
+
+key_is : (place : ℕ) (name : List ℕ) (r : Row) → IsText place r → has_text place name r ≡ true → agree plain (place ∷ []) r (0 ∷ []) (Text name ∷ []) ≡ true
+unfolding first_key
+key_is place name r is named = passes_text place name [] r is ∙ named
+
+one_named : (place : ℕ) (rows : List Row) → IsShaped shape.Table rows → AllByRecursion (IsText place) rows → AllByRecursion (λ r. (not (clashes plain (place ∷ []) rows r) && true) ≡ true) rows
+    → (name : List ℕ) (x y : Row) → Has rows x → Has rows y → has_text place name x ≡ true → has_text place name y ≡ true → x ≡ y
+one_named place rows shaped typed unique name x y hx hy px py =
+    let key : Row = Text name ∷ [] in
+    let kx = key_is place name x (all_has (IsText place) rows x typed hx) px in
+    let ky = key_is place name y (all_has (IsText place) rows y typed hy) py in
+    let agrees = agree_chain plain (place ∷ []) (0 ∷ []) (place ∷ []) x key y kx (agree_back plain (place ∷ []) (0 ∷ []) y key ky) in
+    same_key plain (place ∷ []) rows shaped x y hx hy (unclashed _ (all_has _ rows y unique hy)) agrees
+  where
+    unclashed : (b : Bool) → (not b && true) ≡ true → b ≡ false
+    unclashed true h = absurd cc
+    unclashed false h = refl
+
+-- at most one row has the text
+pub few_named : (place : ℕ) (rows : List Row) → IsShaped shape.Table rows → AllByRecursion (IsText place) rows → AllByRecursion (λ r. (not (clashes plain (place ∷ []) rows r) && true) ≡ true) rows → (name : List ℕ)
+    → (filter (has_text place name) rows ≡ []) ⊎ ((r : Row) × Has rows r × (has_text place name r ≡ true) × (filter (has_text place name) rows ≡ r ∷ []))
+few_named place rows shaped typed unique name = lone (has_text place name) rows rows shaped.0 (λ r there. there) (one_named place rows shaped typed unique name)

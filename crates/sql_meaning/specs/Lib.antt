@@ -1,0 +1,4 @@
+pub mod Columns
+pub mod Whole
+pub mod Inside
+pub mod Making

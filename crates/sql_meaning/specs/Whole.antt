@@ -1,0 +1,26 @@
+-- A database whose schema and rules stand.
+use Rattle.std.specs.Prelude.{◌≡◌, []}
+use Rattle.std.specs.List.{AllByRecursion}
+use Rattle.sqlite.specs.Tree.{Trees}
+use Rattle.sqlite.specs.Schema.{Schema}
+use Rattle.sqlite.specs.Effect.{Database}
+use Rattle.sqlite.specs.View.{IsShaped}
+use Rattle.sqlite_trees.specs.declared.store.Shape.TheVariants as shape
+use Rattle.sqlite_schema.specs.Rules.{Fits, Refers}
+use Rattle.sqlite_schema.specs.declared.schema.Among.TheVariants.{All}
+
+-- the rows of each table ascend by their rowids
+abbrev pub AreShaped : Schema → Trees → Type 0
+AreShaped schema db = AllByRecursion (λ t. IsShaped shape.Table (db t.tree)) schema.tables
+
+-- the database has this schema, rows in the order of their rowids, and keeps each rule of the schema
+pub record IsWhole (schema : Schema) (db : Database) : Type 0 where
+  pub schema_is : db.schema ≡ schema
+  pub shaped : AreShaped schema db.trees
+  pub fits : Fits schema db.trees
+  pub refers : Refers All schema db.trees
+
+-- the database has this schema, and no row
+pub record IsBlank (schema : Schema) (db : Database) : Type 0 where
+  pub schema_is : db.schema ≡ schema
+  pub empty : AllByRecursion (λ t. db.trees t.tree ≡ []) schema.tables
