@@ -1,0 +1,118 @@
+-- What the statements on classes do to the rows of an office.
+use Rattle.std.proofs.Common.{IsTrue, if◌then◌else◌, ◌≡◌, ◌≢◌, ◌⊎◌, ℕ, ℤ, List, [], ◌∷◌, map, filter, slice_get, option_map, true, Ok, refl, ap, subst, sym, ◌∙◌, inl, inr, codes, arith}
+use Rattle.std.specs.List.{AllByRecursion, list_any}
+use Rattle.std.proofs.lemmas.Bool.{cases_Bool}
+use Rattle.sqlite.specs.declared.types.Value.TheVariants.{Null, Int, Text}
+use Rattle.sqlite.specs.Order.{Row, column}
+use Rattle.sqlite.specs.Edit.{id_in, edit_of}
+use Rattle.sqlite.specs.Rowids.TheVariants.{Chosen, Given}
+use Rattle.sqlite.specs.Tree.{Trees, rowid}
+use Rattle.sqlite.specs.Kind.TheVariants as kind
+use Rattle.sqlite.specs.Cast.{cast, cast_row}
+use Rattle.sqlite.specs.Effect.{Database}
+use Rattle.sqlite.specs.State.{State, Shown, Executes}
+use Rattle.sqlite_schema.specs.declared.schema.Constraint.TheVariants.{Datatype, NotNull, Unique}
+use Rattle.sqlite_schema.specs.Rules.{Fits}
+use Rattle.sqlite_rules.specs.Lists.{Has}
+use Rattle.sqlite_rules.specs.Calls.{ids_of}
+use Rattle.sqlite_rules.proofs.ListLemmas.{all_has, all_from}
+use Rattle.sqlite_rules.proofs.TableLemmas.{int_is}
+use Rattle.sqlite_trees.specs.View.{is_int}
+use Rattle.sql_meaning.specs.Columns.{int_at, bytes_at}
+use Rattle.sql_meaning.proofs.Writing.{inserts, updates}
+use Rattle.sql_meaning.proofs.Scanning.{scan, as_program, shown_of, scanned, answers_one}
+use Rattle.sql_meaning.proofs.Reading.{reads_same, reads_one, finds_part}
+use Rattle.sql_meaning.proofs.TextKeys.{has_text, by_text, each_passes, few_named}
+use Rattle.sql_meaning.proofs.Typed.{text_at, int_in, all_both}
+use Rattle.sql_meaning.proofs.Edits.{appended, updated, decoded, counted, cast_null, cast_int, map_append, none_revised}
+use Rattle.office_tables.specs.Schema.{office_schema, class_table, needed}
+use Rattle.office_tables.specs.Rows.{Tables, ClassRow, is_class, class_named, with_years, with_new_class, with_class}
+use Rattle.office_tables.specs.Tables.{IsOffice, Becomes, tables_of, class_in}
+use Rattle.office_tables.proofs.Frames.{idle, becomes_classes}
+use Rattle.office_tables.proofs.ClassTexts.{years_text, years_columns, asks_years, revise_text, revised_columns, revise_is, revise_plain, add_class_text, class_terms, add_class_is, add_class_plain}
+
+-- a stored class, as the rules of its table leave it
+abbrev IsClassRow : Row → Type 0
+IsClassRow r = (column r 1 ≡ Text (bytes_at r 1)) × (column r 2 ≡ Int (int_at r 2))
+
+class_rows : (db : Trees) → Fits office_schema db → AllByRecursion IsClassRow (db 4)
+class_rows db fits = all_both (λ r typed present. (
+  text_at office_schema db class_table r typed present 0 (needed (codes "name") kind.Text) refl refl refl refl refl,
+  int_in office_schema db class_table r typed present 1 (needed (codes "years") kind.Integer) refl refl refl refl refl,
+)) (db 4) (fits.rules Datatype (λ e. cc)).1.1.1.0 (fits.rules NotNull (λ e. cc)).1.1.1.0
+
+-- what is known of the table: each name is a text, and at most one class has it
+module _ (db : Database) (office : IsOffice db) (name : List ℕ) where
+  named : AllByRecursion (λ r. column r 1 ≡ Text (bytes_at r 1)) (db.trees 4)
+  named = all_from _ (db.trees 4) (λ r there. (all_has IsClassRow (db.trees 4) r (class_rows db.trees office.fits) there).0)
+
+  few : (filter (has_text 1 name) (db.trees 4) ≡ []) ⊎ ((r : Row) × Has (db.trees 4) r × (has_text 1 name r ≡ true) × (filter (has_text 1 name) (db.trees 4) ≡ r ∷ []))
+  few = few_named 1 (db.trees 4) office.shaped.1.1.1.0 named (office.fits.rules Unique (λ e. cc)).1.1.1.0 name
+
+-- ---- the years of a class
+
+pub finds_years : (old new : State) (name : List ℕ) (rows : List Row) → IsOffice old.now → Shown years_text (Text name ∷ []) old new rows
+    → (new.now ≡ old.now) × (option_map (λ (c : ClassRow). c.years) (class_named name (tables_of old.now).classes) ≡ option_map (λ row. int_at row 0) (slice_get rows 0))
+finds_years old new name rows office h =
+    let params : Row = Text name ∷ [] in
+    let db = old.now.trees in
+    let is = reads_one office_schema years_text 4 (by_text 1) years_columns [] asks_years params old new office.schema_is rows h (has_text 1 name)
+    (each_passes 1 name [] (db 4) (named old.now office name)) (few old.now office name) in (
+      reads_same office_schema years_text 4 (by_text 1) years_columns [] asks_years params old new office.schema_is rows h,
+      finds_part (db 4) rows (has_text 1 name) (shown_of params years_columns) class_in (is_class name) (λ r. refl) is (λ (c : ClassRow). c.years) (λ row. int_at row 0) (λ r. refl),
+    )
+
+-- ---- a new class
+
+pub adds_class : (old new : State) (name : List ℕ) (years : ℤ) (count : ℕ) → IsOffice old.now → Executes add_class_text (Text name ∷ Int years ∷ []) old new (Ok count)
+    → Becomes new.now (with_new_class name years (tables_of old.now))
+adds_class old new name years count office h =
+    let params : Row = Text name ∷ Int years ∷ [] in
+    let db = old.now.trees in
+    let source : Row = Null ∷ Text name ∷ Int years ∷ [] in
+    let edit = edit_of db class_table [] Chosen 0 (source ∷ []) in
+    let done = inserts add_class_text params old new office_schema office.schema_is 3 class_table refl idle add_class_plain class_terms 3 add_class_is refl refl count h in
+    let cast_is : cast_row class_table source ≡ Null ∷ Text name ∷ Int years ∷ [] = rw (cast_null, cast_int years) refl in
+    let end = appended db class_table source (Text name ∷ Int years ∷ []) office.shaped.1.1.1.0 cast_is in
+    becomes_classes old new edit count edit.news office.shaped done refl _ (ap (map class_in) end ∙ map_append class_in (db 4) _)
+
+-- ---- other years
+
+cast_set : (years : ℤ) (r : Row) → IsClassRow r → IsTrue (is_int (rowid r)) → cast_row class_table (rowid r ∷ column r 1 ∷ Int years ∷ []) ≡ rowid r ∷ Text (bytes_at r 1) ∷ Int years ∷ []
+cast_set years r it whole =
+    let id : rowid r ≡ Int (id_in (rowid r)) = int_is (rowid r) whole in
+    let casts : cast kind.Integer (rowid r) ≡ rowid r = subst (λ v. cast kind.Integer v ≡ v) (sym id) (cast_int (id_in (rowid r))) in
+    rw (casts, it.0, cast_int years) refl
+
+pub revises_class : (old new : State) (name : List ℕ) (years : ℤ) (count : ℕ) → IsOffice old.now → Executes revise_text (Text name ∷ Int years ∷ []) old new (Ok count)
+    → Becomes new.now (with_years name years (tables_of old.now)) × (count ≡ (if list_any (is_class name) (tables_of old.now).classes then 1 else 0))
+revises_class old new name years count office h =
+    let params : Row = Text name ∷ Int years ∷ [] in
+    let db = old.now.trees in
+    let done = updates revise_text params old new office_schema office.schema_is 3 class_table refl idle revise_plain (as_program (scan 4 (by_text 1) revised_columns [])) revise_is count h in
+    let answer = done.0 in
+    let edit = edit_of db class_table (ids_of answer) Given 1 answer in
+    let shaped = office.shaped.1.1.1.0 in
+    let typed = class_rows db office.fits in
+    let keep = has_text 1 name in
+    let set : Row → Row = λ r. rowid r ∷ Text (bytes_at r 1) ∷ Int years ∷ [] in
+    let found = scanned db params 4 (by_text 1) revised_columns [] answer done.1.answer in
+    let is = answers_one db params 4 (by_text 1) revised_columns [] answer keep found (each_passes 1 name (Int years ∷ []) (db 4) (named old.now office name)) (few old.now office name) in
+    let made = updated db class_table answer keep (shown_of params revised_columns) set shaped (few old.now office name) is
+    (λ r there. (refl, cast_set years r (all_has IsClassRow (db 4) r typed there) (all_has _ (db 4) r shaped.1 there), refl)) in (
+      becomes_classes old new edit count edit.news office.shaped done.2 refl _ (ap (map class_in) made ∙ decoded class_in keep set (is_class name) (λ c. record c { years = years }) (λ r. refl) (λ r. refl) (db 4)),
+      done.2.counted ∙ counted db class_table answer keep (shown_of params revised_columns) class_in (is_class name) (λ r. refl) (few old.now office name) is,
+    )
+
+-- where the UPDATE counted none, the INSERT is left to do; where it counted one, nothing is
+pub puts_class : (t : Tables) (name : List ℕ) (years : ℤ) (mid : Database) (count : ℕ) → Becomes mid (with_years name years t) → count ≡ (if list_any (is_class name) t.classes then 1 else 0)
+    → (count ≡ 0 → (new : Database) → Becomes new (with_new_class name years (tables_of mid)) → Becomes new (with_class name years t)) × (count ≢ 0 → Becomes mid (with_class name years t))
+puts_class t name years mid count revised counts = elim (cases_Bool (list_any (is_class name) t.classes)) [
+  | inl some ↦
+      let one : count ≡ 1 = rw some at counts in
+      (λ none. absurd (omega arith), λ _. rw some revised)
+  | inr none ↦
+      let zero_is : count ≡ 0 = rw none at counts in
+      let same : tables_of mid ≡ t = revised.are ∙ ap (λ cs. record t { classes = cs }) (none_revised (is_class name) (λ c. record c { years = years }) t.classes none) in
+      (λ _ new added. rw none (subst (λ u. Becomes new (with_new_class name years u)) same added), λ some. absurd (some zero_is))
+]

@@ -1,0 +1,65 @@
+-- What the statements on collections do to the rows of an office.
+use Rattle.std.proofs.Common.{◌≡◌, ◌⊎◌, ℕ, List, [], ◌∷◌, map, filter, length, ◌==◌, not, true, Ok, refl, ap, sym, ◌∙◌, inl, inr, arith, codes}
+use Rattle.std.proofs.lemmas.Bool.{cases_Bool}
+use Rattle.std.proofs.lemmas.Bool.Decides.{nat_tests}
+use Rattle.std.specs.List.{AllByRecursion, list_any}
+use Rattle.sqlite.specs.declared.types.Value.TheVariants.{Null, Text}
+use Rattle.sqlite.specs.Order.{Row, column}
+use Rattle.sqlite.specs.Edit.{edit_of}
+use Rattle.sqlite.specs.Rowids.TheVariants.{Chosen}
+use Rattle.sqlite.specs.Kind.TheVariants as kind
+use Rattle.sqlite.specs.Cast.{cast_row}
+use Rattle.sqlite.specs.Effect.{Database}
+use Rattle.sqlite.specs.State.{State, Shown, Executes}
+use Rattle.sqlite_schema.specs.declared.schema.Constraint.TheVariants.{Datatype, NotNull, Unique}
+use Rattle.sqlite_rules.specs.Lists.{Has}
+use Rattle.sql_meaning.specs.Columns.{bytes_at}
+use Rattle.sql_meaning.proofs.Writing.{inserts}
+use Rattle.sql_meaning.proofs.Scanning.{shown_of}
+use Rattle.sql_meaning.proofs.Reading.{reads_same, reads_one, finds_any}
+use Rattle.sql_meaning.proofs.TextKeys.{has_text, by_text, each_passes, few_named}
+use Rattle.sql_meaning.proofs.Typed.{text_at, all_both}
+use Rattle.sql_meaning.proofs.Edits.{appended, cast_null, map_append}
+use Rattle.office_tables.specs.Schema.{office_schema, collection_table, needed}
+use Rattle.office_tables.specs.Rows.{has_collection, is_collection, with_new_collection}
+use Rattle.office_tables.specs.Tables.{IsOffice, Becomes, tables_of, collection_in}
+use Rattle.office_tables.proofs.Frames.{idle, becomes_collections}
+use Rattle.office_tables.proofs.ClassTexts.{find_text, name_column, asks_collection, add_collection_text, collection_terms, add_collection_is, add_collection_plain}
+
+module _ (db : Database) (office : IsOffice db) (name : List ℕ) where
+  named : AllByRecursion (λ r. column r 1 ≡ Text (bytes_at r 1)) (db.trees 6)
+  named = all_both (λ r typed present. text_at office_schema db.trees collection_table r typed present 0 (needed (codes "name") kind.Text) refl refl refl refl refl)
+      (db.trees 6) (office.fits.rules Datatype (λ e. cc)).1.1.1.1.0 (office.fits.rules NotNull (λ e. cc)).1.1.1.1.0
+
+  few : (filter (has_text 1 name) (db.trees 6) ≡ []) ⊎ ((r : Row) × Has (db.trees 6) r × (has_text 1 name r ≡ true) × (filter (has_text 1 name) (db.trees 6) ≡ r ∷ []))
+  few = few_named 1 (db.trees 6) office.shaped.1.1.1.1.0 named (office.fits.rules Unique (λ e. cc)).1.1.1.1.0 name
+
+some_there : {X : Type 0} (xs : List X) → list_any (λ x. true) xs ≡ not (length xs == 0)
+some_there [] = refl
+some_there (x ∷ xs) = elim (cases_Bool (length (x ∷ xs) == 0)) [
+  | inl is ↦ absurd (let none : length (x ∷ xs) ≡ 0 = grind (arith, nat_tests) in omega arith)
+  | inr isnt ↦ sym (ap not isnt)
+]
+
+pub finds_collection : (old new : State) (name : List ℕ) (rows : List Row) → IsOffice old.now → Shown find_text (Text name ∷ []) old new rows
+    → (new.now ≡ old.now) × (has_collection name (tables_of old.now) ≡ not (length rows == 0))
+finds_collection old new name rows office h =
+    let params : Row = Text name ∷ [] in
+    let db = old.now.trees in
+    let is = reads_one office_schema find_text 6 (by_text 1) name_column [] asks_collection params old new office.schema_is rows h (has_text 1 name)
+    (each_passes 1 name [] (db 6) (named old.now office name)) (few old.now office name) in (
+      reads_same office_schema find_text 6 (by_text 1) name_column [] asks_collection params old new office.schema_is rows h,
+      finds_any (db 6) rows (has_text 1 name) (shown_of params name_column) collection_in (is_collection name) (λ r. refl) is ∙ some_there rows,
+    )
+
+pub adds_collection : (old new : State) (name : List ℕ) (count : ℕ) → IsOffice old.now → Executes add_collection_text (Text name ∷ []) old new (Ok count)
+    → Becomes new.now (with_new_collection name (tables_of old.now))
+adds_collection old new name count office h =
+    let params : Row = Text name ∷ [] in
+    let db = old.now.trees in
+    let source : Row = Null ∷ Text name ∷ [] in
+    let edit = edit_of db collection_table [] Chosen 0 (source ∷ []) in
+    let done = inserts add_collection_text params old new office_schema office.schema_is 4 collection_table refl idle add_collection_plain collection_terms 2 add_collection_is refl refl count h in
+    let cast_is : cast_row collection_table source ≡ Null ∷ Text name ∷ [] = rw cast_null refl in
+    let end = appended db collection_table source (Text name ∷ []) office.shaped.1.1.1.1.0 cast_is in
+    becomes_collections old new edit count edit.news office.shaped done refl _ (ap (map collection_in) end ∙ map_append collection_in (db 6) _)

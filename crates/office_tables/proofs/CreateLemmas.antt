@@ -1,0 +1,36 @@
+-- The first row of an office whose tables were just made.
+use Rattle.std.proofs.Common.{◌≡◌, ℕ, ℤ, pos, [], ◌∷◌, map, Ok, refl, ap, ◌∙◌}
+use Rattle.sqlite.specs.declared.types.Value.TheVariants.{Null, Int}
+use Rattle.sqlite.specs.Order.{Row}
+use Rattle.sqlite.specs.Edit.{edit_of, edited}
+use Rattle.sqlite.specs.Rowids.TheVariants.{Chosen}
+use Rattle.sqlite.specs.Tree.{put_row}
+use Rattle.sqlite.specs.Cast.{cast_row}
+use Rattle.sqlite.specs.State.{State, Executes}
+use Rattle.sql_meaning.specs.Whole.{IsBlank}
+use Rattle.sql_meaning.proofs.Writing.{inserts}
+use Rattle.sql_meaning.proofs.Whole.{blank_shaped}
+use Rattle.sql_meaning.proofs.Edits.{inserted, cast_null, cast_int}
+use Rattle.office_tables.specs.Schema.{office_schema, office_table}
+use Rattle.office_tables.specs.Rows.{OfficeRow, empty_office}
+use Rattle.office_tables.specs.Tables.{Becomes, tables_of, office_in}
+use Rattle.office_tables.proofs.Frames.{idle, becomes_office}
+use Rattle.office_tables.proofs.CreateTexts.{start_text, start_terms, start_is, start_plain}
+
+pub starts_office : (old new : State) (deposits holds : ℤ) (count : ℕ) → IsBlank office_schema old.now → Executes start_text (Int deposits ∷ Int holds ∷ []) old new (Ok count)
+    → Becomes new.now (empty_office (pos 1) deposits holds)
+starts_office old new deposits holds count blank h =
+    let params : Row = Int deposits ∷ Int holds ∷ [] in
+    let db = old.now.trees in
+    let source : Row = Int (pos 1) ∷ Null ∷ Int (pos 1) ∷ Int deposits ∷ Int holds ∷ [] in
+    let columns : Row = Null ∷ Int (pos 1) ∷ Int deposits ∷ Int holds ∷ [] in
+    let edit = edit_of db office_table [] Chosen 0 (source ∷ []) in
+    let done = inserts start_text params old new office_schema blank.schema_is 0 office_table refl idle start_plain start_terms 5 start_is refl refl count h in
+    let cast_is : cast_row office_table source ≡ Int (pos 1) ∷ columns = rw (cast_null, cast_int (pos 1), cast_int deposits, cast_int holds) refl in
+    let e = blank.empty in
+    let alone : edited db edit ≡ (Int (pos 1) ∷ columns) ∷ [] = inserted db office_table source columns (pos 1) cast_is ∙ ap (put_row (Int (pos 1) ∷ columns)) e.0 in
+    let row : OfficeRow = record { id = pos 1; version = pos 1; max_deposits = deposits; max_holds = holds } in
+    let made : Becomes new.now (record (tables_of old.now) { office = row ∷ [] }) = becomes_office old new edit count edit.news (blank_shaped office_schema old.now blank) done refl _ (ap (map office_in) alone) in
+    let rest : record (tables_of old.now) { office = row ∷ [] } ≡ empty_office (pos 1) deposits holds =
+    rw (e.1.0, e.1.1.0, e.1.1.1.0, e.1.1.1.1.0, e.1.1.1.1.1.0, e.1.1.1.1.1.1.0, e.1.1.1.1.1.1.1.0) refl in
+    record { office = made.office; are = made.are ∙ rest }

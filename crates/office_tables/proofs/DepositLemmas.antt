@@ -1,0 +1,165 @@
+-- What the statements on deposits do to the rows of an office.
+use Rattle.std.proofs.Common.{arith, IsTrue, if◌then◌else◌, ◌≡◌, ◌⊎◌, ℕ, ℤ, List, [], ◌∷◌, ◌++◌, map, filter, drop, slice_get, option_map, Bool, true, codes, None, Some, Ok, Less, refl, sym, ap, subst, ◌∙◌}
+use Rattle.std.specs.List.{AllByRecursion}
+use Rattle.sqlite.specs.declared.types.Value.TheVariants.{Null, Int, Text}
+use Rattle.sqlite.specs.Order.{Row, column, value_cmp}
+use Rattle.sqlite.specs.Edit.{id_in, edit_of}
+use Rattle.sqlite.specs.Rowids.TheVariants.{Chosen, Given}
+use Rattle.sqlite.specs.Cast.{cast, cast_row}
+use Rattle.sqlite.specs.Kind.TheVariants as kind
+use Rattle.sqlite.specs.Tree.{Trees, rowid}
+use Rattle.sqlite.specs.Effect.{Database}
+use Rattle.sqlite.specs.State.{State, Shown, Executes}
+use Rattle.sqlite.proofs.Callers.{reads_as}
+use Rattle.sqlite_trees.specs.View.{is_int}
+use Rattle.sqlite_rules.specs.Lists.{Has}
+use Rattle.sqlite_rules.specs.Calls.{ids_of}
+use Rattle.sqlite_rules.proofs.ListLemmas.{all_has, all_from}
+use Rattle.sqlite_rules.proofs.TableLemmas.{int_is}
+use Rattle.sqlite_value.proofs.OrderLemmas.{value_cmp-Int}
+use Rattle.sqlite_keyed.proofs.ListLemmas.{ascending_weaker, map-map}
+use Rattle.sqlite_schema.specs.declared.schema.Constraint.TheVariants.{Datatype, NotNull, Unique}
+use Rattle.sqlite_schema.specs.Rules.{Fits}
+use Rattle.sql_meaning.specs.Columns.{int_at, bytes_at}
+use Rattle.sql_meaning.proofs.Writing.{inserts, updates}
+use Rattle.sql_meaning.proofs.Scanning.{scan, as_program, shown_of, scanned, answers_one, finds_one, shown_same}
+use Rattle.sql_meaning.proofs.Reading.{reads_same, reads_one, reads_rising}
+use Rattle.sql_meaning.proofs.TextKeys.{has_text, by_text, each_passes, few_named}
+use Rattle.sql_meaning.proofs.RowidKeys.{by_number, has_number, each_numbered, few_numbered}
+use Rattle.sql_meaning.proofs.Typed.{text_at, int_in, all_both}
+use Rattle.sql_meaning.proofs.Edits.{kept_all, inserted, put_last, updated, decoded, cast_null, cast_int, map_append}
+use Rattle.office_tables.specs.Schema.{office_schema, deposit_table, needed}
+use Rattle.office_tables.specs.Rows.{DepositRow, is_deposit, deposit_numbered, has_accession, deposit_by, last_number, DepositsBelow, with_deposit, with_gone}
+use Rattle.office_tables.specs.Tables.{IsOffice, Becomes, tables_of, deposit_in}
+use Rattle.office_tables.specs.Deposits.{shown_deposit}
+use Rattle.office_tables.proofs.Frames.{idle, becomes_deposits}
+use Rattle.office_tables.proofs.DepositLast.{last_shown}
+use Rattle.office_tables.proofs.DepositTexts.{deposit_text, accession_text, deposits_text, last_text, last_is, deposit_columns, rising, asks_deposit, asks_accession, asks_deposits, put_text, put_terms, put_is, put_plain, gone_text, gone_columns, gone_is, gone_plain}
+
+-- a stored deposit, as the rules of its table leave it
+abbrev IsDepositRow : Row → Type 0
+IsDepositRow r = (column r 2 ≡ Text (bytes_at r 2)) × (column r 3 ≡ Text (bytes_at r 3)) × (column r 4 ≡ Text (bytes_at r 4))
+    × (column r 5 ≡ Int (int_at r 5)) × (column r 6 ≡ Int (int_at r 6)) × (column r 7 ≡ Int (int_at r 7)) × (column r 8 ≡ Int (int_at r 8))
+
+pub deposit_rows : (db : Trees) → Fits office_schema db → AllByRecursion IsDepositRow (db 8)
+deposit_rows db fits = all_both (λ r t p. (
+  text_at office_schema db deposit_table r t p 1 (needed (codes "accession") kind.Text) refl refl refl refl refl,
+  text_at office_schema db deposit_table r t p 2 (needed (codes "collection") kind.Text) refl refl refl refl refl,
+  text_at office_schema db deposit_table r t p 3 (needed (codes "class") kind.Text) refl refl refl refl refl,
+  int_in office_schema db deposit_table r t p 4 (needed (codes "closed") kind.Integer) refl refl refl refl refl,
+  int_in office_schema db deposit_table r t p 5 (needed (codes "deposited") kind.Integer) refl refl refl refl refl,
+  int_in office_schema db deposit_table r t p 6 (needed (codes "files") kind.Integer) refl refl refl refl refl,
+  int_in office_schema db deposit_table r t p 7 (needed (codes "bytes") kind.Integer) refl refl refl refl refl,
+)) (db 8) (fits.rules Datatype (λ e. cc)).1.1.1.1.1.0 (fits.rules NotNull (λ e. cc)).1.1.1.1.1.0
+
+-- ---- one deposit
+
+pub finds_deposit : (old new : State) (n : ℤ) (rows : List Row) → IsOffice old.now → Shown deposit_text (Int n ∷ []) old new rows
+    → (new.now ≡ old.now) × (deposit_numbered n (tables_of old.now).deposits ≡ option_map shown_deposit (slice_get rows 0))
+finds_deposit old new n rows office h =
+    let params : Row = Int n ∷ [] in
+    let stored = old.now.trees 8 in
+    let shaped = office.shaped.1.1.1.1.1.0 in
+    let is = reads_one office_schema deposit_text 8 by_number deposit_columns [] asks_deposit params old new office.schema_is rows h (has_number n)
+    (each_numbered n [] stored shaped) (few_numbered n stored shaped) in (
+      reads_same office_schema deposit_text 8 by_number deposit_columns [] asks_deposit params old new office.schema_is rows h,
+      finds_one stored rows (has_number n) (shown_of params deposit_columns) deposit_in shown_deposit (is_deposit n) (λ r. refl) (λ r. refl) is,
+    )
+
+-- at most one deposit has the accession
+accessions : (db : Database) → IsOffice db → AllByRecursion (λ r. column r 2 ≡ Text (bytes_at r 2)) (db.trees 8)
+accessions db office = all_from _ (db.trees 8) (λ r there. (all_has IsDepositRow (db.trees 8) r (deposit_rows db.trees office.fits) there).0)
+
+pub few_accessions : (db : Database) → IsOffice db → (accession : List ℕ)
+    → (filter (has_text 2 accession) (db.trees 8) ≡ []) ⊎ ((r : Row) × Has (db.trees 8) r × (has_text 2 accession r ≡ true) × (filter (has_text 2 accession) (db.trees 8) ≡ r ∷ []))
+few_accessions db office accession = few_named 2 (db.trees 8) office.shaped.1.1.1.1.1.0 (accessions db office) (office.fits.rules Unique (λ e. cc)).1.1.1.1.1.0 accession
+
+pub finds_accession : (old new : State) (accession : List ℕ) (rows : List Row) → IsOffice old.now → Shown accession_text (Text accession ∷ []) old new rows
+    → (new.now ≡ old.now) × (deposit_by accession (tables_of old.now).deposits ≡ option_map shown_deposit (slice_get rows 0))
+finds_accession old new accession rows office h =
+    let params : Row = Text accession ∷ [] in
+    let stored = old.now.trees 8 in
+    let is = reads_one office_schema accession_text 8 (by_text 2) deposit_columns [] asks_accession params old new office.schema_is rows h (has_text 2 accession)
+    (each_passes 2 accession [] stored (accessions old.now office)) (few_accessions old.now office accession) in (
+      reads_same office_schema accession_text 8 (by_text 2) deposit_columns [] asks_accession params old new office.schema_is rows h,
+      finds_one stored rows (has_text 2 accession) (shown_of params deposit_columns) deposit_in shown_deposit (has_accession accession) (λ r. refl) (λ r. refl) is,
+    )
+
+-- ---- every deposit, in the order of the numbers
+
+pub lists_deposits : (old new : State) (rows : List Row) → IsOffice old.now → Shown deposits_text [] old new rows
+    → (new.now ≡ old.now) × ((tables_of old.now).deposits ≡ map shown_deposit rows)
+lists_deposits old new rows office h =
+    let stored = old.now.trees 8 in
+    let up = ascending_weaker _ _ (λ a b lower. rw lower refl) stored office.shaped.1.1.1.1.1.0.0 in
+    let is = reads_rising office_schema deposits_text 8 [] deposit_columns rising asks_deposits [] old new office.schema_is rows h (λ r. true) (all_from _ stored (λ r there. refl)) up in
+    let whole : rows ≡ map (shown_of [] deposit_columns) stored = is ∙ ap (map (shown_of [] deposit_columns)) (kept_all (λ r. true) stored (λ r there. refl)) in
+    let shows : map shown_deposit (map (shown_of [] deposit_columns) stored) ≡ map deposit_in stored = map-map shown_deposit (shown_of [] deposit_columns) stored in (
+      reads_same office_schema deposits_text 8 [] deposit_columns rising asks_deposits [] old new office.schema_is rows h,
+      sym shows ∙ ap (map shown_deposit) (sym whole),
+    )
+
+-- ---- the last number
+
+pub finds_last : (old new : State) (rows : List Row) → IsOffice old.now → Shown last_text [] old new rows
+    → (new.now ≡ old.now) × (last_number (λ d. d.number) (tables_of old.now).deposits ≡ option_map (λ row. int_at row 0) (slice_get rows 0))
+finds_last old new rows office h = (
+  (shown_same last_text [] old new office_schema office.schema_is last_is.2 rows h).0.now_is,
+  last_shown (λ (d : DepositRow). d.number) deposit_in (λ r. refl) old.now.trees [] 8 rows office.shaped.1.1.1.1.1.0.0
+      (reads_as last_text [] old new office_schema office.schema_is _ last_is.0 last_is.2 last_is.1 rows h).answer,
+)
+
+-- ---- a new deposit, with a number above the others
+
+abbrev pub params_of : DepositRow → Row
+params_of d = Int d.number ∷ Text d.accession ∷ Text d.collection ∷ Text d.class ∷ Int d.closed ∷ Int d.deposited ∷ Int d.files ∷ Int d.bytes ∷ []
+
+abbrev stored_of : DepositRow → Row
+stored_of d = Null ∷ Text d.accession ∷ Text d.collection ∷ Text d.class ∷ Int d.closed ∷ Int d.deposited ∷ Int d.files ∷ Int d.bytes ∷ Null ∷ []
+
+lower_rows : (n : ℤ) (rows : List Row) → AllByRecursion (λ r. IsTrue (is_int (rowid r))) rows → DepositsBelow n (map deposit_in rows) → AllByRecursion (λ r. value_cmp (rowid r) (Int n) ≡ Less) rows
+lower_rows n [] whole low = tt
+lower_rows n (r ∷ rows) whole low = (subst (λ v. value_cmp v (Int n) ≡ Less) (sym (int_is (rowid r) whole.0)) (value_cmp-Int (int_at r 0) n ∙ low.0), lower_rows n rows whole.1 low.1)
+
+pub puts_deposit : (old new : State) (d : DepositRow) (count : ℕ) → d.gone ≡ None → IsOffice old.now → DepositsBelow d.number (tables_of old.now).deposits → Executes put_text (params_of d) old new (Ok count)
+    → Becomes new.now (with_deposit d (tables_of old.now))
+puts_deposit old new d count kept office low h =
+    let params = params_of d in
+    let db = old.now.trees in
+    let source : Row = Int d.number ∷ stored_of d in
+    let edit = edit_of db deposit_table [] Chosen 0 (source ∷ []) in
+    let done = inserts put_text params old new office_schema office.schema_is 5 deposit_table refl idle put_plain put_terms 10 put_is refl refl count h in
+    let cast_is : cast_row deposit_table source ≡ Int d.number ∷ stored_of d = rw (cast_null, cast_int d.number, cast_int d.closed, cast_int d.deposited, cast_int d.files, cast_int d.bytes) refl in
+    let placed = inserted db deposit_table source (stored_of d) d.number cast_is in
+    let end = put_last (Int d.number ∷ stored_of d) (db 8) (lower_rows d.number (db 8) office.shaped.1.1.1.1.1.0.1 low) in
+    let is_d : deposit_in (Int d.number ∷ stored_of d) ≡ d = ap (λ g. record d { gone = g }) (sym kept) in
+    becomes_deposits old new edit count edit.news office.shaped done refl _ (ap (map deposit_in) (placed ∙ end) ∙ map_append deposit_in (db 8) _ ∙ ap (λ x. map deposit_in (db 8) ++ x ∷ []) is_d)
+
+-- ---- the day when it was destroyed
+
+abbrev set_gone : ℤ → Row → Row
+set_gone day r = rowid r ∷ Null ∷ Text (bytes_at r 2) ∷ Text (bytes_at r 3) ∷ Text (bytes_at r 4) ∷ Int (int_at r 5) ∷ Int (int_at r 6) ∷ Int (int_at r 7) ∷ Int (int_at r 8) ∷ Int day ∷ []
+
+cast_gone : (n day : ℤ) (r : Row) → IsDepositRow r → IsTrue (is_int (rowid r)) → cast_row deposit_table (drop 1 (shown_of (Int n ∷ Int day ∷ []) gone_columns r)) ≡ set_gone day r
+cast_gone n day r it whole =
+    let id : rowid r ≡ Int (id_in (rowid r)) = int_is (rowid r) whole in
+    let casts : cast kind.Integer (rowid r) ≡ rowid r = subst (λ v. cast kind.Integer v ≡ v) (sym id) (cast_int (id_in (rowid r))) in
+    rw (casts, cast_null, it.0, it.1, it.2, it.3, it.4, it.5, it.6, cast_int (int_at r 5), cast_int (int_at r 6), cast_int (int_at r 7), cast_int (int_at r 8), cast_int day) refl
+
+pub marks_gone : (old new : State) (n day : ℤ) (count : ℕ) → IsOffice old.now → Executes gone_text (Int n ∷ Int day ∷ []) old new (Ok count)
+    → Becomes new.now (with_gone n day (tables_of old.now))
+marks_gone old new n day count office h =
+    let params : Row = Int n ∷ Int day ∷ [] in
+    let db = old.now.trees in
+    let done = updates gone_text params old new office_schema office.schema_is 5 deposit_table refl idle gone_plain (as_program (scan 8 by_number gone_columns [])) gone_is count h in
+    let answer = done.0 in
+    let edit = edit_of db deposit_table (ids_of answer) Given 1 answer in
+    let shaped = office.shaped.1.1.1.1.1.0 in
+    let typed = deposit_rows db office.fits in
+    let keep = has_number n in
+    let set : Row → Row = set_gone day in
+    let found = scanned db params 8 by_number gone_columns [] answer done.1.answer in
+    let is = answers_one db params 8 by_number gone_columns [] answer keep found (each_numbered n (Int day ∷ []) (db 8) shaped) (few_numbered n (db 8) shaped) in
+    let made = updated db deposit_table answer keep (shown_of params gone_columns) set shaped (few_numbered n (db 8) shaped) is
+    (λ r there. (refl, cast_gone n day r (all_has IsDepositRow (db 8) r typed there) (all_has _ (db 8) r shaped.1 there), refl)) in
+    becomes_deposits old new edit count edit.news office.shaped done.2 refl _ (ap (map deposit_in) made ∙ decoded deposit_in keep set (is_deposit n) (λ d. record d { gone = Some day }) (λ r. refl) (λ r. refl) (db 8))

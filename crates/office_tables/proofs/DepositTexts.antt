@@ -1,0 +1,88 @@
+-- What the statements on deposits mean under the schema of an office.
+use Rattle.std.proofs.Common.{◌≡◌, ℕ, pos, List, [], ◌∷◌, codes, false, refl}
+use Rattle.sqlite.specs.declared.types.Value.TheVariants.{Null, Int}
+use Rattle.sqlite.specs.Collation.TheVariants.{Binary}
+use Rattle.sqlite.specs.Term.{Term, lit, col}
+use Rattle.sqlite.specs.Command.TheVariants.{Select, Insert, Update}
+use Rattle.sqlite.specs.Source.TheVariants.{Values}
+use Rattle.sqlite.specs.Listing.{understood, reads_listing}
+use Rattle.sqlite.proofs.Callers.{IsPlain, command_of}
+use Rattle.sqlite_tied.specs.Compute.{everything}
+use Rattle.sqlite_value.specs.declared.keys.Key.{Key}
+use Rattle.sql_meaning.proofs.Scanning.{scan, as_program}
+use Rattle.sql_meaning.proofs.Reading.{Asks}
+use Rattle.sql_meaning.proofs.RowidKeys.{by_number}
+use Rattle.sql_meaning.proofs.TextKeys.{by_text}
+use Rattle.office_tables.specs.Schema.{office_schema}
+use Rattle.office_tables.proofs.DepositLast.{last_of}
+
+-- ---- reads
+
+abbrev pub deposit_text : List ℕ
+deposit_text = codes "SELECT number, accession, collection, class, closed, deposited, files, bytes, gone FROM deposit WHERE number = ?1"
+
+abbrev pub accession_text : List ℕ
+accession_text = codes "SELECT number, accession, collection, class, closed, deposited, files, bytes, gone FROM deposit WHERE accession = ?1"
+
+abbrev pub deposits_text : List ℕ
+deposits_text = codes "SELECT number, accession, collection, class, closed, deposited, files, bytes, gone FROM deposit ORDER BY number"
+
+abbrev pub deposit_columns : List Term
+deposit_columns = col 1 0 ∷ col 1 2 ∷ col 1 3 ∷ col 1 4 ∷ col 1 5 ∷ col 1 6 ∷ col 1 7 ∷ col 1 8 ∷ col 1 9 ∷ []
+
+abbrev deposit_names : List (List ℕ)
+deposit_names = codes "number" ∷ codes "accession" ∷ codes "collection" ∷ codes "class" ∷ codes "closed" ∷ codes "deposited" ∷ codes "files" ∷ codes "bytes" ∷ codes "gone" ∷ []
+
+abbrev pub rising : List (Term × Key)
+rising = (col 1 0, record { collation = Binary; descending = false }) ∷ []
+
+pub asks_deposit : Asks office_schema deposit_text 8 by_number deposit_columns []
+unfolding understood everything
+asks_deposit = record { names = deposit_names; command = refl; unlisted = refl; plain = (refl, refl) }
+
+pub asks_accession : Asks office_schema accession_text 8 (by_text 2) deposit_columns []
+unfolding understood everything
+asks_accession = record { names = deposit_names; command = refl; unlisted = refl; plain = (refl, refl) }
+
+pub asks_deposits : Asks office_schema deposits_text 8 [] deposit_columns rising
+unfolding understood everything
+asks_deposits = record { names = deposit_names; command = refl; unlisted = refl; plain = (refl, refl) }
+
+-- ---- writes
+
+abbrev pub put_text : List ℕ
+put_text = codes "INSERT INTO deposit (number, accession, collection, class, closed, deposited, files, bytes) VALUES (?1, ?2, ?3, ?4, ?5, ?6, ?7, ?8)"
+
+abbrev pub put_terms : List Term
+put_terms = col 0 0 ∷ lit Null ∷ col 0 1 ∷ col 0 2 ∷ col 0 3 ∷ col 0 4 ∷ col 0 5 ∷ col 0 6 ∷ col 0 7 ∷ lit Null ∷ []
+
+pub put_is : command_of (understood office_schema put_text) ≡ Insert 5 (Values put_terms 10)
+unfolding understood everything
+put_is = refl
+
+pub put_plain : IsPlain (understood office_schema put_text)
+unfolding understood everything
+put_plain = (refl, refl)
+
+abbrev pub gone_text : List ℕ
+gone_text = codes "UPDATE deposit SET gone = ?2 WHERE number = ?1"
+
+abbrev pub gone_columns : List Term
+gone_columns = col 1 0 ∷ col 1 0 ∷ lit Null ∷ col 1 2 ∷ col 1 3 ∷ col 1 4 ∷ col 1 5 ∷ col 1 6 ∷ col 1 7 ∷ col 1 8 ∷ col 0 1 ∷ []
+
+pub gone_is : command_of (understood office_schema gone_text) ≡ Update 5 (as_program (scan 8 by_number gone_columns []))
+unfolding understood everything
+gone_is = refl
+
+pub gone_plain : IsPlain (understood office_schema gone_text)
+unfolding understood everything
+gone_plain = (refl, refl)
+
+-- ---- the last number
+
+abbrev pub last_text : List ℕ
+last_text = codes "SELECT number FROM deposit ORDER BY number DESC LIMIT 1"
+
+pub last_is : (command_of (understood office_schema last_text) ≡ Select (as_program (last_of 8)) (codes "number" ∷ [])) × (reads_listing office_schema last_text ≡ false) × IsPlain (understood office_schema last_text)
+unfolding understood everything
+last_is = (refl, refl, (refl, refl))

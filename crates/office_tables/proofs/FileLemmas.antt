@@ -1,0 +1,234 @@
+-- What the statements on files do to the rows of an office.
+use Rattle.std.proofs.Common.{arith, ◌≡◌, ◌&&◌, ◌⊎◌, ap₂, not, bytes_eq, ℕ, ℤ, List, [], ◌∷◌, map, filter, slice_get, slice_index_or, ◌+◌, option_map, codes, Bool, true, false, Ok, Equal, Less, refl, sym, ap, subst, subst₂, ◌∙◌, inl, inr}
+use Rattle.std.specs.List.{AllByRecursion}
+use Rattle.std.specs.Ordering.{is_lt, is_eq, int_eq}
+use Rattle.std.specs.Cmp.{IsTotalOrder}
+use Rattle.std.specs.Cmp.Lexicographic.{on_texts}
+use Rattle.std.specs.List.Sorted.{IsPermutation, IsSorted}
+use Rattle.std.proofs.lemmas.Bool.{cases_Bool}
+use Rattle.std.proofs.lemmas.Cmp.{tied_itself}
+use Rattle.std.proofs.lemmas.Map.Text.{is_eq-slice_cmp}
+use Rattle.std.proofs.lemmas.Slice.Eq.{bytes_eq-Decides}
+use Rattle.std.proofs.lemmas.List.Sorted.{IsPermutation-map, All-permutation}
+use Rattle.std.proofs.lemmas.List.Elements.{recursion_from_All, All-from_recursion}
+use Rattle.sqlite.specs.declared.types.Value.TheVariants.{Null, Int, Text, Blob}
+use Rattle.sqlite.specs.Order.{Row, column, value_cmp}
+use Rattle.sqlite.specs.Edit.{edit_of}
+use Rattle.sqlite.specs.Rowids.TheVariants.{Chosen, Given}
+use Rattle.sqlite.specs.Cast.{cast_row}
+use Rattle.sqlite.specs.Kind.TheVariants as kind
+use Rattle.sqlite.specs.Ops.{binary, is_true}
+use Rattle.sqlite.specs.Collation.TheVariants.{Binary}
+use Rattle.sqlite.specs.Tree.{Trees, rowid, IsAscending}
+use Rattle.sqlite.specs.Query.{output, output_cmp}
+use Rattle.sqlite.specs.Effect.{Database}
+use Rattle.sqlite.specs.State.{State, Shown, Executes}
+use Rattle.sqlite_sql.specs.declared.ops.BinaryOp.TheVariants.{Compare}
+use Rattle.sqlite_sql.specs.declared.ops.CompareOp.TheVariants.{Eq}
+use Rattle.sqlite_value.specs.Keys.{first_key, plain}
+use Rattle.sqlite_value.proofs.OrderLemmas.{then-Equal, value_cmp-Text, value_cmp_total}
+use Rattle.sqlite_exec.proofs.RowsLemmas.{IsSorted-map}
+use Rattle.sqlite_keyed.specs.Lists.{sort_by}
+use Rattle.sqlite_keyed.proofs.SortLemmas.{sorted_is-sort_by}
+use Rattle.sqlite_keyed.proofs.ListLemmas.{ascending-map, ascending-filter, all_map, map-map, filter-map}
+use Rattle.sqlite_rules.specs.Lists.{Has}
+use Rattle.sqlite_rules.specs.Calls.{ids_of}
+use Rattle.sqlite_rules.proofs.ListLemmas.{all_has, all_from, has_filtered}
+use Rattle.sqlite_rules.proofs.KeyLemmas.{agree_back, agree_chain}
+use Rattle.sqlite_schema.specs.declared.schema.Constraint.TheVariants.{Datatype, NotNull, Unique}
+use Rattle.sqlite_schema.specs.Rules.{Fits, agree, equal}
+use Rattle.sql_meaning.specs.Columns.{int_at, bytes_at}
+use Rattle.sql_meaning.proofs.Writing.{inserts, deletes}
+use Rattle.sql_meaning.proofs.Scanning.{scan, as_program, passes, shown_of, scanned, answer_sound, answer_complete}
+use Rattle.sql_meaning.proofs.Reading.{reads_same, reads_one, reads_scan, finds_part}
+use Rattle.sql_meaning.proofs.Keys.{filter_same, same_key, trailing, same_text, same_int, lone}
+use Rattle.sql_meaning.proofs.Typed.{text_at, int_in, all_both}
+use Rattle.sql_meaning.proofs.Edits.{appended, deleted, cast_null, cast_int, map_append}
+use Rattle.office_tables.specs.Schema.{office_schema, file_table, needed}
+use Rattle.office_tables.specs.Rows.{FileRow, is_file_of, is_file_at, file_at, files_of, with_file, without_files}
+use Rattle.office_tables.specs.Tables.{IsOffice, Becomes, tables_of, file_in}
+use Rattle.office_tables.specs.Deposits.{shown_file, path_cmp, files_by_path}
+use Rattle.office_tables.proofs.Frames.{idle, becomes_files}
+use Rattle.office_tables.proofs.FileTexts.{by_deposit, by_place, by_path, content_text, content_column, asks_content, files_text, file_columns, asks_files, put_text, put_terms, put_is, put_plain, drop_text, rowid_column, drop_is, drop_plain}
+
+-- a stored file, as the rules of its table leave it
+abbrev IsFileRow : Row → Type 0
+IsFileRow r = (column r 1 ≡ Int (int_at r 1)) × (column r 2 ≡ Text (bytes_at r 2))
+
+file_rows : (db : Trees) → Fits office_schema db → AllByRecursion IsFileRow (db 10)
+file_rows db fits = all_both (λ r t p. (
+  int_in office_schema db file_table r t p 0 (needed (codes "deposit") kind.Integer) refl refl refl refl refl,
+  text_at office_schema db file_table r t p 1 (needed (codes "path") kind.Text) refl refl refl refl refl,
+)) (db 10) (fits.rules Datatype (λ e. cc)).1.1.1.1.1.1.0 (fits.rules NotNull (λ e. cc)).1.1.1.1.1.1.0
+
+-- ---- the tests by the deposit, and by the deposit and the path
+
+abbrev has_deposit : ℤ → Row → Bool
+has_deposit n r = int_eq (int_at r 1) n
+
+abbrev has_place : ℤ → List ℕ → Row → Bool
+has_place n path r = has_deposit n r && bytes_eq (bytes_at r 2) path
+
+passes_deposit : (n : ℤ) (r : Row) → IsFileRow r → passes (Int n ∷ []) by_deposit r ≡ has_deposit n r
+passes_deposit n r it = trailing _ ∙ ap (λ v. is_true (binary (Compare Eq Binary) v (Int n))) it.0 ∙ same_int (int_at r 1) n
+
+passes_place : (n : ℤ) (path : List ℕ) (r : Row) → IsFileRow r → passes (Int n ∷ Text path ∷ []) by_place r ≡ has_place n path r
+passes_place n path r it = ap₂ ◌&&◌
+    (ap (λ v. is_true (binary (Compare Eq Binary) v (Int n))) it.0 ∙ same_int (int_at r 1) n)
+    (trailing _ ∙ ap (λ v. is_true (binary (Compare Eq Binary) v (Text path))) it.1 ∙ same_text (bytes_at r 2) path)
+
+each_of : (db : Trees) → Fits office_schema db → (n : ℤ) → AllByRecursion (λ r. passes (Int n ∷ []) by_deposit r ≡ has_deposit n r) (db 10)
+each_of db fits n = all_from _ (db 10) (λ r there. passes_deposit n r (all_has IsFileRow (db 10) r (file_rows db fits) there))
+
+each_at : (db : Trees) → Fits office_schema db → (n : ℤ) (path : List ℕ) → AllByRecursion (λ r. passes (Int n ∷ Text path ∷ []) by_place r ≡ has_place n path r) (db 10)
+each_at db fits n path = all_from _ (db 10) (λ r there. passes_place n path r (all_has IsFileRow (db 10) r (file_rows db fits) there))
+
+first_of : (a b : Bool) → a && b ≡ true → a ≡ true
+first_of true b h = refl
+first_of false b h = absurd cc
+
+second_of : (a b : Bool) → a && b ≡ true → b ≡ true
+second_of true b h = h
+second_of false b h = absurd cc
+
+-- two files of one deposit with one path are one row
+module _ (db : Database) (office : IsOffice db) (n : ℤ) where
+  one_file : (path : List ℕ) (x y : Row) → Has (db.trees 10) x → Has (db.trees 10) y → has_place n path x ≡ true → has_place n path y ≡ true → x ≡ y
+  unfolding first_key
+  one_file path x y hx hy px py =
+      let rows = file_rows db.trees office.fits in
+      let tx = all_has IsFileRow (db.trees 10) x rows hx in
+      let ty = all_has IsFileRow (db.trees 10) y rows hy in
+      let key : Row = Int n ∷ Text path ∷ [] in
+      let eqx : equal Binary (column x 1) (Int n) ≡ true = ap (λ v. equal Binary v (Int n)) tx.0 ∙ same_int (int_at x 1) n ∙ first_of _ _ px in
+      let eqy : equal Binary (column y 1) (Int n) ≡ true = ap (λ v. equal Binary v (Int n)) ty.0 ∙ same_int (int_at y 1) n ∙ first_of _ _ py in
+      let pathx : equal Binary (column x 2) (Text path) ≡ true = ap (λ v. equal Binary v (Text path)) tx.1 ∙ same_text (bytes_at x 2) path ∙ second_of _ _ px in
+      let pathy : equal Binary (column y 2) (Text path) ≡ true = ap (λ v. equal Binary v (Text path)) ty.1 ∙ same_text (bytes_at y 2) path ∙ second_of _ _ py in
+      let kx : agree plain (1 ∷ 2 ∷ []) x (0 ∷ 1 ∷ []) key ≡ true = rw (eqx, pathx) refl in
+      let ky : agree plain (1 ∷ 2 ∷ []) y (0 ∷ 1 ∷ []) key ≡ true = rw (eqy, pathy) refl in
+      let agrees = agree_chain plain (1 ∷ 2 ∷ []) (0 ∷ 1 ∷ []) (1 ∷ 2 ∷ []) x key y kx (agree_back plain (1 ∷ 2 ∷ []) (0 ∷ 1 ∷ []) y key ky) in
+      let apart = all_has _ (db.trees 10) y (office.fits.rules Unique (λ e. cc)).1.1.1.1.1.1.0 hy in
+      same_key plain (1 ∷ 2 ∷ []) (db.trees 10) office.shaped.1.1.1.1.1.1.0 x y hx hy (unclashed _ apart) agrees
+    where
+      unclashed : (b : Bool) → (not b && true) ≡ true → b ≡ false
+      unclashed true h = absurd cc
+      unclashed false h = refl
+
+  pub few_files : (path : List ℕ) → (filter (has_place n path) (db.trees 10) ≡ []) ⊎ ((r : Row) × Has (db.trees 10) r × (has_place n path r ≡ true) × (filter (has_place n path) (db.trees 10) ≡ r ∷ []))
+  few_files path = lone (has_place n path) (db.trees 10) (db.trees 10) office.shaped.1.1.1.1.1.1.0.0 (λ r there. there) (one_file path)
+
+-- ---- one file
+
+pub finds_content : (old new : State) (n : ℤ) (path : List ℕ) (rows : List Row) → IsOffice old.now → Shown content_text (Int n ∷ Text path ∷ []) old new rows
+    → (new.now ≡ old.now) × (option_map (λ (f : FileRow). f.content) (file_at n path (tables_of old.now).files) ≡ option_map (λ row. bytes_at row 0) (slice_get rows 0))
+finds_content old new n path rows office h =
+    let params : Row = Int n ∷ Text path ∷ [] in
+    let stored = old.now.trees 10 in
+    let is = reads_one office_schema content_text 10 by_place content_column [] asks_content params old new office.schema_is rows h (has_place n path)
+    (each_at old.now.trees office.fits n path) (few_files old.now office n path) in (
+      reads_same office_schema content_text 10 by_place content_column [] asks_content params old new office.schema_is rows h,
+      finds_part stored rows (has_place n path) (shown_of params content_column) file_in (is_file_at n path) (λ r. refl) is (λ (f : FileRow). f.content) (λ row. bytes_at row 0) (λ r. refl),
+    )
+
+-- ---- a new file
+
+pub puts_file : (old new : State) (n : ℤ) (path content : List ℕ) (count : ℕ) → IsOffice old.now → Executes put_text (Int n ∷ Text path ∷ Blob content ∷ []) old new (Ok count)
+    → Becomes new.now (with_file (record { deposit = n; path = path; content = content }) (tables_of old.now))
+puts_file old new n path content count office h =
+    let params : Row = Int n ∷ Text path ∷ Blob content ∷ [] in
+    let db = old.now.trees in
+    let source : Row = Null ∷ Int n ∷ Text path ∷ Blob content ∷ [] in
+    let edit = edit_of db file_table [] Chosen 0 (source ∷ []) in
+    let done = inserts put_text params old new office_schema office.schema_is 6 file_table refl idle put_plain put_terms 4 put_is refl refl count h in
+    let cast_is : cast_row file_table source ≡ Null ∷ Int n ∷ Text path ∷ Blob content ∷ [] = rw (cast_null, cast_int n) refl in
+    let end = appended db file_table source (Int n ∷ Text path ∷ Blob content ∷ []) office.shaped.1.1.1.1.1.1.0 cast_is in
+    becomes_files old new edit count edit.news office.shaped done refl _ (ap (map file_in) end ∙ map_append file_in (db 10) _)
+
+-- ---- the files of a deposit are dropped
+
+pub drops_files : (old new : State) (n : ℤ) (count : ℕ) → IsOffice old.now → Executes drop_text (Int n ∷ []) old new (Ok count)
+    → Becomes new.now (without_files n (tables_of old.now))
+drops_files old new n count office h =
+    let params : Row = Int n ∷ [] in
+    let db = old.now.trees in
+    let done = deletes drop_text params old new office_schema office.schema_is 6 file_table refl idle drop_plain (as_program (scan 10 by_deposit rowid_column [])) drop_is count h in
+    let answer = done.0 in
+    let edit = edit_of db file_table (ids_of answer) Given 0 [] in
+    let keep = has_deposit n in
+    let each = each_of db office.fits n in
+    let found = scanned db params 10 by_deposit rowid_column [] answer done.1.answer in
+    let made = deleted db file_table answer keep (shown_of params rowid_column) office.shaped.1.1.1.1.1.1.0 (λ r. refl)
+    (answer_sound db params 10 by_deposit rowid_column [] answer keep found each) (answer_complete db params 10 by_deposit rowid_column [] answer keep found each) in
+    becomes_files old new edit count _ office.shaped done.2 refl _ (ap (map file_in) made ∙ sym (filter-map (λ f. not (is_file_of n f)) file_in (db 10)))
+
+-- ---- the files of a deposit, by path
+
+ascending_has : (R S : Row → Row → Type 0) (xs : List Row) → ((a b : Row) → Has xs a → Has xs b → R a b → S a b) → IsAscending R xs → IsAscending S xs
+ascending_has R S [] each up = tt
+ascending_has R S (x ∷ xs) each up = (all_from _ xs (λ y there. each x y (inl refl) (inr there) (all_has _ xs y up.0 there)), ascending_has R S xs (λ a b ha hb. each a b (inr ha) (inr hb)) up.1)
+
+abbrev shown_by : Row × Row → FileRow
+shown_by o = shown_file o.1
+
+-- what the row is sorted by is its path
+abbrev IsByPath : Row × Row → Type 0
+IsByPath o = column o.0 0 ≡ Text (shown_by o).path
+
+sorted_paths : (os : List (Row × Row)) → AllByRecursion IsByPath os → IsSorted (output_cmp (scan 10 by_deposit file_columns by_path)) os → IsSorted path_cmp (map shown_by os)
+sorted_paths os typed up = sorted_map (λ k d low high.
+    let a = slice_index_or os (k + 1) d in
+    let b = slice_index_or os k d in
+    let ta : IsByPath a = All-from_recursion IsByPath os typed (k + 1) d (omega arith) in
+    let tb : IsByPath b = All-from_recursion IsByPath os typed k d (omega arith) in
+    let same : output_cmp (scan 10 by_deposit file_columns by_path) a b ≡ path_cmp (shown_by a) (shown_by b) =
+    then-Equal (value_cmp (column a.0 0) (column b.0 0)) ∙ subst₂ (λ v w. value_cmp v w ≡ path_cmp (shown_by a) (shown_by b)) (sym ta) (sym tb) (value_cmp-Text (shown_by a).path (shown_by b).path) in
+    subst (λ o. is_lt o ≡ false) same (up k d low high))
+  where
+    sorted_map : IsSorted (λ a b. path_cmp (shown_by a) (shown_by b)) os → IsSorted path_cmp (map shown_by os)
+    sorted_map = IsSorted-map path_cmp shown_by os
+
+path_total : IsTotalOrder path_cmp
+path_total = on_texts (λ (f : FileRow). f.path)
+
+-- two files of one deposit have two paths
+untied : (db : Database) → IsOffice db → (n : ℤ) (a b : Row) → Has (db.trees 10) a × (has_deposit n a ≡ true) → Has (db.trees 10) b × (has_deposit n b ≡ true) → value_cmp (rowid a) (rowid b) ≡ Less
+    → is_eq (path_cmp (file_in a) (file_in b)) ≡ false
+untied db office n a b ha hb below = elim (cases_Bool (is_eq (path_cmp (file_in a) (file_in b)))) [
+  | inl tie ↦ absurd (
+      let alike : bytes_eq (bytes_at a 2) (bytes_at b 2) ≡ true = sym (is_eq-slice_cmp (bytes_at a 2) (bytes_at b 2)) ∙ tie in
+      let itself : bytes_eq (bytes_at b 2) (bytes_at b 2) ≡ true = sym (is_eq-slice_cmp (bytes_at b 2) (bytes_at b 2)) ∙ ap is_eq (sym (value_cmp-Text (bytes_at b 2) (bytes_at b 2)) ∙ tied_itself value_cmp_total (Text (bytes_at b 2))) in
+      let one : a ≡ b = one_file db office n (bytes_at b 2) a b ha.0 hb.0 (rw (ha.1, alike) refl) (rw (hb.1, itself) refl) in
+      let equal_is : value_cmp (rowid a) (rowid a) ≡ Equal = tied_itself value_cmp_total (rowid a) in
+      let less : value_cmp (rowid a) (rowid a) ≡ Less = subst (λ x. value_cmp (rowid a) (rowid x) ≡ Less) (sym one) below in
+      cc)
+  | inr apart ↦ apart
+]
+
+pub lists_files : (old new : State) (n : ℤ) (rows : List Row) → IsOffice old.now → Shown files_text (Int n ∷ []) old new rows
+    → (new.now ≡ old.now) × (files_by_path n (tables_of old.now) ≡ map shown_file rows)
+lists_files old new n rows office h =
+    let params : Row = Int n ∷ [] in
+    let db = old.now.trees in
+    let q = scan 10 by_deposit file_columns by_path in
+    let found = reads_scan office_schema files_text 10 by_deposit file_columns by_path asks_files params old new office.schema_is rows h in
+    let typed = file_rows db office.fits in
+    let keep = has_deposit n in
+    let kept = filter keep (db 10) in
+    let out : Row → Row × Row = λ r. output q (params ∷ r ∷ []) in
+    let passed : filter (passes params by_deposit) (db 10) ≡ kept = filter_same (passes params by_deposit) keep (db 10) (each_of db office.fits n) in
+    let same : IsPermutation (map out kept) found.ordered = subst (λ rs. IsPermutation (map out rs) found.ordered) passed found.same in
+    let typed_out : AllByRecursion IsByPath (map out kept) = all_map IsByPath out kept (all_from (λ r. IsByPath (out r)) kept (λ r there. (all_has IsFileRow (db 10) r typed (has_filtered keep (db 10) r there).0).1)) in
+    let typed_ordered : AllByRecursion IsByPath found.ordered = recursion_from_All IsByPath found.ordered (All-permutation IsByPath (map out kept) found.ordered same (All-from_recursion IsByPath (map out kept) typed_out)) in
+    let up = sorted_paths found.ordered typed_ordered found.sorted in
+    let as_files : map shown_by (map out kept) ≡ map file_in kept = map-map shown_by out kept in
+    let moved : IsPermutation (map file_in kept) (map shown_by found.ordered) = subst (λ xs. IsPermutation xs (map shown_by found.ordered)) as_files (IsPermutation-map shown_by (map out kept) found.ordered same) in
+    let apart : IsAscending (λ a b. is_eq (path_cmp (file_in a) (file_in b)) ≡ false) kept = ascending_has (λ a b. value_cmp (rowid a) (rowid b) ≡ Less) (λ a b. is_eq (path_cmp (file_in a) (file_in b)) ≡ false) kept
+    (λ a b ha hb below. untied old.now office n a b (has_filtered keep (db 10) a ha) (has_filtered keep (db 10) b hb) below)
+    (ascending-filter (λ a b. value_cmp (rowid a) (rowid b) ≡ Less) keep (db 10) office.shaped.1.1.1.1.1.1.0.0) in
+    let distinct = ascending-map (λ f g. is_eq (path_cmp f g) ≡ false) file_in kept apart in
+    let sorted_is : map shown_by found.ordered ≡ sort_by path_cmp (map file_in kept) = sorted_is-sort_by path_cmp path_total (map file_in kept) (map shown_by found.ordered) distinct moved up in
+    let typed_list : filter (is_file_of n) (map file_in (db 10)) ≡ map file_in kept = filter-map (is_file_of n) file_in (db 10) in
+    let rows_are : map shown_file rows ≡ map shown_by found.ordered = ap (map shown_file) found.shown ∙ map-map shown_file (λ (o : Row × Row). o.1) found.ordered in (
+      reads_same office_schema files_text 10 by_deposit file_columns by_path asks_files params old new office.schema_is rows h,
+      ap (sort_by path_cmp) typed_list ∙ sym sorted_is ∙ sym rows_are,
+    )

@@ -1,0 +1,87 @@
+-- What the statements on holds mean under the schema of an office.
+use Rattle.std.proofs.Common.{◌≡◌, ℕ, false, List, [], ◌∷◌, codes, refl}
+use Rattle.sqlite.specs.declared.types.Value.TheVariants.{Null}
+use Rattle.sqlite.specs.Term.{Term, lit, col, op2}
+use Rattle.sqlite.specs.Collation.TheVariants.{Binary}
+use Rattle.sqlite.specs.Command.TheVariants.{Insert, Update}
+use Rattle.sqlite.specs.Source.TheVariants.{Values}
+use Rattle.sqlite.specs.Listing.{understood}
+use Rattle.sqlite.proofs.Callers.{IsPlain, command_of}
+use Rattle.sqlite_tied.specs.Compute.{everything}
+use Rattle.sqlite_sql.specs.declared.ops.BinaryOp.TheVariants.{Compare, Is, Or}
+use Rattle.sqlite_sql.specs.declared.ops.CompareOp.TheVariants.{Eq}
+use Rattle.sqlite_value.specs.declared.keys.Key.{Key}
+use Rattle.sql_meaning.proofs.Scanning.{scan, as_program}
+use Rattle.sql_meaning.proofs.Reading.{Asks}
+use Rattle.sql_meaning.proofs.RowidKeys.{by_number}
+use Rattle.office_tables.specs.Schema.{office_schema}
+use Rattle.office_tables.proofs.LastRow.{AsksLast}
+
+abbrev pub hold_text : List ℕ
+hold_text = codes "SELECT number, deposit, collection, matter, placed, released FROM hold WHERE number = ?1"
+
+abbrev pub hold_columns : List Term
+hold_columns = col 1 0 ∷ col 1 2 ∷ col 1 3 ∷ col 1 4 ∷ col 1 5 ∷ col 1 6 ∷ []
+
+pub asks_hold : Asks office_schema hold_text 12 by_number hold_columns []
+unfolding understood everything
+asks_hold = record {
+  names = codes "number" ∷ codes "deposit" ∷ codes "collection" ∷ codes "matter" ∷ codes "placed" ∷ codes "released" ∷ [];
+  command = refl;
+  unlisted = refl;
+  plain = (refl, refl);
+}
+
+abbrev pub last_text : List ℕ
+last_text = codes "SELECT number FROM hold ORDER BY number DESC LIMIT 1"
+
+pub asks_last : AsksLast office_schema last_text 12
+unfolding understood everything
+asks_last = record { names = codes "number" ∷ []; command = refl; unlisted = refl; plain = (refl, refl) }
+
+abbrev pub put_text : List ℕ
+put_text = codes "INSERT INTO hold (number, deposit, collection, matter, placed) VALUES (?1, ?2, ?3, ?4, ?5)"
+
+abbrev pub hold_terms : List Term
+hold_terms = col 0 0 ∷ lit Null ∷ col 0 1 ∷ col 0 2 ∷ col 0 3 ∷ col 0 4 ∷ lit Null ∷ []
+
+pub put_is : command_of (understood office_schema put_text) ≡ Insert 7 (Values hold_terms 7)
+unfolding understood everything
+put_is = refl
+
+pub put_plain : IsPlain (understood office_schema put_text)
+unfolding understood everything
+put_plain = (refl, refl)
+
+abbrev pub end_text : List ℕ
+end_text = codes "UPDATE hold SET released = ?2 WHERE number = ?1"
+
+abbrev pub ended_columns : List Term
+ended_columns = col 1 0 ∷ col 1 0 ∷ lit Null ∷ col 1 2 ∷ col 1 3 ∷ col 1 4 ∷ col 1 5 ∷ col 0 1 ∷ []
+
+pub end_is : command_of (understood office_schema end_text) ≡ Update 7 (as_program (scan 12 by_number ended_columns []))
+unfolding understood everything
+end_is = refl
+
+pub end_plain : IsPlain (understood office_schema end_text)
+unfolding understood everything
+end_plain = (refl, refl)
+
+-- ---- the live holds over a deposit of a collection
+
+abbrev pub live_text : List ℕ
+live_text = codes "SELECT number FROM hold WHERE released IS NULL AND (deposit = ?1 OR collection = ?2) ORDER BY number"
+
+abbrev pub live : List Term
+live = op2 (Is Binary) (col 1 6) (lit Null) ∷ op2 Or (op2 (Compare Eq Binary) (col 1 2) (col 0 0)) (op2 (Compare Eq Binary) (col 1 3) (col 0 1)) ∷ []
+
+abbrev pub number_column : List Term
+number_column = col 1 0 ∷ []
+
+-- ORDER BY the rowid
+abbrev pub rising : List (Term × Key)
+rising = (col 1 0, record { collation = Binary; descending = false }) ∷ []
+
+pub asks_live : Asks office_schema live_text 12 live number_column rising
+unfolding understood everything
+asks_live = record { names = codes "number" ∷ []; command = refl; unlisted = refl; plain = (refl, refl) }

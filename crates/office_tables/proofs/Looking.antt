@@ -1,0 +1,73 @@
+-- What the query on the office's row means under any schema.
+use Rattle.std.proofs.Common.{◌≡◌, ℤ, MatchOption, All, Contains, List, [], Bool, true, false, cond, Option, None, Some, Ok, Err, refl, sym, ap, ◌∙◌}
+use Rattle.sqlite_tied.specs.Compute.{everything}
+use Rattle.sqlite_resolve.specs.Compile.{compiled, first, planned, meaning, returning, timed, with_command}
+use Rattle.sqlite_resolve.specs.Lowering.{Checked, and_then}
+use Rattle.sqlite_resolve.specs.declared.error.CompileError.TheVariants.{NoSuchTable}
+use Rattle.sqlite_resolve.specs.declared.compiled.Compiled.{Compiled}
+use Rattle.sqlite_syntax.specs.declared.statement.Parsed.{Parsed}
+use Rattle.sqlite_ast.specs.declared.Statement.TheVariants as written
+use Rattle.sqlite.specs.Schema.{Schema}
+use Rattle.sqlite.specs.Command.{Command}
+use Rattle.sqlite.specs.Order.{Row, column}
+use Rattle.sqlite.specs.declared.types.Value.TheVariants.{Int}
+use Rattle.sqlite.specs.Effect.{Database}
+use Rattle.sqlite.specs.Store.{Ghosts}
+use Rattle.sqlite.specs.Held.{Held, state}
+use Rattle.sqlite.specs.Listing.{understood, reads_listing, if_select, is_select, listing_schema}
+use Rattle.sqlite.specs.State.{State, Shown, IsUnchanged, HasCleanDisk, IsRolledBack}
+use Rattle.sql_meaning.specs.Inside.{Stays}
+use Rattle.office_tables.specs.Opening.{look_text, Looks, ShowsVersion, IsKept, shows_office}
+
+-- the text is a SELECT without parameters or the time
+look_parsed : (p : Parsed) × (s : _) × (first look_text ≡ Ok p) × (p.statement ≡ written.Select s) × (p.formats ≡ []) × (p.names ≡ [])
+unfolding everything
+look_parsed = (_, _, refl, refl, refl, refl)
+
+via : (p : Parsed) (r : Checked Command) (c : Compiled) → and_then (and_then (and_then r (λ c. Ok (c, None))) (λ found. Ok ([], found))) (λ plan. Ok (with_command p plan)) ≡ Ok c → (c.returning ≡ None) × (c.formats ≡ [])
+via p (Ok command) c h = let same : with_command p ([], (command, None)) ≡ c = cc in (sym (ap (λ (k : Compiled). k.returning) same), sym (ap (λ (k : Compiled). k.formats) same))
+via p (Err e) c h = absurd cc
+
+plain_from : (schema : Schema) (p : Parsed) (s : _) (c : Compiled) → p.statement ≡ written.Select s → p.formats ≡ [] → and_then (planned schema p) (λ plan. Ok (with_command p plan)) ≡ Ok c → (c.returning ≡ None) × (c.formats ≡ [])
+unfolding planned meaning returning timed
+plain_from schema p s c is none h = via p _ c (rw (is, none) at h)
+
+compiled_plain : (schema : Schema) (c : Compiled) → compiled schema look_text ≡ Ok c → (c.returning ≡ None) × (c.formats ≡ [])
+unfolding compiled
+compiled_plain schema c h = let l = look_parsed in plain_from schema l.0 l.1 c l.3 l.4 (rw l.2 at h)
+
+selected : (r : Checked Compiled) (c : Compiled) → if_select r ≡ Ok c → r ≡ Ok c
+selected (Ok k) c h = chosen (is_select k.command) h
+  where
+    chosen : (b : Bool) → cond b (Ok k) (Err NoSuchTable) ≡ Ok c → ◌≡◌ {A = Checked Compiled} (Ok k) (Ok c)
+    chosen true h = h
+    chosen false h = absurd cc
+selected (Err e) c h = absurd cc
+
+plain_by : (schema : Schema) (c : Compiled) (b : Bool) → cond b (if_select (compiled listing_schema look_text)) (compiled schema look_text) ≡ Ok c → (c.returning ≡ None) × (c.formats ≡ [])
+plain_by schema c true h = compiled_plain listing_schema c (selected _ c h)
+plain_by schema c false h = compiled_plain schema c h
+
+pub look_plain : (schema : Schema) (c : Compiled) → understood schema look_text ≡ Ok c → (c.returning ≡ None) × (c.formats ≡ [])
+unfolding understood
+look_plain schema c h = plain_by schema c (reads_listing schema look_text) h
+
+pub looks : (old new : State) (rows : List Row) → Shown look_text [] old new rows → Looks old.now rows × IsUnchanged old new
+unfolding Shown
+looks old new rows h =
+    let plain = look_plain old.now.schema h.0 h.1.is in
+    let it = rw (plain.0, plain.1) at h.2 in
+    ((h.0, it.0, h.1.is, it.1, it.2), it.3)
+
+pub shows_version : (db : Database) (rows : List Row) (r : Option ℤ) → Looks db rows
+    → MatchOption r (All (λ row. shows_office row ≡ false) rows) (λ version. (row : Row) × Contains rows row × (shows_office row ≡ true) × (column row 1 ≡ Int version)) → ShowsVersion db r
+shows_version db rows None look h = (rows, look, h)
+shows_version db rows (Some version) look h = (rows, h.0, look, h.1, h.2, h.3)
+
+-- what was read and rolled back
+pub kept_back : {S : Type 0} (g : Ghosts S) (first : Held S) (last end : State) → Stays (state g (record first { in_transaction = true })) last → HasCleanDisk last → IsRolledBack last end → IsKept (state g first) end
+kept_back g first last end stays clean back is_open =
+    let kept = stays.kept clean refl in
+    let was = back.was_open is_open in
+    let u = back.undone is_open in
+    (kept.was_open was, λ settled. (u.0 ∙ kept.committed was ∙ settled, u.1 ∙ kept.committed was ∙ settled))

@@ -1,0 +1,191 @@
+-- What the statements on callers and rules do to the rows of an office.
+use Rattle.std.proofs.Common.{IsTrue, ◌≡◌, ◌⊎◌, ℕ, ℤ, List, [], ◌∷◌, ◌++◌, map, filter, slice_get, option_map, true, false, Ok, Less, refl, ap, subst, sym, ◌∙◌, codes, append-nil, append_assoc, get_or, drop, length, ◌+◌, ◌<◌}
+use Rattle.std.specs.List.{AllByRecursion}
+use Rattle.std.proofs.lemmas.List.{at_drop_more}
+use Rattle.std.specs.Ordering.{int_cmp}
+use Rattle.sqlite.specs.declared.types.Value.TheVariants.{Null, Int, Text}
+use Rattle.sqlite.specs.Order.{Row, column, value_cmp}
+use Rattle.sqlite.specs.Edit.{edit_of}
+use Rattle.sqlite.specs.Rowids.TheVariants.{Chosen, Given}
+use Rattle.sqlite.specs.Tree.{rowid}
+use Rattle.sqlite.specs.Term.{col}
+use Rattle.sqlite.specs.Kind.TheVariants as kind
+use Rattle.sqlite.specs.Cast.{cast_row}
+use Rattle.sqlite.specs.Effect.{Database}
+use Rattle.sqlite.specs.State.{State, Shown, Executes}
+use Rattle.sqlite_schema.specs.declared.schema.Constraint.TheVariants.{Datatype, NotNull, Unique}
+use Rattle.sqlite_value.proofs.OrderLemmas.{value_cmp-Int}
+use Rattle.sqlite_rules.specs.Lists.{Has}
+use Rattle.sqlite_rules.specs.Calls.{ids_of}
+use Rattle.sqlite_rules.proofs.ListLemmas.{all_from}
+use Rattle.sqlite_rules.proofs.TableLemmas.{int_is}
+use Rattle.sqlite_trees.specs.View.{is_int}
+use Rattle.sqlite_keyed.proofs.ListLemmas.{ascending_weaker, map-map, all-append}
+use Rattle.sql_meaning.specs.Columns.{int_at, bytes_at}
+use Rattle.sql_meaning.proofs.Writing.{inserts, deletes}
+use Rattle.sql_meaning.proofs.Scanning.{scan, as_program, shown_of, scanned, answer_sound, answer_complete}
+use Rattle.sql_meaning.proofs.Reading.{reads_same, reads_one, reads_rising, finds_part}
+use Rattle.sql_meaning.proofs.Keys.{none_pass}
+use Rattle.sql_meaning.proofs.TextKeys.{has_text, by_text, each_passes, few_named}
+use Rattle.sql_meaning.proofs.Typed.{text_at, all_both}
+use Rattle.sql_meaning.proofs.Edits.{appended, inserted, put_last, deleted, kept_all, cast_null, cast_int, map_append}
+use Rattle.office_tables.specs.Schema.{office_schema, caller_table, rule_table, needed}
+use Rattle.office_tables.specs.Rows.{Tables, CallerRow, RuleRow, is_caller, caller_named, RulesBelow, RulesFollow, PlacesRise, with_caller, with_rule, with_callers, with_rules, without_callers, without_rules, with_policy}
+use Rattle.office_tables.specs.Tables.{IsOffice, Becomes, tables_of, caller_in, rule_in}
+use Rattle.office_tables.specs.ShownPolicy.{shown_rule}
+use Rattle.office_tables.proofs.Frames.{idle, becomes_callers, becomes_rules}
+use Rattle.office_tables.proofs.PolicyTexts.{role_text, role_columns, asks_role, rules_text, rule_columns, rising, asks_rules, drop_callers_text, drop_callers_is, drop_callers_plain, drop_rules_text, drop_rules_is, drop_rules_plain, add_caller_text, caller_terms, add_caller_is, add_caller_plain, add_rule_text, rule_terms, add_rule_is, add_rule_plain}
+
+-- what is known of the callers: each name is a text, and at most one caller has it
+module _ (db : Database) (office : IsOffice db) (name : List ℕ) where
+  named : AllByRecursion (λ r. column r 1 ≡ Text (bytes_at r 1)) (db.trees 1)
+  named = all_both (λ r typed present. text_at office_schema db.trees caller_table r typed present 0 (needed (codes "name") kind.Text) refl refl refl refl refl)
+      (db.trees 1) (office.fits.rules Datatype (λ e. cc)).1.0 (office.fits.rules NotNull (λ e. cc)).1.0
+
+  few : (filter (has_text 1 name) (db.trees 1) ≡ []) ⊎ ((r : Row) × Has (db.trees 1) r × (has_text 1 name r ≡ true) × (filter (has_text 1 name) (db.trees 1) ≡ r ∷ []))
+  few = few_named 1 (db.trees 1) office.shaped.1.0 named (office.fits.rules Unique (λ e. cc)).1.0 name
+
+-- ---- reads
+
+pub finds_role : (old new : State) (name : List ℕ) (rows : List Row) → IsOffice old.now → Shown role_text (Text name ∷ []) old new rows
+    → (new.now ≡ old.now) × (option_map (λ (c : CallerRow). c.role) (caller_named name (tables_of old.now).callers) ≡ option_map (λ row. bytes_at row 0) (slice_get rows 0))
+finds_role old new name rows office h =
+    let params : Row = Text name ∷ [] in
+    let db = old.now.trees in
+    let is = reads_one office_schema role_text 1 (by_text 1) role_columns [] asks_role params old new office.schema_is rows h (has_text 1 name)
+    (each_passes 1 name [] (db 1) (named old.now office name)) (few old.now office name) in (
+      reads_same office_schema role_text 1 (by_text 1) role_columns [] asks_role params old new office.schema_is rows h,
+      finds_part (db 1) rows (has_text 1 name) (shown_of params role_columns) caller_in (is_caller name) (λ r. refl) is (λ (c : CallerRow). c.role) (λ row. bytes_at row 0) (λ r. refl),
+    )
+
+pub lists_rules : (old new : State) (rows : List Row) → IsOffice old.now → Shown rules_text [] old new rows
+    → (new.now ≡ old.now) × ((tables_of old.now).rules ≡ map shown_rule rows)
+lists_rules old new rows office h =
+    let db = old.now.trees in
+    let up = ascending_weaker _ _ (λ a b lower. rw lower refl) (db 3) office.shaped.1.1.0.0 in
+    let is = reads_rising office_schema rules_text 3 [] rule_columns rising asks_rules [] old new office.schema_is rows h (λ r. true) (all_from _ (db 3) (λ r there. refl)) up in
+    let whole : rows ≡ map (shown_of [] rule_columns) (db 3) = is ∙ ap (map (shown_of [] rule_columns)) (kept_all (λ r. true) (db 3) (λ r there. refl)) in
+    let shows : map shown_rule (map (shown_of [] rule_columns) (db 3)) ≡ map rule_in (db 3) = map-map shown_rule (shown_of [] rule_columns) (db 3) in (
+      reads_same office_schema rules_text 3 [] rule_columns rising asks_rules [] old new office.schema_is rows h,
+      sym shows ∙ ap (map shown_rule) (sym whole),
+    )
+
+-- ---- none of the old rows
+
+pub drops_callers : (old new : State) (count : ℕ) → IsOffice old.now → Executes drop_callers_text [] old new (Ok count) → Becomes new.now (without_callers (tables_of old.now))
+drops_callers old new count office h =
+    let db = old.now.trees in
+    let done = deletes drop_callers_text [] old new office_schema office.schema_is 1 caller_table refl idle drop_callers_plain (as_program (scan 1 [] (col 1 0 ∷ []) [])) drop_callers_is count h in
+    let answer = done.0 in
+    let edit = edit_of db caller_table (ids_of answer) Given 0 [] in
+    let each = all_from (λ r. true ≡ true) (db 1) (λ r there. refl) in
+    let found = scanned db [] 1 [] (col 1 0 ∷ []) [] answer done.1.answer in
+    let made = deleted db caller_table answer (λ r. true) (shown_of [] (col 1 0 ∷ [])) office.shaped.1.0 (λ r. refl)
+    (answer_sound db [] 1 [] (col 1 0 ∷ []) [] answer (λ r. true) found each) (answer_complete db [] 1 [] (col 1 0 ∷ []) [] answer (λ r. true) found each) in
+    becomes_callers old new edit count _ office.shaped done.2 refl [] (ap (map caller_in) (made ∙ none_pass (λ r. false) (db 1) (λ r there. refl)))
+
+pub drops_rules : (old new : State) (count : ℕ) → IsOffice old.now → Executes drop_rules_text [] old new (Ok count) → Becomes new.now (without_rules (tables_of old.now))
+drops_rules old new count office h =
+    let db = old.now.trees in
+    let done = deletes drop_rules_text [] old new office_schema office.schema_is 2 rule_table refl idle drop_rules_plain (as_program (scan 3 [] (col 1 0 ∷ []) [])) drop_rules_is count h in
+    let answer = done.0 in
+    let edit = edit_of db rule_table (ids_of answer) Given 0 [] in
+    let each = all_from (λ r. true ≡ true) (db 3) (λ r there. refl) in
+    let found = scanned db [] 3 [] (col 1 0 ∷ []) [] answer done.1.answer in
+    let made = deleted db rule_table answer (λ r. true) (shown_of [] (col 1 0 ∷ [])) office.shaped.1.1.0 (λ r. refl)
+    (answer_sound db [] 3 [] (col 1 0 ∷ []) [] answer (λ r. true) found each) (answer_complete db [] 3 [] (col 1 0 ∷ []) [] answer (λ r. true) found each) in
+    becomes_rules old new edit count _ office.shaped done.2 refl [] (ap (map rule_in) (made ∙ none_pass (λ r. false) (db 3) (λ r there. refl)))
+
+-- ---- the new rows
+
+pub adds_caller : (old new : State) (caller : CallerRow) (count : ℕ) → IsOffice old.now → Executes add_caller_text (Text caller.name ∷ Text caller.role ∷ []) old new (Ok count)
+    → Becomes new.now (with_caller caller (tables_of old.now))
+adds_caller old new caller count office h =
+    let db = old.now.trees in
+    let source : Row = Null ∷ Text caller.name ∷ Text caller.role ∷ [] in
+    let edit = edit_of db caller_table [] Chosen 0 (source ∷ []) in
+    let done = inserts add_caller_text (Text caller.name ∷ Text caller.role ∷ []) old new office_schema office.schema_is 1 caller_table refl idle add_caller_plain caller_terms 3 add_caller_is refl refl count h in
+    let cast_is : cast_row caller_table source ≡ Null ∷ Text caller.name ∷ Text caller.role ∷ [] = rw cast_null refl in
+    let end = appended db caller_table source (Text caller.name ∷ Text caller.role ∷ []) office.shaped.1.0 cast_is in
+    becomes_callers old new edit count edit.news office.shaped done refl _ (ap (map caller_in) end ∙ map_append caller_in (db 1) _)
+
+lower_rows : (place : ℤ) (rows : List Row) → AllByRecursion (λ r. IsTrue (is_int (rowid r))) rows → RulesBelow place (map rule_in rows) → AllByRecursion (λ r. value_cmp (rowid r) (Int place) ≡ Less) rows
+lower_rows place [] whole low = tt
+lower_rows place (r ∷ rows) whole low = (subst (λ v. value_cmp v (Int place) ≡ Less) (sym (int_is (rowid r) whole.0)) (value_cmp-Int (int_at r 0) place ∙ low.0), lower_rows place rows whole.1 low.1)
+
+abbrev pub params_of : RuleRow → Row
+params_of r = Int r.place ∷ Int r.effect ∷ Text r.role ∷ Text r.action ∷ Text r.collection ∷ Text r.class ∷ []
+
+abbrev stored_of : RuleRow → Row
+stored_of r = Null ∷ Int r.effect ∷ Text r.role ∷ Text r.action ∷ Text r.collection ∷ Text r.class ∷ []
+
+pub adds_rule : (old new : State) (rule : RuleRow) (count : ℕ) → IsOffice old.now → RulesBelow rule.place (tables_of old.now).rules → Executes add_rule_text (params_of rule) old new (Ok count)
+    → Becomes new.now (with_rule rule (tables_of old.now))
+adds_rule old new rule count office low h =
+    let params = params_of rule in
+    let db = old.now.trees in
+    let source : Row = Int rule.place ∷ stored_of rule in
+    let edit = edit_of db rule_table [] Chosen 0 (source ∷ []) in
+    let done = inserts add_rule_text params old new office_schema office.schema_is 2 rule_table refl idle add_rule_plain rule_terms 7 add_rule_is refl refl count h in
+    let cast_is : cast_row rule_table source ≡ Int rule.place ∷ stored_of rule = rw (cast_null, cast_int rule.place, cast_int rule.effect) refl in
+    let end = inserted db rule_table source (stored_of rule) rule.place cast_is ∙ put_last (Int rule.place ∷ stored_of rule) (db 3) (lower_rows rule.place (db 3) office.shaped.1.1.0.1 low) in
+    becomes_rules old new edit count edit.news office.shaped done refl _ (ap (map rule_in) end ∙ map_append rule_in (db 3) _)
+
+-- ---- all the new rows
+
+pub callers_added : (cs : List CallerRow) (t : Tables) → with_callers cs t ≡ record t { callers = t.callers ++ cs }
+callers_added [] t = ap (λ all. record t { callers = all }) (sym (append-nil t.callers))
+callers_added (c ∷ cs) t = callers_added cs (with_caller c t) ∙ ap (λ all. record t { callers = all }) (append_assoc t.callers (c ∷ []) cs)
+
+pub rules_added : (rs : List RuleRow) (t : Tables) → with_rules rs t ≡ record t { rules = t.rules ++ rs }
+rules_added [] t = ap (λ all. record t { rules = all }) (sym (append-nil t.rules))
+rules_added (r ∷ rs) t = rules_added rs (with_rule r t) ∙ ap (λ all. record t { rules = all }) (append_assoc t.rules (r ∷ []) rs)
+
+pub rules_follow : (rs : List RuleRow) (t : Tables) → PlacesRise rs → AllByRecursion (λ (r : RuleRow). RulesBelow r.place t.rules) rs → RulesFollow rs t
+rules_follow [] t rise low = tt
+rules_follow (r ∷ rs) t rise low = (low.0, rules_follow rs (with_rule r t) rise.1 (more rs rise.0 low.1))
+  where
+    more : (later : List RuleRow) → AllByRecursion (λ (s : RuleRow). int_cmp r.place s.place ≡ Less) later → AllByRecursion (λ (s : RuleRow). RulesBelow s.place t.rules) later → AllByRecursion (λ (s : RuleRow). RulesBelow s.place (t.rules ++ r ∷ [])) later
+    more [] up below = tt
+    more (s ∷ later) up below = (all-append (λ (x : RuleRow). int_cmp x.place s.place ≡ Less) t.rules (r ∷ []) below.0 (up.0, tt), more later up.1 below.1)
+
+none_below : (rs : List RuleRow) → AllByRecursion (λ (r : RuleRow). RulesBelow r.place []) rs
+none_below [] = tt
+none_below (r ∷ rs) = (tt, none_below rs)
+
+pub rules_fresh : (rs : List RuleRow) (t : Tables) → t.rules ≡ [] → PlacesRise rs → RulesFollow rs t
+rules_fresh rs t none rise = rules_follow rs t rise (subst (λ all. AllByRecursion (λ (r : RuleRow). RulesBelow r.place all) rs) (sym none) (none_below rs))
+
+-- ---- one step of a loop
+
+pub next_caller : (cs : List CallerRow) (i : ℕ) (x : CallerRow) → x ≡ get_or cs i x → i < length cs → (t : Tables) (now new : Database) → Becomes new (with_caller x (tables_of now))
+    → with_callers (drop i cs) (tables_of now) ≡ with_callers cs t → IsOffice new × (with_callers (drop (i + 1) cs) (tables_of new) ≡ with_callers cs t)
+next_caller cs i x is low t now new added there =
+    let here : with_callers (drop i cs) (tables_of now) ≡ with_callers (drop (i + 1) cs) (with_caller (get_or cs i x) (tables_of now)) = at_drop_more (λ more. with_callers more (tables_of now)) cs i x low in
+    (added.office, ap (with_callers (drop (i + 1) cs)) (added.are ∙ ap (λ c. with_caller c (tables_of now)) is) ∙ sym here ∙ there)
+
+-- the next rule is above all that are there
+pub next_follows : (rs : List RuleRow) (i : ℕ) (x : RuleRow) → x ≡ get_or rs i x → i < length rs → (t : Tables) → RulesFollow (drop i rs) t → RulesBelow x.place t.rules × RulesFollow (drop (i + 1) rs) (with_rule x t)
+next_follows rs i x is low t follow =
+    let here : drop i rs ≡ get_or rs i x ∷ drop (i + 1) rs = at_drop_more (λ more. more) rs i x low in
+    let both : RulesFollow (get_or rs i x ∷ drop (i + 1) rs) t = subst (λ (more : List RuleRow). RulesFollow more t) here follow in
+    subst (λ (r : RuleRow). RulesBelow r.place t.rules × RulesFollow (drop (i + 1) rs) (with_rule r t)) (sym is) both
+
+pub next_rule : (rs : List RuleRow) (i : ℕ) (x : RuleRow) → x ≡ get_or rs i x → i < length rs → (t : Tables) (now new : Database) → Becomes new (with_rule x (tables_of now))
+    → RulesFollow (drop (i + 1) rs) (with_rule x (tables_of now)) → with_rules (drop i rs) (tables_of now) ≡ with_rules rs t
+    → IsOffice new × RulesFollow (drop (i + 1) rs) (tables_of new) × (with_rules (drop (i + 1) rs) (tables_of new) ≡ with_rules rs t)
+next_rule rs i x is low t now new added follow there =
+    let here : with_rules (drop i rs) (tables_of now) ≡ with_rules (drop (i + 1) rs) (with_rule (get_or rs i x) (tables_of now)) = at_drop_more (λ more. with_rules more (tables_of now)) rs i x low in (
+      added.office,
+      subst (RulesFollow (drop (i + 1) rs)) (sym added.are) follow,
+      ap (with_rules (drop (i + 1) rs)) (added.are ∙ ap (λ r. with_rule r (tables_of now)) is) ∙ sym here ∙ there,
+    )
+
+-- ---- the whole policy
+
+pub puts_policy : (t : Tables) (cs : List CallerRow) (rs : List RuleRow) (bare empty called : Database) → Becomes bare (without_callers t) → Becomes empty (without_rules (tables_of bare)) → Becomes called (with_callers cs (tables_of empty))
+    → PlacesRise rs → RulesFollow rs (tables_of called) × ((new : Database) → Becomes new (with_rules rs (tables_of called)) → Becomes new (with_policy cs rs t))
+puts_policy t cs rs bare empty called first second third rise =
+    let is : tables_of called ≡ record t { callers = cs; rules = [] } =
+    third.are ∙ callers_added cs (tables_of empty) ∙ ap (λ (u : Tables). record u { callers = u.callers ++ cs }) (second.are ∙ ap without_rules first.are) in
+    (rules_fresh rs (tables_of called) (ap (λ (u : Tables). u.rules) is) rise, λ new done. record { office = done.office; are = done.are ∙ ap (with_rules rs) is ∙ rules_added rs (record t { callers = cs; rules = [] }) })

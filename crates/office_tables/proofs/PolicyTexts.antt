@@ -1,0 +1,94 @@
+-- What the statements on callers and rules mean under the schema of an office.
+use Rattle.std.proofs.Common.{◌≡◌, ℕ, false, List, [], ◌∷◌, codes, refl}
+use Rattle.sqlite.specs.declared.types.Value.TheVariants.{Null}
+use Rattle.sqlite.specs.Term.{Term, lit, col}
+use Rattle.sqlite.specs.Collation.TheVariants.{Binary}
+use Rattle.sqlite.specs.Command.TheVariants.{Insert, Delete}
+use Rattle.sqlite.specs.Source.TheVariants.{Values}
+use Rattle.sqlite.specs.Listing.{understood}
+use Rattle.sqlite.proofs.Callers.{IsPlain, command_of}
+use Rattle.sqlite_tied.specs.Compute.{everything}
+use Rattle.sqlite_value.specs.declared.keys.Key.{Key}
+use Rattle.sql_meaning.proofs.Scanning.{scan, as_program}
+use Rattle.sql_meaning.proofs.Reading.{Asks}
+use Rattle.sql_meaning.proofs.TextKeys.{by_text}
+use Rattle.office_tables.specs.Schema.{office_schema}
+
+abbrev pub role_text : List ℕ
+role_text = codes "SELECT role FROM caller WHERE name = ?1"
+
+abbrev pub role_columns : List Term
+role_columns = col 1 2 ∷ []
+
+pub asks_role : Asks office_schema role_text 1 (by_text 1) role_columns []
+unfolding understood everything
+asks_role = record { names = codes "role" ∷ []; command = refl; unlisted = refl; plain = (refl, refl) }
+
+abbrev pub rules_text : List ℕ
+rules_text = codes "SELECT place, effect, role, action, collection, class FROM rule ORDER BY place"
+
+abbrev pub rule_columns : List Term
+rule_columns = col 1 0 ∷ col 1 2 ∷ col 1 3 ∷ col 1 4 ∷ col 1 5 ∷ col 1 6 ∷ []
+
+-- ORDER BY the rowid
+abbrev pub rising : List (Term × Key)
+rising = (col 1 0, record { collation = Binary; descending = false }) ∷ []
+
+pub asks_rules : Asks office_schema rules_text 3 [] rule_columns rising
+unfolding understood everything
+asks_rules = record {
+  names = codes "place" ∷ codes "effect" ∷ codes "role" ∷ codes "action" ∷ codes "collection" ∷ codes "class" ∷ [];
+  command = refl;
+  unlisted = refl;
+  plain = (refl, refl);
+}
+
+abbrev pub drop_callers_text : List ℕ
+drop_callers_text = codes "DELETE FROM caller"
+
+pub drop_callers_is : command_of (understood office_schema drop_callers_text) ≡ Delete 1 (as_program (scan 1 [] (col 1 0 ∷ []) []))
+unfolding understood everything
+drop_callers_is = refl
+
+pub drop_callers_plain : IsPlain (understood office_schema drop_callers_text)
+unfolding understood everything
+drop_callers_plain = (refl, refl)
+
+abbrev pub drop_rules_text : List ℕ
+drop_rules_text = codes "DELETE FROM rule"
+
+pub drop_rules_is : command_of (understood office_schema drop_rules_text) ≡ Delete 2 (as_program (scan 3 [] (col 1 0 ∷ []) []))
+unfolding understood everything
+drop_rules_is = refl
+
+pub drop_rules_plain : IsPlain (understood office_schema drop_rules_text)
+unfolding understood everything
+drop_rules_plain = (refl, refl)
+
+abbrev pub add_caller_text : List ℕ
+add_caller_text = codes "INSERT INTO caller (name, role) VALUES (?1, ?2)"
+
+abbrev pub caller_terms : List Term
+caller_terms = lit Null ∷ col 0 0 ∷ col 0 1 ∷ []
+
+pub add_caller_is : command_of (understood office_schema add_caller_text) ≡ Insert 1 (Values caller_terms 3)
+unfolding understood everything
+add_caller_is = refl
+
+pub add_caller_plain : IsPlain (understood office_schema add_caller_text)
+unfolding understood everything
+add_caller_plain = (refl, refl)
+
+abbrev pub add_rule_text : List ℕ
+add_rule_text = codes "INSERT INTO rule (place, effect, role, action, collection, class) VALUES (?1, ?2, ?3, ?4, ?5, ?6)"
+
+abbrev pub rule_terms : List Term
+rule_terms = col 0 0 ∷ lit Null ∷ col 0 1 ∷ col 0 2 ∷ col 0 3 ∷ col 0 4 ∷ col 0 5 ∷ []
+
+pub add_rule_is : command_of (understood office_schema add_rule_text) ≡ Insert 2 (Values rule_terms 7)
+unfolding understood everything
+add_rule_is = refl
+
+pub add_rule_plain : IsPlain (understood office_schema add_rule_text)
+unfolding understood everything
+add_rule_plain = (refl, refl)

@@ -1,0 +1,14 @@
+use Rattle.std.proofs.Common.{arith, w64}
+use Rattle.std.proofs.lemmas.Int.{to_z-of_z}
+use Rattle.sqlite.specs.Held.{state}
+use Rattle.office_tables.specs.Tables.{tables_of}
+use Rattle.office_tables.proofs.ClassLemmas.{puts_class}
+use Rattle.office_tables.proofs.classes.put_class.Goals as goal
+
+pub returns-in_ok-add_class-clause-becomes : goal.returns-in_ok-add_class-clause-becomes
+returns-in_ok-add_class-clause-becomes g c clean office =
+    let mid = (state g.S.Store c.revise_class.new.tx.conn.now).now in
+    let years = to_z-of_z w64 c.args.years c.ranges.years in
+    let low = c.add_class.ensures.stays.survives.clean in
+    let first = rw years at (c.in_ok-revise_class.ensures.becomes (omega (arith, clean, low)) office) in
+    (puts_class (tables_of (state g.S.Store c.args.tx.now.conn.now).now) c.args.name.now c.args.years mid c.in_ok-revise_class.field-0 first.0 first.1).0 c.if-branch-eq0.true (state g.S.Store c.add_class.new.tx.conn.now).now (rw years at (c.in_ok-add_class.ensures.becomes clean first.0.office))

@@ -1,0 +1,7 @@
+pub mod Rows
+pub mod Schema
+pub mod Tables
+pub mod Opening
+pub mod ShownHolds
+pub mod ShownPolicy
+pub mod Deposits

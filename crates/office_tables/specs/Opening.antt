@@ -1,0 +1,70 @@
+-- When a database is an office, and what making and opening one leaves.
+use Rattle.std.specs.Prelude.{◌⊎◌, ◌&&◌, ◌==◌, nat_le, IsTrue, is_some, slice_get, option_and_then, All, Contains, ◌≡◌, ℕ, ℤ, Bool, true, false, List, [], codes, Option, Some, None, Ok, pos}
+use Rattle.sqlite.specs.declared.types.Value.{Value}
+use Rattle.sqlite.specs.declared.types.Value.TheVariants.{Int}
+use Rattle.sqlite.specs.Order.{Row, column}
+use Rattle.sqlite.specs.Table.{Table}
+use Rattle.sqlite.specs.Schema.{Schema}
+use Rattle.sqlite.specs.Listing.{understood, reads_listing, IsSourceOf}
+use Rattle.sqlite.specs.Effect.{Database, Reads}
+use Rattle.sqlite.specs.State.{State}
+use Rattle.sqlite_schema.specs.Names.{table_named, column_named}
+use Rattle.sqlite_resolve.specs.declared.compiled.Compiled.{Compiled}
+use Rattle.office_tables.specs.Rows.{Tables}
+use Rattle.office_tables.specs.Tables.{Becomes}
+
+-- ---- what is left
+
+-- the tables are as they were, where nothing was left uncommitted
+abbrev pub IsKept : State → State → Type 0
+IsKept old new = IsTrue new.is_open → IsTrue old.is_open × (old.committed ≡ old.now → (new.now ≡ old.now) × (new.committed ≡ old.now))
+
+-- an office with these rows, and all of it is committed
+pub record IsMade (new : State) (tables : Tables) : Type 0 where
+  pub is_open : IsTrue new.is_open
+  pub becomes : Becomes new.now tables
+  pub committed : new.committed ≡ new.now
+
+-- ---- the row by which an office is known
+
+abbrev pub look_text : List ℕ
+look_text = codes "SELECT id, version, max_deposits, max_holds FROM office"
+
+abbrev pub has_columns : Option Table → Bool
+has_columns None = false
+has_columns (Some t) = is_some (column_named t (codes "id")) && is_some (column_named t (codes "version")) && is_some (column_named t (codes "max_deposits")) && is_some (column_named t (codes "max_holds"))
+
+-- the schema has a table office with its columns, as SQL compares names
+abbrev pub has_office : Schema → Bool
+has_office schema = has_columns (option_and_then (slice_get schema.tables) (table_named schema (codes "office")))
+
+-- what SQL shows of the four columns
+abbrev pub Looks : Database → List Row → Type 0
+Looks db rows = (c : Compiled) × (source : Database) × (understood db.schema look_text ≡ Ok c) × IsSourceOf (reads_listing db.schema look_text) db source × Reads c.command source [] rows
+
+abbrev pub is_one : Value → Bool
+is_one (Int (pos n)) = n == 1
+is_one _ = false
+
+abbrev pub is_limit : Value → Bool
+is_limit (Int (pos n)) = nat_le 1 n && nat_le n 1000000
+is_limit _ = false
+
+abbrev pub is_int : Value → Bool
+is_int (Int n) = true
+is_int _ = false
+
+-- a row 1 of whole numbers, with limits in range
+abbrev pub shows_office : Row → Bool
+shows_office row = is_one (column row 0) && (is_int (column row 1) && (is_limit (column row 2) && is_limit (column row 3)))
+
+abbrev pub NotAnOffice : Database → Type 0
+NotAnOffice db = (has_office db.schema ≡ false) ⊎ ((rows : List Row) × Looks db rows × All (λ row. shows_office row ≡ false) rows)
+
+-- row 1 is there, with this version
+abbrev pub HasVersion : Database → ℤ → Type 0
+HasVersion db version = (rows : List Row) × (row : Row) × Looks db rows × Contains rows row × (shows_office row ≡ true) × (column row 1 ≡ Int version)
+
+abbrev pub ShowsVersion : Database → Option ℤ → Type 0
+ShowsVersion db None = (rows : List Row) × Looks db rows × All (λ row. shows_office row ≡ false) rows
+ShowsVersion db (Some version) = HasVersion db version

@@ -1,0 +1,273 @@
+-- The rows of the office's tables as plain records, what is looked up in them, and how they change. Nothing here speaks of SQL.
+-- Texts are lists of bytes. Days are day numbers, 0 for 1970-01-01. Sizes are in bytes, years are calendar years.
+use Rattle.std.specs.Prelude.{⊤, ℕ, ℤ, pos, List, [], ◌∷◌, ◌++◌, map, find, filter, Option, Some, None, bytes_eq, not, is_some, unwrap_or, option_map, ◌≡◌, ◌&&◌, ◌||◌, Bool, false, if◌then◌else◌}
+use Rattle.std.specs.List.{AllByRecursion, list_any}
+use Rattle.std.specs.Ordering.{int_eq, int_cmp}
+use Rattle.std.specs.declared.cmp.Ordering.TheVariants.{Less}
+
+-- ---- the rows
+
+-- the office itself; an office has one such row, with the id 1
+pub record OfficeRow : Type 0 where
+  pub id : ℤ
+  -- which tables these are
+  pub version : ℤ
+  -- how many deposits and holds the office may have at most
+  pub max_deposits : ℤ
+  pub max_holds : ℤ
+
+pub record CallerRow : Type 0 where
+  pub name : List ℕ
+  pub role : List ℕ
+
+pub record RuleRow : Type 0 where
+  -- from 1
+  pub place : ℤ
+  -- 1 allows, 0 denies
+  pub effect : ℤ
+  pub role : List ℕ
+  pub action : List ℕ
+  pub collection : List ℕ
+  pub class : List ℕ
+
+pub record ClassRow : Type 0 where
+  pub name : List ℕ
+  -- -1 where deposits of the class are kept for good
+  pub years : ℤ
+
+pub record DepositRow : Type 0 where
+  pub number : ℤ
+  pub accession : List ℕ
+  pub collection : List ℕ
+  pub class : List ℕ
+  -- the day when the records were closed, and the day of the deposit
+  pub closed : ℤ
+  pub deposited : ℤ
+  -- the files of the payload and their bytes
+  pub files : ℤ
+  pub bytes : ℤ
+  -- the day when it was destroyed
+  pub gone : Option ℤ
+
+pub record FileRow : Type 0 where
+  -- the number of its deposit
+  pub deposit : ℤ
+  pub path : List ℕ
+  pub content : List ℕ
+
+pub record HoldRow : Type 0 where
+  pub number : ℤ
+  -- what is held: the deposit of that number, or each of the collection
+  pub deposit : Option ℤ
+  pub collection : Option (List ℕ)
+  pub matter : List ℕ
+  -- the day when it was placed, and the day when it was released
+  pub placed : ℤ
+  pub released : Option ℤ
+
+-- All rows: rules ascending by place, deposits and holds ascending by number, the others as they were first put.
+pub record Tables : Type 0 where
+  pub office : List OfficeRow
+  pub callers : List CallerRow
+  pub rules : List RuleRow
+  pub classes : List ClassRow
+  pub collections : List (List ℕ)
+  pub deposits : List DepositRow
+  pub files : List FileRow
+  pub holds : List HoldRow
+
+-- ---- the office
+
+abbrev pub is_office_row : OfficeRow → Bool
+is_office_row o = int_eq o.id (pos 1)
+
+abbrev pub office_row : Tables → Option OfficeRow
+office_row t = find is_office_row t.office
+
+-- how many deposits and holds an office may have at most
+pub record Limits : Type 0 where
+  pub max_deposits : ℤ
+  pub max_holds : ℤ
+
+abbrev pub limits_in : OfficeRow → Limits
+limits_in o = record { max_deposits = o.max_deposits; max_holds = o.max_holds }
+
+abbrev pub limits_of : Tables → Option Limits
+limits_of t = option_map limits_in (office_row t)
+
+-- the tables of an office that holds nothing yet
+abbrev pub empty_office : ℤ → ℤ → ℤ → Tables
+empty_office version max_deposits max_holds = record {
+  office = record { id = pos 1; version = version; max_deposits = max_deposits; max_holds = max_holds } ∷ [];
+  callers = [];
+  rules = [];
+  classes = [];
+  collections = [];
+  deposits = [];
+  files = [];
+  holds = [];
+}
+
+-- ---- callers and rules
+
+abbrev pub is_caller : List ℕ → CallerRow → Bool
+is_caller name c = bytes_eq c.name name
+
+abbrev pub caller_named : List ℕ → List CallerRow → Option CallerRow
+caller_named name = find (is_caller name)
+
+-- these callers and rules, and none of those before
+abbrev pub with_policy : List CallerRow → List RuleRow → Tables → Tables
+with_policy callers rules t = record t { callers = callers; rules = rules }
+
+-- ---- classes and collections
+
+abbrev pub is_class : List ℕ → ClassRow → Bool
+is_class name c = bytes_eq c.name name
+
+abbrev pub class_named : List ℕ → List ClassRow → Option ClassRow
+class_named name = find (is_class name)
+
+abbrev pub with_years : List ℕ → ℤ → Tables → Tables
+with_years name years t = record t { classes = map (λ c. if is_class name c then record c { years = years } else c) t.classes }
+
+abbrev pub with_new_class : List ℕ → ℤ → Tables → Tables
+with_new_class name years t = record t { classes = t.classes ++ record { name = name; years = years } ∷ [] }
+
+-- the class of that name has these years now; where there is none of that name, it comes at the end
+abbrev pub with_class : List ℕ → ℤ → Tables → Tables
+with_class name years t = if list_any (is_class name) t.classes then with_years name years t else with_new_class name years t
+
+abbrev pub is_collection : List ℕ → List ℕ → Bool
+is_collection name c = bytes_eq c name
+
+abbrev pub has_collection : List ℕ → Tables → Bool
+has_collection name t = list_any (is_collection name) t.collections
+
+abbrev pub with_new_collection : List ℕ → Tables → Tables
+with_new_collection name t = record t { collections = t.collections ++ name ∷ [] }
+
+-- as it was where the collection is there; else the collection comes at the end
+abbrev pub with_collection : List ℕ → Tables → Tables
+with_collection name t = if has_collection name t then t else with_new_collection name t
+
+-- ---- deposits
+
+abbrev pub is_deposit : ℤ → DepositRow → Bool
+is_deposit n d = int_eq d.number n
+
+abbrev pub deposit_numbered : ℤ → List DepositRow → Option DepositRow
+deposit_numbered n = find (is_deposit n)
+
+abbrev pub has_accession : List ℕ → DepositRow → Bool
+has_accession accession d = bytes_eq d.accession accession
+
+abbrev pub deposit_by : List ℕ → List DepositRow → Option DepositRow
+deposit_by accession = find (has_accession accession)
+
+-- each number that is there is lower
+abbrev pub DepositsBelow : ℤ → List DepositRow → Type 0
+DepositsBelow n = AllByRecursion (λ d. int_cmp d.number n ≡ Less)
+
+abbrev pub with_deposit : DepositRow → Tables → Tables
+with_deposit d t = record t { deposits = t.deposits ++ d ∷ [] }
+
+-- the deposit was destroyed on that day
+abbrev pub with_gone : ℤ → ℤ → Tables → Tables
+with_gone n day t = record t { deposits = map (λ d. if is_deposit n d then record d { gone = Some day } else d) t.deposits }
+
+-- the highest number of a list whose numbers rise
+abbrev pub last_number : {Row : Type 0} → (Row → ℤ) → List Row → Option ℤ
+last_number number [] = None
+last_number number (r ∷ rs) = Some (unwrap_or (last_number number rs) (number r))
+
+-- ---- files
+
+abbrev pub is_file_of : ℤ → FileRow → Bool
+is_file_of n f = int_eq f.deposit n
+
+abbrev pub files_of : ℤ → Tables → List FileRow
+files_of n t = filter (is_file_of n) t.files
+
+abbrev pub is_file_at : ℤ → List ℕ → FileRow → Bool
+is_file_at n path f = is_file_of n f && bytes_eq f.path path
+
+abbrev pub file_at : ℤ → List ℕ → List FileRow → Option FileRow
+file_at n path = find (is_file_at n path)
+
+abbrev pub with_file : FileRow → Tables → Tables
+with_file f t = record t { files = t.files ++ f ∷ [] }
+
+abbrev pub without_files : ℤ → Tables → Tables
+without_files n t = record t { files = filter (λ f. not (is_file_of n f)) t.files }
+
+-- ---- holds
+
+abbrev pub is_hold : ℤ → HoldRow → Bool
+is_hold k h = int_eq h.number k
+
+abbrev pub hold_numbered : ℤ → List HoldRow → Option HoldRow
+hold_numbered k = find (is_hold k)
+
+abbrev pub HoldsBelow : ℤ → List HoldRow → Type 0
+HoldsBelow k = AllByRecursion (λ h. int_cmp h.number k ≡ Less)
+
+abbrev pub with_hold : HoldRow → Tables → Tables
+with_hold h t = record t { holds = t.holds ++ h ∷ [] }
+
+-- the hold was released on that day
+abbrev pub with_released : ℤ → ℤ → Tables → Tables
+with_released k day t = record t { holds = map (λ h. if is_hold k h then record h { released = Some day } else h) t.holds }
+
+abbrev pub is_live : HoldRow → Bool
+is_live h = not (is_some h.released)
+
+abbrev pub holds_deposit : ℤ → HoldRow → Bool
+holds_deposit n h = unwrap_or (option_map (λ d. int_eq d n) h.deposit) false
+
+abbrev pub holds_collection : List ℕ → HoldRow → Bool
+holds_collection collection h = unwrap_or (option_map (λ c. bytes_eq c collection) h.collection) false
+
+-- it isn't released, and names the deposit or the collection
+abbrev pub is_live_over : ℤ → List ℕ → HoldRow → Bool
+is_live_over n collection h = is_live h && (holds_deposit n h || holds_collection collection h)
+
+-- the numbers of the live holds over a deposit of that collection, ascending
+abbrev pub live_holds : ℤ → List ℕ → Tables → List ℤ
+live_holds n collection t = map (λ h. h.number) (filter (is_live_over n collection) t.holds)
+
+-- ---- callers and rules, one after another
+
+abbrev pub with_caller : CallerRow → Tables → Tables
+with_caller c t = record t { callers = t.callers ++ c ∷ [] }
+
+abbrev pub with_rule : RuleRow → Tables → Tables
+with_rule r t = record t { rules = t.rules ++ r ∷ [] }
+
+-- each place that is there is lower
+abbrev pub RulesBelow : ℤ → List RuleRow → Type 0
+RulesBelow place = AllByRecursion (λ r. int_cmp r.place place ≡ Less)
+
+abbrev pub without_callers : Tables → Tables
+without_callers t = record t { callers = [] }
+
+abbrev pub without_rules : Tables → Tables
+without_rules t = record t { rules = [] }
+
+abbrev pub with_callers : List CallerRow → Tables → Tables
+with_callers [] t = t
+with_callers (c ∷ cs) t = with_callers cs (with_caller c t)
+
+abbrev pub with_rules : List RuleRow → Tables → Tables
+with_rules [] t = t
+with_rules (r ∷ rs) t = with_rules rs (with_rule r t)
+
+-- each is above all that are there when its turn comes
+abbrev pub RulesFollow : List RuleRow → Tables → Type 0
+RulesFollow [] t = ⊤
+RulesFollow (r ∷ rs) t = RulesBelow r.place t.rules × RulesFollow rs (with_rule r t)
+
+-- the rules ascend by place
+abbrev pub PlacesRise : List RuleRow → Type 0
+PlacesRise [] = ⊤
+PlacesRise (r ∷ rs) = AllByRecursion (λ s. int_cmp r.place s.place ≡ Less) rs × PlacesRise rs

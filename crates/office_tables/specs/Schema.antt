@@ -1,0 +1,118 @@
+-- The schema of an office: its eight tables, all STRICT, and their indexes.
+use Rattle.std.specs.Prelude.{true, false, [], ◌∷◌, map, take, Some, None, codes, List, ℕ}
+use Rattle.sqlite.specs.Collation.TheVariants.{Binary}
+use Rattle.sqlite.specs.declared.types.Value.TheVariants.{Null}
+use Rattle.sqlite.specs.Table.{Table}
+use Rattle.sqlite.specs.Schema.{Schema}
+use Rattle.sqlite.specs.Kind.{Kind}
+use Rattle.sqlite.specs.Kind.TheVariants.{Integer, Text, Blob}
+use Rattle.sqlite_schema.specs.declared.schema.Column.{Column}
+use Rattle.sqlite_schema.specs.declared.schema.Index.{Index}
+use Rattle.sqlite_schema.specs.declared.schema.Reference.{Reference}
+use Rattle.sqlite_schema.specs.declared.schema.Action.TheVariants.{NoAction}
+
+-- ---- the forms of columns and tables
+
+abbrev pub needed : List ℕ → Kind → Column
+needed name kind = record { name = name; kind = kind; is_strict = true; not_null = true; default = Null; collation = Binary }
+
+abbrev pub optional : List ℕ → Kind → Column
+optional name kind = record { name = name; kind = kind; is_strict = true; not_null = false; default = Null; collation = Binary }
+
+abbrev pub refers : ℕ → List ℕ → List ℕ → Reference
+refers place parent column =
+    record { columns = place ∷ []; parent = parent; parent_columns = column ∷ []; on_delete = NoAction; on_update = NoAction; is_deferred = false }
+
+-- a table whose key is a whole number
+abbrev pub numbered : List ℕ → ℕ → List Column → List (List ℕ) → List Reference → Table
+numbered name tree columns uniques references = record {
+  name = name;
+  tree = tree;
+  columns = columns;
+  key = Some 0;
+  primary = 0 ∷ [];
+  uniques = uniques;
+  orders = map (λ _. record { digits = 0 }) uniques;
+  checks = [];
+  references = references;
+  computed = [];
+  stamps = record { places = []; terms = []; formats = [] };
+  is_counted = false;
+}
+
+-- a table whose key is these columns
+abbrev pub keyed : List ℕ → ℕ → List Column → List ℕ → Table
+keyed name tree columns places = record {
+  name = name;
+  tree = tree;
+  columns = columns;
+  key = None;
+  primary = places;
+  uniques = places ∷ [];
+  orders = record { digits = 0 } ∷ [];
+  checks = [];
+  references = [];
+  computed = [];
+  stamps = record { places = []; terms = []; formats = [] };
+  is_counted = false;
+}
+
+abbrev pub key_index : List ℕ → ℕ → ℕ → List ℕ → Index
+key_index name tree table columns = record { name = name; tree = tree; table = table; columns = columns; order = record { digits = 0 }; is_unique = true }
+
+abbrev pub plain_index : List ℕ → ℕ → ℕ → List ℕ → Index
+plain_index name tree table columns = record { name = name; tree = tree; table = table; columns = columns; order = record { digits = 0 }; is_unique = false }
+
+-- ---- the tables
+
+abbrev pub office_table : Table
+office_table = numbered (codes "office") 0
+    (optional (codes "id") Integer ∷ needed (codes "version") Integer ∷ needed (codes "max_deposits") Integer ∷ needed (codes "max_holds") Integer ∷ []) [] []
+
+abbrev pub caller_table : Table
+caller_table = keyed (codes "caller") 1 (needed (codes "name") Text ∷ needed (codes "role") Text ∷ []) (1 ∷ [])
+
+abbrev pub rule_table : Table
+rule_table = numbered (codes "rule") 3
+    (optional (codes "place") Integer ∷ needed (codes "effect") Integer ∷ needed (codes "role") Text ∷ needed (codes "action") Text
+    ∷ needed (codes "collection") Text ∷ needed (codes "class") Text ∷ []) [] []
+
+abbrev pub class_table : Table
+class_table = keyed (codes "class") 4 (needed (codes "name") Text ∷ needed (codes "years") Integer ∷ []) (1 ∷ [])
+
+abbrev pub collection_table : Table
+collection_table = keyed (codes "collection") 6 (needed (codes "name") Text ∷ []) (1 ∷ [])
+
+abbrev pub deposit_table : Table
+deposit_table = numbered (codes "deposit") 8
+    (optional (codes "number") Integer ∷ needed (codes "accession") Text ∷ needed (codes "collection") Text ∷ needed (codes "class") Text
+    ∷ needed (codes "closed") Integer ∷ needed (codes "deposited") Integer ∷ needed (codes "files") Integer ∷ needed (codes "bytes") Integer
+    ∷ optional (codes "gone") Integer ∷ [])
+    ((2 ∷ []) ∷ []) (refers 3 (codes "collection") (codes "name") ∷ refers 4 (codes "class") (codes "name") ∷ [])
+
+abbrev pub file_table : Table
+file_table = keyed (codes "file") 10 (needed (codes "deposit") Integer ∷ needed (codes "path") Text ∷ needed (codes "content") Blob ∷ []) (1 ∷ 2 ∷ [])
+
+abbrev pub hold_table : Table
+hold_table = numbered (codes "hold") 12
+    (optional (codes "number") Integer ∷ optional (codes "deposit") Integer ∷ optional (codes "collection") Text ∷ needed (codes "matter") Text
+    ∷ needed (codes "placed") Integer ∷ optional (codes "released") Integer ∷ []) [] []
+
+abbrev pub all_tables : List Table
+all_tables = office_table ∷ caller_table ∷ rule_table ∷ class_table ∷ collection_table ∷ deposit_table ∷ file_table ∷ hold_table ∷ []
+
+abbrev pub all_indexes : List Index
+all_indexes = key_index (codes "sqlite_autoindex_caller_1") 2 1 (1 ∷ []) ∷ key_index (codes "sqlite_autoindex_class_1") 5 4 (1 ∷ [])
+    ∷ key_index (codes "sqlite_autoindex_collection_1") 7 6 (1 ∷ []) ∷ key_index (codes "sqlite_autoindex_deposit_1") 9 8 (2 ∷ [])
+    ∷ key_index (codes "sqlite_autoindex_file_1") 11 10 (1 ∷ 2 ∷ [])
+    ∷ plain_index (codes "hold_deposit") 13 12 (2 ∷ []) ∷ plain_index (codes "hold_collection") 14 12 (3 ∷ []) ∷ []
+
+abbrev pub office_schema : Schema
+office_schema = record { tables = all_tables; indexes = all_indexes; views = [] }
+
+abbrev pub no_schema : Schema
+no_schema = record { tables = []; indexes = []; views = [] }
+
+-- the schema with the first of its tables and indexes alone, as it is made in turn
+abbrev pub stage : ℕ → ℕ → Schema
+stage tables indexes = record { tables = take tables all_tables; indexes = take indexes all_indexes; views = [] }

@@ -1,0 +1,156 @@
+//! Classes and collections.
+
+ghost use Rattle.std.specs.Prelude.{◌≡◌, IfOk, OnOk, option_map, slice_get, if◌then◌else◌};
+ghost use Rattle.std.specs.List.{list_any};
+ghost use Rattle.sqlite.specs.State.{HasCleanDisk};
+ghost use Rattle.sqlite.specs.Held.{state};
+ghost use Rattle.sql_meaning.specs.Inside.{Stays, GoesOn};
+ghost use Rattle.sql_meaning.specs.Columns.{int_at};
+ghost use Rattle.office_tables.specs.Rows.{class_named, is_class, with_class, with_new_class, with_years, has_collection, with_collection, with_new_collection};
+ghost use Rattle.office_tables.specs.Tables.{IsOffice, Becomes, tables_of};
+
+use crate::fault::TableFault;
+use crate::run::{ask, change, number_in};
+use sqlite::{Alter, Row, Transaction, params};
+
+/// The row that shows the years of the class of that name, if there is one.
+fn rows_of_class<S: Alter>(tx: &mut Transaction<'_, S>, name: &str) -> Result<Vec<Row>, TableFault>
+    ensures same_reference { tx.new.conn.ghost_name ≡ tx.old.conn.ghost_name }
+    ensures stays { Stays (state S.Store tx.old.conn.now) (state S.Store tx.new.conn.now) }
+    ensures goes_on { HasCleanDisk (state S.Store tx.new.conn.now) → OnOk result (GoesOn (state S.Store tx.old.conn.now) (state S.Store tx.new.conn.now)) }
+    ensures found { HasCleanDisk (state S.Store tx.new.conn.now) → IsOffice (state S.Store tx.old.conn.now).now → IfOk result (λ rows.
+        ((state S.Store tx.new.conn.now).now ≡ (state S.Store tx.old.conn.now).now)
+        × (option_map (λ c. c.years) (class_named name.now (tables_of (state S.Store tx.old.conn.now).now).classes) ≡ option_map (λ row. int_at row 0) (slice_get rows.items 0))) }
+{
+    ask(tx, "SELECT years FROM class WHERE name = ?1", params![name])
+}
+
+/// The years of the class of that name, -1 where its deposits are kept for good; `None` where there is no such class.
+///
+/// Fails with `Memory` or `Store`.
+pub fn class_of<S: Alter>(
+    tx: &mut Transaction<'_, S>,
+    name: &str,
+) -> Result<Option<i64>, TableFault>
+    ensures same_reference { tx.new.conn.ghost_name ≡ tx.old.conn.ghost_name }
+    ensures stays { Stays (state S.Store tx.old.conn.now) (state S.Store tx.new.conn.now) }
+    ensures goes_on { HasCleanDisk (state S.Store tx.new.conn.now) → OnOk result (GoesOn (state S.Store tx.old.conn.now) (state S.Store tx.new.conn.now)) }
+    ensures same { HasCleanDisk (state S.Store tx.new.conn.now) → IsOffice (state S.Store tx.old.conn.now).now → OnOk result ((state S.Store tx.new.conn.now).now ≡ (state S.Store tx.old.conn.now).now) }
+    ensures found { HasCleanDisk (state S.Store tx.new.conn.now) → IsOffice (state S.Store tx.old.conn.now).now → IfOk result (λ found.
+        found ≡ option_map (λ c. c.years) (class_named name.now (tables_of (state S.Store tx.old.conn.now).now).classes)) }
+{
+    let rows = rows_of_class(tx, name)?;
+    match rows.first() {
+        Some(row) => Ok(Some(number_in(row, 0)?)),
+        None => Ok(None),
+    }
+}
+
+/// Gives the years to the class of that name, and says how many classes that were.
+fn revise_class<S: Alter>(
+    tx: &mut Transaction<'_, S>,
+    name: &str,
+    years: i64,
+) -> Result<usize, TableFault>
+    ensures same_reference { tx.new.conn.ghost_name ≡ tx.old.conn.ghost_name }
+    ensures stays { Stays (state S.Store tx.old.conn.now) (state S.Store tx.new.conn.now) }
+    ensures goes_on { HasCleanDisk (state S.Store tx.new.conn.now) → OnOk result (GoesOn (state S.Store tx.old.conn.now) (state S.Store tx.new.conn.now)) }
+    ensures becomes { HasCleanDisk (state S.Store tx.new.conn.now) → IsOffice (state S.Store tx.old.conn.now).now → IfOk result (λ count.
+        Becomes (state S.Store tx.new.conn.now).now (with_years name.now years (tables_of (state S.Store tx.old.conn.now).now))
+        × (count ≡ (if list_any (is_class name.now) (tables_of (state S.Store tx.old.conn.now).now).classes then 1 else 0))) }
+{
+    change(
+        tx,
+        "UPDATE class SET years = ?2 WHERE name = ?1",
+        params![name, years],
+    )
+}
+
+/// Adds a class at the end.
+fn add_class<S: Alter>(
+    tx: &mut Transaction<'_, S>,
+    name: &str,
+    years: i64,
+) -> Result<usize, TableFault>
+    ensures same_reference { tx.new.conn.ghost_name ≡ tx.old.conn.ghost_name }
+    ensures stays { Stays (state S.Store tx.old.conn.now) (state S.Store tx.new.conn.now) }
+    ensures goes_on { HasCleanDisk (state S.Store tx.new.conn.now) → OnOk result (GoesOn (state S.Store tx.old.conn.now) (state S.Store tx.new.conn.now)) }
+    ensures becomes { HasCleanDisk (state S.Store tx.new.conn.now) → IsOffice (state S.Store tx.old.conn.now).now → OnOk result (
+        Becomes (state S.Store tx.new.conn.now).now (with_new_class name.now years (tables_of (state S.Store tx.old.conn.now).now))) }
+{
+    change(
+        tx,
+        "INSERT INTO class (name, years) VALUES (?1, ?2)",
+        params![name, years],
+    )
+}
+
+/// Adds the class, or sets its years where there is a class of that name; -1 keeps its deposits for good.
+///
+/// Fails with `Memory` or `Store`.
+pub fn put_class<S: Alter>(
+    tx: &mut Transaction<'_, S>,
+    name: &str,
+    years: i64,
+) -> Result<(), TableFault>
+    ensures same_reference { tx.new.conn.ghost_name ≡ tx.old.conn.ghost_name }
+    ensures stays { Stays (state S.Store tx.old.conn.now) (state S.Store tx.new.conn.now) }
+    ensures goes_on { HasCleanDisk (state S.Store tx.new.conn.now) → OnOk result (GoesOn (state S.Store tx.old.conn.now) (state S.Store tx.new.conn.now)) }
+    ensures becomes { HasCleanDisk (state S.Store tx.new.conn.now) → IsOffice (state S.Store tx.old.conn.now).now → OnOk result (
+        Becomes (state S.Store tx.new.conn.now).now (with_class name.now years (tables_of (state S.Store tx.old.conn.now).now))) }
+{
+    if revise_class(tx, name, years)? == 0 {
+        add_class(tx, name, years)?;
+    }
+    Ok(())
+}
+
+/// Whether there is a collection of that name.
+///
+/// Fails with `Memory` or `Store`.
+pub fn has_collection<S: Alter>(tx: &mut Transaction<'_, S>, name: &str) -> Result<bool, TableFault>
+    ensures same_reference { tx.new.conn.ghost_name ≡ tx.old.conn.ghost_name }
+    ensures stays { Stays (state S.Store tx.old.conn.now) (state S.Store tx.new.conn.now) }
+    ensures goes_on { HasCleanDisk (state S.Store tx.new.conn.now) → OnOk result (GoesOn (state S.Store tx.old.conn.now) (state S.Store tx.new.conn.now)) }
+    ensures same { HasCleanDisk (state S.Store tx.new.conn.now) → IsOffice (state S.Store tx.old.conn.now).now → OnOk result ((state S.Store tx.new.conn.now).now ≡ (state S.Store tx.old.conn.now).now) }
+    ensures found { HasCleanDisk (state S.Store tx.new.conn.now) → IsOffice (state S.Store tx.old.conn.now).now → IfOk result (λ found.
+        found ≡ has_collection name.now (tables_of (state S.Store tx.old.conn.now).now)) }
+{
+    let rows = ask(
+        tx,
+        "SELECT name FROM collection WHERE name = ?1",
+        params![name],
+    )?;
+    Ok(!rows.is_empty())
+}
+
+/// Adds a collection at the end.
+fn add_collection<S: Alter>(tx: &mut Transaction<'_, S>, name: &str) -> Result<usize, TableFault>
+    ensures same_reference { tx.new.conn.ghost_name ≡ tx.old.conn.ghost_name }
+    ensures stays { Stays (state S.Store tx.old.conn.now) (state S.Store tx.new.conn.now) }
+    ensures goes_on { HasCleanDisk (state S.Store tx.new.conn.now) → OnOk result (GoesOn (state S.Store tx.old.conn.now) (state S.Store tx.new.conn.now)) }
+    ensures becomes { HasCleanDisk (state S.Store tx.new.conn.now) → IsOffice (state S.Store tx.old.conn.now).now → OnOk result (
+        Becomes (state S.Store tx.new.conn.now).now (with_new_collection name.now (tables_of (state S.Store tx.old.conn.now).now))) }
+{
+    change(
+        tx,
+        "INSERT INTO collection (name) VALUES (?1)",
+        params![name],
+    )
+}
+
+/// Adds the collection; where it is there already, nothing changes.
+///
+/// Fails with `Memory` or `Store`.
+pub fn put_collection<S: Alter>(tx: &mut Transaction<'_, S>, name: &str) -> Result<(), TableFault>
+    ensures same_reference { tx.new.conn.ghost_name ≡ tx.old.conn.ghost_name }
+    ensures stays { Stays (state S.Store tx.old.conn.now) (state S.Store tx.new.conn.now) }
+    ensures goes_on { HasCleanDisk (state S.Store tx.new.conn.now) → OnOk result (GoesOn (state S.Store tx.old.conn.now) (state S.Store tx.new.conn.now)) }
+    ensures becomes { HasCleanDisk (state S.Store tx.new.conn.now) → IsOffice (state S.Store tx.old.conn.now).now → OnOk result (
+        Becomes (state S.Store tx.new.conn.now).now (with_collection name.now (tables_of (state S.Store tx.old.conn.now).now))) }
+{
+    if !has_collection(tx, name)? {
+        add_collection(tx, name)?;
+    }
+    Ok(())
+}

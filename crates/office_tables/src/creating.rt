@@ -1,0 +1,138 @@
+//! Making an office.
+
+ghost use Rattle.std.specs.Prelude.{ℕ, ℤ, pos, List, [], ◌≡◌, ◌≢◌, ◌≤◌, Err, false, true, map, OnOk, OnErr, IsTrue};
+ghost use Rattle.sqlite.specs.Schema.{Schema};
+ghost use Rattle.sqlite.specs.Effect.{Database};
+ghost use Rattle.sqlite.specs.State.{HasCleanDisk, Survives};
+ghost use Rattle.sqlite.specs.Held.{state};
+ghost use Rattle.sql_meaning.specs.Inside.{Stays, GoesOn, Stands};
+ghost use Rattle.sql_meaning.specs.Making.{Builds};
+ghost use Rattle.sql_meaning.specs.Whole.{IsBlank};
+ghost use Rattle.office_tables.specs.Schema.{no_schema, office_schema};
+ghost use Rattle.office_tables.specs.Rows.{empty_office};
+ghost use Rattle.office_tables.specs.Tables.{Becomes};
+ghost use Rattle.office_tables.specs.Opening.{IsKept, IsMade};
+
+use crate::fault::TableFault;
+use crate::run::change;
+use sqlite::{Alter, Connection, Transaction, params};
+use sqlite_schema::schema::Schema;
+
+/// Runs CREATE texts in turn.
+fn define<S: Alter>(tx: &mut Transaction<'_, S>, texts: &[&str]) -> Result<(), TableFault>
+    ensures same_reference { tx.new.conn.ghost_name ≡ tx.old.conn.ghost_name }
+    ensures stays { Stays (state S.Store tx.old.conn.now) (state S.Store tx.new.conn.now) }
+    ensures goes_on { HasCleanDisk (state S.Store tx.new.conn.now) → OnOk result (Stands (state S.Store tx.old.conn.now) (state S.Store tx.new.conn.now)) }
+    ensures made { HasCleanDisk (state S.Store tx.new.conn.now) → OnOk result ((before after : Schema) → Builds before (map (λ t. t.now) texts.now) after
+        → IsBlank before (state S.Store tx.old.conn.now).now → IsBlank after (state S.Store tx.new.conn.now).now) }
+{
+    for text in texts {
+        change(tx, text, &[])?;
+    }
+    Ok(())
+}
+
+/// Makes the eight tables and their indexes in an empty database.
+fn define_tables<S: Alter>(tx: &mut Transaction<'_, S>) -> Result<(), TableFault>
+    ensures same_reference { tx.new.conn.ghost_name ≡ tx.old.conn.ghost_name }
+    ensures stays { Stays (state S.Store tx.old.conn.now) (state S.Store tx.new.conn.now) }
+    ensures goes_on { HasCleanDisk (state S.Store tx.new.conn.now) → OnOk result (Stands (state S.Store tx.old.conn.now) (state S.Store tx.new.conn.now)) }
+    ensures made { HasCleanDisk (state S.Store tx.new.conn.now) → (state S.Store tx.old.conn.now).now.schema ≡ no_schema → OnOk result (IsBlank office_schema (state S.Store tx.new.conn.now).now) }
+{
+    define(
+        tx,
+        &[
+            "CREATE TABLE office (id INTEGER PRIMARY KEY, version INTEGER NOT NULL, max_deposits INTEGER NOT NULL, max_holds INTEGER NOT NULL) STRICT",
+            "CREATE TABLE caller (name TEXT NOT NULL PRIMARY KEY, role TEXT NOT NULL) STRICT",
+            "CREATE TABLE rule (place INTEGER PRIMARY KEY, effect INTEGER NOT NULL, role TEXT NOT NULL, action TEXT NOT NULL, collection TEXT NOT NULL, class TEXT NOT NULL) STRICT",
+            "CREATE TABLE class (name TEXT NOT NULL PRIMARY KEY, years INTEGER NOT NULL) STRICT",
+            "CREATE TABLE collection (name TEXT NOT NULL PRIMARY KEY) STRICT",
+            "CREATE TABLE deposit (number INTEGER PRIMARY KEY, accession TEXT NOT NULL UNIQUE, collection TEXT NOT NULL REFERENCES collection (name), class TEXT NOT NULL REFERENCES class (name), closed INTEGER NOT NULL, deposited INTEGER NOT NULL, files INTEGER NOT NULL, bytes INTEGER NOT NULL, gone INTEGER) STRICT",
+            "CREATE TABLE file (deposit INTEGER NOT NULL, path TEXT NOT NULL, content BLOB NOT NULL, PRIMARY KEY (deposit, path)) STRICT",
+            "CREATE TABLE hold (number INTEGER PRIMARY KEY, deposit INTEGER, collection TEXT, matter TEXT NOT NULL, placed INTEGER NOT NULL, released INTEGER) STRICT",
+            "CREATE INDEX hold_deposit ON hold (deposit)",
+            "CREATE INDEX hold_collection ON hold (collection)",
+        ],
+    )
+}
+
+/// Adds the row of the office.
+fn start<S: Alter>(
+    tx: &mut Transaction<'_, S>,
+    max_deposits: u32,
+    max_holds: u32,
+) -> Result<usize, TableFault>
+    ensures same_reference { tx.new.conn.ghost_name ≡ tx.old.conn.ghost_name }
+    ensures stays { Stays (state S.Store tx.old.conn.now) (state S.Store tx.new.conn.now) }
+    ensures goes_on { HasCleanDisk (state S.Store tx.new.conn.now) → OnOk result (GoesOn (state S.Store tx.old.conn.now) (state S.Store tx.new.conn.now)) }
+    ensures becomes { HasCleanDisk (state S.Store tx.new.conn.now) → IsBlank office_schema (state S.Store tx.old.conn.now).now → OnOk result (
+        Becomes (state S.Store tx.new.conn.now).now (empty_office (pos 1) (pos max_deposits) (pos max_holds))) }
+{
+    change(
+        tx,
+        "INSERT INTO office (id, version, max_deposits, max_holds) VALUES (1, 1, ?1, ?2)",
+        params![max_deposits, max_holds],
+    )
+}
+
+/// Makes the tables in an empty database, with the row of the office.
+fn make_office<S: Alter>(
+    tx: &mut Transaction<'_, S>,
+    max_deposits: u32,
+    max_holds: u32,
+) -> Result<(), TableFault>
+    ensures same_reference { tx.new.conn.ghost_name ≡ tx.old.conn.ghost_name }
+    ensures stays { Stays (state S.Store tx.old.conn.now) (state S.Store tx.new.conn.now) }
+    ensures goes_on { HasCleanDisk (state S.Store tx.new.conn.now) → OnOk result (Stands (state S.Store tx.old.conn.now) (state S.Store tx.new.conn.now)) }
+    ensures opened { HasCleanDisk (state S.Store tx.new.conn.now) → OnOk result (IsTrue (state S.Store tx.new.conn.now).is_open) }
+    ensures becomes { HasCleanDisk (state S.Store tx.new.conn.now) → (state S.Store tx.old.conn.now).now.schema ≡ no_schema → OnOk result (
+        Becomes (state S.Store tx.new.conn.now).now (empty_office (pos 1) (pos max_deposits) (pos max_holds))) }
+{
+    define_tables(tx)?;
+    start(tx, max_deposits, max_holds)?;
+    Ok(())
+}
+
+fn is_empty(schema: &Schema) -> bool
+    ensures empty { IsTrue result → schema.now ≡ no_schema }
+    ensures full { result ≡ false → schema.now ≢ no_schema }
+{
+    schema.tables.as_slice().is_empty()
+        && schema.indexes.as_slice().is_empty()
+        && schema.views.as_slice().is_empty()
+}
+
+/// Makes the office in an empty database: its tables and its row, in one transaction with one commit.
+/// `max_deposits` and `max_holds` are how many deposits and holds it may have.
+///
+/// Fails with `Store` where the database isn't empty, and with `Memory` or `Store`; then nothing has changed.
+pub fn create<S: Alter>(
+    conn: &mut Connection<S>,
+    max_deposits: u32,
+    max_holds: u32,
+) -> Result<(), TableFault>
+    requires outside { (state S.Store conn.old).in_transaction ≡ false }
+    requires some_deposits { 1 ≤ max_deposits }
+    requires few_deposits { max_deposits ≤ 1000000 }
+    requires some_holds { 1 ≤ max_holds }
+    requires few_holds { max_holds ≤ 1000000 }
+    ensures outside { (state S.Store conn.new).in_transaction ≡ false }
+    ensures survives { Survives (state S.Store conn.old) (state S.Store conn.new)
+        (λ db. (made : Database) × Becomes made (empty_office (pos 1) (pos max_deposits) (pos max_holds)) × (db ≡ made.trees)) }
+    ensures made { HasCleanDisk (state S.Store conn.new) → OnOk result (IsMade (state S.Store conn.new) (empty_office (pos 1) (pos max_deposits) (pos max_holds))) }
+    ensures refused { HasCleanDisk (state S.Store conn.new) → OnErr result (IsKept (state S.Store conn.old) (state S.Store conn.new)) }
+    ensures not_empty { (state S.Store conn.old).now.schema ≢ no_schema → result ≡ Err TableFault.Store }
+{
+    if !is_empty(conn.schema()) {
+        return Err(TableFault::Store);
+    }
+    let mut tx = conn.transaction();
+    if let Err(stopped) = make_office(&mut tx, max_deposits, max_holds) {
+        tx.rollback();
+        return Err(stopped);
+    }
+    match tx.commit() {
+        Ok(()) => Ok(()),
+        Err(error) => Err(TableFault::from(error)),
+    }
+}

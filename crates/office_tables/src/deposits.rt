@@ -1,0 +1,305 @@
+//! Deposits.
+
+ghost use Rattle.std.specs.Prelude.{◌≡◌, IfOk, OnOk, None, pos, option_map, slice_get, map};
+ghost use Rattle.sqlite.specs.State.{HasCleanDisk};
+ghost use Rattle.sqlite.specs.Held.{state};
+ghost use Rattle.sql_meaning.specs.Inside.{Stays, GoesOn};
+ghost use Rattle.sql_meaning.specs.Columns.{int_at};
+ghost use Rattle.office_tables.specs.Rows.{deposit_numbered, deposit_by, last_number, DepositsBelow, with_deposit, with_gone};
+ghost use Rattle.office_tables.specs.Tables.{IsOffice, Becomes, tables_of};
+ghost use Rattle.office_tables.specs.Deposits.{shown_deposit};
+
+use crate::fault::TableFault;
+use crate::run::{ask, change};
+use sqlite::{Alter, Row, Transaction, params};
+use std::alloc::Global;
+use std::marker::Model;
+
+/// A deposit, as its row has it. Days are day numbers, 0 for 1970-01-01.
+#[derive(Debug, Drop)]
+pub struct DepositRow {
+    pub number: u32,
+    pub accession: String,
+    pub collection: String,
+    pub class: String,
+    /// The day when the records were closed.
+    pub closed: i64,
+    /// The day of the deposit.
+    pub deposited: i64,
+    /// How many files the payload has.
+    pub files: i64,
+    /// The bytes of these files.
+    pub bytes: i64,
+    /// The day when it was destroyed.
+    pub gone: Option<i64>,
+}
+
+impl Model for DepositRow {
+    ghost use Rattle.std.specs.Prelude.{List, ℕ, ℤ, Option, string_bytes, refl, pos};
+    ghost use Rattle.std.specs.Coded.{code_by, coded×, coded_list, coded_option, coded_ℕ, coded_ℤ};
+    ghost use Rattle.office_tables.specs.Rows.{DepositRow as Deposit};
+
+    ghost Value = { Deposit };
+
+    ghost coded = { code_by (ℤ × (List ℕ × (List ℕ × (List ℕ × (ℤ × (ℤ × (ℤ × (ℤ × Option ℤ))))))))
+        (coded× coded_ℤ (coded× (coded_list coded_ℕ) (coded× (coded_list coded_ℕ) (coded× (coded_list coded_ℕ) (coded× coded_ℤ (coded× coded_ℤ (coded× coded_ℤ (coded× coded_ℤ (coded_option coded_ℤ)))))))))
+        (λ (d : Deposit). (d.number, (d.accession, (d.collection, (d.class, (d.closed, (d.deposited, (d.files, (d.bytes, d.gone)))))))))
+        (λ p. record { number = p.0; accession = p.1.0; collection = p.1.1.0; class = p.1.1.1.0; closed = p.1.1.1.1.0; deposited = p.1.1.1.1.1.0; files = p.1.1.1.1.1.1.0; bytes = p.1.1.1.1.1.1.1.0; gone = p.1.1.1.1.1.1.1.1 })
+        (λ _. refl) };
+
+    ghost view = { λ d. record {
+      number = pos d.number;
+      accession = string_bytes d.accession;
+      collection = string_bytes d.collection;
+      class = string_bytes d.class;
+      closed = d.closed;
+      deposited = d.deposited;
+      files = d.files;
+      bytes = d.bytes;
+      gone = d.gone;
+    } };
+}
+
+/// The deposit that a row shows.
+fn deposit_in(row: &Row) -> Result<DepositRow, TableFault>
+    ensures { IfOk result (λ deposit. deposit ≡ shown_deposit row.now) }
+{
+    Ok(DepositRow {
+        number: row.get(0)?,
+        accession: row.get(1)?,
+        collection: row.get(2)?,
+        class: row.get(3)?,
+        closed: row.get(4)?,
+        deposited: row.get(5)?,
+        files: row.get(6)?,
+        bytes: row.get(7)?,
+        gone: row.get(8)?,
+    })
+}
+
+/// The deposit that the first of the rows shows, if there is one.
+fn first_deposit(rows: &[Row]) -> Result<Option<DepositRow>, TableFault>
+    ensures { IfOk result (λ found. found ≡ option_map shown_deposit (slice_get rows.now 0)) }
+{
+    match rows.first() {
+        Some(row) => Ok(Some(deposit_in(row)?)),
+        None => Ok(None),
+    }
+}
+
+/// The row that shows the deposit of that number, if there is one.
+fn rows_of_deposit<S: Alter>(
+    tx: &mut Transaction<'_, S>,
+    number: u32,
+) -> Result<Vec<Row>, TableFault>
+    ensures same_reference { tx.new.conn.ghost_name ≡ tx.old.conn.ghost_name }
+    ensures stays { Stays (state S.Store tx.old.conn.now) (state S.Store tx.new.conn.now) }
+    ensures goes_on { HasCleanDisk (state S.Store tx.new.conn.now) → OnOk result (GoesOn (state S.Store tx.old.conn.now) (state S.Store tx.new.conn.now)) }
+    ensures found { HasCleanDisk (state S.Store tx.new.conn.now) → IsOffice (state S.Store tx.old.conn.now).now → IfOk result (λ rows.
+        ((state S.Store tx.new.conn.now).now ≡ (state S.Store tx.old.conn.now).now)
+        × (deposit_numbered (pos number) (tables_of (state S.Store tx.old.conn.now).now).deposits ≡ option_map shown_deposit (slice_get rows.items 0))) }
+{
+    ask(
+        tx,
+        "SELECT number, accession, collection, class, closed, deposited, files, bytes, gone FROM deposit WHERE number = ?1",
+        params![number],
+    )
+}
+
+/// The deposit of that number; `None` where there is no such deposit.
+///
+/// Fails with `Memory` or `Store`.
+pub fn deposit_row<S: Alter>(
+    tx: &mut Transaction<'_, S>,
+    number: u32,
+) -> Result<Option<DepositRow>, TableFault>
+    ensures same_reference { tx.new.conn.ghost_name ≡ tx.old.conn.ghost_name }
+    ensures stays { Stays (state S.Store tx.old.conn.now) (state S.Store tx.new.conn.now) }
+    ensures goes_on { HasCleanDisk (state S.Store tx.new.conn.now) → OnOk result (GoesOn (state S.Store tx.old.conn.now) (state S.Store tx.new.conn.now)) }
+    ensures same { HasCleanDisk (state S.Store tx.new.conn.now) → IsOffice (state S.Store tx.old.conn.now).now → OnOk result ((state S.Store tx.new.conn.now).now ≡ (state S.Store tx.old.conn.now).now) }
+    ensures found { HasCleanDisk (state S.Store tx.new.conn.now) → IsOffice (state S.Store tx.old.conn.now).now → IfOk result (λ found.
+        found ≡ deposit_numbered (pos number) (tables_of (state S.Store tx.old.conn.now).now).deposits) }
+{
+    let rows = rows_of_deposit(tx, number)?;
+    first_deposit(&rows)
+}
+
+/// The row that shows the deposit with that accession, if there is one.
+fn rows_of_accession<S: Alter>(
+    tx: &mut Transaction<'_, S>,
+    accession: &str,
+) -> Result<Vec<Row>, TableFault>
+    ensures same_reference { tx.new.conn.ghost_name ≡ tx.old.conn.ghost_name }
+    ensures stays { Stays (state S.Store tx.old.conn.now) (state S.Store tx.new.conn.now) }
+    ensures goes_on { HasCleanDisk (state S.Store tx.new.conn.now) → OnOk result (GoesOn (state S.Store tx.old.conn.now) (state S.Store tx.new.conn.now)) }
+    ensures found { HasCleanDisk (state S.Store tx.new.conn.now) → IsOffice (state S.Store tx.old.conn.now).now → IfOk result (λ rows.
+        ((state S.Store tx.new.conn.now).now ≡ (state S.Store tx.old.conn.now).now)
+        × (deposit_by accession.now (tables_of (state S.Store tx.old.conn.now).now).deposits ≡ option_map shown_deposit (slice_get rows.items 0))) }
+{
+    ask(
+        tx,
+        "SELECT number, accession, collection, class, closed, deposited, files, bytes, gone FROM deposit WHERE accession = ?1",
+        params![accession],
+    )
+}
+
+/// The deposit with that accession; `None` where there is no such deposit.
+///
+/// Fails with `Memory` or `Store`.
+pub fn by_accession<S: Alter>(
+    tx: &mut Transaction<'_, S>,
+    accession: &str,
+) -> Result<Option<DepositRow>, TableFault>
+    ensures same_reference { tx.new.conn.ghost_name ≡ tx.old.conn.ghost_name }
+    ensures stays { Stays (state S.Store tx.old.conn.now) (state S.Store tx.new.conn.now) }
+    ensures goes_on { HasCleanDisk (state S.Store tx.new.conn.now) → OnOk result (GoesOn (state S.Store tx.old.conn.now) (state S.Store tx.new.conn.now)) }
+    ensures same { HasCleanDisk (state S.Store tx.new.conn.now) → IsOffice (state S.Store tx.old.conn.now).now → OnOk result ((state S.Store tx.new.conn.now).now ≡ (state S.Store tx.old.conn.now).now) }
+    ensures found { HasCleanDisk (state S.Store tx.new.conn.now) → IsOffice (state S.Store tx.old.conn.now).now → IfOk result (λ found.
+        found ≡ deposit_by accession.now (tables_of (state S.Store tx.old.conn.now).now).deposits) }
+{
+    let rows = rows_of_accession(tx, accession)?;
+    first_deposit(&rows)
+}
+
+/// The row that shows the last number, if there is a deposit.
+fn rows_of_last<S: Alter>(tx: &mut Transaction<'_, S>) -> Result<Vec<Row>, TableFault>
+    ensures same_reference { tx.new.conn.ghost_name ≡ tx.old.conn.ghost_name }
+    ensures stays { Stays (state S.Store tx.old.conn.now) (state S.Store tx.new.conn.now) }
+    ensures goes_on { HasCleanDisk (state S.Store tx.new.conn.now) → OnOk result (GoesOn (state S.Store tx.old.conn.now) (state S.Store tx.new.conn.now)) }
+    ensures found { HasCleanDisk (state S.Store tx.new.conn.now) → IsOffice (state S.Store tx.old.conn.now).now → IfOk result (λ rows.
+        ((state S.Store tx.new.conn.now).now ≡ (state S.Store tx.old.conn.now).now)
+        × (last_number (λ d. d.number) (tables_of (state S.Store tx.old.conn.now).now).deposits ≡ option_map (λ row. int_at row 0) (slice_get rows.items 0))) }
+{
+    ask(
+        tx,
+        "SELECT number FROM deposit ORDER BY number DESC LIMIT 1",
+        &[],
+    )
+}
+
+/// The highest number of a deposit; `None` where there is no deposit.
+///
+/// Fails with `Memory` or `Store`.
+pub fn last_deposit<S: Alter>(tx: &mut Transaction<'_, S>) -> Result<Option<u32>, TableFault>
+    ensures same_reference { tx.new.conn.ghost_name ≡ tx.old.conn.ghost_name }
+    ensures stays { Stays (state S.Store tx.old.conn.now) (state S.Store tx.new.conn.now) }
+    ensures goes_on { HasCleanDisk (state S.Store tx.new.conn.now) → OnOk result (GoesOn (state S.Store tx.old.conn.now) (state S.Store tx.new.conn.now)) }
+    ensures same { HasCleanDisk (state S.Store tx.new.conn.now) → IsOffice (state S.Store tx.old.conn.now).now → OnOk result ((state S.Store tx.new.conn.now).now ≡ (state S.Store tx.old.conn.now).now) }
+    ensures found { HasCleanDisk (state S.Store tx.new.conn.now) → IsOffice (state S.Store tx.old.conn.now).now → IfOk result (λ found.
+        option_map pos found ≡ last_number (λ d. d.number) (tables_of (state S.Store tx.old.conn.now).now).deposits) }
+{
+    let rows = rows_of_last(tx)?;
+    match rows.first() {
+        Some(row) => Ok(Some(row.get(0)?)),
+        None => Ok(None),
+    }
+}
+
+/// The rows that show every deposit, by number.
+fn rows_of_deposits<S: Alter>(tx: &mut Transaction<'_, S>) -> Result<Vec<Row>, TableFault>
+    ensures same_reference { tx.new.conn.ghost_name ≡ tx.old.conn.ghost_name }
+    ensures stays { Stays (state S.Store tx.old.conn.now) (state S.Store tx.new.conn.now) }
+    ensures goes_on { HasCleanDisk (state S.Store tx.new.conn.now) → OnOk result (GoesOn (state S.Store tx.old.conn.now) (state S.Store tx.new.conn.now)) }
+    ensures found { HasCleanDisk (state S.Store tx.new.conn.now) → IsOffice (state S.Store tx.old.conn.now).now → IfOk result (λ rows.
+        ((state S.Store tx.new.conn.now).now ≡ (state S.Store tx.old.conn.now).now)
+        × ((tables_of (state S.Store tx.old.conn.now).now).deposits ≡ map shown_deposit rows.items)) }
+{
+    ask(
+        tx,
+        "SELECT number, accession, collection, class, closed, deposited, files, bytes, gone FROM deposit ORDER BY number",
+        &[],
+    )
+}
+
+/// The deposits that the rows show.
+fn deposits_in(alloc: Global, rows: &[Row]) -> Result<Vec<DepositRow>, TableFault>
+    ensures { IfOk result (λ all. all.items ≡ map shown_deposit rows.now) }
+{
+    let mut all = Vec::new(alloc);
+    for row in rows {
+        all.push(deposit_in(row)?)?;
+    }
+    Ok(all)
+}
+
+/// Every deposit, by number.
+///
+/// Fails with `Memory` or `Store`.
+pub fn deposit_rows<S: Alter>(
+    alloc: Global,
+    tx: &mut Transaction<'_, S>,
+) -> Result<Vec<DepositRow>, TableFault>
+    ensures same_reference { tx.new.conn.ghost_name ≡ tx.old.conn.ghost_name }
+    ensures stays { Stays (state S.Store tx.old.conn.now) (state S.Store tx.new.conn.now) }
+    ensures goes_on { HasCleanDisk (state S.Store tx.new.conn.now) → OnOk result (GoesOn (state S.Store tx.old.conn.now) (state S.Store tx.new.conn.now)) }
+    ensures same { HasCleanDisk (state S.Store tx.new.conn.now) → IsOffice (state S.Store tx.old.conn.now).now → OnOk result ((state S.Store tx.new.conn.now).now ≡ (state S.Store tx.old.conn.now).now) }
+    ensures found { HasCleanDisk (state S.Store tx.new.conn.now) → IsOffice (state S.Store tx.old.conn.now).now → IfOk result (λ all.
+        all.items ≡ (tables_of (state S.Store tx.old.conn.now).now).deposits) }
+{
+    let rows = rows_of_deposits(tx)?;
+    deposits_in(alloc, &rows)
+}
+
+/// Adds a deposit at the end; it isn't destroyed. Days are day numbers.
+///
+/// Fails with `Store` where there is no such collection or class, or where the accession or the number is taken, and with `Memory`
+/// or `Store`.
+pub fn put_deposit<S: Alter>(
+    tx: &mut Transaction<'_, S>,
+    number: u32,
+    accession: &str,
+    collection: &str,
+    class: &str,
+    closed: i64,
+    deposited: i64,
+    files: i64,
+    bytes: i64,
+) -> Result<(), TableFault>
+    ensures same_reference { tx.new.conn.ghost_name ≡ tx.old.conn.ghost_name }
+    ensures stays { Stays (state S.Store tx.old.conn.now) (state S.Store tx.new.conn.now) }
+    ensures goes_on { HasCleanDisk (state S.Store tx.new.conn.now) → OnOk result (GoesOn (state S.Store tx.old.conn.now) (state S.Store tx.new.conn.now)) }
+    ensures becomes { HasCleanDisk (state S.Store tx.new.conn.now) → IsOffice (state S.Store tx.old.conn.now).now
+        → DepositsBelow (pos number) (tables_of (state S.Store tx.old.conn.now).now).deposits → OnOk result (
+        Becomes (state S.Store tx.new.conn.now).now (with_deposit (record {
+          number = pos number;
+          accession = accession.now;
+          collection = collection.now;
+          class = class.now;
+          closed = closed;
+          deposited = deposited;
+          files = files;
+          bytes = bytes;
+          gone = None;
+        }) (tables_of (state S.Store tx.old.conn.now).now))) }
+{
+    change(
+        tx,
+        "INSERT INTO deposit (number, accession, collection, class, closed, deposited, files, bytes) VALUES (?1, ?2, ?3, ?4, ?5, ?6, ?7, ?8)",
+        params![
+            number, accession, collection, class, closed, deposited, files, bytes
+        ],
+    )?;
+    Ok(())
+}
+
+/// Sets the day when the deposit of that number was destroyed; where there is no such deposit, nothing changes.
+///
+/// Fails with `Memory` or `Store`.
+pub fn mark_gone<S: Alter>(
+    tx: &mut Transaction<'_, S>,
+    number: u32,
+    day: i64,
+) -> Result<(), TableFault>
+    ensures same_reference { tx.new.conn.ghost_name ≡ tx.old.conn.ghost_name }
+    ensures stays { Stays (state S.Store tx.old.conn.now) (state S.Store tx.new.conn.now) }
+    ensures goes_on { HasCleanDisk (state S.Store tx.new.conn.now) → OnOk result (GoesOn (state S.Store tx.old.conn.now) (state S.Store tx.new.conn.now)) }
+    ensures becomes { HasCleanDisk (state S.Store tx.new.conn.now) → IsOffice (state S.Store tx.old.conn.now).now → OnOk result (
+        Becomes (state S.Store tx.new.conn.now).now (with_gone (pos number) day (tables_of (state S.Store tx.old.conn.now).now))) }
+{
+    change(
+        tx,
+        "UPDATE deposit SET gone = ?2 WHERE number = ?1",
+        params![number, day],
+    )?;
+    Ok(())
+}

@@ -1,0 +1,42 @@
+//! Why a call on the tables fails.
+
+use sqlite::{Error, ErrorCode};
+use std::alloc::{AllocError, AllocFailed};
+
+/// Why a call on the tables fails. Its text is its code.
+#[derive(Clone, Copy, Debug, PartialEq, Eq, thiserror::Error)]
+pub enum TableFault {
+    /// Q1: the database has no table `office` with its columns, or no row 1 in it of whole numbers with limits in range.
+    #[error("Q1")]
+    NotAnOffice,
+    /// Q2: the office has tables of another version.
+    #[error("Q2")]
+    OtherVersion,
+    /// Q3: the store answers want of memory, or a growth was refused.
+    #[error("Q3")]
+    Memory,
+    /// Q4: the store names another cause, or holds a value that no row of this crate can have.
+    #[error("Q4")]
+    Store,
+}
+
+impl From<Error> for TableFault {
+    fn from(error: Error) -> TableFault {
+        match error {
+            Error::SqliteFailure(ErrorCode::OutOfMemory) => TableFault::Memory,
+            _ => TableFault::Store,
+        }
+    }
+}
+
+impl From<AllocError> for TableFault {
+    fn from(_: AllocError) -> TableFault {
+        TableFault::Memory
+    }
+}
+
+impl<T: Drop> From<AllocFailed<T>> for TableFault {
+    fn from(_: AllocFailed<T>) -> TableFault {
+        TableFault::Memory
+    }
+}

@@ -1,0 +1,174 @@
+//! The files of deposits.
+
+ghost use Rattle.std.specs.Prelude.{◌≡◌, IfOk, OnOk, pos, map, option_map, slice_get};
+ghost use Rattle.sqlite.specs.State.{HasCleanDisk};
+ghost use Rattle.sqlite.specs.Held.{state};
+ghost use Rattle.sql_meaning.specs.Inside.{Stays, GoesOn};
+ghost use Rattle.sql_meaning.specs.Columns.{bytes_at};
+ghost use Rattle.office_tables.specs.Rows.{file_at, with_file, without_files};
+ghost use Rattle.office_tables.specs.Tables.{IsOffice, Becomes, tables_of};
+ghost use Rattle.office_tables.specs.Deposits.{shown_file, files_by_path};
+
+use crate::fault::TableFault;
+use crate::run::{ask, change};
+use sqlite::{Alter, Row, Transaction, params};
+use std::alloc::Global;
+use std::marker::Model;
+
+/// A file of a deposit.
+#[derive(Debug, Drop)]
+pub struct FileRow {
+    /// The number of its deposit.
+    pub deposit: u32,
+    pub path: String,
+    pub content: Vec<u8>,
+}
+
+impl Model for FileRow {
+    ghost use Rattle.std.specs.Prelude.{List, ℕ, ℤ, string_bytes, refl, pos};
+    ghost use Rattle.std.specs.Coded.{code_by, coded×, coded_list, coded_ℕ, coded_ℤ};
+    ghost use Rattle.office_tables.specs.Rows.{FileRow as File};
+
+    ghost Value = { File };
+
+    ghost coded = { code_by (ℤ × (List ℕ × List ℕ)) (coded× coded_ℤ (coded× (coded_list coded_ℕ) (coded_list coded_ℕ)))
+        (λ (f : File). (f.deposit, (f.path, f.content))) (λ p. record { deposit = p.0; path = p.1.0; content = p.1.1 }) (λ _. refl) };
+
+    ghost view = { λ f. record { deposit = pos f.deposit; path = string_bytes f.path; content = f.content.items } };
+}
+
+/// Adds a file to the deposit of that number.
+///
+/// Fails with `Store` where the deposit has a file of that path, and with `Memory` or `Store`.
+pub fn put_file<S: Alter>(
+    tx: &mut Transaction<'_, S>,
+    number: u32,
+    path: &str,
+    content: &[u8],
+) -> Result<(), TableFault>
+    ensures same_reference { tx.new.conn.ghost_name ≡ tx.old.conn.ghost_name }
+    ensures stays { Stays (state S.Store tx.old.conn.now) (state S.Store tx.new.conn.now) }
+    ensures goes_on { HasCleanDisk (state S.Store tx.new.conn.now) → OnOk result (GoesOn (state S.Store tx.old.conn.now) (state S.Store tx.new.conn.now)) }
+    ensures becomes { HasCleanDisk (state S.Store tx.new.conn.now) → IsOffice (state S.Store tx.old.conn.now).now → OnOk result (
+        Becomes (state S.Store tx.new.conn.now).now (with_file (record { deposit = pos number; path = path.now; content = content.now }) (tables_of (state S.Store tx.old.conn.now).now))) }
+{
+    change(
+        tx,
+        "INSERT INTO file (deposit, path, content) VALUES (?1, ?2, ?3)",
+        params![number, path, content],
+    )?;
+    Ok(())
+}
+
+/// The row that shows the content of the file of that deposit and path, if there is one.
+fn rows_of_file<S: Alter>(
+    tx: &mut Transaction<'_, S>,
+    number: u32,
+    path: &str,
+) -> Result<Vec<Row>, TableFault>
+    ensures same_reference { tx.new.conn.ghost_name ≡ tx.old.conn.ghost_name }
+    ensures stays { Stays (state S.Store tx.old.conn.now) (state S.Store tx.new.conn.now) }
+    ensures goes_on { HasCleanDisk (state S.Store tx.new.conn.now) → OnOk result (GoesOn (state S.Store tx.old.conn.now) (state S.Store tx.new.conn.now)) }
+    ensures found { HasCleanDisk (state S.Store tx.new.conn.now) → IsOffice (state S.Store tx.old.conn.now).now → IfOk result (λ rows.
+        ((state S.Store tx.new.conn.now).now ≡ (state S.Store tx.old.conn.now).now)
+        × (option_map (λ f. f.content) (file_at (pos number) path.now (tables_of (state S.Store tx.old.conn.now).now).files) ≡ option_map (λ row. bytes_at row 0) (slice_get rows.items 0))) }
+{
+    ask(
+        tx,
+        "SELECT content FROM file WHERE deposit = ?1 AND path = ?2",
+        params![number, path],
+    )
+}
+
+/// The content of the file of that deposit and path; `None` where there is no such file.
+///
+/// Fails with `Memory` or `Store`.
+pub fn file_of<S: Alter>(
+    tx: &mut Transaction<'_, S>,
+    number: u32,
+    path: &str,
+) -> Result<Option<Vec<u8>>, TableFault>
+    ensures same_reference { tx.new.conn.ghost_name ≡ tx.old.conn.ghost_name }
+    ensures stays { Stays (state S.Store tx.old.conn.now) (state S.Store tx.new.conn.now) }
+    ensures goes_on { HasCleanDisk (state S.Store tx.new.conn.now) → OnOk result (GoesOn (state S.Store tx.old.conn.now) (state S.Store tx.new.conn.now)) }
+    ensures same { HasCleanDisk (state S.Store tx.new.conn.now) → IsOffice (state S.Store tx.old.conn.now).now → OnOk result ((state S.Store tx.new.conn.now).now ≡ (state S.Store tx.old.conn.now).now) }
+    ensures found { HasCleanDisk (state S.Store tx.new.conn.now) → IsOffice (state S.Store tx.old.conn.now).now → IfOk result (λ found.
+        option_map (λ content. content.items) found ≡ option_map (λ f. f.content) (file_at (pos number) path.now (tables_of (state S.Store tx.old.conn.now).now).files)) }
+{
+    let rows = rows_of_file(tx, number, path)?;
+    match rows.first() {
+        Some(row) => Ok(Some(row.get(0)?)),
+        None => Ok(None),
+    }
+}
+
+/// Drops every file of the deposit of that number.
+///
+/// Fails with `Memory` or `Store`.
+pub fn drop_files<S: Alter>(tx: &mut Transaction<'_, S>, number: u32) -> Result<(), TableFault>
+    ensures same_reference { tx.new.conn.ghost_name ≡ tx.old.conn.ghost_name }
+    ensures stays { Stays (state S.Store tx.old.conn.now) (state S.Store tx.new.conn.now) }
+    ensures goes_on { HasCleanDisk (state S.Store tx.new.conn.now) → OnOk result (GoesOn (state S.Store tx.old.conn.now) (state S.Store tx.new.conn.now)) }
+    ensures becomes { HasCleanDisk (state S.Store tx.new.conn.now) → IsOffice (state S.Store tx.old.conn.now).now → OnOk result (
+        Becomes (state S.Store tx.new.conn.now).now (without_files (pos number) (tables_of (state S.Store tx.old.conn.now).now))) }
+{
+    change(tx, "DELETE FROM file WHERE deposit = ?1", params![number])?;
+    Ok(())
+}
+
+/// The file that a row shows.
+fn file_in(row: &Row) -> Result<FileRow, TableFault>
+    ensures { IfOk result (λ file. file ≡ shown_file row.now) }
+{
+    Ok(FileRow {
+        deposit: row.get(0)?,
+        path: row.get(1)?,
+        content: row.get(2)?,
+    })
+}
+
+/// The files that the rows show.
+fn files_in(alloc: Global, rows: &[Row]) -> Result<Vec<FileRow>, TableFault>
+    ensures { IfOk result (λ all. all.items ≡ map shown_file rows.now) }
+{
+    let mut all = Vec::new(alloc);
+    for row in rows {
+        all.push(file_in(row)?)?;
+    }
+    Ok(all)
+}
+
+/// The rows that show the files of the deposit, ascending by path.
+fn rows_of_files<S: Alter>(tx: &mut Transaction<'_, S>, number: u32) -> Result<Vec<Row>, TableFault>
+    ensures same_reference { tx.new.conn.ghost_name ≡ tx.old.conn.ghost_name }
+    ensures stays { Stays (state S.Store tx.old.conn.now) (state S.Store tx.new.conn.now) }
+    ensures goes_on { HasCleanDisk (state S.Store tx.new.conn.now) → OnOk result (GoesOn (state S.Store tx.old.conn.now) (state S.Store tx.new.conn.now)) }
+    ensures found { HasCleanDisk (state S.Store tx.new.conn.now) → IsOffice (state S.Store tx.old.conn.now).now → IfOk result (λ rows.
+        ((state S.Store tx.new.conn.now).now ≡ (state S.Store tx.old.conn.now).now)
+        × (files_by_path (pos number) (tables_of (state S.Store tx.old.conn.now).now) ≡ map shown_file rows.items)) }
+{
+    ask(
+        tx,
+        "SELECT deposit, path, content FROM file WHERE deposit = ?1 ORDER BY path",
+        params![number],
+    )
+}
+
+/// The files of the deposit of that number, ascending by path, byte by byte.
+///
+/// Fails with `Memory` or `Store`.
+pub fn files_of<S: Alter>(
+    alloc: Global,
+    tx: &mut Transaction<'_, S>,
+    number: u32,
+) -> Result<Vec<FileRow>, TableFault>
+    ensures same_reference { tx.new.conn.ghost_name ≡ tx.old.conn.ghost_name }
+    ensures stays { Stays (state S.Store tx.old.conn.now) (state S.Store tx.new.conn.now) }
+    ensures goes_on { HasCleanDisk (state S.Store tx.new.conn.now) → OnOk result (GoesOn (state S.Store tx.old.conn.now) (state S.Store tx.new.conn.now)) }
+    ensures same { HasCleanDisk (state S.Store tx.new.conn.now) → IsOffice (state S.Store tx.old.conn.now).now → OnOk result ((state S.Store tx.new.conn.now).now ≡ (state S.Store tx.old.conn.now).now) }
+    ensures found { HasCleanDisk (state S.Store tx.new.conn.now) → IsOffice (state S.Store tx.old.conn.now).now → IfOk result (λ all.
+        all.items ≡ files_by_path (pos number) (tables_of (state S.Store tx.old.conn.now).now)) }
+{
+    let rows = rows_of_files(tx, number)?;
+    files_in(alloc, &rows)
+}

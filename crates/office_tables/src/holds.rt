@@ -1,0 +1,251 @@
+//! Holds.
+
+ghost use Rattle.std.specs.Prelude.{◌≡◌, ℕ, IfOk, OnOk, pos, Some, None, map, option_map, slice_get};
+ghost use Rattle.sqlite.specs.State.{HasCleanDisk};
+ghost use Rattle.sqlite.specs.Held.{state};
+ghost use Rattle.sql_meaning.specs.Inside.{Stays, GoesOn};
+ghost use Rattle.sql_meaning.specs.Columns.{int_at};
+ghost use Rattle.office_tables.specs.Rows.{hold_numbered, last_number, with_hold, with_released, live_holds, HoldsBelow};
+ghost use Rattle.office_tables.specs.Tables.{IsOffice, Becomes, tables_of};
+ghost use Rattle.office_tables.specs.ShownHolds.{shown_hold};
+
+use crate::fault::TableFault;
+use crate::run::{ask, change, number_in};
+use sqlite::{Alter, Row, Transaction, params};
+use std::alloc::Global;
+use std::marker::Model;
+
+/// A hold on a deposit, or on each deposit of a collection.
+#[derive(Debug, Drop)]
+pub struct HoldRow {
+    pub number: u32,
+    /// The number of the deposit that is held.
+    pub deposit: Option<u32>,
+    /// The name of the collection that is held.
+    pub collection: Option<String>,
+    pub matter: String,
+    /// The day when it was placed, as a day number.
+    pub placed: i64,
+    /// The day when it was released, as a day number; `None` while it is live.
+    pub released: Option<i64>,
+}
+
+impl Model for HoldRow {
+    ghost use Rattle.std.specs.Prelude.{List, ℕ, ℤ, Option, option_map, string_bytes, refl, pos};
+    ghost use Rattle.std.specs.Coded.{code_by, coded×, coded_list, coded_option, coded_ℕ, coded_ℤ};
+    ghost use Rattle.office_tables.specs.Rows.{HoldRow as Hold};
+
+    ghost Value = { Hold };
+
+    ghost coded = { code_by (ℤ × (Option ℤ × (Option (List ℕ) × (List ℕ × (ℤ × Option ℤ)))))
+        (coded× coded_ℤ (coded× (coded_option coded_ℤ) (coded× (coded_option (coded_list coded_ℕ)) (coded× (coded_list coded_ℕ) (coded× coded_ℤ (coded_option coded_ℤ))))))
+        (λ (h : Hold). (h.number, (h.deposit, (h.collection, (h.matter, (h.placed, h.released))))))
+        (λ p. record { number = p.0; deposit = p.1.0; collection = p.1.1.0; matter = p.1.1.1.0; placed = p.1.1.1.1.0; released = p.1.1.1.1.1 })
+        (λ _. refl) };
+
+    ghost view = { λ h. record {
+      number = pos h.number;
+      deposit = option_map pos h.deposit;
+      collection = option_map string_bytes h.collection;
+      matter = string_bytes h.matter;
+      placed = h.placed;
+      released = h.released;
+    } };
+}
+
+/// The hold in a row that a query shows.
+fn hold_in(row: &Row) -> Result<HoldRow, TableFault>
+    ensures { IfOk result (λ hold. hold ≡ shown_hold row.now) }
+{
+    Ok(HoldRow {
+        number: row.get(0)?,
+        deposit: row.get(1)?,
+        collection: row.get(2)?,
+        matter: row.get(3)?,
+        placed: row.get(4)?,
+        released: row.get(5)?,
+    })
+}
+
+/// The row that shows the hold of that number, if there is one.
+fn rows_of_hold<S: Alter>(tx: &mut Transaction<'_, S>, number: u32) -> Result<Vec<Row>, TableFault>
+    ensures same_reference { tx.new.conn.ghost_name ≡ tx.old.conn.ghost_name }
+    ensures stays { Stays (state S.Store tx.old.conn.now) (state S.Store tx.new.conn.now) }
+    ensures goes_on { HasCleanDisk (state S.Store tx.new.conn.now) → OnOk result (GoesOn (state S.Store tx.old.conn.now) (state S.Store tx.new.conn.now)) }
+    ensures found { HasCleanDisk (state S.Store tx.new.conn.now) → IsOffice (state S.Store tx.old.conn.now).now → IfOk result (λ rows.
+        ((state S.Store tx.new.conn.now).now ≡ (state S.Store tx.old.conn.now).now)
+        × (hold_numbered (pos number) (tables_of (state S.Store tx.old.conn.now).now).holds ≡ option_map shown_hold (slice_get rows.items 0))) }
+{
+    ask(
+        tx,
+        "SELECT number, deposit, collection, matter, placed, released FROM hold WHERE number = ?1",
+        params![number],
+    )
+}
+
+/// The hold of that number, if there is one.
+///
+/// Fails with `Memory` or `Store`.
+pub fn hold_row<S: Alter>(
+    tx: &mut Transaction<'_, S>,
+    number: u32,
+) -> Result<Option<HoldRow>, TableFault>
+    ensures same_reference { tx.new.conn.ghost_name ≡ tx.old.conn.ghost_name }
+    ensures stays { Stays (state S.Store tx.old.conn.now) (state S.Store tx.new.conn.now) }
+    ensures goes_on { HasCleanDisk (state S.Store tx.new.conn.now) → OnOk result (GoesOn (state S.Store tx.old.conn.now) (state S.Store tx.new.conn.now)) }
+    ensures same { HasCleanDisk (state S.Store tx.new.conn.now) → IsOffice (state S.Store tx.old.conn.now).now → OnOk result ((state S.Store tx.new.conn.now).now ≡ (state S.Store tx.old.conn.now).now) }
+    ensures found { HasCleanDisk (state S.Store tx.new.conn.now) → IsOffice (state S.Store tx.old.conn.now).now → IfOk result (λ found.
+        found ≡ hold_numbered (pos number) (tables_of (state S.Store tx.old.conn.now).now).holds) }
+{
+    let rows = rows_of_hold(tx, number)?;
+    match rows.first() {
+        Some(row) => Ok(Some(hold_in(row)?)),
+        None => Ok(None),
+    }
+}
+
+/// The row that shows the number of the last hold, if there is one.
+fn rows_of_last<S: Alter>(tx: &mut Transaction<'_, S>) -> Result<Vec<Row>, TableFault>
+    ensures same_reference { tx.new.conn.ghost_name ≡ tx.old.conn.ghost_name }
+    ensures stays { Stays (state S.Store tx.old.conn.now) (state S.Store tx.new.conn.now) }
+    ensures goes_on { HasCleanDisk (state S.Store tx.new.conn.now) → OnOk result (GoesOn (state S.Store tx.old.conn.now) (state S.Store tx.new.conn.now)) }
+    ensures found { HasCleanDisk (state S.Store tx.new.conn.now) → IsOffice (state S.Store tx.old.conn.now).now → IfOk result (λ rows.
+        ((state S.Store tx.new.conn.now).now ≡ (state S.Store tx.old.conn.now).now)
+        × (last_number (λ h. h.number) (tables_of (state S.Store tx.old.conn.now).now).holds ≡ option_map (λ row. int_at row 0) (slice_get rows.items 0))) }
+{
+    ask(
+        tx,
+        "SELECT number FROM hold ORDER BY number DESC LIMIT 1",
+        &[],
+    )
+}
+
+/// A number in the first column of a row.
+fn first_number(row: &Row) -> Result<u32, TableFault>
+    ensures { IfOk result (λ number. pos number ≡ int_at row.now 0) }
+{
+    Ok(row.get(0)?)
+}
+
+/// The number of the last hold, which is the highest; `None` where there is no hold.
+///
+/// Fails with `Memory` or `Store`.
+pub fn last_hold<S: Alter>(tx: &mut Transaction<'_, S>) -> Result<Option<u32>, TableFault>
+    ensures same_reference { tx.new.conn.ghost_name ≡ tx.old.conn.ghost_name }
+    ensures stays { Stays (state S.Store tx.old.conn.now) (state S.Store tx.new.conn.now) }
+    ensures goes_on { HasCleanDisk (state S.Store tx.new.conn.now) → OnOk result (GoesOn (state S.Store tx.old.conn.now) (state S.Store tx.new.conn.now)) }
+    ensures same { HasCleanDisk (state S.Store tx.new.conn.now) → IsOffice (state S.Store tx.old.conn.now).now → OnOk result ((state S.Store tx.new.conn.now).now ≡ (state S.Store tx.old.conn.now).now) }
+    ensures found { HasCleanDisk (state S.Store tx.new.conn.now) → IsOffice (state S.Store tx.old.conn.now).now → IfOk result (λ found.
+        option_map pos found ≡ last_number (λ h. h.number) (tables_of (state S.Store tx.old.conn.now).now).holds) }
+{
+    let rows = rows_of_last(tx)?;
+    match rows.first() {
+        Some(row) => Ok(Some(first_number(row)?)),
+        None => Ok(None),
+    }
+}
+
+/// Adds a live hold on the deposit or the collection, placed on that day. Its number is to be above all others.
+///
+/// Fails with `Memory` or `Store`, as where there is a hold of that number.
+pub fn put_hold<S: Alter>(
+    tx: &mut Transaction<'_, S>,
+    number: u32,
+    deposit: Option<u32>,
+    collection: Option<&str>,
+    matter: &str,
+    placed: i64,
+) -> Result<(), TableFault>
+    ensures same_reference { tx.new.conn.ghost_name ≡ tx.old.conn.ghost_name }
+    ensures stays { Stays (state S.Store tx.old.conn.now) (state S.Store tx.new.conn.now) }
+    ensures goes_on { HasCleanDisk (state S.Store tx.new.conn.now) → OnOk result (GoesOn (state S.Store tx.old.conn.now) (state S.Store tx.new.conn.now)) }
+    ensures becomes { HasCleanDisk (state S.Store tx.new.conn.now) → IsOffice (state S.Store tx.old.conn.now).now
+        → HoldsBelow (pos number) (tables_of (state S.Store tx.old.conn.now).now).holds → OnOk result (
+        Becomes (state S.Store tx.new.conn.now).now (with_hold (record {
+          number = pos number;
+          deposit = option_map pos deposit;
+          collection = option_map (λ c. c.now) collection.entry;
+          matter = matter.now;
+          placed = placed;
+          released = None;
+        }) (tables_of (state S.Store tx.old.conn.now).now))) }
+{
+    change(
+        tx,
+        "INSERT INTO hold (number, deposit, collection, matter, placed) VALUES (?1, ?2, ?3, ?4, ?5)",
+        params![number, deposit, collection, matter, placed],
+    )?;
+    Ok(())
+}
+
+/// Releases the hold of that number on that day; where there is none, nothing changes.
+///
+/// Fails with `Memory` or `Store`.
+pub fn end_hold<S: Alter>(
+    tx: &mut Transaction<'_, S>,
+    number: u32,
+    day: i64,
+) -> Result<(), TableFault>
+    ensures same_reference { tx.new.conn.ghost_name ≡ tx.old.conn.ghost_name }
+    ensures stays { Stays (state S.Store tx.old.conn.now) (state S.Store tx.new.conn.now) }
+    ensures goes_on { HasCleanDisk (state S.Store tx.new.conn.now) → OnOk result (GoesOn (state S.Store tx.old.conn.now) (state S.Store tx.new.conn.now)) }
+    ensures becomes { HasCleanDisk (state S.Store tx.new.conn.now) → IsOffice (state S.Store tx.old.conn.now).now → OnOk result (
+        Becomes (state S.Store tx.new.conn.now).now (with_released (pos number) day (tables_of (state S.Store tx.old.conn.now).now))) }
+{
+    change(
+        tx,
+        "UPDATE hold SET released = ?2 WHERE number = ?1",
+        params![number, day],
+    )?;
+    Ok(())
+}
+
+/// The rows that show the numbers of the live holds over a deposit of that collection.
+fn rows_of_live_holds<S: Alter>(
+    tx: &mut Transaction<'_, S>,
+    deposit: u32,
+    collection: &str,
+) -> Result<Vec<Row>, TableFault>
+    ensures same_reference { tx.new.conn.ghost_name ≡ tx.old.conn.ghost_name }
+    ensures stays { Stays (state S.Store tx.old.conn.now) (state S.Store tx.new.conn.now) }
+    ensures goes_on { HasCleanDisk (state S.Store tx.new.conn.now) → OnOk result (GoesOn (state S.Store tx.old.conn.now) (state S.Store tx.new.conn.now)) }
+    ensures found { HasCleanDisk (state S.Store tx.new.conn.now) → IsOffice (state S.Store tx.old.conn.now).now → IfOk result (λ rows.
+        ((state S.Store tx.new.conn.now).now ≡ (state S.Store tx.old.conn.now).now)
+        × (live_holds (pos deposit) collection.now (tables_of (state S.Store tx.old.conn.now).now) ≡ map (λ row. int_at row 0) rows.items)) }
+{
+    ask(
+        tx,
+        "SELECT number FROM hold WHERE released IS NULL AND (deposit = ?1 OR collection = ?2) ORDER BY number",
+        params![deposit, collection],
+    )
+}
+
+/// The numbers in the first column of the rows that a query shows.
+fn numbers_in(alloc: Global, rows: &[Row]) -> Result<Vec<u32>, TableFault>
+    ensures { IfOk result (λ numbers. map pos numbers.items ≡ map (λ row. int_at row 0) rows.now) }
+{
+    let mut numbers = Vec::new(alloc);
+    for row in rows {
+        numbers.push(first_number(row)?)?;
+    }
+    Ok(numbers)
+}
+
+/// The numbers of the live holds on the deposit of that number or on the collection of that name, ascending.
+///
+/// Fails with `Memory` or `Store`.
+pub fn live_holds<S: Alter>(
+    tx: &mut Transaction<'_, S>,
+    deposit: u32,
+    collection: &str,
+) -> Result<Vec<u32>, TableFault>
+    ensures same_reference { tx.new.conn.ghost_name ≡ tx.old.conn.ghost_name }
+    ensures stays { Stays (state S.Store tx.old.conn.now) (state S.Store tx.new.conn.now) }
+    ensures goes_on { HasCleanDisk (state S.Store tx.new.conn.now) → OnOk result (GoesOn (state S.Store tx.old.conn.now) (state S.Store tx.new.conn.now)) }
+    ensures same { HasCleanDisk (state S.Store tx.new.conn.now) → IsOffice (state S.Store tx.old.conn.now).now → OnOk result ((state S.Store tx.new.conn.now).now ≡ (state S.Store tx.old.conn.now).now) }
+    ensures found { HasCleanDisk (state S.Store tx.new.conn.now) → IsOffice (state S.Store tx.old.conn.now).now → IfOk result (λ numbers.
+        map pos numbers.items ≡ live_holds (pos deposit) collection.now (tables_of (state S.Store tx.old.conn.now).now)) }
+{
+    let rows = rows_of_live_holds(tx, deposit, collection)?;
+    numbers_in(*rows.allocator(), &rows)
+}

@@ -1,0 +1,150 @@
+//! Opening an office, and its limits.
+
+ghost use Rattle.std.specs.Prelude.{ℕ, ℤ, pos, [], Ok, Err, ◌≡◌, ◌≢◌, true, false, MatchOption, All, Contains, IfOk, OnOk, IsTrue, Some, option_map, slice_get};
+ghost use Rattle.sqlite.specs.State.{HasCleanDisk, Survives};
+ghost use Rattle.sqlite.specs.Held.{state};
+ghost use Rattle.sqlite.specs.Order.{Row as SqlRow, column};
+ghost use Rattle.sqlite.specs.declared.types.Value.TheVariants.{Int};
+ghost use Rattle.sql_meaning.specs.Inside.{Stays, GoesOn};
+ghost use Rattle.office_tables.specs.Rows.{limits_of};
+ghost use Rattle.office_tables.specs.Tables.{IsOffice, tables_of, shown_limits};
+ghost use Rattle.office_tables.specs.Opening.{shows_office, ShowsVersion, has_office, HasVersion, NotAnOffice, IsKept};
+
+use crate::fault::TableFault;
+use crate::run::ask;
+use sqlite::types::ValueRef;
+use sqlite::{Alter, Connection, Row, Transaction, params};
+use sqlite_schema::schema::Schema;
+
+/// The version that a row tells, where it is the row of an office.
+fn version_in(row: &Row) -> Option<i64>
+    ensures { MatchOption result (shows_office row.now ≡ false) (λ version. (shows_office row.now ≡ true) × (column row.now 1 ≡ Int version)) }
+{
+    let Ok(ValueRef::Int(1)) = row.get_ref(0) else {
+        return None;
+    };
+    let Ok(ValueRef::Int(version)) = row.get_ref(1) else {
+        return None;
+    };
+    let Ok(ValueRef::Int(1..=1_000_000)) = row.get_ref(2) else {
+        return None;
+    };
+    let Ok(ValueRef::Int(1..=1_000_000)) = row.get_ref(3) else {
+        return None;
+    };
+    Some(version)
+}
+
+/// The version that the first row of an office among these tells.
+fn version_among(rows: &[Row]) -> Option<i64>
+    ensures { MatchOption result (All (λ row. shows_office row ≡ false) rows.now) (λ version. (row : SqlRow) × Contains rows.now row × (shows_office row ≡ true) × (column row 1 ≡ Int version)) }
+{
+    for row in rows {
+        if let Some(version) = version_in(row) {
+            return Some(version);
+        }
+    }
+    None
+}
+
+/// The version that the table `office` shows.
+fn look<S: Alter>(tx: &mut Transaction<'_, S>) -> Result<Option<i64>, TableFault>
+    ensures same_reference { tx.new.conn.ghost_name ≡ tx.old.conn.ghost_name }
+    ensures stays { Stays (state S.Store tx.old.conn.now) (state S.Store tx.new.conn.now) }
+    ensures shown { HasCleanDisk (state S.Store tx.new.conn.now) → IfOk result (ShowsVersion (state S.Store tx.old.conn.now).now) }
+{
+    let rows = ask(
+        tx,
+        "SELECT id, version, max_deposits, max_holds FROM office",
+        &[],
+    )?;
+    Ok(version_among(&rows))
+}
+
+/// Whether the schema has a table `office` with its columns.
+fn has_office(schema: &Schema) -> bool
+    ensures { result ≡ has_office schema.now }
+{
+    let Some(at) = schema.table_named(b"office") else {
+        return false;
+    };
+    let Some(table) = schema.tables.as_slice().get(at) else {
+        return false;
+    };
+    table.column_named(b"id").is_some()
+        && table.column_named(b"version").is_some()
+        && table.column_named(b"max_deposits").is_some()
+        && table.column_named(b"max_holds").is_some()
+}
+
+/// Finds whether the database is an office whose tables are of version 1. No answer changes anything.
+///
+/// Fails with `NotAnOffice` where there is no table `office` with its columns, or no row 1 in it of whole numbers with limits from
+/// 1 to 1,000,000; with `OtherVersion` where that row has another version; with `Memory` or `Store`.
+pub fn open_tables<S: Alter>(conn: &mut Connection<S>) -> Result<(), TableFault>
+    requires outside { (state S.Store conn.old).in_transaction ≡ false }
+    ensures outside { (state S.Store conn.new).in_transaction ≡ false }
+    ensures survives { Survives (state S.Store conn.old) (state S.Store conn.new) (λ _. ⊥) }
+    ensures same { HasCleanDisk (state S.Store conn.new) → IsKept (state S.Store conn.old) (state S.Store conn.new) }
+    ensures opened { HasCleanDisk (state S.Store conn.new) → OnOk result (IsTrue (has_office (state S.Store conn.old).now.schema) × HasVersion (state S.Store conn.old).now (pos 1)) }
+    ensures not_office { HasCleanDisk (state S.Store conn.new) → result ≡ Err TableFault.NotAnOffice → NotAnOffice (state S.Store conn.old).now }
+    ensures other_version { HasCleanDisk (state S.Store conn.new) → result ≡ Err TableFault.OtherVersion → (version : ℤ) × (version ≢ pos 1) × HasVersion (state S.Store conn.old).now version }
+{
+    if !has_office(conn.schema()) {
+        return Err(TableFault::NotAnOffice);
+    }
+    let mut tx = conn.transaction();
+    let seen = look(&mut tx);
+    tx.rollback();
+    match seen {
+        Ok(Some(1)) => Ok(()),
+        Ok(Some(_)) => Err(TableFault::OtherVersion),
+        Ok(None) => Err(TableFault::NotAnOffice),
+        Err(TableFault::Memory) => Err(TableFault::Memory),
+        Err(_) => Err(TableFault::Store),
+    }
+}
+
+/// How many deposits and holds an office may have at most.
+#[derive(Clone, Copy, Debug, PartialEq, Eq)]
+pub struct OfficeLimits {
+    pub max_deposits: u32,
+    pub max_holds: u32,
+}
+
+/// The row that shows the limits.
+fn rows_of_limits<S: Alter>(tx: &mut Transaction<'_, S>) -> Result<Vec<Row>, TableFault>
+    ensures same_reference { tx.new.conn.ghost_name ≡ tx.old.conn.ghost_name }
+    ensures stays { Stays (state S.Store tx.old.conn.now) (state S.Store tx.new.conn.now) }
+    ensures goes_on { HasCleanDisk (state S.Store tx.new.conn.now) → OnOk result (GoesOn (state S.Store tx.old.conn.now) (state S.Store tx.new.conn.now)) }
+    ensures found { HasCleanDisk (state S.Store tx.new.conn.now) → IsOffice (state S.Store tx.old.conn.now).now → IfOk result (λ rows.
+        ((state S.Store tx.new.conn.now).now ≡ (state S.Store tx.old.conn.now).now)
+        × (limits_of (tables_of (state S.Store tx.old.conn.now).now) ≡ option_map shown_limits (slice_get rows.items 0))) }
+{
+    ask(
+        tx,
+        "SELECT max_deposits, max_holds FROM office WHERE id = ?1",
+        params![1u32],
+    )
+}
+
+/// The limits of the office.
+///
+/// Fails with `Store` where it has none that fit, and with `Memory` or `Store`.
+pub fn limits<S: Alter>(tx: &mut Transaction<'_, S>) -> Result<OfficeLimits, TableFault>
+    ensures same_reference { tx.new.conn.ghost_name ≡ tx.old.conn.ghost_name }
+    ensures stays { Stays (state S.Store tx.old.conn.now) (state S.Store tx.new.conn.now) }
+    ensures goes_on { HasCleanDisk (state S.Store tx.new.conn.now) → OnOk result (GoesOn (state S.Store tx.old.conn.now) (state S.Store tx.new.conn.now)) }
+    ensures same { HasCleanDisk (state S.Store tx.new.conn.now) → IsOffice (state S.Store tx.old.conn.now).now → OnOk result ((state S.Store tx.new.conn.now).now ≡ (state S.Store tx.old.conn.now).now) }
+    ensures found { HasCleanDisk (state S.Store tx.new.conn.now) → IsOffice (state S.Store tx.old.conn.now).now → IfOk result (λ limits.
+        limits_of (tables_of (state S.Store tx.old.conn.now).now) ≡ Some (record { max_deposits = pos limits.max_deposits; max_holds = pos limits.max_holds })) }
+{
+    let rows = rows_of_limits(tx)?;
+    let Some(row) = rows.first() else {
+        return Err(TableFault::Store);
+    };
+    Ok(OfficeLimits {
+        max_deposits: row.get(0)?,
+        max_holds: row.get(1)?,
+    })
+}

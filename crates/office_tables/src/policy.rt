@@ -1,0 +1,291 @@
+//! The policy: the callers with their roles, and the rules.
+
+ghost use Rattle.std.specs.Prelude.{◌≡◌, ℕ, IfOk, OnOk, map, option_map, slice_get, string_bytes};
+ghost use Rattle.sqlite.specs.State.{HasCleanDisk};
+ghost use Rattle.sqlite.specs.Held.{state};
+ghost use Rattle.sql_meaning.specs.Inside.{Stays, GoesOn, Stands};
+ghost use Rattle.sql_meaning.specs.Columns.{bytes_at};
+ghost use Rattle.office_tables.specs.Rows.{caller_named, without_callers, without_rules, with_caller, with_rule, with_callers, with_rules, with_policy, RulesBelow, RulesFollow, PlacesRise};
+ghost use Rattle.office_tables.specs.Tables.{IsOffice, Becomes, tables_of};
+ghost use Rattle.office_tables.specs.ShownPolicy.{shown_rule};
+
+use crate::fault::TableFault;
+use crate::run::{ask, change};
+use sqlite::{Alter, Row, Transaction, params};
+use std::alloc::Global;
+use std::marker::Model;
+
+/// A caller and its role.
+#[derive(Debug, Drop)]
+pub struct CallerRow {
+    pub name: String,
+    pub role: String,
+}
+
+impl Model for CallerRow {
+    ghost use Rattle.std.specs.Prelude.{List, ℕ, string_bytes, refl};
+    ghost use Rattle.std.specs.Coded.{code_by, coded×, coded_list, coded_ℕ};
+    ghost use Rattle.office_tables.specs.Rows.{CallerRow as Caller};
+
+    ghost Value = { Caller };
+
+    ghost coded = { code_by (List ℕ × List ℕ) (coded× (coded_list coded_ℕ) (coded_list coded_ℕ)) (λ (c : Caller). (c.name, c.role)) (λ p. record { name = p.0; role = p.1 }) (λ _. refl) };
+
+    ghost view = { λ c. record { name = string_bytes c.name; role = string_bytes c.role } };
+}
+
+/// A rule of the policy.
+#[derive(Debug, Drop)]
+pub struct RuleRow {
+    /// Its place among the rules, from 1.
+    pub place: i64,
+    /// 1 allows, 0 denies.
+    pub effect: i64,
+    pub role: String,
+    pub action: String,
+    pub collection: String,
+    pub class: String,
+}
+
+impl Model for RuleRow {
+    ghost use Rattle.std.specs.Prelude.{List, ℕ, ℤ, string_bytes, refl};
+    ghost use Rattle.std.specs.Coded.{code_by, coded×, coded_list, coded_ℕ, coded_ℤ};
+    ghost use Rattle.office_tables.specs.Rows.{RuleRow as Rule};
+
+    ghost Value = { Rule };
+
+    ghost coded = { code_by (ℤ × (ℤ × (List ℕ × (List ℕ × (List ℕ × List ℕ)))))
+        (coded× coded_ℤ (coded× coded_ℤ (coded× (coded_list coded_ℕ) (coded× (coded_list coded_ℕ) (coded× (coded_list coded_ℕ) (coded_list coded_ℕ))))))
+        (λ (r : Rule). (r.place, (r.effect, (r.role, (r.action, (r.collection, r.class))))))
+        (λ p. record { place = p.0; effect = p.1.0; role = p.1.1.0; action = p.1.1.1.0; collection = p.1.1.1.1.0; class = p.1.1.1.1.1 })
+        (λ _. refl) };
+
+    ghost view = { λ r. record {
+      place = r.place;
+      effect = r.effect;
+      role = string_bytes r.role;
+      action = string_bytes r.action;
+      collection = string_bytes r.collection;
+      class = string_bytes r.class;
+    } };
+}
+
+/// The row that shows the role of the caller of that name, if there is one.
+fn rows_of_role<S: Alter>(tx: &mut Transaction<'_, S>, name: &str) -> Result<Vec<Row>, TableFault>
+    ensures same_reference { tx.new.conn.ghost_name ≡ tx.old.conn.ghost_name }
+    ensures stays { Stays (state S.Store tx.old.conn.now) (state S.Store tx.new.conn.now) }
+    ensures goes_on { HasCleanDisk (state S.Store tx.new.conn.now) → OnOk result (GoesOn (state S.Store tx.old.conn.now) (state S.Store tx.new.conn.now)) }
+    ensures found { HasCleanDisk (state S.Store tx.new.conn.now) → IsOffice (state S.Store tx.old.conn.now).now → IfOk result (λ rows.
+        ((state S.Store tx.new.conn.now).now ≡ (state S.Store tx.old.conn.now).now)
+        × (option_map (λ c. c.role) (caller_named name.now (tables_of (state S.Store tx.old.conn.now).now).callers) ≡ option_map (λ row. bytes_at row 0) (slice_get rows.items 0))) }
+{
+    ask(tx, "SELECT role FROM caller WHERE name = ?1", params![name])
+}
+
+/// A text in the first column of a row.
+fn first_text(row: &Row) -> Result<String, TableFault>
+    ensures { IfOk result (λ text. string_bytes text ≡ bytes_at row.now 0) }
+{
+    Ok(row.get(0)?)
+}
+
+/// The role of the caller of that name, if there is one.
+///
+/// Fails with `Memory` or `Store`.
+pub fn role_of<S: Alter>(
+    tx: &mut Transaction<'_, S>,
+    name: &str,
+) -> Result<Option<String>, TableFault>
+    ensures same_reference { tx.new.conn.ghost_name ≡ tx.old.conn.ghost_name }
+    ensures stays { Stays (state S.Store tx.old.conn.now) (state S.Store tx.new.conn.now) }
+    ensures goes_on { HasCleanDisk (state S.Store tx.new.conn.now) → OnOk result (GoesOn (state S.Store tx.old.conn.now) (state S.Store tx.new.conn.now)) }
+    ensures same { HasCleanDisk (state S.Store tx.new.conn.now) → IsOffice (state S.Store tx.old.conn.now).now → OnOk result ((state S.Store tx.new.conn.now).now ≡ (state S.Store tx.old.conn.now).now) }
+    ensures found { HasCleanDisk (state S.Store tx.new.conn.now) → IsOffice (state S.Store tx.old.conn.now).now → IfOk result (λ found.
+        option_map string_bytes found ≡ option_map (λ c. c.role) (caller_named name.now (tables_of (state S.Store tx.old.conn.now).now).callers)) }
+{
+    let rows = rows_of_role(tx, name)?;
+    match rows.first() {
+        Some(row) => Ok(Some(first_text(row)?)),
+        None => Ok(None),
+    }
+}
+
+/// The rows that show the rules.
+fn rows_of_rules<S: Alter>(tx: &mut Transaction<'_, S>) -> Result<Vec<Row>, TableFault>
+    ensures same_reference { tx.new.conn.ghost_name ≡ tx.old.conn.ghost_name }
+    ensures stays { Stays (state S.Store tx.old.conn.now) (state S.Store tx.new.conn.now) }
+    ensures goes_on { HasCleanDisk (state S.Store tx.new.conn.now) → OnOk result (GoesOn (state S.Store tx.old.conn.now) (state S.Store tx.new.conn.now)) }
+    ensures found { HasCleanDisk (state S.Store tx.new.conn.now) → IsOffice (state S.Store tx.old.conn.now).now → IfOk result (λ rows.
+        ((state S.Store tx.new.conn.now).now ≡ (state S.Store tx.old.conn.now).now)
+        × ((tables_of (state S.Store tx.old.conn.now).now).rules ≡ map shown_rule rows.items)) }
+{
+    ask(
+        tx,
+        "SELECT place, effect, role, action, collection, class FROM rule ORDER BY place",
+        &[],
+    )
+}
+
+/// The rule in a row that a query shows.
+fn rule_in(row: &Row) -> Result<RuleRow, TableFault>
+    ensures { IfOk result (λ rule. rule ≡ shown_rule row.now) }
+{
+    Ok(RuleRow {
+        place: row.get(0)?,
+        effect: row.get(1)?,
+        role: row.get(2)?,
+        action: row.get(3)?,
+        collection: row.get(4)?,
+        class: row.get(5)?,
+    })
+}
+
+/// The rules in the rows that a query shows.
+fn rules_in(alloc: Global, rows: &[Row]) -> Result<Vec<RuleRow>, TableFault>
+    ensures { IfOk result (λ rules. rules.items ≡ map shown_rule rows.now) }
+{
+    let mut rules = Vec::new(alloc);
+    for row in rows {
+        rules.push(rule_in(row)?)?;
+    }
+    Ok(rules)
+}
+
+/// The rules, ascending by place.
+///
+/// Fails with `Memory` or `Store`.
+pub fn rules<S: Alter>(tx: &mut Transaction<'_, S>) -> Result<Vec<RuleRow>, TableFault>
+    ensures same_reference { tx.new.conn.ghost_name ≡ tx.old.conn.ghost_name }
+    ensures stays { Stays (state S.Store tx.old.conn.now) (state S.Store tx.new.conn.now) }
+    ensures goes_on { HasCleanDisk (state S.Store tx.new.conn.now) → OnOk result (GoesOn (state S.Store tx.old.conn.now) (state S.Store tx.new.conn.now)) }
+    ensures same { HasCleanDisk (state S.Store tx.new.conn.now) → IsOffice (state S.Store tx.old.conn.now).now → OnOk result ((state S.Store tx.new.conn.now).now ≡ (state S.Store tx.old.conn.now).now) }
+    ensures found { HasCleanDisk (state S.Store tx.new.conn.now) → IsOffice (state S.Store tx.old.conn.now).now → IfOk result (λ rules.
+        rules.items ≡ (tables_of (state S.Store tx.old.conn.now).now).rules) }
+{
+    let rows = rows_of_rules(tx)?;
+    rules_in(*rows.allocator(), &rows)
+}
+
+/// Takes out each caller.
+fn drop_callers<S: Alter>(tx: &mut Transaction<'_, S>) -> Result<usize, TableFault>
+    ensures same_reference { tx.new.conn.ghost_name ≡ tx.old.conn.ghost_name }
+    ensures stays { Stays (state S.Store tx.old.conn.now) (state S.Store tx.new.conn.now) }
+    ensures goes_on { HasCleanDisk (state S.Store tx.new.conn.now) → OnOk result (GoesOn (state S.Store tx.old.conn.now) (state S.Store tx.new.conn.now)) }
+    ensures becomes { HasCleanDisk (state S.Store tx.new.conn.now) → IsOffice (state S.Store tx.old.conn.now).now → OnOk result (
+        Becomes (state S.Store tx.new.conn.now).now (without_callers (tables_of (state S.Store tx.old.conn.now).now))) }
+{
+    change(tx, "DELETE FROM caller", &[])
+}
+
+/// Takes out each rule.
+fn drop_rules<S: Alter>(tx: &mut Transaction<'_, S>) -> Result<usize, TableFault>
+    ensures same_reference { tx.new.conn.ghost_name ≡ tx.old.conn.ghost_name }
+    ensures stays { Stays (state S.Store tx.old.conn.now) (state S.Store tx.new.conn.now) }
+    ensures goes_on { HasCleanDisk (state S.Store tx.new.conn.now) → OnOk result (GoesOn (state S.Store tx.old.conn.now) (state S.Store tx.new.conn.now)) }
+    ensures becomes { HasCleanDisk (state S.Store tx.new.conn.now) → IsOffice (state S.Store tx.old.conn.now).now → OnOk result (
+        Becomes (state S.Store tx.new.conn.now).now (without_rules (tables_of (state S.Store tx.old.conn.now).now))) }
+{
+    change(tx, "DELETE FROM rule", &[])
+}
+
+/// Adds a caller at the end.
+fn add_caller<S: Alter>(
+    tx: &mut Transaction<'_, S>,
+    name: &str,
+    role: &str,
+) -> Result<usize, TableFault>
+    ensures same_reference { tx.new.conn.ghost_name ≡ tx.old.conn.ghost_name }
+    ensures stays { Stays (state S.Store tx.old.conn.now) (state S.Store tx.new.conn.now) }
+    ensures goes_on { HasCleanDisk (state S.Store tx.new.conn.now) → OnOk result (GoesOn (state S.Store tx.old.conn.now) (state S.Store tx.new.conn.now)) }
+    ensures becomes { HasCleanDisk (state S.Store tx.new.conn.now) → IsOffice (state S.Store tx.old.conn.now).now → OnOk result (
+        Becomes (state S.Store tx.new.conn.now).now (with_caller (record { name = name.now; role = role.now }) (tables_of (state S.Store tx.old.conn.now).now))) }
+{
+    change(
+        tx,
+        "INSERT INTO caller (name, role) VALUES (?1, ?2)",
+        params![name, role],
+    )
+}
+
+/// Adds a rule, whose place is to be above all others.
+fn add_rule<S: Alter>(
+    tx: &mut Transaction<'_, S>,
+    place: i64,
+    effect: i64,
+    role: &str,
+    action: &str,
+    collection: &str,
+    class: &str,
+) -> Result<usize, TableFault>
+    ensures same_reference { tx.new.conn.ghost_name ≡ tx.old.conn.ghost_name }
+    ensures stays { Stays (state S.Store tx.old.conn.now) (state S.Store tx.new.conn.now) }
+    ensures goes_on { HasCleanDisk (state S.Store tx.new.conn.now) → OnOk result (GoesOn (state S.Store tx.old.conn.now) (state S.Store tx.new.conn.now)) }
+    ensures becomes { HasCleanDisk (state S.Store tx.new.conn.now) → IsOffice (state S.Store tx.old.conn.now).now → RulesBelow place (tables_of (state S.Store tx.old.conn.now).now).rules → OnOk result (
+        Becomes (state S.Store tx.new.conn.now).now (with_rule (record { place = place; effect = effect; role = role.now; action = action.now; collection = collection.now; class = class.now }) (tables_of (state S.Store tx.old.conn.now).now))) }
+{
+    change(
+        tx,
+        "INSERT INTO rule (place, effect, role, action, collection, class) VALUES (?1, ?2, ?3, ?4, ?5, ?6)",
+        params![place, effect, role, action, collection, class],
+    )
+}
+
+/// Adds these callers in turn.
+fn add_callers<S: Alter>(
+    tx: &mut Transaction<'_, S>,
+    callers: &[CallerRow],
+) -> Result<(), TableFault>
+    ensures same_reference { tx.new.conn.ghost_name ≡ tx.old.conn.ghost_name }
+    ensures stays { Stays (state S.Store tx.old.conn.now) (state S.Store tx.new.conn.now) }
+    ensures goes_on { HasCleanDisk (state S.Store tx.new.conn.now) → OnOk result (Stands (state S.Store tx.old.conn.now) (state S.Store tx.new.conn.now)) }
+    ensures becomes { HasCleanDisk (state S.Store tx.new.conn.now) → IsOffice (state S.Store tx.old.conn.now).now → OnOk result (
+        Becomes (state S.Store tx.new.conn.now).now (with_callers callers.now (tables_of (state S.Store tx.old.conn.now).now))) }
+{
+    for caller in callers {
+        add_caller(tx, &caller.name, &caller.role)?;
+    }
+    Ok(())
+}
+
+/// Adds these rules in turn; the place of each is to be above all that are there when its turn comes.
+fn add_rules<S: Alter>(tx: &mut Transaction<'_, S>, rules: &[RuleRow]) -> Result<(), TableFault>
+    ensures same_reference { tx.new.conn.ghost_name ≡ tx.old.conn.ghost_name }
+    ensures stays { Stays (state S.Store tx.old.conn.now) (state S.Store tx.new.conn.now) }
+    ensures goes_on { HasCleanDisk (state S.Store tx.new.conn.now) → OnOk result (Stands (state S.Store tx.old.conn.now) (state S.Store tx.new.conn.now)) }
+    ensures becomes { HasCleanDisk (state S.Store tx.new.conn.now) → IsOffice (state S.Store tx.old.conn.now).now → RulesFollow rules.now (tables_of (state S.Store tx.old.conn.now).now) → OnOk result (
+        Becomes (state S.Store tx.new.conn.now).now (with_rules rules.now (tables_of (state S.Store tx.old.conn.now).now))) }
+{
+    for rule in rules {
+        add_rule(
+            tx,
+            rule.place,
+            rule.effect,
+            &rule.role,
+            &rule.action,
+            &rule.collection,
+            &rule.class,
+        )?;
+    }
+    Ok(())
+}
+
+/// Puts these callers and rules in the place of all that were there. The places of the rules are to rise.
+///
+/// Fails with `Memory` or `Store`, as where two callers have one name or two rules one place.
+pub fn put_policy<S: Alter>(
+    tx: &mut Transaction<'_, S>,
+    callers: &[CallerRow],
+    rules: &[RuleRow],
+) -> Result<(), TableFault>
+    ensures same_reference { tx.new.conn.ghost_name ≡ tx.old.conn.ghost_name }
+    ensures stays { Stays (state S.Store tx.old.conn.now) (state S.Store tx.new.conn.now) }
+    ensures goes_on { HasCleanDisk (state S.Store tx.new.conn.now) → OnOk result (GoesOn (state S.Store tx.old.conn.now) (state S.Store tx.new.conn.now)) }
+    ensures becomes { HasCleanDisk (state S.Store tx.new.conn.now) → IsOffice (state S.Store tx.old.conn.now).now → PlacesRise rules.now → OnOk result (
+        Becomes (state S.Store tx.new.conn.now).now (with_policy callers.now rules.now (tables_of (state S.Store tx.old.conn.now).now))) }
+{
+    drop_callers(tx)?;
+    drop_rules(tx)?;
+    add_callers(tx, callers)?;
+    add_rules(tx, rules)?;
+    Ok(())
+}

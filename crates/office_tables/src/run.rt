@@ -1,0 +1,53 @@
+//! One statement inside a transaction. The calls of the office's tables are made of these two.
+
+ghost use Rattle.std.specs.Prelude.{◌≡◌, Ok, IfOk, OnOk};
+ghost use Rattle.sqlite.specs.State.{HasCleanDisk, Executes, Shown};
+ghost use Rattle.sqlite.specs.Values.{bound};
+ghost use Rattle.sqlite.specs.Held.{state};
+ghost use Rattle.sql_meaning.specs.Columns.{int_at};
+ghost use Rattle.sql_meaning.specs.Inside.{Stays, GoesOn};
+
+use crate::fault::TableFault;
+use sqlite::types::ValueRef;
+use sqlite::{Alter, Row, Transaction};
+
+/// Runs a statement that answers no rows, and says how many rows it changed.
+pub(crate) fn change<S: Alter>(
+    tx: &mut Transaction<'_, S>,
+    sql: &str,
+    values: &[ValueRef<'_>],
+) -> Result<usize, TableFault>
+    ensures same_reference { tx.new.conn.ghost_name ≡ tx.old.conn.ghost_name }
+    ensures stays { Stays (state S.Store tx.old.conn.now) (state S.Store tx.new.conn.now) }
+    ensures goes_on { HasCleanDisk (state S.Store tx.new.conn.now) → OnOk result (GoesOn (state S.Store tx.old.conn.now) (state S.Store tx.new.conn.now)) }
+    ensures ran { HasCleanDisk (state S.Store tx.new.conn.now) → IfOk result (λ count. Executes sql.now (bound values.now) (state S.Store tx.old.conn.now) (state S.Store tx.new.conn.now) (Ok count)) }
+{
+    match tx.execute(sql, values) {
+        Ok(count) => Ok(count),
+        Err(error) => Err(TableFault::from(error)),
+    }
+}
+
+/// The rows that a query answers.
+pub(crate) fn ask<S: Alter>(
+    tx: &mut Transaction<'_, S>,
+    sql: &str,
+    values: &[ValueRef<'_>],
+) -> Result<Vec<Row>, TableFault>
+    ensures same_reference { tx.new.conn.ghost_name ≡ tx.old.conn.ghost_name }
+    ensures stays { Stays (state S.Store tx.old.conn.now) (state S.Store tx.new.conn.now) }
+    ensures goes_on { HasCleanDisk (state S.Store tx.new.conn.now) → OnOk result (GoesOn (state S.Store tx.old.conn.now) (state S.Store tx.new.conn.now)) }
+    ensures shown { HasCleanDisk (state S.Store tx.new.conn.now) → IfOk result (λ rows. Shown sql.now (bound values.now) (state S.Store tx.old.conn.now) (state S.Store tx.new.conn.now) rows.items) }
+{
+    match tx.query_all(sql, values) {
+        Ok(rows) => Ok(rows),
+        Err(error) => Err(TableFault::from(error)),
+    }
+}
+
+/// The whole number in that column of a row.
+pub(crate) fn number_in(row: &Row, at: usize) -> Result<i64, TableFault>
+    ensures { IfOk result (λ number. number ≡ int_at row.now at) }
+{
+    Ok(row.get(at)?)
+}
