@@ -1,0 +1,9 @@
+pub mod ListLemmas
+pub mod HistoryLemmas
+pub mod LegalLemmas
+pub mod LawLemmas
+pub mod OnceLemmas
+pub mod Examples
+pub mod PlainLemmas
+pub mod PlainRoom
+pub mod PlainRuns

@@ -1,0 +1,40 @@
+-- A run, item by item.
+use Rattle.std.proofs.Common.{◌≡◌, ℕ, zero, suc, arith, append-nil, ◌≤◌, ◌+◌, ◌<◌, List, [], ◌∷◌, ◌++◌, length, drop, get_or, sym, ap, ◌∙◌, subst, refl, inl, inr, append_assoc}
+use Rattle.std.proofs.lemmas.List.{drop_more}
+use Rattle.office_core.specs.declared.answer.Answer.{Answer}
+use Rattle.office_engine.specs.Histories.{History}
+use Rattle.office_engine.specs.Runs.{Item, Step, Run}
+use Rattle.office_engine.specs.PlainOffices.{Serves}
+
+-- what the plain office does is a step of a run
+pub step_of : (h : History) (item : Item) (given : Answer) (next : History) → Serves h item.0 item.1.now item.2 given next → Step h item given next
+step_of h item given next (inl failed) = inl (rw failed.0 tt, failed.1)
+step_of h item given next (inr served) = inr served
+
+-- a run that has come to an item, and goes on behind it
+pub run_on : (first h mid last : History) (items : List Item) (i : ℕ) (item : Item) (so_far more : List Answer) (given : Answer)
+    → i < length items → item ≡ get_or items i item → Serves h item.0 item.1.now item.2 given mid
+    → ((rest : List Answer) (end : History) → Run h (drop i items) rest end → Run first items (so_far ++ rest) end)
+    → Run mid (drop (i + 1) items) more last → Run first items ((so_far ++ given ∷ []) ++ more) last
+run_on first h mid last items i item so_far more given within is served begun rest =
+    let here : drop i items ≡ item ∷ drop (i + 1) items = drop_more items i item within ∙ ap (λ (x : Item). x ∷ drop (i + 1) items) (sym is) in
+    let P : List Item → Type 0 = λ left. Run h left (given ∷ more) last in
+    let on : Run h (drop i items) (given ∷ more) last = subst P (sym here) (mid, step_of h item given mid served, rest) in
+    let Q : List Answer → Type 0 = λ all. Run first items all last in
+    subst Q (sym (append_assoc so_far (given ∷ []) more)) (begun (given ∷ more) last on)
+
+drop_past : {A : Type 0} (i : ℕ) (xs : List A) → length xs ≤ i → drop i xs ≡ []
+drop_past zero [] h = refl
+drop_past zero (x ∷ xs) h = absurd (omega arith)
+drop_past (suc i) [] h = refl
+drop_past (suc i) (x ∷ xs) h = drop_past i xs (omega arith)
+
+-- a run that has come to its end
+pub run_end : (first last : History) (items : List Item) (i : ℕ) (answers : List Answer)
+    → length items ≤ i
+    → ((rest : List Answer) (end : History) → Run last (drop i items) rest end → Run first items (answers ++ rest) end)
+    → Run first items answers last
+run_end first last items i answers past begun =
+    let P : List Item → Type 0 = λ left. Run last left [] last in
+    let Q : List Answer → Type 0 = λ all. Run first items all last in
+    subst Q (append-nil answers) (begun [] last (subst P (sym (drop_past i items past)) refl))

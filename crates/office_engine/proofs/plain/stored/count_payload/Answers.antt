@@ -1,0 +1,25 @@
+use Rattle.std.proofs.Common.{◌∙◌, ◌+◌, drop, get_or, sym, ap, [], arith, Bor, List, ℕ}
+use Rattle.std.proofs.lemmas.List.{drop_more}
+use Rattle.bag_text.specs.TransferReading.{files_of, file_of}
+use Rattle.bag_check.proofs.CodeLemmas.{few_payload, small_payload, count_take}
+use Rattle.office_engine.proofs.plain.stored.count_payload.Goals as goal
+
+abbrev none : Bor (List ℕ) × Bor (List ℕ)
+none = (record { ref_ptr = (0, 0); now = [] }, record { ref_ptr = (0, 0); now = [] })
+
+pub overflow_add-count : goal.overflow_add-count
+overflow_add-count c =
+    let few = few_payload (files_of c.args.files.now) in
+    let most = c.requires.few in
+    let so_far = c.loop-file.invariant.0 in
+    omega arith
+
+pub overflow_add-bytes : goal.overflow_add-bytes
+overflow_add-bytes c =
+    let is = ap files_of (drop_more c.args.files.now c.loop-file.file-index none c.loop-file-test.true) in
+    let one = count_take (files_of (drop c.loop-file.file-index c.args.files.now)) (files_of (drop (c.loop-file.file-index + 1) c.args.files.now)) (file_of (get_or c.args.files.now c.loop-file.file-index none)) is (sym c.is_payload.ensures ∙ c.if-is_payload.true) in
+    let small = small_payload (files_of c.args.files.now) c.requires.each in
+    let most = c.requires.few in
+    let so_far = c.loop-file.invariant.1 in
+    let bytes = one.1 in
+    omega arith

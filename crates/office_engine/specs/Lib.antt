@@ -1,0 +1,13 @@
+pub mod Lists
+pub mod Histories
+pub mod Bags
+pub mod Refusals
+pub mod Answers
+pub mod Runs
+pub mod Stocks
+pub mod Pictures
+pub mod PlainBags
+pub mod PlainTargets
+pub mod PlainChanges
+pub mod PlainOffices
+pub mod PlainStocks

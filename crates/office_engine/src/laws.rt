@@ -1,0 +1,105 @@
+//! Laws of the office, over the definitions alone.
+
+ghost use Rattle.std.specs.Prelude.{◌≡◌, ◌↔◌, ◌<◌, ◌≢◌, ℕ, List, [], ◌∷◌, ◌++◌, Option, Some, None, Ok, Err, true, false, slice_get};
+ghost use denote.Ref.{Bor};
+ghost use Rattle.jiff.specs.Types.{Date};
+ghost use Rattle.bag_text.specs.TransferForm.{File, IsBag, set_text};
+ghost use Rattle.bag_text.specs.TransferFaults.{FaultIs};
+ghost use Rattle.bag_text.specs.FaultTexts.{set_fault_text};
+ghost use Rattle.bag_text.specs.declared.set_fault.SetFault.{SetFault};
+ghost use Rattle.bag_text.specs.declared.declaration.Version.{Version};
+ghost use Rattle.bag_check.specs.Validity.{Valid};
+ghost use Rattle.bag_check.specs.Faults.{Fault, FirstFault};
+ghost use Rattle.bag_check.specs.FaultTexts.{fault_text};
+ghost use Rattle.office_core.specs.Retention.{due_of};
+ghost use Rattle.office_core.specs.declared.answer.Answer.{Answer};
+ghost use Rattle.office_core.specs.declared.answer.Answer.TheVariants as answers;
+ghost use Rattle.office_core.specs.declared.refusal.Refusal.{Refusal};
+ghost use Rattle.office_core.specs.declared.refusal.Refusal.TheVariants.{Held};
+ghost use Rattle.office_core.specs.declared.request.Request.{Request};
+ghost use Rattle.office_core.specs.declared.request.Request.TheVariants.{DefineClass, Deposit as MakeDeposit, DownloadBag, Dispose};
+ghost use Rattle.office_engine.specs.Bags.{bag_of};
+ghost use Rattle.office_engine.specs.Histories.{History, Change, Destroyed, Deposit, Hold, OnCollection, deposit_numbered, hold_numbered, released, covers, live_holds, due};
+ghost use Rattle.office_engine.specs.Refusals.{refusal};
+ghost use Rattle.office_engine.specs.Answers.{answer, change, after};
+ghost use Rattle.office_engine.specs.Runs.{Item, Run, IsLegal, IsSound, IsDisposable, as_of};
+
+/// The bag of a text is the valid bag whose transfer form it is. Where there is none, the fault is the text's first,
+/// or that of the bag.
+pub fn deposited_bags()
+    ensures valid { (text : List ℕ) (bag : List File) → (bag_of text ≡ Ok bag) ↔ (IsSound bag × (text ≡ set_text bag)) }
+    ensures unreadable { (text : List ℕ) (fault : SetFault) → FaultIs text fault → bag_of text ≡ Err (set_fault_text fault) }
+    ensures invalid { (bag : List File) (fault : Fault) → IsBag bag → FirstFault bag fault → bag_of (set_text bag) ≡ Err (fault_text fault) }
+{
+    bag_text::laws::transfer_forms();
+    bag_check::laws::judged_bags();
+}
+
+/// In a legal history the bag of every deposit is valid.
+pub fn sound_bags()
+    ensures { (h : History) → IsLegal h → (n : ℕ) (found : Date × Deposit) → deposit_numbered h n ≡ Some found → IsSound found.1.bag }
+{
+    bag_text::laws::transfer_forms();
+    bag_check::laws::judged_bags();
+}
+
+/// In a legal history no disposal stands where, at its place, a live hold covered the deposit or its due day had not
+/// come.
+pub fn disposals_stand()
+    ensures { (h : History) → IsLegal h → (before rest : List Change) (day : Date) (n : ℕ) → h.changes ≡ before ++ Destroyed day n ∷ rest → IsDisposable (as_of h before) day n }
+{}
+
+/// A refusal changes nothing.
+pub fn refused_changes_nothing()
+    ensures { (h : History) (day : Date) (caller : List ℕ) (request : Request) (why : Refusal) → refusal h day caller request ≡ Some why → change h day caller request ≡ [] }
+{}
+
+/// After a bag was accepted as a deposit, each download of the deposit that is served is that bag, byte for byte.
+pub fn served_as_deposited()
+    ensures { (h next : History) (day later : Date) (caller other collection class accession : List ℕ) (closed : Date) (bag : Bor (List ℕ)) (n : ℕ) (items : List Item) (given : List Answer) (bytes : List ℕ)
+        → answer h day caller (MakeDeposit collection class accession closed bag) ≡ answers.Deposited n
+        → Run (after h day caller (MakeDeposit collection class accession closed bag)) items given next
+        → answer next later other (DownloadBag n) ≡ answers.Bag bytes
+        → bytes ≡ bag.now }
+{
+    bag_text::laws::transfer_forms();
+}
+
+/// A hold of a collection covers the deposits of the collection, those that come later too.
+pub fn later_deposits_are_covered()
+    ensures { (h next : History) (k n : ℕ) (day : Date) (name matter : List ℕ) (items : List Item) (given : List Answer) (found : Date × Deposit)
+        → hold_numbered h k ≡ Some (day, record { target = OnCollection name; matter = matter })
+        → Run h items given next
+        → deposit_numbered next n ≡ Some found → found.1.collection ≡ name
+        → covers next k n found.1 ≡ true }
+{}
+
+/// A hold that was released is in no list of live holds, then and later, and refuses no disposal.
+pub fn released_holds_are_not_live()
+    ensures listed { (h next : History) (k n place : ℕ) (day : Date) (items : List Item) (given : List Answer) (deposit : Deposit)
+        → released h k ≡ Some day → Run h items given next → slice_get (live_holds next n deposit) place ≢ Some k }
+    ensures refuses { (h next : History) (k n : ℕ) (day later : Date) (caller : List ℕ) (items : List Item) (given : List Answer)
+        → released h k ≡ Some day → Run h items given next → refusal next later caller (Dispose n) ≢ Some (Held k) }
+{}
+
+/// A class that is revised moves the due days of its deposits, forwards and backwards.
+pub fn revised_classes_move_due_days()
+    ensures { (h : History) (day : Date) (caller name given_name : List ℕ) (years given_years : Option ℕ) (deposit : Deposit)
+        → answer h day caller (DefineClass name years) ≡ answers.Class given_name given_years → deposit.class ≡ name
+        → due (after h day caller (DefineClass name years)) deposit ≡ due_of deposit.closed years }
+{}
+
+/// No number is given to two deposits, also where the first was destroyed in between.
+pub fn numbers_are_given_once()
+    ensures { (h next : History) (day later : Date) (caller other collection class accession collection_2 class_2 accession_2 : List ℕ) (closed closed_2 : Date) (bag bag_2 : Bor (List ℕ)) (n m : ℕ) (items : List Item) (given : List Answer)
+        → answer h day caller (MakeDeposit collection class accession closed bag) ≡ answers.Deposited n
+        → Run (after h day caller (MakeDeposit collection class accession closed bag)) items given next
+        → answer next later other (MakeDeposit collection_2 class_2 accession_2 closed_2 bag_2) ≡ answers.Deposited m
+        → n < m }
+{}
+
+/// In a legal history an accession is used once.
+pub fn accessions_are_used_once()
+    ensures { (h : History) → IsLegal h → (n m : ℕ) (a b : Date × Deposit)
+        → deposit_numbered h n ≡ Some a → deposit_numbered h m ≡ Some b → a.1.accession ≡ b.1.accession → n ≡ m }
+{}

@@ -1,0 +1,11 @@
+//! The office: what it answers over its whole history.
+#![tactic(auto)]
+
+pub mod laws;
+pub mod plain;
+mod plain_stock;
+
+pub use plain_stock::Stock;
+
+#[cfg(test)]
+mod tests;

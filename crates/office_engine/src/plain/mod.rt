@@ -1,0 +1,19 @@
+//! A plain office in memory: the list of its accepted changes, and every question answered by going over that
+//! list. It is slow and obvious: what any other office is compared with.
+
+mod answering;
+mod change;
+mod history;
+mod judging;
+mod keeping;
+mod reading;
+mod refusing;
+mod rows;
+mod running;
+mod serving;
+mod stored;
+
+pub use history::{Office, create, install};
+pub use keeping::stock;
+pub use running::run;
+pub use serving::step;
