@@ -1,8 +1,9 @@
 #!/usr/bin/env python3
-"""Speed and memory of `depot check` beside `sha256sum -c` on the same bytes on disk.
+"""Speed and memory of `depot check` beside `sha256sum -c` and `sha512sum -c` on the same bytes on disk.
 
 Prints a ratio for each case: the median time of `depot check` over that of the other run, which
-take turns. Run it after `./depot check examples/bag-a.bagset` has built the program.
+take turns. Run it after `./depot check examples/bag-a.bagset` has built the program. Words behind
+`bench.py` name the cases that are run; with none, all are.
 """
 import hashlib
 import os
@@ -30,10 +31,24 @@ def form(files):
     return b"".join(parts)
 
 
+def manifest(algorithm, files):
+    """The lines that list these files."""
+    lines = [hashlib.new(algorithm, files[p]).hexdigest().encode() + b"  " + p + b"\n" for p in sorted(files)]
+    return b"".join(lines)
+
+
 def bag(payload):
     """A bag with this payload and a sha256 manifest."""
-    lines = [hashlib.sha256(payload[p]).hexdigest().encode() + b"  " + p + b"\n" for p in sorted(payload)]
-    return {b"bagit.txt": DECLARATION, b"manifest-sha256.txt": b"".join(lines), **payload}
+    return {b"bagit.txt": DECLARATION, b"manifest-sha256.txt": manifest("sha256", payload), **payload}
+
+
+def tagged_bag(payload):
+    """A bag with this payload, manifests of both algorithms, and tag manifests of both."""
+    tags = {b"bagit.txt": DECLARATION}
+    for algorithm in ("sha256", "sha512"):
+        tags[b"manifest-%s.txt" % algorithm.encode()] = manifest(algorithm, payload)
+    tagged = {b"tagmanifest-%s.txt" % a.encode(): manifest(a, tags) for a in ("sha256", "sha512")}
+    return {**tags, **tagged, **payload}
 
 
 def write(folder, files, name):
@@ -48,13 +63,15 @@ def write(folder, files, name):
     return base, text
 
 
-def run(words, cwd=None):
-    """The seconds that a run takes."""
-    begin = time.perf_counter()
-    status = subprocess.run(words, cwd=cwd, stdout=subprocess.DEVNULL).returncode
-    seconds = time.perf_counter() - begin
-    if status != 0:
-        sys.exit(f"{words} ended with {status}")
+def run(commands, cwd=None):
+    """The seconds that commands take, one after the other."""
+    seconds = 0
+    for words in commands:
+        begin = time.perf_counter()
+        status = subprocess.run(words, cwd=cwd, stdout=subprocess.DEVNULL).returncode
+        seconds += time.perf_counter() - begin
+        if status != 0:
+            sys.exit(f"{words} ended with {status}")
     return seconds
 
 
@@ -84,25 +101,46 @@ def ratio(ours, theirs):
     return statistics.median(first) / statistics.median(second)
 
 
-def beside_sha256sum(folder, name, payload, most):
-    base, text = write(folder, bag(payload), name)
-    check = ([str(DEPOT), "check", str(text)],)
-    found = ratio(check, (["sha256sum", "--quiet", "-c", "manifest-sha256.txt"], base))
-    memory = max(peak(*check) for _ in range(3)) - text.stat().st_size
-    print(f"{name}: {found:.2f} times sha256sum -c (at most {most}); memory: the input and {memory / 2**20:.1f} MiB (at most 8)")
+def beside(tools, most, folder, name, files):
+    """`depot check` on the form of these files beside the tools in a folder that holds the files."""
+    base, text = write(folder, files, name)
+    check = [str(DEPOT), "check", str(text)]
+    found = ratio(([check],), (tools, base))
+    memory = max(peak(check) for _ in range(3)) - text.stat().st_size
+    named = " and then ".join(tool[0] + " -c" for tool in tools)
+    print(f"{name}: {found:.2f} times {named} (at most {most}); memory: the input and {memory / 2**20:.1f} MiB (at most 8)")
+
+
+SHA256SUM = [["sha256sum", "--quiet", "-c", "manifest-sha256.txt"]]
+BOTH_TOOLS = [
+    ["sha256sum", "--quiet", "-c", "manifest-sha256.txt", "tagmanifest-sha256.txt"],
+    ["sha512sum", "--quiet", "-c", "manifest-sha512.txt", "tagmanifest-sha512.txt"],
+]
+
+
+def large_file(make):
+    """A bag of one payload file whose form is 16 MiB long."""
+    room = LIMIT - len(form(make({b"data/a": b""})))
+    # The header of the content has up to seven digits more.
+    return make({b"data/a": os.urandom(room - 7)})
 
 
 def one_large_file(folder):
-    payload = {b"data/a": b""}
-    room = LIMIT - len(form(bag(payload)))
-    # The header of the content has up to seven digits more.
-    payload[b"data/a"] = os.urandom(room - 7)
-    beside_sha256sum(folder, "one-large-file", payload, 1.1)
+    beside(SHA256SUM, 1.1, folder, "one-large-file", large_file(bag))
 
 
 def many_small_files(folder):
     payload = {b"data/%04d" % n: os.urandom(1000) for n in range(1998)}
-    beside_sha256sum(folder, "many-small-files", payload, 1.25)
+    beside(SHA256SUM, 1.25, folder, "many-small-files", bag(payload))
+
+
+def both_algorithms(folder):
+    beside(BOTH_TOOLS, 1.15, folder, "both-algorithms", large_file(tagged_bag))
+
+
+def both_algorithms_small_files(folder):
+    payload = {b"data/%04d" % n: os.urandom(1000) for n in range(1995)}
+    beside(BOTH_TOOLS, 1.15, folder, "both-algorithms-small-files", tagged_bag(payload))
 
 
 def long_paths(folder):
@@ -125,18 +163,30 @@ def long_paths(folder):
         text.write_bytes(form(files))
         texts.append(text)
     sizes = [text.stat().st_size for text in texts]
-    words = [([str(DEPOT), "check", str(text)],) for text in texts]
-    found = ratio(*words)
+    checks = [([[str(DEPOT), "check", str(text)]],) for text in texts]
+    found = ratio(*checks)
     print(f"long-paths: {found:.2f} times short paths of an equally long form ({sizes[0]} and {sizes[1]} bytes; at most 3)")
+
+
+CASES = {
+    "one-large-file": one_large_file,
+    "many-small-files": many_small_files,
+    "both-algorithms": both_algorithms,
+    "both-algorithms-small-files": both_algorithms_small_files,
+    "long-paths": long_paths,
+}
 
 
 def main():
     if not DEPOT.exists():
         sys.exit("build the program first: ./depot check examples/bag-a.bagset")
+    names = sys.argv[1:] or list(CASES)
+    for name in names:
+        if name not in CASES:
+            sys.exit("the cases are " + ", ".join(CASES))
     with tempfile.TemporaryDirectory() as folder:
-        one_large_file(folder)
-        many_small_files(folder)
-        long_paths(folder)
+        for name in names:
+            CASES[name](folder)
 
 
 main()
