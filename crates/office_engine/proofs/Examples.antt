@@ -21,13 +21,13 @@ worked day = record {
   max_deposits = 10;
   max_holds = 10;
   changes =
-    DefinedClass day (codes "y1") (Some 1)
-    ∷ DefinedCollection day (codes "maps")
-    ∷ PlacedHold day (record { target = OnCollection (codes "maps"); matter = codes "Case 7" })
-    ∷ Deposited day (deposited day (codes "A-1"))
-    ∷ Deposited day (deposited day (codes "A-2"))
-    ∷ PlacedHold day (record { target = OnDeposit 2; matter = codes "Case 8" })
-    ∷ [];
+      DefinedClass day (codes "y1") (Some 1)
+      ∷ DefinedCollection day (codes "maps")
+      ∷ PlacedHold day (record { target = OnCollection (codes "maps"); matter = codes "Case 7" })
+      ∷ Deposited day (deposited day (codes "A-1"))
+      ∷ Deposited day (deposited day (codes "A-2"))
+      ∷ PlacedHold day (record { target = OnDeposit 2; matter = codes "Case 8" })
+      ∷ [];
 }
 
 later : Date → History
@@ -35,16 +35,16 @@ later day = record {
   max_deposits = 10;
   max_holds = 10;
   changes =
-    DefinedClass day (codes "y1") (Some 1)
-    ∷ DefinedCollection day (codes "maps")
-    ∷ PlacedHold day (record { target = OnCollection (codes "maps"); matter = codes "Case 7" })
-    ∷ Deposited day (deposited day (codes "A-1"))
-    ∷ Deposited day (deposited day (codes "A-2"))
-    ∷ PlacedHold day (record { target = OnDeposit 2; matter = codes "Case 8" })
-    ∷ ReleasedHold day 1
-    ∷ Destroyed day 1
-    ∷ DefinedClass day (codes "y1") None
-    ∷ [];
+      DefinedClass day (codes "y1") (Some 1)
+      ∷ DefinedCollection day (codes "maps")
+      ∷ PlacedHold day (record { target = OnCollection (codes "maps"); matter = codes "Case 7" })
+      ∷ Deposited day (deposited day (codes "A-1"))
+      ∷ Deposited day (deposited day (codes "A-2"))
+      ∷ PlacedHold day (record { target = OnDeposit 2; matter = codes "Case 8" })
+      ∷ ReleasedHold day 1
+      ∷ Destroyed day 1
+      ∷ DefinedClass day (codes "y1") None
+      ∷ [];
 }
 
 -- a hold of a collection covers what came later, and one of a deposit that alone

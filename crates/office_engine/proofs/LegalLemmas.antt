@@ -164,6 +164,6 @@ disposals_stand h (serve earlier on caller request legal) before rest day n e =
     elim (split_two earlier.changes (change earlier on caller request) before (Destroyed day n) rest e) [
       | inl found ↦ disposals_stand earlier legal before found.0 day n found.1
       | inr found ↦
-        let made = disposal_made earlier on day caller n request found.0 rest (refusal earlier on caller request) refl found.2 in
-        subst (λ (changes : List Change). IsDisposable (as_of earlier changes) day n) (sym (found.1 ∙ ap (λ (more : List Change). earlier.changes ++ more) made.0 ∙ append-nil earlier.changes)) made.1
+          let made = disposal_made earlier on day caller n request found.0 rest (refusal earlier on caller request) refl found.2 in
+          subst (λ (changes : List Change). IsDisposable (as_of earlier changes) day n) (sym (found.1 ∙ ap (λ (more : List Change). earlier.changes ++ more) made.0 ∙ append-nil earlier.changes)) made.1
     ]

@@ -18,8 +18,8 @@ returns c = λ h next day later caller other collection class accession closed b
     let made : Date × Deposit = (day, record { collection = collection; class = class; accession = accession; closed = closed; bag = allowed.bag }) in
     let mid = after h day caller (MakeDeposit collection class accession closed bag) in
     let there : deposit_numbered mid n ≡ Some made =
-      ap (λ ds. numbered ds n) (deposit_adds h day caller collection class accession closed bag allowed.bag was.0 allowed.read)
-      ∙ ap (λ m. numbered (deposits h ++ made ∷ []) m) (sym was.1) ∙ numbered_last (deposits h) made in
+    ap (λ ds. numbered ds n) (deposit_adds h day caller collection class accession closed bag allowed.bag was.0 allowed.read)
+    ∙ ap (λ m. numbered (deposits h ++ made ∷ []) m) (sym was.1) ∙ numbered_last (deposits h) made in
     let grown = run_grows items given mid next r in
     let still : deposit_numbered next n ≡ Some made = ap (λ x. deposit_numbered x n) grown.1 ∙ deposit_stays mid grown.0 n made there in
     served_form next later other n made bytes still served
