@@ -32,10 +32,10 @@ use Rattle.office_tables.proofs.Frames.{idle, becomes_classes}
 use Rattle.office_tables.proofs.ClassTexts.{years_text, years_columns, asks_years, revise_text, revised_columns, revise_is, revise_plain, add_class_text, class_terms, add_class_is, add_class_plain}
 
 -- a stored class, as the rules of its table leave it
-abbrev IsClassRow : Row → Type 0
+abbrev pub IsClassRow : Row → Type 0
 IsClassRow r = (column r 1 ≡ Text (bytes_at r 1)) × (column r 2 ≡ Int (int_at r 2))
 
-class_rows : (db : Trees) → Fits office_schema db → AllByRecursion IsClassRow (db 4)
+pub class_rows : (db : Trees) → Fits office_schema db → AllByRecursion IsClassRow (db 4)
 class_rows db fits = all_both (λ r typed present. (
   text_at office_schema db class_table r typed present 0 (needed (codes "name") kind.Text) refl refl refl refl refl,
   int_in office_schema db class_table r typed present 1 (needed (codes "years") kind.Integer) refl refl refl refl refl,

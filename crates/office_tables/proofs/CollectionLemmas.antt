@@ -26,13 +26,13 @@ use Rattle.office_tables.specs.Tables.{IsOffice, Becomes, tables_of, collection_
 use Rattle.office_tables.proofs.Frames.{idle, becomes_collections}
 use Rattle.office_tables.proofs.ClassTexts.{find_text, name_column, asks_collection, add_collection_text, collection_terms, add_collection_is, add_collection_plain}
 
-module _ (db : Database) (office : IsOffice db) (name : List ℕ) where
-  named : AllByRecursion (λ r. column r 1 ≡ Text (bytes_at r 1)) (db.trees 6)
-  named = all_both (λ r typed present. text_at office_schema db.trees collection_table r typed present 0 (needed (codes "name") kind.Text) refl refl refl refl refl)
-      (db.trees 6) (office.fits.rules Datatype (λ e. cc)).1.1.1.1.0 (office.fits.rules NotNull (λ e. cc)).1.1.1.1.0
+pub collection_rows : (db : Database) → IsOffice db → AllByRecursion (λ r. column r 1 ≡ Text (bytes_at r 1)) (db.trees 6)
+collection_rows db office = all_both (λ r typed present. text_at office_schema db.trees collection_table r typed present 0 (needed (codes "name") kind.Text) refl refl refl refl refl)
+    (db.trees 6) (office.fits.rules Datatype (λ e. cc)).1.1.1.1.0 (office.fits.rules NotNull (λ e. cc)).1.1.1.1.0
 
+module _ (db : Database) (office : IsOffice db) (name : List ℕ) where
   few : (filter (has_text 1 name) (db.trees 6) ≡ []) ⊎ ((r : Row) × Has (db.trees 6) r × (has_text 1 name r ≡ true) × (filter (has_text 1 name) (db.trees 6) ≡ r ∷ []))
-  few = few_named 1 (db.trees 6) office.shaped.1.1.1.1.0 named (office.fits.rules Unique (λ e. cc)).1.1.1.1.0 name
+  few = few_named 1 (db.trees 6) office.shaped.1.1.1.1.0 (collection_rows db office) (office.fits.rules Unique (λ e. cc)).1.1.1.1.0 name
 
 some_there : {X : Type 0} (xs : List X) → list_any (λ x. true) xs ≡ not (length xs == 0)
 some_there [] = refl
@@ -47,7 +47,7 @@ finds_collection old new name rows office h =
     let params : Row = Text name ∷ [] in
     let db = old.now.trees in
     let is = reads_one office_schema find_text 6 (by_text 1) name_column [] asks_collection params old new office.schema_is rows h (has_text 1 name)
-    (each_passes 1 name [] (db 6) (named old.now office name)) (few old.now office name) in (
+    (each_passes 1 name [] (db 6) (collection_rows old.now office)) (few old.now office name) in (
       reads_same office_schema find_text 6 (by_text 1) name_column [] asks_collection params old new office.schema_is rows h,
       finds_any (db 6) rows (has_text 1 name) (shown_of params name_column) collection_in (is_collection name) (λ r. refl) is ∙ some_there rows,
     )

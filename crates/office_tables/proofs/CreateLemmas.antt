@@ -1,10 +1,11 @@
 -- The first row of an office whose tables were just made.
-use Rattle.std.proofs.Common.{◌≡◌, ℕ, ℤ, pos, [], ◌∷◌, map, Ok, refl, ap, ◌∙◌}
+use Rattle.std.proofs.Common.{IsTrue, ◌≡◌, ℕ, ℤ, pos, [], ◌∷◌, map, Ok, refl, ap, ◌∙◌}
 use Rattle.sqlite.specs.declared.types.Value.TheVariants.{Null, Int}
 use Rattle.sqlite.specs.Order.{Row}
 use Rattle.sqlite.specs.Edit.{edit_of, edited}
 use Rattle.sqlite.specs.Rowids.TheVariants.{Chosen}
-use Rattle.sqlite.specs.Tree.{put_row}
+use Rattle.sqlite.specs.Tree.{Trees, put_row}
+use Rattle.sqlite.specs.Effect.{Database}
 use Rattle.sqlite.specs.Cast.{cast_row}
 use Rattle.sqlite.specs.State.{State, Executes}
 use Rattle.sql_meaning.specs.Whole.{IsBlank}
@@ -12,7 +13,8 @@ use Rattle.sql_meaning.proofs.Writing.{inserts}
 use Rattle.sql_meaning.proofs.Whole.{blank_shaped}
 use Rattle.sql_meaning.proofs.Edits.{inserted, cast_null, cast_int}
 use Rattle.office_tables.specs.Schema.{office_schema, office_table}
-use Rattle.office_tables.specs.Rows.{OfficeRow, empty_office}
+use Rattle.office_tables.specs.Rows.{OfficeRow, Tables, empty_office}
+use Rattle.office_tables.specs.Opening.{IsMade}
 use Rattle.office_tables.specs.Tables.{Becomes, tables_of, office_in}
 use Rattle.office_tables.proofs.Frames.{idle, becomes_office}
 use Rattle.office_tables.proofs.CreateTexts.{start_text, start_terms, start_is, start_plain}
@@ -34,3 +36,8 @@ starts_office old new deposits holds count blank h =
     let rest : record (tables_of old.now) { office = row ∷ [] } ≡ empty_office (pos 1) deposits holds =
     rw (e.1.0, e.1.1.0, e.1.1.1.0, e.1.1.1.1.0, e.1.1.1.1.1.0, e.1.1.1.1.1.1.0, e.1.1.1.1.1.1.1.0) refl in
     record { office = made.office; are = made.are ∙ rest }
+
+-- what a crash leaves of an office that was made and committed
+pub leaves_made : (end : State) (tables : Tables) → ((db : Trees) → IsTrue end.is_open → end.may_leave db → db ≡ end.committed.trees) → IsMade end tables
+    → (db : Trees) → end.may_leave db → (made : Database) × Becomes made tables × (db ≡ made.trees)
+leaves_made end tables settled made db left = (end.now, made.becomes, settled db made.is_open left ∙ ap (λ (d : Database). d.trees) made.committed)

@@ -10,7 +10,6 @@ use Rattle.sqlite.specs.Kind.TheVariants as kind
 use Rattle.sqlite.specs.Tree.{Trees, rowid}
 use Rattle.sqlite.specs.Effect.{Database}
 use Rattle.sqlite.specs.State.{State, Shown, Executes}
-use Rattle.sqlite.proofs.Callers.{reads_as}
 use Rattle.sqlite_trees.specs.View.{is_int}
 use Rattle.sqlite_rules.specs.Lists.{Has}
 use Rattle.sqlite_rules.specs.Calls.{ids_of}
@@ -22,7 +21,7 @@ use Rattle.sqlite_schema.specs.declared.schema.Constraint.TheVariants.{Datatype,
 use Rattle.sqlite_schema.specs.Rules.{Fits}
 use Rattle.sql_meaning.specs.Columns.{int_at, bytes_at}
 use Rattle.sql_meaning.proofs.Writing.{inserts, updates}
-use Rattle.sql_meaning.proofs.Scanning.{scan, as_program, shown_of, scanned, answers_one, finds_one, shown_same}
+use Rattle.sql_meaning.proofs.Scanning.{scan, as_program, shown_of, scanned, answers_one, finds_one}
 use Rattle.sql_meaning.proofs.Reading.{reads_same, reads_one, reads_rising}
 use Rattle.sql_meaning.proofs.TextKeys.{has_text, by_text, each_passes, few_named}
 use Rattle.sql_meaning.proofs.RowidKeys.{by_number, has_number, each_numbered, few_numbered}
@@ -33,8 +32,8 @@ use Rattle.office_tables.specs.Rows.{DepositRow, is_deposit, deposit_numbered, h
 use Rattle.office_tables.specs.Tables.{IsOffice, Becomes, tables_of, deposit_in}
 use Rattle.office_tables.specs.Deposits.{shown_deposit}
 use Rattle.office_tables.proofs.Frames.{idle, becomes_deposits}
-use Rattle.office_tables.proofs.DepositLast.{last_shown}
-use Rattle.office_tables.proofs.DepositTexts.{deposit_text, accession_text, deposits_text, last_text, last_is, deposit_columns, rising, asks_deposit, asks_accession, asks_deposits, put_text, put_terms, put_is, put_plain, gone_text, gone_columns, gone_is, gone_plain}
+use Rattle.office_tables.proofs.LastRow.{reads_last}
+use Rattle.office_tables.proofs.DepositTexts.{deposit_text, accession_text, deposits_text, last_text, asks_last, deposit_columns, rising, asks_deposit, asks_accession, asks_deposits, put_text, put_terms, put_is, put_plain, gone_text, gone_columns, gone_is, gone_plain}
 
 -- a stored deposit, as the rules of its table leave it
 abbrev IsDepositRow : Row → Type 0
@@ -67,7 +66,7 @@ finds_deposit old new n rows office h =
     )
 
 -- at most one deposit has the accession
-accessions : (db : Database) → IsOffice db → AllByRecursion (λ r. column r 2 ≡ Text (bytes_at r 2)) (db.trees 8)
+pub accessions : (db : Database) → IsOffice db → AllByRecursion (λ r. column r 2 ≡ Text (bytes_at r 2)) (db.trees 8)
 accessions db office = all_from _ (db.trees 8) (λ r there. (all_has IsDepositRow (db.trees 8) r (deposit_rows db.trees office.fits) there).0)
 
 pub few_accessions : (db : Database) → IsOffice db → (accession : List ℕ)
@@ -103,18 +102,15 @@ lists_deposits old new rows office h =
 
 pub finds_last : (old new : State) (rows : List Row) → IsOffice old.now → Shown last_text [] old new rows
     → (new.now ≡ old.now) × (last_number (λ d. d.number) (tables_of old.now).deposits ≡ option_map (λ row. int_at row 0) (slice_get rows 0))
-finds_last old new rows office h = (
-  (shown_same last_text [] old new office_schema office.schema_is last_is.2 rows h).0.now_is,
-  last_shown (λ (d : DepositRow). d.number) deposit_in (λ r. refl) old.now.trees [] 8 rows office.shaped.1.1.1.1.1.0.0
-      (reads_as last_text [] old new office_schema office.schema_is _ last_is.0 last_is.2 last_is.1 rows h).answer,
-)
+finds_last old new rows office h =
+    reads_last 8 deposit_in (λ (d : DepositRow). d.number) (λ r. refl) office_schema last_text asks_last old new office.schema_is office.shaped.1.1.1.1.1.0.0 rows h
 
 -- ---- a new deposit, with a number above the others
 
 abbrev pub params_of : DepositRow → Row
 params_of d = Int d.number ∷ Text d.accession ∷ Text d.collection ∷ Text d.class ∷ Int d.closed ∷ Int d.deposited ∷ Int d.files ∷ Int d.bytes ∷ []
 
-abbrev stored_of : DepositRow → Row
+abbrev pub stored_of : DepositRow → Row
 stored_of d = Null ∷ Text d.accession ∷ Text d.collection ∷ Text d.class ∷ Int d.closed ∷ Int d.deposited ∷ Int d.files ∷ Int d.bytes ∷ Null ∷ []
 
 lower_rows : (n : ℤ) (rows : List Row) → AllByRecursion (λ r. IsTrue (is_int (rowid r))) rows → DepositsBelow n (map deposit_in rows) → AllByRecursion (λ r. value_cmp (rowid r) (Int n) ≡ Less) rows

@@ -1,11 +1,11 @@
 -- What the statements on deposits mean under the schema of an office.
-use Rattle.std.proofs.Common.{◌≡◌, ℕ, pos, List, [], ◌∷◌, codes, false, refl}
-use Rattle.sqlite.specs.declared.types.Value.TheVariants.{Null, Int}
+use Rattle.std.proofs.Common.{◌≡◌, ℕ, List, [], ◌∷◌, codes, false, refl}
+use Rattle.sqlite.specs.declared.types.Value.TheVariants.{Null}
 use Rattle.sqlite.specs.Collation.TheVariants.{Binary}
 use Rattle.sqlite.specs.Term.{Term, lit, col}
-use Rattle.sqlite.specs.Command.TheVariants.{Select, Insert, Update}
+use Rattle.sqlite.specs.Command.TheVariants.{Insert, Update}
 use Rattle.sqlite.specs.Source.TheVariants.{Values}
-use Rattle.sqlite.specs.Listing.{understood, reads_listing}
+use Rattle.sqlite.specs.Listing.{understood}
 use Rattle.sqlite.proofs.Callers.{IsPlain, command_of}
 use Rattle.sqlite_tied.specs.Compute.{everything}
 use Rattle.sqlite_value.specs.declared.keys.Key.{Key}
@@ -14,7 +14,7 @@ use Rattle.sql_meaning.proofs.Reading.{Asks}
 use Rattle.sql_meaning.proofs.RowidKeys.{by_number}
 use Rattle.sql_meaning.proofs.TextKeys.{by_text}
 use Rattle.office_tables.specs.Schema.{office_schema}
-use Rattle.office_tables.proofs.DepositLast.{last_of}
+use Rattle.office_tables.proofs.LastRow.{AsksLast}
 
 -- ---- reads
 
@@ -83,6 +83,6 @@ gone_plain = (refl, refl)
 abbrev pub last_text : List ℕ
 last_text = codes "SELECT number FROM deposit ORDER BY number DESC LIMIT 1"
 
-pub last_is : (command_of (understood office_schema last_text) ≡ Select (as_program (last_of 8)) (codes "number" ∷ [])) × (reads_listing office_schema last_text ≡ false) × IsPlain (understood office_schema last_text)
+pub asks_last : AsksLast office_schema last_text 8
 unfolding understood everything
-last_is = (refl, refl, (refl, refl))
+asks_last = record { names = codes "number" ∷ []; command = refl; unlisted = refl; plain = (refl, refl) }

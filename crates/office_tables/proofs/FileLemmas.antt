@@ -1,5 +1,5 @@
 -- What the statements on files do to the rows of an office.
-use Rattle.std.proofs.Common.{arith, ◌≡◌, ◌&&◌, ◌⊎◌, ap₂, not, bytes_eq, ℕ, ℤ, List, [], ◌∷◌, map, filter, slice_get, slice_index_or, ◌+◌, option_map, codes, Bool, true, false, Ok, Equal, Less, refl, sym, ap, subst, subst₂, ◌∙◌, inl, inr}
+use Rattle.std.proofs.Common.{arith, ◌≡◌, ◌&&◌, ◌⊎◌, ap₂, not, bytes_eq, ℕ, ℤ, List, [], ◌∷◌, map, filter, slice_get, slice_index_or, ◌+◌, option_map, codes, Bool, true, false, None, Ok, Equal, Less, refl, sym, ap, subst, subst₂, ◌∙◌, inl, inr}
 use Rattle.std.specs.List.{AllByRecursion}
 use Rattle.std.specs.Ordering.{is_lt, is_eq, int_eq}
 use Rattle.std.specs.Cmp.{IsTotalOrder}
@@ -13,7 +13,7 @@ use Rattle.std.proofs.lemmas.List.Sorted.{IsPermutation-map, All-permutation}
 use Rattle.std.proofs.lemmas.List.Elements.{recursion_from_All, All-from_recursion}
 use Rattle.sqlite.specs.declared.types.Value.TheVariants.{Null, Int, Text, Blob}
 use Rattle.sqlite.specs.Order.{Row, column, value_cmp}
-use Rattle.sqlite.specs.Edit.{edit_of}
+use Rattle.sqlite.specs.Edit.{edit_of, with_rowid}
 use Rattle.sqlite.specs.Rowids.TheVariants.{Chosen, Given}
 use Rattle.sqlite.specs.Cast.{cast_row}
 use Rattle.sqlite.specs.Kind.TheVariants as kind
@@ -36,12 +36,14 @@ use Rattle.sqlite_rules.specs.Calls.{ids_of}
 use Rattle.sqlite_rules.proofs.ListLemmas.{all_has, all_from, has_filtered}
 use Rattle.sqlite_rules.proofs.KeyLemmas.{agree_back, agree_chain}
 use Rattle.sqlite_schema.specs.declared.schema.Constraint.TheVariants.{Datatype, NotNull, Unique}
+use Rattle.sqlite_schema.specs.declared.schema.Keys.TheVariants.{Enforced}
 use Rattle.sqlite_schema.specs.Rules.{Fits, agree, equal}
 use Rattle.sql_meaning.specs.Columns.{int_at, bytes_at}
 use Rattle.sql_meaning.proofs.Writing.{inserts, deletes}
 use Rattle.sql_meaning.proofs.Scanning.{scan, as_program, passes, shown_of, scanned, answer_sound, answer_complete}
 use Rattle.sql_meaning.proofs.Reading.{reads_same, reads_one, reads_scan, finds_part}
-use Rattle.sql_meaning.proofs.Keys.{filter_same, same_key, trailing, same_text, same_int, lone}
+use Rattle.sql_meaning.proofs.Inserts.{none_before}
+use Rattle.sql_meaning.proofs.Keys.{found_by, bytes_itself, int_itself, filter_same, same_key, trailing, same_text, same_int, lone}
 use Rattle.sql_meaning.proofs.Typed.{text_at, int_in, all_both}
 use Rattle.sql_meaning.proofs.Edits.{appended, deleted, cast_null, cast_int, map_append}
 use Rattle.office_tables.specs.Schema.{office_schema, file_table, needed}
@@ -143,6 +145,22 @@ puts_file old new n path content count office h =
     let cast_is : cast_row file_table source ≡ Null ∷ Int n ∷ Text path ∷ Blob content ∷ [] = rw (cast_null, cast_int n) refl in
     let end = appended db file_table source (Int n ∷ Text path ∷ Blob content ∷ []) office.shaped.1.1.1.1.1.1.0 cast_is in
     becomes_files old new edit count edit.news office.shaped done refl _ (ap (map file_in) end ∙ map_append file_in (db 10) _)
+
+-- so there was no such file
+pub path_was_new : (old new : State) (n : ℤ) (path content : List ℕ) (count : ℕ) → IsOffice old.now → Executes put_text (Int n ∷ Text path ∷ Blob content ∷ []) old new (Ok count)
+    → file_at n path (tables_of old.now).files ≡ None
+path_was_new old new n path content count office h =
+    let params : Row = Int n ∷ Text path ∷ Blob content ∷ [] in
+    let db = old.now.trees in
+    let source : Row = Null ∷ Int n ∷ Text path ∷ Blob content ∷ [] in
+    let edit = edit_of db file_table [] Chosen 0 (source ∷ []) in
+    let done = inserts put_text params old new office_schema office.schema_is 6 file_table refl idle put_plain put_terms 4 put_is refl refl count h in
+    let after : IsOffice new.now = (becomes_files old new edit count edit.news office.shaped done refl _ refl).office in
+    let cast_is : cast_row file_table source ≡ source = rw (cast_null, cast_int n) refl in
+    let places : has_place n path (with_rowid Chosen (db 10) source) ≡ true = ap₂ ◌&&◌ (int_itself n) (bytes_itself path) in
+    let placed : has_place n path (with_rowid Chosen (db 10) (cast_row file_table source)) ≡ true = ap (λ r. has_place n path (with_rowid Chosen (db 10) r)) cast_is ∙ places in
+    let none = none_before office_schema Enforced db new.now.trees file_table source done.applies (has_place n path) placed (one_file new.now after n path) in
+    found_by (is_file_at n path) (has_place n path) file_in (db 10) (all_from _ (db 10) (λ r there. refl)) ∙ ap (λ rs. option_map file_in (slice_get rs 0)) none
 
 -- ---- the files of a deposit are dropped
 

@@ -1,14 +1,21 @@
 -- What the statements on holds do to the rows of an office.
-use Rattle.std.proofs.Common.{IsTrue, ◌≡◌, ◌⊎◌, ◌&&◌, ◌||◌, not, is_some, unwrap_or, bytes_eq, ℕ, ℤ, pos, Bor, Bool, true, false, List, [], ◌∷◌, ◌++◌, map, filter, slice_get, option_map, Option, Some, None, Ok, Less, Greater, refl, ap, ap₂, subst, sym, ◌∙◌, inl, inr, codes}
+use Rattle.std.proofs.Common.{arith, ◌+◌, slice_index_or, IsTrue, ◌≡◌, ◌⊎◌, ◌&&◌, ◌||◌, not, is_some, unwrap_or, bytes_eq, ℕ, ℤ, pos, Bor, Bool, true, false, List, [], ◌∷◌, ◌++◌, map, filter, slice_get, option_map, Option, Some, None, Ok, Less, Greater, refl, ap, ap₂, subst, subst₂, sym, ◌∙◌, inl, inr, codes}
 use Rattle.std.specs.List.{AllByRecursion}
-use Rattle.std.specs.Ordering.{int_eq}
+use Rattle.std.specs.Ordering.{int_eq, int_cmp, nat_cmp, is_eq, is_lt}
+use Rattle.std.proofs.lemmas.Int.{ints}
+use Rattle.std.specs.List.Sorted.{IsPermutation, IsSorted}
+use Rattle.std.proofs.lemmas.Bool.{cases_Bool}
+use Rattle.std.proofs.lemmas.Cmp.{int_cmp_total}
+use Rattle.std.proofs.lemmas.List.Sorted.{IsPermutation-refl, IsPermutation-sym, IsPermutation-trans, IsPermutation-cons, IsPermutation-middle, IsPermutation-map}
 use Rattle.sqlite.specs.declared.types.Value.{Value}
 use Rattle.sqlite.specs.declared.types.Value.TheVariants.{Null, Int, Text}
 use Rattle.sqlite.specs.Order.{Row, column, bytes, value_cmp}
 use Rattle.sqlite.specs.Values.{or_null, bound_value}
 use Rattle.sqlite.specs.Edit.{id_in, edit_of}
 use Rattle.sqlite.specs.Rowids.TheVariants.{Chosen, Given}
-use Rattle.sqlite.specs.Tree.{Trees, rowid}
+use Rattle.sqlite.specs.Tree.{Trees, rowid, IsAscending}
+use Rattle.sqlite.specs.Term.{Term}
+use Rattle.sqlite.specs.Effect.{Database}
 use Rattle.sqlite.specs.Kind.TheVariants as kind
 use Rattle.sqlite.specs.Cast.{cast, cast_row}
 use Rattle.sqlite.specs.State.{State, Shown, Executes}
@@ -16,10 +23,13 @@ use Rattle.sqlite_schema.specs.declared.schema.Constraint.TheVariants.{Datatype,
 use Rattle.sqlite_schema.specs.Rules.{Fits}
 use Rattle.sqlite_value.proofs.OrderLemmas.{value_cmp-Int, value_cmp-Null, value_cmp-apart}
 use Rattle.sqlite.specs.Collation.TheVariants.{Binary}
-use Rattle.sqlite.specs.Ops.{binary, is_true, truth, from_truth, or3}
-use Rattle.sqlite_sql.specs.declared.ops.BinaryOp.TheVariants.{Compare, Is, Or}
+use Rattle.sqlite.specs.Ops.{binary, unary, is_true, truth, from_truth, not3}
+use Rattle.sqlite_sql.specs.declared.ops.BinaryOp.TheVariants.{Compare, Is}
+use Rattle.sqlite_sql.specs.declared.ops.UnaryOp.TheVariants.{Not}
 use Rattle.sqlite_sql.specs.declared.ops.CompareOp.TheVariants.{Eq}
-use Rattle.sqlite_keyed.proofs.ListLemmas.{ascending_weaker, map-map, filter-map}
+use Rattle.sqlite_keyed.proofs.ListLemmas.{ascending_weaker, ascending-map, ascending-filter, map-map, filter-map}
+use Rattle.sqlite_keyed.proofs.SortLemmas.{sorted_unique}
+use Rattle.sqlite_exec.proofs.RowsLemmas.{IsSorted-map}
 use Rattle.sql_meaning.proofs.Keys.{trailing, same_text, same_int}
 use Rattle.sqlite_rules.specs.Calls.{ids_of}
 use Rattle.sqlite_rules.proofs.ListLemmas.{all_has, all_from}
@@ -28,17 +38,17 @@ use Rattle.sqlite_trees.specs.View.{is_int}
 use Rattle.sql_meaning.specs.Columns.{int_at, bytes_at, maybe_int, maybe_bytes, maybe_int_at, maybe_bytes_at}
 use Rattle.sql_meaning.proofs.Writing.{inserts, updates}
 use Rattle.sql_meaning.proofs.Scanning.{scan, as_program, passes, shown_of, scanned, answers_one, finds_one}
-use Rattle.sql_meaning.proofs.Reading.{reads_same, reads_one, reads_rising}
+use Rattle.sql_meaning.proofs.Reading.{Asks, reads_same, reads_one, reads_rising}
 use Rattle.sql_meaning.proofs.RowidKeys.{by_number, has_number, each_numbered, few_numbered}
 use Rattle.sql_meaning.proofs.Typed.{text_at, int_in, maybe_int_at as some_int_at, maybe_text_at as some_text_at, all_both}
 use Rattle.sql_meaning.proofs.Edits.{inserted, put_last, updated, decoded, cast_null, cast_int, map_append}
 use Rattle.office_tables.specs.Schema.{office_schema, hold_table, needed, optional}
-use Rattle.office_tables.specs.Rows.{HoldRow, HoldsBelow, is_hold, hold_numbered, last_number, with_hold, with_released, is_live_over, live_holds}
+use Rattle.office_tables.specs.Rows.{HoldRow, HoldsBelow, is_hold, hold_numbered, last_number, with_hold, with_released, is_live, holds_deposit, holds_collection, is_live_on, is_live_within, is_live_over, live_holds}
 use Rattle.office_tables.specs.Tables.{IsOffice, Becomes, tables_of, hold_in}
 use Rattle.office_tables.specs.ShownHolds.{shown_hold}
 use Rattle.office_tables.proofs.Frames.{idle, becomes_holds}
 use Rattle.office_tables.proofs.LastRow.{reads_last}
-use Rattle.office_tables.proofs.HoldTexts.{hold_text, hold_columns, asks_hold, last_text, asks_last, put_text, hold_terms, put_is, put_plain, end_text, ended_columns, end_is, end_plain, live_text, live, number_column, rising, asks_live}
+use Rattle.office_tables.proofs.HoldTexts.{hold_text, hold_columns, asks_hold, last_text, asks_last, put_text, hold_terms, put_is, put_plain, end_text, ended_columns, end_is, end_plain, number_column, rising, on_text, on, asks_on, within_text, within, asks_within}
 
 -- ---- reads
 
@@ -161,22 +171,6 @@ ends_hold old new k day count office h =
 
 -- ---- the live holds
 
--- a test of SQL is true as the Boolean one is
-or_true : (x y : Option Bool) → is_true (from_truth (or3 x y)) ≡ (unwrap_or x false || unwrap_or y false)
-or_true None None = refl
-or_true None (Some true) = refl
-or_true None (Some false) = refl
-or_true (Some true) None = refl
-or_true (Some true) (Some true) = refl
-or_true (Some true) (Some false) = refl
-or_true (Some false) None = refl
-or_true (Some false) (Some true) = refl
-or_true (Some false) (Some false) = refl
-
-or_is : (a b : Value) → is_true (binary Or a b) ≡ (is_true a || is_true b)
-unfolding binary
-or_is a b = or_true (truth a) (truth b)
-
 equals_null : (w : Value) → is_true (binary (Compare Eq Binary) Null w) ≡ false
 unfolding binary
 equals_null w = refl
@@ -186,30 +180,148 @@ unfolding binary
 null_is v (inl is) = rw (is, value_cmp-Null Null) refl
 null_is v (inr is) = rw is (let apart : value_cmp (Int (id_in v)) Null ≡ Greater = value_cmp-apart (Int (id_in v)) Null (λ e. cc) in rw apart refl)
 
-deposit_is : (v : Value) (n : ℤ) → (v ≡ Null) ⊎ (v ≡ Int (id_in v)) → is_true (binary (Compare Eq Binary) v (Int n)) ≡ unwrap_or (option_map (λ d. int_eq d n) (maybe_int v)) false
-deposit_is v n (inl is) = subst (λ w. is_true (binary (Compare Eq Binary) w (Int n)) ≡ unwrap_or (option_map (λ d. int_eq d n) (maybe_int w)) false) (sym is) (equals_null (Int n))
-deposit_is v n (inr is) = subst (λ w. is_true (binary (Compare Eq Binary) w (Int n)) ≡ unwrap_or (option_map (λ d. int_eq d n) (maybe_int w)) false) (sym is) (same_int (id_in v) n)
+-- whether the column has the number
+abbrev numbers : ℤ → Value → Bool
+numbers n v = unwrap_or (option_map (λ d. int_eq d n) (maybe_int v)) false
+
+deposit_is : (v : Value) (n : ℤ) → (v ≡ Null) ⊎ (v ≡ Int (id_in v)) → is_true (binary (Compare Eq Binary) v (Int n)) ≡ numbers n v
+deposit_is v n (inl is) = subst (λ w. is_true (binary (Compare Eq Binary) w (Int n)) ≡ numbers n w) (sym is) (equals_null (Int n))
+deposit_is v n (inr is) = subst (λ w. is_true (binary (Compare Eq Binary) w (Int n)) ≡ numbers n w) (sym is) (same_int (id_in v) n)
+
+-- IS NOT
+isnt_back : (b : Bool) → is_true (from_truth (not3 (truth (from_truth (Some b))))) ≡ not b
+isnt_back true = refl
+isnt_back false = refl
+
+isnt : (v w : Value) → is_true (unary Not (binary (Is Binary) v w)) ≡ not (is_eq (value_cmp v w))
+unfolding unary binary
+isnt v w = isnt_back (is_eq (value_cmp v w))
+
+deposit_isnt : (v : Value) (n : ℤ) → (v ≡ Null) ⊎ (v ≡ Int (id_in v)) → is_true (unary Not (binary (Is Binary) v (Int n))) ≡ not (numbers n v)
+deposit_isnt v n (inl is) = subst (λ w. is_true (unary Not (binary (Is Binary) w (Int n))) ≡ not (numbers n w)) (sym is)
+    (isnt Null (Int n) ∙ (let apart : value_cmp Null (Int n) ≡ Less = value_cmp-apart Null (Int n) (λ e. cc) in rw apart refl))
+deposit_isnt v n (inr is) = subst (λ w. is_true (unary Not (binary (Is Binary) w (Int n))) ≡ not (numbers n w)) (sym is)
+    (isnt (Int (id_in v)) (Int n) ∙ ap (λ o. not (is_eq o)) (value_cmp-Int (id_in v) n))
 
 collection_is : (v : Value) (c : List ℕ) → (v ≡ Null) ⊎ (v ≡ Text (bytes v)) → is_true (binary (Compare Eq Binary) v (Text c)) ≡ unwrap_or (option_map (λ x. bytes_eq x c) (maybe_bytes v)) false
 collection_is v c (inl is) = subst (λ w. is_true (binary (Compare Eq Binary) w (Text c)) ≡ unwrap_or (option_map (λ x. bytes_eq x c) (maybe_bytes w)) false) (sym is) (equals_null (Text c))
 collection_is v c (inr is) = subst (λ w. is_true (binary (Compare Eq Binary) w (Text c)) ≡ unwrap_or (option_map (λ x. bytes_eq x c) (maybe_bytes w)) false) (sym is) (same_text (bytes v) c)
 
-passes_live : (n : ℤ) (c : List ℕ) (r : Row) → IsStoredHold r → passes (Int n ∷ Text c ∷ []) live r ≡ is_live_over n c (hold_in r)
-passes_live n c r it = ap₂ ◌&&◌ (null_is (column r 6) it.4) (trailing _ ∙ or_is _ _ ∙ ap₂ ◌||◌ (deposit_is (column r 2) n it.0) (collection_is (column r 3) c it.1))
+last_first : (a b : Bool) → (a && (b && true)) ≡ (b && a)
+last_first true true = refl
+last_first true false = refl
+last_first false true = refl
+last_first false false = refl
 
-pub lists_live : (old new : State) (n : ℤ) (c : List ℕ) (rows : List Row) → IsOffice old.now → Shown live_text (Int n ∷ Text c ∷ []) old new rows
-    → (new.now ≡ old.now) × (live_holds n c (tables_of old.now) ≡ map (λ row. int_at row 0) rows)
-lists_live old new n c rows office h =
-    let params : Row = Int n ∷ Text c ∷ [] in
-    let db = old.now.trees in
-    let typed = hold_rows db office.fits in
-    let keep : Row → Bool = λ r. is_live_over n c (hold_in r) in
-    let up = ascending_weaker _ _ (λ a b lower. rw lower refl) (db 12) office.shaped.1.1.1.1.1.1.1.0.0 in
-    let each = all_from (λ r. passes params live r ≡ keep r) (db 12) (λ r there. passes_live n c r (all_has IsStoredHold (db 12) r typed there)) in
-    let is = reads_rising office_schema live_text 12 live number_column rising asks_live params old new office.schema_is rows h keep each up in
-    let shows : map (λ row. int_at row 0) (map (shown_of params number_column) (filter keep (db 12))) ≡ map (λ r. int_at r 0) (filter keep (db 12)) = map-map (λ row. int_at row 0) (shown_of params number_column) (filter keep (db 12)) in
-    let typed_is : live_holds n c (tables_of old.now) ≡ map (λ r. int_at r 0) (filter keep (db 12)) =
-    ap (map (λ (h : HoldRow). h.number)) (filter-map (is_live_over n c) hold_in (db 12)) ∙ map-map (λ (h : HoldRow). h.number) hold_in (filter keep (db 12)) in (
-      reads_same office_schema live_text 12 live number_column rising asks_live params old new office.schema_is rows h,
-      typed_is ∙ sym shows ∙ ap (map (λ row. int_at row 0)) (sym is),
-    )
+last_of_three : (a b c : Bool) → (a && (b && (c && true))) ≡ (c && (a && b))
+last_of_three true b c = last_first b c
+last_of_three false b true = refl
+last_of_three false b false = refl
+
+passes_on : (n : ℤ) (r : Row) → IsStoredHold r → passes (Int n ∷ []) on r ≡ is_live_on n (hold_in r)
+passes_on n r it = ap₂ (λ a b. a && (b && true)) (deposit_is (column r 2) n it.0) (null_is (column r 6) it.4) ∙ last_first _ _
+
+passes_within : (n : ℤ) (c : List ℕ) (r : Row) → IsStoredHold r → passes (Int n ∷ Text c ∷ []) within r ≡ is_live_within n c (hold_in r)
+passes_within n c r it =
+    ap₂ (λ a b. a && b) (collection_is (column r 3) c it.1) (ap₂ (λ a b. a && (b && true)) (deposit_isnt (column r 2) n it.0) (null_is (column r 6) it.4))
+    ∙ last_of_three (holds_collection c (hold_in r)) (not (holds_deposit n (hold_in r))) (is_live (hold_in r))
+
+-- the numbers of the holds that pass, in the order of their table
+module _ (old new : State) (text : List ℕ) (test : List Term) (asks : Asks office_schema text 12 test number_column rising) (params : Row) (rows : List Row) (office : IsOffice old.now) (h : Shown text params old new rows) where
+  lists_those : (p : HoldRow → Bool) → ((r : Row) → IsStoredHold r → passes params test r ≡ p (hold_in r))
+      → (new.now ≡ old.now) × (map (λ (h : HoldRow). h.number) (filter p (tables_of old.now).holds) ≡ map (λ row. int_at row 0) rows)
+  lists_those p tests =
+      let db = old.now.trees in
+      let typed = hold_rows db office.fits in
+      let keep : Row → Bool = λ r. p (hold_in r) in
+      let up = ascending_weaker _ _ (λ a b lower. rw lower refl) (db 12) office.shaped.1.1.1.1.1.1.1.0.0 in
+      let each = all_from (λ r. passes params test r ≡ keep r) (db 12) (λ r there. tests r (all_has IsStoredHold (db 12) r typed there)) in
+      let is = reads_rising office_schema text 12 test number_column rising asks params old new office.schema_is rows h keep each up in
+      let shows : map (λ row. int_at row 0) (map (shown_of params number_column) (filter keep (db 12))) ≡ map (λ r. int_at r 0) (filter keep (db 12)) = map-map (λ row. int_at row 0) (shown_of params number_column) (filter keep (db 12)) in
+      let typed_is : map (λ (h : HoldRow). h.number) (filter p (tables_of old.now).holds) ≡ map (λ r. int_at r 0) (filter keep (db 12)) =
+      ap (map (λ (h : HoldRow). h.number)) (filter-map p hold_in (db 12)) ∙ map-map (λ (h : HoldRow). h.number) hold_in (filter keep (db 12)) in (
+        reads_same office_schema text 12 test number_column rising asks params old new office.schema_is rows h,
+        typed_is ∙ sym shows ∙ ap (map (λ row. int_at row 0)) (sym is),
+      )
+
+pub lists_on : (old new : State) (n : ℤ) (rows : List Row) → IsOffice old.now → Shown on_text (Int n ∷ []) old new rows
+    → (new.now ≡ old.now) × (map (λ (h : HoldRow). h.number) (filter (is_live_on n) (tables_of old.now).holds) ≡ map (λ row. int_at row 0) rows)
+lists_on old new n rows office h = lists_those old new on_text on asks_on (Int n ∷ []) rows office h (is_live_on n) (passes_on n)
+
+pub lists_within : (old new : State) (n : ℤ) (c : List ℕ) (rows : List Row) → IsOffice old.now → Shown within_text (Int n ∷ Text c ∷ []) old new rows
+    → (new.now ≡ old.now) × (map (λ (h : HoldRow). h.number) (filter (is_live_within n c) (tables_of old.now).holds) ≡ map (λ row. int_at row 0) rows)
+lists_within old new n c rows office h = lists_those old new within_text within asks_within (Int n ∷ Text c ∷ []) rows office h (is_live_within n c) (passes_within n c)
+
+-- ---- both, sorted
+
+module _ {X : Type 0} (p q s : X → Bool) (either : (x : X) → s x ≡ (p x || q x)) (apart : (x : X) → p x ≡ true → q x ≡ false) where
+  joined : (xs : List X) → IsPermutation (filter p xs ++ filter q xs) (filter s xs)
+  joined [] = IsPermutation-refl []
+  joined (x ∷ xs) = elim (cases_Bool (p x)) [
+    | inl is ↦
+        let qx = apart x is in
+        let sx : s x ≡ true = rw is at (either x) in
+        rw (is, qx, sx) (IsPermutation-cons x _ _ (joined xs))
+    | inr isnt ↦ elim (cases_Bool (q x)) [
+      | inl too ↦
+          let sx : s x ≡ true = rw (isnt, too) at (either x) in
+          rw (isnt, too, sx) (IsPermutation-trans _ _ _ (IsPermutation-middle (filter p xs) x (filter q xs)) (IsPermutation-cons x _ _ (joined xs)))
+      | inr none ↦
+          let sx : s x ≡ false = rw (isnt, none) at (either x) in
+          rw (isnt, none, sx) (joined xs)
+    ]
+  ]
+
+over_either : (l d c : Bool) → (l && (d || c)) ≡ ((l && d) || (l && (c && not d)))
+over_either true true c = refl
+over_either true false true = refl
+over_either true false false = refl
+over_either false d c = refl
+
+on_apart : (l d c : Bool) → (l && d) ≡ true → (l && (c && not d)) ≡ false
+on_apart true true true h = refl
+on_apart true true false h = refl
+on_apart true false c h = absurd cc
+on_apart false d c h = absurd cc
+
+numbers_rise : (rows : List Row) → AllByRecursion (λ r. IsTrue (is_int (rowid r))) rows → IsAscending (λ a b. value_cmp (rowid a) (rowid b) ≡ Less) rows → IsAscending (λ a b. int_cmp (int_at a 0) (int_at b 0) ≡ Less) rows
+numbers_rise [] whole up = tt
+numbers_rise (r ∷ rows) whole up = (
+  all_from _ rows (λ s there. sym (value_cmp-Int (int_at r 0) (int_at s 0))
+      ∙ subst₂ (λ v w. value_cmp v w ≡ Less) (int_is (rowid r) whole.0) (int_is (rowid s) (all_has _ rows s whole.1 there)) (all_has _ rows s up.0 there)),
+  numbers_rise rows whole.1 up.1,
+)
+
+live_rise : (db : Database) → IsOffice db → (n : ℤ) (c : List ℕ) → IsAscending (λ a b. int_cmp a b ≡ Less) (live_holds n c (tables_of db))
+live_rise db office n c =
+    let shaped = office.shaped.1.1.1.1.1.1.1.0 in
+    let rows = numbers_rise (db.trees 12) shaped.1 shaped.0 in
+    let typed : IsAscending (λ (a b : HoldRow). int_cmp a.number b.number ≡ Less) (map hold_in (db.trees 12)) = ascending-map (λ (a b : HoldRow). int_cmp a.number b.number ≡ Less) hold_in (db.trees 12) rows in
+    ascending-map (λ a b. int_cmp a b ≡ Less) (λ (h : HoldRow). h.number) _ (ascending-filter (λ (a b : HoldRow). int_cmp a.number b.number ≡ Less) (is_live_over n c) (map hold_in (db.trees 12)) typed)
+
+pos_cmp : (a b : ℕ) → nat_cmp a b ≡ int_cmp (pos a) (pos b)
+pos_cmp a b = grind (arith, ints)
+
+-- the numbers of both, once sorted, are those of the live holds
+sorts_live : (db : Database) → IsOffice db → (n : ℤ) (c : List ℕ) (both sorted : List ℕ)
+    → map pos both ≡ map (λ (h : HoldRow). h.number) (filter (is_live_on n) (tables_of db).holds) ++ map (λ (h : HoldRow). h.number) (filter (is_live_within n c) (tables_of db).holds)
+    → IsPermutation both sorted → IsSorted nat_cmp sorted → map pos sorted ≡ live_holds n c (tables_of db)
+sorts_live db office n c both sorted are same up =
+    let holds = (tables_of db).holds in
+    let number : HoldRow → ℤ = λ h. h.number in
+    let all = joined (is_live_on n) (is_live_within n c) (is_live_over n c)
+    (λ h. over_either (is_live h) (holds_deposit n h) (holds_collection c h)) (λ h. on_apart (is_live h) (holds_deposit n h) (holds_collection c h)) holds in
+    let moved : IsPermutation (map pos both) (live_holds n c (tables_of db)) = subst (λ xs. IsPermutation xs (live_holds n c (tables_of db))) (map_append number (filter (is_live_on n) holds) (filter (is_live_within n c) holds) ∙ sym are) (IsPermutation-map number _ _ all) in
+    sorted_unique int_cmp int_cmp_total (live_holds n c (tables_of db)) (map pos sorted) (live_rise db office n c)
+    (IsPermutation-trans _ _ _ (IsPermutation-sym _ _ moved) (IsPermutation-map pos both sorted same)) (IsSorted-map int_cmp pos sorted (λ k d low high. subst (λ o. is_lt o ≡ false) (pos_cmp (slice_index_or sorted (k + 1) d) (slice_index_or sorted k d)) (up k d low high)))
+
+-- what was gathered of the two answers, the second of which the same database gave
+pub gathers_live : (old mid : Database) → IsOffice old → mid ≡ old → (n : ℤ) (c : List ℕ) (first second : List Row) (none one both sorted : List ℕ)
+    → map (λ (h : HoldRow). h.number) (filter (is_live_on n) (tables_of old).holds) ≡ map (λ row. int_at row 0) first
+    → map (λ (h : HoldRow). h.number) (filter (is_live_within n c) (tables_of mid).holds) ≡ map (λ row. int_at row 0) second
+    → none ≡ [] → map pos one ≡ map pos none ++ map (λ row. int_at row 0) first → map pos both ≡ map pos one ++ map (λ row. int_at row 0) second
+    → IsPermutation both sorted → IsSorted nat_cmp sorted → map pos sorted ≡ live_holds n c (tables_of old)
+gathers_live old mid office same n c first second none one both sorted on_is within_is empty one_is both_is =
+    sorts_live old office n c both sorted (both_is ∙ ap₂ (λ xs ys. xs ++ ys)
+    (one_is ∙ ap (λ xs. map pos xs ++ map (λ row. int_at row 0) first) empty ∙ sym on_is)
+    (sym within_is ∙ ap (λ db. map (λ (h : HoldRow). h.number) (filter (is_live_within n c) (tables_of db).holds)) same))

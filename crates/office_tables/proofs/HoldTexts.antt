@@ -1,14 +1,15 @@
 -- What the statements on holds mean under the schema of an office.
 use Rattle.std.proofs.Common.{◌≡◌, ℕ, false, List, [], ◌∷◌, codes, refl}
 use Rattle.sqlite.specs.declared.types.Value.TheVariants.{Null}
-use Rattle.sqlite.specs.Term.{Term, lit, col, op2}
+use Rattle.sqlite.specs.Term.{Term, lit, col, op1, op2}
 use Rattle.sqlite.specs.Collation.TheVariants.{Binary}
 use Rattle.sqlite.specs.Command.TheVariants.{Insert, Update}
 use Rattle.sqlite.specs.Source.TheVariants.{Values}
 use Rattle.sqlite.specs.Listing.{understood}
 use Rattle.sqlite.proofs.Callers.{IsPlain, command_of}
 use Rattle.sqlite_tied.specs.Compute.{everything}
-use Rattle.sqlite_sql.specs.declared.ops.BinaryOp.TheVariants.{Compare, Is, Or}
+use Rattle.sqlite_sql.specs.declared.ops.BinaryOp.TheVariants.{Compare, Is}
+use Rattle.sqlite_sql.specs.declared.ops.UnaryOp.TheVariants.{Not}
 use Rattle.sqlite_sql.specs.declared.ops.CompareOp.TheVariants.{Eq}
 use Rattle.sqlite_value.specs.declared.keys.Key.{Key}
 use Rattle.sql_meaning.proofs.Scanning.{scan, as_program}
@@ -67,13 +68,7 @@ pub end_plain : IsPlain (understood office_schema end_text)
 unfolding understood everything
 end_plain = (refl, refl)
 
--- ---- the live holds over a deposit of a collection
-
-abbrev pub live_text : List ℕ
-live_text = codes "SELECT number FROM hold WHERE released IS NULL AND (deposit = ?1 OR collection = ?2) ORDER BY number"
-
-abbrev pub live : List Term
-live = op2 (Is Binary) (col 1 6) (lit Null) ∷ op2 Or (op2 (Compare Eq Binary) (col 1 2) (col 0 0)) (op2 (Compare Eq Binary) (col 1 3) (col 0 1)) ∷ []
+-- ---- the live holds on a deposit, and those on a collection
 
 abbrev pub number_column : List Term
 number_column = col 1 0 ∷ []
@@ -82,6 +77,22 @@ number_column = col 1 0 ∷ []
 abbrev pub rising : List (Term × Key)
 rising = (col 1 0, record { collation = Binary; descending = false }) ∷ []
 
-pub asks_live : Asks office_schema live_text 12 live number_column rising
+abbrev pub on_text : List ℕ
+on_text = codes "SELECT number FROM hold WHERE deposit = ?1 AND released IS NULL ORDER BY number"
+
+abbrev pub on : List Term
+on = op2 (Compare Eq Binary) (col 1 2) (col 0 0) ∷ op2 (Is Binary) (col 1 6) (lit Null) ∷ []
+
+pub asks_on : Asks office_schema on_text 12 on number_column rising
 unfolding understood everything
-asks_live = record { names = codes "number" ∷ []; command = refl; unlisted = refl; plain = (refl, refl) }
+asks_on = record { names = codes "number" ∷ []; command = refl; unlisted = refl; plain = (refl, refl) }
+
+abbrev pub within_text : List ℕ
+within_text = codes "SELECT number FROM hold WHERE collection = ?2 AND deposit IS NOT ?1 AND released IS NULL ORDER BY number"
+
+abbrev pub within : List Term
+within = op2 (Compare Eq Binary) (col 1 3) (col 0 1) ∷ op1 Not (op2 (Is Binary) (col 1 2) (col 0 0)) ∷ op2 (Is Binary) (col 1 6) (lit Null) ∷ []
+
+pub asks_within : Asks office_schema within_text 12 within number_column rising
+unfolding understood everything
+asks_within = record { names = codes "number" ∷ []; command = refl; unlisted = refl; plain = (refl, refl) }

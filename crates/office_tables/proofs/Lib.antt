@@ -11,8 +11,9 @@ pub mod HoldTexts
 pub mod HoldLemmas
 pub mod PolicyTexts
 pub mod PolicyLemmas
-pub mod DepositLast
 pub mod DepositTexts
 pub mod DepositLemmas
+pub mod NewDeposit
 pub mod FileTexts
 pub mod FileLemmas
+pub mod OpenLemmas

@@ -1,6 +1,6 @@
 -- The rows of the office's tables as plain records, what is looked up in them, and how they change. Nothing here speaks of SQL.
 -- Texts are lists of bytes. Days are day numbers, 0 for 1970-01-01. Sizes are in bytes, years are calendar years.
-use Rattle.std.specs.Prelude.{⊤, ℕ, ℤ, pos, List, [], ◌∷◌, ◌++◌, map, find, filter, Option, Some, None, bytes_eq, not, is_some, unwrap_or, option_map, ◌≡◌, ◌&&◌, ◌||◌, Bool, false, if◌then◌else◌}
+use Rattle.std.specs.Prelude.{⊤, ℕ, ℤ, pos, negsuc, nat_le, List, [], ◌∷◌, ◌++◌, map, find, filter, Option, Some, None, bytes_eq, not, is_some, unwrap_or, option_map, ◌≡◌, ◌&&◌, ◌||◌, Bool, false, if◌then◌else◌}
 use Rattle.std.specs.List.{AllByRecursion, list_any}
 use Rattle.std.specs.Ordering.{int_eq, int_cmp}
 use Rattle.std.specs.declared.cmp.Ordering.TheVariants.{Less}
@@ -95,6 +95,19 @@ limits_in o = record { max_deposits = o.max_deposits; max_holds = o.max_holds }
 abbrev pub limits_of : Tables → Option Limits
 limits_of t = option_map limits_in (office_row t)
 
+-- a limit is from 1 to 1,000,000
+abbrev pub is_in_range : ℤ → Bool
+is_in_range (pos n) = nat_le 1 n && nat_le n 1000000
+is_in_range (negsuc n) = false
+
+-- the row by which an office is known: it has the id 1, and limits in range
+abbrev pub is_known : OfficeRow → Bool
+is_known o = is_office_row o && (is_in_range o.max_deposits && is_in_range o.max_holds)
+
+-- the version that this row tells, if there is one
+abbrev pub version_of : Tables → Option ℤ
+version_of t = option_map (λ o. o.version) (find is_known t.office)
+
 -- the tables of an office that holds nothing yet
 abbrev pub empty_office : ℤ → ℤ → ℤ → Tables
 empty_office version max_deposits max_holds = record {
@@ -128,6 +141,9 @@ is_class name c = bytes_eq c.name name
 abbrev pub class_named : List ℕ → List ClassRow → Option ClassRow
 class_named name = find (is_class name)
 
+abbrev pub has_class : List ℕ → Tables → Bool
+has_class name t = list_any (is_class name) t.classes
+
 abbrev pub with_years : List ℕ → ℤ → Tables → Tables
 with_years name years t = record t { classes = map (λ c. if is_class name c then record c { years = years } else c) t.classes }
 
@@ -136,7 +152,7 @@ with_new_class name years t = record t { classes = t.classes ++ record { name = 
 
 -- the class of that name has these years now; where there is none of that name, it comes at the end
 abbrev pub with_class : List ℕ → ℤ → Tables → Tables
-with_class name years t = if list_any (is_class name) t.classes then with_years name years t else with_new_class name years t
+with_class name years t = if has_class name t then with_years name years t else with_new_class name years t
 
 abbrev pub is_collection : List ℕ → List ℕ → Bool
 is_collection name c = bytes_eq c name
@@ -231,6 +247,14 @@ holds_collection collection h = unwrap_or (option_map (λ c. bytes_eq c collecti
 -- it isn't released, and names the deposit or the collection
 abbrev pub is_live_over : ℤ → List ℕ → HoldRow → Bool
 is_live_over n collection h = is_live h && (holds_deposit n h || holds_collection collection h)
+
+-- it isn't released, and names the deposit
+abbrev pub is_live_on : ℤ → HoldRow → Bool
+is_live_on n h = is_live h && holds_deposit n h
+
+-- it isn't released, and names the collection and not the deposit
+abbrev pub is_live_within : ℤ → List ℕ → HoldRow → Bool
+is_live_within n collection h = is_live h && (holds_collection collection h && not (holds_deposit n h))
 
 -- the numbers of the live holds over a deposit of that collection, ascending
 abbrev pub live_holds : ℤ → List ℕ → Tables → List ℤ

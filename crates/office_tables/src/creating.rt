@@ -3,6 +3,7 @@
 ghost use Rattle.std.specs.Prelude.{ℕ, ℤ, pos, List, [], ◌≡◌, ◌≢◌, ◌≤◌, Err, false, true, map, OnOk, OnErr, IsTrue};
 ghost use Rattle.sqlite.specs.Schema.{Schema};
 ghost use Rattle.sqlite.specs.Effect.{Database};
+ghost use Rattle.sqlite.specs.Tree.{Trees};
 ghost use Rattle.sqlite.specs.State.{HasCleanDisk, Survives};
 ghost use Rattle.sqlite.specs.Held.{state};
 ghost use Rattle.sql_meaning.specs.Inside.{Stays, GoesOn, Stands};
@@ -120,6 +121,8 @@ pub fn create<S: Alter>(
     ensures survives { Survives (state S.Store conn.old) (state S.Store conn.new)
         (λ db. (made : Database) × Becomes made (empty_office (pos 1) (pos max_deposits) (pos max_holds)) × (db ≡ made.trees)) }
     ensures made { HasCleanDisk (state S.Store conn.new) → OnOk result (IsMade (state S.Store conn.new) (empty_office (pos 1) (pos max_deposits) (pos max_holds))) }
+    ensures durable { HasCleanDisk (state S.Store conn.new) → OnOk result ((db : Trees) → (state S.Store conn.new).may_leave db
+        → (made : Database) × Becomes made (empty_office (pos 1) (pos max_deposits) (pos max_holds)) × (db ≡ made.trees)) }
     ensures refused { HasCleanDisk (state S.Store conn.new) → OnErr result (IsKept (state S.Store conn.old) (state S.Store conn.new)) }
     ensures not_empty { (state S.Store conn.old).now.schema ≢ no_schema → result ≡ Err TableFault.Store }
 {

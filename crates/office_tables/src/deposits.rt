@@ -1,11 +1,11 @@
 //! Deposits.
 
-ghost use Rattle.std.specs.Prelude.{◌≡◌, IfOk, OnOk, None, pos, option_map, slice_get, map};
+ghost use Rattle.std.specs.Prelude.{◌≡◌, IfOk, IsTrue, OnOk, None, pos, option_map, slice_get, map};
 ghost use Rattle.sqlite.specs.State.{HasCleanDisk};
 ghost use Rattle.sqlite.specs.Held.{state};
 ghost use Rattle.sql_meaning.specs.Inside.{Stays, GoesOn};
 ghost use Rattle.sql_meaning.specs.Columns.{int_at};
-ghost use Rattle.office_tables.specs.Rows.{deposit_numbered, deposit_by, last_number, DepositsBelow, with_deposit, with_gone};
+ghost use Rattle.office_tables.specs.Rows.{deposit_numbered, deposit_by, has_class, has_collection, last_number, DepositsBelow, with_deposit, with_gone};
 ghost use Rattle.office_tables.specs.Tables.{IsOffice, Becomes, tables_of};
 ghost use Rattle.office_tables.specs.Deposits.{shown_deposit};
 
@@ -271,6 +271,14 @@ pub fn put_deposit<S: Alter>(
           bytes = bytes;
           gone = None;
         }) (tables_of (state S.Store tx.old.conn.now).now))) }
+    ensures new_number { HasCleanDisk (state S.Store tx.new.conn.now) → IsOffice (state S.Store tx.old.conn.now).now → OnOk result (
+        deposit_numbered (pos number) (tables_of (state S.Store tx.old.conn.now).now).deposits ≡ None) }
+    ensures new_accession { HasCleanDisk (state S.Store tx.new.conn.now) → IsOffice (state S.Store tx.old.conn.now).now → OnOk result (
+        deposit_by accession.now (tables_of (state S.Store tx.old.conn.now).now).deposits ≡ None) }
+    ensures its_collection { HasCleanDisk (state S.Store tx.new.conn.now) → IsOffice (state S.Store tx.old.conn.now).now → OnOk result (
+        IsTrue (has_collection collection.now (tables_of (state S.Store tx.old.conn.now).now))) }
+    ensures its_class { HasCleanDisk (state S.Store tx.new.conn.now) → IsOffice (state S.Store tx.old.conn.now).now → OnOk result (
+        IsTrue (has_class class.now (tables_of (state S.Store tx.old.conn.now).now))) }
 {
     change(
         tx,

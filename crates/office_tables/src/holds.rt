@@ -1,11 +1,11 @@
 //! Holds.
 
-ghost use Rattle.std.specs.Prelude.{◌≡◌, ℕ, IfOk, OnOk, pos, Some, None, map, option_map, slice_get};
+ghost use Rattle.std.specs.Prelude.{◌≡◌, ℕ, IfOk, OnOk, pos, Some, None, map, filter, ◌++◌, option_map, slice_get};
 ghost use Rattle.sqlite.specs.State.{HasCleanDisk};
 ghost use Rattle.sqlite.specs.Held.{state};
 ghost use Rattle.sql_meaning.specs.Inside.{Stays, GoesOn};
 ghost use Rattle.sql_meaning.specs.Columns.{int_at};
-ghost use Rattle.office_tables.specs.Rows.{hold_numbered, last_number, with_hold, with_released, live_holds, HoldsBelow};
+ghost use Rattle.office_tables.specs.Rows.{hold_numbered, last_number, with_hold, with_released, live_holds, is_live_on, is_live_within, HoldsBelow};
 ghost use Rattle.office_tables.specs.Tables.{IsOffice, Becomes, tables_of};
 ghost use Rattle.office_tables.specs.ShownHolds.{shown_hold};
 
@@ -200,8 +200,27 @@ pub fn end_hold<S: Alter>(
     Ok(())
 }
 
-/// The rows that show the numbers of the live holds over a deposit of that collection.
-fn rows_of_live_holds<S: Alter>(
+/// The rows that show the numbers of the live holds on the deposit.
+fn rows_of_holds_on<S: Alter>(
+    tx: &mut Transaction<'_, S>,
+    deposit: u32,
+) -> Result<Vec<Row>, TableFault>
+    ensures same_reference { tx.new.conn.ghost_name ≡ tx.old.conn.ghost_name }
+    ensures stays { Stays (state S.Store tx.old.conn.now) (state S.Store tx.new.conn.now) }
+    ensures goes_on { HasCleanDisk (state S.Store tx.new.conn.now) → OnOk result (GoesOn (state S.Store tx.old.conn.now) (state S.Store tx.new.conn.now)) }
+    ensures found { HasCleanDisk (state S.Store tx.new.conn.now) → IsOffice (state S.Store tx.old.conn.now).now → IfOk result (λ rows.
+        ((state S.Store tx.new.conn.now).now ≡ (state S.Store tx.old.conn.now).now)
+        × (map (λ h. h.number) (filter (is_live_on (pos deposit)) (tables_of (state S.Store tx.old.conn.now).now).holds) ≡ map (λ row. int_at row 0) rows.items)) }
+{
+    ask(
+        tx,
+        "SELECT number FROM hold WHERE deposit = ?1 AND released IS NULL ORDER BY number",
+        params![deposit],
+    )
+}
+
+/// The rows that show the numbers of the live holds on the collection, without those on the deposit.
+fn rows_of_holds_within<S: Alter>(
     tx: &mut Transaction<'_, S>,
     deposit: u32,
     collection: &str,
@@ -211,30 +230,30 @@ fn rows_of_live_holds<S: Alter>(
     ensures goes_on { HasCleanDisk (state S.Store tx.new.conn.now) → OnOk result (GoesOn (state S.Store tx.old.conn.now) (state S.Store tx.new.conn.now)) }
     ensures found { HasCleanDisk (state S.Store tx.new.conn.now) → IsOffice (state S.Store tx.old.conn.now).now → IfOk result (λ rows.
         ((state S.Store tx.new.conn.now).now ≡ (state S.Store tx.old.conn.now).now)
-        × (live_holds (pos deposit) collection.now (tables_of (state S.Store tx.old.conn.now).now) ≡ map (λ row. int_at row 0) rows.items)) }
+        × (map (λ h. h.number) (filter (is_live_within (pos deposit) collection.now) (tables_of (state S.Store tx.old.conn.now).now).holds) ≡ map (λ row. int_at row 0) rows.items)) }
 {
     ask(
         tx,
-        "SELECT number FROM hold WHERE released IS NULL AND (deposit = ?1 OR collection = ?2) ORDER BY number",
+        "SELECT number FROM hold WHERE collection = ?2 AND deposit IS NOT ?1 AND released IS NULL ORDER BY number",
         params![deposit, collection],
     )
 }
 
-/// The numbers in the first column of the rows that a query shows.
-fn numbers_in(alloc: Global, rows: &[Row]) -> Result<Vec<u32>, TableFault>
-    ensures { IfOk result (λ numbers. map pos numbers.items ≡ map (λ row. int_at row 0) rows.now) }
+/// Adds the numbers in the first column of the rows.
+fn add_numbers(numbers: &mut Vec<u32>, rows: &[Row]) -> Result<(), TableFault>
+    ensures { OnOk result (map pos numbers.new.items ≡ map pos numbers.old.items ++ map (λ row. int_at row 0) rows.now) }
 {
-    let mut numbers = Vec::new(alloc);
     for row in rows {
         numbers.push(first_number(row)?)?;
     }
-    Ok(numbers)
+    Ok(())
 }
 
 /// The numbers of the live holds on the deposit of that number or on the collection of that name, ascending.
 ///
 /// Fails with `Memory` or `Store`.
 pub fn live_holds<S: Alter>(
+    alloc: Global,
     tx: &mut Transaction<'_, S>,
     deposit: u32,
     collection: &str,
@@ -246,6 +265,11 @@ pub fn live_holds<S: Alter>(
     ensures found { HasCleanDisk (state S.Store tx.new.conn.now) → IsOffice (state S.Store tx.old.conn.now).now → IfOk result (λ numbers.
         map pos numbers.items ≡ live_holds (pos deposit) collection.now (tables_of (state S.Store tx.old.conn.now).now)) }
 {
-    let rows = rows_of_live_holds(tx, deposit, collection)?;
-    numbers_in(*rows.allocator(), &rows)
+    let on_deposit = rows_of_holds_on(tx, deposit)?;
+    let on_collection = rows_of_holds_within(tx, deposit, collection)?;
+    let mut numbers = Vec::new(alloc);
+    add_numbers(&mut numbers, &on_deposit)?;
+    add_numbers(&mut numbers, &on_collection)?;
+    numbers.sort_unstable();
+    Ok(numbers)
 }

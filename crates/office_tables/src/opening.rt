@@ -1,12 +1,12 @@
 //! Opening an office, and its limits.
 
-ghost use Rattle.std.specs.Prelude.{ℕ, ℤ, pos, [], Ok, Err, ◌≡◌, ◌≢◌, true, false, MatchOption, All, Contains, IfOk, OnOk, IsTrue, Some, option_map, slice_get};
+ghost use Rattle.std.specs.Prelude.{ℕ, ℤ, pos, [], Ok, Err, ◌≡◌, ◌≢◌, true, false, MatchOption, All, Contains, IfOk, OnOk, IsTrue, Some, None, option_map, slice_get};
 ghost use Rattle.sqlite.specs.State.{HasCleanDisk, Survives};
 ghost use Rattle.sqlite.specs.Held.{state};
 ghost use Rattle.sqlite.specs.Order.{Row as SqlRow, column};
 ghost use Rattle.sqlite.specs.declared.types.Value.TheVariants.{Int};
 ghost use Rattle.sql_meaning.specs.Inside.{Stays, GoesOn};
-ghost use Rattle.office_tables.specs.Rows.{limits_of};
+ghost use Rattle.office_tables.specs.Rows.{limits_of, version_of};
 ghost use Rattle.office_tables.specs.Tables.{IsOffice, tables_of, shown_limits};
 ghost use Rattle.office_tables.specs.Opening.{shows_office, ShowsVersion, has_office, HasVersion, NotAnOffice, IsKept};
 
@@ -89,6 +89,10 @@ pub fn open_tables<S: Alter>(conn: &mut Connection<S>) -> Result<(), TableFault>
     ensures opened { HasCleanDisk (state S.Store conn.new) → OnOk result (IsTrue (has_office (state S.Store conn.old).now.schema) × HasVersion (state S.Store conn.old).now (pos 1)) }
     ensures not_office { HasCleanDisk (state S.Store conn.new) → result ≡ Err TableFault.NotAnOffice → NotAnOffice (state S.Store conn.old).now }
     ensures other_version { HasCleanDisk (state S.Store conn.new) → result ≡ Err TableFault.OtherVersion → (version : ℤ) × (version ≢ pos 1) × HasVersion (state S.Store conn.old).now version }
+    ensures no_table { has_office (state S.Store conn.old).now.schema ≡ false → result ≡ Err TableFault.NotAnOffice }
+    ensures known { HasCleanDisk (state S.Store conn.new) → IsOffice (state S.Store conn.old).now → OnOk result (version_of (tables_of (state S.Store conn.old).now) ≡ Some (pos 1)) }
+    ensures unknown { HasCleanDisk (state S.Store conn.new) → IsOffice (state S.Store conn.old).now → result ≡ Err TableFault.NotAnOffice → version_of (tables_of (state S.Store conn.old).now) ≡ None }
+    ensures known_as_other { HasCleanDisk (state S.Store conn.new) → IsOffice (state S.Store conn.old).now → result ≡ Err TableFault.OtherVersion → (version : ℤ) × (version ≢ pos 1) × (version_of (tables_of (state S.Store conn.old).now) ≡ Some version) }
 {
     if !has_office(conn.schema()) {
         return Err(TableFault::NotAnOffice);

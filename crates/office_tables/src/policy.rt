@@ -154,7 +154,10 @@ fn rules_in(alloc: Global, rows: &[Row]) -> Result<Vec<RuleRow>, TableFault>
 /// The rules, ascending by place.
 ///
 /// Fails with `Memory` or `Store`.
-pub fn rules<S: Alter>(tx: &mut Transaction<'_, S>) -> Result<Vec<RuleRow>, TableFault>
+pub fn rules<S: Alter>(
+    alloc: Global,
+    tx: &mut Transaction<'_, S>,
+) -> Result<Vec<RuleRow>, TableFault>
     ensures same_reference { tx.new.conn.ghost_name ≡ tx.old.conn.ghost_name }
     ensures stays { Stays (state S.Store tx.old.conn.now) (state S.Store tx.new.conn.now) }
     ensures goes_on { HasCleanDisk (state S.Store tx.new.conn.now) → OnOk result (GoesOn (state S.Store tx.old.conn.now) (state S.Store tx.new.conn.now)) }
@@ -163,7 +166,7 @@ pub fn rules<S: Alter>(tx: &mut Transaction<'_, S>) -> Result<Vec<RuleRow>, Tabl
         rules.items ≡ (tables_of (state S.Store tx.old.conn.now).now).rules) }
 {
     let rows = rows_of_rules(tx)?;
-    rules_in(*rows.allocator(), &rows)
+    rules_in(alloc, &rows)
 }
 
 /// Takes out each caller.

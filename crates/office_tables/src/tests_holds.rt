@@ -58,6 +58,7 @@ fn days_of<S: Alter>(
 }
 
 fn are_live<S: Alter>(
+    alloc: Global,
     conn: &mut Connection<S>,
     deposit: u32,
     collection: &str,
@@ -67,13 +68,14 @@ fn are_live<S: Alter>(
         return Err(TableFault::Store);
     }
     let mut tx = conn.transaction();
-    let numbers = live_holds(&mut tx, deposit, collection)?;
+    let numbers = live_holds(alloc, &mut tx, deposit, collection)?;
     Ok(numbers.as_slice() == expected)
 }
 
 #[test]
 fn holds(rt: HostRuntime) -> Result<(), Fail> {
-    let mut conn = Connection::open_in_memory(rt.alloc())?;
+    let alloc = rt.alloc();
+    let mut conn = Connection::open_in_memory(alloc)?;
     assert_eq!(rt; make(&mut conn), Ok(()));
     assert_eq!(rt; last_of(&mut conn), Ok(None));
     assert_eq!(rt; add_hold(&mut conn, 1, Some(7), None), Ok(()));
@@ -85,14 +87,14 @@ fn holds(rt: HostRuntime) -> Result<(), Fail> {
         Err(TableFault::Store)
     );
     assert_eq!(rt; last_of(&mut conn), Ok(Some(4)));
-    assert_eq!(rt; are_live(&mut conn, 7, "maps", &[1, 2, 3]), Ok(true));
+    assert_eq!(rt; are_live(alloc, &mut conn, 7, "maps", &[1, 2, 3]), Ok(true));
     assert_eq!(rt; release(&mut conn, 1, 150), Ok(()));
     assert_eq!(rt; release(&mut conn, 9, 150), Ok(()));
     assert_eq!(rt; days_of(&mut conn, 1), Ok(Some((100, Some(150)))));
     assert_eq!(rt; days_of(&mut conn, 2), Ok(Some((100, None))));
     assert_eq!(rt; days_of(&mut conn, 9), Ok(None));
-    assert_eq!(rt; are_live(&mut conn, 7, "maps", &[2, 3]), Ok(true));
-    assert_eq!(rt; are_live(&mut conn, 9, "plans", &[]), Ok(true));
+    assert_eq!(rt; are_live(alloc, &mut conn, 7, "maps", &[2, 3]), Ok(true));
+    assert_eq!(rt; are_live(alloc, &mut conn, 9, "plans", &[]), Ok(true));
     Ok(())
 }
 
@@ -138,12 +140,15 @@ fn has_role<S: Alter>(
     }
 }
 
-fn only_place<S: Alter>(conn: &mut Connection<S>) -> Result<Option<i64>, TableFault> {
+fn only_place<S: Alter>(
+    alloc: Global,
+    conn: &mut Connection<S>,
+) -> Result<Option<i64>, TableFault> {
     if !conn.is_autocommit() {
         return Err(TableFault::Store);
     }
     let mut tx = conn.transaction();
-    let all = rules(&mut tx)?;
+    let all = rules(alloc, &mut tx)?;
     match all.as_slice() {
         [rule] => Ok(Some(rule.place)),
         _ => Ok(None),
@@ -158,10 +163,10 @@ fn policies(rt: HostRuntime) -> Result<(), Fail> {
     assert_eq!(rt; has_role(&mut conn, "ada", "keeper"), Ok(None));
     assert_eq!(rt; set_policy(alloc, &mut conn, "ada", "keeper", 1), Ok(()));
     assert_eq!(rt; has_role(&mut conn, "ada", "keeper"), Ok(Some(true)));
-    assert_eq!(rt; only_place(&mut conn), Ok(Some(1)));
+    assert_eq!(rt; only_place(alloc, &mut conn), Ok(Some(1)));
     assert_eq!(rt; set_policy(alloc, &mut conn, "ben", "reader", 2), Ok(()));
     assert_eq!(rt; has_role(&mut conn, "ada", "keeper"), Ok(None));
     assert_eq!(rt; has_role(&mut conn, "ben", "reader"), Ok(Some(true)));
-    assert_eq!(rt; only_place(&mut conn), Ok(Some(2)));
+    assert_eq!(rt; only_place(alloc, &mut conn), Ok(Some(2)));
     Ok(())
 }

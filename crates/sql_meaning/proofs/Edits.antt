@@ -219,7 +219,7 @@ decoded decode keep set test revise tests sets (r ∷ rows) = rw (tests r) (ap�
     one true = sets r
     one false = refl
 
-any_mapped : {Y : Type 0} (decode : Row → Y) (keep : Row → Bool) (test : Y → Bool) → ((r : Row) → test (decode r) ≡ keep r) → (rows : List Row) → list_any test (map decode rows) ≡ list_any keep rows
+pub any_mapped : {Y : Type 0} (decode : Row → Y) (keep : Row → Bool) (test : Y → Bool) → ((r : Row) → test (decode r) ≡ keep r) → (rows : List Row) → list_any test (map decode rows) ≡ list_any keep rows
 any_mapped decode keep test tests [] = refl
 any_mapped decode keep test tests (r ∷ rows) = rw (tests r, any_mapped decode keep test tests rows) refl
 

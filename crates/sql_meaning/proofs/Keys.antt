@@ -3,6 +3,7 @@ use Rattle.std.proofs.Common.{◌≡◌, ◌&&◌, ◌⊎◌, not, ℕ, ℤ, Lis
 use Rattle.std.specs.Ordering.{is_eq, is_ne, ordering_reverse, int_cmp}
 use Rattle.std.specs.List.{AllByRecursion, list_any}
 use Rattle.std.proofs.lemmas.Bool.{cases_Bool}
+use Rattle.std.proofs.lemmas.Cmp.{tied_itself}
 use Rattle.std.proofs.lemmas.Map.Text.{is_eq-slice_cmp}
 use Rattle.sqlite.specs.declared.types.Value.{Value}
 use Rattle.sqlite.specs.declared.types.Value.TheVariants.{Int, Text}
@@ -36,6 +37,13 @@ trailing false = refl
 truth_back : (b : Bool) → is_true (from_truth (Some b)) ≡ b
 truth_back true = refl
 truth_back false = refl
+
+-- a text and a whole number equal themselves
+pub bytes_itself : (a : List ℕ) → bytes_eq a a ≡ true
+bytes_itself a = sym (is_eq-slice_cmp a a) ∙ ap is_eq (sym (value_cmp-Text a a) ∙ tied_itself value_cmp_total (Text a))
+
+pub int_itself : (n : ℤ) → is_eq (int_cmp n n) ≡ true
+int_itself n = ap is_eq (sym (value_cmp-Int n n) ∙ tied_itself value_cmp_total (Int n))
 
 -- `column = parameter`, of texts and of whole numbers
 pub same_text : (a b : List ℕ) → is_true (binary (Compare Eq Binary) (Text a) (Text b)) ≡ bytes_eq a b

@@ -10,3 +10,4 @@ pub mod TextKeys
 pub mod Reading
 pub mod Results
 pub mod RowidKeys
+pub mod Inserts

@@ -40,7 +40,8 @@ equal_is Less h = absurd cc
 equal_is Equal h = refl
 equal_is Greater h = absurd cc
 
-one_numbered : (rows : List Row) → IsShaped shape.Table rows → (n : ℤ) (x y : Row) → Has rows x → Has rows y → has_number n x ≡ true → has_number n y ≡ true → x ≡ y
+-- two rows with one number are one
+pub one_numbered : (rows : List Row) → IsShaped shape.Table rows → (n : ℤ) (x y : Row) → Has rows x → Has rows y → has_number n x ≡ true → has_number n y ≡ true → x ≡ y
 one_numbered rows shaped n x y hx hy px py =
     let wx = int_is (rowid x) (all_has _ rows x shaped.1 hx) in
     let wy = int_is (rowid y) (all_has _ rows y shaped.1 hy) in

@@ -1,6 +1,6 @@
 -- A text column that is a key: the test by it, and that it names at most one row.
-use Rattle.std.proofs.Common.{◌≡◌, ◌&&◌, ◌⊎◌, not, ℕ, List, [], ◌∷◌, filter, bytes_eq, Bool, true, false, refl, sym, ap, subst, ◌∙◌}
-use Rattle.std.specs.List.{AllByRecursion}
+use Rattle.std.proofs.Common.{◌≡◌, ◌&&◌, ◌||◌, ap₂, ◌⊎◌, not, ℕ, List, [], ◌∷◌, filter, bytes_eq, Bool, true, false, refl, sym, ap, subst, ◌∙◌}
+use Rattle.std.specs.List.{AllByRecursion, list_any}
 use Rattle.sqlite.specs.declared.types.Value.TheVariants.{Text}
 use Rattle.sqlite.specs.Order.{Row, column}
 use Rattle.sqlite.specs.Term.{Term, col, op2}
@@ -39,7 +39,8 @@ key_is : (place : ℕ) (name : List ℕ) (r : Row) → IsText place r → has_te
 unfolding first_key
 key_is place name r is named = passes_text place name [] r is ∙ named
 
-one_named : (place : ℕ) (rows : List Row) → IsShaped shape.Table rows → AllByRecursion (IsText place) rows → AllByRecursion (λ r. (not (clashes plain (place ∷ []) rows r) && true) ≡ true) rows
+-- two rows with one text are one
+pub one_named : (place : ℕ) (rows : List Row) → IsShaped shape.Table rows → AllByRecursion (IsText place) rows → AllByRecursion (λ r. (not (clashes plain (place ∷ []) rows r) && true) ≡ true) rows
     → (name : List ℕ) (x y : Row) → Has rows x → Has rows y → has_text place name x ≡ true → has_text place name y ≡ true → x ≡ y
 one_named place rows shaped typed unique name x y hx hy px py =
     let key : Row = Text name ∷ [] in
@@ -56,3 +57,15 @@ one_named place rows shaped typed unique name x y hx hy px py =
 pub few_named : (place : ℕ) (rows : List Row) → IsShaped shape.Table rows → AllByRecursion (IsText place) rows → AllByRecursion (λ r. (not (clashes plain (place ∷ []) rows r) && true) ≡ true) rows → (name : List ℕ)
     → (filter (has_text place name) rows ≡ []) ⊎ ((r : Row) × Has rows r × (has_text place name r ≡ true) × (filter (has_text place name) rows ≡ r ∷ []))
 few_named place rows shaped typed unique name = lone (has_text place name) rows rows shaped.0 (λ r there. there) (one_named place rows shaped typed unique name)
+
+-- ---- a reference to the text column of another table
+
+-- a row is the parent of one that names it
+parent_is : (place at : ℕ) (name : List ℕ) (row parent : Row) → IsText place parent → column row at ≡ Text name → agree plain (place ∷ []) parent (at ∷ []) row ≡ has_text place name parent
+unfolding first_key
+parent_is place at name row parent is names = trailing _ ∙ ap₂ (λ a b. is_true (binary (Compare Eq Binary) a b)) is names ∙ same_text (bytes_at parent place) name
+
+pub any_parent : (place at : ℕ) (name : List ℕ) (row : Row) (parents : List Row) → AllByRecursion (IsText place) parents → column row at ≡ Text name
+    → list_any (λ parent. agree plain (place ∷ []) parent (at ∷ []) row) parents ≡ list_any (has_text place name) parents
+any_parent place at name row [] typed names = refl
+any_parent place at name row (p ∷ parents) typed names = ap₂ ◌||◌ (parent_is place at name row p typed.0 names) (any_parent place at name row parents typed.1 names)

@@ -1,0 +1,87 @@
+-- What a deposit that was put tells of the rows before it: its number and its accession are new, and its collection and its class are there.
+use Rattle.std.proofs.Common.{◌≡◌, ℕ, List, [], ◌∷◌, filter, slice_get, option_map, Bool, true, None, Ok, IsTrue, map, refl, sym, ap, subst, ◌∙◌}
+use Rattle.std.specs.List.{AllByRecursion, list_any}
+use Rattle.sqlite.specs.declared.types.Value.TheVariants.{Int, Text}
+use Rattle.sqlite.specs.Order.{Row, column}
+use Rattle.sqlite.specs.Edit.{Edit, edit_of, edited, with_rowid}
+use Rattle.sqlite.specs.Rowids.TheVariants.{Chosen}
+use Rattle.sqlite.specs.Cast.{cast_row}
+use Rattle.sqlite.specs.State.{State, Executes}
+use Rattle.sqlite_schema.specs.declared.schema.Keys.TheVariants.{Enforced}
+use Rattle.sqlite_schema.specs.Rules.{agree}
+use Rattle.sqlite_schema.specs.declared.schema.Constraint.TheVariants.{Unique}
+use Rattle.sqlite_value.specs.Keys.{plain, joined}
+use Rattle.sqlite_schema.specs.Names.{same_name}
+use Rattle.sqlite_rules.specs.Lists.{Has}
+use Rattle.sqlite_rules.proofs.ListLemmas.{all_has, all_from}
+use Rattle.sql_meaning.specs.Columns.{bytes_at}
+use Rattle.sql_meaning.proofs.Keys.{found_by, bytes_itself, int_itself}
+use Rattle.sql_meaning.proofs.Typed.{both}
+use Rattle.sql_meaning.proofs.Writing.{Changes, inserts}
+use Rattle.sql_meaning.proofs.Inserts.{put, was_put, none_before}
+use Rattle.sql_meaning.proofs.TextKeys.{IsText, has_text, one_named, any_parent}
+use Rattle.sql_meaning.proofs.RowidKeys.{has_number, one_numbered}
+use Rattle.sql_meaning.proofs.Edits.{any_mapped, cast_null, cast_int}
+use Rattle.office_tables.specs.Schema.{office_schema, deposit_table}
+use Rattle.office_tables.specs.Rows.{DepositRow, is_deposit, deposit_numbered, has_accession, deposit_by, is_class, has_class, is_collection, has_collection}
+use Rattle.office_tables.specs.Tables.{IsOffice, Becomes, tables_of, deposit_in, class_in, collection_in}
+use Rattle.office_tables.proofs.Frames.{idle, becomes_deposits}
+use Rattle.office_tables.proofs.ClassLemmas.{IsClassRow, class_rows}
+use Rattle.office_tables.proofs.CollectionLemmas.{collection_rows}
+use Rattle.office_tables.proofs.DepositLemmas.{params_of, stored_of, accessions}
+use Rattle.office_tables.proofs.DepositTexts.{put_text, put_terms, put_is, put_plain}
+
+module _ (old new : State) (d : DepositRow) (count : ℕ) (office : IsOffice old.now) (h : Executes put_text (params_of d) old new (Ok count)) where
+  abbrev row : Row
+  row = Int d.number ∷ stored_of d
+
+  abbrev edit : Edit
+  edit = edit_of old.now.trees deposit_table [] Chosen 0 (row ∷ [])
+
+  change : Changes office_schema old new edit count edit.news
+  change = inserts put_text (params_of d) old new office_schema office.schema_is 5 deposit_table refl idle put_plain put_terms 10 put_is refl refl count h
+
+  after : Becomes new.now (record (tables_of old.now) { deposits = map deposit_in (edited old.now.trees edit) })
+  after = becomes_deposits old new edit count edit.news office.shaped change refl _ refl
+
+  row_is : put office_schema Enforced old.now.trees new.now.trees deposit_table row change.applies ≡ row
+  row_is =
+      let cast_is : cast_row deposit_table row ≡ row = rw (cast_null, cast_int d.number, cast_int d.closed, cast_int d.deposited, cast_int d.files, cast_int d.bytes) refl in
+      ap (with_rowid Chosen (old.now.trees 8)) cast_is
+
+  -- no deposit passes a test that two deposits of an office can't both pass, and the new one does
+  none_passes : (keep : Row → Bool) → keep row ≡ true → ((x y : Row) → Has (new.now.trees 8) x → Has (new.now.trees 8) y → keep x ≡ true → keep y ≡ true → x ≡ y) → filter keep (old.now.trees 8) ≡ []
+  none_passes keep is alike = none_before office_schema Enforced old.now.trees new.now.trees deposit_table row change.applies keep (ap keep row_is ∙ is) alike
+
+  pub number_was_new : deposit_numbered d.number (tables_of old.now).deposits ≡ None
+  number_was_new =
+      let none = none_passes (has_number d.number) (int_itself d.number) (one_numbered (new.now.trees 8) after.office.shaped.1.1.1.1.1.0 d.number) in
+      found_by (is_deposit d.number) (has_number d.number) deposit_in (old.now.trees 8) (all_from _ (old.now.trees 8) (λ r there. refl)) ∙ ap (λ rs. option_map deposit_in (slice_get rs 0)) none
+
+  pub accession_was_new : deposit_by d.accession (tables_of old.now).deposits ≡ None
+  accession_was_new =
+      let alike = one_named 2 (new.now.trees 8) after.office.shaped.1.1.1.1.1.0 (accessions new.now after.office) (after.office.fits.rules Unique (λ e. cc)).1.1.1.1.1.0 d.accession in
+      let none = none_passes (has_text 2 d.accession) (bytes_itself d.accession) alike in
+      found_by (has_accession d.accession) (has_text 2 d.accession) deposit_in (old.now.trees 8) (all_from _ (old.now.trees 8) (λ r there. refl)) ∙ ap (λ rs. option_map deposit_in (slice_get rs 0)) none
+
+  -- the parents of the new row are there
+  was_there : Has (new.now.trees 8) row
+  was_there = subst (λ r. Has (new.now.trees 8) r) row_is (was_put office_schema Enforced old.now.trees new.now.trees deposit_table row change.applies)
+
+  held : (list_any (λ parent. agree plain (1 ∷ []) parent (3 ∷ []) row) (new.now.trees 6) ≡ true) × (list_any (λ parent. agree plain (1 ∷ []) parent (4 ∷ []) row) (new.now.trees 4) ≡ true)
+  unfolding joined same_name
+  held =
+      let each = all_has _ (new.now.trees 8) row after.office.refers.1.1.1.1.1.0 was_there in
+      let two = both _ _ each in
+      (two.0, (both _ _ two.1).0)
+
+  pub collection_was_there : IsTrue (has_collection d.collection (tables_of old.now))
+  collection_was_there =
+      let named = any_parent 1 3 d.collection row (new.now.trees 6) (collection_rows new.now after.office) refl in
+      sym (ap (λ t. has_collection d.collection t) after.are) ∙ any_mapped collection_in (has_text 1 d.collection) (is_collection d.collection) (λ r. refl) (new.now.trees 6) ∙ sym named ∙ held.0
+
+  pub class_was_there : IsTrue (has_class d.class (tables_of old.now))
+  class_was_there =
+      let names : AllByRecursion (IsText 1) (new.now.trees 4) = all_from _ (new.now.trees 4) (λ r there. (all_has IsClassRow (new.now.trees 4) r (class_rows new.now.trees after.office.fits) there).0) in
+      let named = any_parent 1 4 d.class row (new.now.trees 4) names refl in
+      sym (ap (λ t. has_class d.class t) after.are) ∙ any_mapped class_in (has_text 1 d.class) (is_class d.class) (λ r. refl) (new.now.trees 4) ∙ sym named ∙ held.1

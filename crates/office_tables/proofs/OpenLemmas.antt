@@ -1,0 +1,129 @@
+-- What opening finds in the database of an office is what its rows say.
+use Rattle.std.proofs.Common.{◌≡◌, ◌&&◌, ap₂, ℕ, ℤ, pos, negsuc, ◌==◌, arith, List, [], ◌∷◌, codes, map, find, filter, slice_get, option_map, Bool, true, false, Option, Some, None, Equal, Ok, IsTrue, refl, sym, ap, subst, subst₂, ◌∙◌, inl, inr}
+use Rattle.std.proofs.lemmas.Int.{ints}
+use Rattle.std.proofs.lemmas.Bool.{cases_Bool}
+use Rattle.std.proofs.lemmas.Bool.Decides.{nat_tests}
+use Rattle.std.proofs.lemmas.List.Elements.{recursion_from_All}
+use Rattle.std.specs.List.{AllByRecursion}
+use Rattle.std.specs.Ordering.{int_cmp, int_eq, is_eq}
+use Rattle.sqlite.specs.declared.types.Value.TheVariants.{Int}
+use Rattle.sqlite.specs.Order.{Row, column}
+use Rattle.sqlite.specs.Term.{Term, col}
+use Rattle.sqlite.specs.Edit.{id_in}
+use Rattle.sqlite.specs.Tree.{Trees, rowid}
+use Rattle.sqlite.specs.Kind.TheVariants as kind
+use Rattle.sqlite.specs.Command.TheVariants.{Select}
+use Rattle.sqlite.specs.Listing.{understood, reads_listing, IsSourceOf}
+use Rattle.sqlite.specs.Effect.{Database, Reads}
+use Rattle.sqlite.proofs.Callers.{command_of}
+use Rattle.sqlite_tied.specs.Compute.{everything}
+use Rattle.sqlite_trees.specs.View.{is_int}
+use Rattle.sqlite_schema.specs.declared.schema.Constraint.TheVariants.{Datatype, NotNull}
+use Rattle.sqlite_schema.specs.Rules.{Fits}
+use Rattle.sqlite_schema.specs.Names.{same_name}
+use Rattle.sqlite.specs.Schema.{Schema}
+use Rattle.sqlite_rules.specs.Lists.{Has}
+use Rattle.sqlite_rules.proofs.ListLemmas.{all_has, all_from, has_contained, has_kept}
+use Rattle.sqlite_rules.proofs.TableLemmas.{int_is}
+use Rattle.sql_meaning.specs.Columns.{int_at}
+use Rattle.sql_meaning.proofs.Keys.{found_by, lone, none_pass}
+use Rattle.sql_meaning.proofs.RowidKeys.{has_number, one_numbered}
+use Rattle.sql_meaning.proofs.Reading.{Asks}
+use Rattle.sql_meaning.proofs.Scanning.{scan, as_program, passes, shown_of, Scans, scanned, answer_sound, answer_complete}
+use Rattle.sql_meaning.proofs.Typed.{both, int_in, all_both}
+use Rattle.office_tables.specs.Schema.{office_schema, office_table, needed}
+use Rattle.office_tables.specs.Rows.{OfficeRow, is_in_range, is_known, version_of}
+use Rattle.office_tables.specs.Tables.{IsOffice, tables_of, office_in}
+use Rattle.office_tables.specs.Opening.{has_office, look_text, Looks, ShowsVersion, shows_office, is_one, is_limit, is_int as is_whole}
+
+-- a stored row of the office, as the rules of its table leave it
+abbrev IsOfficeRow : Row → Type 0
+IsOfficeRow r = (column r 2 ≡ Int (int_at r 2)) × (column r 3 ≡ Int (int_at r 3)) × (column r 4 ≡ Int (int_at r 4))
+
+office_rows : (db : Trees) → Fits office_schema db → AllByRecursion IsOfficeRow (db 0)
+office_rows db fits = all_both (λ r t p. (
+  int_in office_schema db office_table r t p 1 (needed (codes "version") kind.Integer) refl refl refl refl refl,
+  int_in office_schema db office_table r t p 2 (needed (codes "max_deposits") kind.Integer) refl refl refl refl refl,
+  int_in office_schema db office_table r t p 3 (needed (codes "max_holds") kind.Integer) refl refl refl refl refl,
+)) (db 0) (fits.rules Datatype (λ e. cc)).0 (fits.rules NotNull (λ e. cc)).0
+
+-- the schema of an office has its table
+at_once : has_office office_schema ≡ true
+unfolding same_name
+at_once = refl
+
+pub is_there : (schema : Schema) → schema ≡ office_schema → has_office schema ≡ true
+is_there schema is = ap has_office is ∙ at_once
+
+-- ---- the query on the row of the office
+
+abbrev look_columns : List Term
+look_columns = col 1 0 ∷ col 1 2 ∷ col 1 3 ∷ col 1 4 ∷ []
+
+asks_look : Asks office_schema look_text 0 [] look_columns []
+unfolding understood everything
+asks_look = record { names = codes "id" ∷ codes "version" ∷ codes "max_deposits" ∷ codes "max_holds" ∷ []; command = refl; unlisted = refl; plain = (refl, refl) }
+
+look_scans : (db : Database) → db.schema ≡ office_schema → (rows : List Row) → Looks db rows → Scans db.trees [] 0 [] look_columns [] rows
+look_scans db has rows look =
+    let known : understood office_schema look_text ≡ Ok look.0 = ap (λ s. understood s look_text) (sym has) ∙ look.2 in
+    let source : look.1 ≡ db = subst (λ b. IsSourceOf b db look.1) (ap (λ s. reads_listing s look_text) has ∙ asks_look.unlisted) look.3 in
+    let answer : Reads (Select (as_program (scan 0 [] look_columns [])) asks_look.names) db [] rows = subst₂ (λ k d. Reads k d [] rows) (sym (ap command_of known) ∙ asks_look.command) source look.4 in
+    scanned db.trees [] 0 [] look_columns [] rows answer.answer
+
+-- ---- what is tested of a row is what is tested of the typed one
+
+one_is : (n : ℤ) → is_one (Int n) ≡ int_eq n (pos 1)
+one_is (pos n) = elim (cases_Bool (n == 1)) [
+  | inl is ↦
+      let tie : int_cmp (pos n) (pos 1) ≡ Equal = grind (arith, ints, nat_tests) in
+      rw (is, tie) refl
+  | inr isnt ↦ elim (cases_Bool (is_eq (int_cmp (pos n) (pos 1)))) [
+    | inl tie ↦ absurd (grind (arith, ints, nat_tests))
+    | inr apart ↦ rw (isnt, apart) refl
+  ]
+]
+one_is (negsuc n) = refl
+
+limit_is : (n : ℤ) → is_limit (Int n) ≡ is_in_range n
+limit_is (pos n) = refl
+limit_is (negsuc n) = refl
+
+shows_is : (r : Row) → IsOfficeRow r → IsTrue (is_int (rowid r)) → shows_office (shown_of [] look_columns r) ≡ is_known (office_in r)
+shows_is r it whole =
+    ap₂ ◌&&◌ (ap is_one (int_is (rowid r) whole) ∙ one_is (int_at r 0)) (ap₂ ◌&&◌ (ap is_whole it.0) (ap₂ ◌&&◌ (ap is_limit it.1 ∙ limit_is (int_at r 3)) (ap is_limit it.2 ∙ limit_is (int_at r 4))))
+
+module _ (db : Database) (office : IsOffice db) where
+  abbrev known : Row → Bool
+  known r = is_known (office_in r)
+
+  told : (r : Row) → Has (db.trees 0) r → shows_office (shown_of [] look_columns r) ≡ known r
+  told r there = shows_is r (all_has IsOfficeRow (db.trees 0) r (office_rows db.trees office.fits) there) (all_has _ (db.trees 0) r office.shaped.0.1 there)
+
+  found : find is_known (map office_in (db.trees 0)) ≡ option_map office_in (slice_get (filter known (db.trees 0)) 0)
+  found = found_by is_known known office_in (db.trees 0) (all_from _ (db.trees 0) (λ r there. refl))
+
+  every : AllByRecursion (λ r. passes [] [] r ≡ true) (db.trees 0)
+  every = all_from _ (db.trees 0) (λ r there. refl)
+
+  alike : (x y : Row) → Has (db.trees 0) x → Has (db.trees 0) y → known x ≡ true → known y ≡ true → x ≡ y
+  alike x y hx hy kx ky = one_numbered (db.trees 0) office.shaped.0 (pos 1) x y hx hy (both _ _ kx).0 (both _ _ ky).0
+
+  pub tells_version : (told_version : Option ℤ) → ShowsVersion db told_version → version_of (tables_of db) ≡ told_version
+  tells_version None shown =
+      let scans = look_scans db office.schema_is shown.0 shown.1 in
+      let each = recursion_from_All (λ row. shows_office row ≡ false) shown.0 shown.2 in
+      let none : filter known (db.trees 0) ≡ [] = none_pass known (db.trees 0) (λ r there.
+      sym (told r there) ∙ all_has (λ row. shows_office row ≡ false) shown.0 (shown_of [] look_columns r) each (answer_complete db.trees [] 0 [] look_columns [] shown.0 (λ r. true) scans every r there refl)) in
+      ap (option_map (λ (o : OfficeRow). o.version)) (found ∙ ap (λ rs. option_map office_in (slice_get rs 0)) none)
+  tells_version (Some version) shown =
+      let scans = look_scans db office.schema_is shown.0 shown.2 in
+      let it = answer_sound db.trees [] 0 [] look_columns [] shown.0 (λ r. true) scans every shown.1 (has_contained shown.0 shown.1 shown.3) in
+      let is : known it.0 ≡ true = sym (told it.0 it.1) ∙ ap shows_office (sym it.3) ∙ shown.4 in
+      let typed = all_has IsOfficeRow (db.trees 0) it.0 (office_rows db.trees office.fits) it.1 in
+      let one : filter known (db.trees 0) ≡ it.0 ∷ [] = elim (lone known (db.trees 0) (db.trees 0) office.shaped.0.0 (λ r there. there) alike) [
+        | inl none ↦ absurd (let within = subst (λ rs. Has rs it.0) none (has_kept known (db.trees 0) it.0 it.1 is) in within)
+        | inr single ↦ single.3 ∙ ap (λ r. r ∷ []) (alike single.0 it.0 single.1 it.1 single.2 is)
+      ] in
+      let told_is : Int (int_at it.0 2) ≡ Int version = sym typed.0 ∙ ap (λ row. column row 1) (sym it.3) ∙ shown.5 in
+      ap (option_map (λ (o : OfficeRow). o.version)) (found ∙ ap (λ rs. option_map office_in (slice_get rs 0)) one) ∙ ap (λ v. Some (id_in v)) told_is

@@ -1,6 +1,0 @@
-use Rattle.std.proofs.Common.{◌≡◌, map, pos, take}
-use Rattle.sql_meaning.specs.Columns.{int_at}
-use Rattle.office_tables.proofs.holds.numbers_in.Given as goal
-
-abbrev pub invariant-loop-row : goal.invariant-loop-row
-invariant-loop-row l = map pos l.numbers.items ≡ map (λ row. int_at row 0) (take l.row-index l.rows)
