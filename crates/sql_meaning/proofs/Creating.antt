@@ -1,5 +1,5 @@
 -- What CREATE TABLE and CREATE INDEX make of a schema that has no row yet.
-use Rattle.std.proofs.Common.{◌≡◌, ◌⊎◌, ℕ, List, [], ◌∷◌, Ok, Bool, true, false, None, Some, Option, slice_get, refl, sym, ap, subst, ◌∙◌, inl, inr}
+use Rattle.std.proofs.Common.{◌≡◌, ◌⊎◌, ℕ, List, [], Ok, false, None, Some, Option, slice_get, sym, ap, subst, ◌∙◌, inl, inr}
 use Rattle.std.specs.List.{AllByRecursion}
 use Rattle.sqlite.specs.Change.{created, indexed, next_tree}
 use Rattle.sqlite.specs.Command.TheVariants.{CreateTable, CreateIndex}

@@ -1,5 +1,5 @@
 -- A key that is the rowid: the test by it, and that it names at most one row.
-use Rattle.std.proofs.Common.{◌≡◌, ◌⊎◌, ℕ, ℤ, List, [], ◌∷◌, filter, Bool, true, false, Ordering, Equal, Less, Greater, IsTrue, refl, sym, ap, subst, subst₂, ◌∙◌}
+use Rattle.std.proofs.Common.{◌≡◌, ◌⊎◌, ℤ, List, [], ◌∷◌, filter, Bool, true, Ordering, Equal, Less, Greater, IsTrue, refl, sym, ap, subst₂, ◌∙◌}
 use Rattle.std.specs.List.{AllByRecursion}
 use Rattle.std.specs.Ordering.{is_eq, int_eq, int_cmp, ordering_reverse}
 use Rattle.std.proofs.lemmas.Cmp.{int_cmp_total}
