@@ -1,5 +1,5 @@
 -- What the statements on deposits do to the rows of an office.
-use Rattle.std.proofs.Common.{arith, IsTrue, if◌then◌else◌, ◌≡◌, ◌⊎◌, ℕ, ℤ, List, [], ◌∷◌, ◌++◌, map, filter, drop, slice_get, option_map, Bool, true, codes, None, Some, Ok, Less, refl, sym, ap, subst, ◌∙◌}
+use Rattle.std.proofs.Common.{IsTrue, ◌≡◌, ◌⊎◌, ℕ, ℤ, List, [], ◌∷◌, ◌++◌, map, filter, drop, slice_get, option_map, true, codes, None, Some, Ok, Less, refl, sym, ap, subst, ◌∙◌}
 use Rattle.std.specs.List.{AllByRecursion}
 use Rattle.sqlite.specs.declared.types.Value.TheVariants.{Null, Int, Text}
 use Rattle.sqlite.specs.Order.{Row, column, value_cmp}

@@ -8,7 +8,6 @@ use Rattle.std.specs.List.Sorted.{IsPermutation, IsSorted}
 use Rattle.std.proofs.lemmas.Bool.{cases_Bool}
 use Rattle.std.proofs.lemmas.Cmp.{tied_itself}
 use Rattle.std.proofs.lemmas.Map.Text.{is_eq-slice_cmp}
-use Rattle.std.proofs.lemmas.Slice.Eq.{bytes_eq-Decides}
 use Rattle.std.proofs.lemmas.List.Sorted.{IsPermutation-map, All-permutation}
 use Rattle.std.proofs.lemmas.List.Elements.{recursion_from_All, All-from_recursion}
 use Rattle.sqlite.specs.declared.types.Value.TheVariants.{Null, Int, Text, Blob}
@@ -47,7 +46,7 @@ use Rattle.sql_meaning.proofs.Keys.{found_by, bytes_itself, int_itself, filter_s
 use Rattle.sql_meaning.proofs.Typed.{text_at, int_in, all_both}
 use Rattle.sql_meaning.proofs.Edits.{appended, deleted, cast_null, cast_int, map_append}
 use Rattle.office_tables.specs.Schema.{office_schema, file_table, needed}
-use Rattle.office_tables.specs.Rows.{FileRow, is_file_of, is_file_at, file_at, files_of, with_file, without_files}
+use Rattle.office_tables.specs.Rows.{FileRow, is_file_of, is_file_at, file_at, with_file, without_files}
 use Rattle.office_tables.specs.Tables.{IsOffice, Becomes, tables_of, file_in}
 use Rattle.office_tables.specs.Deposits.{shown_file, path_cmp, files_by_path}
 use Rattle.office_tables.proofs.Frames.{idle, becomes_files}

@@ -30,7 +30,7 @@ use Rattle.sqlite_sql.specs.declared.ops.CompareOp.TheVariants.{Eq}
 use Rattle.sqlite_keyed.proofs.ListLemmas.{ascending_weaker, ascending-map, ascending-filter, map-map, filter-map}
 use Rattle.sqlite_keyed.proofs.SortLemmas.{sorted_unique}
 use Rattle.sqlite_exec.proofs.RowsLemmas.{IsSorted-map}
-use Rattle.sql_meaning.proofs.Keys.{trailing, same_text, same_int}
+use Rattle.sql_meaning.proofs.Keys.{same_text, same_int}
 use Rattle.sqlite_rules.specs.Calls.{ids_of}
 use Rattle.sqlite_rules.proofs.ListLemmas.{all_has, all_from}
 use Rattle.sqlite_rules.proofs.TableLemmas.{int_is}

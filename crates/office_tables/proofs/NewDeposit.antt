@@ -1,8 +1,8 @@
 -- What a deposit that was put tells of the rows before it: its number and its accession are new, and its collection and its class are there.
-use Rattle.std.proofs.Common.{◌≡◌, ℕ, List, [], ◌∷◌, filter, slice_get, option_map, Bool, true, None, Ok, IsTrue, map, refl, sym, ap, subst, ◌∙◌}
+use Rattle.std.proofs.Common.{◌≡◌, ℕ, [], ◌∷◌, filter, slice_get, option_map, Bool, true, None, Ok, IsTrue, map, refl, sym, ap, subst, ◌∙◌}
 use Rattle.std.specs.List.{AllByRecursion, list_any}
-use Rattle.sqlite.specs.declared.types.Value.TheVariants.{Int, Text}
-use Rattle.sqlite.specs.Order.{Row, column}
+use Rattle.sqlite.specs.declared.types.Value.TheVariants.{Int}
+use Rattle.sqlite.specs.Order.{Row}
 use Rattle.sqlite.specs.Edit.{Edit, edit_of, edited, with_rowid}
 use Rattle.sqlite.specs.Rowids.TheVariants.{Chosen}
 use Rattle.sqlite.specs.Cast.{cast_row}
@@ -14,7 +14,6 @@ use Rattle.sqlite_value.specs.Keys.{plain, joined}
 use Rattle.sqlite_schema.specs.Names.{same_name}
 use Rattle.sqlite_rules.specs.Lists.{Has}
 use Rattle.sqlite_rules.proofs.ListLemmas.{all_has, all_from}
-use Rattle.sql_meaning.specs.Columns.{bytes_at}
 use Rattle.sql_meaning.proofs.Keys.{found_by, bytes_itself, int_itself}
 use Rattle.sql_meaning.proofs.Typed.{both}
 use Rattle.sql_meaning.proofs.Writing.{Changes, inserts}

@@ -1,5 +1,5 @@
 -- What opening finds in the database of an office is what its rows say.
-use Rattle.std.proofs.Common.{◌≡◌, ◌&&◌, ap₂, ℕ, ℤ, pos, negsuc, ◌==◌, arith, List, [], ◌∷◌, codes, map, find, filter, slice_get, option_map, Bool, true, false, Option, Some, None, Equal, Ok, IsTrue, refl, sym, ap, subst, subst₂, ◌∙◌, inl, inr}
+use Rattle.std.proofs.Common.{◌≡◌, ◌&&◌, ap₂, ℤ, pos, negsuc, ◌==◌, arith, List, [], ◌∷◌, codes, map, find, filter, slice_get, option_map, Bool, true, false, Option, Some, None, Equal, Ok, IsTrue, refl, sym, ap, subst, subst₂, ◌∙◌, inl, inr}
 use Rattle.std.proofs.lemmas.Int.{ints}
 use Rattle.std.proofs.lemmas.Bool.{cases_Bool}
 use Rattle.std.proofs.lemmas.Bool.Decides.{nat_tests}
@@ -27,7 +27,7 @@ use Rattle.sqlite_rules.proofs.ListLemmas.{all_has, all_from, has_contained, has
 use Rattle.sqlite_rules.proofs.TableLemmas.{int_is}
 use Rattle.sql_meaning.specs.Columns.{int_at}
 use Rattle.sql_meaning.proofs.Keys.{found_by, lone, none_pass}
-use Rattle.sql_meaning.proofs.RowidKeys.{has_number, one_numbered}
+use Rattle.sql_meaning.proofs.RowidKeys.{one_numbered}
 use Rattle.sql_meaning.proofs.Reading.{Asks}
 use Rattle.sql_meaning.proofs.Scanning.{scan, as_program, passes, shown_of, Scans, scanned, answer_sound, answer_complete}
 use Rattle.sql_meaning.proofs.Typed.{both, int_in, all_both}
