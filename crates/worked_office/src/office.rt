@@ -1,0 +1,52 @@
+//! An office to ask, and what it says.
+
+use crate::asked::Asked;
+use crate::words::words;
+use office_core::{Day, Limits, read_policy};
+use office_engine::plain::{Office, create, install, step};
+use std::alloc::Global;
+use std::test::*;
+
+const POLICY: &str =
+    "version = 1\n\n[callers]\nanna = \"archivist\"\ncarl = \"clerk\"\n\n[[rule]]\neffect = \"deny\"\nrole = \"archivist\"\naction = \"dispose\"\ncollection = \"tax\"\nclass = \"*\"\n\n[[rule]]\neffect = \"allow\"\nrole = \"archivist\"\naction = \"*\"\ncollection = \"*\"\nclass = \"*\"\n\n[[rule]]\neffect = \"allow\"\nrole = \"clerk\"\naction = \"list\"\ncollection = \"*\"\nclass = \"y10\"\n";
+
+/// A bag of one file, `data/a` with the bytes `abc`.
+pub const BAG: &[u8] =
+    b"BAGSET 1\nFILE 9 54\nbagit.txtBagIt-Version: 1.0\nTag-File-Character-Encoding: UTF-8\n\nFILE 6 3\ndata/aabc\nFILE 19 73\nmanifest-sha256.txtba7816bf8f01cfea414140de5dae2223b00361a396177a9cb410ff61f20015ad  data/a\n\nEND\n";
+
+/// The same, where the file has the name `data/a%0Ab`, which the manifest spells `data/a%250Ab`.
+pub const PERCENT: &[u8] =
+    b"BAGSET 1\nFILE 9 54\nbagit.txtBagIt-Version: 1.0\nTag-File-Character-Encoding: UTF-8\n\nFILE 10 3\ndata/a%0Ababc\nFILE 19 79\nmanifest-sha256.txtba7816bf8f01cfea414140de5dae2223b00361a396177a9cb410ff61f20015ad  data/a%250Ab\n\nEND\n";
+
+/// A row: the day, who asks, what is asked, and the answer in words.
+pub type Row = (&'static str, &'static str, Asked, &'static str);
+
+/// What the office answers that caller on that day, in words.
+pub fn said(
+    alloc: Global,
+    office: &mut Office,
+    day: &str,
+    caller: &str,
+    asked: Asked,
+) -> Result<String, Fail> {
+    let day = Day::read(day).ok_or("day")?;
+    let request = asked.request().ok_or("request")?;
+    let answer = step(alloc, office, day, caller, &request);
+    words(alloc, &answer)
+}
+
+/// An office with the policy, the classes `y1` and `y10` and the collections `tax` and `maps`.
+pub fn opened(alloc: Global) -> Result<Office, Fail> {
+    let limits = Limits::new(1_000_000, 1_000_000).ok_or("limits")?;
+    let mut office = create(alloc, limits);
+    install(&mut office, read_policy(alloc, POLICY)?)?;
+    for asked in [
+        Asked::Class("y1", 1),
+        Asked::Class("y10", 10),
+        Asked::Collection("tax"),
+        Asked::Collection("maps"),
+    ] {
+        said(alloc, &mut office, "2024-03-01", "anna", asked)?;
+    }
+    Ok(office)
+}
