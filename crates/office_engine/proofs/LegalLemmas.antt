@@ -57,7 +57,7 @@ HasSoundBag found = IsSound found.1.bag
 
 pub sound_deposits : Reads → Judges → (h : History) → IsLegal h → AllByRecursion HasSoundBag (deposits h)
 sound_deposits reads judges h (new a b) = tt
-sound_deposits reads judges h (install before policy legal) =
+sound_deposits reads judges h (install before policy names legal) =
     subst (AllByRecursion HasSoundBag) (sym (deposits_grown before (Installed policy ∷ []))) (all_append HasSoundBag (deposits before) [] (sound_deposits reads judges before legal) tt)
 sound_deposits reads judges h (serve before day caller request legal) =
     subst (AllByRecursion HasSoundBag) (sym (deposits_grown before (change before day caller request)))
@@ -155,7 +155,7 @@ disposal_made h day on caller n DueList more rest None is e = absurd (none_last 
 -- each disposal of a legal history was allowed at its place
 pub disposals_stand : (h : History) → IsLegal h → (before rest : List Change) (day : Date) (n : ℕ) → h.changes ≡ before ++ Destroyed day n ∷ rest → IsDisposable (as_of h before) day n
 disposals_stand h (new a b) before rest day n e = absurd (none_last (Destroyed day n) before rest e)
-disposals_stand h (install earlier policy legal) before rest day n e =
+disposals_stand h (install earlier policy names legal) before rest day n e =
     elim (split_two earlier.changes (Installed policy ∷ []) before (Destroyed day n) rest e) [
       | inl found ↦ disposals_stand earlier legal before found.0 day n found.1
       | inr found ↦ absurd (let k = (one_last (Installed policy) (Destroyed day n) found.0 rest found.2).1 in cc)

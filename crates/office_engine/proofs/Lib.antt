@@ -7,3 +7,7 @@ pub mod Examples
 pub mod PlainLemmas
 pub mod PlainRoom
 pub mod PlainRuns
+pub mod Alike
+pub mod AlikeAnswers
+pub mod LegalReadings
+pub mod Pictured

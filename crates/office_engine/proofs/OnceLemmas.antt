@@ -110,7 +110,7 @@ none_apart (suc n) m a b at_n at_m same = absurd cc
 
 pub accessions_apart : (h : History) → IsLegal h → AreApart (deposits h)
 accessions_apart h (new a b) = none_apart
-accessions_apart h (install before policy legal) = subst AreApart (sym (deposits_grown before (Installed policy ∷ []) ∙ append-nil (deposits before))) (accessions_apart before legal)
+accessions_apart h (install before policy names legal) = subst AreApart (sym (deposits_grown before (Installed policy ∷ []) ∙ append-nil (deposits before))) (accessions_apart before legal)
 accessions_apart h (serve before day caller request legal) = apart_served before day caller request (accessions_apart before legal)
 
 -- ---- released holds

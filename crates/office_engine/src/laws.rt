@@ -1,6 +1,6 @@
 //! Laws of the office, over the definitions alone.
 
-ghost use Rattle.std.specs.Prelude.{◌≡◌, ◌↔◌, ◌<◌, ◌≢◌, ℕ, List, [], ◌∷◌, ◌++◌, Option, Some, None, Ok, Err, true, false, slice_get};
+ghost use Rattle.std.specs.Prelude.{◌≡◌, ◌↔◌, ◌<◌, ◌≢◌, ℕ, ℤ, List, [], ◌∷◌, ◌++◌, Option, Some, None, Ok, Err, true, false, slice_get};
 ghost use denote.Ref.{Bor};
 ghost use Rattle.jiff.specs.Types.{Date};
 ghost use Rattle.bag_text.specs.TransferForm.{File, IsBag, set_text};
@@ -22,6 +22,7 @@ ghost use Rattle.office_engine.specs.Bags.{bag_of};
 ghost use Rattle.office_engine.specs.Histories.{History, Change, Destroyed, Deposit, Hold, OnCollection, deposit_numbered, hold_numbered, released, covers, live_holds, due};
 ghost use Rattle.office_engine.specs.Refusals.{refusal};
 ghost use Rattle.office_engine.specs.Answers.{answer, change, after};
+ghost use Rattle.office_engine.specs.Pictures.{picture};
 ghost use Rattle.office_engine.specs.Runs.{Item, Run, IsLegal, IsSound, IsDisposable, as_of};
 
 /// The bag of a text is the valid bag whose transfer form it is. Where there is none, the fault is the text's first,
@@ -102,4 +103,12 @@ pub fn numbers_are_given_once()
 pub fn accessions_are_used_once()
     ensures { (h : History) → IsLegal h → (n m : ℕ) (a b : Date × Deposit)
         → deposit_numbered h n ≡ Some a → deposit_numbered h m ≡ Some b → a.1.accession ≡ b.1.accession → n ≡ m }
+{}
+
+/// Two legal histories that give the same rows answer each request alike, and give the same rows after it.
+pub fn one_picture()
+    ensures answers { (h k : History) (version : ℤ) → IsLegal h → IsLegal k → picture version h ≡ picture version k
+        → (day : Date) (caller : List ℕ) (request : Request) → answer h day caller request ≡ answer k day caller request }
+    ensures pictures { (h k : History) (version : ℤ) → IsLegal h → IsLegal k → picture version h ≡ picture version k
+        → (day : Date) (caller : List ℕ) (request : Request) → picture version (after h day caller request) ≡ picture version (after k day caller request) }
 {}
