@@ -1,9 +1,8 @@
 -- Two histories that agree in all that the office decides by: they grow alike, and have one picture.
-use Rattle.std.proofs.Common.{◌≡◌, ℕ, zero, suc, ℤ, Bool, true, false, List, [], ◌∷◌, ◌++◌, length, map, filter, Option, Some, None, option_map, unwrap_or, slice_get, is_none, refl, sym, ap, subst, ◌∙◌, pos, true≢false, arith, if◌then◌else◌, cond}
+use Rattle.std.proofs.Common.{◌≡◌, ℕ, zero, suc, ℤ, Bool, true, false, List, [], ◌∷◌, ◌++◌, length, map, filter, Option, Some, None, option_map, unwrap_or, slice_get, is_none, refl, sym, ap, ◌∙◌, pos, true≢false, arith, cond}
 use Rattle.std.specs.Prelude.{bytes_eq}
 use Rattle.std.specs.List.{filter_map, flat_map, list_any, cons_option}
 use Rattle.std.specs.Option.{option_or, option_map_or}
-use Rattle.std.proofs.lemmas.Bool.{cases_Bool}
 use Rattle.std.proofs.lemmas.List.{map-append, length-map}
 use Rattle.std.proofs.lemmas.List.Elements.{filter_map-append}
 use Rattle.std.proofs.lemmas.Option.{same_Some, slice_get-map}
@@ -11,10 +10,9 @@ use Rattle.jiff.specs.Types.{Date}
 use Rattle.jiff.specs.Words.{epoch_day}
 use Rattle.bag_text.specs.TransferForm.{File}
 use Rattle.bag_check.specs.Validity.{payload_files, payload_bytes}
-use Rattle.office_core.specs.Policies.{Contents}
 use Rattle.office_tables.specs.Rows.{DepositRow, HoldRow}
 use Rattle.office_engine.specs.Lists.{first_said, last_said, numbered, numbers, distinct_after, in_first_places}
-use Rattle.office_engine.specs.Histories.{History, Change, Deposit, Hold, grown, installed_in, no_policy, policy, years_in, years_of, collection_in, deposit_in, deposits, deposit_numbered, destroyed_in, gone, kept, hold_in, holds, hold_numbered, released_in, released}
+use Rattle.office_engine.specs.Histories.{History, Change, Deposit, Hold, grown, installed_in, no_policy, policy, years_in, years_of, collection_in, deposit_in, deposits, deposit_numbered, destroyed_in, gone, kept, hold_in, holds, released_in, released}
 use Rattle.office_engine.specs.Stocks.{files_of}
 use Rattle.office_engine.specs.Pictures.{class_in, class_row, caller_row, rule_rows, file_row, file_rows, held_deposit, held_collection, deposit_row, row_of_deposit, picture}
 use Rattle.office_engine.proofs.HistoryLemmas.{deposits_grown, holds_grown}

@@ -1,14 +1,13 @@
 -- Histories that agree in all that the office decides by answer alike, and change alike.
-use Rattle.std.proofs.Common.{◌≡◌, ℕ, ◌+◌, ◌&&◌, ◌||◌, Bool, true, false, List, [], ◌∷◌, ◌++◌, length, map, filter, Option, Some, None, Result, Ok, Err, option_map, slice_get, is_none, refl, sym, ap, subst, ◌∙◌, nat_le, true≢false, cond, if◌then◌else◌}
+use Rattle.std.proofs.Common.{◌≡◌, ℕ, ◌+◌, ◌&&◌, ◌||◌, Bool, true, false, List, [], ◌∷◌, length, map, filter, Option, Some, None, option_map, slice_get, is_none, refl, sym, ap, subst, ◌∙◌, nat_le, true≢false, cond, if◌then◌else◌}
 use Rattle.std.specs.Prelude.{position, bytes_eq, not, is_some}
 use Rattle.std.specs.List.{filter_map, list_any, position_from}
 use Rattle.std.specs.Option.{option_map_or}
-use Rattle.std.proofs.lemmas.Bool.{cases_Bool}
 use Rattle.std.proofs.lemmas.Option.{same_Some}
 use Rattle.std.proofs.lemmas.Iterator.Adapters.{position_from-zero}
 use Rattle.std.proofs.lemmas.Slice.Eq.{bytes_eq-Decides}
 use Rattle.jiff.specs.Types.{Date}
-use Rattle.bag_text.specs.TransferForm.{File, set_text, content_at}
+use Rattle.bag_text.specs.TransferForm.{set_text, content_at}
 use Rattle.bag_check.specs.Validity.{payload_files, payload_bytes}
 use Rattle.office_core.specs.FirstOf.{first_some, answer_if}
 use Rattle.office_core.specs.Policies.{Contents, role_of}
@@ -18,7 +17,6 @@ use Rattle.office_core.specs.declared.action.Action.{Action}
 use Rattle.office_core.specs.declared.action.Action.TheVariants as acts
 use Rattle.office_core.specs.declared.answer.Answer.{Answer}
 use Rattle.office_core.specs.declared.answer.Answer.TheVariants as answers
-use Rattle.office_core.specs.declared.answer.DepositRecord.{DepositRecord}
 use Rattle.office_core.specs.declared.retention.Due.{Due}
 use Rattle.office_core.specs.declared.retention.Due.TheVariants.{Never}
 use Rattle.office_core.specs.declared.refusal.Refusal.{Refusal}
@@ -27,9 +25,9 @@ use Rattle.office_core.specs.declared.refusal.Subject.TheVariants as subjects
 use Rattle.office_core.specs.declared.request.Request.{Request}
 use Rattle.office_core.specs.declared.request.Request.TheVariants.{DefineClass, DefineCollection, Deposit as MakeDeposit, List as ListDeposits, Record, Holds, DownloadBag, DownloadFile, Audit, HoldDeposit, HoldCollection, Release, Dispose, DueList}
 use Rattle.office_engine.specs.Lists.{numbered, numbers, distinct_after, in_first_places}
-use Rattle.office_engine.specs.Histories.{History, Change, DefinedCollection, Target, OnDeposit, OnCollection, Deposit, Hold, grown, policy, years_of, has_collection, collection_in, deposits, deposit_numbered, accession_of, gone, kept, due, holds, hold_numbered, released, reaches, live_holds}
-use Rattle.office_engine.specs.Bags.{bag_of, report_on}
-use Rattle.office_engine.specs.Refusals.{denied_by, denied, denied_at, no_such_class, no_such_collection, taken, closed_ahead, bad_bag, held, not_due_before, not_due, full_of_deposits, full_of_holds, no_file, of_deposit, of_hold, denied_release_of, denied_release, refusal}
+use Rattle.office_engine.specs.Histories.{History, Change, DefinedCollection, Target, OnDeposit, OnCollection, Deposit, Hold, grown, policy, has_collection, collection_in, deposits, deposit_numbered, accession_of, gone, due, reaches, live_holds}
+use Rattle.office_engine.specs.Bags.{report_on}
+use Rattle.office_engine.specs.Refusals.{denied_by, denied, denied_at, closed_ahead, bad_bag, held, not_due_before, not_due, full_of_holds, no_file, of_deposit, of_hold, denied_release_of, denied_release, refusal}
 use Rattle.office_engine.specs.Answers.{record_of, is_asked, listed_record, listed_records, due_list, live_hold, told_holds, audited, told, file_answer, allowed_answer, allowed_change, answer_unless, answer, changes_unless, change, after}
 use Rattle.office_engine.proofs.Alike.{Outline, outline, Alike, alike_grown, same_count, same_outline, same_found, same_kept, mapped_of_kept, kept_is_not_gone}
 

@@ -1,15 +1,13 @@
 -- Worked rows of the definitions, by computing. Days are any days.
-use Rattle.std.proofs.Common.{◌≡◌, ℕ, List, [], ◌∷◌, Option, Some, None, codes, refl}
+use Rattle.std.proofs.Common.{◌≡◌, ℕ, List, [], ◌∷◌, Some, None, codes, refl}
 use Rattle.jiff.specs.Types.{Date}
 use Rattle.office_core.specs.Retention.{due_of}
-use Rattle.office_core.specs.declared.action.Action.TheVariants as acts
 use Rattle.office_core.specs.declared.refusal.Refusal.TheVariants.{NoSuch, DeniedByDefault, Taken}
 use Rattle.office_core.specs.declared.refusal.Subject.TheVariants as subjects
-use Rattle.office_core.specs.declared.request.Request.TheVariants.{Dispose, DefineClass}
-use Rattle.office_engine.specs.Histories.{History, Change, DefinedClass, DefinedCollection, Deposited, PlacedHold, ReleasedHold, Destroyed, Deposit, OnDeposit, OnCollection, has_collection, years_of, accession_of, deposit_numbered, gone, kept, due, live_holds}
+use Rattle.office_core.specs.declared.request.Request.TheVariants.{Dispose}
+use Rattle.office_engine.specs.Histories.{History, DefinedClass, DefinedCollection, Deposited, PlacedHold, ReleasedHold, Destroyed, Deposit, OnDeposit, OnCollection, gone, kept, due, live_holds}
 use Rattle.office_engine.specs.Refusals.{refusal, taken}
-use Rattle.office_engine.specs.Lists.{in_first_places, distinct}
-use Rattle.office_engine.specs.Runs.{created}
+use Rattle.office_engine.specs.Lists.{in_first_places}
 
 -- a deposit of the collection `maps` in the class `y1`
 deposited : Date → List ℕ → Deposit

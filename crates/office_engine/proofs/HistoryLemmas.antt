@@ -1,24 +1,17 @@
 -- What longer histories have of shorter ones, and what a request adds.
-use Rattle.std.proofs.Common.{◌≡◌, ◌≤ℤ◌, ℕ, suc, ◌+◌, Bool, true, false, List, [], ◌∷◌, ◌++◌, Option, Some, None, Result, Ok, Err, option_map, slice_get, int_lt, refl, sym, ap, ◌∙◌, inl, inr, append_assoc, rules, arith, if◌then◌else◌}
+use Rattle.std.proofs.Common.{◌≡◌, ℕ, Bool, true, false, List, [], ◌∷◌, ◌++◌, Option, Some, None, Result, Ok, Err, refl, if◌then◌else◌}
 use Rattle.std.specs.List.{AllByRecursion, filter_map}
 use Rattle.std.proofs.lemmas.List.Elements.{filter_map-append}
-use Rattle.std.proofs.lemmas.Int.{by_lt_z}
 use Rattle.jiff.specs.Types.{Date}
-use Rattle.jiff.specs.Words.{epoch_day}
 use Rattle.bag_text.specs.TransferForm.{File}
-use Rattle.office_core.specs.FirstOf.{first_some, answer_if}
-use Rattle.office_core.specs.declared.retention.Due.{Due}
-use Rattle.office_core.specs.declared.retention.Due.TheVariants.{On, Never}
 use Rattle.office_core.specs.declared.refusal.Refusal.{Refusal}
-use Rattle.office_core.specs.declared.refusal.Refusal.TheVariants.{Held, NotDue}
 use Rattle.office_core.specs.declared.request.Request.{Request}
 use Rattle.office_core.specs.declared.request.Request.TheVariants.{DefineClass, DefineCollection, Deposit as MakeDeposit, List as ListDeposits, Record, Holds, DownloadBag, DownloadFile, Audit, HoldDeposit, HoldCollection, Release, Dispose, DueList}
-use Rattle.office_engine.specs.Histories.{History, Change, Destroyed, DefinedCollection, Deposit, Hold, has_collection, grown, deposit_in, deposits, deposit_numbered, hold_in, holds, hold_numbered, gone, due, live_holds}
+use Rattle.office_engine.specs.Histories.{History, Change, DefinedCollection, Deposit, Hold, has_collection, grown, deposit_in, deposits, deposit_numbered, hold_in, holds, hold_numbered}
 use Rattle.office_engine.specs.Bags.{bag_of}
-use Rattle.office_engine.specs.Refusals.{refusal, refusals, of_deposit, denied_at, is_gone, held, not_due, not_due_before}
+use Rattle.office_engine.specs.Refusals.{refusal}
 use Rattle.office_engine.specs.Answers.{change, changes_unless, allowed_change, deposit_change}
-use Rattle.office_engine.specs.Runs.{IsDisposable}
-use Rattle.office_engine.proofs.ListLemmas.{numbered_front, split_two}
+use Rattle.office_engine.proofs.ListLemmas.{numbered_front}
 
 pub deposits_grown : (h : History) (more : List Change) → deposits (grown h more) ≡ deposits h ++ filter_map deposit_in more
 deposits_grown h more = filter_map-append deposit_in h.changes more

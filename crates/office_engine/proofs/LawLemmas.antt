@@ -1,9 +1,6 @@
 -- What holds and classes do over time, and what is served of a deposit.
-use Rattle.std.proofs.Common.{◌≡◌, ◌≢◌, ◌<◌, ◌≤◌, ℕ, zero, suc, ◌+◌, Bool, true, false, ◌&&◌, List, [], ◌∷◌, ◌++◌, length, Option, Some, None, Result, Ok, Err, option_map, slice_get, unwrap_or, is_some, is_none, refl, sym, ap, subst, ◌∙◌, inl, inr, ◌⊎◌, append_assoc, append-nil, length-append, rules, arith, if◌then◌else◌, filter, map}
-use Rattle.std.specs.List.{AllByRecursion, filter_map, range_with_len}
-use Rattle.std.specs.Option.{option_map_or}
-use Rattle.std.proofs.lemmas.Bool.{cases_Bool, and_parts}
-use Rattle.std.proofs.lemmas.Option.{same_Some}
+use Rattle.std.proofs.Common.{◌≡◌, ◌≢◌, ℕ, true, List, [], ◌∷◌, ◌++◌, Option, Some, None, Result, Ok, Err, refl, sym, ap, ◌∙◌, inl, inr, append_assoc, append-nil}
+use Rattle.std.specs.List.{filter_map}
 use Rattle.std.proofs.lemmas.Slice.Eq.{bytes_eq-Decides}
 use denote.Ref.{Bor}
 use Rattle.jiff.specs.Types.{Date}
@@ -14,20 +11,18 @@ use Rattle.office_core.specs.Retention.{due_of}
 use Rattle.office_core.specs.declared.answer.Answer.{Answer}
 use Rattle.office_core.specs.declared.answer.Answer.TheVariants as answers
 use Rattle.office_core.specs.declared.refusal.Refusal.{Refusal}
-use Rattle.office_core.specs.declared.request.Request.{Request}
-use Rattle.office_core.specs.declared.request.Request.TheVariants.{Deposit as MakeDeposit, DownloadBag, DefineClass}
-use Rattle.office_engine.specs.Lists.{first_said, last_said, numbered, numbers}
-use Rattle.office_engine.specs.Histories.{History, Change, DefinedClass, Target, OnCollection, Deposit, Hold, grown, deposit_in, deposits, deposit_numbered, accession_of, holds, hold_numbered, released, released_in, is_live, covers, reaches, live_holds, years_of, years_in, due}
+use Rattle.office_core.specs.declared.request.Request.TheVariants.{Deposit as MakeDeposit, DownloadBag}
+use Rattle.office_engine.specs.Histories.{History, Change, DefinedClass, OnCollection, Deposit, grown, deposit_in, deposits, deposit_numbered, accession_of, hold_numbered, released, released_in, covers, years_in, due}
 use Rattle.office_engine.specs.Bags.{bag_of, valid_bag, if_valid, report_on}
 use Rattle.office_core.specs.FirstOf.{first_some}
 use Rattle.office_core.specs.declared.action.Action.TheVariants as acts
 use Rattle.bag_check.specs.Validity.{Report}
-use Rattle.office_engine.specs.Refusals.{refusal, refusals, bad_as, no_such_collection, no_such_class, denied, taken, closed_ahead, bad_bag}
-use Rattle.office_engine.specs.Answers.{answer, answer_unless, allowed_answer, told, change, changes_unless, deposit_change, allowed_change, after}
-use Rattle.office_engine.specs.Runs.{Item, Step, Run, IsFailure}
-use Rattle.office_engine.proofs.ListLemmas.{first_said_front, last_said_last, numbered_front}
+use Rattle.office_engine.specs.Refusals.{refusal, bad_as, no_such_collection, no_such_class, denied, taken, closed_ahead, bad_bag}
+use Rattle.office_engine.specs.Answers.{answer, answer_unless, allowed_answer, told, change, changes_unless, deposit_change, after}
+use Rattle.office_engine.specs.Runs.{Item, Step, Run}
+use Rattle.office_engine.proofs.ListLemmas.{first_said_front, last_said_last}
 use Rattle.office_engine.proofs.LegalLemmas.{map_none}
-use Rattle.office_engine.proofs.HistoryLemmas.{deposits_grown, deposit_stays, hold_stays}
+use Rattle.office_engine.proofs.HistoryLemmas.{deposits_grown}
 
 -- ---- holds
 

@@ -1,7 +1,6 @@
 -- What legal histories have: sound bags, and disposals that were due and not held.
-use Rattle.std.proofs.Common.{◌≡◌, ◌≤ℤ◌, ℕ, Bool, true, false, List, [], ◌∷◌, ◌++◌, Option, Some, None, Result, Ok, Err, option_map, slice_get, int_lt, refl, sym, ap, subst, ◌∙◌, inl, inr, ◌⊎◌, append_assoc, append-nil, rules, if◌then◌else◌}
+use Rattle.std.proofs.Common.{◌≡◌, ◌≤ℤ◌, ℕ, Bool, true, false, List, [], ◌∷◌, ◌++◌, Option, Some, None, Result, Ok, Err, option_map, slice_get, int_lt, refl, sym, ap, subst, ◌∙◌, inl, inr, append-nil, rules, if◌then◌else◌}
 use Rattle.std.specs.List.{AllByRecursion, filter_map}
-use Rattle.std.proofs.lemmas.Bool.{cases_Bool}
 use Rattle.std.proofs.lemmas.Int.{by_lt_z}
 use Rattle.jiff.specs.Types.{Date}
 use Rattle.jiff.specs.Words.{epoch_day}
@@ -13,20 +12,19 @@ use Rattle.bag_check.specs.Validity.{Report, Valid}
 use Rattle.bag_check.specs.Faults.{Fault}
 use Rattle.bag_check.specs.Judging.{judge}
 use Rattle.office_core.specs.FirstOf.{first_some, answer_if}
-use Rattle.office_core.specs.Policies.{Contents}
 use Rattle.office_core.specs.declared.retention.Due.{Due}
 use Rattle.office_core.specs.declared.retention.Due.TheVariants.{On, Never}
 use Rattle.office_core.specs.declared.action.Action.TheVariants as acts
 use Rattle.office_core.specs.declared.refusal.Refusal.{Refusal}
-use Rattle.office_core.specs.declared.refusal.Refusal.TheVariants.{Held, NotDue}
+use Rattle.office_core.specs.declared.refusal.Refusal.TheVariants.{NotDue}
 use Rattle.office_core.specs.declared.request.Request.{Request}
 use Rattle.office_core.specs.declared.request.Request.TheVariants.{DefineClass, DefineCollection, Deposit as MakeDeposit, List as ListDeposits, Record, Holds, DownloadBag, DownloadFile, Audit, HoldDeposit, HoldCollection, Release, Dispose, DueList}
-use Rattle.office_engine.specs.Histories.{History, Change, Installed, Destroyed, DefinedCollection, Deposit, has_collection, grown, deposit_in, deposits, deposit_numbered, gone, due, live_holds}
+use Rattle.office_engine.specs.Histories.{History, Change, Installed, Destroyed, DefinedCollection, Deposit, has_collection, deposit_in, deposits, deposit_numbered, gone, due, live_holds}
 use Rattle.office_engine.specs.Bags.{bag_of, valid_bag, if_valid, judged}
-use Rattle.office_engine.specs.Refusals.{refusal, refusals, of_deposit, denied_at, is_gone, held, not_due, not_due_before}
-use Rattle.office_engine.specs.Answers.{change, changes_unless, allowed_change, deposit_change, after}
-use Rattle.office_engine.specs.Runs.{IsLegal, new, install, serve, created, IsSound, IsDisposable, as_of}
-use Rattle.office_engine.proofs.ListLemmas.{all_append, all_numbered, split_two}
+use Rattle.office_engine.specs.Refusals.{refusal, of_deposit, denied_at, is_gone, held, not_due, not_due_before}
+use Rattle.office_engine.specs.Answers.{change, changes_unless, allowed_change, deposit_change}
+use Rattle.office_engine.specs.Runs.{IsLegal, new, install, serve, IsSound, IsDisposable, as_of}
+use Rattle.office_engine.proofs.ListLemmas.{all_append, split_two}
 use Rattle.office_engine.proofs.HistoryLemmas.{deposits_grown, made_deposits}
 
 -- ---- the bags

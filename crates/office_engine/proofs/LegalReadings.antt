@@ -1,20 +1,19 @@
 -- Legal histories: their policies are made of names, and what isn't there was neither destroyed nor released.
-use Rattle.std.proofs.Common.{◌≡◌, ℕ, ◌==◌, Bool, true, false, List, [], ◌∷◌, ◌++◌, Option, Some, None, Result, Ok, Err, option_map, unwrap_or, refl, sym, ap, subst, ◌∙◌, cond, if◌then◌else◌}
+use Rattle.std.proofs.Common.{◌≡◌, ℕ, ◌==◌, Bool, true, false, List, [], ◌∷◌, Option, Some, None, Result, Ok, Err, unwrap_or, refl, sym, ap, subst, ◌∙◌, if◌then◌else◌}
 use Rattle.std.specs.Option.{option_or}
 use Rattle.std.proofs.lemmas.Bool.Decides.{Decides-eqb}
 use Rattle.jiff.specs.Types.{Date}
 use Rattle.bag_text.specs.TransferForm.{File}
 use Rattle.office_core.specs.FirstOf.{first_some}
-use Rattle.office_core.specs.Policies.{Contents}
 use Rattle.office_core.specs.declared.action.Action.TheVariants as acts
 use Rattle.office_core.specs.declared.refusal.Refusal.{Refusal}
 use Rattle.office_core.specs.declared.request.Request.{Request}
 use Rattle.office_core.specs.declared.request.Request.TheVariants.{DefineClass, DefineCollection, Deposit as MakeDeposit, List as ListDeposits, Record, Holds, DownloadBag, DownloadFile, Audit, HoldDeposit, HoldCollection, Release, Dispose, DueList}
 use Rattle.office_engine.specs.Lists.{first_said, last_said}
-use Rattle.office_engine.specs.Histories.{History, Change, Installed, DefinedCollection, ReleasedHold, Destroyed, Deposit, Hold, grown, installed_in, policy, has_collection, deposit_numbered, destroyed_in, gone, due, live_holds, hold_numbered, released_in, released}
+use Rattle.office_engine.specs.Histories.{History, Change, Installed, DefinedCollection, Deposit, Hold, grown, installed_in, policy, has_collection, deposit_numbered, destroyed_in, gone, hold_numbered, released_in, released}
 use Rattle.office_engine.specs.Bags.{bag_of}
 use Rattle.office_engine.specs.Refusals.{refusal, of_deposit, of_hold, denied_at, denied_release, is_gone, held, not_due, is_released}
-use Rattle.office_engine.specs.Answers.{change, changes_unless, allowed_change, deposit_change, after}
+use Rattle.office_engine.specs.Answers.{change, changes_unless, allowed_change, deposit_change}
 use Rattle.office_engine.specs.Runs.{IsLegal, new, install, serve, IsPolicy}
 use Rattle.office_engine.proofs.HistoryLemmas.{deposit_stays, hold_stays}
 use Rattle.office_engine.proofs.Alike.{policy_grown, gone_grown, released_grown}

@@ -1,7 +1,7 @@
 -- Numbers and accessions are given once, and released holds are not live.
-use Rattle.std.proofs.Common.{◌≡◌, ◌≢◌, ◌<◌, ◌≤◌, ℕ, zero, suc, ◌+◌, Bool, true, false, not, ◌&&◌, List, [], ◌∷◌, ◌++◌, length, Option, Some, None, Result, Ok, Err, option_map, slice_get, is_none, position, bytes_eq, refl, sym, ap, subst, ◌∙◌, inl, inr, ◌⊎◌, append-nil, length-append, rules, arith, if◌then◌else◌, filter, cond, int_lt}
+use Rattle.std.proofs.Common.{◌≡◌, ◌≤◌, ℕ, zero, suc, ◌+◌, Bool, true, false, ◌&&◌, List, [], ◌∷◌, ◌++◌, length, Option, Some, None, option_map, slice_get, position, bytes_eq, refl, sym, ap, subst, ◌∙◌, inl, inr, ◌⊎◌, append-nil, length-append, arith, if◌then◌else◌, filter, cond, int_lt}
 use Rattle.std.specs.List.{filter_map}
-use Rattle.std.proofs.lemmas.Bool.{cases_Bool, and_parts, true≢false}
+use Rattle.std.proofs.lemmas.Bool.{and_parts, true≢false}
 use Rattle.std.proofs.lemmas.Option.{same_Some}
 use Rattle.std.proofs.lemmas.Slice.Eq.{bytes_eq-Decides}
 use denote.Ref.{Bor}
@@ -10,25 +10,24 @@ use Rattle.jiff.specs.Words.{epoch_day}
 use Rattle.office_core.specs.Rules.{allows}
 use Rattle.office_core.specs.FirstOf.{first_some, answer_if}
 use Rattle.office_core.specs.declared.action.Action.TheVariants as acts
-use Rattle.office_core.specs.declared.answer.Answer.{Answer}
 use Rattle.office_core.specs.declared.answer.Answer.TheVariants as answers
 use Rattle.office_core.specs.declared.rule.Decision.{Decision}
 use Rattle.office_core.specs.declared.retention.Due.{Due}
 use Rattle.office_core.specs.declared.retention.Due.TheVariants.{On, Never}
 use Rattle.office_core.specs.declared.refusal.Refusal.{Refusal}
-use Rattle.office_core.specs.declared.refusal.Refusal.TheVariants.{Held, NotDue, Gone, DeniedByRule, DeniedByDefault}
+use Rattle.office_core.specs.declared.refusal.Refusal.TheVariants.{Held, NotDue, Gone, DeniedByRule}
 use Rattle.office_core.specs.declared.request.Request.{Request}
 use Rattle.office_core.specs.declared.request.Request.TheVariants.{DefineClass, DefineCollection, Deposit as MakeDeposit, List as ListDeposits, Record, Holds, DownloadBag, DownloadFile, Audit, HoldDeposit, HoldCollection, Release, Dispose, DueList}
 use Rattle.office_engine.specs.Lists.{numbered, numbers}
-use Rattle.office_engine.specs.Histories.{History, Change, Installed, DefinedCollection, Deposit, has_collection, grown, deposit_in, deposits, deposit_numbered, accession_of, gone, due, holds, released, is_live, covers, live_holds}
+use Rattle.office_engine.specs.Histories.{History, Change, Installed, DefinedCollection, Deposit, has_collection, grown, deposit_in, deposits, deposit_numbered, gone, due, holds, released, is_live, covers, live_holds}
 use Rattle.office_engine.specs.Bags.{bag_of}
 use Rattle.office_engine.specs.Refusals.{refusal, of_deposit, denied_at, denied_by, is_gone, held, not_due, not_due_before}
-use Rattle.office_engine.specs.Answers.{answer, answer_unless, allowed_answer, change, changes_unless, deposit_change, allowed_change, after}
-use Rattle.office_engine.specs.Runs.{Item, Run, IsLegal, new, install, serve, created}
+use Rattle.office_engine.specs.Answers.{answer, change, changes_unless, deposit_change, allowed_change, after}
+use Rattle.office_engine.specs.Runs.{IsLegal, new, install, serve}
 use Rattle.office_engine.proofs.ListLemmas.{numbered_cases, none_passes}
 use Rattle.office_engine.proofs.HistoryLemmas.{deposits_grown}
 use Rattle.office_engine.proofs.LegalLemmas.{map_none}
-use Rattle.office_engine.proofs.LawLemmas.{allowed_deposit, deposit_adds, run_grows, unrefused}
+use Rattle.office_engine.proofs.LawLemmas.{allowed_deposit, deposit_adds, unrefused}
 
 -- ---- accessions
 

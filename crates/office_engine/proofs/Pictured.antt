@@ -1,11 +1,10 @@
 -- What the rows of a legal history tell of it: all that the office decides by.
-use Rattle.std.proofs.Common.{◌≡◌, ℕ, zero, suc, ◌+◌, ◌<◌, ◌≤◌, ◌==◌, ◌&&◌, ◌||◌, ℤ, pos, negsuc, Bool, true, false, List, [], ◌∷◌, ◌++◌, length, map, filter, Option, Some, None, Result, Ok, Err, option_map, unwrap_or, slice_get, is_none, is_some, refl, sym, ap, subst, ◌∙◌, true≢false, arith, append-nil, cond, if◌then◌else◌}
+use Rattle.std.proofs.Common.{◌≡◌, ℕ, zero, suc, ◌+◌, ◌<◌, ◌≤◌, ◌||◌, ℤ, pos, negsuc, Bool, true, false, List, [], ◌∷◌, ◌++◌, length, map, filter, Option, Some, None, option_map, unwrap_or, slice_get, is_none, is_some, refl, sym, ap, subst, ◌∙◌, true≢false, arith, append-nil, cond, if◌then◌else◌}
 use Rattle.std.specs.Prelude.{bytes_eq, codes, unsigned_abs}
 use Rattle.std.specs.List.{AllByRecursion, filter_map, flat_map, list_any, range_with_len, cons_option}
 use Rattle.std.specs.Option.{option_or, option_map_or}
 use Rattle.std.specs.Ordering.{int_eq}
-use Rattle.std.proofs.lemmas.Bool.{cases_Bool}
-use Rattle.std.proofs.lemmas.Bool.Decides.{Decides-int_eq, Decides-eqb}
+use Rattle.std.proofs.lemmas.Bool.Decides.{Decides-int_eq}
 use Rattle.std.proofs.lemmas.List.Elements.{filter_map-append}
 use Rattle.std.proofs.lemmas.Option.{same_Some, slice_get-map, slice_get_past, slice_get_within}
 use Rattle.std.proofs.lemmas.Slice.Eq.{bytes_eq-Decides}
@@ -16,7 +15,6 @@ use Rattle.bag_text.specs.TransferForm.{File}
 use Rattle.office_core.proofs.DayLemmas.{same_date}
 use Rattle.office_core.specs.Actions.{action_text, action_of}
 use Rattle.office_core.specs.Names.{is_name, IsName}
-use Rattle.office_core.specs.Policies.{Contents}
 use Rattle.office_core.specs.declared.action.Action.{Action}
 use Rattle.office_core.specs.declared.action.Action.TheVariants as acts
 use Rattle.office_core.specs.declared.caller.Caller.{Caller}
@@ -29,11 +27,11 @@ use Rattle.office_core.specs.declared.rule.Pattern.TheVariants as patterns
 use Rattle.office_core.specs.declared.rule.Rule.{Rule}
 use Rattle.office_tables.specs.Rows.{CallerRow, RuleRow, ClassRow, OfficeRow, DepositRow, FileRow, HoldRow, Tables}
 use Rattle.office_engine.specs.Lists.{first_said, last_said, numbered, numbers, distinct_after, in_first_places}
-use Rattle.office_engine.specs.Histories.{History, Change, Installed, DefinedClass, DefinedCollection, Deposited, PlacedHold, ReleasedHold, Destroyed, Target, OnDeposit, OnCollection, Deposit, Hold, policy, years_in, years_of, collection_in, deposits, deposit_numbered, gone, kept, holds, hold_numbered, released}
-use Rattle.office_engine.specs.Pictures.{effect_number, pattern_text, action_pattern_text, caller_row, rule_row, rule_rows, years_number, class_row, class_in, row_of_class, class_rows, deposit_row, deposit_rows, row_of_deposit, file_row, file_rows, held_deposit, held_collection, hold_row, hold_rows, row_of_hold, picture}
+use Rattle.office_engine.specs.Histories.{History, Change, Installed, DefinedClass, DefinedCollection, Deposited, PlacedHold, ReleasedHold, Destroyed, Target, OnDeposit, OnCollection, Deposit, Hold, policy, years_in, years_of, deposits, deposit_numbered, gone, holds, hold_numbered, released}
+use Rattle.office_engine.specs.Pictures.{effect_number, pattern_text, action_pattern_text, caller_row, rule_rows, years_number, class_row, class_in, class_rows, deposit_row, row_of_deposit, file_row, file_rows, held_deposit, held_collection, hold_row, row_of_hold, picture}
 use Rattle.office_engine.specs.Stocks.{files_of}
-use Rattle.office_engine.specs.Runs.{IsLegal, IsNamed, HasNames, IsPolicy}
-use Rattle.office_engine.proofs.Alike.{Outline, outline, Alike}
+use Rattle.office_engine.specs.Runs.{IsLegal, IsNamed, HasNames}
+use Rattle.office_engine.proofs.Alike.{outline, Alike}
 use Rattle.office_engine.proofs.AlikeAnswers.{among_first_places}
 use Rattle.office_engine.proofs.LegalReadings.{legal_policy, none_gone, none_released}
 

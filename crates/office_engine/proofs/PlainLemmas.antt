@@ -1,7 +1,7 @@
 -- What going over a history gives.
-use Rattle.std.proofs.Common.{◌≡◌, ◌≢◌, ℕ, ◌+◌, ◌-◌, ◌<◌, ◌≤◌, suc, zero, Bool, true, false, List, [], ◌∷◌, ◌++◌, length, Option, Some, None, option_map, refl, sym, ap, ◌∙◌, arith, append-nil, append_assoc, length-append, filter, if◌then◌else◌, cond}
-use Rattle.std.specs.Prelude.{position, bytes_eq}
-use Rattle.std.specs.List.{filter_map, range_with_len, position_from}
+use Rattle.std.proofs.Common.{◌≡◌, ◌≢◌, ℕ, ◌+◌, ◌-◌, ◌<◌, suc, zero, Bool, true, false, List, [], ◌∷◌, ◌++◌, length, Option, Some, None, option_map, refl, sym, ap, ◌∙◌, arith, append-nil, append_assoc, length-append, filter, if◌then◌else◌, cond}
+use Rattle.std.specs.Prelude.{bytes_eq}
+use Rattle.std.specs.List.{range_with_len, position_from}
 use Rattle.std.proofs.lemmas.List.Elements.{filter_map-append}
 use Rattle.std.proofs.lemmas.Iterator.Adapters.{position_from-zero}
 use denote.Ref.{Bor}

@@ -1,16 +1,15 @@
 -- Where a request is allowed, there is room for the change that it makes.
-use Rattle.std.proofs.Common.{◌≡◌, ℕ, ◌<◌, Bool, true, false, List, [], ◌∷◌, ◌++◌, length, Option, Some, None, Result, Ok, Err, refl, arith, subst, if◌then◌else◌, cond}
+use Rattle.std.proofs.Common.{◌≡◌, ℕ, ◌<◌, Bool, true, false, List, [], ◌∷◌, ◌++◌, length, Option, Some, None, Result, Ok, Err, refl, arith, subst, if◌then◌else◌}
 use Rattle.std.specs.Prelude.{nat_le}
 use Rattle.std.proofs.lemmas.Bool.Decides.{nat_tests}
 use Rattle.jiff.specs.Types.{Date}
 use Rattle.bag_text.specs.TransferForm.{File}
 use Rattle.office_core.specs.FirstOf.{first_some, answer_if}
 use Rattle.office_core.specs.declared.action.Action.TheVariants as acts
-use Rattle.office_core.specs.declared.refusal.Refusal.{Refusal}
 use Rattle.office_core.specs.declared.refusal.Refusal.TheVariants.{Full}
 use Rattle.office_core.specs.declared.request.Request.{Request}
 use Rattle.office_core.specs.declared.request.Request.TheVariants as requests
-use Rattle.office_engine.specs.Histories.{History, Change, Deposit, Hold, DefinedClass, DefinedCollection, Deposited, PlacedHold, ReleasedHold, Destroyed, OnDeposit, OnCollection, has_collection, deposits, holds, deposit_numbered}
+use Rattle.office_engine.specs.Histories.{History, Change, Deposit, DefinedClass, DefinedCollection, Deposited, PlacedHold, ReleasedHold, Destroyed, OnDeposit, OnCollection, has_collection, deposits, holds, deposit_numbered}
 use Rattle.office_engine.specs.Bags.{bag_of}
 use Rattle.office_engine.specs.Refusals.{refusal, of_deposit, denied, denied_at, is_gone, no_such_collection, no_such_class, taken, closed_ahead, bad_bag, full_of_deposits, full_of_holds}
 use Rattle.office_engine.specs.Answers.{allowed_change, deposit_change}

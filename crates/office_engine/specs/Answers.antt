@@ -1,11 +1,10 @@
 -- What the office answers, and which change it accepts.
-use Rattle.std.specs.Prelude.{ℕ, ◌+◌, ◌&&◌, Bool, true, false, List, [], ◌∷◌, length, filter, map, Option, Some, None, Result, Ok, Err, is_none, unwrap_or, bytes_eq, if◌then◌else◌}
+use Rattle.std.specs.Prelude.{ℕ, ◌+◌, ◌&&◌, Bool, true, List, [], ◌∷◌, length, filter, Option, Some, None, Result, Ok, Err, is_none, bytes_eq, if◌then◌else◌}
 use Rattle.std.specs.List.{filter_map}
 use Rattle.std.specs.Option.{option_map_or}
 use Rattle.jiff.specs.Types.{Date}
 use Rattle.bag_text.specs.TransferForm.{File, set_text, content_at}
 use Rattle.bag_check.specs.Validity.{Report, payload_files, payload_bytes}
-use Rattle.bag_check.specs.declared.report.BagReport.{BagReport}
 use Rattle.office_core.specs.declared.action.Action.TheVariants as acts
 use Rattle.office_core.specs.declared.answer.Answer.{Answer}
 use Rattle.office_core.specs.declared.answer.Answer.TheVariants as answers

@@ -1,6 +1,6 @@
 -- The rows that a history gives: what the tables of an office hold after its changes, and nothing else. Days stand as day
 -- numbers, 0 for 1 January 1970, and years as numbers, -1 where a class keeps its deposits for good.
-use Rattle.std.specs.Prelude.{ℕ, ◌+◌, ℤ, pos, neg_ℤ, List, [], ◌∷◌, length, map, Option, Some, None, option_map, codes, unwrap_or, option_and_then}
+use Rattle.std.specs.Prelude.{ℕ, ◌+◌, ℤ, pos, neg_ℤ, List, [], ◌∷◌, length, map, Option, Some, None, option_map, codes}
 use Rattle.std.specs.List.{filter_map, flat_map}
 use Rattle.jiff.specs.Types.{Date}
 use Rattle.jiff.specs.Words.{epoch_day}

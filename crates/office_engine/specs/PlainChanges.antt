@@ -2,7 +2,7 @@
 use Rattle.std.specs.Prelude.{List, [], ◌∷◌, Option, Some, None, option_map}
 use denote.Ref.{Bor}
 use Rattle.jiff.specs.Types.{Date}
-use Rattle.office_engine.specs.Histories.{Change, Deposit, Hold, Installed, DefinedClass, DefinedCollection, Deposited, PlacedHold, ReleasedHold, Destroyed}
+use Rattle.office_engine.specs.Histories.{Change, Installed, DefinedClass, DefinedCollection, Deposited, PlacedHold, ReleasedHold, Destroyed}
 use Rattle.office_engine.specs.declared.plain.change.Kind.{Kind}
 use Rattle.office_engine.specs.declared.plain.change.Kind.TheVariants as kinds
 

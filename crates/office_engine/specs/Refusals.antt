@@ -1,6 +1,6 @@
 -- Which requests the office refuses, and why: for each request the refusals that it may meet, in their order. The first that
 -- stands is answered.
-use Rattle.std.specs.Prelude.{ℕ, ◌+◌, ◌==◌, Bool, true, false, not, List, [], ◌∷◌, length, Option, Some, None, Result, Ok, Err, option_map, is_some, is_none, slice_get, int_lt, nat_le, if◌then◌else◌}
+use Rattle.std.specs.Prelude.{ℕ, not, List, [], ◌∷◌, length, Option, Some, None, Result, Ok, Err, option_map, is_none, slice_get, int_lt, nat_le, if◌then◌else◌}
 use Rattle.jiff.specs.Types.{Date}
 use Rattle.jiff.specs.Words.{epoch_day}
 use Rattle.bag_text.specs.TransferForm.{File, content_at}

@@ -1,4 +1,4 @@
-use Rattle.std.proofs.Common.{◌≡◌, ◌≤◌, ◌∙◌, ap, sym, subst, ◌+◌, ◌++◌, ◌∷◌, [], length, length-append, arith}
+use Rattle.std.proofs.Common.{◌≡◌, ◌≤◌, ◌∙◌, ap, sym, subst, ◌+◌, length, length-append, arith}
 use Rattle.office_core.specs.declared.request.Request.TheVariants.{Deposit as MakeDeposit}
 use Rattle.office_engine.specs.Histories.{deposits}
 use Rattle.office_engine.specs.Answers.{after}

@@ -1,4 +1,4 @@
-use Rattle.std.proofs.Common.{sym, subst, ◌≡◌, ◌∙◌, ap, Some}
+use Rattle.std.proofs.Common.{◌≡◌, ◌∙◌, ap, Some}
 use Rattle.office_engine.specs.Histories.{released}
 use Rattle.office_engine.proofs.LawLemmas.{run_grows, released_stays}
 use Rattle.office_engine.proofs.OnceLemmas.{not_among_live, refuses_none}

@@ -1,8 +1,7 @@
-use Rattle.std.proofs.Common.{◌≡◌, ◌∙◌, ap, sym, Some, ◌+◌, ◌++◌, ◌∷◌, [], length}
+use Rattle.std.proofs.Common.{◌≡◌, ◌∙◌, ap, sym, Some, ◌++◌, ◌∷◌, []}
 use Rattle.jiff.specs.Types.{Date}
 use Rattle.office_core.specs.declared.request.Request.TheVariants.{Deposit as MakeDeposit}
 use Rattle.office_engine.specs.Answers.{after}
-use Rattle.bag_text.specs.TransferForm.{set_text}
 use Rattle.office_engine.specs.Histories.{Deposit, deposits, deposit_numbered}
 use Rattle.office_engine.specs.Lists.{numbered}
 use Rattle.office_engine.proofs.ListLemmas.{numbered_last}

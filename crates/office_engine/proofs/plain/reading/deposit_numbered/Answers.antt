@@ -1,4 +1,4 @@
-use Rattle.std.proofs.Common.{◌≡◌, ◌∙◌, ◌+◌, Some, None, arith}
+use Rattle.std.proofs.Common.{arith}
 use Rattle.std.proofs.lemmas.Grind.{common_steps}
 use Rattle.office_engine.proofs.PlainLemmas.{numbered_next}
 use Rattle.office_engine.proofs.plain.reading.deposit_numbered.Goals.{in-Some+else-left-eq1, in_default}

@@ -1,4 +1,3 @@
-use Rattle.std.proofs.Common.{◌∙◌}
 use Rattle.office_engine.proofs.plain.reading.due.Goals as goal
 
 pub returns-in-Some : goal.returns-in-Some

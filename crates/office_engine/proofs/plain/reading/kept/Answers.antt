@@ -1,4 +1,4 @@
-use Rattle.std.proofs.Common.{◌≡◌, ◌∙◌, is_none, sym, arith}
+use Rattle.std.proofs.Common.{◌∙◌, is_none, sym, arith}
 use Rattle.office_engine.specs.Histories.{gone}
 use Rattle.office_engine.proofs.PlainLemmas.{filter_took, filter_passed}
 use Rattle.office_engine.proofs.plain.reading.kept.Goals.{then-is_kept+in_ok-push, else-is_kept}

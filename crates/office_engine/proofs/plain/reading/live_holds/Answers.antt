@@ -1,4 +1,4 @@
-use Rattle.std.proofs.Common.{◌≡◌, ◌∙◌, ◌&&◌, sym, arith}
+use Rattle.std.proofs.Common.{◌∙◌, ◌&&◌, sym, arith}
 use Rattle.office_engine.specs.Histories.{is_live, covers}
 use Rattle.office_engine.proofs.PlainLemmas.{filter_took, filter_passed}
 use Rattle.office_engine.proofs.plain.reading.live_holds.Goals.{then-holds_back+in_ok-push, else-holds_back}
