@@ -65,7 +65,7 @@ fn a_file_is_served_at_its_own_path_alone(rt: HostRuntime) -> Result<(), Fail> {
     Ok(())
 }
 
-const RULE_HOLD_DATE: [Row; 11] = [
+const RULE_HOLD_DATE: [Row; 14] = [
     ("2024-03-01", "anna", INTO_TAX, "deposit 1"),
     ("2024-03-01", "anna", MORE_INTO_MAPS, "deposit 2"),
     ("2024-03-01", "anna", Asked::HoldDeposit(1), "hold 1"),
@@ -87,6 +87,14 @@ const RULE_HOLD_DATE: [Row; 11] = [
         "destroyed 2 2024-03-05",
     ),
     ("2024-03-05", "anna", Asked::Dispose(2), "Gone 2024-03-05"),
+    ("2024-03-05", "eve", Asked::Dispose(9), "NoSuch deposit"),
+    ("2024-03-05", "eve", Asked::Release(2), "Denied default"),
+    (
+        "2024-03-05",
+        "anna",
+        Asked::Release(2),
+        "Released 2024-03-05",
+    ),
 ];
 
 #[test]
