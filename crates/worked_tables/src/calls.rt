@@ -47,7 +47,10 @@ pub fn set_policy<S: Alter>(
     Ok(tx.commit()?)
 }
 
-pub fn role_in<S: Alter>(conn: &mut Connection<S>, name: &str) -> Result<Option<String>, TableFault> {
+pub fn role_in<S: Alter>(
+    conn: &mut Connection<S>,
+    name: &str,
+) -> Result<Option<String>, TableFault> {
     if !conn.is_autocommit() {
         return Err(TableFault::Store);
     }
@@ -63,7 +66,11 @@ pub fn rules_in<S: Alter>(conn: &mut Connection<S>) -> Result<Vec<RuleRow>, Tabl
     rules(&mut tx)
 }
 
-pub fn set_class<S: Alter>(conn: &mut Connection<S>, name: &str, years: i64) -> Result<(), TableFault> {
+pub fn set_class<S: Alter>(
+    conn: &mut Connection<S>,
+    name: &str,
+    years: i64,
+) -> Result<(), TableFault> {
     if !conn.is_autocommit() {
         return Err(TableFault::Store);
     }
@@ -89,7 +96,10 @@ pub fn add_collection<S: Alter>(conn: &mut Connection<S>, name: &str) -> Result<
     Ok(tx.commit()?)
 }
 
-pub fn knows_collection<S: Alter>(conn: &mut Connection<S>, name: &str) -> Result<bool, TableFault> {
+pub fn knows_collection<S: Alter>(
+    conn: &mut Connection<S>,
+    name: &str,
+) -> Result<bool, TableFault> {
     if !conn.is_autocommit() {
         return Err(TableFault::Store);
     }
@@ -98,16 +108,27 @@ pub fn knows_collection<S: Alter>(conn: &mut Connection<S>, name: &str) -> Resul
 }
 
 /// A deposit of two files and 300 bytes, closed on day 10 and deposited on day 11.
-pub fn add_deposit<S: Alter>(conn: &mut Connection<S>, number: u32, accession: &str, collection: &str, class: &str) -> Result<(), TableFault> {
+pub fn add_deposit<S: Alter>(
+    conn: &mut Connection<S>,
+    number: u32,
+    accession: &str,
+    collection: &str,
+    class: &str,
+) -> Result<(), TableFault> {
     if !conn.is_autocommit() {
         return Err(TableFault::Store);
     }
     let mut tx = conn.transaction();
-    put_deposit(&mut tx, number, accession, collection, class, 10, 11, 2, 300)?;
+    put_deposit(
+        &mut tx, number, accession, collection, class, 10, 11, 2, 300,
+    )?;
     Ok(tx.commit()?)
 }
 
-pub fn deposit_in<S: Alter>(conn: &mut Connection<S>, number: u32) -> Result<Option<DepositRow>, TableFault> {
+pub fn deposit_in<S: Alter>(
+    conn: &mut Connection<S>,
+    number: u32,
+) -> Result<Option<DepositRow>, TableFault> {
     if !conn.is_autocommit() {
         return Err(TableFault::Store);
     }
@@ -115,7 +136,10 @@ pub fn deposit_in<S: Alter>(conn: &mut Connection<S>, number: u32) -> Result<Opt
     deposit_row(&mut tx, number)
 }
 
-pub fn deposit_by<S: Alter>(conn: &mut Connection<S>, accession: &str) -> Result<Option<DepositRow>, TableFault> {
+pub fn deposit_by<S: Alter>(
+    conn: &mut Connection<S>,
+    accession: &str,
+) -> Result<Option<DepositRow>, TableFault> {
     if !conn.is_autocommit() {
         return Err(TableFault::Store);
     }
@@ -123,7 +147,10 @@ pub fn deposit_by<S: Alter>(conn: &mut Connection<S>, accession: &str) -> Result
     by_accession(&mut tx, accession)
 }
 
-pub fn deposits_in<S: Alter>(alloc: Global, conn: &mut Connection<S>) -> Result<Vec<DepositRow>, TableFault> {
+pub fn deposits_in<S: Alter>(
+    alloc: Global,
+    conn: &mut Connection<S>,
+) -> Result<Vec<DepositRow>, TableFault> {
     if !conn.is_autocommit() {
         return Err(TableFault::Store);
     }
@@ -139,7 +166,11 @@ pub fn last_deposit_in<S: Alter>(conn: &mut Connection<S>) -> Result<Option<u32>
     last_deposit(&mut tx)
 }
 
-pub fn set_gone<S: Alter>(conn: &mut Connection<S>, number: u32, day: i64) -> Result<(), TableFault> {
+pub fn set_gone<S: Alter>(
+    conn: &mut Connection<S>,
+    number: u32,
+    day: i64,
+) -> Result<(), TableFault> {
     if !conn.is_autocommit() {
         return Err(TableFault::Store);
     }
@@ -148,7 +179,12 @@ pub fn set_gone<S: Alter>(conn: &mut Connection<S>, number: u32, day: i64) -> Re
     Ok(tx.commit()?)
 }
 
-pub fn add_file<S: Alter>(conn: &mut Connection<S>, number: u32, path: &str, content: &[u8]) -> Result<(), TableFault> {
+pub fn add_file<S: Alter>(
+    conn: &mut Connection<S>,
+    number: u32,
+    path: &str,
+    content: &[u8],
+) -> Result<(), TableFault> {
     if !conn.is_autocommit() {
         return Err(TableFault::Store);
     }
@@ -157,7 +193,11 @@ pub fn add_file<S: Alter>(conn: &mut Connection<S>, number: u32, path: &str, con
     Ok(tx.commit()?)
 }
 
-pub fn files_in<S: Alter>(alloc: Global, conn: &mut Connection<S>, number: u32) -> Result<Vec<FileRow>, TableFault> {
+pub fn files_in<S: Alter>(
+    alloc: Global,
+    conn: &mut Connection<S>,
+    number: u32,
+) -> Result<Vec<FileRow>, TableFault> {
     if !conn.is_autocommit() {
         return Err(TableFault::Store);
     }
@@ -165,7 +205,11 @@ pub fn files_in<S: Alter>(alloc: Global, conn: &mut Connection<S>, number: u32) 
     files_of(alloc, &mut tx, number)
 }
 
-pub fn content_of<S: Alter>(conn: &mut Connection<S>, number: u32, path: &str) -> Result<Option<Vec<u8>>, TableFault> {
+pub fn content_of<S: Alter>(
+    conn: &mut Connection<S>,
+    number: u32,
+    path: &str,
+) -> Result<Option<Vec<u8>>, TableFault> {
     if !conn.is_autocommit() {
         return Err(TableFault::Store);
     }
@@ -183,7 +227,13 @@ pub fn take_files<S: Alter>(conn: &mut Connection<S>, number: u32) -> Result<(),
 }
 
 /// A hold that was placed on day 100.
-pub fn add_hold<S: Alter>(conn: &mut Connection<S>, number: u32, deposit: Option<u32>, collection: Option<&str>, matter: &str) -> Result<(), TableFault> {
+pub fn add_hold<S: Alter>(
+    conn: &mut Connection<S>,
+    number: u32,
+    deposit: Option<u32>,
+    collection: Option<&str>,
+    matter: &str,
+) -> Result<(), TableFault> {
     if !conn.is_autocommit() {
         return Err(TableFault::Store);
     }
@@ -192,7 +242,10 @@ pub fn add_hold<S: Alter>(conn: &mut Connection<S>, number: u32, deposit: Option
     Ok(tx.commit()?)
 }
 
-pub fn hold_in<S: Alter>(conn: &mut Connection<S>, number: u32) -> Result<Option<HoldRow>, TableFault> {
+pub fn hold_in<S: Alter>(
+    conn: &mut Connection<S>,
+    number: u32,
+) -> Result<Option<HoldRow>, TableFault> {
     if !conn.is_autocommit() {
         return Err(TableFault::Store);
     }
@@ -200,7 +253,11 @@ pub fn hold_in<S: Alter>(conn: &mut Connection<S>, number: u32) -> Result<Option
     hold_row(&mut tx, number)
 }
 
-pub fn release<S: Alter>(conn: &mut Connection<S>, number: u32, day: i64) -> Result<(), TableFault> {
+pub fn release<S: Alter>(
+    conn: &mut Connection<S>,
+    number: u32,
+    day: i64,
+) -> Result<(), TableFault> {
     if !conn.is_autocommit() {
         return Err(TableFault::Store);
     }
@@ -209,7 +266,11 @@ pub fn release<S: Alter>(conn: &mut Connection<S>, number: u32, day: i64) -> Res
     Ok(tx.commit()?)
 }
 
-pub fn live_in<S: Alter>(conn: &mut Connection<S>, deposit: u32, collection: &str) -> Result<Vec<u32>, TableFault> {
+pub fn live_in<S: Alter>(
+    conn: &mut Connection<S>,
+    deposit: u32,
+    collection: &str,
+) -> Result<Vec<u32>, TableFault> {
     if !conn.is_autocommit() {
         return Err(TableFault::Store);
     }

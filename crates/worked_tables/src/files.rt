@@ -42,7 +42,9 @@ pub fn reopen(
     conn: Connection<FileStore<Memory>>,
 ) -> Result<Connection<FileStore<Memory>>, Fail> {
     let files = conn.close_files().ok().ok_or("the files were closed")?;
-    let conn = open(alloc, files).ok().ok_or("the files were opened again")?;
+    let conn = open(alloc, files)
+        .ok()
+        .ok_or("the files were opened again")?;
     Ok(conn)
 }
 
@@ -66,17 +68,15 @@ fn push_value(text: &mut String, row: &Row, at: usize) -> Result<(), Fail> {
         ValueRef::Null => {}
         ValueRef::Int(number) => text.push_str(&format!(in alloc; "{number}")?)?,
         ValueRef::Real(_) => text.push_str("real")?,
-        ValueRef::Text(bytes) | ValueRef::Blob(bytes) => text.push_str(std::str::from_utf8(bytes)?)?,
+        ValueRef::Text(bytes) | ValueRef::Blob(bytes) => text.push_str(std::str::from_utf8(
+            bytes,
+        )?)?,
     }
     Ok(())
 }
 
 /// The rows that a query shows: a line each, with `|` between columns.
-pub fn shown<S: Alter>(
-    alloc: Global,
-    conn: &mut Connection<S>,
-    sql: &str,
-) -> Result<String, Fail> {
+pub fn shown<S: Alter>(alloc: Global, conn: &mut Connection<S>, sql: &str) -> Result<String, Fail> {
     let mut text = String::new(alloc);
     let rows = conn.query_all(sql, &[])?;
     for row in rows.iter() {

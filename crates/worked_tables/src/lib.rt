@@ -15,3 +15,5 @@ mod tests_refusals;
 mod tests_sizes;
 #[cfg(test)]
 mod tests_stops;
+#[cfg(test)]
+mod texts;

@@ -2,7 +2,11 @@
 
 use crate::calls::*;
 use crate::files::{held, open_new, reopen};
+use crate::texts::{
+    deposit_text, deposits_text, files_text, has_content, has_role, hold_text, rules_text,
+};
 use office_tables::{CallerRow, OfficeLimits, RuleRow, TableFault};
+use sqlite::{Alter, Connection};
 use std::alloc::{AllocError, Global};
 use std::test::*;
 
@@ -68,34 +72,50 @@ fn rule(alloc: Global, place: i64, effect: i64, role: &str) -> Result<RuleRow, A
     })
 }
 
+/// Puts a policy in the place of another.
+fn set_two_policies<S: Alter>(alloc: Global, conn: &mut Connection<S>) -> Result<(), Fail> {
+    let old = [caller(alloc, "ada", "keeper")?];
+    set_policy(conn, &old, &[rule(alloc, 3, 0, "keeper")?])?;
+    let new = [
+        caller(alloc, "ben", "reader")?,
+        caller(alloc, "cy", "reader")?,
+    ];
+    set_policy(
+        conn,
+        &new,
+        &[rule(alloc, 1, 0, "keeper")?, rule(alloc, 7, 1, "*")?],
+    )?;
+    Ok(())
+}
+
 #[test]
 fn a_policy_lasts(rt: HostRuntime) -> Result<(), Fail> {
     let alloc = rt.alloc();
     let mut conn = open_new(alloc)?;
     make(&mut conn)?;
-    let old = [caller(alloc, "ada", "keeper")?];
-    let old_rules = [rule(alloc, 1, 0, "keeper")?, rule(alloc, 7, 1, "*")?];
-    set_policy(&mut conn, &old, &old_rules)?;
+    set_two_policies(alloc, &mut conn)?;
     let mut conn = reopen(alloc, conn)?;
-    match role_in(&mut conn, "ada")? {
-        Some(role) => assert_eq!(rt; role.as_str(), "keeper"),
-        None => assert!(rt; false, "a role"),
-    }
-    match rules_in(&mut conn)?.as_slice() {
-        [first, second] => {
-            assert_eq!(rt; (first.place, first.effect), (1, 0));
-            assert_eq!(rt; (second.place, second.effect), (7, 1));
-        }
-        _ => assert!(rt; false, "two rules"),
-    }
-    let new = [caller(alloc, "ben", "reader")?, caller(alloc, "cy", "reader")?];
-    set_policy(&mut conn, &new, &[rule(alloc, 2, 1, "reader")?])?;
-    assert!(rt; matches!(role_in(&mut conn, "ada"), Ok(None)));
+    assert!(rt; has_role(&mut conn, "ben", "reader")?);
+    assert!(rt; !has_role(&mut conn, "ada", "keeper")?);
+    assert_eq!(rt;
+        rules_text(alloc, &mut conn)?.as_str(),
+        "1 0 keeper list * y2\n7 1 * list * y2\n"
+    );
     assert_eq!(rt;
         held(alloc, &mut conn)?.as_str(),
-        "1|1|10|20\n--\nben|reader\ncy|reader\n--\n2|1|reader|list|*|y2\n--\n--\n--\n--\n--\n--\n"
+        "1|1|10|20\n--\nben|reader\ncy|reader\n--\n1|0|keeper|list|*|y2\n7|1|*|list|*|y2\n--\n--\n--\n--\n--\n--\n"
     );
     Ok(())
+}
+
+/// Three deposits, of which the second is gone.
+fn add_deposits<S: Alter>(conn: &mut Connection<S>) -> Result<(), TableFault> {
+    set_class(conn, "y2", 2)?;
+    add_collection(conn, "maps")?;
+    add_deposit(conn, 1, "2026/1", "maps", "y2")?;
+    add_deposit(conn, 4, "2026/4", "maps", "y2")?;
+    add_deposit(conn, 9, "2026/9", "maps", "y2")?;
+    set_gone(conn, 4, 900)
 }
 
 #[test]
@@ -103,34 +123,17 @@ fn deposits_last(rt: HostRuntime) -> Result<(), Fail> {
     let alloc = rt.alloc();
     let mut conn = open_new(alloc)?;
     make(&mut conn)?;
-    set_class(&mut conn, "y2", 2)?;
-    add_collection(&mut conn, "maps")?;
-    add_deposit(&mut conn, 1, "2026/1", "maps", "y2")?;
-    add_deposit(&mut conn, 4, "2026/4", "maps", "y2")?;
-    add_deposit(&mut conn, 9, "2026/9", "maps", "y2")?;
-    set_gone(&mut conn, 4, 900)?;
+    add_deposits(&mut conn)?;
     let mut conn = reopen(alloc, conn)?;
     assert_eq!(rt; last_deposit_in(&mut conn), Ok(Some(9)));
-    match deposit_in(&mut conn, 4)? {
-        Some(found) => {
-            assert_eq!(rt; found.accession.as_str(), "2026/4");
-            assert_eq!(rt; (found.closed, found.deposited), (10, 11));
-            assert_eq!(rt; (found.files, found.bytes, found.gone), (2, 300, Some(900)));
-        }
-        None => assert!(rt; false, "deposit 4"),
-    }
-    match deposit_by(&mut conn, "2026/9")? {
-        Some(found) => {
-            assert_eq!(rt; (found.number, found.gone), (9, None));
-            assert_eq!(rt; found.collection.as_str(), "maps");
-            assert_eq!(rt; found.class.as_str(), "y2");
-        }
-        None => assert!(rt; false, "accession 2026/9"),
-    }
-    match deposits_in(alloc, &mut conn)?.as_slice() {
-        [one, four, nine] => assert_eq!(rt; (one.number, four.number, nine.number), (1, 4, 9)),
-        _ => assert!(rt; false, "three deposits"),
-    }
+    let found = deposit_text(alloc, deposit_in(&mut conn, 4)?)?;
+    assert_eq!(rt; found.as_str(), "4 2026/4 maps y2 10 11 2 300 Some(900)\n");
+    let found = deposit_text(alloc, deposit_by(&mut conn, "2026/9")?)?;
+    assert_eq!(rt; found.as_str(), "9 2026/9 maps y2 10 11 2 300 None\n");
+    assert_eq!(rt;
+        deposits_text(alloc, &mut conn)?.as_str(),
+        "1 2026/1 maps y2 10 11 2 300 None\n4 2026/4 maps y2 10 11 2 300 Some(900)\n9 2026/9 maps y2 10 11 2 300 None\n"
+    );
     assert_eq!(rt;
         held(alloc, &mut conn)?.as_str(),
         "1|1|10|20\n--\n--\n--\ny2|2\n--\nmaps\n--\n1|2026/1|maps|y2|10|11|2|300|\n4|2026/4|maps|y2|10|11|2|300|900\n9|2026/9|maps|y2|10|11|2|300|\n--\n--\n--\n"
@@ -138,29 +141,26 @@ fn deposits_last(rt: HostRuntime) -> Result<(), Fail> {
     Ok(())
 }
 
+fn add_files<S: Alter>(conn: &mut Connection<S>) -> Result<(), TableFault> {
+    add_file(conn, 2, "data/b", b"bb")?;
+    add_file(conn, 2, "bagit.txt", b"text")?;
+    add_file(conn, 1, "data/b", b"one")?;
+    add_file(conn, 3, "data/b", b"three")?;
+    take_files(conn, 3)
+}
+
 #[test]
 fn files_last(rt: HostRuntime) -> Result<(), Fail> {
     let alloc = rt.alloc();
     let mut conn = open_new(alloc)?;
     make(&mut conn)?;
-    add_file(&mut conn, 2, "data/b", b"bb")?;
-    add_file(&mut conn, 2, "bagit.txt", b"text")?;
-    add_file(&mut conn, 1, "data/b", b"one")?;
-    add_file(&mut conn, 3, "data/b", b"three")?;
-    take_files(&mut conn, 3)?;
+    add_files(&mut conn)?;
     let mut conn = reopen(alloc, conn)?;
-    match content_of(&mut conn, 2, "data/b")? {
-        Some(content) => assert_eq!(rt; content.as_slice(), b"bb".as_slice()),
-        None => assert!(rt; false, "data/b of deposit 2"),
-    }
-    match files_in(alloc, &mut conn, 2)?.as_slice() {
-        [first, second] => {
-            assert_eq!(rt; first.path.as_str(), "bagit.txt");
-            assert_eq!(rt; first.content.as_slice(), b"text".as_slice());
-            assert_eq!(rt; (first.deposit, second.deposit), (2, 2));
-        }
-        _ => assert!(rt; false, "two files"),
-    }
+    assert!(rt; has_content(&mut conn, 2, "data/b", b"bb")?);
+    assert_eq!(rt;
+        files_text(alloc, &mut conn, 2)?.as_str(),
+        "2 bagit.txt text\n2 data/b bb\n"
+    );
     assert_eq!(rt;
         held(alloc, &mut conn)?.as_str(),
         "1|1|10|20\n--\n--\n--\n--\n--\n--\n1|data/b|one\n2|bagit.txt|text\n2|data/b|bb\n--\n--\n"
@@ -168,28 +168,27 @@ fn files_last(rt: HostRuntime) -> Result<(), Fail> {
     Ok(())
 }
 
+/// Four holds, of which the first is released.
+fn add_holds<S: Alter>(conn: &mut Connection<S>) -> Result<(), TableFault> {
+    add_hold(conn, 1, Some(7), None, "tax 1")?;
+    add_hold(conn, 2, None, Some("maps"), "suit")?;
+    add_hold(conn, 3, Some(7), None, "audit")?;
+    add_hold(conn, 5, Some(8), None, "audit")?;
+    release(conn, 1, 150)
+}
+
 #[test]
 fn holds_last(rt: HostRuntime) -> Result<(), Fail> {
     let alloc = rt.alloc();
     let mut conn = open_new(alloc)?;
     make(&mut conn)?;
-    add_hold(&mut conn, 1, Some(7), None, "tax 1")?;
-    add_hold(&mut conn, 2, None, Some("maps"), "suit")?;
-    add_hold(&mut conn, 3, Some(7), None, "audit")?;
-    add_hold(&mut conn, 5, Some(8), None, "audit")?;
-    release(&mut conn, 1, 150)?;
+    add_holds(&mut conn)?;
     let mut conn = reopen(alloc, conn)?;
     assert_eq!(rt; last_hold_in(&mut conn), Ok(Some(5)));
-    assert_eq!(rt; live_in(&mut conn, 7, "maps")?.as_slice(), [2, 3].as_slice());
-    assert_eq!(rt; live_in(&mut conn, 8, "plans")?.as_slice(), [5].as_slice());
-    match hold_in(&mut conn, 2)? {
-        Some(found) => {
-            assert_eq!(rt; (found.number, found.deposit, found.placed), (2, None, 100));
-            assert_eq!(rt; found.matter.as_str(), "suit");
-            assert_eq!(rt; found.released, None);
-        }
-        None => assert!(rt; false, "hold 2"),
-    }
+    assert!(rt; live_in(&mut conn, 7, "maps")?.as_slice() == [2, 3].as_slice());
+    assert!(rt; live_in(&mut conn, 8, "plans")?.as_slice() == [5].as_slice());
+    let found = hold_text(alloc, hold_in(&mut conn, 1)?)?;
+    assert_eq!(rt; found.as_str(), "1 Some(7) None tax 1 100 Some(150)\n");
     assert_eq!(rt;
         held(alloc, &mut conn)?.as_str(),
         "1|1|10|20\n--\n--\n--\n--\n--\n--\n--\n1|7||tax 1|100|150\n2||maps|suit|100|\n3|7||audit|100|\n5|8||audit|100|\n--\n"

@@ -44,7 +44,11 @@ fn other_tables_are_no_office(rt: HostRuntime) -> Result<(), Fail> {
         "CREATE VIEW office AS SELECT 1 AS id, 1 AS version, 1 AS max_deposits, 1 AS max_holds",
         "CREATE TABLE class (name TEXT NOT NULL PRIMARY KEY, years INTEGER NOT NULL) STRICT",
     ] {
-        assert_eq!(rt; opened(rt.alloc(), sql)?, Err(TableFault::NotAnOffice), "{sql}");
+        assert_eq!(rt;
+            opened(rt.alloc(), sql)?,
+            Err(TableFault::NotAnOffice),
+            "{sql}"
+        );
     }
     Ok(())
 }
@@ -53,21 +57,60 @@ fn other_tables_are_no_office(rt: HostRuntime) -> Result<(), Fail> {
 fn only_row_one_makes_an_office(rt: HostRuntime) -> Result<(), Fail> {
     for (sql, wanted) in [
         ("", Err(TableFault::NotAnOffice)),
-        ("INSERT INTO office VALUES (2, 1, 10, 20)", Err(TableFault::NotAnOffice)),
-        ("INSERT INTO office VALUES (0, 1, 10, 20)", Err(TableFault::NotAnOffice)),
-        ("INSERT INTO office VALUES (1, 1, 10, 20), (2, 2, 0, 0)", Ok(())),
-        ("INSERT INTO office VALUES (0, 2, 10, 20), (1, 1, 10, 20)", Ok(())),
-        ("INSERT INTO office VALUES (1, 1, 0, 20)", Err(TableFault::NotAnOffice)),
-        ("INSERT INTO office VALUES (1, 1, -1, 20)", Err(TableFault::NotAnOffice)),
-        ("INSERT INTO office VALUES (1, 1, 10, 0)", Err(TableFault::NotAnOffice)),
-        ("INSERT INTO office VALUES (1, 1, 1000001, 20)", Err(TableFault::NotAnOffice)),
-        ("INSERT INTO office VALUES (1, 1, 10, 1000001)", Err(TableFault::NotAnOffice)),
+        (
+            "INSERT INTO office VALUES (2, 1, 10, 20)",
+            Err(TableFault::NotAnOffice),
+        ),
+        (
+            "INSERT INTO office VALUES (0, 1, 10, 20)",
+            Err(TableFault::NotAnOffice),
+        ),
+        (
+            "INSERT INTO office VALUES (1, 1, 10, 20), (2, 2, 0, 0)",
+            Ok(()),
+        ),
+        (
+            "INSERT INTO office VALUES (0, 2, 10, 20), (1, 1, 10, 20)",
+            Ok(()),
+        ),
+        (
+            "INSERT INTO office VALUES (1, 1, 0, 20)",
+            Err(TableFault::NotAnOffice),
+        ),
+        (
+            "INSERT INTO office VALUES (1, 1, -1, 20)",
+            Err(TableFault::NotAnOffice),
+        ),
+        (
+            "INSERT INTO office VALUES (1, 1, 10, 0)",
+            Err(TableFault::NotAnOffice),
+        ),
+        (
+            "INSERT INTO office VALUES (1, 1, 1000001, 20)",
+            Err(TableFault::NotAnOffice),
+        ),
+        (
+            "INSERT INTO office VALUES (1, 1, 10, 1000001)",
+            Err(TableFault::NotAnOffice),
+        ),
         ("INSERT INTO office VALUES (1, 1, 1, 1000000)", Ok(())),
         ("INSERT INTO office VALUES (1, 1, 1000000, 1)", Ok(())),
-        ("INSERT INTO office VALUES (1, 2, 10, 20)", Err(TableFault::OtherVersion)),
-        ("INSERT INTO office VALUES (1, 0, 10, 20)", Err(TableFault::OtherVersion)),
-        ("INSERT INTO office VALUES (1, -1, 10, 20)", Err(TableFault::OtherVersion)),
-        ("INSERT INTO office VALUES (1, 2, 0, 20)", Err(TableFault::NotAnOffice)),
+        (
+            "INSERT INTO office VALUES (1, 2, 10, 20)",
+            Err(TableFault::OtherVersion),
+        ),
+        (
+            "INSERT INTO office VALUES (1, 0, 10, 20)",
+            Err(TableFault::OtherVersion),
+        ),
+        (
+            "INSERT INTO office VALUES (1, -1, 10, 20)",
+            Err(TableFault::OtherVersion),
+        ),
+        (
+            "INSERT INTO office VALUES (1, 2, 0, 20)",
+            Err(TableFault::NotAnOffice),
+        ),
     ] {
         assert_eq!(rt; opened_with_table(rt.alloc(), sql)?, wanted, "{sql}");
     }
@@ -126,14 +169,20 @@ fn an_office_is_made_only_in_an_empty_database(rt: HostRuntime) -> Result<(), Fa
     for (sql, objects) in [
         ("CREATE TABLE note (id INTEGER PRIMARY KEY)", "table|note\n"),
         ("CREATE VIEW one AS SELECT 1 AS n", "view|one\n"),
-        ("CREATE TABLE office (id INTEGER PRIMARY KEY)", "table|office\n"),
+        (
+            "CREATE TABLE office (id INTEGER PRIMARY KEY)",
+            "table|office\n",
+        ),
     ] {
         let (answer, found) = made(rt.alloc(), sql)?;
         assert_eq!(rt; answer, Err(TableFault::Store), "{sql}");
         assert_eq!(rt; found.as_str(), objects, "{sql}");
     }
     // What was dropped again is no object.
-    let (answer, _) = made(rt.alloc(), "CREATE TABLE note (id INTEGER PRIMARY KEY); DROP TABLE note")?;
+    let (answer, _) = made(
+        rt.alloc(),
+        "CREATE TABLE note (id INTEGER PRIMARY KEY); DROP TABLE note",
+    )?;
     assert_eq!(rt; answer, Ok(()));
     Ok(())
 }

@@ -7,19 +7,22 @@ use office_tables::{
 };
 use sqlite::{Alter, Connection, FileStore};
 use sqlite_disk::Memory;
-use std::alloc::Global;
-use std::process::Abort;
+use std::alloc::{AllocError, Global};
 use std::test::*;
+
+fn fill<S: Alter>(conn: &mut Connection<S>) -> Result<(), TableFault> {
+    make(conn)?;
+    set_class(conn, "y2", 2)?;
+    add_collection(conn, "maps")?;
+    add_deposit(conn, 1, "2026/1", "maps", "y2")?;
+    add_file(conn, 1, "data/a", b"abc")?;
+    add_hold(conn, 1, Some(1), None, "suit")
+}
 
 /// An office with one deposit, a file of it and a hold.
 fn small_office(alloc: Global) -> Result<Connection<FileStore<Memory>>, Fail> {
     let mut conn = open_new(alloc)?;
-    make(&mut conn)?;
-    set_class(&mut conn, "y2", 2)?;
-    add_collection(&mut conn, "maps")?;
-    add_deposit(&mut conn, 1, "2026/1", "maps", "y2")?;
-    add_file(&mut conn, 1, "data/a", b"abc")?;
-    add_hold(&mut conn, 1, Some(1), None, "suit")?;
+    fill(&mut conn)?;
     Ok(conn)
 }
 
@@ -93,7 +96,11 @@ fn a_refused_deposit_changes_nothing(rt: HostRuntime) -> Result<(), Fail> {
     ] {
         let found = class_and_deposit(&mut conn, number, accession, collection, class);
         assert_eq!(rt; found, Err(TableFault::Store), "{number} {accession}");
-        assert_eq!(rt; held(alloc, &mut conn)?.as_str(), before.as_str(), "{number} {accession}");
+        assert_eq!(rt;
+            held(alloc, &mut conn)?.as_str(),
+            before.as_str(),
+            "{number} {accession}"
+        );
     }
     let mut conn = reopen(alloc, conn)?;
     assert_eq!(rt; held(alloc, &mut conn)?.as_str(), before.as_str());
@@ -122,21 +129,24 @@ fn a_refused_file_or_hold_changes_nothing(rt: HostRuntime) -> Result<(), Fail> {
     Ok(())
 }
 
-#[test]
-fn a_refused_policy_changes_nothing(rt: HostRuntime) -> Result<(), Fail> {
-    let alloc = rt.alloc();
-    let mut conn = small_office(alloc)?;
+/// Callers of these names, with one role.
+fn callers_named(alloc: Global, names: &[&str]) -> Result<Vec<CallerRow>, AllocError> {
     let mut callers = Vec::new(alloc);
-    for name in ["ada", "ben", "ada"] {
+    for name in names {
         callers.push(CallerRow {
             name: String::from_str(alloc, name)?,
             role: String::from_str(alloc, "keeper")?,
         })?;
     }
+    Ok(callers)
+}
+
+/// Rules of these places that allow everything.
+fn rules_placed(alloc: Global, places: &[i64]) -> Result<Vec<RuleRow>, AllocError> {
     let mut rules = Vec::new(alloc);
-    for place in [1, 2, 2] {
+    for place in places {
         rules.push(RuleRow {
-            place,
+            place: *place,
             effect: 1,
             role: String::from_str(alloc, "keeper")?,
             action: String::from_str(alloc, "*")?,
@@ -144,31 +154,71 @@ fn a_refused_policy_changes_nothing(rt: HostRuntime) -> Result<(), Fail> {
             class: String::from_str(alloc, "*")?,
         })?;
     }
-    let (some_callers, some_rules) = (&callers.as_slice()[..2], &rules.as_slice()[..2]);
-    set_policy(&mut conn, some_callers, some_rules)?;
+    Ok(rules)
+}
+
+#[test]
+fn a_refused_policy_changes_nothing(rt: HostRuntime) -> Result<(), Fail> {
+    let alloc = rt.alloc();
+    let mut conn = small_office(alloc)?;
+    let callers = callers_named(alloc, &["ada", "ben"])?;
+    let rules = rules_placed(alloc, &[1, 2])?;
+    set_policy(&mut conn, &callers, &rules)?;
     let before = held(alloc, &mut conn)?;
-    let found = class_and_policy(&mut conn, &callers, some_rules);
+    let twice = callers_named(alloc, &["cy", "dan", "cy"])?;
+    let found = class_and_policy(&mut conn, &twice, &rules);
     assert_eq!(rt; found, Err(TableFault::Store));
     assert_eq!(rt; held(alloc, &mut conn)?.as_str(), before.as_str());
-    let found = class_and_policy(&mut conn, some_callers, &rules);
+    let twice = rules_placed(alloc, &[3, 4, 4])?;
+    let found = class_and_policy(&mut conn, &callers, &twice);
     assert_eq!(rt; found, Err(TableFault::Store));
     assert_eq!(rt; held(alloc, &mut conn)?.as_str(), before.as_str());
     Ok(())
 }
 
-/// Each read by a name or a number that isn't there.
-fn finds_nothing(rt: &(impl AllocGlobal + Abort), conn: &mut Connection<FileStore<Memory>>) -> Result<(), Fail> {
-    assert!(rt; matches!(role_in(conn, "eve"), Ok(None)));
-    assert_eq!(rt; years_of(conn, "Y2"), Ok(None));
-    assert_eq!(rt; knows_collection(conn, "map"), Ok(false));
-    assert!(rt; matches!(deposit_in(conn, 3), Ok(None)));
-    assert!(rt; matches!(deposit_by(conn, "2026/"), Ok(None)));
-    assert_eq!(rt; files_in(rt.alloc(), conn, 3)?.len(), 0);
-    assert!(rt; matches!(content_of(conn, 1, "data/A"), Ok(None)));
-    assert!(rt; matches!(content_of(conn, 3, "data/a"), Ok(None)));
-    assert!(rt; matches!(hold_in(conn, 3), Ok(None)));
-    assert_eq!(rt; live_in(conn, 3, "plans")?.len(), 0);
-    Ok(())
+// Reads by a name or a number that isn't there.
+
+fn finds_no_definition<S: Alter>(conn: &mut Connection<S>) -> Result<bool, TableFault> {
+    Ok(
+        role_in(conn, "eve")?.is_none()
+            && years_of(conn, "Y2")?.is_none()
+            && !knows_collection(conn, "map")?,
+    )
+}
+
+fn finds_no_deposit<S: Alter>(conn: &mut Connection<S>) -> Result<bool, TableFault> {
+    Ok(deposit_in(conn, 3)?.is_none() && deposit_by(conn, "2026/")?.is_none())
+}
+
+fn finds_no_file<S: Alter>(alloc: Global, conn: &mut Connection<S>) -> Result<bool, TableFault> {
+    Ok(
+        files_in(alloc, conn, 3)?.is_empty()
+            && content_of(conn, 1, "data/A")?.is_none()
+            && content_of(conn, 3, "data/a")?.is_none(),
+    )
+}
+
+fn finds_no_hold<S: Alter>(conn: &mut Connection<S>) -> Result<bool, TableFault> {
+    Ok(hold_in(conn, 3)?.is_none() && live_in(conn, 3, "plans")?.is_empty())
+}
+
+fn finds_nothing<S: Alter>(alloc: Global, conn: &mut Connection<S>) -> Result<bool, TableFault> {
+    Ok(
+        finds_no_definition(conn)?
+            && finds_no_deposit(conn)?
+            && finds_no_file(alloc, conn)?
+            && finds_no_hold(conn)?,
+    )
+}
+
+/// Whether there is no row but the one of the office.
+fn has_no_rows<S: Alter>(alloc: Global, conn: &mut Connection<S>) -> Result<bool, TableFault> {
+    Ok(
+        rules_in(conn)?.is_empty()
+            && deposits_in(alloc, conn)?.is_empty()
+            && last_deposit_in(conn)?.is_none()
+            && last_hold_in(conn)?.is_none(),
+    )
 }
 
 #[test]
@@ -176,18 +226,27 @@ fn finds_only_what_is_there(rt: HostRuntime) -> Result<(), Fail> {
     let alloc = rt.alloc();
     let mut conn = open_new(alloc)?;
     make(&mut conn)?;
-    finds_nothing(&rt, &mut conn)?;
-    assert_eq!(rt; rules_in(&mut conn)?.len(), 0);
-    assert_eq!(rt; deposits_in(alloc, &mut conn)?.len(), 0);
-    assert_eq!(rt; last_deposit_in(&mut conn), Ok(None));
-    assert_eq!(rt; last_hold_in(&mut conn), Ok(None));
+    assert!(rt; finds_nothing(alloc, &mut conn)?);
+    assert!(rt; has_no_rows(alloc, &mut conn)?);
     let mut conn = small_office(alloc)?;
-    finds_nothing(&rt, &mut conn)?;
-    // Nor does a change of what isn't there change anything.
+    assert!(rt; finds_nothing(alloc, &mut conn)?);
+    assert!(rt; !has_no_rows(alloc, &mut conn)?);
+    Ok(())
+}
+
+/// Changes of what isn't there.
+fn change_nothing<S: Alter>(conn: &mut Connection<S>) -> Result<(), TableFault> {
+    set_gone(conn, 3, 9)?;
+    take_files(conn, 3)?;
+    release(conn, 3, 9)
+}
+
+#[test]
+fn changes_only_what_is_there(rt: HostRuntime) -> Result<(), Fail> {
+    let alloc = rt.alloc();
+    let mut conn = small_office(alloc)?;
     let before = held(alloc, &mut conn)?;
-    set_gone(&mut conn, 3, 9)?;
-    take_files(&mut conn, 3)?;
-    release(&mut conn, 3, 9)?;
+    change_nothing(&mut conn)?;
     assert_eq!(rt; held(alloc, &mut conn)?.as_str(), before.as_str());
     Ok(())
 }
@@ -199,6 +258,9 @@ fn no_tables_are_a_fault_of_the_store(rt: HostRuntime) -> Result<(), Fail> {
     assert_eq!(rt; years_of(&mut conn, "y2"), Err(TableFault::Store));
     assert_eq!(rt; set_class(&mut conn, "y2", 2), Err(TableFault::Store));
     assert_eq!(rt; last_deposit_in(&mut conn), Err(TableFault::Store));
-    assert_eq!(rt; add_file(&mut conn, 1, "data/a", b""), Err(TableFault::Store));
+    assert_eq!(rt;
+        add_file(&mut conn, 1, "data/a", b""),
+        Err(TableFault::Store)
+    );
     Ok(())
 }

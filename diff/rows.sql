@@ -1,0 +1,16 @@
+-- Every row of an office: a line each, with the table's name first, paths and contents in
+-- hexadecimal digits.
+.mode list
+SELECT 'office', id, version, max_deposits, max_holds FROM office ORDER BY id;
+SELECT 'caller', name, role FROM caller ORDER BY name;
+SELECT 'rule', place, effect, role, action, collection, class FROM rule ORDER BY place;
+SELECT 'class', name, years FROM class ORDER BY name;
+SELECT 'collection', name FROM collection ORDER BY name;
+SELECT 'deposit', number, accession, collection, class, closed, deposited, files, bytes, gone
+  FROM deposit ORDER BY number;
+-- The one long content is told from every other.
+SELECT 'file', deposit, hex(path),
+    CASE WHEN content = CAST(replace(hex(zeroblob(20000)), '00', 'abcde') AS BLOB)
+    THEN 'abcde 20000 times' ELSE hex(content) END
+  FROM file ORDER BY deposit, path;
+SELECT 'hold', number, deposit, collection, matter, placed, released FROM hold ORDER BY number;

@@ -1,0 +1,31 @@
+#!/usr/bin/env bash
+# Compares the worked office that the proved program `table_file` writes into a file with what the
+# `sqlite3` command finds there: each row, the texts of the tables, and its own tests of the file.
+# Needs sqlite3 (Debian: apt-get install sqlite3); proves and builds the program where it is missing.
+set -eu
+top=$(dirname "$(readlink -f "$0")")/..
+crate=$top/crates/table_file
+program=$crate/out/table_file
+if [ ! -x "$program" ]; then
+    (cd "$crate" && rt run -- write /dev/null/none) >/dev/null 2>&1 || true
+    [ -x "$program" ] || { echo "the program could not be built: try rt check in $crate" >&2; exit 3; }
+fi
+folder=$(mktemp -d)
+trap 'rm -rf "$folder"' EXIT
+file=$folder/office.db
+
+"$program" write "$file" >"$folder/said"
+diff -u "$crate/stdout" "$folder/said"
+sqlite3 -batch "$file" <"$top/diff/rows.sql" >"$folder/found"
+diff -u "$folder/said" "$folder/found"
+sqlite3 -batch "$file" .schema >"$folder/schema"
+diff -u "$top/diff/schema.sql" "$folder/schema"
+sqlite3 -batch "$file" 'PRAGMA integrity_check; PRAGMA foreign_key_check;' >"$folder/tested"
+diff -u <(echo ok) "$folder/tested"
+# No second office is made in the file, and the refusal changes nothing.
+if "$program" write "$file" >/dev/null 2>&1; then
+    echo "a second office was made" >&2
+    exit 1
+fi
+sqlite3 -batch "$file" <"$top/diff/rows.sql" | diff -u "$folder/said" -
+echo "sqlite3 finds the $(wc -l <"$folder/said") rows that were written"
