@@ -1,6 +1,6 @@
 -- What an answer says, where it is what judging gives.
 use Rattle.std.proofs.Common.{◌≡◌, ◌⊎◌, inl, inr, List, refl, sym, ap, subst, ◌∙◌}
-use Rattle.std.specs.Prelude.{Option, Some, None, Result, Ok, Err, IfOk, IfErr}
+use Rattle.std.specs.Prelude.{Option, Some, None, Result, Ok, Err, IfOk, IfErr, IsErrAnd, MatchResult}
 use Rattle.bag_text.specs.TransferForm.{File, IsBag}
 use Rattle.bag_text.specs.declared.declaration.Version.{Version}
 use Rattle.bag_check.specs.declared.fault.BagFault.{BagFault}
@@ -28,14 +28,6 @@ accepted_is_valid bag is (Ok report) e =
 given : (bag : List File) (judged : Result Report Fault) → judge bag ≡ judged → (result : Result BagReport BagFault) → Answered bag result → Gives report_seen result judged
 given bag judged e result answered = subst (λ (r : Result Report Fault). Gives report_seen result r) e answered
 
-pub valid_is_accepted : (bag : List File) → IsBag bag → (result : Result BagReport BagFault) → Answered bag result
-    → (v : Version) → Valid bag v → Gives report_seen result (Ok (report_of v bag))
-valid_is_accepted bag is result answered v valid = given bag (Ok (report_of v bag)) (valid_judged bag is v valid) result answered
-
-pub first_is_refused : (bag : List File) → IsBag bag → (result : Result BagReport BagFault) → Answered bag result
-    → (fault : Fault) → FirstFault bag fault → Gives report_seen result (Err fault)
-first_is_refused bag is result answered fault first = given bag (Err fault) (fault_judged bag is fault first) result answered
-
 -- no fault but want of memory names none
 only_memory : (fault : BagFault) → named_fault fault ≡ None → fault ≡ faults.Memory
 only_memory faults.NoDeclaration e = absurd cc
@@ -56,6 +48,29 @@ only_memory faults.OxumTwice e = absurd cc
 only_memory faults.OxumWrong e = absurd cc
 only_memory (faults.ChecksumWrong name path) e = absurd cc
 only_memory faults.Memory e = refl
+
+pub valid_is_accepted : (bag : List File) → IsBag bag → (result : Result BagReport BagFault) → Answered bag result → (v : Version) → Valid bag v
+    → MatchResult result (λ report. report_seen report ≡ report_of v bag) (λ fault. fault ≡ faults.Memory)
+valid_is_accepted bag is (Ok report) answered v valid =
+    let seen : Ok (report_of v bag) ≡ Ok (report_seen report) = given bag (Ok (report_of v bag)) (valid_judged bag is v valid) (Ok report) answered in cc
+valid_is_accepted bag is (Err fault) answered v valid =
+    by_name (named_fault fault) refl (given bag (Ok (report_of v bag)) (valid_judged bag is v valid) (Err fault) answered)
+  where
+    by_name : (name : Option Fault) → named_fault fault ≡ name → FailsAs {Y = Report} name (Ok (report_of v bag)) → fault ≡ faults.Memory
+    by_name None names e = only_memory fault names
+    by_name (Some first) names e = absurd cc
+
+pub first_is_refused : (bag : List File) → IsBag bag → (result : Result BagReport BagFault) → Answered bag result → (first : Fault) → FirstFault bag first
+    → IsErrAnd result (λ fault. (fault ≡ faults.Memory) ⊎ (named_fault fault ≡ Some first))
+first_is_refused bag is (Ok report) answered first comes =
+    let seen : Err first ≡ Ok (report_seen report) = given bag (Err first) (fault_judged bag is first comes) (Ok report) answered in absurd cc
+first_is_refused bag is (Err fault) answered first comes =
+    by_name (named_fault fault) refl (given bag (Err first) (fault_judged bag is first comes) (Err fault) answered)
+  where
+    by_name : (name : Option Fault) → named_fault fault ≡ name → FailsAs {Y = Report} name (Err first)
+        → (fault ≡ faults.Memory) ⊎ (named_fault fault ≡ Some first)
+    by_name None names e = inl (only_memory fault names)
+    by_name (Some named) names e = let same : first ≡ named = cc in inr (names ∙ ap Some (sym same))
 
 pub refused_is_first : (bag : List File) → IsBag bag → (result : Result BagReport BagFault) → Answered bag result
     → IfErr result (λ fault. (fault ≡ faults.Memory) ⊎ NamesFirst bag fault)

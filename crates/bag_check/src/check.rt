@@ -1,6 +1,6 @@
 //! The verdict on a bag.
 
-ghost use Rattle.std.specs.Prelude.{◌≡◌, ◌⊎◌, IfOk, IfErr, Ok, Err, Some, map};
+ghost use Rattle.std.specs.Prelude.{◌≡◌, ◌⊎◌, IfOk, IfErr, IsErrAnd, MatchResult, Some, map};
 ghost use Rattle.std.specs.List.{list_any};
 ghost use Rattle.std.specs.Cow.{cow_str_bytes};
 ghost use Rattle.bag_text.specs.TransferReading.{files_of};
@@ -89,7 +89,8 @@ fn broken<'a>(rule: Rule, name: &'a str, path: CowStr<'a, Global>) -> BagFault<'
 
 /// Refuses a bag that breaks a rule, at the first place.
 fn keep_rule<'a>(bag: &BagSet<'a>, rule: Rule, listed: &[Listed<'a>]) -> Result<(), BagFault<'a>>
-    ensures { Gives (λ unit. unit) result (kept_by rule (first_place bag.now rule (map listed_seen listed.now))) }
+    ensures { Gives (λ unit. unit) result
+        (kept_by rule (first_place bag.now rule (map listed_seen listed.now))) }
 {
     match first_place(bag, rule, listed)? {
         Some((name, path)) => Err(broken(rule, name, path)),
@@ -100,7 +101,8 @@ fn keep_rule<'a>(bag: &BagSet<'a>, rule: Rule, listed: &[Listed<'a>]) -> Result<
 /// Refuses a bag that breaks a rule about what is listed, the first rule first.
 #[tactic(auto, unfolding(crate::specs::Judging::keeps))]
 fn keep_listing_rules<'a>(bag: &BagSet<'a>, listed: &[Listed<'a>]) -> Result<(), BagFault<'a>>
-    ensures { Gives (λ unit. unit) result (keeps bag.now (map listed_seen listed.now) listing_rules) }
+    ensures { Gives (λ unit. unit) result
+        (keeps bag.now (map listed_seen listed.now) listing_rules) }
 {
     keep_rule(bag, Rule::OutsidePayload, listed)?;
     keep_rule(bag, Rule::TagManifestListed, listed)?;
@@ -126,7 +128,12 @@ fn keep_contents<'a>(
 }
 
 fn report_on(version: Version, bag: &BagSet<'_>, manifests: usize) -> BagReport
-    ensures { report_seen result ≡ record { version = version; files = payload_files bag.now; bytes = payload_bytes bag.now; manifests = manifests } }
+    ensures { report_seen result ≡ record {
+      version = version;
+      files = payload_files bag.now;
+      bytes = payload_bytes bag.now;
+      manifests = manifests;
+    } }
 {
     let (files, bytes) = count_payload(bag.files());
     BagReport {
@@ -156,18 +163,23 @@ fn judge_bag<'a>(
     Ok(report_on(version, bag, found.len()))
 }
 
-/// Judges a bag (RFC 8493, section 3): what is counted in a valid bag, or the first fault of another.
+/// Judges a bag (RFC 8493, section 3): what is counted in a valid bag, or the first fault of one
+/// that isn't valid.
 pub fn check_bag<'a>(alloc: Global, bag: &BagSet<'a>) -> Result<BagReport, BagFault<'a>>
     // A bag that is accepted is valid, and its report counts what is there.
     ensures valid { IfOk result (λ report. Valid bag.now report.version
         × (report_seen report ≡ report_of report.version bag.now)) }
     // A valid bag is accepted, unless memory runs out.
-    ensures accepts { (v : Version) → Valid bag.now v → Gives report_seen result (Ok (report_of v bag.now)) }
+    ensures accepts { (v : Version) → Valid bag.now v
+        → MatchResult result
+        (λ report. report_seen report ≡ report_of v bag.now)
+        (λ fault. fault ≡ Memory) }
 
-    // A refusal names the fault that comes first by number, then by the manifest's name, then by the path.
+    // A refusal names the fault that comes first: by number, by the manifest's name, by the path.
     ensures refused { IfErr result (λ fault. (fault ≡ Memory) ⊎ NamesFirst bag.now fault) }
     // Where a fault comes first it is the one that is named, unless memory runs out.
-    ensures first_fault { (fault : Fault) → FirstFault bag.now fault → Gives report_seen result (Err fault) }
+    ensures first_fault { (first : Fault) → FirstFault bag.now first
+        → IsErrAnd result (λ fault. (fault ≡ Memory) ⊎ (named_fault fault ≡ Some first)) }
 
     // What judging the bag step by step gives.
     ensures exact { Gives report_seen result (judge bag.now) }

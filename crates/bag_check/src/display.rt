@@ -57,7 +57,8 @@ impl<'a> fmt::Display for BagFault<'a> {
 
 /// Writes a code and a manifest's name.
 fn write_named<W: fmt::Write>(f: &mut fmt::Formatter<W>, code: &str, name: &str) -> fmt::Result
-    ensures { DisplaysOnOk W.write_str_gives f.old result (Some (code.now ++ 32 ∷ printed name.now)) f.new }
+    ensures { DisplaysOnOk W.write_str_gives f.old result
+        (Some (code.now ++ 32 ∷ printed name.now)) f.new }
 {
     let name = utf8_percent_encode(name, escaped());
     write!(f, "{code} {name}")
@@ -70,7 +71,8 @@ fn write_place<W: fmt::Write>(
     name: &str,
     path: &str,
 ) -> fmt::Result
-    ensures { DisplaysOnOk W.write_str_gives f.old result (Some (code.now ++ 32 ∷ printed name.now ++ 32 ∷ printed path.now)) f.new }
+    ensures { DisplaysOnOk W.write_str_gives f.old result
+        (Some (code.now ++ 32 ∷ printed name.now ++ 32 ∷ printed path.now)) f.new }
 {
     write_named(f, code, name)?;
     let path = utf8_percent_encode(path, escaped());

@@ -7,7 +7,8 @@ use bag_text::{DeclFault, InfoFault, LineFault};
 use std::alloc::{AllocError, AllocFailed, Global};
 use std::borrow::CowStr;
 
-/// Why a bag is not valid: the first fault by number, then by the manifest's name, then by the path, by bytes.
+/// Why a bag is not valid: the first fault by number, then by the manifest's name, then by the path,
+/// by bytes.
 #[derive(Debug, Drop)]
 pub enum BagFault<'a> {
     /// B1: there is no `bagit.txt`.

@@ -54,7 +54,8 @@ fn names_others(bag: &BagSet<'_>, pair: &(&str, CowStr<'_, Global>)) -> bool
 
 /// Whether some `Payload-Oxum` isn't two numbers with a full stop between them.
 fn has_formless(pairs: &[(&str, CowStr<'_, Global>)]) -> bool
-    ensures { result ≡ list_any (λ value. not (is_some (counts_of value))) (oxums_of (pairs_of pairs.now)) }
+    ensures { result ≡
+        list_any (λ value. not (is_some (counts_of value))) (oxums_of (pairs_of pairs.now)) }
 {
     pairs.iter().any(|pair| is_oxum(pair) && is_formless(pair))
 }
@@ -68,7 +69,8 @@ fn count_oxums(pairs: &[(&str, CowStr<'_, Global>)]) -> usize
 
 /// Whether some `Payload-Oxum` names other counts than the payload's.
 fn has_others(bag: &BagSet<'_>, pairs: &[(&str, CowStr<'_, Global>)]) -> bool
-    ensures { result ≡ list_any (λ value. are_others bag.now (counts_of value)) (oxums_of (pairs_of pairs.now)) }
+    ensures { result ≡
+        list_any (λ value. are_others bag.now (counts_of value)) (oxums_of (pairs_of pairs.now)) }
 {
     pairs
         .iter()

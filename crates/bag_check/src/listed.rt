@@ -31,7 +31,8 @@ pub struct Listed<'a> {
 
 /// What a file is: no manifest, one of a known algorithm, or one that isn't supported.
 fn named_file<'a>(path: &'a str, text: &'a [u8]) -> Result<Option<Named<'a>>, BagFault<'a>>
-    ensures { Gives (λ found. option_map named_seen found) result (named_of (record { path = path.now; content = text.now })) }
+    ensures { Gives (λ found. option_map named_seen found) result
+        (named_of (record { path = path.now; content = text.now })) }
 {
     let Some((kind, alg)) = manifest_of(path) else {
         return Ok(None);
@@ -52,7 +53,8 @@ pub fn find_manifests<'a>(
     alloc: Global,
     files: &[(&'a str, &'a [u8])],
 ) -> Result<Vec<Named<'a>>, BagFault<'a>>
-    ensures { Gives (λ found. map named_seen found.items) result (manifests_in (files_of files.now)) }
+    ensures { Gives (λ found. map named_seen found.items) result
+        (manifests_in (files_of files.now)) }
 {
     let mut found = Vec::new(alloc);
     for file in files {
@@ -69,7 +71,8 @@ fn read_named<'a>(
     version: Version,
     named: Named<'a>,
 ) -> Result<Listed<'a>, BagFault<'a>>
-    ensures { Gives listed_seen result (listed_or_fault (named_seen named.entry) (manifest_of version named.entry.algorithm named.entry.text.now)) }
+    ensures { Gives listed_seen result (listed_or_fault (named_seen named.entry)
+        (manifest_of version named.entry.algorithm named.entry.text.now)) }
 {
     match read_manifest(alloc, named.text, version, named.algorithm) {
         Ok(manifest) => Ok(Listed {
@@ -89,7 +92,8 @@ pub fn read_manifests<'a>(
     version: Version,
     found: &[Named<'a>],
 ) -> Result<Vec<Listed<'a>>, BagFault<'a>>
-    ensures { Gives (λ read. map listed_seen read.items) result (listings_of version (map named_seen found.now)) }
+    ensures { Gives (λ read. map listed_seen read.items) result
+        (listings_of version (map named_seen found.now)) }
 {
     let mut read = Vec::new(alloc);
     for named in found {

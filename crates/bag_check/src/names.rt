@@ -22,7 +22,10 @@ fn has_slash(path: &[u8]) -> bool
 
 /// Whether a path is `front`, at least one byte, and `.txt`, and at the top.
 fn is_between(front: &[u8], path: &[u8]) -> bool
-    ensures { result ≡ (starts_with nat_eq path.now front.now && ends_with nat_eq path.now (codes ".txt") && nat_lt (length front.now + 4) (length path.now) && not (list_any (λ b. b == 47) path.now)) }
+    ensures { result ≡ (starts_with nat_eq path.now front.now
+        && ends_with nat_eq path.now (codes ".txt")
+        && nat_lt (length front.now + 4) (length path.now)
+        && not (list_any (λ b. b == 47) path.now)) }
 {
     path.starts_with(front)
         && path.ends_with(b".txt")

@@ -1,4 +1,5 @@
-//! The value of a `Payload-Oxum`: the bytes of all payload files, a full stop, and how many files these are.
+//! The value of a `Payload-Oxum`: the bytes of all payload files, a full stop, and how many files
+//! these are.
 
 ghost use Rattle.std.specs.Prelude.{◌≡◌, ◌≤◌, length, true, option_map, option_copied};
 ghost use Rattle.std.specs.List.{list_all};

@@ -87,7 +87,8 @@ fn first_listed<'a>(
     rule: Rule,
     manifest: &Manifest<'a>,
 ) -> Result<Option<CowStr<'a, Global>>, AllocError>
-    ensures { IfOk result (λ path. option_map cow_str_bytes path ≡ first_listed bag.now rule (map listed manifest.now.entries.entries)) }
+    ensures { IfOk result (λ path. option_map cow_str_bytes path
+        ≡ first_listed bag.now rule (map listed manifest.now.entries.entries)) }
 {
     for (path, listing) in &manifest.entries {
         if breaks(bag, rule, path, listing) {
@@ -103,7 +104,8 @@ fn first_unlisted<'a>(
     rule: Rule,
     manifest: &Manifest<'a>,
 ) -> Option<&'a str>
-    ensures { option_copied result ≡ first_unlisted (files_of files.now) rule (map listed manifest.now.entries.entries) }
+    ensures { option_copied result
+        ≡ first_unlisted (files_of files.now) rule (map listed manifest.now.entries.entries) }
 {
     for file in files {
         if asks_for(rule, file.0) && !manifest.lists(file.0) {
@@ -119,7 +121,8 @@ fn first_in<'a>(
     rule: Rule,
     listed: &Listed<'a>,
 ) -> Result<Option<CowStr<'a, Global>>, AllocError>
-    ensures { IfOk result (λ path. option_map cow_str_bytes path ≡ first_in bag.now rule (listed_seen listed.now)) }
+    ensures { IfOk result (λ path. option_map cow_str_bytes path
+        ≡ first_in bag.now rule (listed_seen listed.now)) }
 {
     if !concerns(rule, listed.kind) {
         return Ok(None);
@@ -139,7 +142,8 @@ pub fn first_place<'a>(
     rule: Rule,
     listed: &[Listed<'a>],
 ) -> Result<Option<(&'a str, CowStr<'a, Global>)>, AllocError>
-    ensures { IfOk result (λ place. option_map place_seen place ≡ first_place bag.now rule (map listed_seen listed.now)) }
+    ensures { IfOk result (λ place. option_map place_seen place
+        ≡ first_place bag.now rule (map listed_seen listed.now)) }
 {
     for one in listed {
         if let Some(path) = first_in(bag, rule, one)? {

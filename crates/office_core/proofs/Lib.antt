@@ -1,5 +1,6 @@
 pub mod OptionLemmas
 pub mod DayLemmas
 pub mod RuleLemmas
+pub mod PolicyAnswers
 pub mod PolicyLemmas
 pub mod DueLemmas

@@ -1,5 +1,5 @@
 -- The policy file: the callers and the rules that the tree of a TOML text spells, and its faults.
-use Rattle.std.specs.Prelude.{◌≡◌, ℕ, suc, pos, Bool, true, false, not, ◌&&◌, ◌||◌, List, [], ◌∷◌, length, Option, Some, None, Result, Ok, Err, is_none, nat_lt, codes, bytes_eq, find, option_map, option_and_then, if◌then◌else◌}
+use Rattle.std.specs.Prelude.{◌≡◌, ◌⊎◌, ℕ, suc, pos, Bool, true, false, not, ◌&&◌, ◌||◌, List, [], ◌∷◌, length, Option, Some, None, Result, Ok, Err, is_none, nat_lt, codes, bytes_eq, find, option_map, option_and_then, if◌then◌else◌}
 use Rattle.std.specs.List.{list_all, list_any, filter_map}
 use Rattle.std.specs.Option.{option_map_or}
 use Rattle.std.specs.Ordering.{int_eq}
@@ -176,6 +176,19 @@ read_tree (Some tree) = spelled (contents_of tree) (first_some (faults tree))
 -- Y1 where the text is no TOML, else what its tree gives
 abbrev pub policy_of : List ℕ → Result Contents PolicyFault
 policy_of text = read_tree (parse_document text)
+
+-- this is the policy of a text: its tree has no fault, and spells these callers and rules
+pub record SpellsPolicy (text : List ℕ) (policy : Contents) : Type 0 where
+  pub tree : Members
+  pub parsed : parse_document text ≡ Some tree
+  pub sound : first_some (faults tree) ≡ None
+  pub is : policy ≡ contents_of tree
+
+-- this is the first fault of a text: it is no TOML, or its tree has the fault
+abbrev pub HasFirstFault : List ℕ → PolicyFault → Type 0
+HasFirstFault text fault =
+    ((parse_document text ≡ None) × (fault ≡ NotToml))
+    ⊎ ((tree : Members) × (parse_document text ≡ Some tree) × (first_some (faults tree) ≡ Some fault))
 
 -- ---- what a call answers, memory aside
 

@@ -23,8 +23,8 @@ fn is_before(day: Day, date: civil::Date) -> bool
     number_of(day.date()) < number_of(date)
 }
 
-/// The verdict on those facts that day: the first refusal that applies, in the order of `Verdict`, of which
-/// the last three are of disposals alone.
+/// The verdict on those facts that day: the first refusal that applies, in the order of `Verdict`,
+/// of which the last three are of disposals alone.
 pub fn verdict(facts: &Facts, day: Day) -> Verdict
     ensures { result ≡ verdict_of facts.now day }
 {

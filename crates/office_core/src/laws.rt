@@ -14,21 +14,28 @@ ghost use Rattle.office_core.specs.declared.facts.Verdict.TheVariants.{Allow};
 
 /// Rules that are added behind a list never change an answer that some rule of the list gave.
 pub fn added_rules()
-    ensures { (rules more : List Rule) (asked : Question) (decision : Decision) → decision_of rules asked ≡ Some decision → decision_of (rules ++ more) asked ≡ Some decision }
+    ensures { (rules more : List Rule) (asked : Question) (decision : Decision)
+        → decision_of rules asked ≡ Some decision
+        → decision_of (rules ++ more) asked ≡ Some decision }
 {}
 
 /// A policy in which no allow rule's role pattern matches a role denies that role everything.
 pub fn no_allow_rule()
-    ensures { (rules : List Rule) (asked : Question) → some_rule_allows rules asked.role ≡ false → (facts : Facts) (day : Date) → facts.decision ≡ decision_of rules asked → is_denied (verdict_of facts day) ≡ true }
+    ensures { (rules : List Rule) (asked : Question)
+        → some_rule_allows rules asked.role ≡ false
+        → (facts : Facts) (day : Date) → facts.decision ≡ decision_of rules asked
+        → is_denied (verdict_of facts day) ≡ true }
 {}
 
-/// A disposal is allowed only where the deciding rule allows, no hold covers, and the due day is a day that
-/// has come.
+/// A disposal is allowed only where the deciding rule allows, no hold covers, and the due day is a
+/// day that has come.
 pub fn allowed_disposal()
-    ensures { (facts : Facts) (day : Date) → facts.action ≡ Dispose → verdict_of facts day ≡ Allow → IsReadyForDisposal facts day }
+    ensures { (facts : Facts) (day : Date) → facts.action ≡ Dispose
+        → verdict_of facts day ≡ Allow → IsReadyForDisposal facts day }
 {}
 
 /// The due day that is computed is the one that the calendar has.
 pub fn one_due()
-    ensures { (closing : Date) (years : Option ℕ) (due : Due) → IsDue closing years due → due_of closing years ≡ due }
+    ensures { (closing : Date) (years : Option ℕ) (due : Due)
+        → IsDue closing years due → due_of closing years ≡ due }
 {}

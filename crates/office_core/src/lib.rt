@@ -1,4 +1,5 @@
-//! Days, retention, names, the policy and its verdicts: what the office decides, without its tables.
+//! Days, retention, names, the policy and its verdicts: what the office decides, without its
+//! tables.
 #![tactic(auto)]
 
 mod action;

@@ -16,8 +16,10 @@ pub struct Limits {
 impl Limits {
     /// The limits with these numbers, where both are in range.
     pub fn new(deposits: u32, holds: u32) -> Option<Limits>
-        ensures range { IsSome result ↔ ((1 ≤ deposits) × (deposits ≤ 1_000_000) × (1 ≤ holds) × (holds ≤ 1_000_000)) }
-        ensures value { IfSome result (λ limits. (limits.deposits ≡ deposits) × (limits.holds ≡ holds)) }
+        ensures range { IsSome result ↔ ((1 ≤ deposits) × (deposits ≤ 1_000_000)
+            × (1 ≤ holds) × (holds ≤ 1_000_000)) }
+        ensures value { IfSome result (λ limits.
+            (limits.deposits ≡ deposits) × (limits.holds ≡ holds)) }
     {
         if deposits < 1 || deposits > 1_000_000 || holds < 1 || holds > 1_000_000 {
             return None;

@@ -221,7 +221,8 @@ impl OwnedAccession {
     }
 }
 
-/// The matter of a hold: 1 to 200 bytes of text without a character below U+0020 and without U+007F.
+/// The matter of a hold: 1 to 200 bytes of text without a character below U+0020 and without
+/// U+007F.
 #[derive(Debug, Drop)]
 pub struct Matter<'a> {
     text: &'a str,

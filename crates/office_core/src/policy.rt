@@ -1,9 +1,11 @@
 //! A policy: who has which role, and what the roles may do.
 
-ghost use Rattle.std.specs.Prelude.{◌≡◌, option_copied, find, bytes_eq};
+ghost use Rattle.std.specs.Prelude.{◌≡◌, ◌⊎◌, Err, IfErr, IfOk, MatchResult, option_copied, find, bytes_eq};
 ghost use Rattle.toml.specs.View.{table_view};
-ghost use Rattle.office_core.specs.Policies.{policy_of, role_of, role_or_stranger, Answers};
+ghost use Rattle.office_core.specs.Policies.{Answers, Contents, HasFirstFault, SpellsPolicy, policy_of, role_of, role_or_stranger};
 ghost use Rattle.office_core.specs.PolicyReading.{read_contents};
+ghost use Rattle.office_core.specs.declared.policy_fault.PolicyFault.{PolicyFault};
+ghost use Rattle.office_core.specs.declared.policy_fault.PolicyFault.TheVariants.{Memory};
 
 use crate::caller::Caller;
 use crate::policy_fault::PolicyFault;
@@ -58,7 +60,8 @@ fn listed<'a>(callers: &'a [Caller], name: &str) -> Option<&'a Caller>
 }
 
 fn role_in<'a>(callers: &'a [Caller], name: &str) -> &'a str
-    ensures { result.now ≡ role_or_stranger (find (λ caller. bytes_eq caller.name name.now) callers.now) }
+    ensures { result.now
+        ≡ role_or_stranger (find (λ caller. bytes_eq caller.name name.now) callers.now) }
 {
     match listed(callers, name) {
         Some(caller) => caller.role.as_str(),
@@ -83,8 +86,7 @@ fn read_tree(alloc: Global, tree: &Table) -> Result<Policy, PolicyFault>
     Ok(Policy { callers, rules })
 }
 
-/// The policy that a text spells, or the first fault of it.
-pub fn read_policy(alloc: Global, text: &str) -> Result<Policy, PolicyFault>
+fn read_text(alloc: Global, text: &str) -> Result<Policy, PolicyFault>
     ensures { Answers result (policy_of text.now) }
 {
     match toml::table_from_str(alloc, text) {
@@ -97,4 +99,23 @@ pub fn read_policy(alloc: Global, text: &str) -> Result<Policy, PolicyFault>
             }
         }
     }
+}
+
+/// The policy that a text spells, or the first fault of it.
+pub fn read_policy(alloc: Global, text: &str) -> Result<Policy, PolicyFault>
+    // What is read is the policy of the text, and each is read, unless memory runs out.
+    ensures spells { IfOk result (SpellsPolicy text.now) }
+    ensures reads { (policy : Contents) → SpellsPolicy text.now policy
+        → MatchResult result (λ read. read ≡ policy) (λ fault. fault ≡ Memory) }
+
+    // A refusal names the first fault of the text, and where one stands it is the answer, unless
+    // memory runs out.
+    ensures refused { IfErr result (λ fault. (fault ≡ Memory) ⊎ HasFirstFault text.now fault) }
+    ensures first_fault { (fault : PolicyFault) → HasFirstFault text.now fault
+        → (result ≡ Err fault) ⊎ (result ≡ Err Memory) }
+
+    // The same by computing.
+    ensures exact { Answers result (policy_of text.now) }
+{
+    read_text(alloc, text)
 }

@@ -35,7 +35,8 @@ fn is_top_key(key: &str) -> bool
 }
 
 pub fn has_top_keys(tree: &Table) -> bool
-    ensures { result ≡ list_all (λ entry. is_one_of top_keys entry.0) (entries (table_view tree.now)) }
+    ensures { result
+        ≡ list_all (λ entry. is_one_of top_keys entry.0) (entries (table_view tree.now)) }
 {
     for (key, _value) in tree.iter() {
         if !is_top_key(key.as_str()) {
@@ -46,7 +47,8 @@ pub fn has_top_keys(tree: &Table) -> bool
 }
 
 fn read_name(alloc: Global, text: &str) -> Result<OwnedName, PolicyFault>
-    ensures { Gives (λ name. name) result (if is_name text.now then Ok text.now else Err BadCaller) }
+    ensures { Gives (λ name. name) result
+        (if is_name text.now then Ok text.now else Err BadCaller) }
 {
     match Name::read(text) {
         Some(name) => Ok(name.to_owned(alloc)?),
@@ -55,7 +57,8 @@ fn read_name(alloc: Global, text: &str) -> Result<OwnedName, PolicyFault>
 }
 
 fn read_caller(alloc: Global, name: &str, value: &Value) -> Result<Caller, PolicyFault>
-    ensures { Gives (λ caller. caller) result (ok_or (caller_in (name.now, view value.now)) BadCaller) }
+    ensures { Gives (λ caller. caller) result
+        (ok_or (caller_in (name.now, view value.now)) BadCaller) }
 {
     let role = value.as_str().ok_or(PolicyFault::BadCaller)?;
     Ok(Caller {

@@ -28,7 +28,8 @@ pub enum Refusal {
     Taken(u32),
     /// E5: the closing day comes after the day of the request.
     ClosedAhead,
-    /// E6: the bytes are no transfer form, or that of a bag that isn't valid. The text names the first fault.
+    /// E6: the bytes are no transfer form, or that of a bag that isn't valid. The text names the first
+    /// fault.
     BadBag(FaultText),
     /// E7: that hold covers the deposit, the first of those that are live.
     Held(u32),

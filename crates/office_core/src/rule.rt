@@ -41,7 +41,8 @@ pub struct Rule {
     pub class: Pattern,
 }
 
-/// What the rules are asked: may that role do that, in that collection and class, where there are such?
+/// What the rules are asked: may that role do that, in that collection and class, where there are
+/// such?
 #[derive(Clone, Copy, Debug)]
 pub struct Ask<'a> {
     pub role: &'a str,

@@ -87,7 +87,8 @@ fn is_rule_key(key: &str) -> bool
 }
 
 fn has_rule_keys(table: &Table) -> bool
-    ensures { result ≡ list_all (λ entry. is_one_of rule_keys entry.0) (entries (table_view table.now)) }
+    ensures { result
+        ≡ list_all (λ entry. is_one_of rule_keys entry.0) (entries (table_view table.now)) }
 {
     for (key, _value) in table.iter() {
         if !is_rule_key(key.as_str()) {

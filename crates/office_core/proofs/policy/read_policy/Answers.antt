@@ -1,8 +1,14 @@
-use Rattle.std.proofs.Common.{◌∙◌, ap, sym, subst}
-use Rattle.toml.specs.View.{table_view}
-use Rattle.office_core.specs.Policies.{Answers, read_tree}
-use Rattle.office_core.proofs.PolicyLemmas.{contents_is}
+use Rattle.office_core.proofs.PolicyAnswers.{read_is_spelled, refused_is_first, spelled_is_read, first_is_refused}
 use Rattle.office_core.proofs.policy.read_policy.Goals as goal
 
-pub returns-in-Ok : goal.returns-in-Ok
-returns-in-Ok c = subst (λ read. Answers c.read_tree.result read) (contents_is (table_view c.in-Ok.tree) ∙ ap read_tree (sym c.in-Ok.ensures.ok)) c.read_tree.ensures
+pub returns-clause-spells : goal.returns-clause-spells
+returns-clause-spells c = read_is_spelled c.args.text.now c.read_text.result c.read_text.ensures
+
+pub returns-clause-reads : goal.returns-clause-reads
+returns-clause-reads c = spelled_is_read c.args.text.now c.read_text.result c.read_text.ensures
+
+pub returns-clause-refused : goal.returns-clause-refused
+returns-clause-refused c = refused_is_first c.args.text.now c.read_text.result c.read_text.ensures
+
+pub returns-clause-first_fault : goal.returns-clause-first_fault
+returns-clause-first_fault c = first_is_refused c.args.text.now c.read_text.result c.read_text.ensures

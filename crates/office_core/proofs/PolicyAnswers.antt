@@ -1,0 +1,86 @@
+-- What an answer says of a text, where it is what reading the text gives.
+use Rattle.std.proofs.Common.{◌≡◌, ◌∙◌, ◌⊎◌, ℕ, List, Option, Some, None, Result, Ok, Err, IfOk, inl, inr, refl, sym, ap, subst}
+use Rattle.std.specs.Prelude.{IfErr, MatchResult}
+use Rattle.toml.specs.Data.{Members}
+use Rattle.toml.specs.Parse.{parse_document}
+use Rattle.office_core.specs.FirstOf.{first_some}
+use Rattle.office_core.specs.Policies.{Answers, Contents, FailsAs, HasFirstFault, SpellsPolicy, contents_of, faults, policy_of, read_tree, spelled}
+use Rattle.office_core.specs.declared.policy_fault.PolicyFault.{PolicyFault}
+use Rattle.office_core.specs.declared.policy_fault.PolicyFault.TheVariants.{NotToml, BadVersion, UnknownKey, BadCaller, BadRule, TooMany, Memory}
+
+abbrev Read : Type 0
+Read = Result Contents PolicyFault
+
+-- ---- reading a text is the relation of its policy, or of its first fault
+
+policy_is : (text : List ℕ) (policy : Contents) → policy_of text ≡ Ok policy → SpellsPolicy text policy
+policy_is text policy e = go (parse_document text) refl e
+  where
+    by_fault : (tree : Members) (fault : Option PolicyFault) → parse_document text ≡ Some tree → first_some (faults tree) ≡ fault
+        → spelled (contents_of tree) fault ≡ Ok policy → SpellsPolicy text policy
+    by_fault tree None parsed sound read = record { tree = tree; parsed = parsed; sound = sound; is = cc }
+    by_fault tree (Some fault) parsed sound read = absurd cc
+
+    go : (parsed : Option Members) → parse_document text ≡ parsed → read_tree parsed ≡ Ok policy → SpellsPolicy text policy
+    go None parsed read = absurd cc
+    go (Some tree) parsed read = by_fault tree (first_some (faults tree)) parsed refl read
+
+fault_is : (text : List ℕ) (fault : PolicyFault) → policy_of text ≡ Err fault → HasFirstFault text fault
+fault_is text fault e = go (parse_document text) refl e
+  where
+    by_fault : (tree : Members) (found : Option PolicyFault) → parse_document text ≡ Some tree → first_some (faults tree) ≡ found
+        → spelled (contents_of tree) found ≡ Err fault → HasFirstFault text fault
+    by_fault tree None parsed first read = absurd cc
+    by_fault tree (Some found) parsed first read = let same : found ≡ fault = cc in inr (tree, parsed, first ∙ ap Some same)
+
+    go : (parsed : Option Members) → parse_document text ≡ parsed → read_tree parsed ≡ Err fault → HasFirstFault text fault
+    go None parsed read = inl (parsed, cc)
+    go (Some tree) parsed read = by_fault tree (first_some (faults tree)) parsed refl read
+
+of_policy : (text : List ℕ) (policy : Contents) → SpellsPolicy text policy → policy_of text ≡ Ok policy
+of_policy text policy spells =
+    ap read_tree spells.parsed ∙ ap (spelled (contents_of spells.tree)) spells.sound ∙ ap Ok (sym spells.is)
+
+of_fault : (text : List ℕ) (fault : PolicyFault) → HasFirstFault text fault → policy_of text ≡ Err fault
+of_fault text fault (inl (none, is)) = ap read_tree none ∙ ap Err (sym is)
+of_fault text fault (inr (tree, parsed, first)) = ap read_tree parsed ∙ ap (spelled (contents_of tree)) first
+
+-- ---- what an answer says
+
+-- a refusal is want of memory, or the one that reading gives
+refusal_is : (fault : PolicyFault) (read : Read) → FailsAs fault read → (fault ≡ Memory) ⊎ (read ≡ Err fault)
+refusal_is NotToml read e = inr e
+refusal_is BadVersion read e = inr e
+refusal_is UnknownKey read e = inr e
+refusal_is BadCaller read e = inr e
+refusal_is (BadRule number) read e = inr e
+refusal_is TooMany read e = inr e
+refusal_is Memory read e = inl refl
+
+pub read_is_spelled : (text : List ℕ) (result : Read) → Answers result (policy_of text) → IfOk result (SpellsPolicy text)
+read_is_spelled text (Ok policy) answers = policy_is text policy answers
+read_is_spelled text (Err fault) answers = tt
+
+pub refused_is_first : (text : List ℕ) (result : Read) → Answers result (policy_of text)
+    → IfErr result (λ fault. (fault ≡ Memory) ⊎ HasFirstFault text fault)
+refused_is_first text (Ok policy) answers = tt
+refused_is_first text (Err fault) answers = elim (refusal_is fault (policy_of text) answers) [
+  | inl memory ↦ inl memory
+  | inr first ↦ inr (fault_is text fault first)
+]
+
+pub spelled_is_read : (text : List ℕ) (result : Read) → Answers result (policy_of text) → (policy : Contents) → SpellsPolicy text policy
+    → MatchResult result (λ read. read ≡ policy) (λ fault. fault ≡ Memory)
+spelled_is_read text (Ok read) answers policy spells = let same : Ok policy ≡ Ok read = sym (of_policy text policy spells) ∙ answers in cc
+spelled_is_read text (Err fault) answers policy spells = elim (refusal_is fault (policy_of text) answers) [
+  | inl memory ↦ memory
+  | inr first ↦ let both : Ok policy ≡ Err fault = sym (of_policy text policy spells) ∙ first in absurd cc
+]
+
+pub first_is_refused : (text : List ℕ) (result : Read) → Answers result (policy_of text) → (fault : PolicyFault) → HasFirstFault text fault
+    → (result ≡ Err fault) ⊎ (result ≡ Err Memory)
+first_is_refused text (Ok read) answers fault has = let both : Err fault ≡ Ok read = sym (of_fault text fault has) ∙ answers in absurd cc
+first_is_refused text (Err named) answers fault has = elim (refusal_is named (policy_of text) answers) [
+  | inl memory ↦ inr (ap Err memory)
+  | inr first ↦ let same : Err fault ≡ Err named = sym (of_fault text fault has) ∙ first in inl (sym same)
+]

@@ -1,0 +1,8 @@
+use Rattle.std.proofs.Common.{◌∙◌, ap, sym, subst}
+use Rattle.toml.specs.View.{table_view}
+use Rattle.office_core.specs.Policies.{Answers, read_tree}
+use Rattle.office_core.proofs.PolicyLemmas.{contents_is}
+use Rattle.office_core.proofs.policy.read_text.Goals as goal
+
+pub returns-in-Ok : goal.returns-in-Ok
+returns-in-Ok c = subst (λ read. Answers c.read_tree.result read) (contents_is (table_view c.in-Ok.tree) ∙ ap read_tree (sym c.in-Ok.ensures.ok)) c.read_tree.ensures
