@@ -4,4 +4,5 @@ pub mod ExplainLemmas
 pub mod ExplainWordLemmas
 pub mod InputLemmas
 pub mod PlainWordLemmas
+pub mod RunLemmas
 pub mod VerdictLemmas

@@ -4,3 +4,5 @@ pub mod AskingReading
 pub mod Saying
 pub mod Explaining
 pub mod Verdicts
+pub mod Running
+pub mod Failing

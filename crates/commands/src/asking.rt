@@ -12,7 +12,8 @@ use clap::Error;
 use office_core::{Action, Name};
 use std::alloc::Global;
 
-/// What `explain` is asked: may that caller do that, in that collection and class, where there are such?
+/// What `explain` is asked: may that caller do that, in that collection and class, where there are
+/// such?
 #[derive(Debug, Drop)]
 pub struct Asked<'a> {
     /// The file of the policy.

@@ -84,8 +84,10 @@ fn of_fault(alloc: Global, fault: PolicyFault) -> Result<Said, AllocError>
 
 /// What is said of the text of a policy file.
 fn of_text(alloc: Global, text: &str, asked: &Asked<'_>) -> Result<Said, AllocError>
-    ensures policy { (policy : Contents) → policy_of text.now ≡ Ok policy → IfOk result (Says (decision_of policy.rules (asked_of policy asked.now))) }
-    ensures fault { (fault : PolicyFault) → policy_of text.now ≡ Err fault → IfOk result (λ said. Prints said (fault_line fault) Refused) }
+    ensures policy { (policy : Contents) → policy_of text.now ≡ Ok policy
+        → IfOk result (Says (decision_of policy.rules (asked_of policy asked.now))) }
+    ensures fault { (fault : PolicyFault) → policy_of text.now ≡ Err fault
+        → IfOk result (λ said. Prints said (fault_line fault) Refused) }
 {
     match read_policy(alloc, text) {
         Ok(policy) => of_policy(alloc, &policy, asked),
@@ -103,22 +105,27 @@ fn of_bytes(alloc: Global, bytes: &[u8], asked: &Asked<'_>) -> Result<Said, Allo
     }
 }
 
-/// Says which rule of the policy decides: the line that `explain` prints of the bytes of the policy file, and how it ends.
+/// Says which rule of the policy decides: the line that `explain` prints of the bytes of the policy
+/// file, and how it ends.
 pub fn explained(alloc: Global, bytes: &[u8], asked: &Asked<'_>) -> Result<Said, AllocError>
     // What is said is so.
     ensures says { IfOk result (Explains bytes.now asked.now) }
 
     // Where the first rule that matches allows, its number is said, from 1.
-    ensures allowed { (policy : Contents) (rule : ℕ) → Spells bytes.now policy → IsAllowedBy policy asked.now rule
+    ensures allowed { (policy : Contents) (rule : ℕ)
+        → Spells bytes.now policy → IsAllowedBy policy asked.now rule
         → IfOk result (λ said. Prints said (allow_line rule) Accepted) }
     // And likewise where it denies.
-    ensures denied { (policy : Contents) (rule : ℕ) → Spells bytes.now policy → IsDeniedBy policy asked.now rule
+    ensures denied { (policy : Contents) (rule : ℕ)
+        → Spells bytes.now policy → IsDeniedBy policy asked.now rule
         → IfOk result (λ said. Prints said (deny_line rule) Refused) }
     // Where no rule matches, it is denied by default.
-    ensures by_default { (policy : Contents) → Spells bytes.now policy → IsUndecided policy asked.now
+    ensures by_default { (policy : Contents)
+        → Spells bytes.now policy → IsUndecided policy asked.now
         → IfOk result (λ said. Prints said default_line Refused) }
     // A file that is no policy is refused with its first fault.
-    ensures refused { (fault : PolicyFault) → HasFault bytes.now fault → IfOk result (λ said. Prints said (fault_line fault) Refused) }
+    ensures refused { (fault : PolicyFault) → HasFault bytes.now fault
+        → IfOk result (λ said. Prints said (fault_line fault) Refused) }
 {
     of_bytes(alloc, bytes, asked)
 }

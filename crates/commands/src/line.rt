@@ -29,7 +29,8 @@ static NAMES: [&str; 1] = ["FILE"];
 
 /// The file that the words of `check` name.
 fn checked_file<'a>(alloc: Global, words: &'a [&'a str]) -> Result<&'a str, Error>
-    ensures file { IfOk result (λ file. value_of check_command (codes "FILE") (texts words.entry.now) ≡ Some file.now) }
+    ensures file { IfOk result (λ file.
+        value_of check_command (codes "FILE") (texts words.entry.now) ≡ Some file.now) }
     ensures faults { FailsBy (fault_of check_command (texts words.entry.now)) result }
 {
     let matches = matches_of(alloc, "check", NAMES.as_slice(), words)?;
@@ -40,10 +41,12 @@ fn checked_file<'a>(alloc: Global, words: &'a [&'a str]) -> Result<&'a str, Erro
 pub fn read_line<'a>(alloc: Global, words: &'a [&'a str]) -> Result<Line<'a>, UseFault>
     ensures taken { IfOk result (λ line. is_taken (texts words.now) ≡ true) }
     ensures values { IfOk result (HasValues (texts words.now)) }
-    ensures refused { IfErr result (λ fault. (fault ≡ Memory) ⊎ (is_taken (texts words.now) ≡ false)) }
+    ensures refused { IfErr result (λ fault.
+        (fault ≡ Memory) ⊎ (is_taken (texts words.now) ≡ false)) }
     ensures plain { (file : Text) → IsPlainWord file → texts words.now ≡ check_words file
         → MatchResult result (IsCheckOf file) (λ fault. fault ≡ Memory) }
-    ensures plain_question { (asked : Asked) → IsPlainQuestion asked → texts words.now ≡ explain_words asked
+    ensures plain_question { (asked : Asked) → IsPlainQuestion asked
+        → texts words.now ≡ explain_words asked
         → MatchResult result (IsExplainOf asked) (λ fault. fault ≡ Memory) }
 {
     let Some(name) = words.first() else {

@@ -1,7 +1,8 @@
 //! Words that are no use of the program.
 
-ghost use Rattle.std.specs.Prelude.{◌≡◌};
+ghost use Rattle.std.specs.Prelude.{◌≡◌, Some};
 ghost use Rattle.clap.specs.Words.{kind_of};
+ghost use Rattle.commands.specs.Failing.{IsExplainedBy, use_fault_text};
 ghost use Rattle.clap.specs.declared.error.kind.ErrorKind.TheVariants.{OutOfMemory};
 ghost use Rattle.commands.specs.declared.use_fault.UseFault.TheVariants.{Memory};
 
@@ -20,6 +21,8 @@ pub enum UseFault {
 }
 
 impl fmt::Display for UseFault {
+    ghost output = { λ fault. Some (use_fault_text fault) };
+
     fn fmt<W: fmt::Write>(&self, f: &mut fmt::Formatter<W>) -> fmt::Result {
         match self {
             UseFault::Use(text) => write!(f, "{text}"),
@@ -52,7 +55,9 @@ pub fn by_clap(alloc: Global, error: &Error) -> UseFault
 }
 
 /// A fault of use that this text explains.
-pub fn explained_by(alloc: Global, why: &str) -> UseFault {
+pub fn explained_by(alloc: Global, why: &str) -> UseFault
+    ensures { IsExplainedBy why.now result }
+{
     match String::from_str(alloc, why) {
         Ok(text) => UseFault::Use(text),
         Err(_) => UseFault::Memory,

@@ -47,7 +47,8 @@ fn valid(alloc: Global, report: BagReport) -> Result<Said, AllocError>
 /// The line of a bag that isn't valid.
 fn invalid(alloc: Global, fault: &BagFault<'_>) -> Result<Said, AllocError>
     ensures memory { fault.now ≡ Memory → IsErr result }
-    ensures line { IfOk result (λ said. (first : Fault) → named_fault fault.now ≡ Some first → Prints said (invalid_line first) Refused) }
+    ensures line { IfOk result (λ said. (first : Fault) → named_fault fault.now ≡ Some first
+        → Prints said (invalid_line first) Refused) }
 {
     if matches!(fault, BagFault::Memory) {
         return Err(AllocError);
@@ -114,13 +115,16 @@ pub fn line_of(alloc: Global, bytes: &[u8]) -> Result<Said, AllocError>
     ensures says { IfOk result (Says bytes.now) }
 
     // Too many bytes are refused as such.
-    ensures too_long { too_many ≤ length bytes.now → IfOk result (λ said. Prints said too_long_line Refused) }
+    ensures too_long { too_many ≤ length bytes.now
+        → IfOk result (λ said. Prints said too_long_line Refused) }
 
-    // The form of a valid bag is accepted, unless memory runs out; that nothing else is follows from what is said.
+    // The form of a valid bag is accepted, unless memory runs out; that nothing else is follows from
+    // what is said.
     ensures valid { (files : List File) (v : Version) → IsFormOf bytes.now files → Valid files v
         → IfOk result (λ said. Prints said (valid_line (report_of v files)) Accepted) }
     // A bag that isn't valid is refused with its first fault.
-    ensures invalid { (files : List File) (fault : Fault) → IsFormOf bytes.now files → FirstFault files fault
+    ensures invalid { (files : List File) (fault : Fault)
+        → IsFormOf bytes.now files → FirstFault files fault
         → IfOk result (λ said. Prints said (invalid_line fault) Refused) }
     // Bytes that are no form are refused with their fault.
     ensures unreadable { (fault : SetFault) → length bytes.now < too_many → FaultIs bytes.now fault

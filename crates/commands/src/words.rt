@@ -31,7 +31,8 @@ fn command_of<'a>(
     Command::new(alloc, name).args(words)
 }
 
-/// What clap makes of the words, for the command that wants words with these names. The first word is passed over.
+/// What clap makes of the words, for the command that wants words with these names. The first word is
+/// passed over.
 pub fn matches_of<'a>(
     alloc: Global,
     name: &'a str,
@@ -40,9 +41,15 @@ pub fn matches_of<'a>(
 ) -> Result<ArgMatches<'a>, Error>
     requires simple { is_simple_and_free (command_of name.now (texts names.now)) ≡ true }
     requires names { are_names (texts names.now) ≡ true }
-    ensures given { IfOk result (λ matches. All (λ wanted. is_some (first_value (found_of matches) wanted) ≡ true) (texts names.entry.now)) }
-    ensures values { IfOk result (λ matches. (wanted : Text) → first_value (found_of matches) wanted ≡ value_of (command_of name.entry.now (texts names.entry.now)) wanted (texts words.entry.now)) }
-    ensures faults { FailsBy (fault_of (command_of name.entry.now (texts names.entry.now)) (texts words.entry.now)) result }
+    ensures given { IfOk result (λ matches.
+        All (λ wanted. is_some (first_value (found_of matches) wanted) ≡ true)
+        (texts names.entry.now)) }
+    ensures values { IfOk result (λ matches. (wanted : Text)
+        → first_value (found_of matches) wanted
+        ≡ value_of (command_of name.entry.now (texts names.entry.now)) wanted
+        (texts words.entry.now)) }
+    ensures faults { FailsBy (fault_of (command_of name.entry.now (texts names.entry.now))
+        (texts words.entry.now)) result }
 {
     let command = command_of(alloc, name, names)?;
     command.try_get_matches_from(words)

@@ -1,0 +1,35 @@
+-- How a run ends, and what it writes.
+use Rattle.std.proofs.Common.{◌≡◌, ℕ, List, Option, Some, None, Result, Ok, Err, IfOk, IfSome, subst, take}
+use Rattle.commands.specs.Explaining.{Explains}
+use Rattle.commands.specs.Running.{Answers, Ends, Judges}
+use Rattle.commands.specs.Verdicts.{Says, too_many}
+use Rattle.commands.specs.declared.asking.Asked.{Asked}
+use Rattle.commands.specs.declared.ending.Ending.{Ending}
+use Rattle.commands.specs.declared.program.Failure.{Failure}
+use Rattle.commands.specs.declared.said.Said.{Said}
+
+abbrev Run : Type 0
+Run = Result Ending Failure
+
+-- ---- what is said is written
+
+pub judged : (bytes : List ℕ) (said : Said) (r : Run) (old new : Option (List ℕ)) → Says bytes said → IfOk r (Ends said old new) → IfOk r (Judges bytes old new)
+judged bytes said (Ok ending) old new says ends = (said, says, ends)
+judged bytes said (Err e) old new says ends = tt
+
+pub judged_something : (bytes : List ℕ) (r : Run) (old new : Option (List ℕ)) → IfOk r (Judges bytes old new)
+    → IfOk r (λ ending. (read : List ℕ) × Judges read old new ending)
+judged_something bytes (Ok ending) old new judges = (bytes, judges)
+judged_something bytes (Err e) old new judges = tt
+
+pub answered : (asked : Asked) (bytes : List ℕ) (said : Said) (r : Run) (old new : Option (List ℕ)) → Explains bytes asked said → IfOk r (Ends said old new)
+    → IfOk r (λ ending. (read : List ℕ) × Answers asked read old new ending)
+answered asked bytes said (Ok ending) old new explains ends = (bytes, (said, explains, ends))
+answered asked bytes said (Err e) old new explains ends = tt
+
+-- ---- by the bytes of the input, where they are known
+
+pub judged_input : (known : Option (List ℕ)) (bytes : List ℕ) (r : Run) (old new : Option (List ℕ)) → IfSome known (λ given. bytes ≡ take too_many given)
+    → IfOk r (Judges bytes old new) → IfSome known (λ given. IfOk r (Judges (take too_many given) old new))
+judged_input None bytes r old new read judges = tt
+judged_input (Some given) bytes r old new read judges = subst (λ (b : List ℕ). IfOk r (Judges b old new)) read judges

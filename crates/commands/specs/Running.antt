@@ -1,0 +1,26 @@
+-- What a run of the program says of what it reads, and how it ends.
+use Rattle.std.specs.Prelude.{◌≡◌, ◌⊎◌, ℕ, List, Option, string_bytes}
+use Rattle.std.specs.Io.KnownBytes.{Appends}
+use Rattle.commands.specs.Verdicts.{Says}
+use Rattle.commands.specs.Explaining.{Explains}
+use Rattle.commands.specs.declared.asking.Asked.{Asked}
+use Rattle.commands.specs.declared.ending.Ending.{Ending}
+use Rattle.commands.specs.declared.ending.Ending.TheVariants.{Failed}
+use Rattle.commands.specs.declared.said.Said.{Said}
+
+-- the line comes behind what the output held, where that is known, and the program ends as is said
+pub record Ends (said : Said) (old new : Option (List ℕ)) (ending : Ending) : Type 0 where
+  pub line : Appends old new (string_bytes said.line)
+  pub end : ending ≡ said.ending
+
+-- what `check` says of these bytes is written, and the program ends so
+abbrev pub Judges : List ℕ → Option (List ℕ) → Option (List ℕ) → Ending → Type 0
+Judges bytes old new ending = (said : Said) × Says bytes said × Ends said old new ending
+
+-- what `explain` says of this question and these bytes of a policy file is written, and the program ends so
+abbrev pub Answers : Asked → List ℕ → Option (List ℕ) → Option (List ℕ) → Ending → Type 0
+Answers asked bytes old new ending = (said : Said) × Explains bytes asked said × Ends said old new ending
+
+-- this holds, unless a device or memory failed
+abbrev pub UnlessFailed : Ending → Type 0 → Type 0
+UnlessFailed ending fact = (ending ≡ Failed) ⊎ fact
