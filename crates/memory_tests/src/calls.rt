@@ -1,0 +1,64 @@
+//! Cases of the calls below the program.
+
+use crate::outcome::Outcome;
+use bag_text::{BagSet, InfoFault, SetFault, read_bag_info, read_bagset, write_bagset};
+use commands::{Line, UseFault, read_line};
+use std::alloc::Global;
+use worked_bags::BAG;
+
+/// Reads the words of `check`.
+pub fn read_check(alloc: Global) -> Outcome {
+    match read_line(alloc, ["check", "-"].as_slice()) {
+        Ok(Line::Check { file }) => Outcome::expected(file == "-"),
+        Err(UseFault::Memory) => Outcome::Memory,
+        Ok(Line::Explain(_)) | Err(UseFault::Use(_)) => Outcome::Wrong,
+    }
+}
+
+/// Reads the words of `explain`.
+pub fn read_explain(alloc: Global) -> Outcome {
+    let words = ["explain", "p", "anna", "list", "-", "y1"];
+    match read_line(alloc, words.as_slice()) {
+        Ok(Line::Explain(asked)) => Outcome::expected(asked.caller == "anna"),
+        Err(UseFault::Memory) => Outcome::Memory,
+        Ok(Line::Check { .. }) | Err(UseFault::Use(_)) => Outcome::Wrong,
+    }
+}
+
+/// Reads words that are no use.
+pub fn refuse_words(alloc: Global) -> Outcome {
+    match read_line(alloc, ["check"].as_slice()) {
+        Ok(_) => Outcome::Wrong,
+        Err(UseFault::Use(text)) => Outcome::expected(text.ends_with('\n')),
+        Err(UseFault::Memory) => Outcome::Memory,
+    }
+}
+
+/// Reads the transfer form of a bag.
+pub fn read_form(alloc: Global) -> Outcome {
+    match read_bagset(alloc, BAG) {
+        Ok(bag) => Outcome::expected(bag.files().len() == 3),
+        Err(fault) => Outcome::memory(fault == SetFault::Memory),
+    }
+}
+
+/// Reads a text of `bag-info.txt`.
+pub fn read_pairs(alloc: Global) -> Outcome {
+    match read_bag_info(alloc, b"A: b\n  c\n  d\nE: f\n") {
+        Ok(info) => Outcome::expected(info.pairs.len() == 2),
+        Err(fault) => Outcome::memory(fault == InfoFault::Memory),
+    }
+}
+
+/// Makes a bag of a list of files, and writes it.
+pub fn write_form(alloc: Global) -> Outcome {
+    match BagSet::of(alloc, &[("a", b"b"), ("c", b"")]) {
+        Ok(bag) => match write_bagset(alloc, &bag) {
+            Ok(text) => Outcome::expected(
+                text.as_slice() == b"BAGSET 1\nFILE 1 1\nab\nFILE 1 0\nc\nEND\n".as_slice(),
+            ),
+            Err(_) => Outcome::Memory,
+        },
+        Err(fault) => Outcome::memory(fault == SetFault::Memory),
+    }
+}

@@ -1,0 +1,62 @@
+//! Cases of the program: what it prints and how it ends.
+
+use crate::outcome::Outcome;
+use commands::{Ending, run};
+use std::alloc::AllocError;
+use std::fs;
+use std::rt::Files;
+use worked_bags::{WorkedBag, WorkedQuestion};
+
+/// What a run on these words and this standard input prints and how it ends, with room for the lines
+/// taken first.
+fn printed<R: Files + AllocGlobal>(
+    rt: &R,
+    words: &[&str],
+    mut input: &[u8],
+) -> Result<(Vec<u8>, Vec<u8>, Ending), AllocError> {
+    let mut out = Vec::with_capacity(rt.alloc(), 4096)?;
+    let mut err = Vec::with_capacity(rt.alloc(), 4096)?;
+    let ending = run(rt, words, &mut input, &mut out, &mut err);
+    Ok((out, err, ending))
+}
+
+/// The line that was worked out with its ending, or want of memory with nothing on standard output.
+fn outcome(
+    found: Result<(Vec<u8>, Vec<u8>, Ending), AllocError>,
+    line: &str,
+    ending: Ending,
+) -> Outcome {
+    match found {
+        Err(_) => Outcome::Memory,
+        Ok((out, err, Ending::Failed)) => {
+            Outcome::memory(out.is_empty() && err.as_slice() == b"memory\n".as_slice())
+        }
+        Ok((out, err, found)) => Outcome::expected(
+            out.as_slice() == line.as_bytes() && err.is_empty() && found == ending,
+        ),
+    }
+}
+
+/// Judges a bag from standard input.
+pub fn judge<R: Files + AllocGlobal>(rt: &R, worked: WorkedBag) -> Outcome {
+    let (form, line, ending) = worked;
+    outcome(printed(rt, ["check", "-"].as_slice(), form), line, ending)
+}
+
+/// Asks a policy file, written for this, which rule decides.
+pub fn explain<R: Files + AllocGlobal>(rt: &R, worked: WorkedQuestion) -> Outcome {
+    if fs::write(rt, "policy.toml", worked.policy).is_err() {
+        return Outcome::Memory;
+    }
+    let words = [
+        "explain",
+        "policy.toml",
+        worked.caller,
+        worked.action,
+        worked.collection,
+        worked.class,
+    ];
+    let found = printed(rt, words.as_slice(), b"");
+    let _ = fs::remove_file(rt, "policy.toml");
+    outcome(found, worked.line, worked.ending)
+}
