@@ -1,35 +1,48 @@
 #!/usr/bin/env bash
-# Runs the cases of this crate with their first allocation refused, then with their second, and so on, until none is.
-# `rt try` refuses one allocation of a run, always the last of $room; so each run makes fewer of its own before the cases.
+# refuse-memory.sh GROUP [FROM [TO]]: runs the cases of a group (bags, office, tables) with one of their allocations refused, for
+# each allocation from FROM (else the first) to TO (else the last).
+# `rt try` refuses one allocation of a run, here always that of number $room; so each run makes fewer of its own before the cases.
 set -eu
 cd "$(dirname "$0")"
-room=${ROOM:-400}
+group=$1
+case $group in
+bags) room=400 ;;
+office) room=200 ;;
+tables) room=4000 ;;
+*)
+    echo "refuse-memory.sh: bags, office or tables" >&2
+    exit 2
+    ;;
+esac
+from=${2:-1}
+to=${3:-$room}
 runs=$(mktemp -d)
 trap 'rm -rf "$runs"' EXIT
 
+# The run that makes none of its own has its cases' last allocations before the one that is refused: there nothing is wanting.
 mkdir "$runs/cases"
-for ((first = 0; first < room; first++)); do
-    echo "$first" >"$runs/cases/$first"
+echo "$group 0" >"$runs/cases/$room"
+for ((number = from; number <= to; number++)); do
+    echo "$group $((room - number))" >"$runs/cases/$number"
 done
-rt try --cases "$runs/cases" --fail-alloc "$room" >"$runs/said" 2>&1 || {
+rt try --steps 1 --cases "$runs/cases" --fail-alloc "$room" >"$runs/said" 2>&1 || {
     tail -n 40 "$runs/said" >&2
     exit 1
 }
 
-# One line for each run: how many of its cases came out as worked out, with want of memory, or in another way.
 awk '
-    /^== / { name = $2 }
-    /: as worked out$/ { expected[name]++ }
-    /: want of memory$/ { memory[name]++ }
-    /: WRONG$|^refused before/ { wrong = 1; print "allocation " room - name ": " $0 }
+    /^== / { number = $2; tried++ }
+    /: as worked out$/ { expected[number]++ }
+    /: want of memory$/ { memory[number]++ }
+    /: WRONG$|^refused before/ { wrong = 1; print "allocation " number ": " $0 }
     /^case=.* run=ended status=0 / { ended++ }
     END {
-        for (first = 0; first < room; first++) {
-            if (expected[first] + memory[first] != expected[0]) { wrong = 1; print "allocation " room - first ": cases are missing" }
-            if (memory[first] > 0) { refused++; if (room - first > last) last = room - first }
+        for (number in expected) {
+            if (expected[number] + memory[number] < expected[room]) { wrong = 1; print "allocation " number ": cases are missing" }
+            if (memory[number] > 0) { refused++; if (number + 0 > last) last = number + 0 }
         }
-        if (ended != room || memory[0] > 0 || refused == 0) { wrong = 1; print "ended " ended ", refused " refused ": not every run counts (ROOM=" room ")" }
-        print "cases " expected[0] ", allocations " last ", want of memory answered at " refused " of them, else as worked out"
+        if (ended != tried || memory[room] > 0 || refused == 0) { wrong = 1; print "ended " ended " of " tried ": not every run counts" }
+        print expected[room] " cases, " refused " allocations refused, the last of them number " last
         exit wrong
     }
 ' room="$room" "$runs/said"

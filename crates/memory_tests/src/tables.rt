@@ -1,0 +1,156 @@
+//! Cases of the tables: a short session over one database in memory.
+
+use crate::outcome::Outcome;
+use office_tables::{
+    CallerRow, RuleRow, TableFault, by_accession, class_of, create, deposit_row, deposit_rows,
+    drop_files, end_hold, file_of, files_of, has_collection, hold_row, last_deposit, last_hold,
+    limits, live_holds, mark_gone, open_tables, put_class, put_collection, put_deposit, put_file,
+    put_hold, put_policy, role_of, rules,
+};
+use sqlite::{Alter, Connection, Transaction};
+use std::alloc::{AllocError, Global};
+
+/// What is done in one transaction, or on the connection itself.
+#[derive(Clone, Copy)]
+pub enum Step {
+    Create,
+    Open,
+    Define,
+    Install,
+    Deposit,
+    Hold,
+    Read,
+    Destroy,
+    ReadAgain,
+}
+
+/// The session: each step with its name, in turn.
+pub const SESSION: [(&str, Step); 9] = [
+    ("tables made", Step::Create),
+    ("tables opened", Step::Open),
+    ("a class and a collection", Step::Define),
+    ("a policy", Step::Install),
+    ("a deposit with files", Step::Deposit),
+    ("holds", Step::Hold),
+    ("rows read", Step::Read),
+    ("a deposit destroyed, a hold ended", Step::Destroy),
+    ("rows read again", Step::ReadAgain),
+];
+
+/// Takes the step; where memory was refused, once more, and then it has to hold: a step that was
+/// refused has changed nothing.
+pub fn come_out<S: Alter>(alloc: Global, conn: &mut Connection<S>, step: Step) -> Outcome {
+    match take(alloc, conn, step) {
+        Ok(holds) => Outcome::expected(holds),
+        Err(TableFault::Memory) => Outcome::memory(take(alloc, conn, step) == Ok(true)),
+        Err(_) => Outcome::Wrong,
+    }
+}
+
+/// Takes the step: whether it answers what was worked out.
+fn take<S: Alter>(alloc: Global, conn: &mut Connection<S>, step: Step) -> Result<bool, TableFault> {
+    if !conn.is_autocommit() {
+        return Err(TableFault::Store);
+    }
+    match step {
+        Step::Create => create(conn, 10, 20).map(|()| true),
+        Step::Open => open_tables(conn).map(|()| true),
+        Step::Read | Step::ReadAgain => {
+            let mut tx = conn.transaction();
+            match step {
+                Step::Read => read(alloc, &mut tx),
+                _ => read_again(&mut tx),
+            }
+        }
+        _ => {
+            let mut tx = conn.transaction();
+            change(alloc, &mut tx, step)?;
+            tx.commit()?;
+            Ok(true)
+        }
+    }
+}
+
+/// The changes of a step.
+fn change<S: Alter>(
+    alloc: Global,
+    tx: &mut Transaction<'_, S>,
+    step: Step,
+) -> Result<(), TableFault> {
+    match step {
+        Step::Define => {
+            put_class(tx, "short", 2)?;
+            put_collection(tx, "maps")
+        }
+        Step::Install => install(alloc, tx),
+        Step::Deposit => {
+            put_deposit(tx, 1, "A-1", "maps", "short", 10, 11, 2, 3)?;
+            put_file(tx, 1, "data/b", b"bb")?;
+            put_file(tx, 1, "data/a", b"a")
+        }
+        Step::Hold => {
+            put_hold(tx, 1, Some(1), None, "suit", 100)?;
+            put_hold(tx, 2, None, Some("maps"), "suit", 101)
+        }
+        _ => {
+            mark_gone(tx, 1, 99)?;
+            drop_files(tx, 1)?;
+            end_hold(tx, 1, 102)
+        }
+    }
+}
+
+/// Puts a policy of one caller and one rule.
+fn install<S: Alter>(alloc: Global, tx: &mut Transaction<'_, S>) -> Result<(), TableFault> {
+    let caller = CallerRow {
+        name: text(alloc, "anna")?,
+        role: text(alloc, "archivist")?,
+    };
+    let rule = RuleRow {
+        place: 1,
+        effect: 1,
+        role: text(alloc, "archivist")?,
+        action: text(alloc, "*")?,
+        collection: text(alloc, "*")?,
+        class: text(alloc, "*")?,
+    };
+    put_policy(tx, &[caller], &[rule])
+}
+
+/// A text of its own.
+fn text(alloc: Global, words: &str) -> Result<String, AllocError> {
+    words.to_owned(alloc)
+}
+
+/// Whether each row reads as it was put.
+fn read<S: Alter>(alloc: Global, tx: &mut Transaction<'_, S>) -> Result<bool, TableFault> {
+    let limits = limits(tx)?;
+    let files = files_of(alloc, tx, 1)?;
+    let content = file_of(tx, 1, "data/b")?;
+    Ok(
+        limits.max_deposits == 10
+            && limits.max_holds == 20
+            && class_of(tx, "short")? == Some(2)
+            && has_collection(tx, "maps")?
+            && role_of(tx, "anna")?.is_some_and(|role| role.as_str() == "archivist")
+            && rules(tx)?.len() == 1
+            && last_deposit(tx)? == Some(1)
+            && deposit_rows(alloc, tx)?.len() == 1
+            && by_accession(tx, "A-1")?.is_some_and(|found| found.number == 1
+                && found.gone.is_none())
+            && files.iter().map(|file| file.content.len()).eq([1, 2])
+            && content.is_some_and(|bytes| bytes.as_slice() == b"bb".as_slice())
+            && last_hold(tx)? == Some(2)
+            && live_holds(tx, 1, "maps")?.as_slice() == [1, 2].as_slice(),
+    )
+}
+
+/// Whether each row reads as it was left in the end.
+fn read_again<S: Alter>(tx: &mut Transaction<'_, S>) -> Result<bool, TableFault> {
+    Ok(
+        deposit_row(tx, 1)?.is_some_and(|found| found.gone == Some(99))
+            && file_of(tx, 1, "data/a")?.is_none()
+            && hold_row(tx, 1)?.is_some_and(|hold| hold.released == Some(102))
+            && live_holds(tx, 1, "maps")?.as_slice() == [2].as_slice(),
+    )
+}
