@@ -1,10 +1,17 @@
 //! Cases of the calls below the program.
 
 use crate::outcome::Outcome;
-use bag_text::{BagSet, InfoFault, SetFault, read_bag_info, read_bagset, write_bagset};
+use bag_check::{BagFault, check_bag};
+use bag_text::{
+    Algorithm, BagSet, InfoFault, LineFault, SetFault, Version, read_bag_info, read_bagset,
+    read_manifest, write_bagset,
+};
 use commands::{Line, UseFault, read_line};
 use std::alloc::Global;
 use worked_bags::BAG;
+
+const LISTING: &[u8] =
+    b"ba7816bf8f01cfea414140de5dae2223b00361a396177a9cb410ff61f20015ad  data/a%0A\nba7816bf8f01cfea414140de5dae2223b00361a396177a9cb410ff61f20015ad  data/b\n";
 
 /// Reads the words of `check`.
 pub fn read_check(alloc: Global) -> Outcome {
@@ -39,6 +46,27 @@ pub fn read_form(alloc: Global) -> Outcome {
     match read_bagset(alloc, BAG) {
         Ok(bag) => Outcome::expected(bag.files().len() == 3),
         Err(fault) => Outcome::memory(fault == SetFault::Memory),
+    }
+}
+
+/// Judges a bag.
+pub fn judge_form(alloc: Global) -> Outcome {
+    let bag = match read_bagset(alloc, BAG) {
+        Ok(bag) => bag,
+        Err(fault) => return Outcome::memory(fault == SetFault::Memory),
+    };
+    match check_bag(alloc, &bag) {
+        Ok(report) => Outcome::expected(report.files == 1 && report.bytes == 3),
+        Err(BagFault::Memory) => Outcome::Memory,
+        Err(_) => Outcome::Wrong,
+    }
+}
+
+/// Reads a manifest that spells one of its paths.
+pub fn read_listing(alloc: Global) -> Outcome {
+    match read_manifest(alloc, LISTING, Version::V1_0, Algorithm::Sha256) {
+        Ok(manifest) => Outcome::expected(manifest.lists("data/a\n") && manifest.lists("data/b")),
+        Err(fault) => Outcome::memory(fault == LineFault::Memory),
     }
 }
 

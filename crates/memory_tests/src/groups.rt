@@ -39,6 +39,8 @@ pub fn bags(rt: &HostRuntime) -> io::Result<()> {
     say(rt, "words of explain", calls::read_explain(rt.alloc()))?;
     say(rt, "words of no use", calls::refuse_words(rt.alloc()))?;
     say(rt, "a form read", calls::read_form(rt.alloc()))?;
+    say(rt, "a form judged", calls::judge_form(rt.alloc()))?;
+    say(rt, "a manifest read", calls::read_listing(rt.alloc()))?;
     say(rt, "pairs read", calls::read_pairs(rt.alloc()))?;
     say(rt, "a form written", calls::write_form(rt.alloc()))
 }
