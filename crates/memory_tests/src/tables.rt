@@ -59,7 +59,7 @@ fn take<S: Alter>(alloc: Global, conn: &mut Connection<S>, step: Step) -> Result
             let mut tx = conn.transaction();
             match step {
                 Step::Read => read(alloc, &mut tx),
-                _ => read_again(&mut tx),
+                _ => read_again(alloc, &mut tx),
             }
         }
         _ => {
@@ -133,7 +133,7 @@ fn read<S: Alter>(alloc: Global, tx: &mut Transaction<'_, S>) -> Result<bool, Ta
             && class_of(tx, "short")? == Some(2)
             && has_collection(tx, "maps")?
             && role_of(tx, "anna")?.is_some_and(|role| role.as_str() == "archivist")
-            && rules(tx)?.len() == 1
+            && rules(alloc, tx)?.len() == 1
             && last_deposit(tx)? == Some(1)
             && deposit_rows(alloc, tx)?.len() == 1
             && by_accession(tx, "A-1")?.is_some_and(|found| found.number == 1
@@ -141,16 +141,16 @@ fn read<S: Alter>(alloc: Global, tx: &mut Transaction<'_, S>) -> Result<bool, Ta
             && files.iter().map(|file| file.content.len()).eq([1, 2])
             && content.is_some_and(|bytes| bytes.as_slice() == b"bb".as_slice())
             && last_hold(tx)? == Some(2)
-            && live_holds(tx, 1, "maps")?.as_slice() == [1, 2].as_slice(),
+            && live_holds(alloc, tx, 1, "maps")?.as_slice() == [1, 2].as_slice(),
     )
 }
 
 /// Whether each row reads as it was left in the end.
-fn read_again<S: Alter>(tx: &mut Transaction<'_, S>) -> Result<bool, TableFault> {
+fn read_again<S: Alter>(alloc: Global, tx: &mut Transaction<'_, S>) -> Result<bool, TableFault> {
     Ok(
         deposit_row(tx, 1)?.is_some_and(|found| found.gone == Some(99))
             && file_of(tx, 1, "data/a")?.is_none()
             && hold_row(tx, 1)?.is_some_and(|hold| hold.released == Some(102))
-            && live_holds(tx, 1, "maps")?.as_slice() == [2].as_slice(),
+            && live_holds(alloc, tx, 1, "maps")?.as_slice() == [2].as_slice(),
     )
 }

@@ -75,9 +75,9 @@ pub fn read<S: Alter>(conn: &mut Connection<S>, last: u32, count: u32) -> Result
 }
 
 /// Asks this many times for the live holds over deposit 1, of the collection `tax`: there are to be three.
-pub fn ask_live<S: Alter>(conn: &mut Connection<S>, count: u32) -> Result<()> {
+pub fn ask_live<S: Alter>(alloc: Global, conn: &mut Connection<S>, count: u32) -> Result<()> {
     for _ in 0..count {
-        if calls::live(conn, 1, "tax")? != 3 {
+        if calls::live(alloc, conn, 1, "tax")? != 3 {
             bail!("there are other live holds");
         }
     }

@@ -6,6 +6,7 @@ use office_tables::{
     live_holds, mark_gone, put_class, put_collection, put_deposit, put_file, put_hold, put_policy,
 };
 use sqlite::{Alter, Connection};
+use std::alloc::Global;
 
 /// Makes an office in the empty database.
 pub fn make<S: Alter>(conn: &mut Connection<S>) -> Result<(), TableFault> {
@@ -154,6 +155,7 @@ pub fn length_of<S: Alter>(
 
 /// How many live holds there are over a deposit of that collection.
 pub fn live<S: Alter>(
+    alloc: Global,
     conn: &mut Connection<S>,
     deposit: u32,
     collection: &str,
@@ -162,7 +164,7 @@ pub fn live<S: Alter>(
         return Err(TableFault::Store);
     }
     let mut tx = conn.transaction();
-    Ok(live_holds(&mut tx, deposit, collection)?.len())
+    Ok(live_holds(alloc, &mut tx, deposit, collection)?.len())
 }
 
 /// Adds a deposit and its three files, in one transaction.

@@ -45,7 +45,7 @@ fn time(rt: &HostRuntime, task: &str, file: &str, count: u32) -> Result<()> {
     match task {
         "deposits" => bags::deposit(rt.alloc(), &mut conn, last, count, &record)?,
         "read" => bags::read(&mut conn, last, count)?,
-        "live" => bags::ask_live(&mut conn, count)?,
+        "live" => bags::ask_live(rt.alloc(), &mut conn, count)?,
         "last" => bags::ask_last(&mut conn, count)?,
         _ => bail!("{USAGE}"),
     }

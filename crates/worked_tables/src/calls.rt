@@ -58,12 +58,15 @@ pub fn role_in<S: Alter>(
     role_of(&mut tx, name)
 }
 
-pub fn rules_in<S: Alter>(conn: &mut Connection<S>) -> Result<Vec<RuleRow>, TableFault> {
+pub fn rules_in<S: Alter>(
+    alloc: Global,
+    conn: &mut Connection<S>,
+) -> Result<Vec<RuleRow>, TableFault> {
     if !conn.is_autocommit() {
         return Err(TableFault::Store);
     }
     let mut tx = conn.transaction();
-    rules(&mut tx)
+    rules(alloc, &mut tx)
 }
 
 pub fn set_class<S: Alter>(
@@ -267,6 +270,7 @@ pub fn release<S: Alter>(
 }
 
 pub fn live_in<S: Alter>(
+    alloc: Global,
     conn: &mut Connection<S>,
     deposit: u32,
     collection: &str,
@@ -275,7 +279,7 @@ pub fn live_in<S: Alter>(
         return Err(TableFault::Store);
     }
     let mut tx = conn.transaction();
-    live_holds(&mut tx, deposit, collection)
+    live_holds(alloc, &mut tx, deposit, collection)
 }
 
 pub fn last_hold_in<S: Alter>(conn: &mut Connection<S>) -> Result<Option<u32>, TableFault> {

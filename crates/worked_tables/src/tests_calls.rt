@@ -185,8 +185,8 @@ fn holds_last(rt: HostRuntime) -> Result<(), Fail> {
     add_holds(&mut conn)?;
     let mut conn = reopen(alloc, conn)?;
     assert_eq!(rt; last_hold_in(&mut conn), Ok(Some(5)));
-    assert!(rt; live_in(&mut conn, 7, "maps")?.as_slice() == [2, 3].as_slice());
-    assert!(rt; live_in(&mut conn, 8, "plans")?.as_slice() == [5].as_slice());
+    assert!(rt; live_in(alloc, &mut conn, 7, "maps")?.as_slice() == [2, 3].as_slice());
+    assert!(rt; live_in(alloc, &mut conn, 8, "plans")?.as_slice() == [5].as_slice());
     let found = hold_text(alloc, hold_in(&mut conn, 1)?)?;
     assert_eq!(rt; found.as_str(), "1 Some(7) None tax 1 100 Some(150)\n");
     assert_eq!(rt;

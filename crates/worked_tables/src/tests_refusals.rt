@@ -198,8 +198,8 @@ fn finds_no_file<S: Alter>(alloc: Global, conn: &mut Connection<S>) -> Result<bo
     )
 }
 
-fn finds_no_hold<S: Alter>(conn: &mut Connection<S>) -> Result<bool, TableFault> {
-    Ok(hold_in(conn, 3)?.is_none() && live_in(conn, 3, "plans")?.is_empty())
+fn finds_no_hold<S: Alter>(alloc: Global, conn: &mut Connection<S>) -> Result<bool, TableFault> {
+    Ok(hold_in(conn, 3)?.is_none() && live_in(alloc, conn, 3, "plans")?.is_empty())
 }
 
 fn finds_nothing<S: Alter>(alloc: Global, conn: &mut Connection<S>) -> Result<bool, TableFault> {
@@ -207,14 +207,14 @@ fn finds_nothing<S: Alter>(alloc: Global, conn: &mut Connection<S>) -> Result<bo
         finds_no_definition(conn)?
             && finds_no_deposit(conn)?
             && finds_no_file(alloc, conn)?
-            && finds_no_hold(conn)?,
+            && finds_no_hold(alloc, conn)?,
     )
 }
 
 /// Whether there is no row but the one of the office.
 fn has_no_rows<S: Alter>(alloc: Global, conn: &mut Connection<S>) -> Result<bool, TableFault> {
     Ok(
-        rules_in(conn)?.is_empty()
+        rules_in(alloc, conn)?.is_empty()
             && deposits_in(alloc, conn)?.is_empty()
             && last_deposit_in(conn)?.is_none()
             && last_hold_in(conn)?.is_none(),

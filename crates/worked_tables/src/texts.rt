@@ -14,7 +14,7 @@ fn push_rule(text: &mut String, rule: &RuleRow) -> Result<(), AllocError> {
 /// The rules that `rules` answers.
 pub fn rules_text<S: Alter>(alloc: Global, conn: &mut Connection<S>) -> Result<String, Fail> {
     let mut text = String::new(alloc);
-    for rule in rules_in(conn)?.iter() {
+    for rule in rules_in(alloc, conn)?.iter() {
         push_rule(&mut text, rule)?;
     }
     Ok(text)
