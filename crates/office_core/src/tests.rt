@@ -70,6 +70,9 @@ fn names(rt: HostRuntime) -> Result<(), Fail> {
     assert!(rt; Matter::read("Case 7, \u{00e9}").is_some());
     assert!(rt; Matter::read("a\nb").is_none());
     assert!(rt; Matter::read("a\u{007f}").is_none());
+    if let Some(name) = Name::read("y-1_0.a") {
+        assert_eq!(rt; name.to_owned(rt.alloc())?.as_str(), "y-1_0.a");
+    }
     if let Some(accession) = Accession::read("A-1") {
         assert_eq!(rt; accession.to_owned(rt.alloc())?.as_str(), "A-1");
     }
