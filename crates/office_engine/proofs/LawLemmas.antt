@@ -19,7 +19,7 @@ use Rattle.office_core.specs.declared.action.Action.TheVariants as acts
 use Rattle.bag_check.specs.Validity.{Report}
 use Rattle.office_engine.specs.Refusals.{refusal, bad_as, no_such_collection, no_such_class, denied, taken, closed_ahead, bad_bag}
 use Rattle.office_engine.specs.Answers.{answer, answer_unless, allowed_answer, told, change, changes_unless, deposit_change, after}
-use Rattle.office_engine.specs.Runs.{Item, Step, Run}
+use Rattle.office_engine.specs.Runs.{Item, Step, Run, IsLater}
 use Rattle.office_engine.proofs.ListLemmas.{first_said_front, last_said_last}
 use Rattle.office_engine.proofs.LegalLemmas.{map_none}
 use Rattle.office_engine.proofs.HistoryLemmas.{deposits_grown}
@@ -44,18 +44,22 @@ revised_due h day name years deposit same =
 
 -- ---- runs add to the history
 
-one_item : (h next : History) (item : Item) (given : Answer) → Step h item given next → (more : List Change) × (next ≡ grown h more)
-one_item h next item given (inl failed) = ([], failed.1 ∙ ap (λ (changes : List Change). record h { changes = changes }) (sym (append-nil h.changes)))
+grown_by_none : (h : History) → h ≡ grown h []
+grown_by_none h = ap (λ (changes : List Change). record h { changes = changes }) (sym (append-nil h.changes))
+
+one_item : (h next : History) (item : Item) (given : Answer) → Step h item given next → IsLater h next
+one_item h next item given (inl failed) = ([], failed.1 ∙ grown_by_none h)
 one_item h next item given (inr served) = (change h item.0 item.1.now item.2, served.1)
 
-pub run_grows : (items : List Item) (given : List Answer) (h next : History) → Run h items given next → (more : List Change) × (next ≡ grown h more)
-run_grows [] [] h next r = ([], r ∙ ap (λ (changes : List Change). record h { changes = changes }) (sym (append-nil h.changes)))
+pub later_still : (h mid next : History) → IsLater h mid → IsLater mid next → IsLater h next
+later_still h mid next one rest =
+    (one.0 ++ rest.0, rest.1 ∙ ap (λ (x : History). grown x rest.0) one.1 ∙ ap (λ (changes : List Change). record h { changes = changes }) (append_assoc h.changes one.0 rest.0))
+
+pub run_grows : (items : List Item) (given : List Answer) (h next : History) → Run h items given next → IsLater h next
+run_grows [] [] h next r = ([], r ∙ grown_by_none h)
 run_grows [] (g ∷ given) h next r = absurd r
 run_grows (item ∷ items) [] h next r = absurd r
-run_grows (item ∷ items) (g ∷ given) h next r =
-    let one = one_item h r.0 item g r.1 in
-    let rest = run_grows items given r.0 next r.2 in
-    (one.0 ++ rest.0, rest.1 ∙ ap (λ (x : History). grown x rest.0) one.1 ∙ ap (λ (changes : List Change). record h { changes = changes }) (append_assoc h.changes one.0 rest.0))
+run_grows (item ∷ items) (g ∷ given) h next r = later_still h r.0 next (one_item h r.0 item g r.1) (run_grows items given r.0 next r.2)
 
 -- ---- what was deposited
 

@@ -42,6 +42,11 @@ Run h [] [] next = next ≡ h
 Run h (item ∷ items) (given ∷ more) next = (mid : History) × Step h item given mid × Run mid items more next
 Run h _ _ next = ⊥
 
+-- One history is later than another: it is the other, grown by some changes. Nothing else ever happens to a history,
+-- by requests or by installs of policies.
+abbrev pub IsLater : History → History → Type 0
+IsLater h next = (more : List Change) × (next ≡ grown h more)
+
 -- the history of a new office
 abbrev pub created : ℕ → ℕ → History
 created max_deposits max_holds = record { max_deposits = max_deposits; max_holds = max_holds; changes = [] }

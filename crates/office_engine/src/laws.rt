@@ -11,6 +11,7 @@ ghost use Rattle.bag_text.specs.declared.declaration.Version.{Version};
 ghost use Rattle.bag_check.specs.Validity.{Valid};
 ghost use Rattle.bag_check.specs.Faults.{Fault, FirstFault};
 ghost use Rattle.bag_check.specs.FaultTexts.{fault_text};
+ghost use Rattle.office_core.specs.Policies.{Contents};
 ghost use Rattle.office_core.specs.Retention.{due_of};
 ghost use Rattle.office_core.specs.declared.answer.Answer.{Answer};
 ghost use Rattle.office_core.specs.declared.answer.Answer.TheVariants as answers;
@@ -19,11 +20,11 @@ ghost use Rattle.office_core.specs.declared.refusal.Refusal.TheVariants.{Held};
 ghost use Rattle.office_core.specs.declared.request.Request.{Request};
 ghost use Rattle.office_core.specs.declared.request.Request.TheVariants.{DefineClass, Deposit as MakeDeposit, DownloadBag, Dispose};
 ghost use Rattle.office_engine.specs.Bags.{bag_of};
-ghost use Rattle.office_engine.specs.Histories.{History, Change, Destroyed, Deposit, Hold, OnCollection, deposit_numbered, hold_numbered, released, covers, live_holds, due};
+ghost use Rattle.office_engine.specs.Histories.{History, Change, Installed, Destroyed, Deposit, Hold, OnCollection, grown, deposit_numbered, hold_numbered, released, covers, live_holds, due};
 ghost use Rattle.office_engine.specs.Refusals.{refusal};
 ghost use Rattle.office_engine.specs.Answers.{answer, change, after};
 ghost use Rattle.office_engine.specs.Pictures.{picture};
-ghost use Rattle.office_engine.specs.Runs.{Item, Run, IsLegal, IsSound, IsDisposable, as_of};
+ghost use Rattle.office_engine.specs.Runs.{Item, Run, IsLater, IsLegal, IsSound, IsDisposable, as_of};
 
 /// The bag of a text is the valid bag whose transfer form it is. Where there is none, the fault is the text's first,
 /// or that of the bag.
@@ -55,11 +56,20 @@ pub fn refused_changes_nothing()
     ensures { (h : History) (day : Date) (caller : List ℕ) (request : Request) (why : Refusal) → refusal h day caller request ≡ Some why → change h day caller request ≡ [] }
 {}
 
+/// Runs only add changes, and an install of a policy adds itself: what they lead to is later, and later still is later.
+pub fn runs_only_add()
+    ensures runs { (h next : History) (items : List Item) (given : List Answer)
+        → Run h items given next → IsLater h next }
+    ensures installs { (h : History) (policy : Contents) → IsLater h (grown h (Installed policy ∷ [])) }
+    ensures further { (h mid next : History) → IsLater h mid → IsLater mid next → IsLater h next }
+{}
+
 /// After a bag was accepted as a deposit, each download of the deposit that is served is that bag, byte for byte.
 pub fn served_as_deposited()
-    ensures { (h next : History) (day later : Date) (caller other collection class accession : List ℕ) (closed : Date) (bag : Bor (List ℕ)) (n : ℕ) (items : List Item) (given : List Answer) (bytes : List ℕ)
+    ensures { (h next : History) (day later : Date) (caller other collection class accession : List ℕ)
+        (closed : Date) (bag : Bor (List ℕ)) (n : ℕ) (bytes : List ℕ)
         → answer h day caller (MakeDeposit collection class accession closed bag) ≡ answers.Deposited n
-        → Run (after h day caller (MakeDeposit collection class accession closed bag)) items given next
+        → IsLater (after h day caller (MakeDeposit collection class accession closed bag)) next
         → answer next later other (DownloadBag n) ≡ answers.Bag bytes
         → bytes ≡ bag.now }
 {
@@ -68,19 +78,21 @@ pub fn served_as_deposited()
 
 /// A hold of a collection covers the deposits of the collection, those that come later too.
 pub fn later_deposits_are_covered()
-    ensures { (h next : History) (k n : ℕ) (day : Date) (name matter : List ℕ) (items : List Item) (given : List Answer) (found : Date × Deposit)
+    ensures { (h next : History) (k n : ℕ) (day : Date) (name matter : List ℕ) (found : Date × Deposit)
         → hold_numbered h k ≡ Some (day, record { target = OnCollection name; matter = matter })
-        → Run h items given next
+        → IsLater h next
         → deposit_numbered next n ≡ Some found → found.1.collection ≡ name
         → covers next k n found.1 ≡ true }
 {}
 
 /// A hold that was released is in no list of live holds, then and later, and refuses no disposal.
 pub fn released_holds_are_not_live()
-    ensures listed { (h next : History) (k n place : ℕ) (day : Date) (items : List Item) (given : List Answer) (deposit : Deposit)
-        → released h k ≡ Some day → Run h items given next → slice_get (live_holds next n deposit) place ≢ Some k }
-    ensures refuses { (h next : History) (k n : ℕ) (day later : Date) (caller : List ℕ) (items : List Item) (given : List Answer)
-        → released h k ≡ Some day → Run h items given next → refusal next later caller (Dispose n) ≢ Some (Held k) }
+    ensures listed { (h next : History) (k n place : ℕ) (day : Date) (deposit : Deposit)
+        → released h k ≡ Some day → IsLater h next
+        → slice_get (live_holds next n deposit) place ≢ Some k }
+    ensures refuses { (h next : History) (k n : ℕ) (day later : Date) (caller : List ℕ)
+        → released h k ≡ Some day → IsLater h next
+        → refusal next later caller (Dispose n) ≢ Some (Held k) }
 {}
 
 /// A class that is revised moves the due days of its deposits, forwards and backwards.
@@ -92,9 +104,11 @@ pub fn revised_classes_move_due_days()
 
 /// No number is given to two deposits, also where the first was destroyed in between.
 pub fn numbers_are_given_once()
-    ensures { (h next : History) (day later : Date) (caller other collection class accession collection_2 class_2 accession_2 : List ℕ) (closed closed_2 : Date) (bag bag_2 : Bor (List ℕ)) (n m : ℕ) (items : List Item) (given : List Answer)
+    ensures { (h next : History) (day later : Date) (n m : ℕ)
+        (caller collection class accession : List ℕ) (closed : Date) (bag : Bor (List ℕ))
+        (other collection_2 class_2 accession_2 : List ℕ) (closed_2 : Date) (bag_2 : Bor (List ℕ))
         → answer h day caller (MakeDeposit collection class accession closed bag) ≡ answers.Deposited n
-        → Run (after h day caller (MakeDeposit collection class accession closed bag)) items given next
+        → IsLater (after h day caller (MakeDeposit collection class accession closed bag)) next
         → answer next later other (MakeDeposit collection_2 class_2 accession_2 closed_2 bag_2) ≡ answers.Deposited m
         → n < m }
 {}
