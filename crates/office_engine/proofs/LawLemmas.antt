@@ -44,7 +44,7 @@ revised_due h day name years deposit same =
 
 -- ---- runs add to the history
 
-grown_by_none : (h : History) → h ≡ grown h []
+pub grown_by_none : (h : History) → h ≡ grown h []
 grown_by_none h = ap (λ (changes : List Change). record h { changes = changes }) (sym (append-nil h.changes))
 
 one_item : (h next : History) (item : Item) (given : Answer) → Step h item given next → IsLater h next
@@ -64,7 +64,7 @@ run_grows (item ∷ items) (g ∷ given) h next r = later_still h r.0 next (one_
 -- ---- what was deposited
 
 -- of refusals none stands where there is no first one
-none_of : {A : Type 0} (o : Option A) (os : List (Option A)) → first_some (o ∷ os) ≡ None → (o ≡ None) × (first_some os ≡ None)
+pub none_of : {A : Type 0} (o : Option A) (os : List (Option A)) → first_some (o ∷ os) ≡ None → (o ≡ None) × (first_some os ≡ None)
 none_of None os e = (refl, e)
 none_of (Some x) os e = absurd cc
 

@@ -3,6 +3,7 @@ pub mod HistoryLemmas
 pub mod LegalLemmas
 pub mod LawLemmas
 pub mod OnceLemmas
+pub mod AnsweredLemmas
 pub mod Examples
 pub mod PlainLemmas
 pub mod PlainRoom

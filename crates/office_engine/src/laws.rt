@@ -15,16 +15,17 @@ ghost use Rattle.office_core.specs.Policies.{Contents};
 ghost use Rattle.office_core.specs.Retention.{due_of};
 ghost use Rattle.office_core.specs.declared.answer.Answer.{Answer};
 ghost use Rattle.office_core.specs.declared.answer.Answer.TheVariants as answers;
+ghost use Rattle.office_core.specs.declared.answer.LiveHold.{LiveHold};
 ghost use Rattle.office_core.specs.declared.refusal.Refusal.{Refusal};
 ghost use Rattle.office_core.specs.declared.refusal.Refusal.TheVariants.{Held};
 ghost use Rattle.office_core.specs.declared.request.Request.{Request};
-ghost use Rattle.office_core.specs.declared.request.Request.TheVariants.{DefineClass, Deposit as MakeDeposit, DownloadBag, Dispose};
+ghost use Rattle.office_core.specs.declared.request.Request.TheVariants.{DefineClass, Deposit as MakeDeposit, DownloadBag, Holds, HoldCollection, Release, Dispose};
 ghost use Rattle.office_engine.specs.Bags.{bag_of};
 ghost use Rattle.office_engine.specs.Histories.{History, Change, Installed, Destroyed, Deposit, Hold, OnCollection, grown, deposit_numbered, hold_numbered, released, covers, live_holds, due};
 ghost use Rattle.office_engine.specs.Refusals.{refusal};
 ghost use Rattle.office_engine.specs.Answers.{answer, change, after};
 ghost use Rattle.office_engine.specs.Pictures.{picture};
-ghost use Rattle.office_engine.specs.Runs.{Item, Run, IsLater, IsLegal, IsSound, IsDisposable, as_of};
+ghost use Rattle.office_engine.specs.Runs.{Item, Step, Run, IsLater, IsLegal, IsSound, IsDisposable, as_of};
 
 /// The bag of a text is the valid bag whose transfer form it is. Where there is none, the fault is the text's first,
 /// or that of the bag.
@@ -51,9 +52,12 @@ pub fn disposals_stand()
     ensures { (h : History) → IsLegal h → (before rest : List Change) (day : Date) (n : ℕ) → h.changes ≡ before ++ Destroyed day n ∷ rest → IsDisposable (as_of h before) day n }
 {}
 
-/// A refusal changes nothing.
+/// A refusal changes nothing, whether the office gives it, or memory or the store.
 pub fn refused_changes_nothing()
-    ensures { (h : History) (day : Date) (caller : List ℕ) (request : Request) (why : Refusal) → refusal h day caller request ≡ Some why → change h day caller request ≡ [] }
+    ensures change { (h : History) (day : Date) (caller : List ℕ) (request : Request) (why : Refusal)
+        → refusal h day caller request ≡ Some why → change h day caller request ≡ [] }
+    ensures answered { (h next : History) (item : Item) (why : Refusal)
+        → Step h item (answers.Refused why) next → next ≡ h }
 {}
 
 /// Runs only add changes, and an install of a policy adds itself: what they lead to is later, and later still is later.
@@ -78,18 +82,33 @@ pub fn served_as_deposited()
 
 /// A hold of a collection covers the deposits of the collection, those that come later too.
 pub fn later_deposits_are_covered()
-    ensures { (h next : History) (k n : ℕ) (day : Date) (name matter : List ℕ) (found : Date × Deposit)
+    ensures answered { (h next : History) (k n : ℕ) (day : Date) (caller name matter : List ℕ) (found : Date × Deposit)
+        → answer h day caller (HoldCollection name matter) ≡ answers.Held k
+        → IsLater (after h day caller (HoldCollection name matter)) next
+        → deposit_numbered next n ≡ Some found → found.1.collection ≡ name
+        → covers next k n found.1 ≡ true }
+    ensures held { (h next : History) (k n : ℕ) (day : Date) (name matter : List ℕ) (found : Date × Deposit)
         → hold_numbered h k ≡ Some (day, record { target = OnCollection name; matter = matter })
         → IsLater h next
         → deposit_numbered next n ≡ Some found → found.1.collection ≡ name
         → covers next k n found.1 ≡ true }
 {}
 
-/// A hold that was released is in no list of live holds, then and later, and refuses no disposal.
+/// A hold whose release was answered is released, then and later. A hold that was released is none of the live ones,
+/// is in no list of holds that is answered, and refuses no disposal.
 pub fn released_holds_are_not_live()
+    ensures answered { (h next : History) (k number : ℕ) (day on : Date) (caller : List ℕ)
+        → answer h day caller (Release k) ≡ answers.Released number on
+        → IsLater (after h day caller (Release k)) next
+        → released next k ≡ Some day }
     ensures listed { (h next : History) (k n place : ℕ) (day : Date) (deposit : Deposit)
         → released h k ≡ Some day → IsLater h next
         → slice_get (live_holds next n deposit) place ≢ Some k }
+    ensures told { (h next : History) (k n place : ℕ) (day later : Date) (caller : List ℕ)
+        (given : List LiveHold) (hold : LiveHold)
+        → released h k ≡ Some day → IsLater h next
+        → answer next later caller (Holds n) ≡ answers.Holds given
+        → slice_get given place ≡ Some hold → hold.number ≢ k }
     ensures refuses { (h next : History) (k n : ℕ) (day later : Date) (caller : List ℕ)
         → released h k ≡ Some day → IsLater h next
         → refusal next later caller (Dispose n) ≢ Some (Held k) }
@@ -102,14 +121,20 @@ pub fn revised_classes_move_due_days()
         → due (after h day caller (DefineClass name years)) deposit ≡ due_of deposit.closed years }
 {}
 
-/// No number is given to two deposits, also where the first was destroyed in between.
+/// No number is given to two deposits, also where the first was destroyed in between, and none to two holds.
 pub fn numbers_are_given_once()
-    ensures { (h next : History) (day later : Date) (n m : ℕ)
+    ensures deposits { (h next : History) (day later : Date) (n m : ℕ)
         (caller collection class accession : List ℕ) (closed : Date) (bag : Bor (List ℕ))
         (other collection_2 class_2 accession_2 : List ℕ) (closed_2 : Date) (bag_2 : Bor (List ℕ))
         → answer h day caller (MakeDeposit collection class accession closed bag) ≡ answers.Deposited n
         → IsLater (after h day caller (MakeDeposit collection class accession closed bag)) next
         → answer next later other (MakeDeposit collection_2 class_2 accession_2 closed_2 bag_2) ≡ answers.Deposited m
+        → n < m }
+    ensures holds { (h next : History) (day later : Date) (n m : ℕ)
+        (caller other : List ℕ) (request request_2 : Request)
+        → answer h day caller request ≡ answers.Held n
+        → IsLater (after h day caller request) next
+        → answer next later other request_2 ≡ answers.Held m
         → n < m }
 {}
 
