@@ -15,6 +15,7 @@ use Rattle.office_core.specs.FirstOf.{first_some, answer_if}
 use Rattle.office_core.specs.declared.retention.Due.{Due}
 use Rattle.office_core.specs.declared.retention.Due.TheVariants.{On, Never}
 use Rattle.office_core.specs.declared.action.Action.TheVariants as acts
+use Rattle.office_core.specs.declared.answer.Answer.{Answer}
 use Rattle.office_core.specs.declared.refusal.Refusal.{Refusal}
 use Rattle.office_core.specs.declared.refusal.Refusal.TheVariants.{NotDue}
 use Rattle.office_core.specs.declared.request.Request.{Request}
@@ -23,7 +24,7 @@ use Rattle.office_engine.specs.Histories.{History, Change, Installed, Destroyed,
 use Rattle.office_engine.specs.Bags.{bag_of, valid_bag, if_valid, judged}
 use Rattle.office_engine.specs.Refusals.{refusal, of_deposit, denied_at, is_gone, held, not_due, not_due_before}
 use Rattle.office_engine.specs.Answers.{change, changes_unless, allowed_change, deposit_change}
-use Rattle.office_engine.specs.Runs.{IsLegal, new, install, serve, IsSound, IsDisposable, as_of}
+use Rattle.office_engine.specs.Runs.{Item, Step, Run, IsLegal, new, install, serve, IsSound, IsDisposable, as_of}
 use Rattle.office_engine.proofs.ListLemmas.{all_append, split_two}
 use Rattle.office_engine.proofs.HistoryLemmas.{deposits_grown, made_deposits}
 
@@ -165,3 +166,15 @@ disposals_stand h (serve earlier on caller request legal) before rest day n e =
           let made = disposal_made earlier on day caller n request found.0 rest (refusal earlier on caller request) refl found.2 in
           subst (λ (changes : List Change). IsDisposable (as_of earlier changes) day n) (sym (found.1 ∙ ap (λ (more : List Change). earlier.changes ++ more) made.0 ∙ append-nil earlier.changes)) made.1
     ]
+
+-- ---- runs
+
+step_legal : (h next : History) (item : Item) (given : Answer) → IsLegal h → Step h item given next → IsLegal next
+step_legal h next item given legal (inl failed) = subst IsLegal (sym failed.1) legal
+step_legal h next item given legal (inr served) = subst IsLegal (sym served.1) (serve h item.0 item.1.now item.2 legal)
+
+pub run_legal : (items : List Item) (given : List Answer) (h next : History) → IsLegal h → Run h items given next → IsLegal next
+run_legal [] [] h next legal r = subst IsLegal (sym r) legal
+run_legal [] (g ∷ given) h next legal r = absurd r
+run_legal (item ∷ items) [] h next legal r = absurd r
+run_legal (item ∷ items) (g ∷ given) h next legal r = run_legal items given r.0 next (step_legal h r.0 item g legal r.1) r.2

@@ -1,26 +1,33 @@
--- A run, item by item.
+-- What the plain office does, item by item, and that it is a run.
 use Rattle.std.proofs.Common.{◌≡◌, ℕ, zero, suc, arith, append-nil, ◌≤◌, ◌+◌, ◌<◌, List, [], ◌∷◌, ◌++◌, length, drop, get_or, sym, ap, ◌∙◌, subst, refl, inl, inr, append_assoc}
 use Rattle.std.proofs.lemmas.List.{drop_more}
 use Rattle.office_core.specs.declared.answer.Answer.{Answer}
 use Rattle.office_engine.specs.Histories.{History}
 use Rattle.office_engine.specs.Runs.{Item, Step, Run}
-use Rattle.office_engine.specs.PlainOffices.{Serves}
+use Rattle.office_engine.specs.PlainOffices.{Serves, ServesAll}
 
 -- what the plain office does is a step of a run
-pub step_of : (h : History) (item : Item) (given : Answer) (next : History) → Serves h item.0 item.1.now item.2 given next → Step h item given next
+step_of : (h : History) (item : Item) (given : Answer) (next : History) → Serves h item.0 item.1.now item.2 given next → Step h item given next
 step_of h item given next (inl failed) = inl (rw failed.0 tt, failed.1)
 step_of h item given next (inr served) = inr served
 
--- a run that has come to an item, and goes on behind it
+-- so what it does with many items is a run
+pub run_of : (items : List Item) (given : List Answer) (h next : History) → ServesAll h items given next → Run h items given next
+run_of [] [] h next all = all
+run_of [] (g ∷ given) h next all = absurd all
+run_of (item ∷ items) [] h next all = absurd all
+run_of (item ∷ items) (g ∷ given) h next all = (all.0, step_of h item g all.0 all.1, run_of items given all.0 next all.2)
+
+-- items that were served up to one, which is served, and those behind it
 pub run_on : (first h mid last : History) (items : List Item) (i : ℕ) (item : Item) (so_far more : List Answer) (given : Answer)
     → i < length items → item ≡ get_or items i item → Serves h item.0 item.1.now item.2 given mid
-    → ((rest : List Answer) (end : History) → Run h (drop i items) rest end → Run first items (so_far ++ rest) end)
-    → Run mid (drop (i + 1) items) more last → Run first items ((so_far ++ given ∷ []) ++ more) last
+    → ((rest : List Answer) (end : History) → ServesAll h (drop i items) rest end → ServesAll first items (so_far ++ rest) end)
+    → ServesAll mid (drop (i + 1) items) more last → ServesAll first items ((so_far ++ given ∷ []) ++ more) last
 run_on first h mid last items i item so_far more given within is served begun rest =
     let here : drop i items ≡ item ∷ drop (i + 1) items = drop_more items i item within ∙ ap (λ (x : Item). x ∷ drop (i + 1) items) (sym is) in
-    let P : List Item → Type 0 = λ left. Run h left (given ∷ more) last in
-    let on : Run h (drop i items) (given ∷ more) last = subst P (sym here) (mid, step_of h item given mid served, rest) in
-    let Q : List Answer → Type 0 = λ all. Run first items all last in
+    let P : List Item → Type 0 = λ left. ServesAll h left (given ∷ more) last in
+    let on : ServesAll h (drop i items) (given ∷ more) last = subst P (sym here) (mid, served, rest) in
+    let Q : List Answer → Type 0 = λ all. ServesAll first items all last in
     subst Q (sym (append_assoc so_far (given ∷ []) more)) (begun (given ∷ more) last on)
 
 drop_past : {A : Type 0} (i : ℕ) (xs : List A) → length xs ≤ i → drop i xs ≡ []
@@ -29,12 +36,12 @@ drop_past zero (x ∷ xs) h = absurd (omega arith)
 drop_past (suc i) [] h = refl
 drop_past (suc i) (x ∷ xs) h = drop_past i xs (omega arith)
 
--- a run that has come to its end
+-- items that were served up to the end
 pub run_end : (first last : History) (items : List Item) (i : ℕ) (answers : List Answer)
     → length items ≤ i
-    → ((rest : List Answer) (end : History) → Run last (drop i items) rest end → Run first items (answers ++ rest) end)
-    → Run first items answers last
+    → ((rest : List Answer) (end : History) → ServesAll last (drop i items) rest end → ServesAll first items (answers ++ rest) end)
+    → ServesAll first items answers last
 run_end first last items i answers past begun =
-    let P : List Item → Type 0 = λ left. Run last left [] last in
-    let Q : List Answer → Type 0 = λ all. Run first items all last in
+    let P : List Item → Type 0 = λ left. ServesAll last left [] last in
+    let Q : List Answer → Type 0 = λ all. ServesAll first items all last in
     subst Q (append-nil answers) (begun [] last (subst P (sym (drop_past i items past)) refl))

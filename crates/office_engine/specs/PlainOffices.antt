@@ -1,5 +1,5 @@
 -- What is true of every office of the plain program.
-use Rattle.std.specs.Prelude.{◌≡◌, ℕ, ◌≤◌, ◌<◌, ◌⊎◌, List, length}
+use Rattle.std.specs.Prelude.{◌≡◌, ℕ, ◌≤◌, ◌<◌, ◌⊎◌, List, [], ◌∷◌, length}
 use Rattle.jiff.specs.Types.{Date}
 use Rattle.office_core.specs.declared.answer.Answer.{Answer}
 use Rattle.office_core.specs.declared.answer.Answer.TheVariants.{Refused}
@@ -7,6 +7,7 @@ use Rattle.office_core.specs.declared.refusal.Refusal.TheVariants.{Memory}
 use Rattle.office_core.specs.declared.request.Request.{Request}
 use Rattle.office_engine.specs.Answers.{answer, after}
 use Rattle.office_engine.specs.Histories.{History, Change, Deposited, PlacedHold, deposits, holds}
+use Rattle.office_engine.specs.Runs.{Item}
 
 -- no more deposits and holds were accepted than the limits say, which are at most a million
 pub record IsWithin (h : History) : Type 0 where
@@ -26,3 +27,9 @@ abbrev pub Serves : History → Date → List ℕ → Request → Answer → His
 Serves h day caller request given next =
     ((given ≡ Refused Memory) × (next ≡ h))
     ⊎ ((given ≡ answer h day caller request) × (next ≡ after h day caller request))
+
+-- Item by item so. It is a run in which memory alone may fail: a plain office has no store.
+abbrev pub ServesAll : History → List Item → List Answer → History → Type 0
+ServesAll h [] [] next = next ≡ h
+ServesAll h (item ∷ items) (given ∷ more) next = (mid : History) × Serves h item.0 item.1.now item.2 given mid × ServesAll mid items more next
+ServesAll h _ _ next = ⊥

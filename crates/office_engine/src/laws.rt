@@ -68,6 +68,12 @@ pub fn runs_only_add()
     ensures further { (h mid next : History) → IsLater h mid → IsLater mid next → IsLater h next }
 {}
 
+/// A run from a legal history ends in a legal one.
+pub fn runs_stay_legal()
+    ensures { (h next : History) (items : List Item) (given : List Answer)
+        → IsLegal h → Run h items given next → IsLegal next }
+{}
+
 /// After a bag was accepted as a deposit, each download of the deposit that is served is that bag, byte for byte.
 pub fn served_as_deposited()
     ensures { (h next : History) (day later : Date) (caller other collection class accession : List ℕ)
