@@ -22,7 +22,8 @@ HasRoom h (Deposited day deposit) = length (deposits h) < h.max_deposits
 HasRoom h (PlacedHold day hold) = length (holds h) < h.max_holds
 HasRoom h _ = Unit {0}
 
--- The plain office answers as the office does, and has the history after it; or memory ran out, and the history is as it was.
+-- The plain office answers as the office does, and has the history after it; or memory ran out, and
+-- the history is as it was.
 abbrev pub Serves : History → Date → List ℕ → Request → Answer → History → Type 0
 Serves h day caller request given next =
     ((given ≡ Refused Memory) × (next ≡ h))
@@ -31,5 +32,6 @@ Serves h day caller request given next =
 -- Item by item so. It is a run in which memory alone may fail: a plain office has no store.
 abbrev pub ServesAll : History → List Item → List Answer → History → Type 0
 ServesAll h [] [] next = next ≡ h
-ServesAll h (item ∷ items) (given ∷ more) next = (mid : History) × Serves h item.0 item.1.now item.2 given mid × ServesAll mid items more next
+ServesAll h (item ∷ items) (given ∷ more) next =
+    (mid : History) × Serves h item.0 item.1.now item.2 given mid × ServesAll mid items more next
 ServesAll h _ _ next = ⊥

@@ -30,7 +30,8 @@ IsFailure (Refused Memory) = Unit {0}
 IsFailure (Refused Store) = Unit {0}
 IsFailure _ = ⊥
 
--- One item: a failure, after which the history is as it was, or the office's answer and the history after it.
+-- One item: a failure, after which the history is as it was, or the office's answer and the history
+-- after it.
 abbrev pub Step : History → Item → Answer → History → Type 0
 Step h item given next =
     (IsFailure given × (next ≡ h))
@@ -39,17 +40,18 @@ Step h item given next =
 -- item by item
 abbrev pub Run : History → List Item → List Answer → History → Type 0
 Run h [] [] next = next ≡ h
-Run h (item ∷ items) (given ∷ more) next = (mid : History) × Step h item given mid × Run mid items more next
+Run h (item ∷ items) (given ∷ more) next =
+    (mid : History) × Step h item given mid × Run mid items more next
 Run h _ _ next = ⊥
 
--- One history is later than another: it is the other, grown by some changes. Nothing else ever happens to a history,
--- by requests or by installs of policies.
+-- One history is later than another: it is the other, grown by some changes.
 abbrev pub IsLater : History → History → Type 0
 IsLater h next = (more : List Change) × (next ≡ grown h more)
 
 -- the history of a new office
 abbrev pub created : ℕ → ℕ → History
-created max_deposits max_holds = record { max_deposits = max_deposits; max_holds = max_holds; changes = [] }
+created max_deposits max_holds =
+    record { max_deposits = max_deposits; max_holds = max_holds; changes = [] }
 
 -- a pattern asks for everything, or for a name
 abbrev pub IsNamed : Pattern → Type 0

@@ -9,14 +9,15 @@ use crate::plain::serving::step;
 use office_core::{Answer, Day, Request};
 use std::alloc::{AllocError, Global};
 
-/// Answers requests one after the other, each with its day and its caller: each as `step` does, so memory alone may
-/// fail. The room for the answers is taken first: an `Err` has done nothing.
+/// Answers requests one after the other, each with its day and its caller: each as `step` does, so
+/// memory alone may fail. The room for the answers is taken first: an `Err` has done nothing.
 pub fn run(
     alloc: Global,
     office: &mut Office,
     items: &[(Day, &str, Request<'_>)],
 ) -> Result<Vec<Answer>, AllocError>
-    ensures served { IfOk result (λ answers. ServesAll office.old items.now answers.items office.new) }
+    ensures served { IfOk result (λ answers.
+        ServesAll office.old items.now answers.items office.new) }
     ensures ran { IfOk result (λ answers. Run office.old items.now answers.items office.new) }
     ensures failed { OnErr result (office.new ≡ office.old) }
 {

@@ -11,7 +11,7 @@ use Rattle.office_engine.proofs.OnceLemmas.{was_allowed}
 use Rattle.office_engine.proofs.laws.served_as_deposited.Goals as goal
 
 pub returns : goal.returns
-returns c = λ h next day later caller other collection class accession closed bag n bytes e grown served.
+returns c = λ h next day later n bytes caller other collection class accession closed bag e grown served.
     let was = was_allowed h day caller collection class accession closed bag n e in
     let allowed = allowed_deposit h day caller collection class accession closed bag was.0 in
     let made : Date × Deposit = (day, record { collection = collection; class = class; accession = accession; closed = closed; bag = allowed.bag }) in
