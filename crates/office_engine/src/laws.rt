@@ -180,5 +180,5 @@ pub fn one_picture()
         → IsLegal h → IsLegal k → picture version h ≡ picture version k
         → (day : Date) (caller : List ℕ) (request : Request)
         → picture version (after h day caller request)
-            ≡ picture version (after k day caller request) }
+        ≡ picture version (after k day caller request) }
 {}
