@@ -10,15 +10,21 @@ pub enum Asked {
     /// The same, for good.
     ForGood(&'static str),
     Collection(&'static str),
-    /// Deposit a bag into a collection and a class, under an accession; its records were closed on 2024-02-29.
+    /// Deposit a bag into a collection and a class, under an accession.
     Deposit {
         collection: &'static str,
         class: &'static str,
         accession: &'static str,
+        /// The day on which the records were closed.
+        closed: &'static str,
         bag: &'static [u8],
     },
+    /// List all deposits.
+    List,
     /// List the deposits of a collection.
     ListOf(&'static str),
+    /// The bag of a deposit.
+    Bag(u32),
     Record(u32),
     Holds(u32),
     Audit(u32),
@@ -50,14 +56,20 @@ impl Asked {
                 collection,
                 class,
                 accession,
+                closed,
                 bag,
             } => Some(Request::Deposit {
                 collection: Name::read(collection)?,
                 class: Name::read(class)?,
                 accession: Accession::read(accession)?,
-                closed: Day::read("2024-02-29")?,
+                closed: Day::read(closed)?,
                 bag,
             }),
+            Asked::List => Some(Request::List {
+                collection: None,
+                class: None,
+            }),
+            Asked::Bag(deposit) => Some(Request::DownloadBag { deposit }),
             Asked::ListOf(name) => Some(Request::List {
                 collection: Some(Name::read(name)?),
                 class: None,

@@ -8,4 +8,6 @@ mod office;
 #[cfg(test)]
 mod tests;
 #[cfg(test)]
+mod tests_sessions;
+#[cfg(test)]
 mod words;

@@ -3,7 +3,8 @@
 use crate::asked::Asked;
 use crate::words::words;
 use office_core::{Day, Limits, read_policy};
-use office_engine::plain::{Office, create, install, step};
+use office_engine::Stock;
+use office_engine::plain::{Office, create, install, run, step, stock};
 use std::alloc::Global;
 use std::test::*;
 
@@ -17,6 +18,10 @@ pub const BAG: &[u8] =
 /// The same, where the file has the name `data/a%0Ab`, which the manifest spells `data/a%250Ab`.
 pub const PERCENT: &[u8] =
     b"BAGSET 1\nFILE 9 54\nbagit.txtBagIt-Version: 1.0\nTag-File-Character-Encoding: UTF-8\n\nFILE 10 3\ndata/a%0Ababc\nFILE 19 79\nmanifest-sha256.txtba7816bf8f01cfea414140de5dae2223b00361a396177a9cb410ff61f20015ad  data/a%250Ab\n\nEND\n";
+
+/// The bag of one file in version 0.97.
+pub const BAG_0_97: &[u8] =
+    b"BAGSET 1\nFILE 9 55\nbagit.txtBagIt-Version: 0.97\nTag-File-Character-Encoding: UTF-8\n\nFILE 6 3\ndata/aabc\nFILE 19 73\nmanifest-sha256.txtba7816bf8f01cfea414140de5dae2223b00361a396177a9cb410ff61f20015ad  data/a\n\nEND\n";
 
 /// A row: the day, who asks, what is asked, and the answer in words.
 pub type Row = (&'static str, &'static str, Asked, &'static str);
@@ -37,7 +42,12 @@ pub fn said(
 
 /// An office with the policy, the classes `y1` and `y10` and the collections `tax` and `maps`.
 pub fn opened(alloc: Global) -> Result<Office, Fail> {
-    let limits = Limits::new(1_000_000, 1_000_000).ok_or("limits")?;
+    opened_for(alloc, 1_000_000)
+}
+
+/// The same, with room for this many deposits and as many holds.
+pub fn opened_for(alloc: Global, most: u32) -> Result<Office, Fail> {
+    let limits = Limits::new(most, most).ok_or("limits")?;
     let mut office = create(alloc, limits);
     install(&mut office, read_policy(alloc, POLICY)?)?;
     for asked in [
@@ -49,4 +59,28 @@ pub fn opened(alloc: Global) -> Result<Office, Fail> {
         said(alloc, &mut office, "2024-03-01", "anna", asked)?;
     }
     Ok(office)
+}
+
+/// What the office answers to all of these, in one run.
+pub fn run_words(alloc: Global, office: &mut Office, rows: &[Row]) -> Result<Vec<String>, Fail> {
+    let mut items = Vec::new(alloc);
+    for (day, caller, asked, _) in rows {
+        let day = Day::read(day).ok_or("day")?;
+        items.push((day, *caller, asked.request().ok_or("request")?))?;
+    }
+    let mut told = Vec::new(alloc);
+    for answer in run(alloc, office, items.as_slice())?.iter() {
+        told.push(words(alloc, answer)?)?;
+    }
+    Ok(told)
+}
+
+/// Whether the kept bags have this many different contents, and this many bytes together.
+pub fn has_stock(
+    alloc: Global,
+    office: &Office,
+    contents: usize,
+    bytes: usize,
+) -> Result<bool, Fail> {
+    Ok(stock(alloc, office)? == Stock { contents, bytes })
 }

@@ -8,6 +8,7 @@ const INTO_MAPS: Asked = Asked::Deposit {
     collection: "maps",
     class: "y1",
     accession: "A-1",
+    closed: "2024-02-29",
     bag: BAG,
 };
 
@@ -15,6 +16,7 @@ const INTO_TAX: Asked = Asked::Deposit {
     collection: "tax",
     class: "y1",
     accession: "A-1",
+    closed: "2024-02-29",
     bag: BAG,
 };
 
@@ -22,6 +24,7 @@ const MORE_INTO_MAPS: Asked = Asked::Deposit {
     collection: "maps",
     class: "y1",
     accession: "A-2",
+    closed: "2024-02-29",
     bag: BAG,
 };
 
@@ -29,6 +32,7 @@ const PERCENT_INTO_MAPS: Asked = Asked::Deposit {
     collection: "maps",
     class: "y1",
     accession: "A-1",
+    closed: "2024-02-29",
     bag: PERCENT,
 };
 

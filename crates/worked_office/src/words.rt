@@ -36,13 +36,16 @@ fn refusal_words(alloc: Global, refusal: &Refusal) -> Result<String, Fail> {
             Ok(format!(in alloc; "NotDue {due}")?)
         }
         Refusal::Released(day) => Ok(format!(in alloc; "Released {day}")?),
+        Refusal::Taken(number) => Ok(format!(in alloc; "Taken {number}")?),
+        Refusal::ClosedAhead => Ok(format!(in alloc; "ClosedAhead")?),
+        Refusal::Full => Ok(format!(in alloc; "Full")?),
         Refusal::NoFile => Ok(format!(in alloc; "NoFile")?),
         Refusal::BadBag(fault) => {
             let fault = fault.as_str();
             Ok(format!(in alloc; "BadBag {fault}")?)
         }
         Refusal::Memory => Ok(format!(in alloc; "Memory")?),
-        _ => Ok(format!(in alloc; "another refusal")?),
+        Refusal::Store => Ok(format!(in alloc; "Store")?),
     }
 }
 
@@ -100,6 +103,14 @@ fn numbers_words(alloc: Global, numbers: &[u32]) -> Result<String, Fail> {
     Ok(text)
 }
 
+/// Bytes that are a text, behind the word for them.
+fn bytes_words(alloc: Global, word: &str, bytes: &[u8]) -> Result<String, Fail> {
+    match str::from_utf8(bytes) {
+        Ok(text) => Ok(format!(in alloc; "{word} {text}")?),
+        Err(_) => Ok(format!(in alloc; "{word} of other bytes")?),
+    }
+}
+
 /// What a list says.
 fn list_words(alloc: Global, answer: &Answer) -> Result<String, Fail> {
     let mut text = format!(in alloc; "")?;
@@ -145,10 +156,8 @@ pub fn words(alloc: Global, answer: &Answer) -> Result<String, Fail> {
             let record = record_words(alloc, record)?;
             Ok(format!(in alloc; "record {record}")?)
         }
-        Answer::File { bytes } => match str::from_utf8(bytes.as_slice()) {
-            Ok(text) => Ok(format!(in alloc; "file {text}")?),
-            Err(_) => Ok(format!(in alloc; "file of other bytes")?),
-        },
+        Answer::File { bytes } => bytes_words(alloc, "file", bytes.as_slice()),
+        Answer::Bag { bytes } => bytes_words(alloc, "bag", bytes.as_slice()),
         Answer::Audit { deposit, report } => {
             let report = audit_words(alloc, report)?;
             Ok(format!(in alloc; "audit {deposit} {report}")?)

@@ -1,0 +1,19 @@
+//! Tests of the calls of `office_tables` over files.
+#![tactic(auto)]
+
+#[cfg(test)]
+mod calls;
+#[cfg(test)]
+mod files;
+#[cfg(test)]
+mod tests_calls;
+#[cfg(test)]
+mod tests_openings;
+#[cfg(test)]
+mod tests_refusals;
+#[cfg(test)]
+mod tests_sizes;
+#[cfg(test)]
+mod tests_stops;
+#[cfg(test)]
+mod texts;
