@@ -21,10 +21,3 @@ pub use files::{FileRow, drop_files, file_of, files_of, put_file};
 pub use holds::{HoldRow, end_hold, hold_row, last_hold, live_holds, put_hold};
 pub use opening::{OfficeLimits, limits, open_tables};
 pub use policy::{CallerRow, RuleRow, put_policy, role_of, rules};
-
-#[cfg(test)]
-mod tests;
-#[cfg(test)]
-mod tests_deposits;
-#[cfg(test)]
-mod tests_holds;
