@@ -6,6 +6,3 @@ pub mod plain;
 mod plain_stock;
 
 pub use plain_stock::Stock;
-
-#[cfg(test)]
-mod tests;
