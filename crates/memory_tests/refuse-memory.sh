@@ -6,7 +6,7 @@ set -eu
 cd "$(dirname "$0")"
 group=$1
 case $group in
-bags) room=400 ;;
+bags) room=600 ;;
 office) room=200 ;;
 tables) room=4000 ;;
 *)
