@@ -1,11 +1,12 @@
 //! Classes and collections.
 
-ghost use Rattle.std.specs.Prelude.{◌≡◌, IfOk, OnOk, option_map, slice_get, if◌then◌else◌};
+ghost use Rattle.std.specs.Prelude.{◌≡◌, IfOk, IfErr, OnOk, option_map, slice_get, if◌then◌else◌};
 ghost use Rattle.std.specs.List.{list_any};
 ghost use Rattle.sqlite.specs.State.{HasCleanDisk};
 ghost use Rattle.sqlite.specs.Held.{state};
 ghost use Rattle.sql_meaning.specs.Inside.{Stays, GoesOn};
 ghost use Rattle.sql_meaning.specs.Columns.{int_at};
+ghost use Rattle.office_tables.specs.Faults.{IsFailure};
 ghost use Rattle.office_tables.specs.Rows.{class_named, is_class, with_class, with_new_class, with_years, has_collection, with_collection, with_new_collection};
 ghost use Rattle.office_tables.specs.Tables.{IsOffice, Becomes, tables_of};
 
@@ -18,6 +19,7 @@ fn rows_of_class<S: Alter>(tx: &mut Transaction<'_, S>, name: &str) -> Result<Ve
     ensures same_reference { tx.new.conn.ghost_name ≡ tx.old.conn.ghost_name }
     ensures stays { Stays (state S.Store tx.old.conn.now) (state S.Store tx.new.conn.now) }
     ensures goes_on { HasCleanDisk (state S.Store tx.new.conn.now) → OnOk result (GoesOn (state S.Store tx.old.conn.now) (state S.Store tx.new.conn.now)) }
+    ensures failure { IfErr result IsFailure }
     ensures found { HasCleanDisk (state S.Store tx.new.conn.now) → IsOffice (state S.Store tx.old.conn.now).now → IfOk result (λ rows.
         ((state S.Store tx.new.conn.now).now ≡ (state S.Store tx.old.conn.now).now)
         × (option_map (λ c. c.years) (class_named name.now (tables_of (state S.Store tx.old.conn.now).now).classes) ≡ option_map (λ row. int_at row 0) (slice_get rows.items 0))) }
@@ -35,6 +37,7 @@ pub fn class_of<S: Alter>(
     ensures same_reference { tx.new.conn.ghost_name ≡ tx.old.conn.ghost_name }
     ensures stays { Stays (state S.Store tx.old.conn.now) (state S.Store tx.new.conn.now) }
     ensures goes_on { HasCleanDisk (state S.Store tx.new.conn.now) → OnOk result (GoesOn (state S.Store tx.old.conn.now) (state S.Store tx.new.conn.now)) }
+    ensures failure { IfErr result IsFailure }
     ensures same { HasCleanDisk (state S.Store tx.new.conn.now) → IsOffice (state S.Store tx.old.conn.now).now → OnOk result ((state S.Store tx.new.conn.now).now ≡ (state S.Store tx.old.conn.now).now) }
     ensures found { HasCleanDisk (state S.Store tx.new.conn.now) → IsOffice (state S.Store tx.old.conn.now).now → IfOk result (λ found.
         found ≡ option_map (λ c. c.years) (class_named name.now (tables_of (state S.Store tx.old.conn.now).now).classes)) }
@@ -55,6 +58,7 @@ fn revise_class<S: Alter>(
     ensures same_reference { tx.new.conn.ghost_name ≡ tx.old.conn.ghost_name }
     ensures stays { Stays (state S.Store tx.old.conn.now) (state S.Store tx.new.conn.now) }
     ensures goes_on { HasCleanDisk (state S.Store tx.new.conn.now) → OnOk result (GoesOn (state S.Store tx.old.conn.now) (state S.Store tx.new.conn.now)) }
+    ensures failure { IfErr result IsFailure }
     ensures becomes { HasCleanDisk (state S.Store tx.new.conn.now) → IsOffice (state S.Store tx.old.conn.now).now → IfOk result (λ count.
         Becomes (state S.Store tx.new.conn.now).now (with_years name.now years (tables_of (state S.Store tx.old.conn.now).now))
         × (count ≡ (if list_any (is_class name.now) (tables_of (state S.Store tx.old.conn.now).now).classes then 1 else 0))) }
@@ -75,6 +79,7 @@ fn add_class<S: Alter>(
     ensures same_reference { tx.new.conn.ghost_name ≡ tx.old.conn.ghost_name }
     ensures stays { Stays (state S.Store tx.old.conn.now) (state S.Store tx.new.conn.now) }
     ensures goes_on { HasCleanDisk (state S.Store tx.new.conn.now) → OnOk result (GoesOn (state S.Store tx.old.conn.now) (state S.Store tx.new.conn.now)) }
+    ensures failure { IfErr result IsFailure }
     ensures becomes { HasCleanDisk (state S.Store tx.new.conn.now) → IsOffice (state S.Store tx.old.conn.now).now → OnOk result (
         Becomes (state S.Store tx.new.conn.now).now (with_new_class name.now years (tables_of (state S.Store tx.old.conn.now).now))) }
 {
@@ -96,6 +101,7 @@ pub fn put_class<S: Alter>(
     ensures same_reference { tx.new.conn.ghost_name ≡ tx.old.conn.ghost_name }
     ensures stays { Stays (state S.Store tx.old.conn.now) (state S.Store tx.new.conn.now) }
     ensures goes_on { HasCleanDisk (state S.Store tx.new.conn.now) → OnOk result (GoesOn (state S.Store tx.old.conn.now) (state S.Store tx.new.conn.now)) }
+    ensures failure { IfErr result IsFailure }
     ensures becomes { HasCleanDisk (state S.Store tx.new.conn.now) → IsOffice (state S.Store tx.old.conn.now).now → OnOk result (
         Becomes (state S.Store tx.new.conn.now).now (with_class name.now years (tables_of (state S.Store tx.old.conn.now).now))) }
 {
@@ -112,6 +118,7 @@ pub fn has_collection<S: Alter>(tx: &mut Transaction<'_, S>, name: &str) -> Resu
     ensures same_reference { tx.new.conn.ghost_name ≡ tx.old.conn.ghost_name }
     ensures stays { Stays (state S.Store tx.old.conn.now) (state S.Store tx.new.conn.now) }
     ensures goes_on { HasCleanDisk (state S.Store tx.new.conn.now) → OnOk result (GoesOn (state S.Store tx.old.conn.now) (state S.Store tx.new.conn.now)) }
+    ensures failure { IfErr result IsFailure }
     ensures same { HasCleanDisk (state S.Store tx.new.conn.now) → IsOffice (state S.Store tx.old.conn.now).now → OnOk result ((state S.Store tx.new.conn.now).now ≡ (state S.Store tx.old.conn.now).now) }
     ensures found { HasCleanDisk (state S.Store tx.new.conn.now) → IsOffice (state S.Store tx.old.conn.now).now → IfOk result (λ found.
         found ≡ has_collection name.now (tables_of (state S.Store tx.old.conn.now).now)) }
@@ -129,6 +136,7 @@ fn add_collection<S: Alter>(tx: &mut Transaction<'_, S>, name: &str) -> Result<u
     ensures same_reference { tx.new.conn.ghost_name ≡ tx.old.conn.ghost_name }
     ensures stays { Stays (state S.Store tx.old.conn.now) (state S.Store tx.new.conn.now) }
     ensures goes_on { HasCleanDisk (state S.Store tx.new.conn.now) → OnOk result (GoesOn (state S.Store tx.old.conn.now) (state S.Store tx.new.conn.now)) }
+    ensures failure { IfErr result IsFailure }
     ensures becomes { HasCleanDisk (state S.Store tx.new.conn.now) → IsOffice (state S.Store tx.old.conn.now).now → OnOk result (
         Becomes (state S.Store tx.new.conn.now).now (with_new_collection name.now (tables_of (state S.Store tx.old.conn.now).now))) }
 {
@@ -146,6 +154,7 @@ pub fn put_collection<S: Alter>(tx: &mut Transaction<'_, S>, name: &str) -> Resu
     ensures same_reference { tx.new.conn.ghost_name ≡ tx.old.conn.ghost_name }
     ensures stays { Stays (state S.Store tx.old.conn.now) (state S.Store tx.new.conn.now) }
     ensures goes_on { HasCleanDisk (state S.Store tx.new.conn.now) → OnOk result (GoesOn (state S.Store tx.old.conn.now) (state S.Store tx.new.conn.now)) }
+    ensures failure { IfErr result IsFailure }
     ensures becomes { HasCleanDisk (state S.Store tx.new.conn.now) → IsOffice (state S.Store tx.old.conn.now).now → OnOk result (
         Becomes (state S.Store tx.new.conn.now).now (with_collection name.now (tables_of (state S.Store tx.old.conn.now).now))) }
 {

@@ -1,6 +1,6 @@
 //! Making an office.
 
-ghost use Rattle.std.specs.Prelude.{ℕ, ℤ, pos, List, [], ◌≡◌, ◌≢◌, ◌≤◌, Err, false, true, map, OnOk, OnErr, IsTrue};
+ghost use Rattle.std.specs.Prelude.{ℕ, ℤ, pos, List, [], ◌≡◌, ◌≢◌, ◌≤◌, Err, false, true, map, IfErr, OnOk, OnErr, IsTrue};
 ghost use Rattle.sqlite.specs.Schema.{Schema};
 ghost use Rattle.sqlite.specs.Effect.{Database};
 ghost use Rattle.sqlite.specs.Tree.{Trees};
@@ -9,6 +9,7 @@ ghost use Rattle.sqlite.specs.Held.{state};
 ghost use Rattle.sql_meaning.specs.Inside.{Stays, GoesOn, Stands};
 ghost use Rattle.sql_meaning.specs.Making.{Builds};
 ghost use Rattle.sql_meaning.specs.Whole.{IsBlank};
+ghost use Rattle.office_tables.specs.Faults.{IsFailure};
 ghost use Rattle.office_tables.specs.Schema.{no_schema, office_schema};
 ghost use Rattle.office_tables.specs.Rows.{empty_office};
 ghost use Rattle.office_tables.specs.Tables.{Becomes};
@@ -24,6 +25,7 @@ fn define<S: Alter>(tx: &mut Transaction<'_, S>, texts: &[&str]) -> Result<(), T
     ensures same_reference { tx.new.conn.ghost_name ≡ tx.old.conn.ghost_name }
     ensures stays { Stays (state S.Store tx.old.conn.now) (state S.Store tx.new.conn.now) }
     ensures goes_on { HasCleanDisk (state S.Store tx.new.conn.now) → OnOk result (Stands (state S.Store tx.old.conn.now) (state S.Store tx.new.conn.now)) }
+    ensures failure { IfErr result IsFailure }
     ensures made { HasCleanDisk (state S.Store tx.new.conn.now) → OnOk result ((before after : Schema) → Builds before (map (λ t. t.now) texts.now) after
         → IsBlank before (state S.Store tx.old.conn.now).now → IsBlank after (state S.Store tx.new.conn.now).now) }
 {
@@ -38,6 +40,7 @@ fn define_tables<S: Alter>(tx: &mut Transaction<'_, S>) -> Result<(), TableFault
     ensures same_reference { tx.new.conn.ghost_name ≡ tx.old.conn.ghost_name }
     ensures stays { Stays (state S.Store tx.old.conn.now) (state S.Store tx.new.conn.now) }
     ensures goes_on { HasCleanDisk (state S.Store tx.new.conn.now) → OnOk result (Stands (state S.Store tx.old.conn.now) (state S.Store tx.new.conn.now)) }
+    ensures failure { IfErr result IsFailure }
     ensures made { HasCleanDisk (state S.Store tx.new.conn.now) → (state S.Store tx.old.conn.now).now.schema ≡ no_schema → OnOk result (IsBlank office_schema (state S.Store tx.new.conn.now).now) }
 {
     define(
@@ -66,6 +69,7 @@ fn start<S: Alter>(
     ensures same_reference { tx.new.conn.ghost_name ≡ tx.old.conn.ghost_name }
     ensures stays { Stays (state S.Store tx.old.conn.now) (state S.Store tx.new.conn.now) }
     ensures goes_on { HasCleanDisk (state S.Store tx.new.conn.now) → OnOk result (GoesOn (state S.Store tx.old.conn.now) (state S.Store tx.new.conn.now)) }
+    ensures failure { IfErr result IsFailure }
     ensures becomes { HasCleanDisk (state S.Store tx.new.conn.now) → IsBlank office_schema (state S.Store tx.old.conn.now).now → OnOk result (
         Becomes (state S.Store tx.new.conn.now).now (empty_office (pos 1) (pos max_deposits) (pos max_holds))) }
 {
@@ -85,6 +89,7 @@ fn make_office<S: Alter>(
     ensures same_reference { tx.new.conn.ghost_name ≡ tx.old.conn.ghost_name }
     ensures stays { Stays (state S.Store tx.old.conn.now) (state S.Store tx.new.conn.now) }
     ensures goes_on { HasCleanDisk (state S.Store tx.new.conn.now) → OnOk result (Stands (state S.Store tx.old.conn.now) (state S.Store tx.new.conn.now)) }
+    ensures failure { IfErr result IsFailure }
     ensures opened { HasCleanDisk (state S.Store tx.new.conn.now) → OnOk result (IsTrue (state S.Store tx.new.conn.now).is_open) }
     ensures becomes { HasCleanDisk (state S.Store tx.new.conn.now) → (state S.Store tx.old.conn.now).now.schema ≡ no_schema → OnOk result (
         Becomes (state S.Store tx.new.conn.now).now (empty_office (pos 1) (pos max_deposits) (pos max_holds))) }
@@ -124,6 +129,7 @@ pub fn create<S: Alter>(
     ensures durable { HasCleanDisk (state S.Store conn.new) → OnOk result ((db : Trees) → (state S.Store conn.new).may_leave db
         → (made : Database) × Becomes made (empty_office (pos 1) (pos max_deposits) (pos max_holds)) × (db ≡ made.trees)) }
     ensures refused { HasCleanDisk (state S.Store conn.new) → OnErr result (IsKept (state S.Store conn.old) (state S.Store conn.new)) }
+    ensures failure { IfErr result IsFailure }
     ensures not_empty { (state S.Store conn.old).now.schema ≢ no_schema → result ≡ Err TableFault.Store }
 {
     if !is_empty(conn.schema()) {

@@ -1,10 +1,11 @@
 //! Deposits.
 
-ghost use Rattle.std.specs.Prelude.{◌≡◌, IfOk, IsTrue, OnOk, None, pos, option_map, slice_get, map};
+ghost use Rattle.std.specs.Prelude.{◌≡◌, IfOk, IsTrue, IfErr, OnOk, None, pos, option_map, slice_get, map};
 ghost use Rattle.sqlite.specs.State.{HasCleanDisk};
 ghost use Rattle.sqlite.specs.Held.{state};
 ghost use Rattle.sql_meaning.specs.Inside.{Stays, GoesOn};
 ghost use Rattle.sql_meaning.specs.Columns.{int_at};
+ghost use Rattle.office_tables.specs.Faults.{IsFailure};
 ghost use Rattle.office_tables.specs.Rows.{deposit_numbered, deposit_by, has_class, has_collection, last_number, DepositsBelow, with_deposit, with_gone};
 ghost use Rattle.office_tables.specs.Tables.{IsOffice, Becomes, tables_of};
 ghost use Rattle.office_tables.specs.Deposits.{shown_deposit};
@@ -62,7 +63,8 @@ impl Model for DepositRow {
 
 /// The deposit that a row shows.
 fn deposit_in(row: &Row) -> Result<DepositRow, TableFault>
-    ensures { IfOk result (λ deposit. deposit ≡ shown_deposit row.now) }
+    ensures shown { IfOk result (λ deposit. deposit ≡ shown_deposit row.now) }
+    ensures failure { IfErr result IsFailure }
 {
     Ok(DepositRow {
         number: row.get(0)?,
@@ -79,7 +81,8 @@ fn deposit_in(row: &Row) -> Result<DepositRow, TableFault>
 
 /// The deposit that the first of the rows shows, if there is one.
 fn first_deposit(rows: &[Row]) -> Result<Option<DepositRow>, TableFault>
-    ensures { IfOk result (λ found. found ≡ option_map shown_deposit (slice_get rows.now 0)) }
+    ensures shown { IfOk result (λ found. found ≡ option_map shown_deposit (slice_get rows.now 0)) }
+    ensures failure { IfErr result IsFailure }
 {
     match rows.first() {
         Some(row) => Ok(Some(deposit_in(row)?)),
@@ -95,6 +98,7 @@ fn rows_of_deposit<S: Alter>(
     ensures same_reference { tx.new.conn.ghost_name ≡ tx.old.conn.ghost_name }
     ensures stays { Stays (state S.Store tx.old.conn.now) (state S.Store tx.new.conn.now) }
     ensures goes_on { HasCleanDisk (state S.Store tx.new.conn.now) → OnOk result (GoesOn (state S.Store tx.old.conn.now) (state S.Store tx.new.conn.now)) }
+    ensures failure { IfErr result IsFailure }
     ensures found { HasCleanDisk (state S.Store tx.new.conn.now) → IsOffice (state S.Store tx.old.conn.now).now → IfOk result (λ rows.
         ((state S.Store tx.new.conn.now).now ≡ (state S.Store tx.old.conn.now).now)
         × (deposit_numbered (pos number) (tables_of (state S.Store tx.old.conn.now).now).deposits ≡ option_map shown_deposit (slice_get rows.items 0))) }
@@ -116,6 +120,7 @@ pub fn deposit_row<S: Alter>(
     ensures same_reference { tx.new.conn.ghost_name ≡ tx.old.conn.ghost_name }
     ensures stays { Stays (state S.Store tx.old.conn.now) (state S.Store tx.new.conn.now) }
     ensures goes_on { HasCleanDisk (state S.Store tx.new.conn.now) → OnOk result (GoesOn (state S.Store tx.old.conn.now) (state S.Store tx.new.conn.now)) }
+    ensures failure { IfErr result IsFailure }
     ensures same { HasCleanDisk (state S.Store tx.new.conn.now) → IsOffice (state S.Store tx.old.conn.now).now → OnOk result ((state S.Store tx.new.conn.now).now ≡ (state S.Store tx.old.conn.now).now) }
     ensures found { HasCleanDisk (state S.Store tx.new.conn.now) → IsOffice (state S.Store tx.old.conn.now).now → IfOk result (λ found.
         found ≡ deposit_numbered (pos number) (tables_of (state S.Store tx.old.conn.now).now).deposits) }
@@ -132,6 +137,7 @@ fn rows_of_accession<S: Alter>(
     ensures same_reference { tx.new.conn.ghost_name ≡ tx.old.conn.ghost_name }
     ensures stays { Stays (state S.Store tx.old.conn.now) (state S.Store tx.new.conn.now) }
     ensures goes_on { HasCleanDisk (state S.Store tx.new.conn.now) → OnOk result (GoesOn (state S.Store tx.old.conn.now) (state S.Store tx.new.conn.now)) }
+    ensures failure { IfErr result IsFailure }
     ensures found { HasCleanDisk (state S.Store tx.new.conn.now) → IsOffice (state S.Store tx.old.conn.now).now → IfOk result (λ rows.
         ((state S.Store tx.new.conn.now).now ≡ (state S.Store tx.old.conn.now).now)
         × (deposit_by accession.now (tables_of (state S.Store tx.old.conn.now).now).deposits ≡ option_map shown_deposit (slice_get rows.items 0))) }
@@ -153,6 +159,7 @@ pub fn by_accession<S: Alter>(
     ensures same_reference { tx.new.conn.ghost_name ≡ tx.old.conn.ghost_name }
     ensures stays { Stays (state S.Store tx.old.conn.now) (state S.Store tx.new.conn.now) }
     ensures goes_on { HasCleanDisk (state S.Store tx.new.conn.now) → OnOk result (GoesOn (state S.Store tx.old.conn.now) (state S.Store tx.new.conn.now)) }
+    ensures failure { IfErr result IsFailure }
     ensures same { HasCleanDisk (state S.Store tx.new.conn.now) → IsOffice (state S.Store tx.old.conn.now).now → OnOk result ((state S.Store tx.new.conn.now).now ≡ (state S.Store tx.old.conn.now).now) }
     ensures found { HasCleanDisk (state S.Store tx.new.conn.now) → IsOffice (state S.Store tx.old.conn.now).now → IfOk result (λ found.
         found ≡ deposit_by accession.now (tables_of (state S.Store tx.old.conn.now).now).deposits) }
@@ -166,6 +173,7 @@ fn rows_of_last<S: Alter>(tx: &mut Transaction<'_, S>) -> Result<Vec<Row>, Table
     ensures same_reference { tx.new.conn.ghost_name ≡ tx.old.conn.ghost_name }
     ensures stays { Stays (state S.Store tx.old.conn.now) (state S.Store tx.new.conn.now) }
     ensures goes_on { HasCleanDisk (state S.Store tx.new.conn.now) → OnOk result (GoesOn (state S.Store tx.old.conn.now) (state S.Store tx.new.conn.now)) }
+    ensures failure { IfErr result IsFailure }
     ensures found { HasCleanDisk (state S.Store tx.new.conn.now) → IsOffice (state S.Store tx.old.conn.now).now → IfOk result (λ rows.
         ((state S.Store tx.new.conn.now).now ≡ (state S.Store tx.old.conn.now).now)
         × (last_number (λ d. d.number) (tables_of (state S.Store tx.old.conn.now).now).deposits ≡ option_map (λ row. int_at row 0) (slice_get rows.items 0))) }
@@ -184,6 +192,7 @@ pub fn last_deposit<S: Alter>(tx: &mut Transaction<'_, S>) -> Result<Option<u32>
     ensures same_reference { tx.new.conn.ghost_name ≡ tx.old.conn.ghost_name }
     ensures stays { Stays (state S.Store tx.old.conn.now) (state S.Store tx.new.conn.now) }
     ensures goes_on { HasCleanDisk (state S.Store tx.new.conn.now) → OnOk result (GoesOn (state S.Store tx.old.conn.now) (state S.Store tx.new.conn.now)) }
+    ensures failure { IfErr result IsFailure }
     ensures same { HasCleanDisk (state S.Store tx.new.conn.now) → IsOffice (state S.Store tx.old.conn.now).now → OnOk result ((state S.Store tx.new.conn.now).now ≡ (state S.Store tx.old.conn.now).now) }
     ensures found { HasCleanDisk (state S.Store tx.new.conn.now) → IsOffice (state S.Store tx.old.conn.now).now → IfOk result (λ found.
         option_map pos found ≡ last_number (λ d. d.number) (tables_of (state S.Store tx.old.conn.now).now).deposits) }
@@ -200,6 +209,7 @@ fn rows_of_deposits<S: Alter>(tx: &mut Transaction<'_, S>) -> Result<Vec<Row>, T
     ensures same_reference { tx.new.conn.ghost_name ≡ tx.old.conn.ghost_name }
     ensures stays { Stays (state S.Store tx.old.conn.now) (state S.Store tx.new.conn.now) }
     ensures goes_on { HasCleanDisk (state S.Store tx.new.conn.now) → OnOk result (GoesOn (state S.Store tx.old.conn.now) (state S.Store tx.new.conn.now)) }
+    ensures failure { IfErr result IsFailure }
     ensures found { HasCleanDisk (state S.Store tx.new.conn.now) → IsOffice (state S.Store tx.old.conn.now).now → IfOk result (λ rows.
         ((state S.Store tx.new.conn.now).now ≡ (state S.Store tx.old.conn.now).now)
         × ((tables_of (state S.Store tx.old.conn.now).now).deposits ≡ map shown_deposit rows.items)) }
@@ -213,7 +223,8 @@ fn rows_of_deposits<S: Alter>(tx: &mut Transaction<'_, S>) -> Result<Vec<Row>, T
 
 /// The deposits that the rows show.
 fn deposits_in(alloc: Global, rows: &[Row]) -> Result<Vec<DepositRow>, TableFault>
-    ensures { IfOk result (λ all. all.items ≡ map shown_deposit rows.now) }
+    ensures shown { IfOk result (λ all. all.items ≡ map shown_deposit rows.now) }
+    ensures failure { IfErr result IsFailure }
 {
     let mut all = Vec::new(alloc);
     for row in rows {
@@ -232,6 +243,7 @@ pub fn deposit_rows<S: Alter>(
     ensures same_reference { tx.new.conn.ghost_name ≡ tx.old.conn.ghost_name }
     ensures stays { Stays (state S.Store tx.old.conn.now) (state S.Store tx.new.conn.now) }
     ensures goes_on { HasCleanDisk (state S.Store tx.new.conn.now) → OnOk result (GoesOn (state S.Store tx.old.conn.now) (state S.Store tx.new.conn.now)) }
+    ensures failure { IfErr result IsFailure }
     ensures same { HasCleanDisk (state S.Store tx.new.conn.now) → IsOffice (state S.Store tx.old.conn.now).now → OnOk result ((state S.Store tx.new.conn.now).now ≡ (state S.Store tx.old.conn.now).now) }
     ensures found { HasCleanDisk (state S.Store tx.new.conn.now) → IsOffice (state S.Store tx.old.conn.now).now → IfOk result (λ all.
         all.items ≡ (tables_of (state S.Store tx.old.conn.now).now).deposits) }
@@ -258,6 +270,7 @@ pub fn put_deposit<S: Alter>(
     ensures same_reference { tx.new.conn.ghost_name ≡ tx.old.conn.ghost_name }
     ensures stays { Stays (state S.Store tx.old.conn.now) (state S.Store tx.new.conn.now) }
     ensures goes_on { HasCleanDisk (state S.Store tx.new.conn.now) → OnOk result (GoesOn (state S.Store tx.old.conn.now) (state S.Store tx.new.conn.now)) }
+    ensures failure { IfErr result IsFailure }
     ensures becomes { HasCleanDisk (state S.Store tx.new.conn.now) → IsOffice (state S.Store tx.old.conn.now).now
         → DepositsBelow (pos number) (tables_of (state S.Store tx.old.conn.now).now).deposits → OnOk result (
         Becomes (state S.Store tx.new.conn.now).now (with_deposit (record {
@@ -301,6 +314,7 @@ pub fn mark_gone<S: Alter>(
     ensures same_reference { tx.new.conn.ghost_name ≡ tx.old.conn.ghost_name }
     ensures stays { Stays (state S.Store tx.old.conn.now) (state S.Store tx.new.conn.now) }
     ensures goes_on { HasCleanDisk (state S.Store tx.new.conn.now) → OnOk result (GoesOn (state S.Store tx.old.conn.now) (state S.Store tx.new.conn.now)) }
+    ensures failure { IfErr result IsFailure }
     ensures becomes { HasCleanDisk (state S.Store tx.new.conn.now) → IsOffice (state S.Store tx.old.conn.now).now → OnOk result (
         Becomes (state S.Store tx.new.conn.now).now (with_gone (pos number) day (tables_of (state S.Store tx.old.conn.now).now))) }
 {

@@ -1,5 +1,7 @@
 //! Why a call on the tables fails.
 
+ghost use Rattle.office_tables.specs.Faults.{IsFailure};
+
 use sqlite::{Error, ErrorCode};
 use std::alloc::{AllocError, AllocFailed};
 
@@ -21,6 +23,8 @@ pub enum TableFault {
 }
 
 impl From<Error> for TableFault {
+    ghost from_gives = { λ _ fault. IsFailure fault };
+
     fn from(error: Error) -> TableFault {
         match error {
             Error::SqliteFailure(ErrorCode::OutOfMemory) => TableFault::Memory,
@@ -30,12 +34,16 @@ impl From<Error> for TableFault {
 }
 
 impl From<AllocError> for TableFault {
+    ghost from_gives = { λ _ fault. IsFailure fault };
+
     fn from(_: AllocError) -> TableFault {
         TableFault::Memory
     }
 }
 
 impl<T: Drop> From<AllocFailed<T>> for TableFault {
+    ghost from_gives = { λ _ fault. IsFailure fault };
+
     fn from(_: AllocFailed<T>) -> TableFault {
         TableFault::Memory
     }

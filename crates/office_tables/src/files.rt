@@ -1,10 +1,11 @@
 //! The files of deposits.
 
-ghost use Rattle.std.specs.Prelude.{◌≡◌, IfOk, OnOk, None, pos, map, option_map, slice_get};
+ghost use Rattle.std.specs.Prelude.{◌≡◌, IfOk, IfErr, OnOk, None, pos, map, option_map, slice_get};
 ghost use Rattle.sqlite.specs.State.{HasCleanDisk};
 ghost use Rattle.sqlite.specs.Held.{state};
 ghost use Rattle.sql_meaning.specs.Inside.{Stays, GoesOn};
 ghost use Rattle.sql_meaning.specs.Columns.{bytes_at};
+ghost use Rattle.office_tables.specs.Faults.{IsFailure};
 ghost use Rattle.office_tables.specs.Rows.{file_at, with_file, without_files};
 ghost use Rattle.office_tables.specs.Tables.{IsOffice, Becomes, tables_of};
 ghost use Rattle.office_tables.specs.Deposits.{shown_file, files_by_path};
@@ -49,6 +50,7 @@ pub fn put_file<S: Alter>(
     ensures same_reference { tx.new.conn.ghost_name ≡ tx.old.conn.ghost_name }
     ensures stays { Stays (state S.Store tx.old.conn.now) (state S.Store tx.new.conn.now) }
     ensures goes_on { HasCleanDisk (state S.Store tx.new.conn.now) → OnOk result (GoesOn (state S.Store tx.old.conn.now) (state S.Store tx.new.conn.now)) }
+    ensures failure { IfErr result IsFailure }
     ensures becomes { HasCleanDisk (state S.Store tx.new.conn.now) → IsOffice (state S.Store tx.old.conn.now).now → OnOk result (
         Becomes (state S.Store tx.new.conn.now).now (with_file (record { deposit = pos number; path = path.now; content = content.now }) (tables_of (state S.Store tx.old.conn.now).now))) }
     ensures new_path { HasCleanDisk (state S.Store tx.new.conn.now) → IsOffice (state S.Store tx.old.conn.now).now → OnOk result (
@@ -71,6 +73,7 @@ fn rows_of_file<S: Alter>(
     ensures same_reference { tx.new.conn.ghost_name ≡ tx.old.conn.ghost_name }
     ensures stays { Stays (state S.Store tx.old.conn.now) (state S.Store tx.new.conn.now) }
     ensures goes_on { HasCleanDisk (state S.Store tx.new.conn.now) → OnOk result (GoesOn (state S.Store tx.old.conn.now) (state S.Store tx.new.conn.now)) }
+    ensures failure { IfErr result IsFailure }
     ensures found { HasCleanDisk (state S.Store tx.new.conn.now) → IsOffice (state S.Store tx.old.conn.now).now → IfOk result (λ rows.
         ((state S.Store tx.new.conn.now).now ≡ (state S.Store tx.old.conn.now).now)
         × (option_map (λ f. f.content) (file_at (pos number) path.now (tables_of (state S.Store tx.old.conn.now).now).files) ≡ option_map (λ row. bytes_at row 0) (slice_get rows.items 0))) }
@@ -93,6 +96,7 @@ pub fn file_of<S: Alter>(
     ensures same_reference { tx.new.conn.ghost_name ≡ tx.old.conn.ghost_name }
     ensures stays { Stays (state S.Store tx.old.conn.now) (state S.Store tx.new.conn.now) }
     ensures goes_on { HasCleanDisk (state S.Store tx.new.conn.now) → OnOk result (GoesOn (state S.Store tx.old.conn.now) (state S.Store tx.new.conn.now)) }
+    ensures failure { IfErr result IsFailure }
     ensures same { HasCleanDisk (state S.Store tx.new.conn.now) → IsOffice (state S.Store tx.old.conn.now).now → OnOk result ((state S.Store tx.new.conn.now).now ≡ (state S.Store tx.old.conn.now).now) }
     ensures found { HasCleanDisk (state S.Store tx.new.conn.now) → IsOffice (state S.Store tx.old.conn.now).now → IfOk result (λ found.
         option_map (λ content. content.items) found ≡ option_map (λ f. f.content) (file_at (pos number) path.now (tables_of (state S.Store tx.old.conn.now).now).files)) }
@@ -111,6 +115,7 @@ pub fn drop_files<S: Alter>(tx: &mut Transaction<'_, S>, number: u32) -> Result<
     ensures same_reference { tx.new.conn.ghost_name ≡ tx.old.conn.ghost_name }
     ensures stays { Stays (state S.Store tx.old.conn.now) (state S.Store tx.new.conn.now) }
     ensures goes_on { HasCleanDisk (state S.Store tx.new.conn.now) → OnOk result (GoesOn (state S.Store tx.old.conn.now) (state S.Store tx.new.conn.now)) }
+    ensures failure { IfErr result IsFailure }
     ensures becomes { HasCleanDisk (state S.Store tx.new.conn.now) → IsOffice (state S.Store tx.old.conn.now).now → OnOk result (
         Becomes (state S.Store tx.new.conn.now).now (without_files (pos number) (tables_of (state S.Store tx.old.conn.now).now))) }
 {
@@ -120,7 +125,8 @@ pub fn drop_files<S: Alter>(tx: &mut Transaction<'_, S>, number: u32) -> Result<
 
 /// The file that a row shows.
 fn file_in(row: &Row) -> Result<FileRow, TableFault>
-    ensures { IfOk result (λ file. file ≡ shown_file row.now) }
+    ensures shown { IfOk result (λ file. file ≡ shown_file row.now) }
+    ensures failure { IfErr result IsFailure }
 {
     Ok(FileRow {
         deposit: row.get(0)?,
@@ -131,7 +137,8 @@ fn file_in(row: &Row) -> Result<FileRow, TableFault>
 
 /// The files that the rows show.
 fn files_in(alloc: Global, rows: &[Row]) -> Result<Vec<FileRow>, TableFault>
-    ensures { IfOk result (λ all. all.items ≡ map shown_file rows.now) }
+    ensures shown { IfOk result (λ all. all.items ≡ map shown_file rows.now) }
+    ensures failure { IfErr result IsFailure }
 {
     let mut all = Vec::new(alloc);
     for row in rows {
@@ -145,6 +152,7 @@ fn rows_of_files<S: Alter>(tx: &mut Transaction<'_, S>, number: u32) -> Result<V
     ensures same_reference { tx.new.conn.ghost_name ≡ tx.old.conn.ghost_name }
     ensures stays { Stays (state S.Store tx.old.conn.now) (state S.Store tx.new.conn.now) }
     ensures goes_on { HasCleanDisk (state S.Store tx.new.conn.now) → OnOk result (GoesOn (state S.Store tx.old.conn.now) (state S.Store tx.new.conn.now)) }
+    ensures failure { IfErr result IsFailure }
     ensures found { HasCleanDisk (state S.Store tx.new.conn.now) → IsOffice (state S.Store tx.old.conn.now).now → IfOk result (λ rows.
         ((state S.Store tx.new.conn.now).now ≡ (state S.Store tx.old.conn.now).now)
         × (files_by_path (pos number) (tables_of (state S.Store tx.old.conn.now).now) ≡ map shown_file rows.items)) }
@@ -167,6 +175,7 @@ pub fn files_of<S: Alter>(
     ensures same_reference { tx.new.conn.ghost_name ≡ tx.old.conn.ghost_name }
     ensures stays { Stays (state S.Store tx.old.conn.now) (state S.Store tx.new.conn.now) }
     ensures goes_on { HasCleanDisk (state S.Store tx.new.conn.now) → OnOk result (GoesOn (state S.Store tx.old.conn.now) (state S.Store tx.new.conn.now)) }
+    ensures failure { IfErr result IsFailure }
     ensures same { HasCleanDisk (state S.Store tx.new.conn.now) → IsOffice (state S.Store tx.old.conn.now).now → OnOk result ((state S.Store tx.new.conn.now).now ≡ (state S.Store tx.old.conn.now).now) }
     ensures found { HasCleanDisk (state S.Store tx.new.conn.now) → IsOffice (state S.Store tx.old.conn.now).now → IfOk result (λ all.
         all.items ≡ files_by_path (pos number) (tables_of (state S.Store tx.old.conn.now).now)) }

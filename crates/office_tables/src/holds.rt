@@ -1,10 +1,11 @@
 //! Holds.
 
-ghost use Rattle.std.specs.Prelude.{◌≡◌, ℕ, IfOk, OnOk, pos, Some, None, map, filter, ◌++◌, option_map, slice_get};
+ghost use Rattle.std.specs.Prelude.{◌≡◌, ℕ, IfOk, IfErr, OnOk, pos, Some, None, map, filter, ◌++◌, option_map, slice_get};
 ghost use Rattle.sqlite.specs.State.{HasCleanDisk};
 ghost use Rattle.sqlite.specs.Held.{state};
 ghost use Rattle.sql_meaning.specs.Inside.{Stays, GoesOn};
 ghost use Rattle.sql_meaning.specs.Columns.{int_at};
+ghost use Rattle.office_tables.specs.Faults.{IsFailure};
 ghost use Rattle.office_tables.specs.Rows.{hold_numbered, last_number, with_hold, with_released, live_holds, is_live_on, is_live_within, HoldsBelow};
 ghost use Rattle.office_tables.specs.Tables.{IsOffice, Becomes, tables_of};
 ghost use Rattle.office_tables.specs.ShownHolds.{shown_hold};
@@ -55,7 +56,8 @@ impl Model for HoldRow {
 
 /// The hold in a row that a query shows.
 fn hold_in(row: &Row) -> Result<HoldRow, TableFault>
-    ensures { IfOk result (λ hold. hold ≡ shown_hold row.now) }
+    ensures shown { IfOk result (λ hold. hold ≡ shown_hold row.now) }
+    ensures failure { IfErr result IsFailure }
 {
     Ok(HoldRow {
         number: row.get(0)?,
@@ -72,6 +74,7 @@ fn rows_of_hold<S: Alter>(tx: &mut Transaction<'_, S>, number: u32) -> Result<Ve
     ensures same_reference { tx.new.conn.ghost_name ≡ tx.old.conn.ghost_name }
     ensures stays { Stays (state S.Store tx.old.conn.now) (state S.Store tx.new.conn.now) }
     ensures goes_on { HasCleanDisk (state S.Store tx.new.conn.now) → OnOk result (GoesOn (state S.Store tx.old.conn.now) (state S.Store tx.new.conn.now)) }
+    ensures failure { IfErr result IsFailure }
     ensures found { HasCleanDisk (state S.Store tx.new.conn.now) → IsOffice (state S.Store tx.old.conn.now).now → IfOk result (λ rows.
         ((state S.Store tx.new.conn.now).now ≡ (state S.Store tx.old.conn.now).now)
         × (hold_numbered (pos number) (tables_of (state S.Store tx.old.conn.now).now).holds ≡ option_map shown_hold (slice_get rows.items 0))) }
@@ -93,6 +96,7 @@ pub fn hold_row<S: Alter>(
     ensures same_reference { tx.new.conn.ghost_name ≡ tx.old.conn.ghost_name }
     ensures stays { Stays (state S.Store tx.old.conn.now) (state S.Store tx.new.conn.now) }
     ensures goes_on { HasCleanDisk (state S.Store tx.new.conn.now) → OnOk result (GoesOn (state S.Store tx.old.conn.now) (state S.Store tx.new.conn.now)) }
+    ensures failure { IfErr result IsFailure }
     ensures same { HasCleanDisk (state S.Store tx.new.conn.now) → IsOffice (state S.Store tx.old.conn.now).now → OnOk result ((state S.Store tx.new.conn.now).now ≡ (state S.Store tx.old.conn.now).now) }
     ensures found { HasCleanDisk (state S.Store tx.new.conn.now) → IsOffice (state S.Store tx.old.conn.now).now → IfOk result (λ found.
         found ≡ hold_numbered (pos number) (tables_of (state S.Store tx.old.conn.now).now).holds) }
@@ -109,6 +113,7 @@ fn rows_of_last<S: Alter>(tx: &mut Transaction<'_, S>) -> Result<Vec<Row>, Table
     ensures same_reference { tx.new.conn.ghost_name ≡ tx.old.conn.ghost_name }
     ensures stays { Stays (state S.Store tx.old.conn.now) (state S.Store tx.new.conn.now) }
     ensures goes_on { HasCleanDisk (state S.Store tx.new.conn.now) → OnOk result (GoesOn (state S.Store tx.old.conn.now) (state S.Store tx.new.conn.now)) }
+    ensures failure { IfErr result IsFailure }
     ensures found { HasCleanDisk (state S.Store tx.new.conn.now) → IsOffice (state S.Store tx.old.conn.now).now → IfOk result (λ rows.
         ((state S.Store tx.new.conn.now).now ≡ (state S.Store tx.old.conn.now).now)
         × (last_number (λ h. h.number) (tables_of (state S.Store tx.old.conn.now).now).holds ≡ option_map (λ row. int_at row 0) (slice_get rows.items 0))) }
@@ -122,7 +127,8 @@ fn rows_of_last<S: Alter>(tx: &mut Transaction<'_, S>) -> Result<Vec<Row>, Table
 
 /// A number in the first column of a row.
 fn first_number(row: &Row) -> Result<u32, TableFault>
-    ensures { IfOk result (λ number. pos number ≡ int_at row.now 0) }
+    ensures shown { IfOk result (λ number. pos number ≡ int_at row.now 0) }
+    ensures failure { IfErr result IsFailure }
 {
     Ok(row.get(0)?)
 }
@@ -134,6 +140,7 @@ pub fn last_hold<S: Alter>(tx: &mut Transaction<'_, S>) -> Result<Option<u32>, T
     ensures same_reference { tx.new.conn.ghost_name ≡ tx.old.conn.ghost_name }
     ensures stays { Stays (state S.Store tx.old.conn.now) (state S.Store tx.new.conn.now) }
     ensures goes_on { HasCleanDisk (state S.Store tx.new.conn.now) → OnOk result (GoesOn (state S.Store tx.old.conn.now) (state S.Store tx.new.conn.now)) }
+    ensures failure { IfErr result IsFailure }
     ensures same { HasCleanDisk (state S.Store tx.new.conn.now) → IsOffice (state S.Store tx.old.conn.now).now → OnOk result ((state S.Store tx.new.conn.now).now ≡ (state S.Store tx.old.conn.now).now) }
     ensures found { HasCleanDisk (state S.Store tx.new.conn.now) → IsOffice (state S.Store tx.old.conn.now).now → IfOk result (λ found.
         option_map pos found ≡ last_number (λ h. h.number) (tables_of (state S.Store tx.old.conn.now).now).holds) }
@@ -159,6 +166,7 @@ pub fn put_hold<S: Alter>(
     ensures same_reference { tx.new.conn.ghost_name ≡ tx.old.conn.ghost_name }
     ensures stays { Stays (state S.Store tx.old.conn.now) (state S.Store tx.new.conn.now) }
     ensures goes_on { HasCleanDisk (state S.Store tx.new.conn.now) → OnOk result (GoesOn (state S.Store tx.old.conn.now) (state S.Store tx.new.conn.now)) }
+    ensures failure { IfErr result IsFailure }
     ensures becomes { HasCleanDisk (state S.Store tx.new.conn.now) → IsOffice (state S.Store tx.old.conn.now).now
         → HoldsBelow (pos number) (tables_of (state S.Store tx.old.conn.now).now).holds → OnOk result (
         Becomes (state S.Store tx.new.conn.now).now (with_hold (record {
@@ -189,6 +197,7 @@ pub fn end_hold<S: Alter>(
     ensures same_reference { tx.new.conn.ghost_name ≡ tx.old.conn.ghost_name }
     ensures stays { Stays (state S.Store tx.old.conn.now) (state S.Store tx.new.conn.now) }
     ensures goes_on { HasCleanDisk (state S.Store tx.new.conn.now) → OnOk result (GoesOn (state S.Store tx.old.conn.now) (state S.Store tx.new.conn.now)) }
+    ensures failure { IfErr result IsFailure }
     ensures becomes { HasCleanDisk (state S.Store tx.new.conn.now) → IsOffice (state S.Store tx.old.conn.now).now → OnOk result (
         Becomes (state S.Store tx.new.conn.now).now (with_released (pos number) day (tables_of (state S.Store tx.old.conn.now).now))) }
 {
@@ -208,6 +217,7 @@ fn rows_of_holds_on<S: Alter>(
     ensures same_reference { tx.new.conn.ghost_name ≡ tx.old.conn.ghost_name }
     ensures stays { Stays (state S.Store tx.old.conn.now) (state S.Store tx.new.conn.now) }
     ensures goes_on { HasCleanDisk (state S.Store tx.new.conn.now) → OnOk result (GoesOn (state S.Store tx.old.conn.now) (state S.Store tx.new.conn.now)) }
+    ensures failure { IfErr result IsFailure }
     ensures found { HasCleanDisk (state S.Store tx.new.conn.now) → IsOffice (state S.Store tx.old.conn.now).now → IfOk result (λ rows.
         ((state S.Store tx.new.conn.now).now ≡ (state S.Store tx.old.conn.now).now)
         × (map (λ h. h.number) (filter (is_live_on (pos deposit)) (tables_of (state S.Store tx.old.conn.now).now).holds) ≡ map (λ row. int_at row 0) rows.items)) }
@@ -228,6 +238,7 @@ fn rows_of_holds_within<S: Alter>(
     ensures same_reference { tx.new.conn.ghost_name ≡ tx.old.conn.ghost_name }
     ensures stays { Stays (state S.Store tx.old.conn.now) (state S.Store tx.new.conn.now) }
     ensures goes_on { HasCleanDisk (state S.Store tx.new.conn.now) → OnOk result (GoesOn (state S.Store tx.old.conn.now) (state S.Store tx.new.conn.now)) }
+    ensures failure { IfErr result IsFailure }
     ensures found { HasCleanDisk (state S.Store tx.new.conn.now) → IsOffice (state S.Store tx.old.conn.now).now → IfOk result (λ rows.
         ((state S.Store tx.new.conn.now).now ≡ (state S.Store tx.old.conn.now).now)
         × (map (λ h. h.number) (filter (is_live_within (pos deposit) collection.now) (tables_of (state S.Store tx.old.conn.now).now).holds) ≡ map (λ row. int_at row 0) rows.items)) }
@@ -241,7 +252,8 @@ fn rows_of_holds_within<S: Alter>(
 
 /// Adds the numbers in the first column of the rows.
 fn add_numbers(numbers: &mut Vec<u32>, rows: &[Row]) -> Result<(), TableFault>
-    ensures { OnOk result (map pos numbers.new.items ≡ map pos numbers.old.items ++ map (λ row. int_at row 0) rows.now) }
+    ensures added { OnOk result (map pos numbers.new.items ≡ map pos numbers.old.items ++ map (λ row. int_at row 0) rows.now) }
+    ensures failure { IfErr result IsFailure }
 {
     for row in rows {
         numbers.push(first_number(row)?)?;
@@ -261,6 +273,7 @@ pub fn live_holds<S: Alter>(
     ensures same_reference { tx.new.conn.ghost_name ≡ tx.old.conn.ghost_name }
     ensures stays { Stays (state S.Store tx.old.conn.now) (state S.Store tx.new.conn.now) }
     ensures goes_on { HasCleanDisk (state S.Store tx.new.conn.now) → OnOk result (GoesOn (state S.Store tx.old.conn.now) (state S.Store tx.new.conn.now)) }
+    ensures failure { IfErr result IsFailure }
     ensures same { HasCleanDisk (state S.Store tx.new.conn.now) → IsOffice (state S.Store tx.old.conn.now).now → OnOk result ((state S.Store tx.new.conn.now).now ≡ (state S.Store tx.old.conn.now).now) }
     ensures found { HasCleanDisk (state S.Store tx.new.conn.now) → IsOffice (state S.Store tx.old.conn.now).now → IfOk result (λ numbers.
         map pos numbers.items ≡ live_holds (pos deposit) collection.now (tables_of (state S.Store tx.old.conn.now).now)) }

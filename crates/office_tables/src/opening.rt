@@ -1,11 +1,12 @@
 //! Opening an office, and its limits.
 
-ghost use Rattle.std.specs.Prelude.{ℕ, ℤ, pos, [], Ok, Err, ◌≡◌, ◌≢◌, true, false, MatchOption, All, Contains, IfOk, OnOk, IsTrue, Some, None, option_map, slice_get};
+ghost use Rattle.std.specs.Prelude.{ℕ, ℤ, pos, [], Ok, Err, ◌≡◌, ◌≢◌, true, false, MatchOption, All, Contains, IfOk, IfErr, OnOk, IsTrue, Some, None, option_map, slice_get};
 ghost use Rattle.sqlite.specs.State.{HasCleanDisk, Survives};
 ghost use Rattle.sqlite.specs.Held.{state};
 ghost use Rattle.sqlite.specs.Order.{Row as SqlRow, column};
 ghost use Rattle.sqlite.specs.declared.types.Value.TheVariants.{Int};
 ghost use Rattle.sql_meaning.specs.Inside.{Stays, GoesOn};
+ghost use Rattle.office_tables.specs.Faults.{IsFailure};
 ghost use Rattle.office_tables.specs.Rows.{limits_of, version_of};
 ghost use Rattle.office_tables.specs.Tables.{IsOffice, tables_of, shown_limits};
 ghost use Rattle.office_tables.specs.Opening.{shows_office, ShowsVersion, has_office, HasVersion, NotAnOffice, IsKept};
@@ -51,6 +52,7 @@ fn version_among(rows: &[Row]) -> Option<i64>
 fn look<S: Alter>(tx: &mut Transaction<'_, S>) -> Result<Option<i64>, TableFault>
     ensures same_reference { tx.new.conn.ghost_name ≡ tx.old.conn.ghost_name }
     ensures stays { Stays (state S.Store tx.old.conn.now) (state S.Store tx.new.conn.now) }
+    ensures failure { IfErr result IsFailure }
     ensures shown { HasCleanDisk (state S.Store tx.new.conn.now) → IfOk result (ShowsVersion (state S.Store tx.old.conn.now).now) }
 {
     let rows = ask(
@@ -121,6 +123,7 @@ fn rows_of_limits<S: Alter>(tx: &mut Transaction<'_, S>) -> Result<Vec<Row>, Tab
     ensures same_reference { tx.new.conn.ghost_name ≡ tx.old.conn.ghost_name }
     ensures stays { Stays (state S.Store tx.old.conn.now) (state S.Store tx.new.conn.now) }
     ensures goes_on { HasCleanDisk (state S.Store tx.new.conn.now) → OnOk result (GoesOn (state S.Store tx.old.conn.now) (state S.Store tx.new.conn.now)) }
+    ensures failure { IfErr result IsFailure }
     ensures found { HasCleanDisk (state S.Store tx.new.conn.now) → IsOffice (state S.Store tx.old.conn.now).now → IfOk result (λ rows.
         ((state S.Store tx.new.conn.now).now ≡ (state S.Store tx.old.conn.now).now)
         × (limits_of (tables_of (state S.Store tx.old.conn.now).now) ≡ option_map shown_limits (slice_get rows.items 0))) }
@@ -139,6 +142,7 @@ pub fn limits<S: Alter>(tx: &mut Transaction<'_, S>) -> Result<OfficeLimits, Tab
     ensures same_reference { tx.new.conn.ghost_name ≡ tx.old.conn.ghost_name }
     ensures stays { Stays (state S.Store tx.old.conn.now) (state S.Store tx.new.conn.now) }
     ensures goes_on { HasCleanDisk (state S.Store tx.new.conn.now) → OnOk result (GoesOn (state S.Store tx.old.conn.now) (state S.Store tx.new.conn.now)) }
+    ensures failure { IfErr result IsFailure }
     ensures same { HasCleanDisk (state S.Store tx.new.conn.now) → IsOffice (state S.Store tx.old.conn.now).now → OnOk result ((state S.Store tx.new.conn.now).now ≡ (state S.Store tx.old.conn.now).now) }
     ensures found { HasCleanDisk (state S.Store tx.new.conn.now) → IsOffice (state S.Store tx.old.conn.now).now → IfOk result (λ limits.
         limits_of (tables_of (state S.Store tx.old.conn.now).now) ≡ Some (record { max_deposits = pos limits.max_deposits; max_holds = pos limits.max_holds })) }

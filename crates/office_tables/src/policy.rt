@@ -1,10 +1,11 @@
 //! The policy: the callers with their roles, and the rules.
 
-ghost use Rattle.std.specs.Prelude.{◌≡◌, ℕ, IfOk, OnOk, map, option_map, slice_get, string_bytes};
+ghost use Rattle.std.specs.Prelude.{◌≡◌, ℕ, IfOk, IfErr, OnOk, map, option_map, slice_get, string_bytes};
 ghost use Rattle.sqlite.specs.State.{HasCleanDisk};
 ghost use Rattle.sqlite.specs.Held.{state};
 ghost use Rattle.sql_meaning.specs.Inside.{Stays, GoesOn, Stands};
 ghost use Rattle.sql_meaning.specs.Columns.{bytes_at};
+ghost use Rattle.office_tables.specs.Faults.{IsFailure};
 ghost use Rattle.office_tables.specs.Rows.{caller_named, without_callers, without_rules, with_caller, with_rule, with_callers, with_rules, with_policy, RulesBelow, RulesFollow, PlacesRise};
 ghost use Rattle.office_tables.specs.Tables.{IsOffice, Becomes, tables_of};
 ghost use Rattle.office_tables.specs.ShownPolicy.{shown_rule};
@@ -75,6 +76,7 @@ fn rows_of_role<S: Alter>(tx: &mut Transaction<'_, S>, name: &str) -> Result<Vec
     ensures same_reference { tx.new.conn.ghost_name ≡ tx.old.conn.ghost_name }
     ensures stays { Stays (state S.Store tx.old.conn.now) (state S.Store tx.new.conn.now) }
     ensures goes_on { HasCleanDisk (state S.Store tx.new.conn.now) → OnOk result (GoesOn (state S.Store tx.old.conn.now) (state S.Store tx.new.conn.now)) }
+    ensures failure { IfErr result IsFailure }
     ensures found { HasCleanDisk (state S.Store tx.new.conn.now) → IsOffice (state S.Store tx.old.conn.now).now → IfOk result (λ rows.
         ((state S.Store tx.new.conn.now).now ≡ (state S.Store tx.old.conn.now).now)
         × (option_map (λ c. c.role) (caller_named name.now (tables_of (state S.Store tx.old.conn.now).now).callers) ≡ option_map (λ row. bytes_at row 0) (slice_get rows.items 0))) }
@@ -84,7 +86,8 @@ fn rows_of_role<S: Alter>(tx: &mut Transaction<'_, S>, name: &str) -> Result<Vec
 
 /// A text in the first column of a row.
 fn first_text(row: &Row) -> Result<String, TableFault>
-    ensures { IfOk result (λ text. string_bytes text ≡ bytes_at row.now 0) }
+    ensures shown { IfOk result (λ text. string_bytes text ≡ bytes_at row.now 0) }
+    ensures failure { IfErr result IsFailure }
 {
     Ok(row.get(0)?)
 }
@@ -99,6 +102,7 @@ pub fn role_of<S: Alter>(
     ensures same_reference { tx.new.conn.ghost_name ≡ tx.old.conn.ghost_name }
     ensures stays { Stays (state S.Store tx.old.conn.now) (state S.Store tx.new.conn.now) }
     ensures goes_on { HasCleanDisk (state S.Store tx.new.conn.now) → OnOk result (GoesOn (state S.Store tx.old.conn.now) (state S.Store tx.new.conn.now)) }
+    ensures failure { IfErr result IsFailure }
     ensures same { HasCleanDisk (state S.Store tx.new.conn.now) → IsOffice (state S.Store tx.old.conn.now).now → OnOk result ((state S.Store tx.new.conn.now).now ≡ (state S.Store tx.old.conn.now).now) }
     ensures found { HasCleanDisk (state S.Store tx.new.conn.now) → IsOffice (state S.Store tx.old.conn.now).now → IfOk result (λ found.
         option_map string_bytes found ≡ option_map (λ c. c.role) (caller_named name.now (tables_of (state S.Store tx.old.conn.now).now).callers)) }
@@ -115,6 +119,7 @@ fn rows_of_rules<S: Alter>(tx: &mut Transaction<'_, S>) -> Result<Vec<Row>, Tabl
     ensures same_reference { tx.new.conn.ghost_name ≡ tx.old.conn.ghost_name }
     ensures stays { Stays (state S.Store tx.old.conn.now) (state S.Store tx.new.conn.now) }
     ensures goes_on { HasCleanDisk (state S.Store tx.new.conn.now) → OnOk result (GoesOn (state S.Store tx.old.conn.now) (state S.Store tx.new.conn.now)) }
+    ensures failure { IfErr result IsFailure }
     ensures found { HasCleanDisk (state S.Store tx.new.conn.now) → IsOffice (state S.Store tx.old.conn.now).now → IfOk result (λ rows.
         ((state S.Store tx.new.conn.now).now ≡ (state S.Store tx.old.conn.now).now)
         × ((tables_of (state S.Store tx.old.conn.now).now).rules ≡ map shown_rule rows.items)) }
@@ -128,7 +133,8 @@ fn rows_of_rules<S: Alter>(tx: &mut Transaction<'_, S>) -> Result<Vec<Row>, Tabl
 
 /// The rule in a row that a query shows.
 fn rule_in(row: &Row) -> Result<RuleRow, TableFault>
-    ensures { IfOk result (λ rule. rule ≡ shown_rule row.now) }
+    ensures shown { IfOk result (λ rule. rule ≡ shown_rule row.now) }
+    ensures failure { IfErr result IsFailure }
 {
     Ok(RuleRow {
         place: row.get(0)?,
@@ -142,7 +148,8 @@ fn rule_in(row: &Row) -> Result<RuleRow, TableFault>
 
 /// The rules in the rows that a query shows.
 fn rules_in(alloc: Global, rows: &[Row]) -> Result<Vec<RuleRow>, TableFault>
-    ensures { IfOk result (λ rules. rules.items ≡ map shown_rule rows.now) }
+    ensures shown { IfOk result (λ rules. rules.items ≡ map shown_rule rows.now) }
+    ensures failure { IfErr result IsFailure }
 {
     let mut rules = Vec::new(alloc);
     for row in rows {
@@ -161,6 +168,7 @@ pub fn rules<S: Alter>(
     ensures same_reference { tx.new.conn.ghost_name ≡ tx.old.conn.ghost_name }
     ensures stays { Stays (state S.Store tx.old.conn.now) (state S.Store tx.new.conn.now) }
     ensures goes_on { HasCleanDisk (state S.Store tx.new.conn.now) → OnOk result (GoesOn (state S.Store tx.old.conn.now) (state S.Store tx.new.conn.now)) }
+    ensures failure { IfErr result IsFailure }
     ensures same { HasCleanDisk (state S.Store tx.new.conn.now) → IsOffice (state S.Store tx.old.conn.now).now → OnOk result ((state S.Store tx.new.conn.now).now ≡ (state S.Store tx.old.conn.now).now) }
     ensures found { HasCleanDisk (state S.Store tx.new.conn.now) → IsOffice (state S.Store tx.old.conn.now).now → IfOk result (λ rules.
         rules.items ≡ (tables_of (state S.Store tx.old.conn.now).now).rules) }
@@ -174,6 +182,7 @@ fn drop_callers<S: Alter>(tx: &mut Transaction<'_, S>) -> Result<usize, TableFau
     ensures same_reference { tx.new.conn.ghost_name ≡ tx.old.conn.ghost_name }
     ensures stays { Stays (state S.Store tx.old.conn.now) (state S.Store tx.new.conn.now) }
     ensures goes_on { HasCleanDisk (state S.Store tx.new.conn.now) → OnOk result (GoesOn (state S.Store tx.old.conn.now) (state S.Store tx.new.conn.now)) }
+    ensures failure { IfErr result IsFailure }
     ensures becomes { HasCleanDisk (state S.Store tx.new.conn.now) → IsOffice (state S.Store tx.old.conn.now).now → OnOk result (
         Becomes (state S.Store tx.new.conn.now).now (without_callers (tables_of (state S.Store tx.old.conn.now).now))) }
 {
@@ -185,6 +194,7 @@ fn drop_rules<S: Alter>(tx: &mut Transaction<'_, S>) -> Result<usize, TableFault
     ensures same_reference { tx.new.conn.ghost_name ≡ tx.old.conn.ghost_name }
     ensures stays { Stays (state S.Store tx.old.conn.now) (state S.Store tx.new.conn.now) }
     ensures goes_on { HasCleanDisk (state S.Store tx.new.conn.now) → OnOk result (GoesOn (state S.Store tx.old.conn.now) (state S.Store tx.new.conn.now)) }
+    ensures failure { IfErr result IsFailure }
     ensures becomes { HasCleanDisk (state S.Store tx.new.conn.now) → IsOffice (state S.Store tx.old.conn.now).now → OnOk result (
         Becomes (state S.Store tx.new.conn.now).now (without_rules (tables_of (state S.Store tx.old.conn.now).now))) }
 {
@@ -200,6 +210,7 @@ fn add_caller<S: Alter>(
     ensures same_reference { tx.new.conn.ghost_name ≡ tx.old.conn.ghost_name }
     ensures stays { Stays (state S.Store tx.old.conn.now) (state S.Store tx.new.conn.now) }
     ensures goes_on { HasCleanDisk (state S.Store tx.new.conn.now) → OnOk result (GoesOn (state S.Store tx.old.conn.now) (state S.Store tx.new.conn.now)) }
+    ensures failure { IfErr result IsFailure }
     ensures becomes { HasCleanDisk (state S.Store tx.new.conn.now) → IsOffice (state S.Store tx.old.conn.now).now → OnOk result (
         Becomes (state S.Store tx.new.conn.now).now (with_caller (record { name = name.now; role = role.now }) (tables_of (state S.Store tx.old.conn.now).now))) }
 {
@@ -223,6 +234,7 @@ fn add_rule<S: Alter>(
     ensures same_reference { tx.new.conn.ghost_name ≡ tx.old.conn.ghost_name }
     ensures stays { Stays (state S.Store tx.old.conn.now) (state S.Store tx.new.conn.now) }
     ensures goes_on { HasCleanDisk (state S.Store tx.new.conn.now) → OnOk result (GoesOn (state S.Store tx.old.conn.now) (state S.Store tx.new.conn.now)) }
+    ensures failure { IfErr result IsFailure }
     ensures becomes { HasCleanDisk (state S.Store tx.new.conn.now) → IsOffice (state S.Store tx.old.conn.now).now → RulesBelow place (tables_of (state S.Store tx.old.conn.now).now).rules → OnOk result (
         Becomes (state S.Store tx.new.conn.now).now (with_rule (record { place = place; effect = effect; role = role.now; action = action.now; collection = collection.now; class = class.now }) (tables_of (state S.Store tx.old.conn.now).now))) }
 {
@@ -241,6 +253,7 @@ fn add_callers<S: Alter>(
     ensures same_reference { tx.new.conn.ghost_name ≡ tx.old.conn.ghost_name }
     ensures stays { Stays (state S.Store tx.old.conn.now) (state S.Store tx.new.conn.now) }
     ensures goes_on { HasCleanDisk (state S.Store tx.new.conn.now) → OnOk result (Stands (state S.Store tx.old.conn.now) (state S.Store tx.new.conn.now)) }
+    ensures failure { IfErr result IsFailure }
     ensures becomes { HasCleanDisk (state S.Store tx.new.conn.now) → IsOffice (state S.Store tx.old.conn.now).now → OnOk result (
         Becomes (state S.Store tx.new.conn.now).now (with_callers callers.now (tables_of (state S.Store tx.old.conn.now).now))) }
 {
@@ -255,6 +268,7 @@ fn add_rules<S: Alter>(tx: &mut Transaction<'_, S>, rules: &[RuleRow]) -> Result
     ensures same_reference { tx.new.conn.ghost_name ≡ tx.old.conn.ghost_name }
     ensures stays { Stays (state S.Store tx.old.conn.now) (state S.Store tx.new.conn.now) }
     ensures goes_on { HasCleanDisk (state S.Store tx.new.conn.now) → OnOk result (Stands (state S.Store tx.old.conn.now) (state S.Store tx.new.conn.now)) }
+    ensures failure { IfErr result IsFailure }
     ensures becomes { HasCleanDisk (state S.Store tx.new.conn.now) → IsOffice (state S.Store tx.old.conn.now).now → RulesFollow rules.now (tables_of (state S.Store tx.old.conn.now).now) → OnOk result (
         Becomes (state S.Store tx.new.conn.now).now (with_rules rules.now (tables_of (state S.Store tx.old.conn.now).now))) }
 {
@@ -283,6 +297,7 @@ pub fn put_policy<S: Alter>(
     ensures same_reference { tx.new.conn.ghost_name ≡ tx.old.conn.ghost_name }
     ensures stays { Stays (state S.Store tx.old.conn.now) (state S.Store tx.new.conn.now) }
     ensures goes_on { HasCleanDisk (state S.Store tx.new.conn.now) → OnOk result (GoesOn (state S.Store tx.old.conn.now) (state S.Store tx.new.conn.now)) }
+    ensures failure { IfErr result IsFailure }
     ensures becomes { HasCleanDisk (state S.Store tx.new.conn.now) → IsOffice (state S.Store tx.old.conn.now).now → PlacesRise rules.now → OnOk result (
         Becomes (state S.Store tx.new.conn.now).now (with_policy callers.now rules.now (tables_of (state S.Store tx.old.conn.now).now))) }
 {

@@ -1,11 +1,12 @@
 //! One statement inside a transaction. The calls of the office's tables are made of these two.
 
-ghost use Rattle.std.specs.Prelude.{◌≡◌, Ok, IfOk, OnOk};
+ghost use Rattle.std.specs.Prelude.{◌≡◌, Ok, IfOk, IfErr, OnOk};
 ghost use Rattle.sqlite.specs.State.{HasCleanDisk, Executes, Shown};
 ghost use Rattle.sqlite.specs.Values.{bound};
 ghost use Rattle.sqlite.specs.Held.{state};
 ghost use Rattle.sql_meaning.specs.Columns.{int_at};
 ghost use Rattle.sql_meaning.specs.Inside.{Stays, GoesOn};
+ghost use Rattle.office_tables.specs.Faults.{IsFailure};
 
 use crate::fault::TableFault;
 use sqlite::types::ValueRef;
@@ -20,6 +21,7 @@ pub(crate) fn change<S: Alter>(
     ensures same_reference { tx.new.conn.ghost_name ≡ tx.old.conn.ghost_name }
     ensures stays { Stays (state S.Store tx.old.conn.now) (state S.Store tx.new.conn.now) }
     ensures goes_on { HasCleanDisk (state S.Store tx.new.conn.now) → OnOk result (GoesOn (state S.Store tx.old.conn.now) (state S.Store tx.new.conn.now)) }
+    ensures failure { IfErr result IsFailure }
     ensures ran { HasCleanDisk (state S.Store tx.new.conn.now) → IfOk result (λ count. Executes sql.now (bound values.now) (state S.Store tx.old.conn.now) (state S.Store tx.new.conn.now) (Ok count)) }
 {
     match tx.execute(sql, values) {
@@ -37,6 +39,7 @@ pub(crate) fn ask<S: Alter>(
     ensures same_reference { tx.new.conn.ghost_name ≡ tx.old.conn.ghost_name }
     ensures stays { Stays (state S.Store tx.old.conn.now) (state S.Store tx.new.conn.now) }
     ensures goes_on { HasCleanDisk (state S.Store tx.new.conn.now) → OnOk result (GoesOn (state S.Store tx.old.conn.now) (state S.Store tx.new.conn.now)) }
+    ensures failure { IfErr result IsFailure }
     ensures shown { HasCleanDisk (state S.Store tx.new.conn.now) → IfOk result (λ rows. Shown sql.now (bound values.now) (state S.Store tx.old.conn.now) (state S.Store tx.new.conn.now) rows.items) }
 {
     match tx.query_all(sql, values) {
@@ -47,7 +50,8 @@ pub(crate) fn ask<S: Alter>(
 
 /// The whole number in that column of a row.
 pub(crate) fn number_in(row: &Row, at: usize) -> Result<i64, TableFault>
-    ensures { IfOk result (λ number. number ≡ int_at row.now at) }
+    ensures shown { IfOk result (λ number. number ≡ int_at row.now at) }
+    ensures failure { IfErr result IsFailure }
 {
     Ok(row.get(at)?)
 }

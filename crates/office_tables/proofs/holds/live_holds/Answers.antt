@@ -14,4 +14,4 @@ returns-clause-found g c clean office =
     let second = c.in_ok-on_collection.ensures.found clean (subst IsOffice (sym first.0) office) in
     gathers_live old.now mid.now office first.0 (pos c.args.deposit) c.args.collection.now c.in_ok-on_deposit.on_deposit.items c.in_ok-on_collection.on_collection.items
     c.new-numbers.result.items c.add_numbers.new.numbers.items c.add_numbers-2.new.numbers.items c.sort_unstable.new.self.items first.1 second.1 c.new-numbers.ensures.items
-    (rw c.deref.ensures.value at c.in_ok-add_numbers.ensures) (rw c.deref-2.ensures.value at c.in_ok-add_numbers-2.ensures) c.sort_unstable.ensures.permutation c.sort_unstable.ensures.sorted
+    (rw c.deref.ensures.value at c.in_ok-add_numbers.ensures.added) (rw c.deref-2.ensures.value at c.in_ok-add_numbers-2.ensures.added) c.sort_unstable.ensures.permutation c.sort_unstable.ensures.sorted
