@@ -1,5 +1,8 @@
 -- Which of its faults a call may answer.
-use Rattle.std.specs.Prelude.{⊤}
+use Rattle.std.specs.Prelude.{⊤, ◌≡◌, ◌↔◌}
+use Rattle.sqlite.specs.declared.error.Error.{Error}
+use Rattle.sqlite.specs.declared.error.Error.TheVariants.{SqliteFailure}
+use Rattle.sqlite.specs.declared.error.ErrorCode.TheVariants.{OutOfMemory}
 use Rattle.office_tables.specs.declared.fault.TableFault.{TableFault}
 use Rattle.office_tables.specs.declared.fault.TableFault.TheVariants.{NotAnOffice, OtherVersion, Memory, Store}
 
@@ -9,3 +12,8 @@ IsFailure NotAnOffice = ⊥
 IsFailure OtherVersion = ⊥
 IsFailure Memory = ⊤
 IsFailure Store = ⊤
+
+-- an error of the store is want of memory exactly where the store says so, and else a failure of the store
+pub record Tells (error : Error) (fault : TableFault) : Type 0 where
+  pub failure : IsFailure fault
+  pub memory : (fault ≡ Memory) ↔ (error ≡ SqliteFailure OutOfMemory)

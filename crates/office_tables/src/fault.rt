@@ -1,6 +1,8 @@
 //! Why a call on the tables fails.
 
-ghost use Rattle.office_tables.specs.Faults.{IsFailure};
+ghost use Rattle.std.specs.Prelude.{◌≡◌};
+ghost use Rattle.office_tables.specs.declared.fault.TableFault.TheVariants.{Memory};
+ghost use Rattle.office_tables.specs.Faults.{Tells};
 
 use sqlite::{Error, ErrorCode};
 use std::alloc::{AllocError, AllocFailed};
@@ -23,7 +25,7 @@ pub enum TableFault {
 }
 
 impl From<Error> for TableFault {
-    ghost from_gives = { λ _ fault. IsFailure fault };
+    ghost from_gives = { Tells };
 
     fn from(error: Error) -> TableFault {
         match error {
@@ -34,7 +36,7 @@ impl From<Error> for TableFault {
 }
 
 impl From<AllocError> for TableFault {
-    ghost from_gives = { λ _ fault. IsFailure fault };
+    ghost from_gives = { λ _ fault. fault ≡ Memory };
 
     fn from(_: AllocError) -> TableFault {
         TableFault::Memory
@@ -42,7 +44,7 @@ impl From<AllocError> for TableFault {
 }
 
 impl<T: Drop> From<AllocFailed<T>> for TableFault {
-    ghost from_gives = { λ _ fault. IsFailure fault };
+    ghost from_gives = { λ _ fault. fault ≡ Memory };
 
     fn from(_: AllocFailed<T>) -> TableFault {
         TableFault::Memory

@@ -106,8 +106,7 @@ pub fn open_tables<S: Alter>(conn: &mut Connection<S>) -> Result<(), TableFault>
         Ok(Some(1)) => Ok(()),
         Ok(Some(_)) => Err(TableFault::OtherVersion),
         Ok(None) => Err(TableFault::NotAnOffice),
-        Err(TableFault::Memory) => Err(TableFault::Memory),
-        Err(_) => Err(TableFault::Store),
+        Err(failure) => Err(failure),
     }
 }
 
