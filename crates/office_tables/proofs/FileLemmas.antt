@@ -100,6 +100,7 @@ module _ (db : Database) (office : IsOffice db) (n : ℤ) where
       let rows = file_rows db.trees office.fits in
       let tx = all_has IsFileRow (db.trees 10) x rows hx in
       let ty = all_has IsFileRow (db.trees 10) y rows hy in
+      let apart = all_has _ (db.trees 10) y (office.fits.rules Unique (λ e. cc)).1.1.1.1.1.1.0 hy in
       let key : Row = Int n ∷ Text path ∷ [] in
       let eqx : equal Binary (column x 1) (Int n) ≡ true = ap (λ v. equal Binary v (Int n)) tx.0 ∙ same_int (int_at x 1) n ∙ first_of _ _ px in
       let eqy : equal Binary (column y 1) (Int n) ≡ true = ap (λ v. equal Binary v (Int n)) ty.0 ∙ same_int (int_at y 1) n ∙ first_of _ _ py in
@@ -108,7 +109,6 @@ module _ (db : Database) (office : IsOffice db) (n : ℤ) where
       let kx : agree plain (1 ∷ 2 ∷ []) x (0 ∷ 1 ∷ []) key ≡ true = rw (eqx, pathx) refl in
       let ky : agree plain (1 ∷ 2 ∷ []) y (0 ∷ 1 ∷ []) key ≡ true = rw (eqy, pathy) refl in
       let agrees = agree_chain plain (1 ∷ 2 ∷ []) (0 ∷ 1 ∷ []) (1 ∷ 2 ∷ []) x key y kx (agree_back plain (1 ∷ 2 ∷ []) (0 ∷ 1 ∷ []) y key ky) in
-      let apart = all_has _ (db.trees 10) y (office.fits.rules Unique (λ e. cc)).1.1.1.1.1.1.0 hy in
       same_key plain (1 ∷ 2 ∷ []) (db.trees 10) office.shaped.1.1.1.1.1.1.0 x y hx hy (unclashed _ apart) agrees
     where
       unclashed : (b : Bool) → (not b && true) ≡ true → b ≡ false
