@@ -14,6 +14,6 @@ IsFailure Memory = ⊤
 IsFailure Store = ⊤
 
 -- an error of the store is want of memory exactly where the store says so, and else a failure of the store
-pub record Tells (error : Error) (fault : TableFault) : Type 0 where
+pub record IsToldAs (error : Error) (fault : TableFault) : Type 0 where
   pub failure : IsFailure fault
   pub memory : (fault ≡ Memory) ↔ (error ≡ SqliteFailure OutOfMemory)

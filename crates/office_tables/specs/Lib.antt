@@ -2,6 +2,7 @@ pub mod Faults
 pub mod Rows
 pub mod Schema
 pub mod Tables
+pub mod Calls
 pub mod Opening
 pub mod ShownHolds
 pub mod ShownPolicy

@@ -1,5 +1,5 @@
 -- When a database is an office, and what making and opening one leaves.
-use Rattle.std.specs.Prelude.{◌⊎◌, ◌&&◌, ◌==◌, nat_le, IsTrue, is_some, slice_get, option_and_then, All, Contains, ◌≡◌, ℕ, ℤ, Bool, true, false, List, [], codes, Option, Some, None, Ok, pos}
+use Rattle.std.specs.Prelude.{◌⊎◌, ◌&&◌, ◌==◌, nat_le, IsTrue, is_some, slice_get, option_and_then, All, Contains, ◌≡◌, ◌≢◌, ℕ, ℤ, Bool, true, false, List, [], codes, Option, Some, None, Ok, pos}
 use Rattle.sqlite.specs.declared.types.Value.{Value}
 use Rattle.sqlite.specs.declared.types.Value.TheVariants.{Int}
 use Rattle.sqlite.specs.Order.{Row, column}
@@ -10,7 +10,7 @@ use Rattle.sqlite.specs.Effect.{Database, Reads}
 use Rattle.sqlite.specs.State.{State}
 use Rattle.sqlite_schema.specs.Names.{table_named, column_named}
 use Rattle.sqlite_resolve.specs.declared.compiled.Compiled.{Compiled}
-use Rattle.office_tables.specs.Rows.{Tables}
+use Rattle.office_tables.specs.Rows.{Tables, version_of}
 use Rattle.office_tables.specs.Tables.{Becomes}
 
 -- ---- what is left
@@ -64,6 +64,14 @@ NotAnOffice db = (has_office db.schema ≡ false) ⊎ ((rows : List Row) × Look
 -- row 1 is there, with this version
 abbrev pub HasVersion : Database → ℤ → Type 0
 HasVersion db version = (rows : List Row) × (row : Row) × Looks db rows × Contains rows row × (shows_office row ≡ true) × (column row 1 ≡ Int version)
+
+-- row 1 is there, with another version than this
+abbrev pub HasOtherVersion : Database → ℤ → Type 0
+HasOtherVersion db version = (other : ℤ) × (other ≢ version) × HasVersion db other
+
+-- the same of the rows of an office
+abbrev pub IsKnownAsOther : Tables → ℤ → Type 0
+IsKnownAsOther tables version = (other : ℤ) × (other ≢ version) × (version_of tables ≡ Some other)
 
 abbrev pub ShowsVersion : Database → Option ℤ → Type 0
 ShowsVersion db None = (rows : List Row) × Looks db rows × All (λ row. shows_office row ≡ false) rows

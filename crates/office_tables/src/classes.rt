@@ -1,14 +1,13 @@
 //! Classes and collections.
 
-ghost use Rattle.std.specs.Prelude.{◌≡◌, IfOk, IfErr, OnOk, option_map, slice_get, if◌then◌else◌};
-ghost use Rattle.std.specs.List.{list_any};
+ghost use Rattle.std.specs.Prelude.{◌≡◌, IfErr, OnOk, option_map, slice_get, if◌then◌else◌};
 ghost use Rattle.sqlite.specs.State.{HasCleanDisk};
 ghost use Rattle.sqlite.specs.Held.{state};
 ghost use Rattle.sql_meaning.specs.Inside.{Stays, GoesOn};
 ghost use Rattle.sql_meaning.specs.Columns.{int_at};
 ghost use Rattle.office_tables.specs.Faults.{IsFailure};
-ghost use Rattle.office_tables.specs.Rows.{class_named, is_class, with_class, with_new_class, with_years, has_collection, with_collection, with_new_collection};
-ghost use Rattle.office_tables.specs.Tables.{IsOffice, Becomes, tables_of};
+ghost use Rattle.office_tables.specs.Rows.{class_named, has_class, with_class, with_new_class, with_years, has_collection, with_collection, with_new_collection};
+ghost use Rattle.office_tables.specs.Calls.{Keeps, Tells, Shows, Leaves};
 
 use crate::fault::TableFault;
 use crate::run::{ask, change, number_in};
@@ -20,9 +19,8 @@ fn rows_of_class<S: Alter>(tx: &mut Transaction<'_, S>, name: &str) -> Result<Ve
     ensures stays { Stays (state S.Store tx.old.conn.now) (state S.Store tx.new.conn.now) }
     ensures goes_on { HasCleanDisk (state S.Store tx.new.conn.now) → OnOk result (GoesOn (state S.Store tx.old.conn.now) (state S.Store tx.new.conn.now)) }
     ensures failure { IfErr result IsFailure }
-    ensures found { HasCleanDisk (state S.Store tx.new.conn.now) → IsOffice (state S.Store tx.old.conn.now).now → IfOk result (λ rows.
-        ((state S.Store tx.new.conn.now).now ≡ (state S.Store tx.old.conn.now).now)
-        × (option_map (λ c. c.years) (class_named name.now (tables_of (state S.Store tx.old.conn.now).now).classes) ≡ option_map (λ row. int_at row 0) (slice_get rows.items 0))) }
+    ensures found { Shows (state S.Store tx.old.conn.now) (state S.Store tx.new.conn.now) result (λ tables rows.
+        option_map (λ c. c.years) (class_named name.now tables.classes) ≡ option_map (λ row. int_at row 0) (slice_get rows.items 0)) }
 {
     ask(tx, "SELECT years FROM class WHERE name = ?1", params![name])
 }
@@ -38,9 +36,9 @@ pub fn class_of<S: Alter>(
     ensures stays { Stays (state S.Store tx.old.conn.now) (state S.Store tx.new.conn.now) }
     ensures goes_on { HasCleanDisk (state S.Store tx.new.conn.now) → OnOk result (GoesOn (state S.Store tx.old.conn.now) (state S.Store tx.new.conn.now)) }
     ensures failure { IfErr result IsFailure }
-    ensures same { HasCleanDisk (state S.Store tx.new.conn.now) → IsOffice (state S.Store tx.old.conn.now).now → OnOk result ((state S.Store tx.new.conn.now).now ≡ (state S.Store tx.old.conn.now).now) }
-    ensures found { HasCleanDisk (state S.Store tx.new.conn.now) → IsOffice (state S.Store tx.old.conn.now).now → IfOk result (λ found.
-        found ≡ option_map (λ c. c.years) (class_named name.now (tables_of (state S.Store tx.old.conn.now).now).classes)) }
+    ensures same { Keeps (state S.Store tx.old.conn.now) (state S.Store tx.new.conn.now) result }
+    ensures found { Tells (state S.Store tx.old.conn.now) (state S.Store tx.new.conn.now) result (λ tables found.
+        found ≡ option_map (λ c. c.years) (class_named name.now tables.classes)) }
 {
     let rows = rows_of_class(tx, name)?;
     match rows.first() {
@@ -59,9 +57,8 @@ fn revise_class<S: Alter>(
     ensures stays { Stays (state S.Store tx.old.conn.now) (state S.Store tx.new.conn.now) }
     ensures goes_on { HasCleanDisk (state S.Store tx.new.conn.now) → OnOk result (GoesOn (state S.Store tx.old.conn.now) (state S.Store tx.new.conn.now)) }
     ensures failure { IfErr result IsFailure }
-    ensures becomes { HasCleanDisk (state S.Store tx.new.conn.now) → IsOffice (state S.Store tx.old.conn.now).now → IfOk result (λ count.
-        Becomes (state S.Store tx.new.conn.now).now (with_years name.now years (tables_of (state S.Store tx.old.conn.now).now))
-        × (count ≡ (if list_any (is_class name.now) (tables_of (state S.Store tx.old.conn.now).now).classes then 1 else 0))) }
+    ensures becomes { Leaves (state S.Store tx.old.conn.now) (state S.Store tx.new.conn.now) result (with_years name.now years) }
+    ensures counted { Tells (state S.Store tx.old.conn.now) (state S.Store tx.new.conn.now) result (λ tables count. count ≡ (if has_class name.now tables then 1 else 0)) }
 {
     change(
         tx,
@@ -80,8 +77,7 @@ fn add_class<S: Alter>(
     ensures stays { Stays (state S.Store tx.old.conn.now) (state S.Store tx.new.conn.now) }
     ensures goes_on { HasCleanDisk (state S.Store tx.new.conn.now) → OnOk result (GoesOn (state S.Store tx.old.conn.now) (state S.Store tx.new.conn.now)) }
     ensures failure { IfErr result IsFailure }
-    ensures becomes { HasCleanDisk (state S.Store tx.new.conn.now) → IsOffice (state S.Store tx.old.conn.now).now → OnOk result (
-        Becomes (state S.Store tx.new.conn.now).now (with_new_class name.now years (tables_of (state S.Store tx.old.conn.now).now))) }
+    ensures becomes { Leaves (state S.Store tx.old.conn.now) (state S.Store tx.new.conn.now) result (with_new_class name.now years) }
 {
     change(
         tx,
@@ -102,8 +98,7 @@ pub fn put_class<S: Alter>(
     ensures stays { Stays (state S.Store tx.old.conn.now) (state S.Store tx.new.conn.now) }
     ensures goes_on { HasCleanDisk (state S.Store tx.new.conn.now) → OnOk result (GoesOn (state S.Store tx.old.conn.now) (state S.Store tx.new.conn.now)) }
     ensures failure { IfErr result IsFailure }
-    ensures becomes { HasCleanDisk (state S.Store tx.new.conn.now) → IsOffice (state S.Store tx.old.conn.now).now → OnOk result (
-        Becomes (state S.Store tx.new.conn.now).now (with_class name.now years (tables_of (state S.Store tx.old.conn.now).now))) }
+    ensures becomes { Leaves (state S.Store tx.old.conn.now) (state S.Store tx.new.conn.now) result (with_class name.now years) }
 {
     if revise_class(tx, name, years)? == 0 {
         add_class(tx, name, years)?;
@@ -119,9 +114,9 @@ pub fn has_collection<S: Alter>(tx: &mut Transaction<'_, S>, name: &str) -> Resu
     ensures stays { Stays (state S.Store tx.old.conn.now) (state S.Store tx.new.conn.now) }
     ensures goes_on { HasCleanDisk (state S.Store tx.new.conn.now) → OnOk result (GoesOn (state S.Store tx.old.conn.now) (state S.Store tx.new.conn.now)) }
     ensures failure { IfErr result IsFailure }
-    ensures same { HasCleanDisk (state S.Store tx.new.conn.now) → IsOffice (state S.Store tx.old.conn.now).now → OnOk result ((state S.Store tx.new.conn.now).now ≡ (state S.Store tx.old.conn.now).now) }
-    ensures found { HasCleanDisk (state S.Store tx.new.conn.now) → IsOffice (state S.Store tx.old.conn.now).now → IfOk result (λ found.
-        found ≡ has_collection name.now (tables_of (state S.Store tx.old.conn.now).now)) }
+    ensures same { Keeps (state S.Store tx.old.conn.now) (state S.Store tx.new.conn.now) result }
+    ensures found { Tells (state S.Store tx.old.conn.now) (state S.Store tx.new.conn.now) result (λ tables found.
+        found ≡ has_collection name.now tables) }
 {
     let rows = ask(
         tx,
@@ -137,8 +132,7 @@ fn add_collection<S: Alter>(tx: &mut Transaction<'_, S>, name: &str) -> Result<u
     ensures stays { Stays (state S.Store tx.old.conn.now) (state S.Store tx.new.conn.now) }
     ensures goes_on { HasCleanDisk (state S.Store tx.new.conn.now) → OnOk result (GoesOn (state S.Store tx.old.conn.now) (state S.Store tx.new.conn.now)) }
     ensures failure { IfErr result IsFailure }
-    ensures becomes { HasCleanDisk (state S.Store tx.new.conn.now) → IsOffice (state S.Store tx.old.conn.now).now → OnOk result (
-        Becomes (state S.Store tx.new.conn.now).now (with_new_collection name.now (tables_of (state S.Store tx.old.conn.now).now))) }
+    ensures becomes { Leaves (state S.Store tx.old.conn.now) (state S.Store tx.new.conn.now) result (with_new_collection name.now) }
 {
     change(
         tx,
@@ -155,8 +149,7 @@ pub fn put_collection<S: Alter>(tx: &mut Transaction<'_, S>, name: &str) -> Resu
     ensures stays { Stays (state S.Store tx.old.conn.now) (state S.Store tx.new.conn.now) }
     ensures goes_on { HasCleanDisk (state S.Store tx.new.conn.now) → OnOk result (GoesOn (state S.Store tx.old.conn.now) (state S.Store tx.new.conn.now)) }
     ensures failure { IfErr result IsFailure }
-    ensures becomes { HasCleanDisk (state S.Store tx.new.conn.now) → IsOffice (state S.Store tx.old.conn.now).now → OnOk result (
-        Becomes (state S.Store tx.new.conn.now).now (with_collection name.now (tables_of (state S.Store tx.old.conn.now).now))) }
+    ensures becomes { Leaves (state S.Store tx.old.conn.now) (state S.Store tx.new.conn.now) result (with_collection name.now) }
 {
     if !has_collection(tx, name)? {
         add_collection(tx, name)?;

@@ -41,7 +41,8 @@ fn define_tables<S: Alter>(tx: &mut Transaction<'_, S>) -> Result<(), TableFault
     ensures stays { Stays (state S.Store tx.old.conn.now) (state S.Store tx.new.conn.now) }
     ensures goes_on { HasCleanDisk (state S.Store tx.new.conn.now) → OnOk result (Stands (state S.Store tx.old.conn.now) (state S.Store tx.new.conn.now)) }
     ensures failure { IfErr result IsFailure }
-    ensures made { HasCleanDisk (state S.Store tx.new.conn.now) → (state S.Store tx.old.conn.now).now.schema ≡ no_schema → OnOk result (IsBlank office_schema (state S.Store tx.new.conn.now).now) }
+    ensures made { HasCleanDisk (state S.Store tx.new.conn.now) → (state S.Store tx.old.conn.now).now.schema ≡ no_schema → OnOk result (
+        IsBlank office_schema (state S.Store tx.new.conn.now).now) }
 {
     define(
         tx,
@@ -109,7 +110,7 @@ fn is_empty(schema: &Schema) -> bool
 }
 
 /// Makes the office in an empty database: its tables and its row, in one transaction with one commit.
-/// `max_deposits` and `max_holds` are how many deposits and holds it may have.
+/// `max_deposits` and `max_holds` are how many deposits and holds it may have, each from 1 to 1,000,000.
 ///
 /// Fails with `Store` where the database isn't empty, and with `Memory` or `Store`; then nothing has changed.
 pub fn create<S: Alter>(

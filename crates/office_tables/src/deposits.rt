@@ -7,7 +7,7 @@ ghost use Rattle.sql_meaning.specs.Inside.{Stays, GoesOn};
 ghost use Rattle.sql_meaning.specs.Columns.{int_at};
 ghost use Rattle.office_tables.specs.Faults.{IsFailure};
 ghost use Rattle.office_tables.specs.Rows.{deposit_numbered, deposit_by, has_class, has_collection, last_number, DepositsBelow, with_deposit, with_gone};
-ghost use Rattle.office_tables.specs.Tables.{IsOffice, Becomes, tables_of};
+ghost use Rattle.office_tables.specs.Calls.{Keeps, Tells, Shows, Leaves, LeavesWhere};
 ghost use Rattle.office_tables.specs.Deposits.{shown_deposit};
 
 use crate::fault::TableFault;
@@ -43,9 +43,20 @@ impl Model for DepositRow {
     ghost Value = { Deposit };
 
     ghost coded = { code_by (ℤ × (List ℕ × (List ℕ × (List ℕ × (ℤ × (ℤ × (ℤ × (ℤ × Option ℤ))))))))
-        (coded× coded_ℤ (coded× (coded_list coded_ℕ) (coded× (coded_list coded_ℕ) (coded× (coded_list coded_ℕ) (coded× coded_ℤ (coded× coded_ℤ (coded× coded_ℤ (coded× coded_ℤ (coded_option coded_ℤ)))))))))
+        (coded× coded_ℤ (coded× (coded_list coded_ℕ) (coded× (coded_list coded_ℕ) (coded× (coded_list coded_ℕ)
+        (coded× coded_ℤ (coded× coded_ℤ (coded× coded_ℤ (coded× coded_ℤ (coded_option coded_ℤ)))))))))
         (λ (d : Deposit). (d.number, (d.accession, (d.collection, (d.class, (d.closed, (d.deposited, (d.files, (d.bytes, d.gone)))))))))
-        (λ p. record { number = p.0; accession = p.1.0; collection = p.1.1.0; class = p.1.1.1.0; closed = p.1.1.1.1.0; deposited = p.1.1.1.1.1.0; files = p.1.1.1.1.1.1.0; bytes = p.1.1.1.1.1.1.1.0; gone = p.1.1.1.1.1.1.1.1 })
+        (λ p. record {
+          number = p.0;
+          accession = p.1.0;
+          collection = p.1.1.0;
+          class = p.1.1.1.0;
+          closed = p.1.1.1.1.0;
+          deposited = p.1.1.1.1.1.0;
+          files = p.1.1.1.1.1.1.0;
+          bytes = p.1.1.1.1.1.1.1.0;
+          gone = p.1.1.1.1.1.1.1.1;
+        })
         (λ _. refl) };
 
     ghost view = { λ d. record {
@@ -99,9 +110,8 @@ fn rows_of_deposit<S: Alter>(
     ensures stays { Stays (state S.Store tx.old.conn.now) (state S.Store tx.new.conn.now) }
     ensures goes_on { HasCleanDisk (state S.Store tx.new.conn.now) → OnOk result (GoesOn (state S.Store tx.old.conn.now) (state S.Store tx.new.conn.now)) }
     ensures failure { IfErr result IsFailure }
-    ensures found { HasCleanDisk (state S.Store tx.new.conn.now) → IsOffice (state S.Store tx.old.conn.now).now → IfOk result (λ rows.
-        ((state S.Store tx.new.conn.now).now ≡ (state S.Store tx.old.conn.now).now)
-        × (deposit_numbered (pos number) (tables_of (state S.Store tx.old.conn.now).now).deposits ≡ option_map shown_deposit (slice_get rows.items 0))) }
+    ensures found { Shows (state S.Store tx.old.conn.now) (state S.Store tx.new.conn.now) result (λ tables rows.
+        deposit_numbered (pos number) tables.deposits ≡ option_map shown_deposit (slice_get rows.items 0)) }
 {
     ask(
         tx,
@@ -121,9 +131,9 @@ pub fn deposit_row<S: Alter>(
     ensures stays { Stays (state S.Store tx.old.conn.now) (state S.Store tx.new.conn.now) }
     ensures goes_on { HasCleanDisk (state S.Store tx.new.conn.now) → OnOk result (GoesOn (state S.Store tx.old.conn.now) (state S.Store tx.new.conn.now)) }
     ensures failure { IfErr result IsFailure }
-    ensures same { HasCleanDisk (state S.Store tx.new.conn.now) → IsOffice (state S.Store tx.old.conn.now).now → OnOk result ((state S.Store tx.new.conn.now).now ≡ (state S.Store tx.old.conn.now).now) }
-    ensures found { HasCleanDisk (state S.Store tx.new.conn.now) → IsOffice (state S.Store tx.old.conn.now).now → IfOk result (λ found.
-        found ≡ deposit_numbered (pos number) (tables_of (state S.Store tx.old.conn.now).now).deposits) }
+    ensures same { Keeps (state S.Store tx.old.conn.now) (state S.Store tx.new.conn.now) result }
+    ensures found { Tells (state S.Store tx.old.conn.now) (state S.Store tx.new.conn.now) result (λ tables found.
+        found ≡ deposit_numbered (pos number) tables.deposits) }
 {
     let rows = rows_of_deposit(tx, number)?;
     first_deposit(&rows)
@@ -138,9 +148,8 @@ fn rows_of_accession<S: Alter>(
     ensures stays { Stays (state S.Store tx.old.conn.now) (state S.Store tx.new.conn.now) }
     ensures goes_on { HasCleanDisk (state S.Store tx.new.conn.now) → OnOk result (GoesOn (state S.Store tx.old.conn.now) (state S.Store tx.new.conn.now)) }
     ensures failure { IfErr result IsFailure }
-    ensures found { HasCleanDisk (state S.Store tx.new.conn.now) → IsOffice (state S.Store tx.old.conn.now).now → IfOk result (λ rows.
-        ((state S.Store tx.new.conn.now).now ≡ (state S.Store tx.old.conn.now).now)
-        × (deposit_by accession.now (tables_of (state S.Store tx.old.conn.now).now).deposits ≡ option_map shown_deposit (slice_get rows.items 0))) }
+    ensures found { Shows (state S.Store tx.old.conn.now) (state S.Store tx.new.conn.now) result (λ tables rows.
+        deposit_by accession.now tables.deposits ≡ option_map shown_deposit (slice_get rows.items 0)) }
 {
     ask(
         tx,
@@ -160,9 +169,9 @@ pub fn by_accession<S: Alter>(
     ensures stays { Stays (state S.Store tx.old.conn.now) (state S.Store tx.new.conn.now) }
     ensures goes_on { HasCleanDisk (state S.Store tx.new.conn.now) → OnOk result (GoesOn (state S.Store tx.old.conn.now) (state S.Store tx.new.conn.now)) }
     ensures failure { IfErr result IsFailure }
-    ensures same { HasCleanDisk (state S.Store tx.new.conn.now) → IsOffice (state S.Store tx.old.conn.now).now → OnOk result ((state S.Store tx.new.conn.now).now ≡ (state S.Store tx.old.conn.now).now) }
-    ensures found { HasCleanDisk (state S.Store tx.new.conn.now) → IsOffice (state S.Store tx.old.conn.now).now → IfOk result (λ found.
-        found ≡ deposit_by accession.now (tables_of (state S.Store tx.old.conn.now).now).deposits) }
+    ensures same { Keeps (state S.Store tx.old.conn.now) (state S.Store tx.new.conn.now) result }
+    ensures found { Tells (state S.Store tx.old.conn.now) (state S.Store tx.new.conn.now) result (λ tables found.
+        found ≡ deposit_by accession.now tables.deposits) }
 {
     let rows = rows_of_accession(tx, accession)?;
     first_deposit(&rows)
@@ -174,9 +183,8 @@ fn rows_of_last<S: Alter>(tx: &mut Transaction<'_, S>) -> Result<Vec<Row>, Table
     ensures stays { Stays (state S.Store tx.old.conn.now) (state S.Store tx.new.conn.now) }
     ensures goes_on { HasCleanDisk (state S.Store tx.new.conn.now) → OnOk result (GoesOn (state S.Store tx.old.conn.now) (state S.Store tx.new.conn.now)) }
     ensures failure { IfErr result IsFailure }
-    ensures found { HasCleanDisk (state S.Store tx.new.conn.now) → IsOffice (state S.Store tx.old.conn.now).now → IfOk result (λ rows.
-        ((state S.Store tx.new.conn.now).now ≡ (state S.Store tx.old.conn.now).now)
-        × (last_number (λ d. d.number) (tables_of (state S.Store tx.old.conn.now).now).deposits ≡ option_map (λ row. int_at row 0) (slice_get rows.items 0))) }
+    ensures found { Shows (state S.Store tx.old.conn.now) (state S.Store tx.new.conn.now) result (λ tables rows.
+        last_number (λ d. d.number) tables.deposits ≡ option_map (λ row. int_at row 0) (slice_get rows.items 0)) }
 {
     ask(
         tx,
@@ -193,9 +201,9 @@ pub fn last_deposit<S: Alter>(tx: &mut Transaction<'_, S>) -> Result<Option<u32>
     ensures stays { Stays (state S.Store tx.old.conn.now) (state S.Store tx.new.conn.now) }
     ensures goes_on { HasCleanDisk (state S.Store tx.new.conn.now) → OnOk result (GoesOn (state S.Store tx.old.conn.now) (state S.Store tx.new.conn.now)) }
     ensures failure { IfErr result IsFailure }
-    ensures same { HasCleanDisk (state S.Store tx.new.conn.now) → IsOffice (state S.Store tx.old.conn.now).now → OnOk result ((state S.Store tx.new.conn.now).now ≡ (state S.Store tx.old.conn.now).now) }
-    ensures found { HasCleanDisk (state S.Store tx.new.conn.now) → IsOffice (state S.Store tx.old.conn.now).now → IfOk result (λ found.
-        option_map pos found ≡ last_number (λ d. d.number) (tables_of (state S.Store tx.old.conn.now).now).deposits) }
+    ensures same { Keeps (state S.Store tx.old.conn.now) (state S.Store tx.new.conn.now) result }
+    ensures found { Tells (state S.Store tx.old.conn.now) (state S.Store tx.new.conn.now) result (λ tables found.
+        option_map pos found ≡ last_number (λ d. d.number) tables.deposits) }
 {
     let rows = rows_of_last(tx)?;
     match rows.first() {
@@ -210,9 +218,8 @@ fn rows_of_deposits<S: Alter>(tx: &mut Transaction<'_, S>) -> Result<Vec<Row>, T
     ensures stays { Stays (state S.Store tx.old.conn.now) (state S.Store tx.new.conn.now) }
     ensures goes_on { HasCleanDisk (state S.Store tx.new.conn.now) → OnOk result (GoesOn (state S.Store tx.old.conn.now) (state S.Store tx.new.conn.now)) }
     ensures failure { IfErr result IsFailure }
-    ensures found { HasCleanDisk (state S.Store tx.new.conn.now) → IsOffice (state S.Store tx.old.conn.now).now → IfOk result (λ rows.
-        ((state S.Store tx.new.conn.now).now ≡ (state S.Store tx.old.conn.now).now)
-        × ((tables_of (state S.Store tx.old.conn.now).now).deposits ≡ map shown_deposit rows.items)) }
+    ensures found { Shows (state S.Store tx.old.conn.now) (state S.Store tx.new.conn.now) result (λ tables rows.
+        tables.deposits ≡ map shown_deposit rows.items) }
 {
     ask(
         tx,
@@ -244,9 +251,9 @@ pub fn deposit_rows<S: Alter>(
     ensures stays { Stays (state S.Store tx.old.conn.now) (state S.Store tx.new.conn.now) }
     ensures goes_on { HasCleanDisk (state S.Store tx.new.conn.now) → OnOk result (GoesOn (state S.Store tx.old.conn.now) (state S.Store tx.new.conn.now)) }
     ensures failure { IfErr result IsFailure }
-    ensures same { HasCleanDisk (state S.Store tx.new.conn.now) → IsOffice (state S.Store tx.old.conn.now).now → OnOk result ((state S.Store tx.new.conn.now).now ≡ (state S.Store tx.old.conn.now).now) }
-    ensures found { HasCleanDisk (state S.Store tx.new.conn.now) → IsOffice (state S.Store tx.old.conn.now).now → IfOk result (λ all.
-        all.items ≡ (tables_of (state S.Store tx.old.conn.now).now).deposits) }
+    ensures same { Keeps (state S.Store tx.old.conn.now) (state S.Store tx.new.conn.now) result }
+    ensures found { Tells (state S.Store tx.old.conn.now) (state S.Store tx.new.conn.now) result (λ tables all.
+        all.items ≡ tables.deposits) }
 {
     let rows = rows_of_deposits(tx)?;
     deposits_in(alloc, &rows)
@@ -271,9 +278,8 @@ pub fn put_deposit<S: Alter>(
     ensures stays { Stays (state S.Store tx.old.conn.now) (state S.Store tx.new.conn.now) }
     ensures goes_on { HasCleanDisk (state S.Store tx.new.conn.now) → OnOk result (GoesOn (state S.Store tx.old.conn.now) (state S.Store tx.new.conn.now)) }
     ensures failure { IfErr result IsFailure }
-    ensures becomes { HasCleanDisk (state S.Store tx.new.conn.now) → IsOffice (state S.Store tx.old.conn.now).now
-        → DepositsBelow (pos number) (tables_of (state S.Store tx.old.conn.now).now).deposits → OnOk result (
-        Becomes (state S.Store tx.new.conn.now).now (with_deposit (record {
+    ensures becomes { LeavesWhere (state S.Store tx.old.conn.now) (state S.Store tx.new.conn.now) result (λ tables. DepositsBelow (pos number) tables.deposits)
+        (with_deposit (record {
           number = pos number;
           accession = accession.now;
           collection = collection.now;
@@ -283,15 +289,11 @@ pub fn put_deposit<S: Alter>(
           files = files;
           bytes = bytes;
           gone = None;
-        }) (tables_of (state S.Store tx.old.conn.now).now))) }
-    ensures new_number { HasCleanDisk (state S.Store tx.new.conn.now) → IsOffice (state S.Store tx.old.conn.now).now → OnOk result (
-        deposit_numbered (pos number) (tables_of (state S.Store tx.old.conn.now).now).deposits ≡ None) }
-    ensures new_accession { HasCleanDisk (state S.Store tx.new.conn.now) → IsOffice (state S.Store tx.old.conn.now).now → OnOk result (
-        deposit_by accession.now (tables_of (state S.Store tx.old.conn.now).now).deposits ≡ None) }
-    ensures its_collection { HasCleanDisk (state S.Store tx.new.conn.now) → IsOffice (state S.Store tx.old.conn.now).now → OnOk result (
-        IsTrue (has_collection collection.now (tables_of (state S.Store tx.old.conn.now).now))) }
-    ensures its_class { HasCleanDisk (state S.Store tx.new.conn.now) → IsOffice (state S.Store tx.old.conn.now).now → OnOk result (
-        IsTrue (has_class class.now (tables_of (state S.Store tx.old.conn.now).now))) }
+        })) }
+    ensures new_number { Tells (state S.Store tx.old.conn.now) (state S.Store tx.new.conn.now) result (λ tables _. deposit_numbered (pos number) tables.deposits ≡ None) }
+    ensures new_accession { Tells (state S.Store tx.old.conn.now) (state S.Store tx.new.conn.now) result (λ tables _. deposit_by accession.now tables.deposits ≡ None) }
+    ensures its_collection { Tells (state S.Store tx.old.conn.now) (state S.Store tx.new.conn.now) result (λ tables _. IsTrue (has_collection collection.now tables)) }
+    ensures its_class { Tells (state S.Store tx.old.conn.now) (state S.Store tx.new.conn.now) result (λ tables _. IsTrue (has_class class.now tables)) }
 {
     change(
         tx,
@@ -315,8 +317,7 @@ pub fn mark_gone<S: Alter>(
     ensures stays { Stays (state S.Store tx.old.conn.now) (state S.Store tx.new.conn.now) }
     ensures goes_on { HasCleanDisk (state S.Store tx.new.conn.now) → OnOk result (GoesOn (state S.Store tx.old.conn.now) (state S.Store tx.new.conn.now)) }
     ensures failure { IfErr result IsFailure }
-    ensures becomes { HasCleanDisk (state S.Store tx.new.conn.now) → IsOffice (state S.Store tx.old.conn.now).now → OnOk result (
-        Becomes (state S.Store tx.new.conn.now).now (with_gone (pos number) day (tables_of (state S.Store tx.old.conn.now).now))) }
+    ensures becomes { Leaves (state S.Store tx.old.conn.now) (state S.Store tx.new.conn.now) result (with_gone (pos number) day) }
 {
     change(
         tx,

@@ -2,7 +2,7 @@
 
 ghost use Rattle.std.specs.Prelude.{◌≡◌};
 ghost use Rattle.office_tables.specs.declared.fault.TableFault.TheVariants.{Memory};
-ghost use Rattle.office_tables.specs.Faults.{Tells};
+ghost use Rattle.office_tables.specs.Faults.{IsToldAs};
 
 use sqlite::{Error, ErrorCode};
 use std::alloc::{AllocError, AllocFailed};
@@ -25,7 +25,7 @@ pub enum TableFault {
 }
 
 impl From<Error> for TableFault {
-    ghost from_gives = { Tells };
+    ghost from_gives = { IsToldAs };
 
     fn from(error: Error) -> TableFault {
         match error {

@@ -7,7 +7,7 @@ ghost use Rattle.sql_meaning.specs.Inside.{Stays, GoesOn};
 ghost use Rattle.sql_meaning.specs.Columns.{bytes_at};
 ghost use Rattle.office_tables.specs.Faults.{IsFailure};
 ghost use Rattle.office_tables.specs.Rows.{file_at, with_file, without_files};
-ghost use Rattle.office_tables.specs.Tables.{IsOffice, Becomes, tables_of};
+ghost use Rattle.office_tables.specs.Calls.{Keeps, Tells, Shows, Leaves};
 ghost use Rattle.office_tables.specs.Deposits.{shown_file, files_by_path};
 
 use crate::fault::TableFault;
@@ -51,10 +51,8 @@ pub fn put_file<S: Alter>(
     ensures stays { Stays (state S.Store tx.old.conn.now) (state S.Store tx.new.conn.now) }
     ensures goes_on { HasCleanDisk (state S.Store tx.new.conn.now) → OnOk result (GoesOn (state S.Store tx.old.conn.now) (state S.Store tx.new.conn.now)) }
     ensures failure { IfErr result IsFailure }
-    ensures becomes { HasCleanDisk (state S.Store tx.new.conn.now) → IsOffice (state S.Store tx.old.conn.now).now → OnOk result (
-        Becomes (state S.Store tx.new.conn.now).now (with_file (record { deposit = pos number; path = path.now; content = content.now }) (tables_of (state S.Store tx.old.conn.now).now))) }
-    ensures new_path { HasCleanDisk (state S.Store tx.new.conn.now) → IsOffice (state S.Store tx.old.conn.now).now → OnOk result (
-        file_at (pos number) path.now (tables_of (state S.Store tx.old.conn.now).now).files ≡ None) }
+    ensures becomes { Leaves (state S.Store tx.old.conn.now) (state S.Store tx.new.conn.now) result (with_file (record { deposit = pos number; path = path.now; content = content.now })) }
+    ensures new_path { Tells (state S.Store tx.old.conn.now) (state S.Store tx.new.conn.now) result (λ tables _. file_at (pos number) path.now tables.files ≡ None) }
 {
     change(
         tx,
@@ -74,9 +72,8 @@ fn rows_of_file<S: Alter>(
     ensures stays { Stays (state S.Store tx.old.conn.now) (state S.Store tx.new.conn.now) }
     ensures goes_on { HasCleanDisk (state S.Store tx.new.conn.now) → OnOk result (GoesOn (state S.Store tx.old.conn.now) (state S.Store tx.new.conn.now)) }
     ensures failure { IfErr result IsFailure }
-    ensures found { HasCleanDisk (state S.Store tx.new.conn.now) → IsOffice (state S.Store tx.old.conn.now).now → IfOk result (λ rows.
-        ((state S.Store tx.new.conn.now).now ≡ (state S.Store tx.old.conn.now).now)
-        × (option_map (λ f. f.content) (file_at (pos number) path.now (tables_of (state S.Store tx.old.conn.now).now).files) ≡ option_map (λ row. bytes_at row 0) (slice_get rows.items 0))) }
+    ensures found { Shows (state S.Store tx.old.conn.now) (state S.Store tx.new.conn.now) result (λ tables rows.
+        option_map (λ f. f.content) (file_at (pos number) path.now tables.files) ≡ option_map (λ row. bytes_at row 0) (slice_get rows.items 0)) }
 {
     ask(
         tx,
@@ -97,9 +94,9 @@ pub fn file_of<S: Alter>(
     ensures stays { Stays (state S.Store tx.old.conn.now) (state S.Store tx.new.conn.now) }
     ensures goes_on { HasCleanDisk (state S.Store tx.new.conn.now) → OnOk result (GoesOn (state S.Store tx.old.conn.now) (state S.Store tx.new.conn.now)) }
     ensures failure { IfErr result IsFailure }
-    ensures same { HasCleanDisk (state S.Store tx.new.conn.now) → IsOffice (state S.Store tx.old.conn.now).now → OnOk result ((state S.Store tx.new.conn.now).now ≡ (state S.Store tx.old.conn.now).now) }
-    ensures found { HasCleanDisk (state S.Store tx.new.conn.now) → IsOffice (state S.Store tx.old.conn.now).now → IfOk result (λ found.
-        option_map (λ content. content.items) found ≡ option_map (λ f. f.content) (file_at (pos number) path.now (tables_of (state S.Store tx.old.conn.now).now).files)) }
+    ensures same { Keeps (state S.Store tx.old.conn.now) (state S.Store tx.new.conn.now) result }
+    ensures found { Tells (state S.Store tx.old.conn.now) (state S.Store tx.new.conn.now) result (λ tables found.
+        option_map (λ content. content.items) found ≡ option_map (λ f. f.content) (file_at (pos number) path.now tables.files)) }
 {
     let rows = rows_of_file(tx, number, path)?;
     match rows.first() {
@@ -116,8 +113,7 @@ pub fn drop_files<S: Alter>(tx: &mut Transaction<'_, S>, number: u32) -> Result<
     ensures stays { Stays (state S.Store tx.old.conn.now) (state S.Store tx.new.conn.now) }
     ensures goes_on { HasCleanDisk (state S.Store tx.new.conn.now) → OnOk result (GoesOn (state S.Store tx.old.conn.now) (state S.Store tx.new.conn.now)) }
     ensures failure { IfErr result IsFailure }
-    ensures becomes { HasCleanDisk (state S.Store tx.new.conn.now) → IsOffice (state S.Store tx.old.conn.now).now → OnOk result (
-        Becomes (state S.Store tx.new.conn.now).now (without_files (pos number) (tables_of (state S.Store tx.old.conn.now).now))) }
+    ensures becomes { Leaves (state S.Store tx.old.conn.now) (state S.Store tx.new.conn.now) result (without_files (pos number)) }
 {
     change(tx, "DELETE FROM file WHERE deposit = ?1", params![number])?;
     Ok(())
@@ -153,9 +149,8 @@ fn rows_of_files<S: Alter>(tx: &mut Transaction<'_, S>, number: u32) -> Result<V
     ensures stays { Stays (state S.Store tx.old.conn.now) (state S.Store tx.new.conn.now) }
     ensures goes_on { HasCleanDisk (state S.Store tx.new.conn.now) → OnOk result (GoesOn (state S.Store tx.old.conn.now) (state S.Store tx.new.conn.now)) }
     ensures failure { IfErr result IsFailure }
-    ensures found { HasCleanDisk (state S.Store tx.new.conn.now) → IsOffice (state S.Store tx.old.conn.now).now → IfOk result (λ rows.
-        ((state S.Store tx.new.conn.now).now ≡ (state S.Store tx.old.conn.now).now)
-        × (files_by_path (pos number) (tables_of (state S.Store tx.old.conn.now).now) ≡ map shown_file rows.items)) }
+    ensures found { Shows (state S.Store tx.old.conn.now) (state S.Store tx.new.conn.now) result (λ tables rows.
+        files_by_path (pos number) tables ≡ map shown_file rows.items) }
 {
     ask(
         tx,
@@ -176,9 +171,9 @@ pub fn files_of<S: Alter>(
     ensures stays { Stays (state S.Store tx.old.conn.now) (state S.Store tx.new.conn.now) }
     ensures goes_on { HasCleanDisk (state S.Store tx.new.conn.now) → OnOk result (GoesOn (state S.Store tx.old.conn.now) (state S.Store tx.new.conn.now)) }
     ensures failure { IfErr result IsFailure }
-    ensures same { HasCleanDisk (state S.Store tx.new.conn.now) → IsOffice (state S.Store tx.old.conn.now).now → OnOk result ((state S.Store tx.new.conn.now).now ≡ (state S.Store tx.old.conn.now).now) }
-    ensures found { HasCleanDisk (state S.Store tx.new.conn.now) → IsOffice (state S.Store tx.old.conn.now).now → IfOk result (λ all.
-        all.items ≡ files_by_path (pos number) (tables_of (state S.Store tx.old.conn.now).now)) }
+    ensures same { Keeps (state S.Store tx.old.conn.now) (state S.Store tx.new.conn.now) result }
+    ensures found { Tells (state S.Store tx.old.conn.now) (state S.Store tx.new.conn.now) result (λ tables all.
+        all.items ≡ files_by_path (pos number) tables) }
 {
     let rows = rows_of_files(tx, number)?;
     files_in(alloc, &rows)

@@ -7,7 +7,7 @@ ghost use Rattle.sql_meaning.specs.Inside.{Stays, GoesOn};
 ghost use Rattle.sql_meaning.specs.Columns.{int_at};
 ghost use Rattle.office_tables.specs.Faults.{IsFailure};
 ghost use Rattle.office_tables.specs.Rows.{hold_numbered, last_number, with_hold, with_released, live_holds, is_live_on, is_live_within, HoldsBelow};
-ghost use Rattle.office_tables.specs.Tables.{IsOffice, Becomes, tables_of};
+ghost use Rattle.office_tables.specs.Calls.{Keeps, Tells, Shows, Leaves, LeavesWhere};
 ghost use Rattle.office_tables.specs.ShownHolds.{shown_hold};
 
 use crate::fault::TableFault;
@@ -75,9 +75,8 @@ fn rows_of_hold<S: Alter>(tx: &mut Transaction<'_, S>, number: u32) -> Result<Ve
     ensures stays { Stays (state S.Store tx.old.conn.now) (state S.Store tx.new.conn.now) }
     ensures goes_on { HasCleanDisk (state S.Store tx.new.conn.now) → OnOk result (GoesOn (state S.Store tx.old.conn.now) (state S.Store tx.new.conn.now)) }
     ensures failure { IfErr result IsFailure }
-    ensures found { HasCleanDisk (state S.Store tx.new.conn.now) → IsOffice (state S.Store tx.old.conn.now).now → IfOk result (λ rows.
-        ((state S.Store tx.new.conn.now).now ≡ (state S.Store tx.old.conn.now).now)
-        × (hold_numbered (pos number) (tables_of (state S.Store tx.old.conn.now).now).holds ≡ option_map shown_hold (slice_get rows.items 0))) }
+    ensures found { Shows (state S.Store tx.old.conn.now) (state S.Store tx.new.conn.now) result (λ tables rows.
+        hold_numbered (pos number) tables.holds ≡ option_map shown_hold (slice_get rows.items 0)) }
 {
     ask(
         tx,
@@ -97,9 +96,9 @@ pub fn hold_row<S: Alter>(
     ensures stays { Stays (state S.Store tx.old.conn.now) (state S.Store tx.new.conn.now) }
     ensures goes_on { HasCleanDisk (state S.Store tx.new.conn.now) → OnOk result (GoesOn (state S.Store tx.old.conn.now) (state S.Store tx.new.conn.now)) }
     ensures failure { IfErr result IsFailure }
-    ensures same { HasCleanDisk (state S.Store tx.new.conn.now) → IsOffice (state S.Store tx.old.conn.now).now → OnOk result ((state S.Store tx.new.conn.now).now ≡ (state S.Store tx.old.conn.now).now) }
-    ensures found { HasCleanDisk (state S.Store tx.new.conn.now) → IsOffice (state S.Store tx.old.conn.now).now → IfOk result (λ found.
-        found ≡ hold_numbered (pos number) (tables_of (state S.Store tx.old.conn.now).now).holds) }
+    ensures same { Keeps (state S.Store tx.old.conn.now) (state S.Store tx.new.conn.now) result }
+    ensures found { Tells (state S.Store tx.old.conn.now) (state S.Store tx.new.conn.now) result (λ tables found.
+        found ≡ hold_numbered (pos number) tables.holds) }
 {
     let rows = rows_of_hold(tx, number)?;
     match rows.first() {
@@ -114,9 +113,8 @@ fn rows_of_last<S: Alter>(tx: &mut Transaction<'_, S>) -> Result<Vec<Row>, Table
     ensures stays { Stays (state S.Store tx.old.conn.now) (state S.Store tx.new.conn.now) }
     ensures goes_on { HasCleanDisk (state S.Store tx.new.conn.now) → OnOk result (GoesOn (state S.Store tx.old.conn.now) (state S.Store tx.new.conn.now)) }
     ensures failure { IfErr result IsFailure }
-    ensures found { HasCleanDisk (state S.Store tx.new.conn.now) → IsOffice (state S.Store tx.old.conn.now).now → IfOk result (λ rows.
-        ((state S.Store tx.new.conn.now).now ≡ (state S.Store tx.old.conn.now).now)
-        × (last_number (λ h. h.number) (tables_of (state S.Store tx.old.conn.now).now).holds ≡ option_map (λ row. int_at row 0) (slice_get rows.items 0))) }
+    ensures found { Shows (state S.Store tx.old.conn.now) (state S.Store tx.new.conn.now) result (λ tables rows.
+        last_number (λ h. h.number) tables.holds ≡ option_map (λ row. int_at row 0) (slice_get rows.items 0)) }
 {
     ask(
         tx,
@@ -141,9 +139,9 @@ pub fn last_hold<S: Alter>(tx: &mut Transaction<'_, S>) -> Result<Option<u32>, T
     ensures stays { Stays (state S.Store tx.old.conn.now) (state S.Store tx.new.conn.now) }
     ensures goes_on { HasCleanDisk (state S.Store tx.new.conn.now) → OnOk result (GoesOn (state S.Store tx.old.conn.now) (state S.Store tx.new.conn.now)) }
     ensures failure { IfErr result IsFailure }
-    ensures same { HasCleanDisk (state S.Store tx.new.conn.now) → IsOffice (state S.Store tx.old.conn.now).now → OnOk result ((state S.Store tx.new.conn.now).now ≡ (state S.Store tx.old.conn.now).now) }
-    ensures found { HasCleanDisk (state S.Store tx.new.conn.now) → IsOffice (state S.Store tx.old.conn.now).now → IfOk result (λ found.
-        option_map pos found ≡ last_number (λ h. h.number) (tables_of (state S.Store tx.old.conn.now).now).holds) }
+    ensures same { Keeps (state S.Store tx.old.conn.now) (state S.Store tx.new.conn.now) result }
+    ensures found { Tells (state S.Store tx.old.conn.now) (state S.Store tx.new.conn.now) result (λ tables found.
+        option_map pos found ≡ last_number (λ h. h.number) tables.holds) }
 {
     let rows = rows_of_last(tx)?;
     match rows.first() {
@@ -167,16 +165,15 @@ pub fn put_hold<S: Alter>(
     ensures stays { Stays (state S.Store tx.old.conn.now) (state S.Store tx.new.conn.now) }
     ensures goes_on { HasCleanDisk (state S.Store tx.new.conn.now) → OnOk result (GoesOn (state S.Store tx.old.conn.now) (state S.Store tx.new.conn.now)) }
     ensures failure { IfErr result IsFailure }
-    ensures becomes { HasCleanDisk (state S.Store tx.new.conn.now) → IsOffice (state S.Store tx.old.conn.now).now
-        → HoldsBelow (pos number) (tables_of (state S.Store tx.old.conn.now).now).holds → OnOk result (
-        Becomes (state S.Store tx.new.conn.now).now (with_hold (record {
+    ensures becomes { LeavesWhere (state S.Store tx.old.conn.now) (state S.Store tx.new.conn.now) result (λ tables. HoldsBelow (pos number) tables.holds)
+        (with_hold (record {
           number = pos number;
           deposit = option_map pos deposit;
           collection = option_map (λ c. c.now) collection.entry;
           matter = matter.now;
           placed = placed;
           released = None;
-        }) (tables_of (state S.Store tx.old.conn.now).now))) }
+        })) }
 {
     change(
         tx,
@@ -198,8 +195,7 @@ pub fn end_hold<S: Alter>(
     ensures stays { Stays (state S.Store tx.old.conn.now) (state S.Store tx.new.conn.now) }
     ensures goes_on { HasCleanDisk (state S.Store tx.new.conn.now) → OnOk result (GoesOn (state S.Store tx.old.conn.now) (state S.Store tx.new.conn.now)) }
     ensures failure { IfErr result IsFailure }
-    ensures becomes { HasCleanDisk (state S.Store tx.new.conn.now) → IsOffice (state S.Store tx.old.conn.now).now → OnOk result (
-        Becomes (state S.Store tx.new.conn.now).now (with_released (pos number) day (tables_of (state S.Store tx.old.conn.now).now))) }
+    ensures becomes { Leaves (state S.Store tx.old.conn.now) (state S.Store tx.new.conn.now) result (with_released (pos number) day) }
 {
     change(
         tx,
@@ -218,9 +214,8 @@ fn rows_of_holds_on<S: Alter>(
     ensures stays { Stays (state S.Store tx.old.conn.now) (state S.Store tx.new.conn.now) }
     ensures goes_on { HasCleanDisk (state S.Store tx.new.conn.now) → OnOk result (GoesOn (state S.Store tx.old.conn.now) (state S.Store tx.new.conn.now)) }
     ensures failure { IfErr result IsFailure }
-    ensures found { HasCleanDisk (state S.Store tx.new.conn.now) → IsOffice (state S.Store tx.old.conn.now).now → IfOk result (λ rows.
-        ((state S.Store tx.new.conn.now).now ≡ (state S.Store tx.old.conn.now).now)
-        × (map (λ h. h.number) (filter (is_live_on (pos deposit)) (tables_of (state S.Store tx.old.conn.now).now).holds) ≡ map (λ row. int_at row 0) rows.items)) }
+    ensures found { Shows (state S.Store tx.old.conn.now) (state S.Store tx.new.conn.now) result (λ tables rows.
+        map (λ h. h.number) (filter (is_live_on (pos deposit)) tables.holds) ≡ map (λ row. int_at row 0) rows.items) }
 {
     ask(
         tx,
@@ -239,9 +234,8 @@ fn rows_of_holds_within<S: Alter>(
     ensures stays { Stays (state S.Store tx.old.conn.now) (state S.Store tx.new.conn.now) }
     ensures goes_on { HasCleanDisk (state S.Store tx.new.conn.now) → OnOk result (GoesOn (state S.Store tx.old.conn.now) (state S.Store tx.new.conn.now)) }
     ensures failure { IfErr result IsFailure }
-    ensures found { HasCleanDisk (state S.Store tx.new.conn.now) → IsOffice (state S.Store tx.old.conn.now).now → IfOk result (λ rows.
-        ((state S.Store tx.new.conn.now).now ≡ (state S.Store tx.old.conn.now).now)
-        × (map (λ h. h.number) (filter (is_live_within (pos deposit) collection.now) (tables_of (state S.Store tx.old.conn.now).now).holds) ≡ map (λ row. int_at row 0) rows.items)) }
+    ensures found { Shows (state S.Store tx.old.conn.now) (state S.Store tx.new.conn.now) result (λ tables rows.
+        map (λ h. h.number) (filter (is_live_within (pos deposit) collection.now) tables.holds) ≡ map (λ row. int_at row 0) rows.items) }
 {
     ask(
         tx,
@@ -274,9 +268,9 @@ pub fn live_holds<S: Alter>(
     ensures stays { Stays (state S.Store tx.old.conn.now) (state S.Store tx.new.conn.now) }
     ensures goes_on { HasCleanDisk (state S.Store tx.new.conn.now) → OnOk result (GoesOn (state S.Store tx.old.conn.now) (state S.Store tx.new.conn.now)) }
     ensures failure { IfErr result IsFailure }
-    ensures same { HasCleanDisk (state S.Store tx.new.conn.now) → IsOffice (state S.Store tx.old.conn.now).now → OnOk result ((state S.Store tx.new.conn.now).now ≡ (state S.Store tx.old.conn.now).now) }
-    ensures found { HasCleanDisk (state S.Store tx.new.conn.now) → IsOffice (state S.Store tx.old.conn.now).now → IfOk result (λ numbers.
-        map pos numbers.items ≡ live_holds (pos deposit) collection.now (tables_of (state S.Store tx.old.conn.now).now)) }
+    ensures same { Keeps (state S.Store tx.old.conn.now) (state S.Store tx.new.conn.now) result }
+    ensures found { Tells (state S.Store tx.old.conn.now) (state S.Store tx.new.conn.now) result (λ tables numbers.
+        map pos numbers.items ≡ live_holds (pos deposit) collection.now tables) }
 {
     let on_deposit = rows_of_holds_on(tx, deposit)?;
     let on_collection = rows_of_holds_within(tx, deposit, collection)?;

@@ -1,6 +1,6 @@
 //! Opening an office, and its limits.
 
-ghost use Rattle.std.specs.Prelude.{ℕ, ℤ, pos, [], Ok, Err, ◌≡◌, ◌≢◌, true, false, MatchOption, All, Contains, IfOk, IfErr, OnOk, IsTrue, Some, None, option_map, slice_get};
+ghost use Rattle.std.specs.Prelude.{pos, [], Ok, Err, ◌≡◌, ◌≢◌, true, false, MatchOption, All, Contains, IfOk, IfErr, OnOk, IsTrue, Some, None, option_map, slice_get};
 ghost use Rattle.sqlite.specs.State.{HasCleanDisk, Survives};
 ghost use Rattle.sqlite.specs.Held.{state};
 ghost use Rattle.sqlite.specs.Order.{Row as SqlRow, column};
@@ -8,8 +8,9 @@ ghost use Rattle.sqlite.specs.declared.types.Value.TheVariants.{Int};
 ghost use Rattle.sql_meaning.specs.Inside.{Stays, GoesOn};
 ghost use Rattle.office_tables.specs.Faults.{IsFailure};
 ghost use Rattle.office_tables.specs.Rows.{limits_of, version_of};
+ghost use Rattle.office_tables.specs.Calls.{Keeps, Tells, Shows};
 ghost use Rattle.office_tables.specs.Tables.{IsOffice, tables_of, shown_limits};
-ghost use Rattle.office_tables.specs.Opening.{shows_office, ShowsVersion, has_office, HasVersion, NotAnOffice, IsKept};
+ghost use Rattle.office_tables.specs.Opening.{shows_office, ShowsVersion, has_office, HasVersion, HasOtherVersion, IsKnownAsOther, NotAnOffice, IsKept};
 
 use crate::fault::TableFault;
 use crate::run::ask;
@@ -38,7 +39,8 @@ fn version_in(row: &Row) -> Option<i64>
 
 /// The version that the first row of an office among these tells.
 fn version_among(rows: &[Row]) -> Option<i64>
-    ensures { MatchOption result (All (λ row. shows_office row ≡ false) rows.now) (λ version. (row : SqlRow) × Contains rows.now row × (shows_office row ≡ true) × (column row 1 ≡ Int version)) }
+    ensures { MatchOption result (All (λ row. shows_office row ≡ false) rows.now)
+        (λ version. (row : SqlRow) × Contains rows.now row × (shows_office row ≡ true) × (column row 1 ≡ Int version)) }
 {
     for row in rows {
         if let Some(version) = version_in(row) {
@@ -90,11 +92,13 @@ pub fn open_tables<S: Alter>(conn: &mut Connection<S>) -> Result<(), TableFault>
     ensures same { HasCleanDisk (state S.Store conn.new) → IsKept (state S.Store conn.old) (state S.Store conn.new) }
     ensures opened { HasCleanDisk (state S.Store conn.new) → OnOk result (IsTrue (has_office (state S.Store conn.old).now.schema) × HasVersion (state S.Store conn.old).now (pos 1)) }
     ensures not_office { HasCleanDisk (state S.Store conn.new) → result ≡ Err TableFault.NotAnOffice → NotAnOffice (state S.Store conn.old).now }
-    ensures other_version { HasCleanDisk (state S.Store conn.new) → result ≡ Err TableFault.OtherVersion → (version : ℤ) × (version ≢ pos 1) × HasVersion (state S.Store conn.old).now version }
+    ensures other_version { HasCleanDisk (state S.Store conn.new) → result ≡ Err TableFault.OtherVersion → HasOtherVersion (state S.Store conn.old).now (pos 1) }
     ensures no_table { has_office (state S.Store conn.old).now.schema ≡ false → result ≡ Err TableFault.NotAnOffice }
-    ensures known { HasCleanDisk (state S.Store conn.new) → IsOffice (state S.Store conn.old).now → OnOk result (version_of (tables_of (state S.Store conn.old).now) ≡ Some (pos 1)) }
-    ensures unknown { HasCleanDisk (state S.Store conn.new) → IsOffice (state S.Store conn.old).now → result ≡ Err TableFault.NotAnOffice → version_of (tables_of (state S.Store conn.old).now) ≡ None }
-    ensures known_as_other { HasCleanDisk (state S.Store conn.new) → IsOffice (state S.Store conn.old).now → result ≡ Err TableFault.OtherVersion → (version : ℤ) × (version ≢ pos 1) × (version_of (tables_of (state S.Store conn.old).now) ≡ Some version) }
+    ensures known { Tells (state S.Store conn.old) (state S.Store conn.new) result (λ tables _. version_of tables ≡ Some (pos 1)) }
+    ensures unknown { HasCleanDisk (state S.Store conn.new) → IsOffice (state S.Store conn.old).now → result ≡ Err TableFault.NotAnOffice
+        → version_of (tables_of (state S.Store conn.old).now) ≡ None }
+    ensures known_as_other { HasCleanDisk (state S.Store conn.new) → IsOffice (state S.Store conn.old).now → result ≡ Err TableFault.OtherVersion
+        → IsKnownAsOther (tables_of (state S.Store conn.old).now) (pos 1) }
 {
     if !has_office(conn.schema()) {
         return Err(TableFault::NotAnOffice);
@@ -123,9 +127,8 @@ fn rows_of_limits<S: Alter>(tx: &mut Transaction<'_, S>) -> Result<Vec<Row>, Tab
     ensures stays { Stays (state S.Store tx.old.conn.now) (state S.Store tx.new.conn.now) }
     ensures goes_on { HasCleanDisk (state S.Store tx.new.conn.now) → OnOk result (GoesOn (state S.Store tx.old.conn.now) (state S.Store tx.new.conn.now)) }
     ensures failure { IfErr result IsFailure }
-    ensures found { HasCleanDisk (state S.Store tx.new.conn.now) → IsOffice (state S.Store tx.old.conn.now).now → IfOk result (λ rows.
-        ((state S.Store tx.new.conn.now).now ≡ (state S.Store tx.old.conn.now).now)
-        × (limits_of (tables_of (state S.Store tx.old.conn.now).now) ≡ option_map shown_limits (slice_get rows.items 0))) }
+    ensures found { Shows (state S.Store tx.old.conn.now) (state S.Store tx.new.conn.now) result (λ tables rows.
+        limits_of tables ≡ option_map shown_limits (slice_get rows.items 0)) }
 {
     ask(
         tx,
@@ -142,9 +145,9 @@ pub fn limits<S: Alter>(tx: &mut Transaction<'_, S>) -> Result<OfficeLimits, Tab
     ensures stays { Stays (state S.Store tx.old.conn.now) (state S.Store tx.new.conn.now) }
     ensures goes_on { HasCleanDisk (state S.Store tx.new.conn.now) → OnOk result (GoesOn (state S.Store tx.old.conn.now) (state S.Store tx.new.conn.now)) }
     ensures failure { IfErr result IsFailure }
-    ensures same { HasCleanDisk (state S.Store tx.new.conn.now) → IsOffice (state S.Store tx.old.conn.now).now → OnOk result ((state S.Store tx.new.conn.now).now ≡ (state S.Store tx.old.conn.now).now) }
-    ensures found { HasCleanDisk (state S.Store tx.new.conn.now) → IsOffice (state S.Store tx.old.conn.now).now → IfOk result (λ limits.
-        limits_of (tables_of (state S.Store tx.old.conn.now).now) ≡ Some (record { max_deposits = pos limits.max_deposits; max_holds = pos limits.max_holds })) }
+    ensures same { Keeps (state S.Store tx.old.conn.now) (state S.Store tx.new.conn.now) result }
+    ensures found { Tells (state S.Store tx.old.conn.now) (state S.Store tx.new.conn.now) result (λ tables limits.
+        limits_of tables ≡ Some (record { max_deposits = pos limits.max_deposits; max_holds = pos limits.max_holds })) }
 {
     let rows = rows_of_limits(tx)?;
     let Some(row) = rows.first() else {

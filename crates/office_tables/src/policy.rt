@@ -7,7 +7,7 @@ ghost use Rattle.sql_meaning.specs.Inside.{Stays, GoesOn, Stands};
 ghost use Rattle.sql_meaning.specs.Columns.{bytes_at};
 ghost use Rattle.office_tables.specs.Faults.{IsFailure};
 ghost use Rattle.office_tables.specs.Rows.{caller_named, without_callers, without_rules, with_caller, with_rule, with_callers, with_rules, with_policy, RulesBelow, RulesFollow, PlacesRise};
-ghost use Rattle.office_tables.specs.Tables.{IsOffice, Becomes, tables_of};
+ghost use Rattle.office_tables.specs.Calls.{Keeps, Tells, Shows, Leaves, LeavesWhere};
 ghost use Rattle.office_tables.specs.ShownPolicy.{shown_rule};
 
 use crate::fault::TableFault;
@@ -77,9 +77,8 @@ fn rows_of_role<S: Alter>(tx: &mut Transaction<'_, S>, name: &str) -> Result<Vec
     ensures stays { Stays (state S.Store tx.old.conn.now) (state S.Store tx.new.conn.now) }
     ensures goes_on { HasCleanDisk (state S.Store tx.new.conn.now) → OnOk result (GoesOn (state S.Store tx.old.conn.now) (state S.Store tx.new.conn.now)) }
     ensures failure { IfErr result IsFailure }
-    ensures found { HasCleanDisk (state S.Store tx.new.conn.now) → IsOffice (state S.Store tx.old.conn.now).now → IfOk result (λ rows.
-        ((state S.Store tx.new.conn.now).now ≡ (state S.Store tx.old.conn.now).now)
-        × (option_map (λ c. c.role) (caller_named name.now (tables_of (state S.Store tx.old.conn.now).now).callers) ≡ option_map (λ row. bytes_at row 0) (slice_get rows.items 0))) }
+    ensures found { Shows (state S.Store tx.old.conn.now) (state S.Store tx.new.conn.now) result (λ tables rows.
+        option_map (λ c. c.role) (caller_named name.now tables.callers) ≡ option_map (λ row. bytes_at row 0) (slice_get rows.items 0)) }
 {
     ask(tx, "SELECT role FROM caller WHERE name = ?1", params![name])
 }
@@ -103,9 +102,9 @@ pub fn role_of<S: Alter>(
     ensures stays { Stays (state S.Store tx.old.conn.now) (state S.Store tx.new.conn.now) }
     ensures goes_on { HasCleanDisk (state S.Store tx.new.conn.now) → OnOk result (GoesOn (state S.Store tx.old.conn.now) (state S.Store tx.new.conn.now)) }
     ensures failure { IfErr result IsFailure }
-    ensures same { HasCleanDisk (state S.Store tx.new.conn.now) → IsOffice (state S.Store tx.old.conn.now).now → OnOk result ((state S.Store tx.new.conn.now).now ≡ (state S.Store tx.old.conn.now).now) }
-    ensures found { HasCleanDisk (state S.Store tx.new.conn.now) → IsOffice (state S.Store tx.old.conn.now).now → IfOk result (λ found.
-        option_map string_bytes found ≡ option_map (λ c. c.role) (caller_named name.now (tables_of (state S.Store tx.old.conn.now).now).callers)) }
+    ensures same { Keeps (state S.Store tx.old.conn.now) (state S.Store tx.new.conn.now) result }
+    ensures found { Tells (state S.Store tx.old.conn.now) (state S.Store tx.new.conn.now) result (λ tables found.
+        option_map string_bytes found ≡ option_map (λ c. c.role) (caller_named name.now tables.callers)) }
 {
     let rows = rows_of_role(tx, name)?;
     match rows.first() {
@@ -120,9 +119,8 @@ fn rows_of_rules<S: Alter>(tx: &mut Transaction<'_, S>) -> Result<Vec<Row>, Tabl
     ensures stays { Stays (state S.Store tx.old.conn.now) (state S.Store tx.new.conn.now) }
     ensures goes_on { HasCleanDisk (state S.Store tx.new.conn.now) → OnOk result (GoesOn (state S.Store tx.old.conn.now) (state S.Store tx.new.conn.now)) }
     ensures failure { IfErr result IsFailure }
-    ensures found { HasCleanDisk (state S.Store tx.new.conn.now) → IsOffice (state S.Store tx.old.conn.now).now → IfOk result (λ rows.
-        ((state S.Store tx.new.conn.now).now ≡ (state S.Store tx.old.conn.now).now)
-        × ((tables_of (state S.Store tx.old.conn.now).now).rules ≡ map shown_rule rows.items)) }
+    ensures found { Shows (state S.Store tx.old.conn.now) (state S.Store tx.new.conn.now) result (λ tables rows.
+        tables.rules ≡ map shown_rule rows.items) }
 {
     ask(
         tx,
@@ -169,9 +167,9 @@ pub fn rules<S: Alter>(
     ensures stays { Stays (state S.Store tx.old.conn.now) (state S.Store tx.new.conn.now) }
     ensures goes_on { HasCleanDisk (state S.Store tx.new.conn.now) → OnOk result (GoesOn (state S.Store tx.old.conn.now) (state S.Store tx.new.conn.now)) }
     ensures failure { IfErr result IsFailure }
-    ensures same { HasCleanDisk (state S.Store tx.new.conn.now) → IsOffice (state S.Store tx.old.conn.now).now → OnOk result ((state S.Store tx.new.conn.now).now ≡ (state S.Store tx.old.conn.now).now) }
-    ensures found { HasCleanDisk (state S.Store tx.new.conn.now) → IsOffice (state S.Store tx.old.conn.now).now → IfOk result (λ rules.
-        rules.items ≡ (tables_of (state S.Store tx.old.conn.now).now).rules) }
+    ensures same { Keeps (state S.Store tx.old.conn.now) (state S.Store tx.new.conn.now) result }
+    ensures found { Tells (state S.Store tx.old.conn.now) (state S.Store tx.new.conn.now) result (λ tables rules.
+        rules.items ≡ tables.rules) }
 {
     let rows = rows_of_rules(tx)?;
     rules_in(alloc, &rows)
@@ -183,8 +181,7 @@ fn drop_callers<S: Alter>(tx: &mut Transaction<'_, S>) -> Result<usize, TableFau
     ensures stays { Stays (state S.Store tx.old.conn.now) (state S.Store tx.new.conn.now) }
     ensures goes_on { HasCleanDisk (state S.Store tx.new.conn.now) → OnOk result (GoesOn (state S.Store tx.old.conn.now) (state S.Store tx.new.conn.now)) }
     ensures failure { IfErr result IsFailure }
-    ensures becomes { HasCleanDisk (state S.Store tx.new.conn.now) → IsOffice (state S.Store tx.old.conn.now).now → OnOk result (
-        Becomes (state S.Store tx.new.conn.now).now (without_callers (tables_of (state S.Store tx.old.conn.now).now))) }
+    ensures becomes { Leaves (state S.Store tx.old.conn.now) (state S.Store tx.new.conn.now) result without_callers }
 {
     change(tx, "DELETE FROM caller", &[])
 }
@@ -195,8 +192,7 @@ fn drop_rules<S: Alter>(tx: &mut Transaction<'_, S>) -> Result<usize, TableFault
     ensures stays { Stays (state S.Store tx.old.conn.now) (state S.Store tx.new.conn.now) }
     ensures goes_on { HasCleanDisk (state S.Store tx.new.conn.now) → OnOk result (GoesOn (state S.Store tx.old.conn.now) (state S.Store tx.new.conn.now)) }
     ensures failure { IfErr result IsFailure }
-    ensures becomes { HasCleanDisk (state S.Store tx.new.conn.now) → IsOffice (state S.Store tx.old.conn.now).now → OnOk result (
-        Becomes (state S.Store tx.new.conn.now).now (without_rules (tables_of (state S.Store tx.old.conn.now).now))) }
+    ensures becomes { Leaves (state S.Store tx.old.conn.now) (state S.Store tx.new.conn.now) result without_rules }
 {
     change(tx, "DELETE FROM rule", &[])
 }
@@ -211,8 +207,7 @@ fn add_caller<S: Alter>(
     ensures stays { Stays (state S.Store tx.old.conn.now) (state S.Store tx.new.conn.now) }
     ensures goes_on { HasCleanDisk (state S.Store tx.new.conn.now) → OnOk result (GoesOn (state S.Store tx.old.conn.now) (state S.Store tx.new.conn.now)) }
     ensures failure { IfErr result IsFailure }
-    ensures becomes { HasCleanDisk (state S.Store tx.new.conn.now) → IsOffice (state S.Store tx.old.conn.now).now → OnOk result (
-        Becomes (state S.Store tx.new.conn.now).now (with_caller (record { name = name.now; role = role.now }) (tables_of (state S.Store tx.old.conn.now).now))) }
+    ensures becomes { Leaves (state S.Store tx.old.conn.now) (state S.Store tx.new.conn.now) result (with_caller (record { name = name.now; role = role.now })) }
 {
     change(
         tx,
@@ -235,8 +230,8 @@ fn add_rule<S: Alter>(
     ensures stays { Stays (state S.Store tx.old.conn.now) (state S.Store tx.new.conn.now) }
     ensures goes_on { HasCleanDisk (state S.Store tx.new.conn.now) → OnOk result (GoesOn (state S.Store tx.old.conn.now) (state S.Store tx.new.conn.now)) }
     ensures failure { IfErr result IsFailure }
-    ensures becomes { HasCleanDisk (state S.Store tx.new.conn.now) → IsOffice (state S.Store tx.old.conn.now).now → RulesBelow place (tables_of (state S.Store tx.old.conn.now).now).rules → OnOk result (
-        Becomes (state S.Store tx.new.conn.now).now (with_rule (record { place = place; effect = effect; role = role.now; action = action.now; collection = collection.now; class = class.now }) (tables_of (state S.Store tx.old.conn.now).now))) }
+    ensures becomes { LeavesWhere (state S.Store tx.old.conn.now) (state S.Store tx.new.conn.now) result (λ tables. RulesBelow place tables.rules)
+        (with_rule (record { place = place; effect = effect; role = role.now; action = action.now; collection = collection.now; class = class.now })) }
 {
     change(
         tx,
@@ -254,8 +249,7 @@ fn add_callers<S: Alter>(
     ensures stays { Stays (state S.Store tx.old.conn.now) (state S.Store tx.new.conn.now) }
     ensures goes_on { HasCleanDisk (state S.Store tx.new.conn.now) → OnOk result (Stands (state S.Store tx.old.conn.now) (state S.Store tx.new.conn.now)) }
     ensures failure { IfErr result IsFailure }
-    ensures becomes { HasCleanDisk (state S.Store tx.new.conn.now) → IsOffice (state S.Store tx.old.conn.now).now → OnOk result (
-        Becomes (state S.Store tx.new.conn.now).now (with_callers callers.now (tables_of (state S.Store tx.old.conn.now).now))) }
+    ensures becomes { Leaves (state S.Store tx.old.conn.now) (state S.Store tx.new.conn.now) result (with_callers callers.now) }
 {
     for caller in callers {
         add_caller(tx, &caller.name, &caller.role)?;
@@ -269,8 +263,8 @@ fn add_rules<S: Alter>(tx: &mut Transaction<'_, S>, rules: &[RuleRow]) -> Result
     ensures stays { Stays (state S.Store tx.old.conn.now) (state S.Store tx.new.conn.now) }
     ensures goes_on { HasCleanDisk (state S.Store tx.new.conn.now) → OnOk result (Stands (state S.Store tx.old.conn.now) (state S.Store tx.new.conn.now)) }
     ensures failure { IfErr result IsFailure }
-    ensures becomes { HasCleanDisk (state S.Store tx.new.conn.now) → IsOffice (state S.Store tx.old.conn.now).now → RulesFollow rules.now (tables_of (state S.Store tx.old.conn.now).now) → OnOk result (
-        Becomes (state S.Store tx.new.conn.now).now (with_rules rules.now (tables_of (state S.Store tx.old.conn.now).now))) }
+    ensures becomes { LeavesWhere (state S.Store tx.old.conn.now) (state S.Store tx.new.conn.now) result (λ tables. RulesFollow rules.now tables)
+        (with_rules rules.now) }
 {
     for rule in rules {
         add_rule(
@@ -298,8 +292,8 @@ pub fn put_policy<S: Alter>(
     ensures stays { Stays (state S.Store tx.old.conn.now) (state S.Store tx.new.conn.now) }
     ensures goes_on { HasCleanDisk (state S.Store tx.new.conn.now) → OnOk result (GoesOn (state S.Store tx.old.conn.now) (state S.Store tx.new.conn.now)) }
     ensures failure { IfErr result IsFailure }
-    ensures becomes { HasCleanDisk (state S.Store tx.new.conn.now) → IsOffice (state S.Store tx.old.conn.now).now → PlacesRise rules.now → OnOk result (
-        Becomes (state S.Store tx.new.conn.now).now (with_policy callers.now rules.now (tables_of (state S.Store tx.old.conn.now).now))) }
+    ensures becomes { LeavesWhere (state S.Store tx.old.conn.now) (state S.Store tx.new.conn.now) result (λ _. PlacesRise rules.now)
+        (with_policy callers.now rules.now) }
 {
     drop_callers(tx)?;
     drop_rules(tx)?;
