@@ -24,10 +24,11 @@ use Rattle.sql_meaning.proofs.Edits.{any_mapped, cast_null, cast_int}
 use Rattle.office_tables.specs.Schema.{office_schema, deposit_table}
 use Rattle.office_tables.specs.Rows.{DepositRow, is_deposit, deposit_numbered, has_accession, deposit_by, is_class, has_class, is_collection, has_collection}
 use Rattle.office_tables.specs.Tables.{IsOffice, Becomes, tables_of, deposit_in, class_in, collection_in}
+use Rattle.office_tables.specs.Deposits.{IsAdded}
 use Rattle.office_tables.proofs.Frames.{idle, becomes_deposits}
 use Rattle.office_tables.proofs.ClassLemmas.{IsClassRow, class_rows}
 use Rattle.office_tables.proofs.CollectionLemmas.{collection_rows}
-use Rattle.office_tables.proofs.DepositLemmas.{params_of, stored_of, accessions}
+use Rattle.office_tables.proofs.DepositLemmas.{params_of, stored_of, accessions, puts_deposit}
 use Rattle.office_tables.proofs.DepositTexts.{put_text, put_terms, put_is, put_plain}
 
 module _ (old new : State) (d : DepositRow) (count : ℕ) (office : IsOffice old.now) (h : Executes put_text (params_of d) old new (Ok count)) where
@@ -52,12 +53,12 @@ module _ (old new : State) (d : DepositRow) (count : ℕ) (office : IsOffice old
   none_passes : (keep : Row → Bool) → keep row ≡ true → ((x y : Row) → Has (new.now.trees 8) x → Has (new.now.trees 8) y → keep x ≡ true → keep y ≡ true → x ≡ y) → filter keep (old.now.trees 8) ≡ []
   none_passes keep is alike = none_before office_schema Enforced old.now.trees new.now.trees deposit_table row change.applies keep (ap keep row_is ∙ is) alike
 
-  pub number_was_new : deposit_numbered d.number (tables_of old.now).deposits ≡ None
+  number_was_new : deposit_numbered d.number (tables_of old.now).deposits ≡ None
   number_was_new =
       let none = none_passes (has_number d.number) (int_itself d.number) (one_numbered (new.now.trees 8) after.office.shaped.1.1.1.1.1.0 d.number) in
       found_by (is_deposit d.number) (has_number d.number) deposit_in (old.now.trees 8) (all_from _ (old.now.trees 8) (λ r there. refl)) ∙ ap (λ rs. option_map deposit_in (slice_get rs 0)) none
 
-  pub accession_was_new : deposit_by d.accession (tables_of old.now).deposits ≡ None
+  accession_was_new : deposit_by d.accession (tables_of old.now).deposits ≡ None
   accession_was_new =
       let alike = one_named 2 (new.now.trees 8) after.office.shaped.1.1.1.1.1.0 (accessions new.now after.office) (after.office.fits.rules Unique (λ e. cc)).1.1.1.1.1.0 d.accession in
       let none = none_passes (has_text 2 d.accession) (bytes_itself d.accession) alike in
@@ -74,13 +75,22 @@ module _ (old new : State) (d : DepositRow) (count : ℕ) (office : IsOffice old
       let two = both _ _ each in
       (two.0, (both _ _ two.1).0)
 
-  pub collection_was_there : IsTrue (has_collection d.collection (tables_of old.now))
+  collection_was_there : IsTrue (has_collection d.collection (tables_of old.now))
   collection_was_there =
       let named = any_parent 1 3 d.collection row (new.now.trees 6) (collection_rows new.now after.office) refl in
       sym (ap (λ t. has_collection d.collection t) after.are) ∙ any_mapped collection_in (has_text 1 d.collection) (is_collection d.collection) (λ r. refl) (new.now.trees 6) ∙ sym named ∙ held.0
 
-  pub class_was_there : IsTrue (has_class d.class (tables_of old.now))
+  class_was_there : IsTrue (has_class d.class (tables_of old.now))
   class_was_there =
       let names : AllByRecursion (IsText 1) (new.now.trees 4) = all_from _ (new.now.trees 4) (λ r there. (all_has IsClassRow (new.now.trees 4) r (class_rows new.now.trees after.office.fits) there).0) in
       let named = any_parent 1 4 d.class row (new.now.trees 4) names refl in
       sym (ap (λ t. has_class d.class t) after.are) ∙ any_mapped class_in (has_text 1 d.class) (is_class d.class) (λ r. refl) (new.now.trees 4) ∙ sym named ∙ held.1
+
+  pub is_added : d.gone ≡ None → IsAdded d old.now new.now
+  is_added kept = record {
+    becomes = λ low. puts_deposit old new d count kept office low h;
+    new_number = number_was_new;
+    new_accession = accession_was_new;
+    its_collection = collection_was_there;
+    its_class = class_was_there;
+  }

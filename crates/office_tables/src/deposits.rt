@@ -7,8 +7,9 @@ ghost use Rattle.sql_meaning.specs.Inside.{Stays, GoesOn};
 ghost use Rattle.sql_meaning.specs.Columns.{int_at};
 ghost use Rattle.office_tables.specs.Faults.{IsFailure};
 ghost use Rattle.office_tables.specs.Rows.{deposit_numbered, deposit_by, has_class, has_collection, last_number, DepositsBelow, with_deposit, with_gone};
+ghost use Rattle.office_tables.specs.Tables.{IsOffice};
 ghost use Rattle.office_tables.specs.Calls.{Keeps, Tells, Shows, Leaves, LeavesWhere};
-ghost use Rattle.office_tables.specs.Deposits.{shown_deposit};
+ghost use Rattle.office_tables.specs.Deposits.{shown_deposit, IsAdded};
 
 use crate::fault::TableFault;
 use crate::run::{ask, change};
@@ -259,6 +260,44 @@ pub fn deposit_rows<S: Alter>(
     deposits_in(alloc, &rows)
 }
 
+/// Adds a deposit that isn't destroyed.
+fn add_deposit<S: Alter>(
+    tx: &mut Transaction<'_, S>,
+    number: u32,
+    accession: &str,
+    collection: &str,
+    class: &str,
+    closed: i64,
+    deposited: i64,
+    files: i64,
+    bytes: i64,
+) -> Result<usize, TableFault>
+    ensures same_reference { tx.new.conn.ghost_name ≡ tx.old.conn.ghost_name }
+    ensures stays { Stays (state S.Store tx.old.conn.now) (state S.Store tx.new.conn.now) }
+    ensures goes_on { HasCleanDisk (state S.Store tx.new.conn.now) → OnOk result (GoesOn (state S.Store tx.old.conn.now) (state S.Store tx.new.conn.now)) }
+    ensures failure { IfErr result IsFailure }
+    ensures added { HasCleanDisk (state S.Store tx.new.conn.now) → IsOffice (state S.Store tx.old.conn.now).now → OnOk result (
+        IsAdded (record {
+          number = pos number;
+          accession = accession.now;
+          collection = collection.now;
+          class = class.now;
+          closed = closed;
+          deposited = deposited;
+          files = files;
+          bytes = bytes;
+          gone = None;
+        }) (state S.Store tx.old.conn.now).now (state S.Store tx.new.conn.now).now) }
+{
+    change(
+        tx,
+        "INSERT INTO deposit (number, accession, collection, class, closed, deposited, files, bytes) VALUES (?1, ?2, ?3, ?4, ?5, ?6, ?7, ?8)",
+        params![
+            number, accession, collection, class, closed, deposited, files, bytes
+        ],
+    )
+}
+
 /// Adds a deposit at the end; it isn't destroyed. Days are day numbers.
 ///
 /// Fails with `Store` where there is no such collection or class, or where the accession or the number is taken, and with `Memory`
@@ -295,12 +334,8 @@ pub fn put_deposit<S: Alter>(
     ensures its_collection { Tells (state S.Store tx.old.conn.now) (state S.Store tx.new.conn.now) result (λ tables _. IsTrue (has_collection collection.now tables)) }
     ensures its_class { Tells (state S.Store tx.old.conn.now) (state S.Store tx.new.conn.now) result (λ tables _. IsTrue (has_class class.now tables)) }
 {
-    change(
-        tx,
-        "INSERT INTO deposit (number, accession, collection, class, closed, deposited, files, bytes) VALUES (?1, ?2, ?3, ?4, ?5, ?6, ?7, ?8)",
-        params![
-            number, accession, collection, class, closed, deposited, files, bytes
-        ],
+    add_deposit(
+        tx, number, accession, collection, class, closed, deposited, files, bytes,
     )?;
     Ok(())
 }
