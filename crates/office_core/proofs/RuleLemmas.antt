@@ -10,7 +10,7 @@ use Rattle.jiff.specs.Types.{Date}
 use Rattle.jiff.specs.Words.{epoch_day}
 use Rattle.office_core.specs.FirstOf.{first_some}
 use Rattle.office_core.specs.Rules.{Question, matches, matches_name, first_place, decision_of, decision_at, some_rule_allows, allows}
-use Rattle.office_core.specs.Verdicts.{verdict_of, is_denied, denies, IsReadyForDisposal, held, not_due, permanent}
+use Rattle.office_core.specs.Verdicts.{verdict_of, is_denied, IsReadyForDisposal, held, not_due}
 use Rattle.office_core.specs.declared.action.Action.TheVariants.{Dispose}
 use Rattle.office_core.specs.declared.rule.Rule.{Rule}
 use Rattle.office_core.specs.declared.rule.Effect.{Effect}
@@ -72,33 +72,33 @@ decided rules asked decision e =
       rw (get_or_from_slice_get rules place rule rule found) at ((position-Some (λ r. matches r asked) rules place rule at).1),
     )))
 
-denies_else : (a b : Effect) → a ≡ b → ¬ (allows a ≡ true) → denies b ≡ true
-denies_else effects.Allow b e h = absurd (h refl)
-denies_else effects.Deny b e h = rw (← e) refl
+allows_none : (a b : Effect) → a ≡ b → ¬ (allows a ≡ true) → allows b ≡ false
+allows_none effects.Allow b e h = absurd (h refl)
+allows_none effects.Deny b e h = rw (← e) refl
 
-not_before : (day date : Date) → epoch_day day <ℤ epoch_day date → unwrap_or (first_some (not_due day (On date) ∷ None ∷ [])) Allow ≡ Allow → ⊥
+not_before : (day date : Date) → epoch_day day <ℤ epoch_day date → unwrap_or (first_some (not_due day (On date) ∷ [])) Allow ≡ Allow → ⊥
 not_before day date lt is =
     let before : int_lt (epoch_day day) (epoch_day date) ≡ true = search (rules, lt) in
     let wrong : NotDue date ≡ Allow = rw before at is in
     cc
 
 -- a rule that allows a role is one that allows
-pub denied_role : (rules : List Rule) (asked : Question) (decision : Decision) → some_rule_allows rules asked.role ≡ false → decision_of rules asked ≡ Some decision → denies decision.effect ≡ true
+pub denied_role : (rules : List Rule) (asked : Question) (decision : Decision) → some_rule_allows rules asked.role ≡ false → decision_of rules asked ≡ Some decision → allows decision.effect ≡ false
 denied_role rules asked decision none e =
     let (place, rule, first, found, same, matched) = decided rules asked decision e in
     let role : matches_name rule.role asked.role ≡ true = (and_parts _ _ (and_parts _ _ (and_parts _ _ matched).0).0).0 in
     let effect : rule.effect ≡ decision.effect = ap (λ d. d.effect) same in
-    denies_else rule.effect decision.effect effect
+    allows_none rule.effect decision.effect effect
     (λ allowed. false≢true (sym none ∙ list_any_at (λ r. allows r.effect && matches_name r.role asked.role) rules place rule found (rw (allowed, role) refl)))
 
 -- a denied decision is a denial
-pub denied_verdict : (facts : Facts) (day : Date) (decision : Option Decision) → facts.decision ≡ decision → ((d : Decision) → decision ≡ Some d → denies d.effect ≡ true) → is_denied (verdict_of facts day) ≡ true
+pub denied_verdict : (facts : Facts) (day : Date) (decision : Option Decision) → facts.decision ≡ decision → ((d : Decision) → decision ≡ Some d → allows d.effect ≡ false) → is_denied (verdict_of facts day) ≡ true
 denied_verdict facts day None e h = rw e refl
 denied_verdict facts day (Some d) e h = rw (e, h d refl) refl
 
 -- what an allowed disposal stands on
 ready : (facts : Facts) (day : Date) (decision : Decision) (hold : Option ℕ) (due : Due) → facts.decision ≡ Some decision → decision.effect ≡ effects.Allow → facts.gone ≡ None → facts.hold ≡ hold → facts.due ≡ due
-    → unwrap_or (first_some (held hold ∷ not_due day due ∷ permanent due ∷ [])) Allow ≡ Allow → IsReadyForDisposal facts day
+    → unwrap_or (first_some (held hold ∷ not_due day due ∷ [])) Allow ≡ Allow → IsReadyForDisposal facts day
 ready facts day decision (Some k) due a b c d e is = cc
 ready facts day decision None Never a b c d e is = cc
 ready facts day decision None (On date) a b c d e is =

@@ -1,12 +1,12 @@
 -- The policy file: the callers and the rules that the tree of a TOML text spells, and its faults.
 use Rattle.std.specs.Prelude.{◌≡◌, ◌⊎◌, ℕ, suc, pos, Bool, true, false, not, ◌&&◌, ◌||◌, List, [], ◌∷◌, length, Option, Some, None, Result, Ok, Err, is_none, nat_lt, codes, bytes_eq, find, option_map, option_and_then, if◌then◌else◌}
-use Rattle.std.specs.List.{list_all, list_any, filter_map}
+use Rattle.std.specs.List.{list_all, list_any, filter_map, AllByRecursion}
 use Rattle.std.specs.Option.{option_map_or}
 use Rattle.std.specs.Ordering.{int_eq}
 use Rattle.toml.specs.Data.{Data, Items, no_items, item, Members, no_members, member, get_member, as_str, as_integer, as_table, as_array}
 use Rattle.toml.specs.Parse.{parse_document}
 use Rattle.office_core.specs.FirstOf.{first_some, answer_if}
-use Rattle.office_core.specs.Names.{is_name}
+use Rattle.office_core.specs.Names.{is_name, IsName}
 use Rattle.office_core.specs.Actions.{action_of}
 use Rattle.office_core.specs.DayReading.{◌>>=◌}
 use Rattle.office_core.specs.declared.policy_fault.PolicyFault.{PolicyFault}
@@ -189,6 +189,20 @@ abbrev pub HasFirstFault : List ℕ → PolicyFault → Type 0
 HasFirstFault text fault =
     ((parse_document text ≡ None) × (fault ≡ NotToml))
     ⊎ ((tree : Members) × (parse_document text ≡ Some tree) × (first_some (faults tree) ≡ Some fault))
+
+-- ---- what every policy has: its rules ask for names
+
+-- a pattern asks for everything, or for a name
+abbrev pub IsNamed : Pattern → Type 0
+IsNamed names.Any = Unit {0}
+IsNamed (names.Named only) = IsName only
+
+abbrev pub HasNames : Rule → Type 0
+HasNames rule = IsNamed rule.role × IsNamed rule.collection × IsNamed rule.class
+
+-- each rule asks for names
+abbrev pub IsPolicy : Contents → Type 0
+IsPolicy policy = AllByRecursion HasNames policy.rules
 
 -- ---- what a call answers, memory aside
 

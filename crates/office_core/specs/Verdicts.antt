@@ -1,11 +1,11 @@
 -- What the office decides, once the facts are known.
-use Rattle.std.specs.Prelude.{◌≡◌, ℕ, Bool, true, false, List, [], ◌∷◌, Option, Some, None, option_map, unwrap_or, is_none, int_lt, ◌≤ℤ◌, if◌then◌else◌}
+use Rattle.std.specs.Prelude.{◌≡◌, ℕ, Bool, true, false, List, [], ◌∷◌, Option, Some, None, option_map, unwrap_or, int_lt, ◌≤ℤ◌, if◌then◌else◌}
 use Rattle.jiff.specs.Types.{Date}
 use Rattle.jiff.specs.Words.{epoch_day}
 use Rattle.office_core.specs.FirstOf.{first_some, answer_if}
 use Rattle.office_core.specs.declared.action.Action.{Action}
 use Rattle.office_core.specs.declared.action.Action.TheVariants.{Dispose}
-use Rattle.office_core.specs.declared.rule.Effect.{Effect}
+use Rattle.office_core.specs.Rules.{allows}
 use Rattle.office_core.specs.declared.rule.Effect.TheVariants as effects
 use Rattle.office_core.specs.declared.rule.Decision.{Decision}
 use Rattle.office_core.specs.declared.retention.Due.{Due}
@@ -14,18 +14,10 @@ use Rattle.office_core.specs.declared.facts.Facts.{Facts}
 use Rattle.office_core.specs.declared.facts.Verdict.{Verdict}
 use Rattle.office_core.specs.declared.facts.Verdict.TheVariants.{DeniedByRule, DeniedByDefault, Gone, Held, NotDue, Permanent, Allow}
 
-abbrev pub denies : Effect → Bool
-denies effects.Allow = false
-denies effects.Deny = true
-
--- the rule that decides denies
-abbrev pub denied_by_rule : Option Decision → Option Verdict
-denied_by_rule None = None
-denied_by_rule (Some decision) = answer_if (denies decision.effect) (DeniedByRule decision.rule)
-
--- no rule decides
-abbrev pub denied_by_default : Option Decision → Option Verdict
-denied_by_default decision = answer_if (is_none decision) DeniedByDefault
+-- the rule that decides denies, or none decides
+abbrev pub denied : Option Decision → Option Verdict
+denied None = Some DeniedByDefault
+denied (Some decision) = if allows decision.effect then None else Some (DeniedByRule decision.rule)
 
 -- the deposit was destroyed
 abbrev pub gone : Option Date → Option Verdict
@@ -35,15 +27,10 @@ gone day = option_map Gone day
 abbrev pub held : Option ℕ → Option Verdict
 held hold = option_map Held hold
 
--- a disposal before the due day
+-- a disposal before the due day, or of what is kept for good
 abbrev pub not_due : Date → Due → Option Verdict
 not_due day (On date) = answer_if (int_lt (epoch_day day) (epoch_day date)) (NotDue date)
-not_due day Never = None
-
--- a disposal of what is kept for good
-abbrev pub permanent : Due → Option Verdict
-permanent (On date) = None
-permanent Never = Some Permanent
+not_due day Never = Some Permanent
 
 abbrev pub is_dispose : Action → Bool
 is_dispose Dispose = true
@@ -56,12 +43,10 @@ of_disposal action verdict = if is_dispose action then verdict else None
 -- the refusals, in their order
 abbrev pub refusals : Facts → Date → List (Option Verdict)
 refusals facts day =
-    denied_by_rule facts.decision
-    ∷ denied_by_default facts.decision
+    denied facts.decision
     ∷ gone facts.gone
     ∷ of_disposal facts.action (held facts.hold)
     ∷ of_disposal facts.action (not_due day facts.due)
-    ∷ of_disposal facts.action (permanent facts.due)
     ∷ []
 
 -- the first refusal that applies, else `Allow`
@@ -70,7 +55,7 @@ verdict_of facts day = unwrap_or (first_some (refusals facts day)) Allow
 
 -- the verdict on a disposal that the rules allow
 abbrev pub disposal_of : Option ℕ → Due → Date → Verdict
-disposal_of hold due day = unwrap_or (first_some (held hold ∷ not_due day due ∷ permanent due ∷ [])) Allow
+disposal_of hold due day = unwrap_or (first_some (held hold ∷ not_due day due ∷ [])) Allow
 
 abbrev pub is_denied : Verdict → Bool
 is_denied (DeniedByRule rule) = true

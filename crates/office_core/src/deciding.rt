@@ -2,13 +2,13 @@
 
 ghost use Rattle.std.specs.Prelude.{◌≡◌, int_lt};
 ghost use Rattle.jiff.specs.Words.{epoch_day};
-ghost use Rattle.office_core.specs.Verdicts.{disposal_of, verdict_of};
+ghost use Rattle.office_core.specs.Verdicts.{denied, disposal_of, verdict_of};
 
 use crate::action::Action;
 use crate::day::Day;
 use crate::facts::{Facts, Verdict};
 use crate::retention::Due;
-use crate::rule::Effect;
+use crate::rule::{Decision, Effect};
 use jiff::civil;
 
 fn number_of(date: civil::Date) -> i32
@@ -23,18 +23,26 @@ fn is_before(day: Day, date: civil::Date) -> bool
     number_of(day.date()) < number_of(date)
 }
 
+/// The verdict of the rules alone, where they refuse: the rule that decides denies, or none does.
+pub fn denied(decision: Option<Decision>) -> Option<Verdict>
+    ensures { result ≡ denied decision }
+{
+    match decision {
+        None => Some(Verdict::DeniedByDefault),
+        Some(decision) => match decision.effect {
+            Effect::Allow => None,
+            Effect::Deny => Some(Verdict::DeniedByRule(decision.rule)),
+        },
+    }
+}
+
 /// The verdict on those facts that day: the first refusal that applies, in the order of `Verdict`,
 /// of which the last three are of disposals alone.
 pub fn verdict(facts: &Facts, day: Day) -> Verdict
     ensures { result ≡ verdict_of facts.now day }
 {
-    match facts.decision {
-        None => return Verdict::DeniedByDefault,
-        Some(decision) => {
-            if let Effect::Deny = decision.effect {
-                return Verdict::DeniedByRule(decision.rule);
-            }
-        }
+    if let Some(verdict) = denied(facts.decision) {
+        return verdict;
     }
     if let Some(gone) = facts.gone {
         return Verdict::Gone(gone);

@@ -2,6 +2,7 @@
 
 ghost use Rattle.std.specs.Prelude.{◌≡◌, ◌++◌, ℕ, List, Option, Some, true, false};
 ghost use Rattle.jiff.specs.Types.{Date};
+ghost use Rattle.office_core.specs.Policies.{Contents, SpellsPolicy, IsPolicy};
 ghost use Rattle.office_core.specs.Rules.{Question, decision_of, some_rule_allows};
 ghost use Rattle.office_core.specs.Retention.{IsDue, due_of};
 ghost use Rattle.office_core.specs.declared.retention.Due.{Due};
@@ -32,6 +33,12 @@ pub fn no_allow_rule()
 pub fn allowed_disposal()
     ensures { (facts : Facts) (day : Date) → facts.action ≡ Dispose
         → verdict_of facts day ≡ Allow → IsReadyForDisposal facts day }
+{}
+
+/// The rules of a policy that a text spells ask for names.
+pub fn spelled_policies()
+    ensures { (text : List ℕ) (policy : Contents)
+        → SpellsPolicy text policy → IsPolicy policy }
 {}
 
 /// The due day that is computed is the one that the calendar has.

@@ -2,7 +2,7 @@
 
 ghost use Rattle.std.specs.Prelude.{◌≡◌, ◌⊎◌, Err, IfErr, IfOk, MatchResult, option_copied, find, bytes_eq};
 ghost use Rattle.toml.specs.View.{table_view};
-ghost use Rattle.office_core.specs.Policies.{Answers, Contents, HasFirstFault, SpellsPolicy, policy_of, role_of, role_or_stranger};
+ghost use Rattle.office_core.specs.Policies.{Answers, Contents, HasFirstFault, IsPolicy, SpellsPolicy, policy_of, role_of, role_or_stranger};
 ghost use Rattle.office_core.specs.PolicyReading.{read_contents};
 ghost use Rattle.office_core.specs.declared.policy_fault.PolicyFault.{PolicyFault};
 ghost use Rattle.office_core.specs.declared.policy_fault.PolicyFault.TheVariants.{Memory};
@@ -23,11 +23,13 @@ pub struct Policy {
 }
 
 impl Model for Policy {
-    ghost use Rattle.office_core.specs.Policies.{Contents};
+    ghost use Rattle.office_core.specs.Policies.{Contents, IsPolicy};
 
     ghost Value = { Contents };
 
     ghost view = { λ policy. record { callers = policy.callers.items; rules = policy.rules.items } };
+
+    ghost invariant = { λ policy. IsPolicy (record { callers = policy.callers.items; rules = policy.rules.items }) };
 }
 
 impl Policy {
@@ -38,9 +40,10 @@ impl Policy {
         self.callers.as_slice()
     }
 
-    /// The rules, in the order of the file.
+    /// The rules, in the order of the file. They ask for names.
     pub fn rules(&self) -> &[Rule]
-        ensures { result.now ≡ self.now.rules }
+        ensures rules { result.now ≡ self.now.rules }
+        ensures names { IsPolicy self.now }
     {
         self.rules.as_slice()
     }

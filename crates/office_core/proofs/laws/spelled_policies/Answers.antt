@@ -1,0 +1,5 @@
+use Rattle.office_core.proofs.PolicyNames.{spelled_policy}
+use Rattle.office_core.proofs.laws.spelled_policies.Goals as goal
+
+pub returns : goal.returns
+returns c = spelled_policy
