@@ -17,12 +17,13 @@ use Rattle.office_core.specs.declared.retention.Due.TheVariants.{On, Never}
 use Rattle.office_core.specs.declared.action.Action.TheVariants as acts
 use Rattle.office_core.specs.declared.answer.Answer.{Answer}
 use Rattle.office_core.specs.declared.refusal.Refusal.{Refusal}
-use Rattle.office_core.specs.declared.refusal.Refusal.TheVariants.{NotDue}
+use Rattle.office_core.specs.declared.facts.Verdict.TheVariants.{NotDue}
+use Rattle.office_core.specs.Verdicts as core
 use Rattle.office_core.specs.declared.request.Request.{Request}
 use Rattle.office_core.specs.declared.request.Request.TheVariants.{DefineClass, DefineCollection, Deposit as MakeDeposit, List as ListDeposits, Record, Holds, DownloadBag, DownloadFile, Audit, HoldDeposit, HoldCollection, Release, Dispose, DueList}
-use Rattle.office_engine.specs.Histories.{History, Change, Installed, Destroyed, DefinedCollection, Deposit, has_collection, deposit_in, deposits, deposit_numbered, gone, due, live_holds}
+use Rattle.office_engine.specs.Histories.{History, Change, Installed, Destroyed, DefinedCollection, Deposit, has_collection, deposit_in, deposits, deposit_numbered, gone, due, live_holds, least_hold}
 use Rattle.office_engine.specs.Bags.{bag_of, valid_bag, if_valid, judged}
-use Rattle.office_engine.specs.Refusals.{refusal, of_deposit, denied_at, is_gone, held, not_due, not_due_before}
+use Rattle.office_engine.specs.Refusals.{refused, refusal, of_deposit, denied_at, is_gone, held, not_due}
 use Rattle.office_engine.specs.Answers.{change, changes_unless, allowed_change, deposit_change}
 use Rattle.office_engine.specs.Runs.{Item, Step, Run, IsLegal, new, install, serve, IsSound, IsDisposable, as_of}
 use Rattle.office_engine.proofs.ListLemmas.{all_append, split_two}
@@ -75,10 +76,10 @@ none_last : {A : Type 0} (c : A) (more rest : List A) → [] ≡ more ++ c ∷ r
 none_last c [] rest e = absurd cc
 none_last c (y ∷ more) rest e = absurd cc
 
-not_before : (day date : Date) → answer_if (int_lt (epoch_day day) (epoch_day date)) (NotDue (On date)) ≡ None → epoch_day date ≤ℤ epoch_day day
+not_before : (day date : Date) → refused (answer_if (int_lt (epoch_day day) (epoch_day date)) (NotDue date)) ≡ None → epoch_day date ≤ℤ epoch_day day
 not_before day date e =
     by_lt_z (epoch_day day) (epoch_day date)
-    (λ lt. let before : int_lt (epoch_day day) (epoch_day date) ≡ true = search (rules, lt) in let wrong : Some (NotDue (On date)) ≡ None = rw before at e in absurd cc)
+    (λ lt. let before : int_lt (epoch_day day) (epoch_day date) ≡ true = search (rules, lt) in let wrong : refused (Some (NotDue date)) ≡ None = rw before at e in absurd cc)
     (λ ge. ge)
 
 -- of refusals none stands where there is no first one
@@ -90,11 +91,19 @@ pub map_none : {A B : Type 0} (f : A → B) (o : Option A) → option_map f o �
 map_none f None e = refl
 map_none f (Some x) e = absurd cc
 
+not_gone : (o : Option Date) → refused (core.gone o) ≡ None → o ≡ None
+not_gone None e = refl
+not_gone (Some day) e = absurd cc
+
+not_held : (o : Option ℕ) → refused (core.held o) ≡ None → o ≡ None
+not_held None e = refl
+not_held (Some k) e = absurd cc
+
 none_first : (ks : List ℕ) → slice_get ks 0 ≡ None → ks ≡ []
 none_first [] e = refl
 none_first (k ∷ ks) e = absurd cc
 
-due_has_come : (day : Date) (d : Due) → not_due_before day d ≡ None → (date : Date) × (d ≡ On date) × (epoch_day date ≤ℤ epoch_day day)
+due_has_come : (day : Date) (d : Due) → refused (core.not_due day d) ≡ None → (date : Date) × (d ≡ On date) × (epoch_day date ≤ℤ epoch_day day)
 due_has_come day (On date) e = (date, refl, not_before day date e)
 due_has_come day Never e = absurd cc
 
@@ -111,8 +120,8 @@ disposable_at h day caller n (Some found) is e =
       found = found;
       date = come.0;
       there = is;
-      kept = map_none _ (gone h n) there.0;
-      unheld = none_first (live_holds h n found.1) (map_none _ (slice_get (live_holds h n found.1) 0) free.0);
+      kept = not_gone (gone h n) there.0;
+      unheld = none_first (live_holds h n found.1) (not_held (least_hold h n found.1) free.0);
       due = come.1;
       has_come = come.2;
     }

@@ -14,7 +14,8 @@ use Rattle.office_engine.specs.Histories.{History, Change, Installed, DefinedCol
 use Rattle.office_engine.specs.Bags.{bag_of}
 use Rattle.office_engine.specs.Refusals.{refusal, of_deposit, of_hold, denied_at, denied_release, is_gone, held, not_due, is_released}
 use Rattle.office_engine.specs.Answers.{change, changes_unless, allowed_change, deposit_change}
-use Rattle.office_engine.specs.Runs.{IsLegal, new, install, serve, IsPolicy}
+use Rattle.office_core.specs.Policies.{IsPolicy}
+use Rattle.office_engine.specs.Runs.{IsLegal, new, install, serve}
 use Rattle.office_engine.proofs.HistoryLemmas.{deposit_stays, hold_stays}
 use Rattle.office_engine.proofs.Alike.{policy_grown, gone_grown, released_grown}
 

@@ -11,4 +11,5 @@ pub mod PlainRuns
 pub mod Alike
 pub mod AlikeAnswers
 pub mod LegalReadings
+pub mod VerdictLemmas
 pub mod Pictured

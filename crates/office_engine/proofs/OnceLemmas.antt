@@ -1,5 +1,5 @@
 -- Numbers and accessions are given once, and released holds are not live.
-use Rattle.std.proofs.Common.{◌≡◌, ◌≤◌, ℕ, zero, suc, ◌+◌, Bool, true, false, ◌&&◌, List, [], ◌∷◌, ◌++◌, length, Option, Some, None, option_map, slice_get, position, bytes_eq, refl, sym, ap, subst, ◌∙◌, inl, inr, ◌⊎◌, append-nil, length-append, arith, if◌then◌else◌, filter, cond, int_lt}
+use Rattle.std.proofs.Common.{◌≡◌, ◌≤◌, ℕ, zero, suc, ◌+◌, Bool, true, false, ◌&&◌, List, [], ◌∷◌, ◌++◌, length, Option, Some, None, slice_get, position, bytes_eq, refl, sym, ap, subst, ◌∙◌, inl, inr, ◌⊎◌, append-nil, length-append, arith, if◌then◌else◌, filter, cond, int_lt}
 use Rattle.std.specs.List.{filter_map}
 use Rattle.std.proofs.lemmas.Bool.{and_parts, true≢false}
 use Rattle.std.proofs.lemmas.Option.{same_Some}
@@ -15,13 +15,15 @@ use Rattle.office_core.specs.declared.rule.Decision.{Decision}
 use Rattle.office_core.specs.declared.retention.Due.{Due}
 use Rattle.office_core.specs.declared.retention.Due.TheVariants.{On, Never}
 use Rattle.office_core.specs.declared.refusal.Refusal.{Refusal}
-use Rattle.office_core.specs.declared.refusal.Refusal.TheVariants.{Held, NotDue, Gone, DeniedByRule}
+use Rattle.office_core.specs.declared.refusal.Refusal.TheVariants.{Held}
+use Rattle.office_core.specs.declared.facts.Verdict.TheVariants.{NotDue, DeniedByRule}
+use Rattle.office_core.specs.Verdicts as core
 use Rattle.office_core.specs.declared.request.Request.{Request}
 use Rattle.office_core.specs.declared.request.Request.TheVariants.{DefineClass, DefineCollection, Deposit as MakeDeposit, List as ListDeposits, Record, Holds, DownloadBag, DownloadFile, Audit, HoldDeposit, HoldCollection, Release, Dispose, DueList}
 use Rattle.office_engine.specs.Lists.{numbered, numbers}
 use Rattle.office_engine.specs.Histories.{History, Change, Installed, DefinedCollection, Deposit, has_collection, grown, deposit_in, deposits, deposit_numbered, gone, due, holds, released, is_live, covers, live_holds}
 use Rattle.office_engine.specs.Bags.{bag_of}
-use Rattle.office_engine.specs.Refusals.{refusal, of_deposit, denied_at, denied_by, is_gone, held, not_due, not_due_before}
+use Rattle.office_engine.specs.Refusals.{refused, refusal, of_deposit, denied_at, is_gone, held, not_due}
 use Rattle.office_engine.specs.Answers.{answer, change, changes_unless, deposit_change, allowed_change, after}
 use Rattle.office_engine.specs.Runs.{IsLegal, new, install, serve}
 use Rattle.office_engine.proofs.ListLemmas.{numbered_cases, none_passes}
@@ -140,27 +142,27 @@ first_is : {A : Type 0} (o : Option A) (os : List (Option A)) (x : A) → first_
 first_is None os x e = inr e
 first_is (Some y) os x e = inl e
 
-denied_is_not_held : (d : Option Decision) (k : ℕ) → denied_by d ≡ Some (Held k) → ⊥
+denied_is_not_held : (d : Option Decision) (k : ℕ) → refused (core.denied d) ≡ Some (Held k) → ⊥
 denied_is_not_held None k e = absurd cc
 denied_is_not_held (Some d) k e = by_effect (allows d.effect) e
   where
-    by_effect : (t : Bool) → (if t then None else Some (DeniedByRule d.rule)) ≡ Some (Held k) → ⊥
+    by_effect : (t : Bool) → refused (if t then None else Some (DeniedByRule d.rule)) ≡ Some (Held k) → ⊥
     by_effect true e = absurd cc
     by_effect false e = absurd cc
 
-gone_is_not_held : (o : Option Date) (k : ℕ) → option_map Gone o ≡ Some (Held k) → ⊥
+gone_is_not_held : (o : Option Date) (k : ℕ) → refused (core.gone o) ≡ Some (Held k) → ⊥
 gone_is_not_held None k e = absurd cc
 gone_is_not_held (Some day) k e = absurd cc
 
-due_is_not_held : (day : Date) (d : Due) (k : ℕ) → not_due_before day d ≡ Some (Held k) → ⊥
+due_is_not_held : (day : Date) (d : Due) (k : ℕ) → refused (core.not_due day d) ≡ Some (Held k) → ⊥
 due_is_not_held day (On date) k e = by_test (int_lt (epoch_day day) (epoch_day date)) e
   where
-    by_test : (t : Bool) → answer_if t (NotDue (On date)) ≡ Some (Held k) → ⊥
+    by_test : (t : Bool) → refused (answer_if t (NotDue date)) ≡ Some (Held k) → ⊥
     by_test true e = absurd cc
     by_test false e = absurd cc
 due_is_not_held day Never k e = absurd cc
 
-held_by : (ks : Option ℕ) (k : ℕ) → option_map Held ks ≡ Some (Held k) → ks ≡ Some k
+held_by : (ks : Option ℕ) (k : ℕ) → refused (core.held ks) ≡ Some (Held k) → ks ≡ Some k
 held_by None k e = absurd cc
 held_by (Some j) k e = let same : j ≡ k = cc in ap Some same
 

@@ -30,7 +30,8 @@ use Rattle.office_engine.specs.Lists.{first_said, last_said, numbered, numbers, 
 use Rattle.office_engine.specs.Histories.{History, Change, Installed, DefinedClass, DefinedCollection, Deposited, PlacedHold, ReleasedHold, Destroyed, Target, OnDeposit, OnCollection, Deposit, Hold, policy, years_in, years_of, deposits, deposit_numbered, gone, holds, hold_numbered, released}
 use Rattle.office_engine.specs.Pictures.{effect_number, pattern_text, action_pattern_text, caller_row, rule_rows, years_number, class_row, class_in, class_rows, deposit_row, row_of_deposit, file_row, file_rows, held_deposit, held_collection, hold_row, row_of_hold, picture}
 use Rattle.office_engine.specs.Stocks.{files_of}
-use Rattle.office_engine.specs.Runs.{IsLegal, IsNamed, HasNames}
+use Rattle.office_core.specs.Policies.{IsNamed, HasNames}
+use Rattle.office_engine.specs.Runs.{IsLegal}
 use Rattle.office_engine.proofs.Alike.{outline, Alike}
 use Rattle.office_engine.proofs.AlikeAnswers.{among_first_places}
 use Rattle.office_engine.proofs.LegalReadings.{legal_policy, none_gone, none_released}

@@ -2,8 +2,10 @@
 use Rattle.std.proofs.Common.{◌≡◌, ℕ, zero, suc, arith, append-nil, ◌≤◌, ◌+◌, ◌<◌, List, [], ◌∷◌, ◌++◌, length, drop, get_or, sym, ap, ◌∙◌, subst, refl, inl, inr, append_assoc}
 use Rattle.std.proofs.lemmas.List.{drop_more}
 use Rattle.office_core.specs.declared.answer.Answer.{Answer}
-use Rattle.office_engine.specs.Histories.{History}
-use Rattle.office_engine.specs.Runs.{Item, Step, Run}
+use Rattle.std.specs.Prelude.{Result, Ok, Err, OnOk, OnErr}
+use Rattle.office_core.specs.Policies.{Contents, IsPolicy}
+use Rattle.office_engine.specs.Histories.{History, Installed, grown}
+use Rattle.office_engine.specs.Runs.{Item, Step, Run, IsLegal, install}
 use Rattle.office_engine.specs.PlainOffices.{Serves, ServesAll}
 
 -- what the plain office does is a step of a run
@@ -45,3 +47,9 @@ run_end first last items i answers past begun =
     let P : List Item → Type 0 = λ left. ServesAll last left [] last in
     let Q : List Answer → Type 0 = λ all. ServesAll first items all last in
     subst Q (append-nil answers) (begun [] last (subst P (sym (drop_past i items past)) refl))
+
+-- an install keeps a history legal, and so does one that failed
+pub install_legal : {E : Type 0} (h next : History) (policy : Contents) (r : Result (Unit {0}) E) → IsPolicy policy
+    → OnOk r (next ≡ grown h (Installed policy ∷ [])) → OnErr r (next ≡ h) → IsLegal h → IsLegal next
+install_legal h next policy (Ok x) names installed failed legal = subst IsLegal (sym installed) (install h policy names legal)
+install_legal h next policy (Err e) names installed failed legal = subst IsLegal (sym failed) legal

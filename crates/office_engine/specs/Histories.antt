@@ -1,6 +1,6 @@
 -- The history of an office: its limits, and the changes that it accepted, the oldest first. Whatever the office knows
 -- is read off this list as a whole: no count, no due day and no cover is kept beside it.
-use Rattle.std.specs.Prelude.{ℕ, ◌+◌, ◌==◌, ◌&&◌, Bool, false, List, [], ◌++◌, length, filter, Option, Some, None, is_some, is_none, option_map, unwrap_or, position, bytes_eq, if◌then◌else◌}
+use Rattle.std.specs.Prelude.{ℕ, ◌+◌, ◌==◌, ◌&&◌, Bool, false, List, [], ◌++◌, length, filter, Option, Some, None, is_some, is_none, option_map, unwrap_or, position, slice_get, bytes_eq, if◌then◌else◌}
 use Rattle.std.specs.List.{list_any, filter_map}
 use Rattle.std.specs.Option.{option_map_or}
 use Rattle.jiff.specs.Types.{Date}
@@ -151,3 +151,7 @@ covers h k n deposit = option_map_or (λ hold. reaches hold.1.target n deposit) 
 -- the numbers of the live holds that cover a deposit, ascending
 abbrev pub live_holds : History → ℕ → Deposit → List ℕ
 live_holds h n deposit = filter (λ k. is_live h k && covers h k n deposit) (numbers (length (holds h)))
+
+-- the least of them, if there is one
+abbrev pub least_hold : History → ℕ → Deposit → Option ℕ
+least_hold h n deposit = slice_get (live_holds h n deposit) 0

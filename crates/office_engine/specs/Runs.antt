@@ -1,13 +1,8 @@
 -- Runs of requests, and the histories that they make.
 use Rattle.std.specs.Prelude.{◌≡◌, ℕ, ◌⊎◌, ◌≤ℤ◌, List, [], ◌∷◌, Some, None}
-use Rattle.std.specs.List.{AllByRecursion}
 use denote.Ref.{Bor}
 use Rattle.jiff.specs.Types.{Date}
-use Rattle.office_core.specs.Names.{IsName}
-use Rattle.office_core.specs.Policies.{Contents}
-use Rattle.office_core.specs.declared.rule.Pattern.{Pattern}
-use Rattle.office_core.specs.declared.rule.Pattern.TheVariants.{Any, Named}
-use Rattle.office_core.specs.declared.rule.Rule.{Rule}
+use Rattle.office_core.specs.Policies.{Contents, IsPolicy}
 use Rattle.bag_text.specs.TransferForm.{File, IsBag}
 use Rattle.bag_text.specs.declared.declaration.Version.{Version}
 use Rattle.bag_check.specs.Validity.{Valid}
@@ -52,18 +47,6 @@ IsLater h next = (more : List Change) × (next ≡ grown h more)
 abbrev pub created : ℕ → ℕ → History
 created max_deposits max_holds =
     record { max_deposits = max_deposits; max_holds = max_holds; changes = [] }
-
--- a pattern asks for everything, or for a name
-abbrev pub IsNamed : Pattern → Type 0
-IsNamed Any = Unit {0}
-IsNamed (Named only) = IsName only
-
-abbrev pub HasNames : Rule → Type 0
-HasNames rule = IsNamed rule.role × IsNamed rule.collection × IsNamed rule.class
-
--- each rule asks for names, as every policy does that is read
-abbrev pub IsPolicy : Contents → Type 0
-IsPolicy policy = AllByRecursion HasNames policy.rules
 
 -- A legal history is made from that of a new office by installs of policies and by requests.
 pub data IsLegal : History → Type 0 where

@@ -12,7 +12,11 @@ ghost use Rattle.bag_check.specs.Validity.{Valid};
 ghost use Rattle.bag_check.specs.Faults.{Fault, FirstFault};
 ghost use Rattle.bag_check.specs.FaultTexts.{fault_text};
 ghost use Rattle.office_core.specs.Policies.{Contents};
+ghost use Rattle.office_core.specs.FirstOf.{first_some};
 ghost use Rattle.office_core.specs.Retention.{due_of};
+ghost use Rattle.office_core.specs.Verdicts.{verdict_of};
+ghost use Rattle.office_core.specs.declared.action.Action.{Action};
+ghost use Rattle.office_core.specs.declared.action.Action.TheVariants as acts;
 ghost use Rattle.office_core.specs.declared.answer.Answer.{Answer};
 ghost use Rattle.office_core.specs.declared.answer.Answer.TheVariants as answers;
 ghost use Rattle.office_core.specs.declared.answer.LiveHold.{LiveHold};
@@ -22,7 +26,7 @@ ghost use Rattle.office_core.specs.declared.request.Request.{Request};
 ghost use Rattle.office_core.specs.declared.request.Request.TheVariants.{DefineClass, Deposit as MakeDeposit, DownloadBag, Holds, HoldCollection, Release, Dispose};
 ghost use Rattle.office_engine.specs.Bags.{bag_of};
 ghost use Rattle.office_engine.specs.Histories.{History, Change, Installed, Destroyed, Deposit, Hold, OnCollection, grown, deposit_numbered, hold_numbered, released, covers, live_holds, due};
-ghost use Rattle.office_engine.specs.Refusals.{refusal};
+ghost use Rattle.office_engine.specs.Refusals.{asked_row, facts_of, refusal, refusal_of};
 ghost use Rattle.office_engine.specs.Answers.{answer, change, after};
 ghost use Rattle.office_engine.specs.Pictures.{picture};
 ghost use Rattle.office_engine.specs.Runs.{Item, Step, Run, IsLater, IsLegal, IsSound, IsDisposable, as_of};
@@ -55,6 +59,19 @@ pub fn sound_bags()
 pub fn disposals_stand()
     ensures { (h : History) → IsLegal h → (before rest : List Change) (day : Date) (n : ℕ)
         → h.changes ≡ before ++ Destroyed day n ∷ rest → IsDisposable (as_of h before) day n }
+{}
+
+/// What is asked of a deposit that is there is decided by the verdict of `office_core` on what is
+/// known of it: the row of refusals and the verdict refuse the same.
+pub fn verdicts_decide()
+    ensures asked { (h : History) (day : Date) (caller : List ℕ)
+        (action : Action) (n : ℕ) (deposit : Deposit)
+        → first_some (asked_row h day caller action n deposit)
+        ≡ refusal_of (verdict_of (facts_of h caller action n deposit) day) }
+    ensures disposal { (h : History) (day : Date) (caller : List ℕ) (n : ℕ) (found : Date × Deposit)
+        → deposit_numbered h n ≡ Some found
+        → refusal h day caller (Dispose n)
+        ≡ refusal_of (verdict_of (facts_of h caller acts.Dispose n found.1) day) }
 {}
 
 /// A refusal changes nothing, whether the office gives it, or memory or the store.

@@ -2,7 +2,7 @@
 
 ghost use Rattle.std.specs.Prelude.{◌≡◌, ◌≤◌, length, [], ◌∷◌, IfErr, IfOk, OnOk, OnErr};
 ghost use Rattle.office_engine.specs.Histories.{grown, Installed};
-ghost use Rattle.office_engine.specs.Runs.{created};
+ghost use Rattle.office_engine.specs.Runs.{created, IsLegal};
 ghost use Rattle.office_engine.specs.PlainOffices.{IsWithin, HasRoom};
 ghost use Rattle.office_engine.specs.PlainChanges.{change_seen};
 
@@ -32,7 +32,8 @@ impl Model for Office {
 
 /// A new office.
 pub fn create(alloc: Global, limits: Limits) -> Office
-    ensures { result ≡ created limits.deposits limits.holds }
+    ensures created { result ≡ created limits.deposits limits.holds }
+    ensures legal { IsLegal result }
 {
     Office {
         limits,
@@ -66,10 +67,14 @@ pub fn accept(office: &mut Office, kind: Kind) -> Result<(), AllocError>
     Ok(())
 }
 
-/// Installs a policy in the place of the one before. An `Err` leaves the office as it was.
+/// Installs a policy in the place of the one before. An `Err` leaves the office as it was. A legal
+/// history stays legal.
 pub fn install(office: &mut Office, policy: Policy) -> Result<(), AllocError>
     ensures installed { OnOk result (office.new ≡ grown office.old (Installed policy ∷ [])) }
     ensures failed { OnErr result (office.new ≡ office.old) }
+    ensures legal { IsLegal office.old → IsLegal office.new }
 {
+    // Each policy's rules ask for names: what `rules` says of it.
+    let _rules = policy.rules();
     accept(office, Kind::Installed(policy))
 }

@@ -3,7 +3,7 @@
 ghost use Rattle.std.specs.Prelude.{◌≡◌, IfOk, option_copied};
 ghost use Rattle.office_core.specs.Policies.{role_of};
 ghost use Rattle.office_engine.specs.Histories.{policy};
-ghost use Rattle.office_engine.specs.Refusals.{denied_by, denied, denied_at, no_such_class, no_such_collection, is_gone, taken, closed_ahead, bad_bag, held, not_due_before, not_due, is_released, full_of_deposits, full_of_holds, no_file};
+ghost use Rattle.office_engine.specs.Refusals.{decided, refusal_of, facts_of, denied, denied_at, no_such_class, no_such_collection, taken, closed_ahead, bad_bag, is_released, full_of_deposits, full_of_holds, no_file};
 
 use crate::plain::change::Deposit;
 use crate::plain::history::{Office, limits_of};
@@ -12,7 +12,9 @@ use crate::plain::reading::{
     accession_of, deposit_count, due, gone, has_class, has_collection, hold_count, installed,
     live_holds, released,
 };
-use office_core::{Action, Ask, Day, Decision, Due, Effect, Refusal, Rule, Subject, decide};
+use office_core::{
+    Action, Ask, Day, Decision, Due, Facts, Refusal, Rule, Subject, Verdict, decide,
+};
 use std::alloc::{AllocError, Global};
 
 /// The role of a caller by the policy that was installed last.
@@ -35,16 +37,63 @@ fn rules_of(office: &Office) -> &[Rule]
     }
 }
 
-fn denied_by(decision: Option<Decision>) -> Option<Refusal>
-    ensures { result ≡ denied_by decision }
+/// The rule that decides what a caller asks.
+fn decided(
+    office: &Office,
+    caller: &str,
+    action: Action,
+    collection: Option<&str>,
+    class: Option<&str>,
+) -> Option<Decision>
+    ensures { result ≡ decided office.now caller.now action
+        (option_copied collection.entry) (option_copied class.entry) }
 {
-    match decision {
-        None => Some(Refusal::DeniedByDefault),
-        Some(decision) => match decision.effect {
-            Effect::Allow => None,
-            Effect::Deny => Some(Refusal::DeniedByRule(decision.rule)),
-        },
+    let ask = Ask {
+        role: role_of(office, caller),
+        action,
+        collection,
+        class,
+    };
+    decide(rules_of(office), &ask)
+}
+
+/// The refusal that a verdict is.
+pub fn refusal_of(verdict: Verdict) -> Option<Refusal>
+    ensures { result ≡ refusal_of verdict }
+{
+    match verdict {
+        Verdict::DeniedByRule(rule) => Some(Refusal::DeniedByRule(rule)),
+        Verdict::DeniedByDefault => Some(Refusal::DeniedByDefault),
+        Verdict::Gone(day) => Some(Refusal::Gone(day)),
+        Verdict::Held(hold) => Some(Refusal::Held(hold)),
+        Verdict::NotDue(date) => Some(Refusal::NotDue(Due::On(date))),
+        Verdict::Permanent => Some(Refusal::NotDue(Due::Never)),
+        Verdict::Allow => None,
     }
+}
+
+/// What is known of an action on a deposit.
+pub fn facts_of(
+    alloc: Global,
+    office: &Office,
+    caller: &str,
+    action: Action,
+    number: u32,
+    deposit: &Deposit,
+) -> Result<Facts, AllocError>
+    ensures { IfOk result (λ facts.
+        facts ≡ facts_of office.now caller.now action number deposit.now) }
+{
+    let holds = live_holds(alloc, office, number, deposit)?;
+    let collection = deposit.collection.as_str();
+    let class = deposit.class.as_str();
+    Ok(Facts {
+        action,
+        decision: decided(office, caller, action, Some(collection), Some(class)),
+        gone: gone(office, number),
+        hold: holds.first().copied(),
+        due: due(office, deposit),
+    })
 }
 
 /// E2
@@ -55,15 +104,13 @@ pub fn denied(
     collection: Option<&str>,
     class: Option<&str>,
 ) -> Option<Refusal>
-    ensures { result ≡ denied office.now caller.now action (option_copied collection.entry) (option_copied class.entry) }
+    ensures { result ≡ denied office.now caller.now action
+        (option_copied collection.entry) (option_copied class.entry) }
 {
-    let ask = Ask {
-        role: role_of(office, caller),
-        action,
-        collection,
-        class,
-    };
-    denied_by(decide(rules_of(office), &ask))
+    match office_core::denied(decided(office, caller, action, collection, class)) {
+        Some(verdict) => refusal_of(verdict),
+        None => None,
+    }
 }
 
 /// E2, asked of a deposit: of its collection and its class.
@@ -106,16 +153,6 @@ pub fn no_such_collection(office: &Office, name: &str) -> Option<Refusal>
     }
 }
 
-/// E3
-pub fn is_gone(office: &Office, number: u32) -> Option<Refusal>
-    ensures { result ≡ is_gone office.now number }
-{
-    match gone(office, number) {
-        Some(day) => Some(Refusal::Gone(day)),
-        None => None,
-    }
-}
-
 /// E4
 pub fn taken(office: &Office, accession: &str) -> Option<Refusal>
     ensures { result ≡ taken office.now accession.now }
@@ -145,44 +182,6 @@ pub fn bad_bag(alloc: Global, text: &[u8]) -> Result<Option<Refusal>, AllocError
         Ok(_) => Ok(None),
         Err(fault) => Ok(Some(Refusal::BadBag(fault))),
     }
-}
-
-/// E7
-pub fn held(
-    alloc: Global,
-    office: &Office,
-    number: u32,
-    deposit: &Deposit,
-) -> Result<Option<Refusal>, AllocError>
-    ensures { IfOk result (λ refusal. refusal ≡ held office.now number deposit.now) }
-{
-    let holds = live_holds(alloc, office, number, deposit)?;
-    match holds.first() {
-        Some(hold) => Ok(Some(Refusal::Held(*hold))),
-        None => Ok(None),
-    }
-}
-
-fn not_due_before(day: Day, due: Due) -> Option<Refusal>
-    ensures { result ≡ not_due_before day due }
-{
-    match due {
-        Due::On(date) => {
-            if day.number() < date.to_plain().to_unix_epoch_day() {
-                Some(Refusal::NotDue(due))
-            } else {
-                None
-            }
-        }
-        Due::Never => Some(Refusal::NotDue(due)),
-    }
-}
-
-/// E8
-pub fn not_due(office: &Office, day: Day, deposit: &Deposit) -> Option<Refusal>
-    ensures { result ≡ not_due office.now day deposit.now }
-{
-    not_due_before(day, due(office, deposit))
 }
 
 /// E9

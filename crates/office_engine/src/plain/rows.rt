@@ -1,45 +1,53 @@
 //! The refusals of each request, in their order.
 
-ghost use Rattle.std.specs.Prelude.{◌≡◌, ◌∷◌, [], IfOk};
+ghost use Rattle.std.specs.Prelude.{◌≡◌, IfOk};
 ghost use Rattle.office_core.specs.FirstOf.{first_some};
-ghost use Rattle.office_core.specs.declared.action.Action.TheVariants as acts;
 ghost use Rattle.office_core.specs.declared.request.Request.TheVariants as requests;
 ghost use Rattle.office_engine.specs.Histories.{deposit_numbered, hold_numbered};
-ghost use Rattle.office_engine.specs.Refusals.{of_deposit, of_hold, denied, denied_at, no_such_collection, full_of_holds, held, not_due, no_file, is_gone, taken, closed_ahead, bad_bag, full_of_deposits, no_such_class, is_released, denied_release, refusal};
+ghost use Rattle.office_engine.specs.Refusals.{of_deposit, of_hold, denied_release, asked_row, file_row, hold_row, collection_hold_row, release_row, place_row, bag_row, refusal};
 
 use crate::plain::change::{Deposit, Hold, Target};
 use crate::plain::history::Office;
 use crate::plain::reading::{deposit_numbered, hold_numbered};
 use crate::plain::refusing::{
-    bad_bag, closed_ahead, denied, denied_at, full_of_deposits, full_of_holds, held, is_gone,
-    is_released, no_file, no_such_class, no_such_collection, not_due, taken,
+    bad_bag, closed_ahead, denied, denied_at, facts_of, full_of_deposits, full_of_holds,
+    is_released, no_file, no_such_class, no_such_collection, refusal_of, taken,
 };
-use office_core::{Action, Day, Name, Refusal, Request, Subject};
+use office_core::{Action, Day, Name, Refusal, Request, Subject, verdict};
 use std::alloc::{AllocError, Global};
 
-/// E2 and E3.
-fn kept_row(
+/// E2 and E3, and of a disposal E7 and E8: the verdict on what is known.
+fn asked_row(
+    alloc: Global,
     office: &Office,
+    day: Day,
     caller: &str,
     action: Action,
     number: u32,
     deposit: &Deposit,
-) -> Option<Refusal>
-    ensures { result ≡ first_some (denied_at office.now caller.now action deposit.now ∷ is_gone office.now number ∷ []) }
+) -> Result<Option<Refusal>, AllocError>
+    ensures { IfOk result (λ found. found
+        ≡ first_some (asked_row office.now day caller.now action number deposit.now)) }
 {
-    if let Some(refusal) = denied_at(office, caller, action, deposit) {
-        return Some(refusal);
-    }
-    is_gone(office, number)
+    let facts = facts_of(alloc, office, caller, action, number, deposit)?;
+    Ok(refusal_of(verdict(&facts, day)))
 }
 
-/// E1, E2 and E3.
-fn unkept(office: &Office, caller: &str, action: Action, number: u32) -> Option<Refusal>
-    ensures { result ≡ first_some (of_deposit (deposit_numbered office.now number) (λ d. denied_at office.now caller.now action d ∷ is_gone office.now number ∷ [])) }
+/// E1, and what is asked of the deposit that is there.
+fn asked(
+    alloc: Global,
+    office: &Office,
+    day: Day,
+    caller: &str,
+    action: Action,
+    number: u32,
+) -> Result<Option<Refusal>, AllocError>
+    ensures { IfOk result (λ found. found ≡ first_some (of_deposit
+        (deposit_numbered office.now number) (asked_row office.now day caller.now action number))) }
 {
     match deposit_numbered(office, number) {
-        Some((_, deposit)) => kept_row(office, caller, action, number, deposit),
-        None => Some(Refusal::NoSuch(Subject::Deposit)),
+        Some((_, deposit)) => asked_row(alloc, office, day, caller, action, number, deposit),
+        None => Ok(Some(Refusal::NoSuch(Subject::Deposit))),
     }
 }
 
@@ -52,7 +60,8 @@ fn bag_row(
     closed: Day,
     bag: &[u8],
 ) -> Result<Option<Refusal>, AllocError>
-    ensures { IfOk result (λ found. found ≡ first_some (taken office.now accession.now ∷ closed_ahead day closed ∷ bad_bag bag.now ∷ full_of_deposits office.now ∷ [])) }
+    ensures { IfOk result (λ found. found
+        ≡ first_some (bag_row office.now day accession.now closed bag.now)) }
 {
     if let Some(refusal) = taken(office, accession) {
         return Ok(Some(refusal));
@@ -68,7 +77,7 @@ fn bag_row(
 
 /// E1 and E2.
 fn place_row(office: &Office, caller: &str, collection: &str, class: &str) -> Option<Refusal>
-    ensures { result ≡ first_some (no_such_collection office.now collection.now ∷ no_such_class office.now class.now ∷ denied office.now caller.now acts.Deposit (Some collection.now) (Some class.now) ∷ []) }
+    ensures { result ≡ first_some (place_row office.now caller.now collection.now class.now) }
 {
     if let Some(refusal) = no_such_collection(office, collection) {
         return Some(refusal);
@@ -89,20 +98,27 @@ fn place_row(office: &Office, caller: &str, collection: &str, class: &str) -> Op
 fn file_row(
     alloc: Global,
     office: &Office,
+    day: Day,
     caller: &str,
     number: u32,
     deposit: &Deposit,
     path: &[u8],
 ) -> Result<Option<Refusal>, AllocError>
-    ensures { IfOk result (λ found. found ≡ first_some (denied_at office.now caller.now acts.Download deposit.now ∷ is_gone office.now number ∷ no_file deposit.now path.now ∷ [])) }
+    ensures { IfOk result (λ found. found
+        ≡ first_some (file_row office.now caller.now number path.now deposit.now)) }
 {
-    if let Some(refusal) = denied_at(office, caller, Action::Download, deposit) {
-        return Ok(Some(refusal));
+    match asked_row(
+        alloc,
+        office,
+        day,
+        caller,
+        Action::Download,
+        number,
+        deposit,
+    )? {
+        Some(refusal) => Ok(Some(refusal)),
+        None => no_file(alloc, deposit, path),
     }
-    if let Some(refusal) = is_gone(office, number) {
-        return Ok(Some(refusal));
-    }
-    no_file(alloc, deposit, path)
 }
 
 /// E1, E2, E3 and E13.
@@ -117,37 +133,49 @@ fn file_refusal(
     ensures { IfOk result (λ found. found ≡ refusal office.now day caller.now (requests.DownloadFile number path.entry)) }
 {
     match deposit_numbered(office, number) {
-        Some((_, deposit)) => file_row(alloc, office, caller, number, deposit, path),
+        Some((_, deposit)) => file_row(alloc, office, day, caller, number, deposit, path),
         None => Ok(Some(Refusal::NoSuch(Subject::Deposit))),
     }
 }
 
 /// E2, E3 and E10.
-fn hold_row(office: &Office, caller: &str, number: u32, deposit: &Deposit) -> Option<Refusal>
-    ensures { result ≡ first_some (denied_at office.now caller.now acts.Hold deposit.now ∷ is_gone office.now number ∷ full_of_holds office.now ∷ []) }
+fn hold_row(
+    alloc: Global,
+    office: &Office,
+    day: Day,
+    caller: &str,
+    number: u32,
+    deposit: &Deposit,
+) -> Result<Option<Refusal>, AllocError>
+    ensures { IfOk result (λ found. found
+        ≡ first_some (hold_row office.now caller.now number deposit.now)) }
 {
-    if let Some(refusal) = denied_at(office, caller, Action::Hold, deposit) {
-        return Some(refusal);
+    match asked_row(alloc, office, day, caller, Action::Hold, number, deposit)? {
+        Some(refusal) => Ok(Some(refusal)),
+        None => Ok(full_of_holds(office)),
     }
-    if let Some(refusal) = is_gone(office, number) {
-        return Some(refusal);
-    }
-    full_of_holds(office)
 }
 
 /// E1, E2, E3 and E10.
-fn hold_refusal(office: &Office, caller: &str, number: u32) -> Option<Refusal>
-    ensures { result ≡ first_some (of_deposit (deposit_numbered office.now number) (λ d. denied_at office.now caller.now acts.Hold d ∷ is_gone office.now number ∷ full_of_holds office.now ∷ [])) }
+fn hold_refusal(
+    alloc: Global,
+    office: &Office,
+    day: Day,
+    caller: &str,
+    number: u32,
+) -> Result<Option<Refusal>, AllocError>
+    ensures { IfOk result (λ found. found ≡ first_some (of_deposit
+        (deposit_numbered office.now number) (hold_row office.now caller.now number))) }
 {
     match deposit_numbered(office, number) {
-        Some((_, deposit)) => hold_row(office, caller, number, deposit),
-        None => Some(Refusal::NoSuch(Subject::Deposit)),
+        Some((_, deposit)) => hold_row(alloc, office, day, caller, number, deposit),
+        None => Ok(Some(Refusal::NoSuch(Subject::Deposit))),
     }
 }
 
 /// E1, E2 and E10.
 fn collection_hold_refusal(office: &Office, caller: &str, name: &Name<'_>) -> Option<Refusal>
-    ensures { result ≡ first_some (no_such_collection office.now name.now ∷ denied office.now caller.now acts.Hold (Some name.now) None ∷ full_of_holds office.now ∷ []) }
+    ensures { result ≡ first_some (collection_hold_row office.now caller.now name.now) }
 {
     if let Some(refusal) = no_such_collection(office, name.as_str()) {
         return Some(refusal);
@@ -179,7 +207,8 @@ fn denied_release(office: &Office, caller: &str, hold: &Hold) -> Option<Refusal>
 
 /// E1, E2 and E9.
 fn release_refusal(office: &Office, caller: &str, number: u32) -> Option<Refusal>
-    ensures { result ≡ first_some (of_hold (hold_numbered office.now number) (λ hold. denied_release office.now caller.now hold.target ∷ is_released office.now number ∷ [])) }
+    ensures { result ≡ first_some (of_hold (hold_numbered office.now number)
+        (release_row office.now caller.now number)) }
 {
     let Some((_, hold)) = hold_numbered(office, number) else {
         return Some(Refusal::NoSuch(Subject::Hold));
@@ -188,29 +217,6 @@ fn release_refusal(office: &Office, caller: &str, number: u32) -> Option<Refusal
         return Some(refusal);
     }
     is_released(office, number)
-}
-
-/// E2, E3, E7 and E8.
-fn dispose_row(
-    alloc: Global,
-    office: &Office,
-    day: Day,
-    caller: &str,
-    number: u32,
-    deposit: &Deposit,
-) -> Result<Option<Refusal>, AllocError>
-    ensures { IfOk result (λ found. found ≡ first_some (denied_at office.now caller.now acts.Dispose deposit.now ∷ is_gone office.now number ∷ held office.now number deposit.now ∷ not_due office.now day deposit.now ∷ [])) }
-{
-    if let Some(refusal) = denied_at(office, caller, Action::Dispose, deposit) {
-        return Ok(Some(refusal));
-    }
-    if let Some(refusal) = is_gone(office, number) {
-        return Ok(Some(refusal));
-    }
-    if let Some(refusal) = held(alloc, office, number, deposit)? {
-        return Ok(Some(refusal));
-    }
-    Ok(not_due(office, day, deposit))
 }
 
 /// E1, E2, E3, E7 and E8.
@@ -223,10 +229,7 @@ pub fn dispose_refusal(
 ) -> Result<Option<Refusal>, AllocError>
     ensures { IfOk result (λ found. found ≡ refusal office.now day caller.now (requests.Dispose number)) }
 {
-    match deposit_numbered(office, number) {
-        Some((_, deposit)) => dispose_row(alloc, office, day, caller, number, deposit),
-        None => Ok(Some(Refusal::NoSuch(Subject::Deposit))),
-    }
+    asked(alloc, office, day, caller, Action::Dispose, number)
 }
 
 /// The first refusal that stands, or none where the request is allowed.
@@ -265,14 +268,21 @@ pub fn refusal(
             None => bag_row(alloc, office, day, accession.as_str(), *closed, *bag),
         },
         Request::List { .. } => Ok(None),
-        Request::Record { deposit } => Ok(unkept(office, caller, Action::Record, *deposit)),
-        Request::Holds { deposit } => Ok(unkept(office, caller, Action::Holds, *deposit)),
-        Request::DownloadBag { deposit } => Ok(unkept(office, caller, Action::Download, *deposit)),
+        Request::Record { deposit } => asked(alloc, office, day, caller, Action::Record, *deposit),
+        Request::Holds { deposit } => asked(alloc, office, day, caller, Action::Holds, *deposit),
+        Request::DownloadBag { deposit } => asked(
+            alloc,
+            office,
+            day,
+            caller,
+            Action::Download,
+            *deposit,
+        ),
         Request::DownloadFile { deposit, path } => file_refusal(
             alloc, office, day, caller, *deposit, *path,
         ),
-        Request::Audit { deposit } => Ok(unkept(office, caller, Action::Audit, *deposit)),
-        Request::HoldDeposit { deposit, .. } => Ok(hold_refusal(office, caller, *deposit)),
+        Request::Audit { deposit } => asked(alloc, office, day, caller, Action::Audit, *deposit),
+        Request::HoldDeposit { deposit, .. } => hold_refusal(alloc, office, day, caller, *deposit),
         Request::HoldCollection { collection, .. } => Ok(collection_hold_refusal(
             office, caller, collection,
         )),

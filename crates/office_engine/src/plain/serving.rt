@@ -7,6 +7,7 @@ ghost use Rattle.office_engine.specs.Histories.{PlacedHold};
 ghost use Rattle.office_engine.specs.PlainChanges.{change_seen, changes_seen};
 ghost use Rattle.office_engine.specs.PlainTargets.{target_seen};
 ghost use Rattle.office_engine.specs.PlainOffices.{Serves};
+ghost use Rattle.office_engine.specs.Runs.{IsLegal};
 
 use crate::plain::answering::allowed_answer;
 use crate::plain::change::{Deposit, Hold, Kind, Target};
@@ -117,7 +118,8 @@ fn serve(
     Ok(answer)
 }
 
-/// Answers a caller's request on that day. Where memory runs out the office is as it was, as after every refusal.
+/// Answers a caller's request on that day. Where memory runs out the office is as it was, as after
+/// every refusal. A legal history stays legal.
 pub fn step(
     alloc: Global,
     office: &mut Office,
@@ -125,7 +127,8 @@ pub fn step(
     caller: &str,
     request: &Request<'_>,
 ) -> Answer
-    ensures { Serves office.old day caller.now request.now result office.new }
+    ensures served { Serves office.old day caller.now request.now result office.new }
+    ensures legal { IsLegal office.old → IsLegal office.new }
 {
     match serve(alloc, office, day, caller, request) {
         Ok(answer) => answer,
