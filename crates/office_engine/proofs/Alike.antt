@@ -1,6 +1,6 @@
 -- Two histories that agree in all that the office decides by: they grow alike, and have one picture.
 use Rattle.std.proofs.Common.{◌≡◌, ℕ, zero, suc, ℤ, Bool, true, false, List, [], ◌∷◌, ◌++◌, length, map, filter, Option, Some, None, option_map, unwrap_or, slice_get, is_none, refl, sym, ap, ◌∙◌, pos, true≢false, arith, cond}
-use Rattle.std.specs.Prelude.{bytes_eq}
+use Rattle.std.specs.Prelude.{bytes_eq, sum}
 use Rattle.std.specs.List.{filter_map, flat_map, list_any, cons_option}
 use Rattle.std.specs.Option.{option_or, option_map_or}
 use Rattle.std.proofs.lemmas.List.{map-append, length-map}
@@ -13,7 +13,7 @@ use Rattle.bag_check.specs.Validity.{payload_files, payload_bytes}
 use Rattle.office_tables.specs.Rows.{DepositRow, HoldRow}
 use Rattle.office_engine.specs.Lists.{first_said, last_said, numbered, numbers, distinct_after, in_first_places}
 use Rattle.office_engine.specs.Histories.{History, Change, Deposit, Hold, grown, installed_in, no_policy, policy, years_in, years_of, collection_in, deposit_in, deposits, deposit_numbered, destroyed_in, gone, kept, hold_in, holds, released_in, released}
-use Rattle.office_engine.specs.Stocks.{files_of}
+use Rattle.office_engine.specs.Stocks.{files_of, Stock, stock}
 use Rattle.office_engine.specs.Pictures.{class_in, class_row, caller_row, rule_rows, file_row, file_rows, held_deposit, held_collection, deposit_row, row_of_deposit, picture}
 use Rattle.office_engine.proofs.HistoryLemmas.{deposits_grown, holds_grown}
 
@@ -257,3 +257,21 @@ same_picture h k a version = λ i. record {
       placed = epoch_day found.0;
       released = option_map epoch_day released;
     }
+
+-- ---- and the stock
+
+kept_files : (h k : History) → Alike h k → flat_map (files_of h) (kept h) ≡ flat_map (files_of k) (kept k)
+kept_files h k a =
+    gathered_of_kept (λ n. is_none (gone h n)) (files_of h) (files_of k) (numbers (length (deposits h)))
+    (λ n e. a.same_bags n (kept_is_not_gone (gone h n) e))
+    ∙ ap (flat_map (files_of k)) (same_kept h k a)
+
+-- the stock of these files
+abbrev stock_of : List File → Stock
+stock_of files = record {
+  contents = length (in_first_places (map (λ file. file.content) files));
+  bytes = sum (map length (in_first_places (map (λ file. file.content) files)));
+}
+
+pub same_stock : (h k : History) → Alike h k → stock h ≡ stock k
+same_stock h k a = ap stock_of (kept_files h k a)

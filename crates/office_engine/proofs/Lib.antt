@@ -12,4 +12,5 @@ pub mod Alike
 pub mod AlikeAnswers
 pub mod LegalReadings
 pub mod VerdictLemmas
+pub mod DistinctLemmas
 pub mod Pictured

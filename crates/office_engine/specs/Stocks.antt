@@ -4,7 +4,7 @@ use Rattle.std.specs.List.{flat_map}
 use Rattle.std.specs.Option.{option_map_or}
 use Rattle.bag_text.specs.TransferForm.{File}
 use Rattle.office_engine.specs.Histories.{History, deposit_numbered, kept}
-use Rattle.office_engine.specs.Lists.{distinct}
+use Rattle.office_engine.specs.Lists.{in_first_places}
 
 -- the files of a deposit, none where there is no such deposit
 abbrev pub files_of : History → ℕ → List File
@@ -12,7 +12,7 @@ files_of h n = option_map_or (λ found. found.1.bag) (deposit_numbered h n) []
 
 -- the byte strings that stand at some path of some kept bag
 abbrev pub contents : History → List (List ℕ)
-contents h = distinct (map (λ file. file.content) (flat_map (files_of h) (kept h)))
+contents h = in_first_places (map (λ file. file.content) (flat_map (files_of h) (kept h)))
 
 pub record Stock : Type 0 where
   -- how many different contents

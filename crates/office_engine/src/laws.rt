@@ -29,6 +29,7 @@ ghost use Rattle.office_engine.specs.Histories.{History, Change, Installed, Dest
 ghost use Rattle.office_engine.specs.Refusals.{asked_row, facts_of, refusal, refusal_of};
 ghost use Rattle.office_engine.specs.Answers.{answer, change, after};
 ghost use Rattle.office_engine.specs.Pictures.{picture};
+ghost use Rattle.office_engine.specs.Stocks.{stock};
 ghost use Rattle.office_engine.specs.Runs.{Item, Step, Run, IsLater, IsLegal, IsSound, IsDisposable, as_of};
 
 /// The bag of a text is the valid bag whose transfer form it is. Where there is none, the fault is
@@ -186,8 +187,8 @@ pub fn accessions_are_used_once()
         → a.1.accession ≡ b.1.accession → n ≡ m }
 {}
 
-/// Two legal histories that give the same rows answer each request alike, and give the same rows
-/// after it.
+/// Two legal histories that give the same rows answer each request alike, have the same stock, and
+/// give the same rows after each request and after each install.
 pub fn one_picture()
     ensures answers { (h k : History) (version : ℤ)
         → IsLegal h → IsLegal k → picture version h ≡ picture version k
@@ -198,4 +199,12 @@ pub fn one_picture()
         → (day : Date) (caller : List ℕ) (request : Request)
         → picture version (after h day caller request)
         ≡ picture version (after k day caller request) }
+    ensures installs { (h k : History) (version : ℤ)
+        → IsLegal h → IsLegal k → picture version h ≡ picture version k
+        → (policy : Contents)
+        → picture version (grown h (Installed policy ∷ []))
+        ≡ picture version (grown k (Installed policy ∷ [])) }
+    ensures stocks { (h k : History) (version : ℤ)
+        → IsLegal h → IsLegal k → picture version h ≡ picture version k
+        → stock h ≡ stock k }
 {}

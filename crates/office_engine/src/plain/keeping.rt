@@ -1,9 +1,9 @@
 //! What the office keeps.
 
-ghost use Rattle.std.specs.Prelude.{◌≡◌, ◌++◌, map, length, sum, bytes_eq, IfOk, IfSome, OnOk};
+ghost use Rattle.std.specs.Prelude.{◌≡◌, ◌++◌, ◌∷◌, ℕ, List, map, length, sum, bytes_eq, IfOk, IfSome, OnOk};
 ghost use Rattle.std.specs.List.{list_any, flat_map};
 ghost use Rattle.bag_text.specs.TransferReading as reading;
-ghost use Rattle.office_engine.specs.Lists.{distinct};
+ghost use Rattle.office_engine.specs.Lists.{distinct_after, in_first_places};
 ghost use Rattle.office_engine.specs.Histories.{kept};
 ghost use Rattle.office_engine.specs.Stocks.{files_of, contents, stock};
 ghost use Rattle.office_engine.specs.PlainStocks.{texts, contents_of, stock_seen};
@@ -65,17 +65,26 @@ fn has_text(others: &[&[u8]], text: &[u8]) -> bool
     false
 }
 
-/// Each text once, where it stands last.
-fn distinct<'a>(alloc: Global, all: &[&'a [u8]]) -> Result<Vec<&'a [u8]>, AllocError>
-    ensures { IfOk result (λ found. texts found.items ≡ distinct (texts all.now)) }
+#[tactic(auto, using(crate::proofs::DistinctLemmas::borrowed_found, crate::proofs::DistinctLemmas::text_passed))]
+/// Adds a text, unless it is there.
+fn push_new<'a>(found: &mut Vec<&'a [u8]>, text: &'a [u8]) -> Result<(), AllocError>
+    ensures { OnOk result ((rest : List (List ℕ))
+        → texts found.new.items ++ distinct_after (texts found.new.items) rest
+        ≡ texts found.old.items ++ distinct_after (texts found.old.items) (text.now ∷ rest)) }
+{
+    if !has_text(found.as_slice(), text) {
+        found.push(text)?;
+    }
+    Ok(())
+}
+
+/// Each text once, where it stands first.
+fn in_first_places<'a>(alloc: Global, all: &[&'a [u8]]) -> Result<Vec<&'a [u8]>, AllocError>
+    ensures { IfOk result (λ found. texts found.items ≡ in_first_places (texts all.now)) }
 {
     let mut found = Vec::new(alloc);
-    let mut left = all;
-    while let [text, rest @ ..] = left {
-        if !has_text(rest, *text) {
-            found.push(*text)?;
-        }
-        left = rest;
+    for text in all {
+        push_new(&mut found, *text)?;
     }
     Ok(found)
 }
@@ -96,7 +105,7 @@ pub fn stock(alloc: Global, office: &Office) -> Result<Stock, AllocError>
     ensures { IfOk result (λ found. stock_seen found ≡ stock office.now) }
 {
     let all = all_contents(alloc, office)?;
-    let contents = distinct(alloc, all.as_slice())?;
+    let contents = in_first_places(alloc, all.as_slice())?;
     match total(contents.as_slice()) {
         Some(bytes) => Ok(Stock {
             contents: contents.len(),
