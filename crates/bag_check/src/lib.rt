@@ -19,6 +19,3 @@ pub use check::check_bag;
 pub use digest::digest_matches;
 pub use fault::BagFault;
 pub use report::BagReport;
-
-#[cfg(test)]
-mod tests;

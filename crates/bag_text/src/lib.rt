@@ -31,6 +31,3 @@ pub use path::{BagPath, PathFault};
 pub use set::{BagSet, read_bagset};
 pub use set_fault::SetFault;
 pub use write::write_bagset;
-
-#[cfg(test)]
-mod tests;

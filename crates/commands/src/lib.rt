@@ -19,6 +19,3 @@ pub use program::{Failure, run, words_refused};
 pub use said::Said;
 pub use use_fault::UseFault;
 pub use verdict::{MOST_BYTES, line_of};
-
-#[cfg(test)]
-mod tests;

@@ -42,6 +42,3 @@ pub use retention::{Due, Years};
 pub use rule::{ActionPattern, Ask, Decision, Effect, Pattern, Rule, decide, first_match};
 pub use sequence::Sequence;
 pub use text::FaultText;
-
-#[cfg(test)]
-mod tests;

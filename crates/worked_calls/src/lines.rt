@@ -1,11 +1,6 @@
-//! What no clause says: the texts that are printed, and that calls succeed.
+//! The calls of `commands`: the texts that are printed, and that calls succeed.
 
-use crate::asking::Asked;
-use crate::ending::Ending;
-use crate::explain::explained;
-use crate::line::{Line, read_line};
-use crate::program::{run, words_refused};
-use crate::use_fault::UseFault;
+use commands::{Asked, Ending, Line, UseFault, explained, read_line, run, words_refused};
 use office_core::{Action, Name};
 use std::io;
 use std::io::{Error, ErrorKind, Read, Write};

@@ -1,4 +1,6 @@
-use super::*;
+//! The calls of `bag_check`: what is said of small bags, and why.
+
+use bag_check::{BagReport, check_bag, digest_matches};
 use bag_text::{BagSet, Checksum, read_bagset};
 use std::alloc::Global;
 use std::test::*;

@@ -1,4 +1,9 @@
-use super::*;
+//! The calls of `bag_text`: texts that are read and written, and the faults at each limit.
+
+use bag_text::{
+    Algorithm, BagPath, BagSet, Checksum, InfoFault, Listing, PathFault, SetFault, Version,
+    read_bag_info, read_bagset, read_declaration, read_manifest, write_bagset,
+};
 use std::alloc::Global;
 use std::borrow::CowStr;
 use std::test::*;

@@ -1,4 +1,9 @@
-use super::*;
+//! The calls of `office_core`: days, names, policies, decisions and verdicts.
+
+use office_core::{
+    Accession, Action, Ask, Day, Decision, Due, Effect, Facts, Limits, Matter, Name, Policy,
+    PolicyFault, Verdict, Years, decide, due, first_match, read_policy, verdict,
+};
 use std::alloc::Global;
 use std::test::*;
 
