@@ -66,23 +66,39 @@ fn session(rt: &HostRuntime, conn: &mut Connection<MemStore>) -> io::Result<()> 
     Ok(())
 }
 
-/// A run of the plain office. Where none could be had for want of memory, the second has to be.
+/// A session with the plain office.
 pub fn office(rt: &HostRuntime) -> io::Result<()> {
-    match offices::opened(rt.alloc()) {
-        Ok(mut office) => run(rt, &mut office),
-        Err(outcome) => {
-            say(rt, "an office", outcome)?;
-            match offices::opened(rt.alloc()) {
-                Ok(mut office) => run(rt, &mut office),
-                Err(_) => say(rt, "an office", Outcome::Wrong),
-            }
-        }
+    match offices::made(rt.alloc()) {
+        Some(mut office) => asked(rt, &mut office),
+        None => say(rt, "an office", Outcome::Wrong),
     }
 }
 
-fn run(rt: &HostRuntime, office: &mut Office) -> io::Result<()> {
-    for (name, day, part) in offices::RUN {
+fn asked(rt: &HostRuntime, office: &mut Office) -> io::Result<()> {
+    say(
+        rt,
+        "a policy installed",
+        offices::installed(rt.alloc(), office),
+    )?;
+    for (name, day, part) in offices::SESSION {
         say(rt, name, offices::come_out(rt.alloc(), office, day, part))?;
     }
-    say(rt, "contents counted", offices::count(rt.alloc(), office))
+    say(
+        rt,
+        "three requests in a run",
+        offices::together(rt.alloc(), office),
+    )?;
+    say(
+        rt,
+        "contents counted",
+        offices::count(rt.alloc(), office, offices::KEPT),
+    )?;
+    for (name, day, part) in offices::END {
+        say(rt, name, offices::come_out(rt.alloc(), office, day, part))?;
+    }
+    say(
+        rt,
+        "no contents counted",
+        offices::count(rt.alloc(), office, offices::NOTHING),
+    )
 }

@@ -5,8 +5,8 @@ use office_core::{
     Accession, Answer, Day, Limits, Matter, Name, PolicyFault, Refusal, Request, Years, read_policy,
 };
 use office_engine::Stock;
-use office_engine::plain::{Office, create, install, step, stock};
-use std::alloc::Global;
+use office_engine::plain::{Office, create, install, run, step, stock};
+use std::alloc::{AllocError, Global};
 use worked_bags::{BAG, POLICY};
 
 /// What is asked.
@@ -14,8 +14,10 @@ use worked_bags::{BAG, POLICY};
 pub enum Part {
     Class,
     Collection,
+    BadBag,
     Deposit,
     Hold,
+    DepositHold,
     List,
     Record,
     Holds,
@@ -24,17 +26,20 @@ pub enum Part {
     Audit,
     HeldDisposal,
     Release,
+    DepositRelease,
     DueList,
     Disposal,
     Taken,
 }
 
-/// The run: each request with its name and its day, in turn.
-pub const RUN: [(&str, &str, Part); 15] = [
+/// The session up to the releases: each request with its name and its day, in turn.
+pub const SESSION: [(&str, &str, Part); 15] = [
     ("a class defined", "2024-03-01", Part::Class),
     ("a collection defined", "2024-03-01", Part::Collection),
+    ("a bad bag refused", "2024-03-01", Part::BadBag),
     ("a bag deposited", "2024-03-01", Part::Deposit),
     ("a hold placed", "2024-03-02", Part::Hold),
+    ("a deposit held", "2024-03-02", Part::DepositHold),
     ("a list", "2024-03-02", Part::List),
     ("a record", "2024-03-02", Part::Record),
     ("holds listed", "2024-03-02", Part::Holds),
@@ -43,34 +48,68 @@ pub const RUN: [(&str, &str, Part); 15] = [
     ("an audit", "2024-03-02", Part::Audit),
     ("a disposal refused", "2030-01-01", Part::HeldDisposal),
     ("a hold released", "2030-01-01", Part::Release),
+    ("a deposit released", "2030-01-01", Part::DepositRelease),
+];
+
+/// What one run asks then. None of it changes anything.
+const TOGETHER: [Part; 3] = [Part::DueList, Part::List, Part::Bag];
+
+/// And the end of the session.
+pub const END: [(&str, &str, Part); 3] = [
     ("a due list", "2030-01-02", Part::DueList),
     ("a disposal", "2030-01-02", Part::Disposal),
     ("an accession refused", "2030-01-02", Part::Taken),
 ];
 
-/// A new office with the policy, or why there is none.
-pub fn opened(alloc: Global) -> Result<Office, Outcome> {
-    let limits = Limits::new(10, 10).ok_or(Outcome::Wrong)?;
-    let text = str::from_utf8(POLICY).map_err(|_| Outcome::Wrong)?;
-    let policy = match read_policy(alloc, text) {
-        Ok(policy) => policy,
-        Err(fault) => return Err(Outcome::memory(fault == PolicyFault::Memory)),
+/// What is kept before the disposal: three files, of 54, 3 and 73 bytes.
+pub const KEPT: Stock = Stock {
+    contents: 3,
+    bytes: 130,
+};
+
+/// And after it.
+pub const NOTHING: Stock = Stock {
+    contents: 0,
+    bytes: 0,
+};
+
+/// A new office.
+pub fn made(alloc: Global) -> Option<Office> {
+    let limits = Limits::new(10, 10)?;
+    Some(create(alloc, limits))
+}
+
+/// Reads the policy and installs it.
+fn install_policy(alloc: Global, office: &mut Office) -> Outcome {
+    let Ok(text) = str::from_utf8(POLICY) else {
+        return Outcome::Wrong;
     };
-    let mut office = create(alloc, limits);
-    match install(&mut office, policy) {
-        Ok(()) => Ok(office),
-        Err(_) => Err(Outcome::Memory),
+    match read_policy(alloc, text) {
+        Ok(policy) => match install(office, policy) {
+            Ok(()) => Outcome::Expected,
+            Err(_) => Outcome::Memory,
+        },
+        Err(fault) => Outcome::memory(fault == PolicyFault::Memory),
     }
 }
 
-/// A deposit of the small bag.
-fn deposit() -> Option<Request<'static>> {
+/// Installs the policy; where memory was refused, once more, and then it has to be installed: what
+/// is asked next is denied by an office that has none.
+pub fn installed(alloc: Global, office: &mut Office) -> Outcome {
+    match install_policy(alloc, office) {
+        Outcome::Memory => install_policy(alloc, office).again(),
+        outcome => outcome,
+    }
+}
+
+/// A deposit of these bytes.
+fn deposit(bag: &'static [u8]) -> Option<Request<'static>> {
     Some(Request::Deposit {
         collection: Name::read("maps")?,
         class: Name::read("y1")?,
         accession: Accession::read("A-1")?,
         closed: Day::read("2024-02-29")?,
-        bag: BAG,
+        bag,
     })
 }
 
@@ -84,10 +123,15 @@ fn request(part: Part) -> Option<Request<'static>> {
         Part::Collection => Some(Request::DefineCollection {
             name: Name::read("maps")?,
         }),
-        Part::Deposit | Part::Taken => deposit(),
+        Part::BadBag => deposit(b"BAGSET 1"),
+        Part::Deposit | Part::Taken => deposit(BAG),
         Part::Hold => Some(Request::HoldCollection {
             collection: Name::read("maps")?,
             matter: Matter::read("suit")?,
+        }),
+        Part::DepositHold => Some(Request::HoldDeposit {
+            deposit: 1,
+            matter: Matter::read("audit")?,
         }),
         Part::List => Some(Request::List {
             collection: Some(Name::read("maps")?),
@@ -103,6 +147,7 @@ fn request(part: Part) -> Option<Request<'static>> {
         Part::Audit => Some(Request::Audit { deposit: 1 }),
         Part::HeldDisposal | Part::Disposal => Some(Request::Dispose { deposit: 1 }),
         Part::Release => Some(Request::Release { hold: 1 }),
+        Part::DepositRelease => Some(Request::Release { hold: 2 }),
         Part::DueList => Some(Request::DueList),
     }
 }
@@ -112,16 +157,19 @@ fn fits(part: Part, answer: &Answer) -> bool {
     match (part, answer) {
         (Part::Class, Answer::Class { name, .. }) => name.as_str() == "y1",
         (Part::Collection, Answer::Collection { name }) => name.as_str() == "maps",
+        (Part::BadBag, Answer::Refused(Refusal::BadBag(fault))) => fault.as_str() == "S3",
         (Part::Deposit, Answer::Deposited { deposit }) => *deposit == 1,
         (Part::Hold, Answer::Held { hold }) => *hold == 1,
+        (Part::DepositHold, Answer::Held { hold }) => *hold == 2,
         (Part::List, Answer::List { deposits }) => deposits.as_slice().len() == 1,
         (Part::Record, Answer::Record(record)) => record.number == 1,
-        (Part::Holds, Answer::Holds { holds }) => holds.as_slice().len() == 1,
+        (Part::Holds, Answer::Holds { holds }) => holds.as_slice().len() == 2,
         (Part::Bag, Answer::Bag { bytes }) => bytes.as_slice() == BAG,
         (Part::File, Answer::File { bytes }) => bytes.as_slice() == b"abc".as_slice(),
         (Part::Audit, Answer::Audit { deposit, .. }) => *deposit == 1,
         (Part::HeldDisposal, Answer::Refused(Refusal::Held(hold))) => *hold == 1,
         (Part::Release, Answer::Released { hold, .. }) => *hold == 1,
+        (Part::DepositRelease, Answer::Released { hold, .. }) => *hold == 2,
         (Part::DueList, Answer::DueList { deposits, .. }) => {
             deposits.as_slice() == [1].as_slice()
         }
@@ -145,16 +193,52 @@ pub fn come_out(alloc: Global, office: &mut Office, day: &str, part: Part) -> Ou
     }
 }
 
-/// Counts the contents of an office that has destroyed all that it had.
-pub fn count(alloc: Global, office: &Office) -> Outcome {
+/// How an answer came out.
+fn answered(part: Part, answer: &Answer) -> Outcome {
+    match answer {
+        Answer::Refused(Refusal::Memory) => Outcome::Memory,
+        answer => Outcome::expected(fits(part, answer)),
+    }
+}
+
+/// The requests of one run.
+fn items(alloc: Global) -> Result<Vec<(Day, &'static str, Request<'static>)>, AllocError> {
+    let mut items = Vec::new(alloc);
+    for part in TOGETHER {
+        if let (Some(day), Some(request)) = (Day::read("2030-01-02"), request(part)) {
+            items.push((day, "anna", request))?;
+        }
+    }
+    Ok(items)
+}
+
+/// Asks all of them in one run.
+fn run_together(alloc: Global, office: &mut Office) -> Result<Outcome, AllocError> {
+    let items = items(alloc)?;
+    let answers = run(alloc, office, items.as_slice())?;
+    let mut outcome = Outcome::expected(answers.len() == TOGETHER.len());
+    for (part, answer) in TOGETHER.iter().zip(answers.iter()) {
+        outcome = outcome.and(answered(*part, answer));
+    }
+    Ok(outcome)
+}
+
+/// Asks them in one run; where memory was refused, once more, and then all answers have to fit.
+pub fn together(alloc: Global, office: &mut Office) -> Outcome {
+    match run_together(alloc, office) {
+        Ok(Outcome::Expected) => Outcome::Expected,
+        Ok(Outcome::Wrong) => Outcome::Wrong,
+        _ => match run_together(alloc, office) {
+            Ok(outcome) => outcome.again(),
+            Err(_) => Outcome::Wrong,
+        },
+    }
+}
+
+/// Counts the contents of the office.
+pub fn count(alloc: Global, office: &Office, kept: Stock) -> Outcome {
     match stock(alloc, office) {
-        Ok(found) => Outcome::expected(
-            found
-                == Stock {
-                    contents: 0,
-                    bytes: 0,
-                },
-        ),
+        Ok(found) => Outcome::expected(found == kept),
         Err(_) => Outcome::Memory,
     }
 }

@@ -30,6 +30,24 @@ impl Outcome {
         }
     }
 
+    /// What comes out of two.
+    pub fn and(self, other: Outcome) -> Outcome {
+        match (self, other) {
+            (Outcome::Wrong, _) => Outcome::Wrong,
+            (_, Outcome::Wrong) => Outcome::Wrong,
+            (Outcome::Expected, Outcome::Expected) => Outcome::Expected,
+            _ => Outcome::Memory,
+        }
+    }
+
+    /// Want of memory, after which this came out when it was asked again.
+    pub fn again(self) -> Outcome {
+        match self {
+            Outcome::Expected => Outcome::Memory,
+            _ => Outcome::Wrong,
+        }
+    }
+
     /// The outcome in words.
     pub fn words(self) -> &'static str {
         match self {
