@@ -27,7 +27,7 @@ use Rattle.office_core.specs.declared.request.Request.TheVariants.{DefineClass, 
 use Rattle.office_engine.specs.Lists.{numbered, numbers, distinct_after, in_first_places}
 use Rattle.office_engine.specs.Histories.{History, Change, DefinedCollection, Target, OnDeposit, OnCollection, Deposit, Hold, grown, policy, has_collection, collection_in, deposits, deposit_numbered, accession_of, gone, due, reaches, live_holds}
 use Rattle.office_engine.specs.Bags.{report_on}
-use Rattle.office_core.specs.Verdicts as core
+use Rattle.office_core.specs.Verdicts as deciding
 use Rattle.office_engine.specs.Refusals.{refused, denied, denied_at, closed_ahead, bad_bag, held, not_due, full_of_holds, no_file, of_deposit, of_hold, denied_release_of, denied_release, refusal}
 use Rattle.office_engine.specs.Answers.{record_of, is_asked, listed_record, listed_records, due_list, live_hold, told_holds, audited, told, file_answer, allowed_answer, allowed_change, answer_unless, answer, changes_unless, change, after}
 use Rattle.office_engine.proofs.Alike.{Outline, outline, Alike, alike_grown, same_count, same_outline, same_found, same_kept, mapped_of_kept, kept_is_not_gone}
@@ -36,7 +36,7 @@ use Rattle.office_engine.proofs.Alike.{Outline, outline, Alike, alike_grown, sam
 
 same_denied : (h k : History) → Alike h k → (caller : List ℕ) (action : Action) (collection class : Option (List ℕ)) → denied h caller action collection class ≡ denied k caller action collection class
 same_denied h k a caller action collection class =
-    ap (λ (p : Contents). refused (core.denied (decision_of p.rules (record { role = role_of p caller; action = action; collection = collection; class = class })))) a.same_policy
+    ap (λ (p : Contents). refused (deciding.denied (decision_of p.rules (record { role = role_of p caller; action = action; collection = collection; class = class })))) a.same_policy
 
 same_denied_at : (h k : History) → Alike h k → (caller : List ℕ) (action : Action) (deposit : Deposit) → denied_at h caller action deposit ≡ denied_at k caller action deposit
 same_denied_at h k a caller action deposit = same_denied h k a caller action (Some deposit.collection) (Some deposit.class)
@@ -113,13 +113,13 @@ same_full_of_holds h k a = λ i. answer_if (nat_le (a.same_max_holds i) (length 
 -- ---- the refusals of a request that names a deposit: whether it is denied, whether it is gone, and the rest
 
 abbrev denied_outline : Contents → List ℕ → Action → Outline → Option Refusal
-denied_outline p caller action o = refused (core.denied (decision_of p.rules (record { role = role_of p caller; action = action; collection = Some o.collection; class = Some o.class })))
+denied_outline p caller action o = refused (deciding.denied (decision_of p.rules (record { role = role_of p caller; action = action; collection = Some o.collection; class = Some o.class })))
 
 abbrev row : Contents → List ℕ → Action → Option Date → Option (Date × Deposit) → (Deposit → List (Option Refusal)) → Option Refusal
 row p caller action day there rest =
     first_some (of_deposit there (λ d.
-    refused (core.denied (decision_of p.rules (record { role = role_of p caller; action = action; collection = Some d.collection; class = Some d.class })))
-    ∷ refused (core.gone day)
+    refused (deciding.denied (decision_of p.rules (record { role = role_of p caller; action = action; collection = Some d.collection; class = Some d.class })))
+    ∷ refused (deciding.gone day)
     ∷ rest d))
 
 -- what stands behind a refusal is of no matter
@@ -196,7 +196,7 @@ same_refusal h k a day caller (Release j) = λ i.
     first_some (of_hold (numbered (a.same_holds i) j) (λ hold. same_release h k a caller hold.target i ∷ option_map Released (a.same_released j i) ∷ []))
 same_refusal h k a day caller (Dispose n) =
     same_row_at h k a caller acts.Dispose n (λ d. held h n d ∷ not_due h day d ∷ []) (λ d. held k n d ∷ not_due k day d ∷ [])
-    (λ e d i. refused (core.held (slice_get (same_live h k a n d i) 0)) ∷ refused (core.not_due day (same_due h k a d i)) ∷ [])
+    (λ e d i. refused (deciding.held (slice_get (same_live h k a n d i) 0)) ∷ refused (deciding.not_due day (same_due h k a d i)) ∷ [])
 same_refusal h k a day caller DueList = refl
 
 -- ---- answers

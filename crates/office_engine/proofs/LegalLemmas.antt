@@ -18,7 +18,7 @@ use Rattle.office_core.specs.declared.action.Action.TheVariants as acts
 use Rattle.office_core.specs.declared.answer.Answer.{Answer}
 use Rattle.office_core.specs.declared.refusal.Refusal.{Refusal}
 use Rattle.office_core.specs.declared.facts.Verdict.TheVariants.{NotDue}
-use Rattle.office_core.specs.Verdicts as core
+use Rattle.office_core.specs.Verdicts as deciding
 use Rattle.office_core.specs.declared.request.Request.{Request}
 use Rattle.office_core.specs.declared.request.Request.TheVariants.{DefineClass, DefineCollection, Deposit as MakeDeposit, List as ListDeposits, Record, Holds, DownloadBag, DownloadFile, Audit, HoldDeposit, HoldCollection, Release, Dispose, DueList}
 use Rattle.office_engine.specs.Histories.{History, Change, Installed, Destroyed, DefinedCollection, Deposit, has_collection, deposit_in, deposits, deposit_numbered, gone, due, live_holds, least_hold}
@@ -91,11 +91,11 @@ pub map_none : {A B : Type 0} (f : A → B) (o : Option A) → option_map f o �
 map_none f None e = refl
 map_none f (Some x) e = absurd cc
 
-not_gone : (o : Option Date) → refused (core.gone o) ≡ None → o ≡ None
+not_gone : (o : Option Date) → refused (deciding.gone o) ≡ None → o ≡ None
 not_gone None e = refl
 not_gone (Some day) e = absurd cc
 
-not_held : (o : Option ℕ) → refused (core.held o) ≡ None → o ≡ None
+not_held : (o : Option ℕ) → refused (deciding.held o) ≡ None → o ≡ None
 not_held None e = refl
 not_held (Some k) e = absurd cc
 
@@ -103,7 +103,7 @@ none_first : (ks : List ℕ) → slice_get ks 0 ≡ None → ks ≡ []
 none_first [] e = refl
 none_first (k ∷ ks) e = absurd cc
 
-due_has_come : (day : Date) (d : Due) → refused (core.not_due day d) ≡ None → (date : Date) × (d ≡ On date) × (epoch_day date ≤ℤ epoch_day day)
+due_has_come : (day : Date) (d : Due) → refused (deciding.not_due day d) ≡ None → (date : Date) × (d ≡ On date) × (epoch_day date ≤ℤ epoch_day day)
 due_has_come day (On date) e = (date, refl, not_before day date e)
 due_has_come day Never e = absurd cc
 

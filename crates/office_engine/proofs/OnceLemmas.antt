@@ -17,7 +17,7 @@ use Rattle.office_core.specs.declared.retention.Due.TheVariants.{On, Never}
 use Rattle.office_core.specs.declared.refusal.Refusal.{Refusal}
 use Rattle.office_core.specs.declared.refusal.Refusal.TheVariants.{Held}
 use Rattle.office_core.specs.declared.facts.Verdict.TheVariants.{NotDue, DeniedByRule}
-use Rattle.office_core.specs.Verdicts as core
+use Rattle.office_core.specs.Verdicts as deciding
 use Rattle.office_core.specs.declared.request.Request.{Request}
 use Rattle.office_core.specs.declared.request.Request.TheVariants.{DefineClass, DefineCollection, Deposit as MakeDeposit, List as ListDeposits, Record, Holds, DownloadBag, DownloadFile, Audit, HoldDeposit, HoldCollection, Release, Dispose, DueList}
 use Rattle.office_engine.specs.Lists.{numbered, numbers}
@@ -142,7 +142,7 @@ first_is : {A : Type 0} (o : Option A) (os : List (Option A)) (x : A) → first_
 first_is None os x e = inr e
 first_is (Some y) os x e = inl e
 
-denied_is_not_held : (d : Option Decision) (k : ℕ) → refused (core.denied d) ≡ Some (Held k) → ⊥
+denied_is_not_held : (d : Option Decision) (k : ℕ) → refused (deciding.denied d) ≡ Some (Held k) → ⊥
 denied_is_not_held None k e = absurd cc
 denied_is_not_held (Some d) k e = by_effect (allows d.effect) e
   where
@@ -150,11 +150,11 @@ denied_is_not_held (Some d) k e = by_effect (allows d.effect) e
     by_effect true e = absurd cc
     by_effect false e = absurd cc
 
-gone_is_not_held : (o : Option Date) (k : ℕ) → refused (core.gone o) ≡ Some (Held k) → ⊥
+gone_is_not_held : (o : Option Date) (k : ℕ) → refused (deciding.gone o) ≡ Some (Held k) → ⊥
 gone_is_not_held None k e = absurd cc
 gone_is_not_held (Some day) k e = absurd cc
 
-due_is_not_held : (day : Date) (d : Due) (k : ℕ) → refused (core.not_due day d) ≡ Some (Held k) → ⊥
+due_is_not_held : (day : Date) (d : Due) (k : ℕ) → refused (deciding.not_due day d) ≡ Some (Held k) → ⊥
 due_is_not_held day (On date) k e = by_test (int_lt (epoch_day day) (epoch_day date)) e
   where
     by_test : (t : Bool) → refused (answer_if t (NotDue date)) ≡ Some (Held k) → ⊥
@@ -162,7 +162,7 @@ due_is_not_held day (On date) k e = by_test (int_lt (epoch_day day) (epoch_day d
     by_test false e = absurd cc
 due_is_not_held day Never k e = absurd cc
 
-held_by : (ks : Option ℕ) (k : ℕ) → refused (core.held ks) ≡ Some (Held k) → ks ≡ Some k
+held_by : (ks : Option ℕ) (k : ℕ) → refused (deciding.held ks) ≡ Some (Held k) → ks ≡ Some k
 held_by None k e = absurd cc
 held_by (Some j) k e = let same : j ≡ k = cc in ap Some same
 
