@@ -130,7 +130,8 @@ fn file_refusal(
     number: u32,
     path: &[u8],
 ) -> Result<Option<Refusal>, AllocError>
-    ensures { IfOk result (λ found. found ≡ refusal office.now day caller.now (requests.DownloadFile number path.entry)) }
+    ensures { IfOk result (λ found. found
+        ≡ refusal office.now day caller.now (requests.DownloadFile number path.entry)) }
 {
     match deposit_numbered(office, number) {
         Some((_, deposit)) => file_row(alloc, office, day, caller, number, deposit, path),
