@@ -7,7 +7,7 @@ cd "$(dirname "$0")"
 group=$1
 case $group in
 bags) room=600 ;;
-office) room=300 ;;
+office) room=200 ;;
 tables) room=4000 ;;
 *)
     echo "refuse-memory.sh: bags, office or tables" >&2
