@@ -132,6 +132,7 @@ pub fn create<S: Alter>(
     ensures refused { HasCleanDisk (state S.Store conn.new) → OnErr result (IsKept (state S.Store conn.old) (state S.Store conn.new)) }
     ensures failure { IfErr result IsFailure }
     ensures not_empty { (state S.Store conn.old).now.schema ≢ no_schema → result ≡ Err TableFault.Store }
+    ensures untouched { (state S.Store conn.old).now.schema ≢ no_schema → conn.new ≡ conn.old }
 {
     if !is_empty(conn.schema()) {
         return Err(TableFault::Store);

@@ -94,6 +94,7 @@ pub fn open_tables<S: Alter>(conn: &mut Connection<S>) -> Result<(), TableFault>
     ensures not_office { HasCleanDisk (state S.Store conn.new) → result ≡ Err TableFault.NotAnOffice → NotAnOffice (state S.Store conn.old).now }
     ensures other_version { HasCleanDisk (state S.Store conn.new) → result ≡ Err TableFault.OtherVersion → HasOtherVersion (state S.Store conn.old).now (pos 1) }
     ensures no_table { has_office (state S.Store conn.old).now.schema ≡ false → result ≡ Err TableFault.NotAnOffice }
+    ensures untouched { has_office (state S.Store conn.old).now.schema ≡ false → conn.new ≡ conn.old }
     ensures known { Tells (state S.Store conn.old) (state S.Store conn.new) result (λ tables _. version_of tables ≡ Some (pos 1)) }
     ensures unknown { HasCleanDisk (state S.Store conn.new) → IsOffice (state S.Store conn.old).now → result ≡ Err TableFault.NotAnOffice
         → version_of (tables_of (state S.Store conn.old).now) ≡ None }
