@@ -14,7 +14,7 @@ use Rattle.sql_meaning.proofs.Whole.{blank_shaped}
 use Rattle.sql_meaning.proofs.Edits.{inserted, cast_null, cast_int}
 use Rattle.office_tables.specs.Schema.{office_schema, office_table}
 use Rattle.office_tables.specs.Rows.{OfficeRow, Tables, empty_office}
-use Rattle.office_tables.specs.Opening.{IsMade}
+use Rattle.office_tables.specs.Opening.{IsMade, IsLeft}
 use Rattle.office_tables.specs.Tables.{Becomes, tables_of, office_in}
 use Rattle.office_tables.proofs.Frames.{idle, becomes_office}
 use Rattle.office_tables.proofs.CreateTexts.{start_text, start_terms, start_is, start_plain}
@@ -39,5 +39,5 @@ starts_office old new deposits holds count blank h =
 
 -- what a crash leaves of an office that was made and committed
 pub leaves_made : (end : State) (tables : Tables) → ((db : Trees) → IsTrue end.is_open → end.may_leave db → db ≡ end.committed.trees) → IsMade end tables
-    → (db : Trees) → end.may_leave db → (made : Database) × Becomes made tables × (db ≡ made.trees)
+    → (db : Trees) → end.may_leave db → IsLeft tables db
 leaves_made end tables settled made db left = (end.now, made.becomes, settled db made.is_open left ∙ ap (λ (d : Database). d.trees) made.committed)

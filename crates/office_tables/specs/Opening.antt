@@ -4,6 +4,7 @@ use Rattle.sqlite.specs.declared.types.Value.{Value}
 use Rattle.sqlite.specs.declared.types.Value.TheVariants.{Int}
 use Rattle.sqlite.specs.Order.{Row, column}
 use Rattle.sqlite.specs.Table.{Table}
+use Rattle.sqlite.specs.Tree.{Trees}
 use Rattle.sqlite.specs.Schema.{Schema}
 use Rattle.sqlite.specs.Listing.{understood, reads_listing, IsSourceOf}
 use Rattle.sqlite.specs.Effect.{Database, Reads}
@@ -24,6 +25,10 @@ pub record IsMade (new : State) (tables : Tables) : Type 0 where
   pub is_open : IsTrue new.is_open
   pub becomes : Becomes new.now tables
   pub committed : new.committed ≡ new.now
+
+-- what a crash may leave, where it leaves the trees of an office with these rows
+abbrev pub IsLeft : Tables → Trees → Type 0
+IsLeft tables left = (made : Database) × Becomes made tables × (left ≡ made.trees)
 
 -- ---- the row by which an office is known
 

@@ -100,6 +100,10 @@ abbrev pub is_in_range : ℤ → Bool
 is_in_range (pos n) = nat_le 1 n && nat_le n 1000000
 is_in_range (negsuc n) = false
 
+-- the version of these tables
+abbrev pub this_version : ℤ
+this_version = pos 1
+
 -- the row by which an office is known: it has the id 1, and limits in range
 abbrev pub is_known : OfficeRow → Bool
 is_known o = is_office_row o && (is_in_range o.max_deposits && is_in_range o.max_holds)

@@ -2,7 +2,6 @@
 
 ghost use Rattle.std.specs.Prelude.{ℕ, ℤ, pos, List, [], ◌≡◌, ◌≢◌, ◌≤◌, Err, false, true, map, IfErr, OnOk, OnErr, IsTrue};
 ghost use Rattle.sqlite.specs.Schema.{Schema};
-ghost use Rattle.sqlite.specs.Effect.{Database};
 ghost use Rattle.sqlite.specs.Tree.{Trees};
 ghost use Rattle.sqlite.specs.State.{HasCleanDisk, Survives};
 ghost use Rattle.sqlite.specs.Held.{state};
@@ -11,9 +10,9 @@ ghost use Rattle.sql_meaning.specs.Making.{Builds};
 ghost use Rattle.sql_meaning.specs.Whole.{IsBlank};
 ghost use Rattle.office_tables.specs.Faults.{IsFailure};
 ghost use Rattle.office_tables.specs.Schema.{no_schema, office_schema};
-ghost use Rattle.office_tables.specs.Rows.{empty_office};
+ghost use Rattle.office_tables.specs.Rows.{this_version, empty_office};
 ghost use Rattle.office_tables.specs.Tables.{Becomes};
-ghost use Rattle.office_tables.specs.Opening.{IsKept, IsMade};
+ghost use Rattle.office_tables.specs.Opening.{IsKept, IsMade, IsLeft};
 
 use crate::fault::TableFault;
 use crate::run::change;
@@ -72,7 +71,7 @@ fn start<S: Alter>(
     ensures goes_on { HasCleanDisk (state S.Store tx.new.conn.now) → OnOk result (GoesOn (state S.Store tx.old.conn.now) (state S.Store tx.new.conn.now)) }
     ensures failure { IfErr result IsFailure }
     ensures becomes { HasCleanDisk (state S.Store tx.new.conn.now) → IsBlank office_schema (state S.Store tx.old.conn.now).now → OnOk result (
-        Becomes (state S.Store tx.new.conn.now).now (empty_office (pos 1) (pos max_deposits) (pos max_holds))) }
+        Becomes (state S.Store tx.new.conn.now).now (empty_office this_version (pos max_deposits) (pos max_holds))) }
 {
     change(
         tx,
@@ -93,7 +92,7 @@ fn make_office<S: Alter>(
     ensures failure { IfErr result IsFailure }
     ensures opened { HasCleanDisk (state S.Store tx.new.conn.now) → OnOk result (IsTrue (state S.Store tx.new.conn.now).is_open) }
     ensures becomes { HasCleanDisk (state S.Store tx.new.conn.now) → (state S.Store tx.old.conn.now).now.schema ≡ no_schema → OnOk result (
-        Becomes (state S.Store tx.new.conn.now).now (empty_office (pos 1) (pos max_deposits) (pos max_holds))) }
+        Becomes (state S.Store tx.new.conn.now).now (empty_office this_version (pos max_deposits) (pos max_holds))) }
 {
     define_tables(tx)?;
     start(tx, max_deposits, max_holds)?;
@@ -124,11 +123,10 @@ pub fn create<S: Alter>(
     requires some_holds { 1 ≤ max_holds }
     requires few_holds { max_holds ≤ 1000000 }
     ensures outside { (state S.Store conn.new).in_transaction ≡ false }
-    ensures survives { Survives (state S.Store conn.old) (state S.Store conn.new)
-        (λ db. (made : Database) × Becomes made (empty_office (pos 1) (pos max_deposits) (pos max_holds)) × (db ≡ made.trees)) }
-    ensures made { HasCleanDisk (state S.Store conn.new) → OnOk result (IsMade (state S.Store conn.new) (empty_office (pos 1) (pos max_deposits) (pos max_holds))) }
+    ensures survives { Survives (state S.Store conn.old) (state S.Store conn.new) (IsLeft (empty_office this_version (pos max_deposits) (pos max_holds))) }
+    ensures made { HasCleanDisk (state S.Store conn.new) → OnOk result (IsMade (state S.Store conn.new) (empty_office this_version (pos max_deposits) (pos max_holds))) }
     ensures durable { HasCleanDisk (state S.Store conn.new) → OnOk result ((db : Trees) → (state S.Store conn.new).may_leave db
-        → (made : Database) × Becomes made (empty_office (pos 1) (pos max_deposits) (pos max_holds)) × (db ≡ made.trees)) }
+        → IsLeft (empty_office this_version (pos max_deposits) (pos max_holds)) db) }
     ensures refused { HasCleanDisk (state S.Store conn.new) → OnErr result (IsKept (state S.Store conn.old) (state S.Store conn.new)) }
     ensures failure { IfErr result IsFailure }
     ensures not_empty { (state S.Store conn.old).now.schema ≢ no_schema → result ≡ Err TableFault.Store }

@@ -7,7 +7,7 @@ ghost use Rattle.sqlite.specs.Order.{Row as SqlRow, column};
 ghost use Rattle.sqlite.specs.declared.types.Value.TheVariants.{Int};
 ghost use Rattle.sql_meaning.specs.Inside.{Stays, GoesOn};
 ghost use Rattle.office_tables.specs.Faults.{IsFailure};
-ghost use Rattle.office_tables.specs.Rows.{limits_of, version_of};
+ghost use Rattle.office_tables.specs.Rows.{this_version, limits_of, version_of};
 ghost use Rattle.office_tables.specs.Calls.{Keeps, Tells, Shows};
 ghost use Rattle.office_tables.specs.Tables.{IsOffice, tables_of, shown_limits};
 ghost use Rattle.office_tables.specs.Opening.{shows_office, ShowsVersion, has_office, HasVersion, HasOtherVersion, IsKnownAsOther, NotAnOffice, IsKept};
@@ -90,16 +90,16 @@ pub fn open_tables<S: Alter>(conn: &mut Connection<S>) -> Result<(), TableFault>
     ensures outside { (state S.Store conn.new).in_transaction ≡ false }
     ensures survives { Survives (state S.Store conn.old) (state S.Store conn.new) (λ _. ⊥) }
     ensures same { HasCleanDisk (state S.Store conn.new) → IsKept (state S.Store conn.old) (state S.Store conn.new) }
-    ensures opened { HasCleanDisk (state S.Store conn.new) → OnOk result (IsTrue (has_office (state S.Store conn.old).now.schema) × HasVersion (state S.Store conn.old).now (pos 1)) }
+    ensures opened { HasCleanDisk (state S.Store conn.new) → OnOk result (IsTrue (has_office (state S.Store conn.old).now.schema) × HasVersion (state S.Store conn.old).now this_version) }
     ensures not_office { HasCleanDisk (state S.Store conn.new) → result ≡ Err TableFault.NotAnOffice → NotAnOffice (state S.Store conn.old).now }
-    ensures other_version { HasCleanDisk (state S.Store conn.new) → result ≡ Err TableFault.OtherVersion → HasOtherVersion (state S.Store conn.old).now (pos 1) }
+    ensures other_version { HasCleanDisk (state S.Store conn.new) → result ≡ Err TableFault.OtherVersion → HasOtherVersion (state S.Store conn.old).now this_version }
     ensures no_table { has_office (state S.Store conn.old).now.schema ≡ false → result ≡ Err TableFault.NotAnOffice }
     ensures untouched { has_office (state S.Store conn.old).now.schema ≡ false → conn.new ≡ conn.old }
-    ensures known { Tells (state S.Store conn.old) (state S.Store conn.new) result (λ tables _. version_of tables ≡ Some (pos 1)) }
+    ensures known { Tells (state S.Store conn.old) (state S.Store conn.new) result (λ tables _. version_of tables ≡ Some this_version) }
     ensures unknown { HasCleanDisk (state S.Store conn.new) → IsOffice (state S.Store conn.old).now → result ≡ Err TableFault.NotAnOffice
         → version_of (tables_of (state S.Store conn.old).now) ≡ None }
     ensures known_as_other { HasCleanDisk (state S.Store conn.new) → IsOffice (state S.Store conn.old).now → result ≡ Err TableFault.OtherVersion
-        → IsKnownAsOther (tables_of (state S.Store conn.old).now) (pos 1) }
+        → IsKnownAsOther (tables_of (state S.Store conn.old).now) this_version }
 {
     if !has_office(conn.schema()) {
         return Err(TableFault::NotAnOffice);

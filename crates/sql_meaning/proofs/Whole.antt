@@ -35,6 +35,7 @@ pub whole_after : (schema : Schema) (old new : State) (edit : Edit) (count : ℕ
     → Changes schema old new edit count written → IsWhole schema new.now
 whole_after schema old new edit count written all shaped h = record {
   schema_is = h.schema_is;
+  listed = h.listed;
   shaped = stays_shaped old.now.trees new.now.trees edit h.applies.rows (edited_shaped old.now.trees edit h.applies.keyed shaped) schema.tables h.applies.tables all;
   fits = h.applies.fits;
   refers = h.refers;

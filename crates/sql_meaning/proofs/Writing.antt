@@ -11,7 +11,7 @@ use Rattle.sqlite.specs.Rowids.TheVariants.{Chosen, Given}
 use Rattle.sqlite.specs.Tree.{Trees}
 use Rattle.sqlite.specs.Does.{Tally, OnRows, Concludes, AtPlace}
 use Rattle.sqlite.specs.Rows.{Written, Task, Then, Inserts, Updates, Deletes, Edited, Counter, stamped, Counts, count_of, rowids_for, higher, last_id, Gives}
-use Rattle.sqlite.specs.Effect.{Database, Answers, value_rows}
+use Rattle.sqlite.specs.Effect.{Database, IsDatabase, Answers, value_rows}
 use Rattle.sqlite.specs.State.{State, mode_of, Executes}
 use Rattle.sqlite.specs.Listing.{understood}
 use Rattle.sqlite_schema.specs.Rules.{Refers}
@@ -22,11 +22,12 @@ use Rattle.sqlite_rules.specs.Action.{works}
 use Rattle.sqlite_rules.specs.Calls.{ids_of}
 use Rattle.sqlite.proofs.Callers.{IsPlain, command_of, runs_as, one_step}
 
--- the edit was applied, every reference holds, and nothing else changed
+-- the edit was applied, every reference holds, the trees list the schema, and nothing else changed
 pub record Changes (schema : Schema) (old new : State) (edit : Edit) (count : ℕ) (written : List Row) : Type 0 where
   pub counted : count ≡ length written
   pub applies : Applies schema Enforced old.now.trees edit new.now.trees
   pub schema_is : new.now.schema ≡ schema
+  pub listed : IsDatabase new.now
   pub refers : Refers All schema new.now.trees
 
 pub same_value : {B E : Type 0} {a b : B} → ◌≡◌ {A = Result B E} (Ok a) (Ok b) → a ≡ b
@@ -88,13 +89,14 @@ module _ (old : State) (schema : Schema) (table : Table) (params : Row) (idle : 
       subst (λ all. Applies schema Enforced db (edit_of db table [] Chosen 0 all) w.trees × (w.rows ≡ (edit_of db table [] Chosen 0 all).news)) rows (put given.0 w given.2)
 
 finished : (old new : State) (schema : Schema) (table : Table) (params : Row) (tally : Tally) (edit : Edit) (w : Written) (count : ℕ) (rows : List Row)
-    → Applies schema Enforced old.now.trees edit w.trees → w.rows ≡ rows → count ≡ unwrap_or tally.rows 0
+    → Applies schema Enforced old.now.trees edit w.trees → w.rows ≡ rows → count ≡ unwrap_or tally.rows 0 → IsDatabase new.now
     → Concludes (task_on old schema table params) (mode_of old) None w (Ok (tally, new.now)) → Changes schema old new edit count rows
-finished old new schema table params tally edit w count rows applies shown counted h =
+finished old new schema table params tally edit w count rows applies shown counted listed h =
     let done = concluded old new schema table params tally w h in record {
       counted = counted ∙ ap (λ o. unwrap_or o 0) done.2 ∙ ap length shown;
       applies = subst (λ (d : Database). Applies schema Enforced old.now.trees edit d.trees) (sym done.0) applies;
       schema_is = ap (λ (d : Database). d.schema) done.0;
+      listed = listed;
       refers = subst (λ (d : Database). Refers All schema d.trees) (sym done.0) done.1;
     }
 
@@ -112,7 +114,7 @@ module _ (text : List ℕ) (params : Row) (old new : State) (schema : Schema) (h
       subst (λ o. AtPlace (λ t. OnRows (task_on old schema t params) (mode_of old) None command old.now.trees) o (Ok (w.tally, new.now))) is_table on in
       let wrote = went ran in
       let made = wrote_by wrote.0 wrote.1 in
-      finished old new schema table params w.tally (edit_of old.now.trees table [] Chosen 0 (value_rows params width (length terms / width) terms)) wrote.0 count (edit_of old.now.trees table [] Chosen 0 (value_rows params width (length terms / width) terms)).news made.0 made.1 w.counted wrote.2
+      finished old new schema table params w.tally (edit_of old.now.trees table [] Chosen 0 (value_rows params width (length terms / width) terms)) wrote.0 count (edit_of old.now.trees table [] Chosen 0 (value_rows params width (length terms / width) terms)).news made.0 made.1 w.counted w.sound wrote.2
     where
       wrote_by : (w : Written) → Inserts (task_on old schema table params) (Values terms width) old.now.trees (Ok w) → Applies schema Enforced old.now.trees (edit_of old.now.trees table [] Chosen 0 (value_rows params width (length terms / width) terms)) w.trees × (w.rows ≡ (edit_of old.now.trees table [] Chosen 0 (value_rows params width (length terms / width) terms)).news)
       wrote_by w = wrote old schema table params idle uncounted old.now.trees terms width w unstamped
@@ -130,7 +132,7 @@ module _ (text : List ℕ) (params : Row) (old new : State) (schema : Schema) (h
       let wrote = went ran in
       let made = updated_by wrote.0 wrote.1 in
       let rows = made.0 in
-      (rows, made.1, finished old new schema table params w.tally (edit_of old.now.trees table (ids_of rows) Given 1 rows) wrote.0 count ((edit_of old.now.trees table (ids_of rows) Given 1 rows).news) made.2 made.3 w.counted wrote.2)
+      (rows, made.1, finished old new schema table params w.tally (edit_of old.now.trees table (ids_of rows) Given 1 rows) wrote.0 count ((edit_of old.now.trees table (ids_of rows) Given 1 rows).news) made.2 made.3 w.counted w.sound wrote.2)
     where
       updated_by : (w : Written) → Updates (task_on old schema table params) q params old.now.trees (Ok w)
           → (rows : List Row) × Answers (record { schema = schema; trees = old.now.trees }) q params rows × Applies schema Enforced old.now.trees (edit_of old.now.trees table (ids_of rows) Given 1 rows) w.trees × (w.rows ≡ (edit_of old.now.trees table (ids_of rows) Given 1 rows).news)
@@ -154,7 +156,7 @@ module _ (text : List ℕ) (params : Row) (old new : State) (schema : Schema) (h
       let wrote = went ran in
       let made = deleted_by wrote.0 wrote.1 in
       let rows = made.0 in
-      (rows, made.1, finished old new schema table params w.tally (edit_of old.now.trees table (ids_of rows) Given 0 []) wrote.0 count (taken_by old.now.trees (edit_of old.now.trees table (ids_of rows) Given 0 [])) made.2 made.3 w.counted wrote.2)
+      (rows, made.1, finished old new schema table params w.tally (edit_of old.now.trees table (ids_of rows) Given 0 []) wrote.0 count (taken_by old.now.trees (edit_of old.now.trees table (ids_of rows) Given 0 [])) made.2 made.3 w.counted w.sound wrote.2)
     where
       deleted_by : (w : Written) → Deletes (task_on old schema table params) q old.now.trees (Ok w)
           → (rows : List Row) × Answers (record { schema = schema; trees = old.now.trees }) q params rows × Applies schema Enforced old.now.trees (edit_of old.now.trees table (ids_of rows) Given 0 []) w.trees × (w.rows ≡ taken_by old.now.trees (edit_of old.now.trees table (ids_of rows) Given 0 []))

@@ -3,7 +3,7 @@ use Rattle.std.specs.Prelude.{◌≡◌, []}
 use Rattle.std.specs.List.{AllByRecursion}
 use Rattle.sqlite.specs.Tree.{Trees}
 use Rattle.sqlite.specs.Schema.{Schema}
-use Rattle.sqlite.specs.Effect.{Database}
+use Rattle.sqlite.specs.Effect.{Database, IsDatabase}
 use Rattle.sqlite.specs.View.{IsShaped}
 use Rattle.sqlite_trees.specs.declared.store.Shape.TheVariants as shape
 use Rattle.sqlite_schema.specs.Rules.{Fits, Refers}
@@ -13,9 +13,10 @@ use Rattle.sqlite_schema.specs.declared.schema.Among.TheVariants.{All}
 abbrev pub AreShaped : Schema → Trees → Type 0
 AreShaped schema db = AllByRecursion (λ t. IsShaped shape.Table (db t.tree)) schema.tables
 
--- the database has this schema, rows in the order of their rowids, and keeps each rule of the schema
+-- the database has this schema, which its trees list, rows in the order of their rowids, and keeps each rule of the schema
 pub record IsWhole (schema : Schema) (db : Database) : Type 0 where
   pub schema_is : db.schema ≡ schema
+  pub listed : IsDatabase db
   pub shaped : AreShaped schema db.trees
   pub fits : Fits schema db.trees
   pub refers : Refers All schema db.trees
