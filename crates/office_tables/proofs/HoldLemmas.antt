@@ -11,7 +11,7 @@ use Rattle.sqlite.specs.declared.types.Value.{Value}
 use Rattle.sqlite.specs.declared.types.Value.TheVariants.{Null, Int, Text}
 use Rattle.sqlite.specs.Order.{Row, column, bytes, value_cmp}
 use Rattle.sqlite.specs.Values.{or_null, bound_value}
-use Rattle.sqlite.specs.Edit.{id_in, edit_of}
+use Rattle.sqlite.specs.Edit.{id_in, edit_of, with_rowid}
 use Rattle.sqlite.specs.Rowids.TheVariants.{Chosen, Given}
 use Rattle.sqlite.specs.Tree.{Trees, rowid, IsAscending}
 use Rattle.sqlite.specs.Term.{Term}
@@ -30,16 +30,18 @@ use Rattle.sqlite_sql.specs.declared.ops.CompareOp.TheVariants.{Eq}
 use Rattle.sqlite_keyed.proofs.ListLemmas.{ascending_weaker, ascending-map, ascending-filter, map-map, filter-map}
 use Rattle.sqlite_keyed.proofs.SortLemmas.{sorted_unique}
 use Rattle.sqlite_exec.proofs.RowsLemmas.{IsSorted-map}
-use Rattle.sql_meaning.proofs.Keys.{same_text, same_int}
+use Rattle.sql_meaning.proofs.Keys.{same_text, same_int, found_by, int_itself}
 use Rattle.sqlite_rules.specs.Calls.{ids_of}
 use Rattle.sqlite_rules.proofs.ListLemmas.{all_has, all_from}
 use Rattle.sqlite_rules.proofs.TableLemmas.{int_is}
 use Rattle.sqlite_trees.specs.View.{is_int}
 use Rattle.sql_meaning.specs.Columns.{int_at, bytes_at, maybe_int, maybe_bytes, maybe_int_at, maybe_bytes_at}
 use Rattle.sql_meaning.proofs.Writing.{inserts, updates}
+use Rattle.sql_meaning.proofs.Inserts.{none_before}
+use Rattle.sqlite_schema.specs.declared.schema.Keys.TheVariants.{Enforced}
 use Rattle.sql_meaning.proofs.Scanning.{scan, as_program, passes, shown_of, scanned, answers_one, finds_one}
 use Rattle.sql_meaning.proofs.Reading.{Asks, reads_same, reads_one, reads_rising}
-use Rattle.sql_meaning.proofs.RowidKeys.{by_number, has_number, each_numbered, few_numbered}
+use Rattle.sql_meaning.proofs.RowidKeys.{by_number, has_number, each_numbered, few_numbered, one_numbered}
 use Rattle.sql_meaning.proofs.Typed.{text_at, int_in, maybe_int_at as some_int_at, maybe_text_at as some_text_at, all_both}
 use Rattle.sql_meaning.proofs.Edits.{inserted, put_last, updated, decoded, cast_null, cast_int, map_append}
 use Rattle.office_tables.specs.Schema.{office_schema, hold_table, needed, optional}
@@ -119,6 +121,21 @@ puts_hold old new hold count office live low h =
     let end = inserted db hold_table source (stored_of hold) hold.number cast_is ∙ put_last (Int hold.number ∷ stored_of hold) (db 12) (lower_rows hold.number (db 12) shaped.1 low) in
     let is_it : hold_in (Int hold.number ∷ stored_of hold) ≡ hold = rw (maybe_back hold.deposit [], text_back hold.collection [], live) refl in
     becomes_holds old new edit count edit.news office.shaped done refl _ (ap (map hold_in) end ∙ map_append hold_in (db 12) _ ∙ ap (λ x. map hold_in (db 12) ++ x ∷ []) is_it)
+
+-- so there was no hold of its number
+pub hold_was_new : (old new : State) (hold : HoldRow) (count : ℕ) → IsOffice old.now → Executes put_text (params_of hold) old new (Ok count) → hold_numbered hold.number (tables_of old.now).holds ≡ None
+hold_was_new old new hold count office h =
+    let params = params_of hold in
+    let db = old.now.trees in
+    let n = hold.number in
+    let source : Row = Int n ∷ stored_of hold in
+    let edit = edit_of db hold_table [] Chosen 0 (source ∷ []) in
+    let done = inserts put_text params old new office_schema office.schema_is 7 hold_table refl idle put_plain hold_terms 7 put_is refl refl count h in
+    let after : IsOffice new.now = (becomes_holds old new edit count edit.news office.shaped done refl _ refl).office in
+    let cast_is : cast_row hold_table source ≡ source = rw (cast_null, cast_int n, cast_maybe hold.deposit, cast_text hold.collection, cast_int hold.placed) refl in
+    let placed : has_number n (with_rowid Chosen (db 12) (cast_row hold_table source)) ≡ true = ap (λ r. has_number n (with_rowid Chosen (db 12) r)) cast_is ∙ int_itself n in
+    let none = none_before office_schema Enforced db new.now.trees hold_table source done.applies (has_number n) placed (one_numbered (new.now.trees 12) after.shaped.1.1.1.1.1.1.1.0 n) in
+    found_by (is_hold n) (has_number n) hold_in (db 12) (all_from _ (db 12) (λ r there. refl)) ∙ ap (λ rs. option_map hold_in (slice_get rs 0)) none
 
 -- ---- the end of a hold
 

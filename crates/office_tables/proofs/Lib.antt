@@ -17,3 +17,4 @@ pub mod NewDeposit
 pub mod FileTexts
 pub mod FileLemmas
 pub mod OpenLemmas
+pub mod OrderLemmas

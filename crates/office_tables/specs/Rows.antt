@@ -196,6 +196,11 @@ with_deposit d t = record t { deposits = t.deposits ++ d ∷ [] }
 abbrev pub with_gone : ℤ → ℤ → Tables → Tables
 with_gone n day t = record t { deposits = map (λ d. if is_deposit n d then record d { gone = Some day } else d) t.deposits }
 
+-- each row's number is lower than those of all rows after it
+abbrev pub NumbersRise : {Row : Type 0} → (Row → ℤ) → List Row → Type 0
+NumbersRise number [] = ⊤
+NumbersRise number (r ∷ rs) = AllByRecursion (λ s. int_cmp (number r) (number s) ≡ Less) rs × NumbersRise number rs
+
 -- the highest number of a list whose numbers rise
 abbrev pub last_number : {Row : Type 0} → (Row → ℤ) → List Row → Option ℤ
 last_number number [] = None
@@ -297,5 +302,12 @@ RulesFollow (r ∷ rs) t = RulesBelow r.place t.rules × RulesFollow rs (with_ru
 
 -- the rules ascend by place
 abbrev pub PlacesRise : List RuleRow → Type 0
-PlacesRise [] = ⊤
-PlacesRise (r ∷ rs) = AllByRecursion (λ s. int_cmp r.place s.place ≡ Less) rs × PlacesRise rs
+PlacesRise = NumbersRise (λ r. r.place)
+
+-- ---- the order of the rows
+
+-- deposits and holds ascend by number, rules by place; so no number and no place comes twice
+pub record AreInOrder (t : Tables) : Type 0 where
+  pub deposits : NumbersRise (λ d. d.number) t.deposits
+  pub holds : NumbersRise (λ h. h.number) t.holds
+  pub rules : PlacesRise t.rules

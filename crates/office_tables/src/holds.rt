@@ -174,6 +174,7 @@ pub fn put_hold<S: Alter>(
           placed = placed;
           released = None;
         })) }
+    ensures new_number { Tells (state S.Store tx.old.conn.now) (state S.Store tx.new.conn.now) result (λ tables _. hold_numbered (pos number) tables.holds ≡ None) }
 {
     change(
         tx,

@@ -7,6 +7,7 @@ mod deposits;
 mod fault;
 mod files;
 mod holds;
+pub mod laws;
 mod opening;
 mod policy;
 mod run;

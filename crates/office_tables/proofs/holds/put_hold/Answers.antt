@@ -1,21 +1,30 @@
-use Rattle.std.proofs.Common.{pos, w64, refl, None, option_map}
+use Rattle.std.proofs.Common.{ℕ, ℤ, pos, w64, refl, List, Option, None, option_map, Bor}
 use Rattle.std.proofs.lemmas.Int.{to_z-of_z}
 use Rattle.sqlite.specs.Held.{state}
 use Rattle.office_tables.specs.Rows.{HoldRow}
-use Rattle.office_tables.proofs.HoldLemmas.{puts_hold, bound_number, bound_text}
+use Rattle.office_tables.proofs.HoldLemmas.{puts_hold, hold_was_new, bound_number, bound_text}
 use Rattle.office_tables.proofs.holds.put_hold.Goals as goal
+
+abbrev put : ℕ → Option ℕ → Option (Bor (List ℕ)) → List ℕ → ℤ → HoldRow
+put number deposit collection matter placed = record {
+  number = pos number;
+  deposit = option_map pos deposit;
+  collection = option_map (λ t. t.now) collection;
+  matter = matter;
+  placed = placed;
+  released = None;
+}
 
 pub returns-clause-becomes : goal.returns-clause-becomes
 returns-clause-becomes g c clean office low =
     let a = c.args in
-    let hold : HoldRow = record {
-      number = pos a.number;
-      deposit = option_map pos a.deposit;
-      collection = option_map (λ t. t.now) a.collection;
-      matter = a.matter.now;
-      placed = a.placed;
-      released = None;
-    } in
     let placed = to_z-of_z w64 a.placed c.ranges.placed in
     let ran = rw (c.params-to_sql.ensures, c.params-to_sql-2.ensures, c.params-to_sql-3.ensures, c.params-to_sql-4.ensures, c.params-to_sql-5.ensures, placed, bound_number a.deposit, bound_text a.collection) at (c.in_ok-change.ensures.ran clean) in
-    puts_hold (state g.S.Store a.tx.now.conn.now) (state g.S.Store c.change.new.tx.conn.now) hold c.in_ok-change.field-0 office refl low ran
+    puts_hold (state g.S.Store a.tx.now.conn.now) (state g.S.Store c.change.new.tx.conn.now) (put a.number a.deposit a.collection a.matter.now a.placed) c.in_ok-change.field-0 office refl low ran
+
+pub returns-clause-new_number : goal.returns-clause-new_number
+returns-clause-new_number g c clean office =
+    let a = c.args in
+    let placed = to_z-of_z w64 a.placed c.ranges.placed in
+    let ran = rw (c.params-to_sql.ensures, c.params-to_sql-2.ensures, c.params-to_sql-3.ensures, c.params-to_sql-4.ensures, c.params-to_sql-5.ensures, placed, bound_number a.deposit, bound_text a.collection) at (c.in_ok-change.ensures.ran clean) in
+    hold_was_new (state g.S.Store a.tx.now.conn.now) (state g.S.Store c.change.new.tx.conn.now) (put a.number a.deposit a.collection a.matter.now a.placed) c.in_ok-change.field-0 office ran
