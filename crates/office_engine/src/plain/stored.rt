@@ -3,9 +3,9 @@
 ghost use Rattle.std.specs.Prelude.{◌≡◌, ◌≤◌, Ok, IfOk, find, bytes_eq, option_copied, length};
 ghost use Rattle.bag_text.specs.TransferForm.{IsBag, set_text, content_at};
 ghost use Rattle.bag_text.specs.TransferReading.{set_of, files_of};
-ghost use Rattle.bag_check.specs.Contents.{is_payload};
 ghost use Rattle.bag_check.specs.Validity.{payload_files, payload_bytes};
 
+use bag_check::count_payload;
 use bag_text::{BagSet, read_bagset};
 use std::alloc::{AllocError, Global};
 use std::marker::Model;
@@ -88,26 +88,4 @@ fn content_in<'a>(files: &[(&'a str, &'a [u8])], path: &[u8]) -> Option<&'a [u8]
         }
     }
     None
-}
-
-fn is_payload(path: &str) -> bool
-    ensures { result ≡ is_payload path.now }
-{
-    path.as_bytes().starts_with(b"data/")
-}
-
-fn count_payload(files: &[(&str, &[u8])]) -> (usize, usize)
-    requires { IsBag (files_of files.now) }
-    ensures files { result.0 ≡ payload_files (files_of files.now) }
-    ensures bytes { result.1 ≡ payload_bytes (files_of files.now) }
-{
-    let mut count = 0;
-    let mut bytes = 0;
-    for file in files {
-        if is_payload(file.0) {
-            count += 1;
-            bytes += file.1.len();
-        }
-    }
-    (count, bytes)
 }
