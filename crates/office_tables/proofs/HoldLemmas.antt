@@ -309,7 +309,7 @@ numbers_rise (r ∷ rows) whole up = (
   numbers_rise rows whole.1 up.1,
 )
 
-live_rise : (db : Database) → IsOffice db → (n : ℤ) (c : List ℕ) → IsAscending (λ a b. int_cmp a b ≡ Less) (live_holds n c (tables_of db))
+pub live_rise : (db : Database) → IsOffice db → (n : ℤ) (c : List ℕ) → IsAscending (λ a b. int_cmp a b ≡ Less) (live_holds n c (tables_of db))
 live_rise db office n c =
     let shaped = office.shaped.1.1.1.1.1.1.1.0 in
     let rows = numbers_rise (db.trees 12) shaped.1 shaped.0 in

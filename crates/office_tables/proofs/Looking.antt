@@ -1,5 +1,8 @@
 -- What the query on the office's row means under any schema.
-use Rattle.std.proofs.Common.{◌≡◌, ℤ, MatchOption, All, Contains, List, [], Bool, true, false, cond, Option, None, Some, Ok, Err, refl, sym, ap, ◌∙◌}
+use Rattle.std.proofs.Common.{◌≡◌, ℤ, MatchOption, List, [], ◌∷◌, Bool, true, false, cond, Option, None, Some, Ok, Err, refl, sym, ap, subst, ◌∙◌, inl, inr}
+use Rattle.std.specs.List.{AllByRecursion}
+use Rattle.std.proofs.lemmas.Bool.{cases_Bool}
+use Rattle.sqlite_rules.specs.Lists.{Has}
 use Rattle.sqlite_tied.specs.Compute.{everything}
 use Rattle.sqlite_resolve.specs.Compile.{compiled, first, planned, meaning, returning, timed, with_command}
 use Rattle.sqlite_resolve.specs.Lowering.{Checked, and_then}
@@ -17,7 +20,7 @@ use Rattle.sqlite.specs.Held.{Held, state}
 use Rattle.sqlite.specs.Listing.{understood, reads_listing, if_select, is_select, listing_schema}
 use Rattle.sqlite.specs.State.{State, Shown, IsUnchanged, HasCleanDisk, IsRolledBack}
 use Rattle.sql_meaning.specs.Inside.{Stays}
-use Rattle.office_tables.specs.Opening.{look_text, Looks, ShowsVersion, IsKept, shows_office}
+use Rattle.office_tables.specs.Opening.{look_text, Looks, ShowsVersion, IsKept, shows_office, known_row}
 
 -- the text is a SELECT without parameters or the time
 look_parsed : (p : Parsed) × (s : _) × (first look_text ≡ Ok p) × (p.statement ≡ written.Select s) × (p.formats ≡ []) × (p.names ≡ [])
@@ -60,9 +63,31 @@ looks old new rows h =
     ((h.0, it.0, h.1.is, it.1, it.2), it.3)
 
 pub shows_version : (db : Database) (rows : List Row) (r : Option ℤ) → Looks db rows
-    → MatchOption r (All (λ row. shows_office row ≡ false) rows) (λ version. (row : Row) × Contains rows row × (shows_office row ≡ true) × (column row 1 ≡ Int version)) → ShowsVersion db r
+    → MatchOption r (known_row rows ≡ None) (λ version. (row : Row) × (known_row rows ≡ Some row) × (column row 1 ≡ Int version)) → ShowsVersion db r
 shows_version db rows None look h = (rows, look, h)
-shows_version db rows (Some version) look h = (rows, h.0, look, h.1, h.2, h.3)
+shows_version db rows (Some version) look h = (rows, h.0, look, h.1, h.2)
+
+-- ---- the first row that is an office's
+
+pub passed_over : (x y : Row) (more : List Row) → x ≡ y → shows_office x ≡ false → known_row (y ∷ more) ≡ known_row more
+passed_over x y more same isnt = let other : shows_office y ≡ false = subst (λ r. shows_office r ≡ false) same isnt in rw other refl
+
+pub all_passed_over : (rows : List Row) → known_row rows ≡ None → AllByRecursion (λ row. shows_office row ≡ false) rows
+all_passed_over [] none = tt
+all_passed_over (r ∷ rows) none = elim (cases_Bool (shows_office r)) [
+  | inl is ↦ absurd (let there : Some r ≡ None = rw is at none in cc)
+  | inr isnt ↦ (isnt, all_passed_over rows (rw isnt at none))
+]
+
+pub known_there : (rows : List Row) (row : Row) → known_row rows ≡ Some row → Has rows row × (shows_office row ≡ true)
+known_there [] row known = absurd cc
+known_there (r ∷ rows) row known = elim (cases_Bool (shows_office r)) [
+  | inl is ↦
+      let first : Some r ≡ Some row = rw is at known in
+      let same : row ≡ r = cc in
+      (inl same, ap shows_office same ∙ is)
+  | inr isnt ↦ let later = known_there rows row (rw isnt at known) in (inr later.0, later.1)
+]
 
 -- what was read and rolled back
 pub kept_back : {S : Type 0} (g : Ghosts S) (first : Held S) (last end : State) → Stays (state g (record first { in_transaction = true })) last → HasCleanDisk last → IsRolledBack last end → IsKept (state g first) end

@@ -3,7 +3,6 @@ use Rattle.std.proofs.Common.{◌≡◌, ◌&&◌, ap₂, ℤ, pos, negsuc, ◌=
 use Rattle.std.proofs.lemmas.Int.{ints}
 use Rattle.std.proofs.lemmas.Bool.{cases_Bool}
 use Rattle.std.proofs.lemmas.Bool.Decides.{nat_tests}
-use Rattle.std.proofs.lemmas.List.Elements.{recursion_from_All}
 use Rattle.std.specs.List.{AllByRecursion}
 use Rattle.std.specs.Ordering.{int_cmp, int_eq, is_eq}
 use Rattle.sqlite.specs.declared.types.Value.TheVariants.{Int}
@@ -23,7 +22,7 @@ use Rattle.sqlite_schema.specs.Rules.{Fits}
 use Rattle.sqlite_schema.specs.Names.{same_name}
 use Rattle.sqlite.specs.Schema.{Schema}
 use Rattle.sqlite_rules.specs.Lists.{Has}
-use Rattle.sqlite_rules.proofs.ListLemmas.{all_has, all_from, has_contained, has_kept}
+use Rattle.sqlite_rules.proofs.ListLemmas.{all_has, all_from, has_kept}
 use Rattle.sqlite_rules.proofs.TableLemmas.{int_is}
 use Rattle.sql_meaning.specs.Columns.{int_at}
 use Rattle.sql_meaning.proofs.Keys.{found_by, lone, none_pass}
@@ -34,6 +33,7 @@ use Rattle.sql_meaning.proofs.Typed.{both, int_in, all_both}
 use Rattle.office_tables.specs.Schema.{office_schema, office_table, needed}
 use Rattle.office_tables.specs.Rows.{OfficeRow, is_in_range, is_known, version_of}
 use Rattle.office_tables.specs.Tables.{IsOffice, tables_of, office_in}
+use Rattle.office_tables.proofs.Looking.{all_passed_over, known_there}
 use Rattle.office_tables.specs.Opening.{has_office, look_text, Looks, ShowsVersion, shows_office, is_one, is_limit, is_int as is_whole}
 
 -- a stored row of the office, as the rules of its table leave it
@@ -112,18 +112,19 @@ module _ (db : Database) (office : IsOffice db) where
   pub tells_version : (told_version : Option ℤ) → ShowsVersion db told_version → version_of (tables_of db) ≡ told_version
   tells_version None shown =
       let scans = look_scans db office.schema_is shown.0 shown.1 in
-      let each = recursion_from_All (λ row. shows_office row ≡ false) shown.0 shown.2 in
+      let each = all_passed_over shown.0 shown.2 in
       let none : filter known (db.trees 0) ≡ [] = none_pass known (db.trees 0) (λ r there.
       sym (told r there) ∙ all_has (λ row. shows_office row ≡ false) shown.0 (shown_of [] look_columns r) each (answer_complete db.trees [] 0 [] look_columns [] shown.0 (λ r. true) scans every r there refl)) in
       ap (option_map (λ (o : OfficeRow). o.version)) (found ∙ ap (λ rs. option_map office_in (slice_get rs 0)) none)
   tells_version (Some version) shown =
       let scans = look_scans db office.schema_is shown.0 shown.2 in
-      let it = answer_sound db.trees [] 0 [] look_columns [] shown.0 (λ r. true) scans every shown.1 (has_contained shown.0 shown.1 shown.3) in
-      let is : known it.0 ≡ true = sym (told it.0 it.1) ∙ ap shows_office (sym it.3) ∙ shown.4 in
+      let first = known_there shown.0 shown.1 shown.3 in
+      let it = answer_sound db.trees [] 0 [] look_columns [] shown.0 (λ r. true) scans every shown.1 first.0 in
+      let is : known it.0 ≡ true = sym (told it.0 it.1) ∙ ap shows_office (sym it.3) ∙ first.1 in
       let typed = all_has IsOfficeRow (db.trees 0) it.0 (office_rows db.trees office.fits) it.1 in
       let one : filter known (db.trees 0) ≡ it.0 ∷ [] = elim (lone known (db.trees 0) (db.trees 0) office.shaped.0.0 (λ r there. there) alike) [
         | inl none ↦ absurd (let within = subst (λ rs. Has rs it.0) none (has_kept known (db.trees 0) it.0 it.1 is) in within)
         | inr single ↦ single.3 ∙ ap (λ r. r ∷ []) (alike single.0 it.0 single.1 it.1 single.2 is)
       ] in
-      let told_is : Int (int_at it.0 2) ≡ Int version = sym typed.0 ∙ ap (λ row. column row 1) (sym it.3) ∙ shown.5 in
+      let told_is : Int (int_at it.0 2) ≡ Int version = sym typed.0 ∙ ap (λ row. column row 1) (sym it.3) ∙ shown.4 in
       ap (option_map (λ (o : OfficeRow). o.version)) (found ∙ ap (λ rs. option_map office_in (slice_get rs 0)) one) ∙ ap (λ v. Some (id_in v)) told_is

@@ -1,18 +1,19 @@
 -- The rows of an office are in order, and the last number is the highest.
-use Rattle.std.proofs.Common.{◌≡◌, ℤ, List, [], ◌∷◌, map, None, Some, Less, IsTrue, refl, sym, subst, subst₂, ◌∙◌}
+use Rattle.std.proofs.Common.{◌≡◌, ℕ, ℤ, List, [], ◌∷◌, map, None, Some, Less, IsTrue, refl, sym, subst, subst₂, ◌∙◌}
 use Rattle.std.specs.List.{AllByRecursion}
 use Rattle.std.specs.Ordering.{int_cmp}
 use Rattle.std.proofs.lemmas.Cmp.{int_cmp_total}
 use Rattle.sqlite.specs.Order.{Row, value_cmp}
-use Rattle.sqlite.specs.Tree.{rowid}
+use Rattle.sqlite.specs.Tree.{rowid, IsAscending}
 use Rattle.sqlite.specs.Effect.{Database}
 use Rattle.sqlite_trees.specs.View.{is_int, IsShaped}
 use Rattle.sqlite_trees.specs.declared.store.Shape.TheVariants as shape
 use Rattle.sqlite_value.proofs.OrderLemmas.{value_cmp-Int}
 use Rattle.sqlite_rules.proofs.TableLemmas.{int_is}
 use Rattle.sql_meaning.specs.Columns.{int_at}
-use Rattle.office_tables.specs.Rows.{NumbersRise, AreInOrder, last_number}
+use Rattle.office_tables.specs.Rows.{NumbersRise, AreInOrder, last_number, live_holds}
 use Rattle.office_tables.specs.Tables.{IsOffice, tables_of, deposit_in, hold_in, rule_in}
+use Rattle.office_tables.proofs.HoldLemmas.{live_rise}
 
 abbrev IsWhole : Row → Type 0
 IsWhole r = IsTrue (is_int (rowid r))
@@ -53,3 +54,10 @@ above_last number (r ∷ s ∷ rows) last next up is less =
 pub above_none : {Y : Type 0} (number : Y → ℤ) (rows : List Y) (next : ℤ) → last_number number rows ≡ None → AllByRecursion (λ r. int_cmp (number r) next ≡ Less) rows
 above_none number [] next is = tt
 above_none number (r ∷ rows) next is = absurd cc
+
+ascending_numbers : (ns : List ℤ) → IsAscending (λ a b. int_cmp a b ≡ Less) ns → NumbersRise (λ n. n) ns
+ascending_numbers [] up = tt
+ascending_numbers (n ∷ ns) up = (up.0, ascending_numbers ns up.1)
+
+pub live_holds_rise : (db : Database) → IsOffice db → (n : ℤ) (collection : List ℕ) → NumbersRise (λ k. k) (live_holds n collection (tables_of db))
+live_holds_rise db office n collection = ascending_numbers _ (live_rise db office n collection)

@@ -1,5 +1,5 @@
 -- When a database is an office, and what making and opening one leaves.
-use Rattle.std.specs.Prelude.{◌⊎◌, ◌&&◌, ◌==◌, nat_le, IsTrue, is_some, slice_get, option_and_then, All, Contains, ◌≡◌, ◌≢◌, ℕ, ℤ, Bool, true, false, List, [], codes, Option, Some, None, Ok, pos}
+use Rattle.std.specs.Prelude.{◌⊎◌, ◌&&◌, ◌==◌, nat_le, IsTrue, is_some, slice_get, option_and_then, find, ◌≡◌, ◌≢◌, ℕ, ℤ, Bool, true, false, List, [], codes, Option, Some, None, Ok, pos}
 use Rattle.sqlite.specs.declared.types.Value.{Value}
 use Rattle.sqlite.specs.declared.types.Value.TheVariants.{Int}
 use Rattle.sqlite.specs.Order.{Row, column}
@@ -63,12 +63,16 @@ is_int _ = false
 abbrev pub shows_office : Row → Bool
 shows_office row = is_one (column row 0) && (is_int (column row 1) && (is_limit (column row 2) && is_limit (column row 3)))
 
+-- the first row that is so; a table without a key may have several with the id 1, of which this one counts
+abbrev pub known_row : List Row → Option Row
+known_row = find shows_office
+
 abbrev pub NotAnOffice : Database → Type 0
-NotAnOffice db = (has_office db.schema ≡ false) ⊎ ((rows : List Row) × Looks db rows × All (λ row. shows_office row ≡ false) rows)
+NotAnOffice db = (has_office db.schema ≡ false) ⊎ ((rows : List Row) × Looks db rows × (known_row rows ≡ None))
 
 -- row 1 is there, with this version
 abbrev pub HasVersion : Database → ℤ → Type 0
-HasVersion db version = (rows : List Row) × (row : Row) × Looks db rows × Contains rows row × (shows_office row ≡ true) × (column row 1 ≡ Int version)
+HasVersion db version = (rows : List Row) × (row : Row) × Looks db rows × (known_row rows ≡ Some row) × (column row 1 ≡ Int version)
 
 -- row 1 is there, with another version than this
 abbrev pub HasOtherVersion : Database → ℤ → Type 0
@@ -79,5 +83,5 @@ abbrev pub IsKnownAsOther : Tables → ℤ → Type 0
 IsKnownAsOther tables version = (other : ℤ) × (other ≢ version) × (version_of tables ≡ Some other)
 
 abbrev pub ShowsVersion : Database → Option ℤ → Type 0
-ShowsVersion db None = (rows : List Row) × Looks db rows × All (λ row. shows_office row ≡ false) rows
+ShowsVersion db None = (rows : List Row) × Looks db rows × (known_row rows ≡ None)
 ShowsVersion db (Some version) = HasVersion db version

@@ -1,6 +1,6 @@
 //! Opening an office, and its limits.
 
-ghost use Rattle.std.specs.Prelude.{pos, [], Ok, Err, ◌≡◌, ◌≢◌, true, false, MatchOption, All, Contains, IfOk, IfErr, OnOk, IsTrue, Some, None, option_map, slice_get};
+ghost use Rattle.std.specs.Prelude.{pos, [], Ok, Err, ◌≡◌, ◌≢◌, true, false, MatchOption, IfOk, IfErr, OnOk, IsTrue, Some, None, option_map, slice_get};
 ghost use Rattle.sqlite.specs.State.{HasCleanDisk, Survives};
 ghost use Rattle.sqlite.specs.Held.{state};
 ghost use Rattle.sqlite.specs.Order.{Row as SqlRow, column};
@@ -10,7 +10,7 @@ ghost use Rattle.office_tables.specs.Faults.{IsFailure};
 ghost use Rattle.office_tables.specs.Rows.{this_version, limits_of, version_of};
 ghost use Rattle.office_tables.specs.Calls.{Keeps, Tells, Shows};
 ghost use Rattle.office_tables.specs.Tables.{IsOffice, tables_of, shown_limits};
-ghost use Rattle.office_tables.specs.Opening.{shows_office, ShowsVersion, has_office, HasVersion, HasOtherVersion, IsKnownAsOther, NotAnOffice, IsKept};
+ghost use Rattle.office_tables.specs.Opening.{shows_office, known_row, ShowsVersion, has_office, HasVersion, HasOtherVersion, IsKnownAsOther, NotAnOffice, IsKept};
 
 use crate::fault::TableFault;
 use crate::run::ask;
@@ -39,8 +39,8 @@ fn version_in(row: &Row) -> Option<i64>
 
 /// The version that the first row of an office among these tells.
 fn version_among(rows: &[Row]) -> Option<i64>
-    ensures { MatchOption result (All (λ row. shows_office row ≡ false) rows.now)
-        (λ version. (row : SqlRow) × Contains rows.now row × (shows_office row ≡ true) × (column row 1 ≡ Int version)) }
+    ensures { MatchOption result (known_row rows.now ≡ None)
+        (λ version. (row : SqlRow) × (known_row rows.now ≡ Some row) × (column row 1 ≡ Int version)) }
 {
     for row in rows {
         if let Some(version) = version_in(row) {

@@ -1,7 +1,6 @@
-use Rattle.std.proofs.Common.{◌≡◌, ℕ, ◌<◌, false, get_or}
-use Rattle.sqlite.specs.Order.{Row}
-use Rattle.office_tables.specs.Opening.{shows_office}
+use Rattle.std.proofs.Common.{◌≡◌, drop}
+use Rattle.office_tables.specs.Opening.{known_row}
 use Rattle.office_tables.proofs.opening.version_among.Given as goal
 
 abbrev pub invariant-loop-row : goal.invariant-loop-row
-invariant-loop-row l = (k : ℕ) (d : Row) → k < l.row-index → shows_office (get_or l.rows k d) ≡ false
+invariant-loop-row l = known_row l.rows ≡ known_row (drop l.row-index l.rows)
