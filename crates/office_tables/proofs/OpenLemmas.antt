@@ -8,6 +8,8 @@ use Rattle.std.specs.Ordering.{int_cmp, int_eq, is_eq}
 use Rattle.sqlite.specs.declared.types.Value.TheVariants.{Int}
 use Rattle.sqlite.specs.Order.{Row, column}
 use Rattle.sqlite.specs.Term.{Term, col}
+use Rattle.sqlite.specs.Collation.TheVariants.{Binary}
+use Rattle.sqlite_value.specs.declared.keys.Key.{Key}
 use Rattle.sqlite.specs.Edit.{id_in}
 use Rattle.sqlite.specs.Tree.{Trees, rowid}
 use Rattle.sqlite.specs.Kind.TheVariants as kind
@@ -60,16 +62,19 @@ is_there schema is = ap has_office is ∙ at_once
 abbrev look_columns : List Term
 look_columns = col 1 0 ∷ col 1 2 ∷ col 1 3 ∷ col 1 4 ∷ []
 
-asks_look : Asks office_schema look_text 0 [] look_columns []
+abbrev by_version : List (Term × Key)
+by_version = (col 1 2, record { collation = Binary; descending = false }) ∷ []
+
+asks_look : Asks office_schema look_text 0 [] look_columns by_version
 unfolding understood everything
 asks_look = record { names = codes "id" ∷ codes "version" ∷ codes "max_deposits" ∷ codes "max_holds" ∷ []; command = refl; unlisted = refl; plain = (refl, refl) }
 
-look_scans : (db : Database) → db.schema ≡ office_schema → (rows : List Row) → Looks db rows → Scans db.trees [] 0 [] look_columns [] rows
+look_scans : (db : Database) → db.schema ≡ office_schema → (rows : List Row) → Looks db rows → Scans db.trees [] 0 [] look_columns by_version rows
 look_scans db has rows look =
     let known : understood office_schema look_text ≡ Ok look.0 = ap (λ s. understood s look_text) (sym has) ∙ look.2 in
     let source : look.1 ≡ db = subst (λ b. IsSourceOf b db look.1) (ap (λ s. reads_listing s look_text) has ∙ asks_look.unlisted) look.3 in
-    let answer : Reads (Select (as_program (scan 0 [] look_columns [])) asks_look.names) db [] rows = subst₂ (λ k d. Reads k d [] rows) (sym (ap command_of known) ∙ asks_look.command) source look.4 in
-    scanned db.trees [] 0 [] look_columns [] rows answer.answer
+    let answer : Reads (Select (as_program (scan 0 [] look_columns by_version)) asks_look.names) db [] rows = subst₂ (λ k d. Reads k d [] rows) (sym (ap command_of known) ∙ asks_look.command) source look.4 in
+    scanned db.trees [] 0 [] look_columns by_version rows answer.answer
 
 -- ---- what is tested of a row is what is tested of the typed one
 
@@ -114,12 +119,12 @@ module _ (db : Database) (office : IsOffice db) where
       let scans = look_scans db office.schema_is shown.0 shown.1 in
       let each = all_passed_over shown.0 shown.2 in
       let none : filter known (db.trees 0) ≡ [] = none_pass known (db.trees 0) (λ r there.
-      sym (told r there) ∙ all_has (λ row. shows_office row ≡ false) shown.0 (shown_of [] look_columns r) each (answer_complete db.trees [] 0 [] look_columns [] shown.0 (λ r. true) scans every r there refl)) in
+      sym (told r there) ∙ all_has (λ row. shows_office row ≡ false) shown.0 (shown_of [] look_columns r) each (answer_complete db.trees [] 0 [] look_columns by_version shown.0 (λ r. true) scans every r there refl)) in
       ap (option_map (λ (o : OfficeRow). o.version)) (found ∙ ap (λ rs. option_map office_in (slice_get rs 0)) none)
   tells_version (Some version) shown =
       let scans = look_scans db office.schema_is shown.0 shown.2 in
       let first = known_there shown.0 shown.1 shown.3 in
-      let it = answer_sound db.trees [] 0 [] look_columns [] shown.0 (λ r. true) scans every shown.1 first.0 in
+      let it = answer_sound db.trees [] 0 [] look_columns by_version shown.0 (λ r. true) scans every shown.1 first.0 in
       let is : known it.0 ≡ true = sym (told it.0 it.1) ∙ ap shows_office (sym it.3) ∙ first.1 in
       let typed = all_has IsOfficeRow (db.trees 0) it.0 (office_rows db.trees office.fits) it.1 in
       let one : filter known (db.trees 0) ≡ it.0 ∷ [] = elim (lone known (db.trees 0) (db.trees 0) office.shaped.0.0 (λ r there. there) alike) [

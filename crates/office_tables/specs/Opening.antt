@@ -33,7 +33,7 @@ IsLeft tables left = (made : Database) × Becomes made tables × (left ≡ made.
 -- ---- the row by which an office is known
 
 abbrev pub look_text : List ℕ
-look_text = codes "SELECT id, version, max_deposits, max_holds FROM office"
+look_text = codes "SELECT id, version, max_deposits, max_holds FROM office ORDER BY version"
 
 abbrev pub has_columns : Option Table → Bool
 has_columns None = false
@@ -43,7 +43,7 @@ has_columns (Some t) = is_some (column_named t (codes "id")) && is_some (column_
 abbrev pub has_office : Schema → Bool
 has_office schema = has_columns (option_and_then (slice_get schema.tables) (table_named schema (codes "office")))
 
--- what SQL shows of the four columns
+-- what SQL shows of the four columns, by version
 abbrev pub Looks : Database → List Row → Type 0
 Looks db rows = (c : Compiled) × (source : Database) × (understood db.schema look_text ≡ Ok c) × IsSourceOf (reads_listing db.schema look_text) db source × Reads c.command source [] rows
 
@@ -63,7 +63,7 @@ is_int _ = false
 abbrev pub shows_office : Row → Bool
 shows_office row = is_one (column row 0) && (is_int (column row 1) && (is_limit (column row 2) && is_limit (column row 3)))
 
--- the first row that is so; a table without a key may have several with the id 1, of which this one counts
+-- the first row that is so; a table without a key may have several, which come by version, and of which this one counts
 abbrev pub known_row : List Row → Option Row
 known_row = find shows_office
 

@@ -59,7 +59,7 @@ fn look<S: Alter>(tx: &mut Transaction<'_, S>) -> Result<Option<i64>, TableFault
 {
     let rows = ask(
         tx,
-        "SELECT id, version, max_deposits, max_holds FROM office",
+        "SELECT id, version, max_deposits, max_holds FROM office ORDER BY version",
         &[],
     )?;
     Ok(version_among(&rows))
