@@ -2,9 +2,17 @@
 #![tactic(auto)]
 
 #[cfg(test)]
-mod calls;
+mod answers;
+#[cfg(test)]
+mod changes;
 #[cfg(test)]
 mod files;
+#[cfg(test)]
+mod sessions;
+#[cfg(test)]
+mod shown;
+#[cfg(test)]
+mod steps;
 #[cfg(test)]
 mod tests_calls;
 #[cfg(test)]
@@ -15,5 +23,3 @@ mod tests_refusals;
 mod tests_sizes;
 #[cfg(test)]
 mod tests_stops;
-#[cfg(test)]
-mod texts;

@@ -1,188 +1,177 @@
 //! Which databases are taken for an office.
 
-use crate::calls::{make, open_office};
-use crate::files::{open_new, reopen, run, shown};
-use office_tables::TableFault;
+use crate::sessions::{Row, take_and_reopen};
+use crate::steps::Step;
 use std::alloc::Global;
 use std::test::*;
 
-/// How `open_tables` answers a database that these statements made, when its files are opened again.
-fn opened(alloc: Global, sql: &str) -> Result<Result<(), TableFault>, Fail> {
-    let mut conn = open_new(alloc)?;
-    run(&mut conn, sql)?;
-    let mut conn = reopen(alloc, conn)?;
-    Ok(open_office(&mut conn))
+/// SQL, and what is answered to it.
+type Case = (&'static str, &'static str);
+
+/// Asks of each database whether it is an office, when its files are opened again. It is made by the
+/// first SQL and then by the case's own.
+fn opens(alloc: Global, table: &'static str, cases: &[Case]) -> Result<(), Fail> {
+    for (sql, answer) in cases {
+        let sql: &'static str = *sql;
+        let made = [(Step::Run(table), "done"), (Step::Run(sql), "done")];
+        take_and_reopen(alloc, &made, &[(Step::Open, *answer)])?;
+    }
+    Ok(())
 }
 
-/// The table `office` of an office, and then these statements.
-fn opened_with_table(alloc: Global, sql: &str) -> Result<Result<(), TableFault>, Fail> {
-    let mut text = String::from_str(
-        alloc,
-        "CREATE TABLE office (id INTEGER PRIMARY KEY, version INTEGER NOT NULL, max_deposits INTEGER NOT NULL, max_holds INTEGER NOT NULL) STRICT;",
-    )?;
-    text.push_str(sql)?;
-    opened(alloc, &text)
-}
-
-/// A table `office` that takes any value, with this row.
-fn opened_with_values(alloc: Global, row: &str) -> Result<Result<(), TableFault>, Fail> {
-    let text = format!(in alloc;
-        "CREATE TABLE office (id, version, max_deposits, max_holds); INSERT INTO office VALUES ({row})"
-    )?;
-    opened(alloc, &text)
-}
+static OTHER_TABLES: [Case; 8] = [
+    ("", "NotAnOffice"),
+    (
+        "CREATE TABLE note (id INTEGER PRIMARY KEY, text TEXT) STRICT; INSERT INTO note VALUES (1, 'a')",
+        "NotAnOffice",
+    ),
+    (
+        "CREATE TABLE office_of (id INTEGER, version INTEGER, max_deposits INTEGER, max_holds INTEGER)",
+        "NotAnOffice",
+    ),
+    (
+        "CREATE TABLE office (id INTEGER PRIMARY KEY, version INTEGER NOT NULL, max_deposits INTEGER NOT NULL) STRICT; INSERT INTO office VALUES (1, 1, 1)",
+        "NotAnOffice",
+    ),
+    (
+        "CREATE TABLE office (version INTEGER NOT NULL, max_deposits INTEGER NOT NULL, max_holds INTEGER NOT NULL) STRICT; INSERT INTO office VALUES (1, 1, 1)",
+        "NotAnOffice",
+    ),
+    (
+        "CREATE TABLE office (id INTEGER PRIMARY KEY, edition INTEGER, max_deposits INTEGER, max_holds INTEGER); INSERT INTO office VALUES (1, 1, 1, 1)",
+        "NotAnOffice",
+    ),
+    (
+        "CREATE VIEW office AS SELECT 1 AS id, 1 AS version, 1 AS max_deposits, 1 AS max_holds",
+        "NotAnOffice",
+    ),
+    (
+        "CREATE TABLE class (name TEXT NOT NULL PRIMARY KEY, years INTEGER NOT NULL) STRICT",
+        "NotAnOffice",
+    ),
+];
 
 #[test]
 fn other_tables_are_no_office(rt: HostRuntime) -> Result<(), Fail> {
-    for sql in [
-        "",
-        "CREATE TABLE note (id INTEGER PRIMARY KEY, text TEXT) STRICT; INSERT INTO note VALUES (1, 'a')",
-        "CREATE TABLE office_of (id INTEGER, version INTEGER, max_deposits INTEGER, max_holds INTEGER)",
-        "CREATE TABLE office (id INTEGER PRIMARY KEY, version INTEGER NOT NULL, max_deposits INTEGER NOT NULL) STRICT; INSERT INTO office VALUES (1, 1, 1)",
-        "CREATE TABLE office (version INTEGER NOT NULL, max_deposits INTEGER NOT NULL, max_holds INTEGER NOT NULL) STRICT; INSERT INTO office VALUES (1, 1, 1)",
-        "CREATE TABLE office (id INTEGER PRIMARY KEY, edition INTEGER, max_deposits INTEGER, max_holds INTEGER); INSERT INTO office VALUES (1, 1, 1, 1)",
-        "CREATE VIEW office AS SELECT 1 AS id, 1 AS version, 1 AS max_deposits, 1 AS max_holds",
-        "CREATE TABLE class (name TEXT NOT NULL PRIMARY KEY, years INTEGER NOT NULL) STRICT",
-    ] {
-        assert_eq!(rt;
-            opened(rt.alloc(), sql)?,
-            Err(TableFault::NotAnOffice),
-            "{sql}"
-        );
-    }
-    Ok(())
+    opens(rt.alloc(), "", &OTHER_TABLES)
 }
+
+/// The table `office` of an office.
+const OFFICE: &str =
+    "CREATE TABLE office (id INTEGER PRIMARY KEY, version INTEGER NOT NULL, max_deposits INTEGER NOT NULL, max_holds INTEGER NOT NULL) STRICT";
+
+static ROWS: [Case; 5] = [
+    ("", "NotAnOffice"),
+    ("INSERT INTO office VALUES (2, 1, 10, 20)", "NotAnOffice"),
+    ("INSERT INTO office VALUES (0, 1, 10, 20)", "NotAnOffice"),
+    (
+        "INSERT INTO office VALUES (1, 1, 10, 20), (2, 2, 0, 0)",
+        "done",
+    ),
+    (
+        "INSERT INTO office VALUES (0, 2, 10, 20), (1, 1, 10, 20)",
+        "done",
+    ),
+];
+
+static LIMITS: [Case; 7] = [
+    ("INSERT INTO office VALUES (1, 1, 0, 20)", "NotAnOffice"),
+    ("INSERT INTO office VALUES (1, 1, -1, 20)", "NotAnOffice"),
+    ("INSERT INTO office VALUES (1, 1, 10, 0)", "NotAnOffice"),
+    (
+        "INSERT INTO office VALUES (1, 1, 1000001, 20)",
+        "NotAnOffice",
+    ),
+    (
+        "INSERT INTO office VALUES (1, 1, 10, 1000001)",
+        "NotAnOffice",
+    ),
+    ("INSERT INTO office VALUES (1, 1, 1, 1000000)", "done"),
+    ("INSERT INTO office VALUES (1, 1, 1000000, 1)", "done"),
+];
+
+static VERSIONS: [Case; 4] = [
+    ("INSERT INTO office VALUES (1, 2, 10, 20)", "OtherVersion"),
+    ("INSERT INTO office VALUES (1, 0, 10, 20)", "OtherVersion"),
+    ("INSERT INTO office VALUES (1, -1, 10, 20)", "OtherVersion"),
+    ("INSERT INTO office VALUES (1, 2, 0, 20)", "NotAnOffice"),
+];
 
 #[test]
 fn only_row_one_makes_an_office(rt: HostRuntime) -> Result<(), Fail> {
-    for (sql, wanted) in [
-        ("", Err(TableFault::NotAnOffice)),
-        (
-            "INSERT INTO office VALUES (2, 1, 10, 20)",
-            Err(TableFault::NotAnOffice),
-        ),
-        (
-            "INSERT INTO office VALUES (0, 1, 10, 20)",
-            Err(TableFault::NotAnOffice),
-        ),
-        (
-            "INSERT INTO office VALUES (1, 1, 10, 20), (2, 2, 0, 0)",
-            Ok(()),
-        ),
-        (
-            "INSERT INTO office VALUES (0, 2, 10, 20), (1, 1, 10, 20)",
-            Ok(()),
-        ),
-        (
-            "INSERT INTO office VALUES (1, 1, 0, 20)",
-            Err(TableFault::NotAnOffice),
-        ),
-        (
-            "INSERT INTO office VALUES (1, 1, -1, 20)",
-            Err(TableFault::NotAnOffice),
-        ),
-        (
-            "INSERT INTO office VALUES (1, 1, 10, 0)",
-            Err(TableFault::NotAnOffice),
-        ),
-        (
-            "INSERT INTO office VALUES (1, 1, 1000001, 20)",
-            Err(TableFault::NotAnOffice),
-        ),
-        (
-            "INSERT INTO office VALUES (1, 1, 10, 1000001)",
-            Err(TableFault::NotAnOffice),
-        ),
-        ("INSERT INTO office VALUES (1, 1, 1, 1000000)", Ok(())),
-        ("INSERT INTO office VALUES (1, 1, 1000000, 1)", Ok(())),
-        (
-            "INSERT INTO office VALUES (1, 2, 10, 20)",
-            Err(TableFault::OtherVersion),
-        ),
-        (
-            "INSERT INTO office VALUES (1, 0, 10, 20)",
-            Err(TableFault::OtherVersion),
-        ),
-        (
-            "INSERT INTO office VALUES (1, -1, 10, 20)",
-            Err(TableFault::OtherVersion),
-        ),
-        (
-            "INSERT INTO office VALUES (1, 2, 0, 20)",
-            Err(TableFault::NotAnOffice),
-        ),
-    ] {
-        assert_eq!(rt; opened_with_table(rt.alloc(), sql)?, wanted, "{sql}");
-    }
-    Ok(())
+    opens(rt.alloc(), OFFICE, &ROWS)?;
+    opens(rt.alloc(), OFFICE, &LIMITS)?;
+    opens(rt.alloc(), OFFICE, &VERSIONS)
 }
+
+/// A table `office` that takes any value.
+const OF_ANY_VALUES: &str = "CREATE TABLE office (id, version, max_deposits, max_holds)";
+
+static VALUES: [Case; 11] = [
+    ("INSERT INTO office VALUES (1, 1, 10, 20)", "done"),
+    ("INSERT INTO office VALUES (1, 2, 10, 20)", "OtherVersion"),
+    ("INSERT INTO office VALUES ('1', 1, 10, 20)", "NotAnOffice"),
+    (
+        "INSERT INTO office VALUES (1, 'one', 10, 20)",
+        "NotAnOffice",
+    ),
+    ("INSERT INTO office VALUES (1, '1', 10, 20)", "NotAnOffice"),
+    ("INSERT INTO office VALUES (1, NULL, 10, 20)", "NotAnOffice"),
+    ("INSERT INTO office VALUES (1, 1.0, 10, 20)", "NotAnOffice"),
+    ("INSERT INTO office VALUES (1, 1, x'0a', 20)", "NotAnOffice"),
+    ("INSERT INTO office VALUES (1, 1, 10.0, 20)", "NotAnOffice"),
+    ("INSERT INTO office VALUES (1, 1, 10, NULL)", "NotAnOffice"),
+    ("INSERT INTO office VALUES (1, 1, 10, '20')", "NotAnOffice"),
+];
 
 #[test]
 fn only_whole_numbers_make_an_office(rt: HostRuntime) -> Result<(), Fail> {
-    for (row, wanted) in [
-        ("1, 1, 10, 20", Ok(())),
-        ("1, 2, 10, 20", Err(TableFault::OtherVersion)),
-        ("'1', 1, 10, 20", Err(TableFault::NotAnOffice)),
-        ("1, 'one', 10, 20", Err(TableFault::NotAnOffice)),
-        ("1, '1', 10, 20", Err(TableFault::NotAnOffice)),
-        ("1, NULL, 10, 20", Err(TableFault::NotAnOffice)),
-        ("1, 1.0, 10, 20", Err(TableFault::NotAnOffice)),
-        ("1, 1, x'0a', 20", Err(TableFault::NotAnOffice)),
-        ("1, 1, 10.0, 20", Err(TableFault::NotAnOffice)),
-        ("1, 1, 10, NULL", Err(TableFault::NotAnOffice)),
-        ("1, 1, 10, '20'", Err(TableFault::NotAnOffice)),
-    ] {
-        assert_eq!(rt; opened_with_values(rt.alloc(), row)?, wanted, "{row}");
-    }
-    Ok(())
+    opens(rt.alloc(), OF_ANY_VALUES, &VALUES)
 }
+
+/// A table `office` with its columns in another order, and one more.
+const OF_MORE_COLUMNS: &str = "CREATE TABLE office (max_holds, max_deposits, version, id, name)";
+
+static COLUMNS: [Case; 2] = [
+    ("INSERT INTO office VALUES (20, 10, 1, 1, 'a')", "done"),
+    (
+        "INSERT INTO office VALUES (20, 10, 3, 1, 'a')",
+        "OtherVersion",
+    ),
+];
 
 #[test]
 fn an_office_has_its_columns(rt: HostRuntime) -> Result<(), Fail> {
-    for (sql, wanted) in [
-        (
-            "CREATE TABLE office (max_holds, max_deposits, version, id, name); INSERT INTO office VALUES (20, 10, 1, 1, 'a')",
-            Ok(()),
-        ),
-        (
-            "CREATE TABLE office (max_holds, max_deposits, version, id, name); INSERT INTO office VALUES (20, 10, 3, 1, 'a')",
-            Err(TableFault::OtherVersion),
-        ),
-    ] {
-        assert_eq!(rt; opened(rt.alloc(), sql)?, wanted, "{sql}");
-    }
-    Ok(())
+    opens(rt.alloc(), OF_MORE_COLUMNS, &COLUMNS)
 }
 
-/// What `create` answers a database that these statements made, and the objects that are there then.
-fn made(alloc: Global, sql: &str) -> Result<(Result<(), TableFault>, String), Fail> {
-    let mut conn = open_new(alloc)?;
-    run(&mut conn, sql)?;
-    let answer = make(&mut conn);
-    let mut conn = reopen(alloc, conn)?;
-    let objects = shown(alloc, &mut conn, "SELECT type, name FROM sqlite_schema")?;
-    Ok((answer, objects))
-}
+/// What is in a database, and its objects.
+static IN_USE: [(&str, &str); 3] = [
+    ("CREATE TABLE note (id INTEGER PRIMARY KEY)", "table|note\n"),
+    ("CREATE VIEW one AS SELECT 1 AS n", "view|one\n"),
+    (
+        "CREATE TABLE office (id INTEGER PRIMARY KEY)",
+        "table|office\n",
+    ),
+];
+
+/// What was dropped again is no object.
+static EMPTIED: [Row; 2] = [
+    (
+        Step::Run("CREATE TABLE note (id INTEGER PRIMARY KEY); DROP TABLE note"),
+        "done",
+    ),
+    (Step::Create, "done"),
+];
+
+static OPENED: [Row; 1] = [(Step::Open, "done")];
 
 #[test]
 fn an_office_is_made_only_in_an_empty_database(rt: HostRuntime) -> Result<(), Fail> {
-    for (sql, objects) in [
-        ("CREATE TABLE note (id INTEGER PRIMARY KEY)", "table|note\n"),
-        ("CREATE VIEW one AS SELECT 1 AS n", "view|one\n"),
-        (
-            "CREATE TABLE office (id INTEGER PRIMARY KEY)",
-            "table|office\n",
-        ),
-    ] {
-        let (answer, found) = made(rt.alloc(), sql)?;
-        assert_eq!(rt; answer, Err(TableFault::Store), "{sql}");
-        assert_eq!(rt; found.as_str(), objects, "{sql}");
+    for (sql, objects) in IN_USE.iter() {
+        let refused = [(Step::Run(*sql), "done"), (Step::Create, "Store")];
+        let left = [(Step::Show("SELECT type, name FROM sqlite_schema"), *objects)];
+        take_and_reopen(rt.alloc(), &refused, &left)?;
     }
-    // What was dropped again is no object.
-    let (answer, _) = made(
-        rt.alloc(),
-        "CREATE TABLE note (id INTEGER PRIMARY KEY); DROP TABLE note",
-    )?;
-    assert_eq!(rt; answer, Ok(()));
-    Ok(())
+    take_and_reopen(rt.alloc(), &EMPTIED, &OPENED)
 }

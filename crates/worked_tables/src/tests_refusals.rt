@@ -1,266 +1,215 @@
 //! Calls that are refused, and reads of what isn't there: no row changes.
 
-use crate::calls::*;
-use crate::files::{held, open_new, reopen};
-use office_tables::{
-    CallerRow, RuleRow, TableFault, put_class, put_deposit, put_file, put_hold, put_policy,
-};
-use sqlite::{Alter, Connection, FileStore};
-use sqlite_disk::Memory;
-use std::alloc::{AllocError, Global};
+use crate::answers::Read;
+use crate::changes::Change;
+use crate::sessions::{Row, Session};
+use crate::steps::Step;
+use std::alloc::Global;
 use std::test::*;
 
-fn fill<S: Alter>(conn: &mut Connection<S>) -> Result<(), TableFault> {
-    make(conn)?;
-    set_class(conn, "y2", 2)?;
-    add_collection(conn, "maps")?;
-    add_deposit(conn, 1, "2026/1", "maps", "y2")?;
-    add_file(conn, 1, "data/a", b"abc")?;
-    add_hold(conn, 1, Some(1), None, "suit")
-}
-
 /// An office with one deposit, a file of it and a hold.
-fn small_office(alloc: Global) -> Result<Connection<FileStore<Memory>>, Fail> {
-    let mut conn = open_new(alloc)?;
-    fill(&mut conn)?;
-    Ok(conn)
+static SMALL_OFFICE: [Row; 6] = [
+    (Step::Create, "done"),
+    (Step::Do(Change::Class("y2", 2)), "done"),
+    (Step::Do(Change::Collection("maps")), "done"),
+    (Step::Do(Change::Deposit(1, "2026/1", "maps", "y2")), "done"),
+    (Step::Do(Change::File(1, "data/a", b"abc")), "done"),
+    (Step::Do(Change::Hold(1, Some(1), None, "suit")), "done"),
+];
+
+/// Makes the small office in new files.
+fn small_office(alloc: Global) -> Result<Session, Fail> {
+    let mut session = Session::new(alloc)?;
+    session.take(&SMALL_OFFICE)?;
+    Ok(session)
 }
 
-/// A class and a deposit in one transaction, which is rolled back where one of them is refused.
-fn class_and_deposit<S: Alter>(
-    conn: &mut Connection<S>,
-    number: u32,
-    accession: &str,
-    collection: &str,
-    class: &str,
-) -> Result<(), TableFault> {
-    if !conn.is_autocommit() {
-        return Err(TableFault::Memory);
-    }
-    let mut tx = conn.transaction();
-    put_class(&mut tx, "new", 5)?;
-    put_deposit(&mut tx, number, accession, collection, class, 1, 2, 3, 4)?;
-    Ok(tx.commit()?)
-}
+/// What the small office holds.
+const SMALL: &str =
+    "1|1|10|20\n--\n--\n--\ny2|2\n--\nmaps\n--\n1|2026/1|maps|y2|10|11|2|300|\n--\n1|data/a|abc\n--\n1|1||suit|100|\n--\n";
 
-fn class_and_file<S: Alter>(
-    conn: &mut Connection<S>,
-    number: u32,
-    path: &str,
-) -> Result<(), TableFault> {
-    if !conn.is_autocommit() {
-        return Err(TableFault::Memory);
-    }
-    let mut tx = conn.transaction();
-    put_class(&mut tx, "new", 5)?;
-    put_file(&mut tx, number, path, b"")?;
-    Ok(tx.commit()?)
-}
+/// A change that goes before another in one transaction, and is rolled back with it.
+const NEW: Change = Change::Class("new", 5);
 
-fn class_and_hold<S: Alter>(conn: &mut Connection<S>, number: u32) -> Result<(), TableFault> {
-    if !conn.is_autocommit() {
-        return Err(TableFault::Memory);
-    }
-    let mut tx = conn.transaction();
-    put_class(&mut tx, "new", 5)?;
-    put_hold(&mut tx, number, Some(1), None, "other", 9)?;
-    Ok(tx.commit()?)
-}
+static REFUSED_DEPOSITS: [Change; 6] = [
+    Change::Deposit(2, "2026/1", "maps", "y2"),
+    Change::Deposit(1, "2026/2", "maps", "y2"),
+    Change::Deposit(2, "2026/2", "plans", "y2"),
+    Change::Deposit(2, "2026/2", "maps", "y9"),
+    Change::Deposit(2, "2026/2", "MAPS", "y2"),
+    Change::Deposit(2, "2026/2", "", ""),
+];
 
-fn class_and_policy<S: Alter>(
-    conn: &mut Connection<S>,
-    callers: &[CallerRow],
-    rules: &[RuleRow],
-) -> Result<(), TableFault> {
-    if !conn.is_autocommit() {
-        return Err(TableFault::Memory);
-    }
-    let mut tx = conn.transaction();
-    put_class(&mut tx, "new", 5)?;
-    put_policy(&mut tx, callers, rules)?;
-    Ok(tx.commit()?)
-}
+/// The same call with nothing to refuse.
+static TAKEN_DEPOSIT: [Row; 3] = [
+    (Step::Held, SMALL),
+    (
+        Step::Both(NEW, Change::Deposit(2, "2026/2", "maps", "y2")),
+        "done",
+    ),
+    (Step::Read(Read::Years("new")), "5"),
+];
 
 #[test]
 fn a_refused_deposit_changes_nothing(rt: HostRuntime) -> Result<(), Fail> {
-    let alloc = rt.alloc();
-    let mut conn = small_office(alloc)?;
-    let before = held(alloc, &mut conn)?;
-    for (number, accession, collection, class) in [
-        (2, "2026/1", "maps", "y2"),
-        (1, "2026/2", "maps", "y2"),
-        (2, "2026/2", "plans", "y2"),
-        (2, "2026/2", "maps", "y9"),
-        (2, "2026/2", "MAPS", "y2"),
-        (2, "2026/2", "", ""),
-    ] {
-        let found = class_and_deposit(&mut conn, number, accession, collection, class);
-        assert_eq!(rt; found, Err(TableFault::Store), "{number} {accession}");
-        assert_eq!(rt;
-            held(alloc, &mut conn)?.as_str(),
-            before.as_str(),
-            "{number} {accession}"
-        );
+    let mut session = small_office(rt.alloc())?;
+    for deposit in REFUSED_DEPOSITS.iter() {
+        let refused = [(Step::Both(NEW, *deposit), "Store"), (Step::Held, SMALL)];
+        session.take(&refused)?;
     }
-    let mut conn = reopen(alloc, conn)?;
-    assert_eq!(rt; held(alloc, &mut conn)?.as_str(), before.as_str());
-    // The same call with nothing to refuse.
-    class_and_deposit(&mut conn, 2, "2026/2", "maps", "y2")?;
-    assert_eq!(rt; years_of(&mut conn, "new"), Ok(Some(5)));
-    Ok(())
+    let mut session = session.reopened()?;
+    session.take(&TAKEN_DEPOSIT)
 }
+
+static REFUSED_FILE_AND_HOLD: [Row; 4] = [
+    (Step::Both(NEW, Change::File(1, "data/a", b"")), "Store"),
+    (Step::Held, SMALL),
+    (
+        Step::Both(NEW, Change::Hold(1, Some(1), None, "other")),
+        "Store",
+    ),
+    (Step::Held, SMALL),
+];
+
+/// The tables `file` and `hold` refer to no table.
+static TAKEN_FILE_AND_HOLDS: [Row; 5] = [
+    (Step::Both(NEW, Change::File(77, "data/a", b"")), "done"),
+    (
+        Step::Both(NEW, Change::Hold(2, Some(1), None, "other")),
+        "done",
+    ),
+    (
+        Step::Do(Change::Hold(3, Some(77), None, "no such deposit")),
+        "done",
+    ),
+    (
+        Step::Do(Change::Hold(4, None, Some("plans"), "no such collection")),
+        "done",
+    ),
+    (Step::Read(Read::LastHold), "4"),
+];
 
 #[test]
 fn a_refused_file_or_hold_changes_nothing(rt: HostRuntime) -> Result<(), Fail> {
-    let alloc = rt.alloc();
-    let mut conn = small_office(alloc)?;
-    let before = held(alloc, &mut conn)?;
-    let found = class_and_file(&mut conn, 1, "data/a");
-    assert_eq!(rt; found, Err(TableFault::Store));
-    assert_eq!(rt; held(alloc, &mut conn)?.as_str(), before.as_str());
-    assert_eq!(rt; class_and_hold(&mut conn, 1), Err(TableFault::Store));
-    assert_eq!(rt; held(alloc, &mut conn)?.as_str(), before.as_str());
-    // The tables `file` and `hold` refer to no table.
-    class_and_file(&mut conn, 77, "data/a")?;
-    class_and_hold(&mut conn, 2)?;
-    add_hold(&mut conn, 3, Some(77), None, "no such deposit")?;
-    add_hold(&mut conn, 4, None, Some("plans"), "no such collection")?;
-    assert_eq!(rt; last_hold_in(&mut conn), Ok(Some(4)));
-    Ok(())
+    let mut session = small_office(rt.alloc())?;
+    session.take(&REFUSED_FILE_AND_HOLD)?;
+    session.take(&TAKEN_FILE_AND_HOLDS)
 }
 
-/// Callers of these names, with one role.
-fn callers_named(alloc: Global, names: &[&str]) -> Result<Vec<CallerRow>, AllocError> {
-    let mut callers = Vec::new(alloc);
-    for name in names {
-        callers.push(CallerRow {
-            name: String::from_str(alloc, name)?,
-            role: String::from_str(alloc, "keeper")?,
-        })?;
-    }
-    Ok(callers)
-}
+const POLICY: Change = Change::Policy(
+    &[("ada", "keeper"), ("ben", "keeper")],
+    &[
+        (1, 1, "keeper", "*", "*", "*"),
+        (2, 1, "keeper", "*", "*", "*"),
+    ],
+);
 
-/// Rules of these places that allow everything.
-fn rules_placed(alloc: Global, places: &[i64]) -> Result<Vec<RuleRow>, AllocError> {
-    let mut rules = Vec::new(alloc);
-    for place in places {
-        rules.push(RuleRow {
-            place: *place,
-            effect: 1,
-            role: String::from_str(alloc, "keeper")?,
-            action: String::from_str(alloc, "*")?,
-            collection: String::from_str(alloc, "*")?,
-            class: String::from_str(alloc, "*")?,
-        })?;
-    }
-    Ok(rules)
-}
+/// The caller `cy` stands twice in it.
+const TWO_CALLERS: Change = Change::Policy(
+    &[("cy", "keeper"), ("dan", "keeper"), ("cy", "keeper")],
+    &[
+        (1, 1, "keeper", "*", "*", "*"),
+        (2, 1, "keeper", "*", "*", "*"),
+    ],
+);
+
+/// The place 4 stands twice in it.
+const TWO_RULES: Change = Change::Policy(
+    &[("ada", "keeper"), ("ben", "keeper")],
+    &[
+        (3, 1, "keeper", "*", "*", "*"),
+        (4, 1, "keeper", "*", "*", "*"),
+        (4, 1, "keeper", "*", "*", "*"),
+    ],
+);
+
+/// What the small office holds with the policy.
+const WITH_POLICY: &str =
+    "1|1|10|20\n--\nada|keeper\nben|keeper\n--\n1|1|keeper|*|*|*\n2|1|keeper|*|*|*\n--\ny2|2\n--\nmaps\n--\n1|2026/1|maps|y2|10|11|2|300|\n--\n1|data/a|abc\n--\n1|1||suit|100|\n--\n";
+
+static REFUSED_POLICIES: [Row; 6] = [
+    (Step::Do(POLICY), "done"),
+    (Step::Held, WITH_POLICY),
+    (Step::Both(NEW, TWO_CALLERS), "Store"),
+    (Step::Held, WITH_POLICY),
+    (Step::Both(NEW, TWO_RULES), "Store"),
+    (Step::Held, WITH_POLICY),
+];
 
 #[test]
 fn a_refused_policy_changes_nothing(rt: HostRuntime) -> Result<(), Fail> {
-    let alloc = rt.alloc();
-    let mut conn = small_office(alloc)?;
-    let callers = callers_named(alloc, &["ada", "ben"])?;
-    let rules = rules_placed(alloc, &[1, 2])?;
-    set_policy(&mut conn, &callers, &rules)?;
-    let before = held(alloc, &mut conn)?;
-    let twice = callers_named(alloc, &["cy", "dan", "cy"])?;
-    let found = class_and_policy(&mut conn, &twice, &rules);
-    assert_eq!(rt; found, Err(TableFault::Store));
-    assert_eq!(rt; held(alloc, &mut conn)?.as_str(), before.as_str());
-    let twice = rules_placed(alloc, &[3, 4, 4])?;
-    let found = class_and_policy(&mut conn, &callers, &twice);
-    assert_eq!(rt; found, Err(TableFault::Store));
-    assert_eq!(rt; held(alloc, &mut conn)?.as_str(), before.as_str());
-    Ok(())
+    let mut session = small_office(rt.alloc())?;
+    session.take(&REFUSED_POLICIES)
 }
 
-// Reads by a name or a number that isn't there.
+/// Reads by a name or a number that isn't there.
+static ABSENT: [Row; 10] = [
+    (Step::Read(Read::Role("eve")), "none"),
+    (Step::Read(Read::Years("Y2")), "none"),
+    (Step::Read(Read::Collection("map")), "false"),
+    (Step::Read(Read::Deposit(3)), "none\n"),
+    (Step::Read(Read::ByAccession("2026/")), "none\n"),
+    (Step::Read(Read::Files(3)), ""),
+    (Step::Read(Read::Content(1, "data/A", b"")), "none"),
+    (Step::Read(Read::Content(3, "data/a", b"")), "none"),
+    (Step::Read(Read::Hold(3)), "none\n"),
+    (Step::Read(Read::LiveHolds(3, "plans")), ""),
+];
 
-fn finds_no_definition<S: Alter>(conn: &mut Connection<S>) -> Result<bool, TableFault> {
-    Ok(
-        role_in(conn, "eve")?.is_none()
-            && years_of(conn, "Y2")?.is_none()
-            && !knows_collection(conn, "map")?,
-    )
-}
+static NO_ROWS: [Row; 4] = [
+    (Step::Read(Read::Rules), ""),
+    (Step::Read(Read::Deposits), ""),
+    (Step::Read(Read::LastDeposit), "none"),
+    (Step::Read(Read::LastHold), "none"),
+];
 
-fn finds_no_deposit<S: Alter>(conn: &mut Connection<S>) -> Result<bool, TableFault> {
-    Ok(deposit_in(conn, 3)?.is_none() && deposit_by(conn, "2026/")?.is_none())
-}
+static ROWS: [Row; 4] = [
+    (Step::Read(Read::Rules), ""),
+    (
+        Step::Read(Read::Deposits),
+        "1 2026/1 maps y2 10 11 2 300 None\n",
+    ),
+    (Step::Read(Read::LastDeposit), "1"),
+    (Step::Read(Read::LastHold), "1"),
+];
 
-fn finds_no_file<S: Alter>(alloc: Global, conn: &mut Connection<S>) -> Result<bool, TableFault> {
-    Ok(
-        files_in(alloc, conn, 3)?.is_empty()
-            && content_of(conn, 1, "data/A")?.is_none()
-            && content_of(conn, 3, "data/a")?.is_none(),
-    )
-}
-
-fn finds_no_hold<S: Alter>(alloc: Global, conn: &mut Connection<S>) -> Result<bool, TableFault> {
-    Ok(hold_in(conn, 3)?.is_none() && live_in(alloc, conn, 3, "plans")?.is_empty())
-}
-
-fn finds_nothing<S: Alter>(alloc: Global, conn: &mut Connection<S>) -> Result<bool, TableFault> {
-    Ok(
-        finds_no_definition(conn)?
-            && finds_no_deposit(conn)?
-            && finds_no_file(alloc, conn)?
-            && finds_no_hold(alloc, conn)?,
-    )
-}
-
-/// Whether there is no row but the one of the office.
-fn has_no_rows<S: Alter>(alloc: Global, conn: &mut Connection<S>) -> Result<bool, TableFault> {
-    Ok(
-        rules_in(alloc, conn)?.is_empty()
-            && deposits_in(alloc, conn)?.is_empty()
-            && last_deposit_in(conn)?.is_none()
-            && last_hold_in(conn)?.is_none(),
-    )
-}
+static EMPTY_OFFICE: [Row; 1] = [(Step::Create, "done")];
 
 #[test]
 fn finds_only_what_is_there(rt: HostRuntime) -> Result<(), Fail> {
-    let alloc = rt.alloc();
-    let mut conn = open_new(alloc)?;
-    make(&mut conn)?;
-    assert!(rt; finds_nothing(alloc, &mut conn)?);
-    assert!(rt; has_no_rows(alloc, &mut conn)?);
-    let mut conn = small_office(alloc)?;
-    assert!(rt; finds_nothing(alloc, &mut conn)?);
-    assert!(rt; !has_no_rows(alloc, &mut conn)?);
-    Ok(())
+    let mut session = Session::new(rt.alloc())?;
+    session.take(&EMPTY_OFFICE)?;
+    session.take(&ABSENT)?;
+    session.take(&NO_ROWS)?;
+    let mut session = small_office(rt.alloc())?;
+    session.take(&ABSENT)?;
+    session.take(&ROWS)
 }
 
 /// Changes of what isn't there.
-fn change_nothing<S: Alter>(conn: &mut Connection<S>) -> Result<(), TableFault> {
-    set_gone(conn, 3, 9)?;
-    take_files(conn, 3)?;
-    release(conn, 3, 9)
-}
+static ABSENT_CHANGED: [Row; 4] = [
+    (Step::Do(Change::Gone(3, 9)), "done"),
+    (Step::Do(Change::DropFiles(3)), "done"),
+    (Step::Do(Change::EndHold(3, 9)), "done"),
+    (Step::Held, SMALL),
+];
 
 #[test]
 fn changes_only_what_is_there(rt: HostRuntime) -> Result<(), Fail> {
-    let alloc = rt.alloc();
-    let mut conn = small_office(alloc)?;
-    let before = held(alloc, &mut conn)?;
-    change_nothing(&mut conn)?;
-    assert_eq!(rt; held(alloc, &mut conn)?.as_str(), before.as_str());
-    Ok(())
+    let mut session = small_office(rt.alloc())?;
+    session.take(&ABSENT_CHANGED)
 }
+
+static NO_TABLES: [Row; 5] = [
+    (Step::Read(Read::Limits), "Store"),
+    (Step::Read(Read::Years("y2")), "Store"),
+    (Step::Do(Change::Class("y2", 2)), "Store"),
+    (Step::Read(Read::LastDeposit), "Store"),
+    (Step::Do(Change::File(1, "data/a", b"")), "Store"),
+];
 
 #[test]
 fn no_tables_are_a_fault_of_the_store(rt: HostRuntime) -> Result<(), Fail> {
-    let mut conn = open_new(rt.alloc())?;
-    assert!(rt; limits_in(&mut conn).is_err());
-    assert_eq!(rt; years_of(&mut conn, "y2"), Err(TableFault::Store));
-    assert_eq!(rt; set_class(&mut conn, "y2", 2), Err(TableFault::Store));
-    assert_eq!(rt; last_deposit_in(&mut conn), Err(TableFault::Store));
-    assert_eq!(rt;
-        add_file(&mut conn, 1, "data/a", b""),
-        Err(TableFault::Store)
-    );
-    Ok(())
+    let mut session = Session::new(rt.alloc())?;
+    session.take(&NO_TABLES)
 }

@@ -1,11 +1,35 @@
 //! The smallest and the largest contents, odd paths, and many files.
 
-use crate::calls::*;
-use crate::files::{open_new, reopen};
-use crate::texts::has_content;
-use sqlite::{Alter, Connection};
+use crate::answers::Read;
+use crate::changes::Change;
+use crate::sessions::{Row, Session};
+use crate::steps::Step;
 use std::alloc::{AllocError, Global};
 use std::test::*;
+
+static CREATED: [Row; 1] = [(Step::Create, "done")];
+
+/// Opens new files and makes an office.
+fn new_office(alloc: Global) -> Result<Session, Fail> {
+    let mut session = Session::new(alloc)?;
+    session.take(&CREATED)?;
+    Ok(session)
+}
+
+/// Puts a file of deposit 1.
+fn put(session: &mut Session, path: &str, content: &[u8]) -> Result<(), Fail> {
+    session.take(&[(Step::Do(Change::File(1, path, content)), "done")])
+}
+
+/// Reads a file of deposit 1: it has this content.
+fn find(session: &mut Session, path: &str, content: &[u8]) -> Result<(), Fail> {
+    session.take(&[(Step::Read(Read::Content(1, path, content)), "true")])
+}
+
+/// Reads the files of a deposit, as a text.
+fn list(session: &mut Session, deposit: u32, files: &str) -> Result<(), Fail> {
+    session.take(&[(Step::Read(Read::Files(deposit)), files)])
+}
 
 /// A content of 16,777,216 bytes.
 fn largest_content(alloc: Global) -> Result<Vec<u8>, AllocError> {
@@ -19,70 +43,91 @@ fn largest_content(alloc: Global) -> Result<Vec<u8>, AllocError> {
 #[test]
 fn contents_of_no_byte_and_of_the_most(rt: HostRuntime) -> Result<(), Fail> {
     let alloc = rt.alloc();
-    let mut conn = open_new(alloc)?;
-    make(&mut conn)?;
     let large = largest_content(alloc)?;
-    assert_eq!(rt; large.len(), 16_777_216);
-    add_file(&mut conn, 1, "data/empty", b"")?;
-    add_file(&mut conn, 1, "data/large", &large)?;
-    let mut conn = reopen(alloc, conn)?;
-    assert!(rt; has_content(&mut conn, 1, "data/empty", b"")?);
-    assert!(rt; has_content(&mut conn, 1, "data/large", &large)?);
-    assert_eq!(rt; files_in(alloc, &mut conn, 1)?.len(), 2);
-    Ok(())
+    let mut session = new_office(alloc)?;
+    put(&mut session, "data/empty", b"")?;
+    put(&mut session, "data/large", &large)?;
+    let mut session = session.reopened()?;
+    find(&mut session, "data/empty", b"")?;
+    find(&mut session, "data/large", &large)?;
+    list(
+        &mut session,
+        1,
+        "1 data/empty \n1 data/large of 16777216 bytes\n",
+    )
 }
 
-/// Adds a file whose path has this character and whose content is its path, if it is a character
-/// that a path may have.
-fn add_odd<S: Alter>(alloc: Global, conn: &mut Connection<S>, code: u32) -> Result<(), Fail> {
-    let Some(odd) = char::from_u32(code) else {
-        return Ok(());
-    };
-    if odd == '/' {
-        return Ok(());
+/// Adds the character, if it is one that a path may have.
+fn add_odd(odd: &mut Vec<char>, code: u32) -> Result<(), AllocError> {
+    match char::from_u32(code) {
+        None | Some('/') => Ok(()),
+        Some(character) => Ok(odd.push(character)?),
     }
-    let path = format!(in alloc; "data/{odd}")?;
-    add_file(conn, 1, &path, path.as_bytes())?;
-    Ok(())
 }
 
-/// Paths with every byte that a path may have: those of one byte, each that begins a longer
-/// character, and each that goes on with one.
-fn add_every_byte<S: Alter>(alloc: Global, conn: &mut Connection<S>) -> Result<(), Fail> {
+/// Characters with every byte that a path may have: those of one byte, each that begins a longer
+/// character, and each that goes on with one. They are in the order of their bytes.
+fn odd_characters(alloc: Global) -> Result<Vec<char>, AllocError> {
+    let mut odd = Vec::new(alloc);
     for code in 1..0xc0 {
-        add_odd(alloc, conn, code)?;
+        add_odd(&mut odd, code)?;
     }
     for lead in 3..32 {
-        add_odd(alloc, conn, lead * 0x40)?;
+        add_odd(&mut odd, lead * 0x40)?;
     }
-    add_odd(alloc, conn, 0x801)?;
+    add_odd(&mut odd, 0x801)?;
     for lead in 1..16 {
-        add_odd(alloc, conn, lead * 0x1000 + 1)?;
+        add_odd(&mut odd, lead * 0x1000 + 1)?;
     }
     for code in [0x1_0001, 0x4_0001, 0x8_0001, 0xc_0001, 0x10_0001] {
-        add_odd(alloc, conn, code)?;
+        add_odd(&mut odd, code)?;
+    }
+    Ok(odd)
+}
+
+/// Paths with these characters.
+fn paths_with(alloc: Global, characters: &[char]) -> Result<Vec<String>, AllocError> {
+    let mut paths = Vec::new(alloc);
+    for odd in characters {
+        paths.push(format!(in alloc; "data/{odd}")?)?;
+    }
+    Ok(paths)
+}
+
+/// Puts files of these paths, whose contents are their paths.
+fn put_all(session: &mut Session, paths: &[String]) -> Result<(), Fail> {
+    for path in paths {
+        put(session, path, path.as_bytes())?;
     }
     Ok(())
+}
+
+fn find_all(session: &mut Session, paths: &[String]) -> Result<(), Fail> {
+    for path in paths {
+        find(session, path, path.as_bytes())?;
+    }
+    Ok(())
+}
+
+/// The files of deposit 1 that have these paths, as a text.
+fn listed(alloc: Global, paths: &[String]) -> Result<String, AllocError> {
+    let mut text = String::new(alloc);
+    for path in paths {
+        writeln!(text, "1 {path} {path}")?;
+    }
+    Ok(text)
 }
 
 #[test]
 fn paths_with_every_byte(rt: HostRuntime) -> Result<(), Fail> {
     let alloc = rt.alloc();
-    let mut conn = open_new(alloc)?;
-    make(&mut conn)?;
-    add_every_byte(alloc, &mut conn)?;
-    let mut conn = reopen(alloc, conn)?;
-    let files = files_in(alloc, &mut conn, 1)?;
-    assert_eq!(rt; files.len(), 240);
-    let mut last = b"".as_slice();
-    for file in files.iter() {
-        let path = file.path.as_bytes();
-        assert!(rt; last < path);
-        assert!(rt; file.content.as_slice() == path);
-        assert!(rt; has_content(&mut conn, 1, &file.path, path)?);
-        last = path;
-    }
-    Ok(())
+    let paths = paths_with(alloc, &odd_characters(alloc)?)?;
+    assert_eq!(rt; paths.len(), 240);
+    let mut session = new_office(alloc)?;
+    put_all(&mut session, &paths)?;
+    let mut session = session.reopened()?;
+    find_all(&mut session, &paths)?;
+    list(&mut session, 1, &listed(alloc, &paths)?)
 }
 
 /// A path of 1,024 bytes with this ending.
@@ -95,64 +140,71 @@ fn long_path(alloc: Global, end: &str) -> Result<String, AllocError> {
     Ok(path)
 }
 
+static SHORT_PATHS: [&str; 16] = [
+    "a",
+    "A",
+    "a ",
+    " a",
+    "a\t",
+    "a\n",
+    "a\r\n",
+    "data/%25",
+    "data/%",
+    "data/'",
+    "data/\"",
+    "data/;--",
+    "data/\\",
+    "data/\u{feff}",
+    "data/e\u{301}",
+    "data/\u{e9}",
+];
+
+/// Paths that differ little: the short ones, and two of 1,024 bytes that differ in the last.
+fn near_paths(alloc: Global) -> Result<Vec<String>, AllocError> {
+    let mut paths = Vec::new(alloc);
+    for path in SHORT_PATHS.iter() {
+        paths.push(String::from_str(alloc, path)?)?;
+    }
+    for end in ["a", "b"] {
+        paths.push(long_path(alloc, end)?)?;
+    }
+    Ok(paths)
+}
+
 #[test]
 fn paths_that_differ_little(rt: HostRuntime) -> Result<(), Fail> {
     let alloc = rt.alloc();
-    let mut conn = open_new(alloc)?;
-    make(&mut conn)?;
-    let (first, second) = (long_path(alloc, "a")?, long_path(alloc, "b")?);
-    let paths = [
-        "a",
-        "A",
-        "a ",
-        " a",
-        "a\t",
-        "a\n",
-        "a\r\n",
-        "data/%25",
-        "data/%",
-        "data/'",
-        "data/\"",
-        "data/;--",
-        "data/\\",
-        "data/\u{feff}",
-        "data/e\u{301}",
-        "data/\u{e9}",
-        first.as_str(),
-        second.as_str(),
-    ];
-    for path in paths {
-        add_file(&mut conn, 1, path, path.as_bytes())?;
+    let mut paths = near_paths(alloc)?;
+    let mut session = new_office(alloc)?;
+    put_all(&mut session, &paths)?;
+    let mut session = session.reopened()?;
+    find_all(&mut session, &paths)?;
+    paths.sort()?;
+    list(&mut session, 1, &listed(alloc, &paths)?)
+}
+
+/// The paths `data/0000` to `data/1999`.
+fn numbered_paths(alloc: Global) -> Result<Vec<String>, AllocError> {
+    let mut paths = Vec::new(alloc);
+    for number in 0..2000u32 {
+        paths.push(format!(in alloc; "data/{number:04}")?)?;
     }
-    let mut conn = reopen(alloc, conn)?;
-    for path in paths {
-        assert!(rt; has_content(&mut conn, 1, path, path.as_bytes())?);
-    }
-    assert_eq!(rt; files_in(alloc, &mut conn, 1)?.len(), 18);
-    Ok(())
+    Ok(paths)
 }
 
 #[test]
 fn two_thousand_files(rt: HostRuntime) -> Result<(), Fail> {
     let alloc = rt.alloc();
-    let mut conn = open_new(alloc)?;
-    make(&mut conn)?;
+    let mut session = new_office(alloc)?;
     // From the last path to the first.
-    for number in (0..2000u32).rev() {
-        let path = format!(in alloc; "data/{number:04}")?;
-        add_file(&mut conn, 1, &path, path.as_bytes())?;
-    }
-    add_file(&mut conn, 2, "data/0000", b"")?;
-    let mut conn = reopen(alloc, conn)?;
-    let files = files_in(alloc, &mut conn, 1)?;
-    assert_eq!(rt; files.len(), 2000);
-    for (number, file) in files.iter().enumerate() {
-        let path = format!(in alloc; "data/{number:04}")?;
-        assert_eq!(rt; file.path.as_str(), path.as_str());
-        assert_eq!(rt; file.content.as_slice(), path.as_bytes());
-    }
-    take_files(&mut conn, 1)?;
-    assert_eq!(rt; files_in(alloc, &mut conn, 1)?.len(), 0);
-    assert_eq!(rt; files_in(alloc, &mut conn, 2)?.len(), 1);
-    Ok(())
+    let mut paths = numbered_paths(alloc)?;
+    paths.reverse();
+    put_all(&mut session, &paths)?;
+    session.take(&[(Step::Do(Change::File(2, "data/0000", b"")), "done")])?;
+    let mut session = session.reopened()?;
+    paths.reverse();
+    list(&mut session, 1, &listed(alloc, &paths)?)?;
+    session.take(&[(Step::Do(Change::DropFiles(1)), "done")])?;
+    list(&mut session, 1, "")?;
+    list(&mut session, 2, "2 data/0000 \n")
 }

@@ -1,0 +1,68 @@
+//! Sessions: steps over files in memory, each with its answer.
+
+use crate::files::open;
+use crate::steps::{Step, said};
+use sqlite::{Connection, FileStore, Files};
+use sqlite_disk::Memory;
+use std::alloc::Global;
+use std::test::Fail;
+
+/// A step, and the answer to it.
+pub type Row<'a> = (Step<'a>, &'a str);
+
+/// A connection over files in memory.
+///
+/// It is a struct of its own so that its drop is proved once, and not wherever one may be let go.
+#[derive(Drop)]
+pub struct Session {
+    alloc: Global,
+    conn: Connection<FileStore<Memory>>,
+}
+
+impl Session {
+    /// Opens the files.
+    pub fn over(alloc: Global, files: Files<Memory>) -> Result<Session, Fail> {
+        let conn = open(alloc, files).ok().ok_or("the files were opened")?;
+        Ok(Session { alloc, conn })
+    }
+
+    /// Opens two empty files.
+    pub fn new(alloc: Global) -> Result<Session, Fail> {
+        let files = Files {
+            log: Memory::new(alloc),
+            db: Memory::new(alloc),
+        };
+        Session::over(alloc, files)
+    }
+
+    /// Closes the files, and opens what they hold.
+    pub fn reopened(self) -> Result<Session, Fail> {
+        let Session { alloc, conn } = self;
+        let files = conn.close_files().ok().ok_or("the files were closed")?;
+        Session::over(alloc, files)
+    }
+
+    /// What the step answers.
+    pub fn said(&mut self, step: Step<'_>) -> Result<String, Fail> {
+        said(self.alloc, &mut self.conn, step)
+    }
+
+    /// Takes the steps in turn. Fails where one isn't answered as its row says.
+    pub fn take(&mut self, rows: &[Row<'_>]) -> Result<(), Fail> {
+        for (at, (step, wanted)) in rows.iter().enumerate() {
+            let answer = self.said(*step)?;
+            if answer.as_str() != *wanted {
+                return Err(Fail::new(format_args!("row {at} answers {answer}")));
+            }
+        }
+        Ok(())
+    }
+}
+
+/// Takes steps over new files, and more steps when the files are opened again.
+pub fn take_and_reopen(alloc: Global, before: &[Row<'_>], after: &[Row<'_>]) -> Result<(), Fail> {
+    let mut session = Session::new(alloc)?;
+    session.take(before)?;
+    let mut session = session.reopened()?;
+    session.take(after)
+}
