@@ -102,9 +102,17 @@ pub fn runs_stay_legal()
 {}
 
 /// After a bag was accepted as a deposit, each download of the deposit that is served is that bag,
-/// byte for byte.
+/// byte for byte: in a run of requests, and in any later history.
 pub fn served_as_deposited()
-    ensures { (h next : History) (day later : Date) (n : ℕ) (bytes : List ℕ)
+    ensures ran { (h mid late next : History) (items : List Item) (given : List Answer)
+        (day later : Date) (n : ℕ) (bytes : List ℕ) (caller other : Bor (List ℕ))
+        (collection class accession : List ℕ) (closed : Date) (bag : Bor (List ℕ))
+        → Step h (day, caller, MakeDeposit collection class accession closed bag)
+        (answers.Deposited n) mid
+        → Run mid items given late
+        → Step late (later, other, DownloadBag n) (answers.Bag bytes) next
+        → bytes ≡ bag.now }
+    ensures answered { (h next : History) (day later : Date) (n : ℕ) (bytes : List ℕ)
         (caller other collection class accession : List ℕ) (closed : Date) (bag : Bor (List ℕ))
         → answer h day caller (MakeDeposit collection class accession closed bag)
         ≡ answers.Deposited n
@@ -151,7 +159,8 @@ pub fn released_holds_are_not_live()
         → refusal next later caller (Dispose n) ≢ Some (Held k) }
 {}
 
-/// A class that is revised moves the due days of its deposits, forwards and backwards.
+/// A class that is revised gives its deposits the due day of their closing day and the new years,
+/// whatever the years were before: so due days come earlier or later.
 pub fn revised_classes_move_due_days()
     ensures { (h : History) (day : Date) (caller name given_name : List ℕ)
         (years given_years : Option ℕ) (deposit : Deposit)
