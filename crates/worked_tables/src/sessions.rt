@@ -11,8 +11,6 @@ use std::test::Fail;
 pub type Row<'a> = (Step<'a>, &'a str);
 
 /// A connection over files in memory.
-///
-/// It is a struct of its own so that its drop is proved once, and not wherever one may be let go.
 #[derive(Drop)]
 pub struct Session {
     alloc: Global,
@@ -59,10 +57,12 @@ impl Session {
     }
 }
 
-/// Takes steps over new files, and more steps when the files are opened again.
-pub fn take_and_reopen(alloc: Global, before: &[Row<'_>], after: &[Row<'_>]) -> Result<(), Fail> {
+/// Takes the steps of each table in turn, over new files, which are opened again before each table.
+pub fn take_all(alloc: Global, tables: &[&[Row<'_>]]) -> Result<(), Fail> {
     let mut session = Session::new(alloc)?;
-    session.take(before)?;
-    let mut session = session.reopened()?;
-    session.take(after)
+    for table in tables {
+        session = session.reopened()?;
+        session.take(table)?;
+    }
+    Ok(())
 }

@@ -2,7 +2,7 @@
 
 use crate::answers::Read;
 use crate::changes::Change;
-use crate::sessions::{Row, take_and_reopen};
+use crate::sessions::{Row, take_all};
 use crate::steps::Step;
 use std::test::*;
 
@@ -19,7 +19,7 @@ static MADE_ONCE: [Row; 5] = [
 
 #[test]
 fn an_office_lasts(rt: HostRuntime) -> Result<(), Fail> {
-    take_and_reopen(rt.alloc(), &MADE, &MADE_ONCE)
+    take_all(rt.alloc(), &[&MADE, &MADE_ONCE])
 }
 
 static DEFINED: [Row; 6] = [
@@ -43,7 +43,7 @@ static DEFINITIONS: [Row; 4] = [
 
 #[test]
 fn classes_and_collections_last(rt: HostRuntime) -> Result<(), Fail> {
-    take_and_reopen(rt.alloc(), &DEFINED, &DEFINITIONS)
+    take_all(rt.alloc(), &[&DEFINED, &DEFINITIONS])
 }
 
 const OLD_POLICY: Change = Change::Policy(
@@ -80,7 +80,7 @@ static POLICY: [Row; 4] = [
 
 #[test]
 fn a_policy_lasts(rt: HostRuntime) -> Result<(), Fail> {
-    take_and_reopen(rt.alloc(), &INSTALLED, &POLICY)
+    take_all(rt.alloc(), &[&INSTALLED, &POLICY])
 }
 
 /// Three deposits, of which the second is gone.
@@ -116,7 +116,7 @@ static DEPOSITS: [Row; 5] = [
 
 #[test]
 fn deposits_last(rt: HostRuntime) -> Result<(), Fail> {
-    take_and_reopen(rt.alloc(), &DEPOSITED, &DEPOSITS)
+    take_all(rt.alloc(), &[&DEPOSITED, &DEPOSITS])
 }
 
 static PUT: [Row; 6] = [
@@ -142,7 +142,7 @@ static FILES: [Row; 3] = [
 
 #[test]
 fn files_last(rt: HostRuntime) -> Result<(), Fail> {
-    take_and_reopen(rt.alloc(), &PUT, &FILES)
+    take_all(rt.alloc(), &[&PUT, &FILES])
 }
 
 /// Four holds, of which the first is released.
@@ -174,5 +174,5 @@ static HOLDS: [Row; 5] = [
 
 #[test]
 fn holds_last(rt: HostRuntime) -> Result<(), Fail> {
-    take_and_reopen(rt.alloc(), &PLACED, &HOLDS)
+    take_all(rt.alloc(), &[&PLACED, &HOLDS])
 }

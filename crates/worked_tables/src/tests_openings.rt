@@ -1,6 +1,6 @@
 //! Which databases are taken for an office.
 
-use crate::sessions::{Row, take_and_reopen};
+use crate::sessions::{Row, take_all};
 use crate::steps::Step;
 use std::alloc::Global;
 use std::test::*;
@@ -14,7 +14,7 @@ fn opens(alloc: Global, table: &'static str, cases: &[Case]) -> Result<(), Fail>
     for (sql, answer) in cases {
         let sql: &'static str = *sql;
         let made = [(Step::Run(table), "done"), (Step::Run(sql), "done")];
-        take_and_reopen(alloc, &made, &[(Step::Open, *answer)])?;
+        take_all(alloc, &[&made, &[(Step::Open, *answer)]])?;
     }
     Ok(())
 }
@@ -171,7 +171,7 @@ fn an_office_is_made_only_in_an_empty_database(rt: HostRuntime) -> Result<(), Fa
     for (sql, objects) in IN_USE.iter() {
         let refused = [(Step::Run(*sql), "done"), (Step::Create, "Store")];
         let left = [(Step::Show("SELECT type, name FROM sqlite_schema"), *objects)];
-        take_and_reopen(rt.alloc(), &refused, &left)?;
+        take_all(rt.alloc(), &[&refused, &left])?;
     }
-    take_and_reopen(rt.alloc(), &EMPTIED, &OPENED)
+    take_all(rt.alloc(), &[&EMPTIED, &OPENED])
 }

@@ -2,9 +2,8 @@
 
 use crate::answers::Read;
 use crate::changes::Change;
-use crate::sessions::{Row, Session};
+use crate::sessions::{Row, take_all};
 use crate::steps::Step;
-use std::alloc::Global;
 use std::test::*;
 
 /// An office with one deposit, a file of it and a hold.
@@ -17,13 +16,6 @@ static SMALL_OFFICE: [Row; 6] = [
     (Step::Do(Change::Hold(1, Some(1), None, "suit")), "done"),
 ];
 
-/// Makes the small office in new files.
-fn small_office(alloc: Global) -> Result<Session, Fail> {
-    let mut session = Session::new(alloc)?;
-    session.take(&SMALL_OFFICE)?;
-    Ok(session)
-}
-
 /// What the small office holds.
 const SMALL: &str =
     "1|1|10|20\n--\n--\n--\ny2|2\n--\nmaps\n--\n1|2026/1|maps|y2|10|11|2|300|\n--\n1|data/a|abc\n--\n1|1||suit|100|\n--\n";
@@ -31,13 +23,37 @@ const SMALL: &str =
 /// A change that goes before another in one transaction, and is rolled back with it.
 const NEW: Change = Change::Class("new", 5);
 
-static REFUSED_DEPOSITS: [Change; 6] = [
-    Change::Deposit(2, "2026/1", "maps", "y2"),
-    Change::Deposit(1, "2026/2", "maps", "y2"),
-    Change::Deposit(2, "2026/2", "plans", "y2"),
-    Change::Deposit(2, "2026/2", "maps", "y9"),
-    Change::Deposit(2, "2026/2", "MAPS", "y2"),
-    Change::Deposit(2, "2026/2", "", ""),
+static REFUSED_DEPOSITS: [Row; 12] = [
+    (
+        Step::Both(NEW, Change::Deposit(2, "2026/1", "maps", "y2")),
+        "Store",
+    ),
+    (Step::Held, SMALL),
+    (
+        Step::Both(NEW, Change::Deposit(1, "2026/2", "maps", "y2")),
+        "Store",
+    ),
+    (Step::Held, SMALL),
+    (
+        Step::Both(NEW, Change::Deposit(2, "2026/2", "plans", "y2")),
+        "Store",
+    ),
+    (Step::Held, SMALL),
+    (
+        Step::Both(NEW, Change::Deposit(2, "2026/2", "maps", "y9")),
+        "Store",
+    ),
+    (Step::Held, SMALL),
+    (
+        Step::Both(NEW, Change::Deposit(2, "2026/2", "MAPS", "y2")),
+        "Store",
+    ),
+    (Step::Held, SMALL),
+    (
+        Step::Both(NEW, Change::Deposit(2, "2026/2", "", "")),
+        "Store",
+    ),
+    (Step::Held, SMALL),
 ];
 
 /// The same call with nothing to refuse.
@@ -52,13 +68,10 @@ static TAKEN_DEPOSIT: [Row; 3] = [
 
 #[test]
 fn a_refused_deposit_changes_nothing(rt: HostRuntime) -> Result<(), Fail> {
-    let mut session = small_office(rt.alloc())?;
-    for deposit in REFUSED_DEPOSITS.iter() {
-        let refused = [(Step::Both(NEW, *deposit), "Store"), (Step::Held, SMALL)];
-        session.take(&refused)?;
-    }
-    let mut session = session.reopened()?;
-    session.take(&TAKEN_DEPOSIT)
+    take_all(
+        rt.alloc(),
+        &[&SMALL_OFFICE, &REFUSED_DEPOSITS, &TAKEN_DEPOSIT],
+    )
 }
 
 static REFUSED_FILE_AND_HOLD: [Row; 4] = [
@@ -91,9 +104,10 @@ static TAKEN_FILE_AND_HOLDS: [Row; 5] = [
 
 #[test]
 fn a_refused_file_or_hold_changes_nothing(rt: HostRuntime) -> Result<(), Fail> {
-    let mut session = small_office(rt.alloc())?;
-    session.take(&REFUSED_FILE_AND_HOLD)?;
-    session.take(&TAKEN_FILE_AND_HOLDS)
+    take_all(
+        rt.alloc(),
+        &[&SMALL_OFFICE, &REFUSED_FILE_AND_HOLD, &TAKEN_FILE_AND_HOLDS],
+    )
 }
 
 const POLICY: Change = Change::Policy(
@@ -138,8 +152,7 @@ static REFUSED_POLICIES: [Row; 6] = [
 
 #[test]
 fn a_refused_policy_changes_nothing(rt: HostRuntime) -> Result<(), Fail> {
-    let mut session = small_office(rt.alloc())?;
-    session.take(&REFUSED_POLICIES)
+    take_all(rt.alloc(), &[&SMALL_OFFICE, &REFUSED_POLICIES])
 }
 
 /// Reads by a name or a number that isn't there.
@@ -177,13 +190,8 @@ static EMPTY_OFFICE: [Row; 1] = [(Step::Create, "done")];
 
 #[test]
 fn finds_only_what_is_there(rt: HostRuntime) -> Result<(), Fail> {
-    let mut session = Session::new(rt.alloc())?;
-    session.take(&EMPTY_OFFICE)?;
-    session.take(&ABSENT)?;
-    session.take(&NO_ROWS)?;
-    let mut session = small_office(rt.alloc())?;
-    session.take(&ABSENT)?;
-    session.take(&ROWS)
+    take_all(rt.alloc(), &[&EMPTY_OFFICE, &ABSENT, &NO_ROWS])?;
+    take_all(rt.alloc(), &[&SMALL_OFFICE, &ABSENT, &ROWS])
 }
 
 /// Changes of what isn't there.
@@ -196,8 +204,7 @@ static ABSENT_CHANGED: [Row; 4] = [
 
 #[test]
 fn changes_only_what_is_there(rt: HostRuntime) -> Result<(), Fail> {
-    let mut session = small_office(rt.alloc())?;
-    session.take(&ABSENT_CHANGED)
+    take_all(rt.alloc(), &[&SMALL_OFFICE, &ABSENT_CHANGED])
 }
 
 static NO_TABLES: [Row; 5] = [
@@ -210,6 +217,5 @@ static NO_TABLES: [Row; 5] = [
 
 #[test]
 fn no_tables_are_a_fault_of_the_store(rt: HostRuntime) -> Result<(), Fail> {
-    let mut session = Session::new(rt.alloc())?;
-    session.take(&NO_TABLES)
+    take_all(rt.alloc(), &[&NO_TABLES])
 }
