@@ -16,7 +16,7 @@ pub fn open<D: Disk + Drop>(
     let options = Options {
         cache_pages: 20,
         spill_pages: 20,
-        checkpoint_frames: 1000,
+        checkpoint_frames: 8,
         seed: 7,
     };
     match Connection::open_files(alloc, files, options) {

@@ -1,4 +1,4 @@
-//! Tests of the calls of `office_tables` over files.
+//! Tests of the calls of `office_tables` over files, and in memory.
 #![tactic(auto)]
 
 #[cfg(test)]

@@ -2,7 +2,7 @@
 
 use crate::files::open;
 use crate::steps::{Step, said};
-use sqlite::{Connection, FileStore, Files};
+use sqlite::{Alter, Connection, FileStore, Files};
 use sqlite_disk::Memory;
 use std::alloc::Global;
 use std::test::Fail;
@@ -47,14 +47,22 @@ impl Session {
 
     /// Takes the steps in turn. Fails where one isn't answered as its row says.
     pub fn take(&mut self, rows: &[Row<'_>]) -> Result<(), Fail> {
-        for (at, (step, wanted)) in rows.iter().enumerate() {
-            let answer = self.said(*step)?;
-            if answer.as_str() != *wanted {
-                return Err(Fail::new(format_args!("row {at} answers {answer}")));
-            }
-        }
-        Ok(())
+        take_rows(self.alloc, &mut self.conn, rows)
     }
+}
+
+fn take_rows<S: Alter>(
+    alloc: Global,
+    conn: &mut Connection<S>,
+    rows: &[Row<'_>],
+) -> Result<(), Fail> {
+    for (at, (step, wanted)) in rows.iter().enumerate() {
+        let answer = said(alloc, conn, *step)?;
+        if answer.as_str() != *wanted {
+            return Err(Fail::new(format_args!("row {at} answers {answer}")));
+        }
+    }
+    Ok(())
 }
 
 /// Takes the steps of each table in turn, over new files, which are opened again before each table.
@@ -63,6 +71,17 @@ pub fn take_all(alloc: Global, tables: &[&[Row<'_>]]) -> Result<(), Fail> {
     for table in tables {
         session = session.reopened()?;
         session.take(table)?;
+    }
+    Ok(())
+}
+
+/// Takes the steps of each table in turn, in one database in memory.
+pub fn take_in_memory(alloc: Global, tables: &[&[Row<'_>]]) -> Result<(), Fail> {
+    let mut conn = Connection::open_in_memory(alloc)
+        .ok()
+        .ok_or("a database was made")?;
+    for table in tables {
+        take_rows(alloc, &mut conn, table)?;
     }
     Ok(())
 }

@@ -129,6 +129,39 @@ fn only_whole_numbers_make_an_office(rt: HostRuntime) -> Result<(), Fail> {
     opens(rt.alloc(), OF_ANY_VALUES, &VALUES)
 }
 
+/// Of several rows 1 that are an office's the lowest version counts.
+static SEVERAL: [Case; 6] = [
+    (
+        "INSERT INTO office VALUES (1, 2, 10, 20), (1, 1, 10, 20)",
+        "done",
+    ),
+    (
+        "INSERT INTO office VALUES (1, 1, 10, 20), (1, 2, 10, 20)",
+        "done",
+    ),
+    (
+        "INSERT INTO office VALUES (1, 1, 10, 20), (1, 0, 10, 20)",
+        "OtherVersion",
+    ),
+    (
+        "INSERT INTO office VALUES (1, 0, 0, 20), (1, 1, 10, 20)",
+        "done",
+    ),
+    (
+        "INSERT INTO office VALUES (1, 'one', 10, 20), (1, 1, 10, 20)",
+        "done",
+    ),
+    (
+        "INSERT INTO office VALUES (2, 1, 10, 20), (1, 3, 10, 20)",
+        "OtherVersion",
+    ),
+];
+
+#[test]
+fn of_several_rows_the_lowest_version_counts(rt: HostRuntime) -> Result<(), Fail> {
+    opens(rt.alloc(), OF_ANY_VALUES, &SEVERAL)
+}
+
 /// A table `office` with its columns in another order, and one more.
 const OF_MORE_COLUMNS: &str = "CREATE TABLE office (max_holds, max_deposits, version, id, name)";
 

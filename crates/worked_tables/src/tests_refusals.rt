@@ -219,3 +219,40 @@ static NO_TABLES: [Row; 5] = [
 fn no_tables_are_a_fault_of_the_store(rt: HostRuntime) -> Result<(), Fail> {
     take_all(rt.alloc(), &[&NO_TABLES])
 }
+
+/// Rows that the schema takes and no row of the office can be.
+static STRANGE_ROWS: [Row; 16] = [
+    (Step::Create, "done"),
+    (
+        Step::Run("INSERT INTO hold VALUES (-1, 1, NULL, 'suit', 1, NULL)"),
+        "done",
+    ),
+    (Step::Read(Read::LastHold), "Store"),
+    (Step::Read(Read::LiveHolds(1, "maps")), "Store"),
+    (
+        Step::Run("INSERT INTO hold VALUES (4294967296, 1, NULL, 'suit', 1, NULL)"),
+        "done",
+    ),
+    (Step::Read(Read::LastHold), "Store"),
+    (
+        Step::Run("INSERT INTO class VALUES ('y2', 2); INSERT INTO collection VALUES ('maps')"),
+        "done",
+    ),
+    (
+        Step::Run("INSERT INTO deposit VALUES (4294967296, 'A-1', 'maps', 'y2', 1, 2, 3, 4, NULL)"),
+        "done",
+    ),
+    (Step::Read(Read::LastDeposit), "Store"),
+    (Step::Read(Read::ByAccession("A-1")), "Store"),
+    (Step::Read(Read::Deposits), "Store"),
+    (Step::Run("UPDATE office SET max_deposits = -1"), "done"),
+    (Step::Read(Read::Limits), "Store"),
+    (Step::Run("DELETE FROM office"), "done"),
+    (Step::Read(Read::Limits), "Store"),
+    (Step::Open, "NotAnOffice"),
+];
+
+#[test]
+fn strange_rows_are_refused(rt: HostRuntime) -> Result<(), Fail> {
+    take_all(rt.alloc(), &[&STRANGE_ROWS])
+}

@@ -39,11 +39,16 @@ fn stopped(alloc: Global, log_calls: u64, db_calls: u64) -> Result<(bool, Files<
     Ok((is_made, copied))
 }
 
+/// The eight tables of an office, and its indexes, those that keys make too.
+const OBJECTS: &str =
+    "table|office\ntable|caller\nindex|sqlite_autoindex_caller_1\ntable|rule\ntable|class\nindex|sqlite_autoindex_class_1\ntable|collection\nindex|sqlite_autoindex_collection_1\ntable|deposit\nindex|sqlite_autoindex_deposit_1\ntable|file\nindex|sqlite_autoindex_file_1\ntable|hold\nindex|hold_deposit\nindex|hold_collection\n";
+
 /// The whole empty office.
-static WHOLE: [Row; 3] = [
+static WHOLE: [Row; 4] = [
     (Step::Open, "done"),
     (Step::Read(Read::Limits), "10 20"),
     (Step::Held, "1|1|10|20\n--\n--\n--\n--\n--\n--\n--\n--\n"),
+    (Step::Show("SELECT type, name FROM sqlite_schema"), OBJECTS),
 ];
 
 /// An empty database.
@@ -90,6 +95,6 @@ fn the_log_stops(rt: HostRuntime) -> Result<(), Fail> {
 fn the_database_file_stops(rt: HostRuntime) -> Result<(), Fail> {
     let stops = each_stop(rt.alloc(), false)?;
     println!(rt; "{stops} calls of the database file")?;
-    assert!(rt; stops >= 1);
+    assert!(rt; stops > 10);
     Ok(())
 }
