@@ -84,7 +84,8 @@ fn has_office(schema: &Schema) -> bool
 /// Finds whether the database is an office whose tables are of version 1. No answer changes anything.
 ///
 /// Fails with `NotAnOffice` where there is no table `office` with its columns, or no row 1 in it of whole numbers with limits from
-/// 1 to 1,000,000; with `OtherVersion` where that row has another version; with `Memory` or `Store`.
+/// 1 to 1,000,000; with `OtherVersion` where that row has another version (of several, the first by version counts); with `Memory` or
+/// `Store`.
 pub fn open_tables<S: Alter>(conn: &mut Connection<S>) -> Result<(), TableFault>
     requires outside { (state S.Store conn.old).in_transaction ≡ false }
     ensures outside { (state S.Store conn.new).in_transaction ≡ false }
