@@ -2,6 +2,7 @@
 
 use crate::sessions::{Row, take_all};
 use crate::steps::Step;
+use office_tables::TableFault;
 use std::alloc::Global;
 use std::test::*;
 
@@ -207,4 +208,18 @@ fn an_office_is_made_only_in_an_empty_database(rt: HostRuntime) -> Result<(), Fa
         take_all(rt.alloc(), &[&refused, &left])?;
     }
     take_all(rt.alloc(), &[&EMPTIED, &OPENED])
+}
+
+#[test]
+fn each_fault_has_its_code(rt: HostRuntime) -> Result<(), Fail> {
+    for (fault, code) in [
+        (TableFault::NotAnOffice, "Q1"),
+        (TableFault::OtherVersion, "Q2"),
+        (TableFault::Memory, "Q3"),
+        (TableFault::Store, "Q4"),
+    ] {
+        let text = format!(in rt.alloc(); "{fault}")?;
+        assert_eq!(rt; text.as_str(), code);
+    }
+    Ok(())
 }
