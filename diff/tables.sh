@@ -1,12 +1,19 @@
 #!/usr/bin/env bash
 # Compares the worked office that the proved program `table_file` writes into a file with what the
 # `sqlite3` command finds there: each row, the texts of the tables, and its own tests of the file.
-# Needs sqlite3 (Debian: apt-get install sqlite3); proves and builds the program where it is missing.
+# Needs sqlite3 (Debian: apt-get install sqlite3); proves and builds the program where it is missing,
+# or older than a source.
 set -eu
 top=$(dirname "$(readlink -f "$0")")/..
 crate=$top/crates/table_file
 program=$crate/out/table_file
-if [ ! -x "$program" ]; then
+is_stale() {
+    [ -x "$program" ] || return 0
+    [ -n "$(find "$top/crates.txt" "$top/crates" -name out -prune -o \
+        -type f \( -name '*.rt' -o -name '*.antt' -o -name crates.txt \) -newer "$program" -print -quit)" ]
+}
+if is_stale; then
+    rm -f "$program"
     (cd "$crate" && rt run -- write /dev/null/none) >/dev/null 2>&1 || true
     [ -x "$program" ] || { echo "the program could not be built: try rt check in $crate" >&2; exit 3; }
 fi
