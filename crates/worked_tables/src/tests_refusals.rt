@@ -221,7 +221,7 @@ fn no_tables_are_a_fault_of_the_store(rt: HostRuntime) -> Result<(), Fail> {
 }
 
 /// Rows that the schema takes and no row of the office can be.
-static STRANGE_ROWS: [Row; 16] = [
+static STRANGE_ROWS: [Row; 20] = [
     (Step::Create, "done"),
     (
         Step::Run("INSERT INTO hold VALUES (-1, 1, NULL, 'suit', 1, NULL)"),
@@ -234,6 +234,16 @@ static STRANGE_ROWS: [Row; 16] = [
         "done",
     ),
     (Step::Read(Read::LastHold), "Store"),
+    (
+        Step::Run("INSERT INTO hold VALUES (5, -1, NULL, 'suit', 1, NULL)"),
+        "done",
+    ),
+    (Step::Read(Read::Hold(5)), "Store"),
+    (
+        Step::Run("INSERT INTO caller VALUES ('anna', CAST(x'ff' AS TEXT))"),
+        "done",
+    ),
+    (Step::Read(Read::Role("anna")), "Store"),
     (
         Step::Run("INSERT INTO class VALUES ('y2', 2); INSERT INTO collection VALUES ('maps')"),
         "done",
