@@ -40,21 +40,27 @@ fn file_of<'a>(rt: &(impl Abort + AllocGlobal), words: &'a [&'a str]) -> Option<
     }
 }
 
+/// Words, and the file that they name, if they do.
+type Words = (&'static [&'static str], Option<&'static str>);
+
+static CHECK: [Words; 10] = [
+    (&["check", "-"], Some("-")),
+    (&["check", "a.bagset"], Some("a.bagset")),
+    (&["check", ""], Some("")),
+    (&["check", "--", "-x"], Some("-x")),
+    (&["check", "-x"], None),
+    (&["check", "--help"], None),
+    (&["check", "a", "b"], None),
+    (&["check"], None),
+    (&["Check", "-"], None),
+    (&[], None),
+];
+
 #[test]
 fn words_of_check(rt: HostRuntime) {
-    assert_eq!(rt; file_of(&rt, ["check", "-"].as_slice()), Some("-"));
-    assert_eq!(rt;
-        file_of(&rt, ["check", "a.bagset"].as_slice()),
-        Some("a.bagset")
-    );
-    assert_eq!(rt; file_of(&rt, ["check", ""].as_slice()), Some(""));
-    assert_eq!(rt; file_of(&rt, ["check", "--", "-x"].as_slice()), Some("-x"));
-    assert_eq!(rt; file_of(&rt, ["check", "-x"].as_slice()), None);
-    assert_eq!(rt; file_of(&rt, ["check", "--help"].as_slice()), None);
-    assert_eq!(rt; file_of(&rt, ["check", "a", "b"].as_slice()), None);
-    assert_eq!(rt; file_of(&rt, ["check"].as_slice()), None);
-    assert_eq!(rt; file_of(&rt, ["Check", "-"].as_slice()), None);
-    assert_eq!(rt; file_of(&rt, [].as_slice()), None);
+    for (words, file) in CHECK.iter() {
+        assert_eq!(rt; file_of(&rt, *words), *file);
+    }
 }
 
 /// The caller that the words name for `explain`, or nothing where they are a fault of use.
@@ -70,72 +76,45 @@ fn caller_of<'a>(rt: &(impl Abort + AllocGlobal), words: &'a [&'a str]) -> Optio
     }
 }
 
+/// A caller is any text, and `-` is no option.
+static EXPLAIN: [(&[&str], &str, &str); 3] = [
+    (
+        &["explain", "p.toml", "anna", "list", "tax", "-"],
+        "p.toml",
+        "anna",
+    ),
+    (&["explain", "-", "", "hold", "-", "y-1_0.a"], "-", ""),
+    (&["explain", "p", "--", "-x", "class", "-a", "-"], "p", "-x"),
+];
+
 #[test]
 fn words_of_explain(rt: HostRuntime) {
-    let words = ["explain", "p.toml", "anna", "list", "tax", "-"];
-    assert_eq!(rt; file_of(&rt, words.as_slice()), Some("p.toml"));
-    assert_eq!(rt; caller_of(&rt, words.as_slice()), Some("anna"));
-    // A caller is any text, and `-` is no option.
-    let words = ["explain", "-", "", "hold", "-", "y-1_0.a"];
-    assert_eq!(rt; file_of(&rt, words.as_slice()), Some("-"));
-    assert_eq!(rt; caller_of(&rt, words.as_slice()), Some(""));
-    let words = ["explain", "p", "--", "-x", "class", "-a", "-"];
-    assert_eq!(rt; file_of(&rt, words.as_slice()), Some("p"));
-    assert_eq!(rt; caller_of(&rt, words.as_slice()), Some("-x"));
+    for (words, policy, caller) in EXPLAIN.iter() {
+        assert_eq!(rt; file_of(&rt, *words), Some(*policy));
+        assert_eq!(rt; caller_of(&rt, *words), Some(*caller));
+    }
 }
+
+/// One word less, and one more; an action that is none, `*` too; a collection and a class that are no
+/// names; a word that `clap` takes for an option; and words of use.
+static NO_USE: [Words; 10] = [
+    (&["explain"], None),
+    (&["explain", "p", "anna", "list", "tax"], None),
+    (&["explain", "p", "anna", "list", "tax", "y1", "y2"], None),
+    (&["explain", "p", "anna", "destroy", "tax", "y1"], None),
+    (&["explain", "p", "anna", "*", "tax", "y1"], None),
+    (&["explain", "p", "anna", "list", "Tax", "y1"], None),
+    (&["explain", "p", "anna", "list", "tax", ""], None),
+    (&["explain", "p", "-x", "list", "tax", "y1"], None),
+    (&["explain", "--help"], None),
+    (&["explain", "p", "anna", "list", "tax", "y1"], Some("p")),
+];
 
 #[test]
 fn words_of_explain_that_are_no_use(rt: HostRuntime) {
-    assert_eq!(rt; file_of(&rt, ["explain"].as_slice()), None);
-    // One word less, and one more.
-    assert_eq!(rt;
-        file_of(&rt, ["explain", "p", "anna", "list", "tax"].as_slice()),
-        None
-    );
-    assert_eq!(rt;
-        file_of(
-            &rt,
-            ["explain", "p", "anna", "list", "tax", "y1", "y2"].as_slice()
-        ),
-        None
-    );
-    // An action that is none, `*` too.
-    assert_eq!(rt;
-        file_of(
-            &rt,
-            ["explain", "p", "anna", "destroy", "tax", "y1"].as_slice()
-        ),
-        None
-    );
-    assert_eq!(rt;
-        file_of(&rt, ["explain", "p", "anna", "*", "tax", "y1"].as_slice()),
-        None
-    );
-    // A collection and a class that are no names.
-    assert_eq!(rt;
-        file_of(
-            &rt,
-            ["explain", "p", "anna", "list", "Tax", "y1"].as_slice()
-        ),
-        None
-    );
-    assert_eq!(rt;
-        file_of(&rt, ["explain", "p", "anna", "list", "tax", ""].as_slice()),
-        None
-    );
-    // A word that clap takes for an option.
-    assert_eq!(rt;
-        file_of(&rt, ["explain", "p", "-x", "list", "tax", "y1"].as_slice()),
-        None
-    );
-    assert_eq!(rt; file_of(&rt, ["explain", "--help"].as_slice()), None);
-    assert_eq!(rt;
-        file_of(
-            &rt,
-            ["explain", "p", "anna", "list", "tax", "y1"].as_slice()
-        ),
-        Some("p")
-    );
+    for (words, file) in NO_USE.iter() {
+        assert_eq!(rt; file_of(&rt, *words), *file);
+    }
 }
 
 #[test]
@@ -182,15 +161,38 @@ fn too_long_an_input(rt: HostRuntime) -> Result<(), Fail> {
     Ok(())
 }
 
+/// Words, what a run on them prints on standard error, or how that begins, and how it ends.
+type Run = (&'static [&'static str], &'static str, Ending);
+
+/// Runs that print this, with an input that fails. Nothing is printed on standard output.
+fn print_all(rt: &HostRuntime, runs: &[Run], is_whole: bool) -> Result<(), Fail> {
+    for (words, text, ending) in runs.iter() {
+        let (out, err, found) = printed(rt, *words, &mut Broken)?;
+        let is_said = if is_whole {
+            err.as_slice() == text.as_bytes()
+        } else {
+            err.as_slice().starts_with(text.as_bytes())
+        };
+        if !out.is_empty() || !is_said || found != *ending {
+            return Err(Fail::new(format_args!("a run that is to print {text}")));
+        }
+    }
+    Ok(())
+}
+
+static DEVICES: [Run; 3] = [
+    (&["check", "-"], "device\n", Ending::Failed),
+    (&["check", "no such file"], "device\n", Ending::Failed),
+    (
+        &["explain", "no such file", "anna", "list", "tax", "y1"],
+        "device\n",
+        Ending::Failed,
+    ),
+];
+
 #[test]
 fn devices_fail(rt: HostRuntime) -> Result<(), Fail> {
-    let (out, err, ending) = printed(&rt, ["check", "-"].as_slice(), &mut Broken)?;
-    assert_eq!(rt; out.as_slice(), b"".as_slice());
-    assert_eq!(rt; err.as_slice(), b"device\n".as_slice());
-    assert_eq!(rt; ending, Ending::Failed);
-    let (_, err, ending) = printed(&rt, ["check", "no such file"].as_slice(), &mut Broken)?;
-    assert_eq!(rt; err.as_slice(), b"device\n".as_slice());
-    assert_eq!(rt; ending, Ending::Failed);
+    print_all(&rt, &DEVICES, true)?;
     let mut said = Vec::new(rt.alloc());
     let ending = run(
         &rt,
@@ -204,51 +206,42 @@ fn devices_fail(rt: HostRuntime) -> Result<(), Fail> {
     Ok(())
 }
 
-const USES: &[u8] =
-    b"Usage: depot check FILE\n       depot explain POLICY CALLER ACTION COLLECTION CLASS\n";
+const USES: &str =
+    "Usage: depot check FILE\n       depot explain POLICY CALLER ACTION COLLECTION CLASS\n";
+
+static FAULTS_OF_USE: [Run; 2] = [
+    (&["judge"], USES, Ending::Misused),
+    (&[], USES, Ending::Misused),
+];
+
+/// The words come first: the policy isn't there.
+static FAULTS_WITH_REASONS: [Run; 4] = [
+    (
+        &["check", "--help"],
+        "Usage: check <FILE>\n",
+        Ending::Misused,
+    ),
+    (
+        &["explain", "no such file", "anna", "destroy", "tax", "y1"],
+        "ACTION is one of class, collection, ",
+        Ending::Misused,
+    ),
+    (
+        &["explain", "no such file", "anna", "list", "TAX", "y1"],
+        "COLLECTION is a name ",
+        Ending::Misused,
+    ),
+    (
+        &["explain", "no such file", "anna", "list", "tax", "Y1"],
+        "CLASS is a name ",
+        Ending::Misused,
+    ),
+];
 
 #[test]
 fn faults_of_use(rt: HostRuntime) -> Result<(), Fail> {
-    let (out, err, ending) = printed(&rt, ["judge"].as_slice(), &mut Broken)?;
-    assert_eq!(rt; out.as_slice(), b"".as_slice());
-    assert_eq!(rt; err.as_slice(), USES);
-    assert_eq!(rt; ending, Ending::Misused);
-    let (out, err, ending) = printed(&rt, [].as_slice(), &mut Broken)?;
-    assert_eq!(rt; out.as_slice(), b"".as_slice());
-    assert_eq!(rt; err.as_slice(), USES);
-    assert_eq!(rt; ending, Ending::Misused);
-    let (out, err, ending) = printed(&rt, ["check", "--help"].as_slice(), &mut Broken)?;
-    assert_eq!(rt; out.as_slice(), b"".as_slice());
-    assert!(rt; err.as_slice().starts_with(b"Usage: check <FILE>\n"));
-    assert_eq!(rt; ending, Ending::Misused);
-    Ok(())
-}
-
-#[test]
-fn faults_of_use_of_explain(rt: HostRuntime) -> Result<(), Fail> {
-    // The words come first: the policy isn't there.
-    let words = ["explain", "no such file", "anna", "destroy", "tax", "y1"];
-    let (out, err, ending) = printed(&rt, words.as_slice(), &mut Broken)?;
-    assert_eq!(rt; out.as_slice(), b"".as_slice());
-    assert!(rt;
-        err.as_slice()
-            .starts_with(b"ACTION is one of class, collection, ")
-    );
-    assert_eq!(rt; ending, Ending::Misused);
-    let words = ["explain", "no such file", "anna", "list", "TAX", "y1"];
-    let (_, err, ending) = printed(&rt, words.as_slice(), &mut Broken)?;
-    assert!(rt; err.as_slice().starts_with(b"COLLECTION is a name "));
-    assert_eq!(rt; ending, Ending::Misused);
-    let words = ["explain", "no such file", "anna", "list", "tax", "Y1"];
-    let (_, err, ending) = printed(&rt, words.as_slice(), &mut Broken)?;
-    assert!(rt; err.as_slice().starts_with(b"CLASS is a name "));
-    assert_eq!(rt; ending, Ending::Misused);
-    let words = ["explain", "no such file", "anna", "list", "tax", "y1"];
-    let (out, err, ending) = printed(&rt, words.as_slice(), &mut Broken)?;
-    assert_eq!(rt; out.as_slice(), b"".as_slice());
-    assert_eq!(rt; err.as_slice(), b"device\n".as_slice());
-    assert_eq!(rt; ending, Ending::Failed);
-    Ok(())
+    print_all(&rt, &FAULTS_OF_USE, true)?;
+    print_all(&rt, &FAULTS_WITH_REASONS, false)
 }
 
 #[test]
