@@ -112,7 +112,7 @@ def their_reads(file, last, count):
     """Microseconds of so many point reads through Python, of the same files in the same order."""
     conn = opened(file)
     begin = time.perf_counter()
-    for turn in range(count):
+    for turn in range(1, count + 1):
         number = (turn * 7919) % 2**32 % last + 1
         if len(conn.execute(FILE_OF, (number, "data/record")).fetchone()[0]) != 10_108:
             sys.exit("another content")

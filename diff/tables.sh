@@ -1,6 +1,7 @@
 #!/usr/bin/env bash
-# Compares the worked office that the proved program `table_file` writes into a file with what the
-# `sqlite3` command finds there: each row, the texts of the tables, and its own tests of the file.
+# Has the proved program `table_file` write the worked office into a file, and compares what the
+# `sqlite3` command finds there with what it has to be: each row with `rows.txt`, the texts of the
+# tables with `schema.sql`; and `sqlite3` makes its own tests of the file.
 # Needs sqlite3 (Debian: apt-get install sqlite3); proves and builds the program where it is missing,
 # or older than a source.
 set -eu
@@ -21,10 +22,8 @@ folder=$(mktemp -d)
 trap 'rm -rf "$folder"' EXIT
 file=$folder/office.db
 
-"$program" write "$file" >"$folder/said"
-diff -u "$crate/stdout" "$folder/said"
-sqlite3 -batch "$file" <"$top/diff/rows.sql" >"$folder/found"
-diff -u "$folder/said" "$folder/found"
+"$program" write "$file"
+sqlite3 -batch "$file" <"$top/diff/rows.sql" | diff -u "$top/diff/rows.txt" -
 sqlite3 -batch "$file" .schema >"$folder/schema"
 diff -u "$top/diff/schema.sql" "$folder/schema"
 sqlite3 -batch "$file" 'PRAGMA integrity_check; PRAGMA foreign_key_check;' >"$folder/tested"
@@ -34,5 +33,5 @@ if "$program" write "$file" >/dev/null 2>&1; then
     echo "a second office was made" >&2
     exit 1
 fi
-sqlite3 -batch "$file" <"$top/diff/rows.sql" | diff -u "$folder/said" -
-echo "sqlite3 finds the $(wc -l <"$folder/said") rows that were written"
+sqlite3 -batch "$file" <"$top/diff/rows.sql" | diff -u "$top/diff/rows.txt" -
+echo "sqlite3 finds the $(wc -l <"$top/diff/rows.txt") rows that were written"

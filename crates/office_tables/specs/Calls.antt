@@ -17,7 +17,7 @@ Tells old new result is_so = HasCleanDisk new → IsOffice old.now → IfOk resu
 abbrev pub Shows : {T E : Type 0} → State → State → Result T E → (Tables → T → Type 0) → Type 0
 Shows old new result is_so = HasCleanDisk new → IsOffice old.now → IfOk result (λ shown. (new.now ≡ old.now) × is_so (tables_of old.now) shown)
 
--- the rows are what this makes of the rows before
+-- an office again, whose rows are what this makes of the rows before
 abbrev pub Leaves : {T E : Type 0} → State → State → Result T E → (Tables → Tables) → Type 0
 Leaves old new result next = HasCleanDisk new → IsOffice old.now → OnOk result (Becomes new.now (next (tables_of old.now)))
 

@@ -298,7 +298,7 @@ fn add_deposit<S: Alter>(
     )
 }
 
-/// Adds a deposit at the end; it isn't destroyed. Days are day numbers.
+/// Adds a deposit, which isn't destroyed. Its number is to be above all others. Days are day numbers.
 ///
 /// Fails with `Store` where there is no such collection or class, or where the accession or the number is taken, and with `Memory`
 /// or `Store`.

@@ -1,58 +1,65 @@
 //! Writes an office into a file, which the `sqlite3` command can read, and times calls of the tables.
 #![tactic(auto)]
 
-mod bags;
-mod calls;
+mod changes;
 mod office;
-mod written;
+mod timed;
 
 use anyhow::{Context, Result, bail};
-use sqlite::{Connection, File, FileStore};
-use std::time::Instant;
+use sqlite::{Alter, Connection};
+use std::time::{Duration, Instant};
+use timed::Call;
 
 const USAGE: &str =
     "words: write FILE, make FILE, or one of deposits, read, live and last with FILE and COUNT";
 
-fn open(rt: &HostRuntime, file: &str) -> Result<Connection<FileStore<File>>> {
-    let conn = Connection::open(rt, file).context("opening the file")?;
-    Ok(conn)
+/// What the words ask for.
+#[derive(Clone, Copy)]
+enum Task {
+    Write,
+    Make,
+    Time(Call, u32),
 }
 
-/// Writes the worked office into the file, and prints its rows.
-fn write(rt: &HostRuntime, file: &str) -> Result<()> {
-    let mut conn = open(rt, file)?;
-    written::write(rt.alloc(), &mut conn)?;
-    conn.close().context("closing the file")?;
-    written::print(rt)?;
-    Ok(())
-}
-
-/// Makes an office with no rows in the file, with a class and a collection for the bags.
-fn make(rt: &HostRuntime, file: &str) -> Result<()> {
-    let mut conn = open(rt, file)?;
-    bags::make(&mut conn)?;
-    conn.close().context("closing the file")?;
-    Ok(())
-}
-
-/// Makes this many calls, and prints how many microseconds they took together; the opening of the
-/// file doesn't count.
-fn time(rt: &HostRuntime, task: &str, file: &str, count: u32) -> Result<()> {
-    let mut conn = open(rt, file)?;
-    let last = calls::last(&mut conn)?.unwrap_or(0);
-    let record = bags::record(rt.alloc())?;
-    let start = Instant::now(rt)?;
-    match task {
-        "deposits" => bags::deposit(rt.alloc(), &mut conn, last, count, &record)?,
-        "read" => bags::read(&mut conn, last, count)?,
-        "live" => bags::ask_live(rt.alloc(), &mut conn, count)?,
-        "last" => bags::ask_last(&mut conn, count)?,
-        _ => bail!("{USAGE}"),
+impl Task {
+    fn read(word: &str, count: Option<&String>) -> Result<Task> {
+        let Some(count) = count else {
+            return match word {
+                "write" => Ok(Task::Write),
+                "make" => Ok(Task::Make),
+                _ => bail!("{USAGE}"),
+            };
+        };
+        let call = match word {
+            "deposits" => Call::Deposit,
+            "read" => Call::Read,
+            "live" => Call::LiveHolds,
+            "last" => Call::LastDeposit,
+            _ => bail!("{USAGE}"),
+        };
+        Ok(Task::Time(call, count.parse::<u32>().context("COUNT")?))
     }
-    let took = start.elapsed(rt)?;
-    conn.close().context("closing the file")?;
-    println!(rt; "{}", took.as_micros())?;
-    Ok(())
+}
+
+/// Does the task over the open file. The time of its calls, where they are timed: the opening of the
+/// file doesn't count.
+fn perform<S: Alter>(
+    rt: &HostRuntime,
+    conn: &mut Connection<S>,
+    task: Task,
+) -> Result<Option<Duration>> {
+    let alloc = rt.alloc();
+    match task {
+        Task::Write => office::write(alloc, conn)?,
+        Task::Make => timed::make(alloc, conn)?,
+        Task::Time(call, count) => {
+            let last = timed::last(conn)?;
+            let start = Instant::now(rt)?;
+            timed::repeat(alloc, conn, call, last, count)?;
+            return Ok(Some(start.elapsed(rt)?));
+        }
+    }
+    Ok(None)
 }
 
 /// Does what the words after the program's name ask for.
@@ -60,12 +67,14 @@ fn run(rt: &HostRuntime, words: &[String]) -> Result<()> {
     let (Some(task), Some(file)) = (words.get(1), words.get(2)) else {
         bail!("{USAGE}");
     };
-    match (task.as_str(), words.get(3)) {
-        ("write", None) => write(rt, file),
-        ("make", None) => make(rt, file),
-        (task, Some(count)) => time(rt, task, file, count.parse::<u32>().context("COUNT")?),
-        _ => bail!("{USAGE}"),
+    let task = Task::read(task, words.get(3))?;
+    let mut conn = Connection::open(rt, file.as_str()).context("opening the file")?;
+    let took = perform(rt, &mut conn, task)?;
+    conn.close().context("closing the file")?;
+    if let Some(took) = took {
+        println!(rt; "{}", took.as_micros())?;
     }
+    Ok(())
 }
 
 fn main(rt: HostRuntime) -> Result<()> {

@@ -1,4 +1,9 @@
-//! The rows of the worked office, in the order of their keys.
+//! The worked office, whose rows are in the file `diff/rows.txt`.
+
+use crate::changes::{Change, commit};
+use office_tables::{TableFault, create};
+use sqlite::{Alter, Connection};
+use std::alloc::{AllocError, Global};
 
 /// A deposit, as it is put in. Days are day numbers.
 #[derive(Clone, Copy)]
@@ -13,61 +18,73 @@ pub struct Deposit<'a> {
     pub bytes: i64,
 }
 
-/// A hold, and the day when it was released.
+/// A hold, as it is placed.
 #[derive(Clone, Copy)]
-pub struct Hold {
+pub struct Hold<'a> {
     pub number: u32,
     pub deposit: Option<u32>,
-    pub collection: Option<&'static str>,
-    pub matter: &'static str,
+    pub collection: Option<&'a str>,
+    pub matter: &'a str,
     pub placed: i64,
-    pub released: Option<i64>,
 }
 
-/// A rule of the policy, but for its place.
+/// A rule of the policy.
 #[derive(Clone, Copy)]
-pub struct Rule {
+pub struct Rule<'a> {
+    pub place: i64,
     pub effect: i64,
-    pub role: &'static str,
-    pub action: &'static str,
-    pub collection: &'static str,
-    pub class: &'static str,
+    pub role: &'a str,
+    pub action: &'a str,
+    pub collection: &'a str,
+    pub class: &'a str,
 }
 
-/// Callers and their roles.
-pub const CALLERS: [(&str, &str); 3] = [("anna", "keeper"), ("ben", "reader"), ("jörg", "keeper")];
-
-pub const RULES: [Rule; 3] = [
-    Rule {
-        effect: 0,
-        role: "reader",
-        action: "dispose",
-        collection: "*",
-        class: "*",
-    },
-    Rule {
-        effect: 1,
-        role: "keeper",
-        action: "*",
-        collection: "*",
-        class: "*",
-    },
-    Rule {
-        effect: 1,
-        role: "*",
-        action: "list",
-        collection: "maps",
-        class: "y2",
-    },
+/// A policy that is put in the place of one, a class that is revised, and a collection put twice.
+static DEFINITIONS: [Change<'static>; 10] = [
+    Change::Policy(&[("anna", "reader"), ("zoe", "keeper")], &[]),
+    Change::Policy(
+        &[("anna", "keeper"), ("ben", "reader"), ("jörg", "keeper")],
+        &[
+            Rule {
+                place: 1,
+                effect: 0,
+                role: "reader",
+                action: "dispose",
+                collection: "*",
+                class: "*",
+            },
+            Rule {
+                place: 2,
+                effect: 1,
+                role: "keeper",
+                action: "*",
+                collection: "*",
+                class: "*",
+            },
+            Rule {
+                place: 3,
+                effect: 1,
+                role: "*",
+                action: "list",
+                collection: "maps",
+                class: "y2",
+            },
+        ],
+    ),
+    Change::Class("y2", 7),
+    Change::Class("kept", -1),
+    Change::Class("y10", 10),
+    Change::Class("y2", 2),
+    Change::Collection("letters"),
+    Change::Collection("maps"),
+    Change::Collection("tax"),
+    Change::Collection("maps"),
 ];
 
-/// Classes and their years.
-pub const CLASSES: [(&str, i64); 3] = [("kept", -1), ("y10", 10), ("y2", 2)];
-
-pub const COLLECTIONS: [&str; 3] = ["letters", "maps", "tax"];
-
-pub const DEPOSITS: [Deposit<'static>; 4] = [
-    Deposit {
+/// Deposits, of which the second is destroyed with its files. The third has files with odd paths,
+/// and the last has long ones.
+static DEPOSITS: [Change<'static>; 8] = [
+    Change::Deposit(Deposit {
         number: 1,
         accession: "2026-0001",
         collection: "maps",
@@ -76,8 +93,8 @@ pub const DEPOSITS: [Deposit<'static>; 4] = [
         deposited: 20_500,
         files: 1,
         bytes: 0,
-    },
-    Deposit {
+    }),
+    Change::Deposit(Deposit {
         number: 2,
         accession: "2026-0002",
         collection: "tax",
@@ -86,8 +103,8 @@ pub const DEPOSITS: [Deposit<'static>; 4] = [
         deposited: 20_501,
         files: 2,
         bytes: 6,
-    },
-    Deposit {
+    }),
+    Change::Deposit(Deposit {
         number: 3,
         accession: "A/3 'quoted'",
         collection: "maps",
@@ -96,8 +113,8 @@ pub const DEPOSITS: [Deposit<'static>; 4] = [
         deposited: 20_502,
         files: 7,
         bytes: 94,
-    },
-    Deposit {
+    }),
+    Change::Deposit(Deposit {
         number: 1_000_000,
         accession: "2026-9999",
         collection: "letters",
@@ -106,69 +123,95 @@ pub const DEPOSITS: [Deposit<'static>; 4] = [
         deposited: 20_503,
         files: 2,
         bytes: 100_256,
-    },
+    }),
+    Change::File(2, "data/one", b"one"),
+    Change::File(2, "data/two", b"two"),
+    Change::File(1, "data/empty", b""),
+    Change::Gone(2, 24_200),
 ];
 
-/// The deposit that is destroyed, and the day.
-pub const GONE: (u32, i64) = (2, 24_200);
-
-/// The files that it had.
-pub const GONE_FILES: [(&str, &[u8]); 2] = [("data/one", b"one"), ("data/two", b"two")];
-
-/// The deposit whose files have odd paths.
-pub const ODD: u32 = 3;
-
-/// Its paths, ascending by bytes; the content of each is its path.
-pub const ODD_PATHS: [&str; 7] = [
-    "data/\u{1}\t\n\r\u{1f} !\"#$%&'()*+,-.:;<=>?@[\\]^_`{|}~\u{7f}",
-    "data/%0A",
-    "data/A",
-    "data/a",
-    "data/\u{e9}\u{20ac}\u{1f4dc}",
+/// The paths of the third deposit; the content of each is its path.
+static ODD_PATHS: [&str; 7] = [
     "data/\u{feff}",
+    "data/a",
+    "data/%0A",
+    "data/\u{e9}\u{20ac}\u{1f4dc}",
+    "data/A",
     "data/\u{10ffff}",
+    "data/\u{1}\t\n\r\u{1f} !\"#$%&'()*+,-.:;<=>?@[\\]^_`{|}~\u{7f}",
 ];
 
-/// The deposit with the two files below.
-pub const LARGE: u32 = 1_000_000;
-
-/// A file with every byte.
-pub const EVERY_BYTE: &str = "data/every byte";
-
-/// A file longer than a page: `abcde`, 20,000 times.
-pub const LONG: &str = "data/long";
-
-pub const HOLDS: [Hold; 4] = [
-    Hold {
+static HOLDS: [Change<'static>; 5] = [
+    Change::Hold(Hold {
         number: 1,
         deposit: Some(1),
         collection: None,
         matter: "suit 12",
         placed: 20_600,
-        released: None,
-    },
-    Hold {
+    }),
+    Change::Hold(Hold {
         number: 2,
         deposit: None,
         collection: Some("maps"),
         matter: "audit",
         placed: 20_601,
-        released: Some(20_700),
-    },
-    Hold {
+    }),
+    Change::Hold(Hold {
         number: 3,
         deposit: None,
         collection: Some("tax"),
         matter: "o'neil",
         placed: 20_601,
-        released: None,
-    },
-    Hold {
+    }),
+    Change::Hold(Hold {
         number: 500_000,
         deposit: Some(77),
         collection: None,
         matter: "no such deposit",
         placed: -1,
-        released: None,
-    },
+    }),
+    Change::Released(2, 20_700),
 ];
+
+/// Every byte, from 0 to 255.
+fn every_byte(alloc: Global) -> Result<Vec<u8>, AllocError> {
+    let mut bytes = Vec::new(alloc);
+    for byte in 0..=255u8 {
+        bytes.push(byte)?;
+    }
+    Ok(bytes)
+}
+
+/// Longer than a page: `abcde`, 20,000 times.
+fn long_content(alloc: Global) -> Result<Vec<u8>, AllocError> {
+    let mut bytes = Vec::new(alloc);
+    for _ in 0..20_000 {
+        bytes.extend_from_slice(b"abcde")?;
+    }
+    Ok(bytes)
+}
+
+/// Makes an office in the empty database.
+pub fn make<S: Alter>(conn: &mut Connection<S>) -> Result<(), TableFault> {
+    if !conn.is_autocommit() {
+        return Err(TableFault::Store);
+    }
+    create(conn, 1_000_000, 500_000)
+}
+
+/// Makes the worked office in the empty database.
+pub fn write<S: Alter>(alloc: Global, conn: &mut Connection<S>) -> Result<(), TableFault> {
+    make(conn)?;
+    commit(alloc, conn, &DEFINITIONS)?;
+    commit(alloc, conn, &DEPOSITS)?;
+    for path in &ODD_PATHS {
+        commit(alloc, conn, &[Change::File(3, path, path.as_bytes())])?;
+    }
+    let (long, every) = (long_content(alloc)?, every_byte(alloc)?);
+    let files = [
+        Change::File(1_000_000, "data/long", &long),
+        Change::File(1_000_000, "data/every byte", &every),
+    ];
+    commit(alloc, conn, &files)?;
+    commit(alloc, conn, &HOLDS)
+}

@@ -6,7 +6,7 @@
 pub type File = (&'static str, &'static [u8]);
 
 /// What is handed to the program. Bag A is `data/a` with `abc`, declared in version 1.0 and listed by sha256.
-#[derive(Clone, Copy, Debug)]
+#[derive(Clone, Copy)]
 pub enum Given {
     /// Bag A with this `bagit.txt`.
     Declared(&'static [u8]),
@@ -53,7 +53,7 @@ const MD5: File = ("manifest-md5.txt", b"");
 const TAGS_MD5: File = ("tagmanifest-md5.txt", b"");
 
 /// The codes of `bagit.txt`.
-pub const DECLARATION_CODES: [Coded; 20] = [
+pub static DECLARATION_CODES: [Coded; 20] = [
     (Given::Files(&[PAYLOAD, LISTED]), "invalid B1\n"),
     (Given::Files(&[FETCH, MD5]), "invalid B1\n"),
     (Given::Files(&[]), "invalid B1\n"),
@@ -122,7 +122,7 @@ pub const DECLARATION_CODES: [Coded; 20] = [
 ];
 
 /// The codes of a bag's files and of manifests' names.
-pub const FILE_CODES: [Coded; 7] = [
+pub static FILE_CODES: [Coded; 7] = [
     (
         Given::Files(&[DECLARED, PAYLOAD, FETCH, LISTED]),
         "invalid B3\n",
@@ -154,7 +154,7 @@ pub const FILE_CODES: [Coded; 7] = [
 ];
 
 /// The codes of a manifest's lines.
-pub const LINE_CODES: [Coded; 20] = [
+pub static LINE_CODES: [Coded; 20] = [
     (
         Given::Listed(
             b"ba7816bf8f01cfea414140de5dae2223b00361a396177a9cb410ff61f20015ad  data/a\xFF\n",
@@ -282,7 +282,7 @@ pub const LINE_CODES: [Coded; 20] = [
 ];
 
 /// The codes of what manifests list.
-pub const LISTING_CODES: [Coded; 8] = [
+pub static LISTING_CODES: [Coded; 8] = [
     (
         Given::Listed(
             b"ba7816bf8f01cfea414140de5dae2223b00361a396177a9cb410ff61f20015ad  data/a\n1712ecfb074bf29c4188ad3421032509159a09739fd604f8fe57038b4ddefcc9  bagit.txt\n",
@@ -360,7 +360,7 @@ pub const LISTING_CODES: [Coded; 8] = [
 ];
 
 /// The codes of what is missing, unlisted or other than its checksum.
-pub const PAYLOAD_CODES: [Coded; 10] = [
+pub static PAYLOAD_CODES: [Coded; 10] = [
     (
         Given::Listed(
             b"ba7816bf8f01cfea414140de5dae2223b00361a396177a9cb410ff61f20015ad  data/a\ne3b0c44298fc1c149afbf4c8996fb92427ae41e4649b934ca495991b7852b855  data/b\n",
@@ -438,7 +438,7 @@ pub const PAYLOAD_CODES: [Coded; 10] = [
 ];
 
 /// The codes of `bag-info.txt`.
-pub const INFO_CODES: [Coded; 10] = [
+pub static INFO_CODES: [Coded; 10] = [
     (Given::Described(b"Title: \xFF\n"), "invalid B13 I1\n"),
     (Given::Described(b"\xEF\xBB\xBF\xFF\n"), "invalid B13 I1\n"),
     (
@@ -465,7 +465,7 @@ pub const INFO_CODES: [Coded; 10] = [
 ];
 
 /// The codes of a `Payload-Oxum`.
-pub const OXUM_CODES: [Coded; 7] = [
+pub static OXUM_CODES: [Coded; 7] = [
     (Given::Described(b"Payload-Oxum: 3\n"), "invalid B14\n"),
     (
         Given::Described(b"Payload-Oxum: 3.1\n \n .1\n"),
@@ -499,7 +499,7 @@ pub const OXUM_CODES: [Coded; 7] = [
 ];
 
 /// The codes of a form's opening and of its entries.
-pub const ENTRY_CODES: [Coded; 14] = [
+pub static ENTRY_CODES: [Coded; 14] = [
     (Given::Bytes(b"BAGSET 2\nEND\n"), "unreadable S1\n"),
     (Given::Bytes(b"BAGSET 1\r\nEND\n"), "unreadable S1\n"),
     (Given::Bytes(b"BAGSETS"), "unreadable S1\n"),
@@ -528,7 +528,7 @@ pub const ENTRY_CODES: [Coded; 14] = [
 ];
 
 /// The codes of a form's paths and of its end.
-pub const PATH_CODES: [Coded; 10] = [
+pub static PATH_CODES: [Coded; 10] = [
     (
         Given::Bytes(b"BAGSET 1\nFILE 1 0\nb\nFILE 1 0\na\nEND\n"),
         "unreadable S4 20\n",

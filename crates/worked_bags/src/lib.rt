@@ -157,7 +157,7 @@ pub const BYTE_BEHIND: WorkedBag = (TRAILING, "unreadable S7\n", Ending::Refused
 pub const NOTHING: WorkedBag = (b"", "unreadable S3\n", Ending::Refused);
 
 /// The worked bags.
-pub const WORKED_BAGS: [WorkedBag; 25] = [
+pub static WORKED_BAGS: [WorkedBag; 25] = [
     SMALL,
     OLD_VERSION,
     PERCENT_SIGN,
@@ -186,7 +186,7 @@ pub const WORKED_BAGS: [WorkedBag; 25] = [
 ];
 
 /// A policy and what `explain` is asked, the line that it prints, and how it ends.
-#[derive(Clone, Copy, Debug)]
+#[derive(Clone, Copy)]
 pub struct WorkedQuestion {
     pub policy: &'static [u8],
     pub caller: &'static str,
@@ -242,7 +242,7 @@ pub const DENIED_EVERYTHING: WorkedQuestion = WorkedQuestion {
 };
 
 /// The worked questions.
-pub const WORKED_QUESTIONS: [WorkedQuestion; 17] = [
+pub static WORKED_QUESTIONS: [WorkedQuestion; 17] = [
     DENIED_EVERYTHING,
     DENIED,
     ALLOWED,

@@ -17,12 +17,12 @@ fn printed<R: Read>(rt: &HostRuntime, file: &str, input: &mut R) -> (Vec<u8>, Ve
 
 #[test]
 fn says_what_was_worked_out(rt: HostRuntime) {
-    for (form, line, ending) in WORKED_BAGS {
-        let mut input = form;
+    for (form, line, ending) in &WORKED_BAGS {
+        let mut input = *form;
         let (out, err, found) = printed(&rt, "-", &mut input);
         assert_eq!(rt; out.as_slice(), line.as_bytes(), "{line}");
         assert_eq!(rt; err.as_slice(), b"".as_slice(), "{line}");
-        assert_eq!(rt; found, ending, "{line}");
+        assert_eq!(rt; found, *ending, "{line}");
     }
 }
 
@@ -103,7 +103,7 @@ fn explained(rt: &HostRuntime, words: &[&str]) -> (Vec<u8>, Vec<u8>, Ending) {
 
 #[test]
 fn explains_what_was_worked_out(rt: HostRuntime) -> Result<(), Fail> {
-    for worked in WORKED_QUESTIONS {
+    for worked in &WORKED_QUESTIONS {
         fs::write(&rt, "policy.toml", worked.policy)?;
         let words = [
             "explain",

@@ -1,8 +1,8 @@
 //! What is said of each fault, of a bag as the usual tool writes it, and of strange names.
 
 use crate::codes::{
-    DECLARATION_CODES, DECLARED, ENTRY_CODES, FILE_CODES, File, Given, INFO_CODES, LINE_CODES,
-    LISTED, LISTING_CODES, OXUM_CODES, PATH_CODES, PAYLOAD, PAYLOAD_CODES,
+    Coded, DECLARATION_CODES, DECLARED, ENTRY_CODES, FILE_CODES, File, Given, INFO_CODES,
+    LINE_CODES, LISTED, LISTING_CODES, OXUM_CODES, PATH_CODES, PAYLOAD, PAYLOAD_CODES,
 };
 use crate::strange_names::{
     LISTED_NAME, LISTED_NAME_0_97, MISSING_NAME, SPOILED_NAME, UNLISTED_NAME,
@@ -63,85 +63,58 @@ fn says<R: AllocGlobal + Abort>(
     Ok(())
 }
 
-#[test]
-fn faults_of_bagit_txt(rt: HostRuntime) -> Result<(), Fail> {
-    for (given, line) in DECLARATION_CODES {
-        let bytes = bytes_of(rt.alloc(), given)?;
-        says(&rt, bytes.as_slice(), line, Ending::Refused)?;
+/// Takes each line of the table, with the end of what is refused.
+fn says_each<R: AllocGlobal + Abort>(rt: &R, table: &[Coded]) -> Result<(), Fail> {
+    for (given, line) in table {
+        let bytes = bytes_of(rt.alloc(), *given)?;
+        says(rt, bytes.as_slice(), line, Ending::Refused)?;
     }
     Ok(())
+}
+
+#[test]
+fn faults_of_bagit_txt(rt: HostRuntime) -> Result<(), Fail> {
+    says_each(&rt, &DECLARATION_CODES)
 }
 
 #[test]
 fn faults_of_names(rt: HostRuntime) -> Result<(), Fail> {
-    for (given, line) in FILE_CODES {
-        let bytes = bytes_of(rt.alloc(), given)?;
-        says(&rt, bytes.as_slice(), line, Ending::Refused)?;
-    }
-    Ok(())
+    says_each(&rt, &FILE_CODES)
 }
 
 #[test]
 fn faults_of_lines(rt: HostRuntime) -> Result<(), Fail> {
-    for (given, line) in LINE_CODES {
-        let bytes = bytes_of(rt.alloc(), given)?;
-        says(&rt, bytes.as_slice(), line, Ending::Refused)?;
-    }
-    Ok(())
+    says_each(&rt, &LINE_CODES)
 }
 
 #[test]
 fn faults_of_listings(rt: HostRuntime) -> Result<(), Fail> {
-    for (given, line) in LISTING_CODES {
-        let bytes = bytes_of(rt.alloc(), given)?;
-        says(&rt, bytes.as_slice(), line, Ending::Refused)?;
-    }
-    Ok(())
+    says_each(&rt, &LISTING_CODES)
 }
 
 #[test]
 fn faults_of_payload(rt: HostRuntime) -> Result<(), Fail> {
-    for (given, line) in PAYLOAD_CODES {
-        let bytes = bytes_of(rt.alloc(), given)?;
-        says(&rt, bytes.as_slice(), line, Ending::Refused)?;
-    }
-    Ok(())
+    says_each(&rt, &PAYLOAD_CODES)
 }
 
 #[test]
 fn faults_of_bag_info(rt: HostRuntime) -> Result<(), Fail> {
-    for (given, line) in INFO_CODES {
-        let bytes = bytes_of(rt.alloc(), given)?;
-        says(&rt, bytes.as_slice(), line, Ending::Refused)?;
-    }
-    Ok(())
+    says_each(&rt, &INFO_CODES)
 }
 
 #[test]
 fn faults_of_oxums(rt: HostRuntime) -> Result<(), Fail> {
-    for (given, line) in OXUM_CODES {
-        let bytes = bytes_of(rt.alloc(), given)?;
-        says(&rt, bytes.as_slice(), line, Ending::Refused)?;
-    }
-    Ok(())
+    says_each(&rt, &OXUM_CODES)
 }
 
 #[test]
 fn faults_of_entries(rt: HostRuntime) -> Result<(), Fail> {
-    for (given, line) in ENTRY_CODES {
-        let bytes = bytes_of(rt.alloc(), given)?;
-        says(&rt, bytes.as_slice(), line, Ending::Refused)?;
-    }
-    Ok(())
+    says_each(&rt, &ENTRY_CODES)
 }
 
 #[test]
 fn faults_of_paths_in_forms(rt: HostRuntime) -> Result<(), Fail> {
-    for (given, line) in PATH_CODES {
-        let bytes = bytes_of(rt.alloc(), given)?;
-        says(&rt, bytes.as_slice(), line, Ending::Refused)?;
-    }
-    Ok(())
+    says_each(&rt, &PATH_CODES)
 }
 
 /// A form that lacks its `END`, of so many empty files with names of four digits.

@@ -27,7 +27,7 @@ pub const BAG_0_97: &[u8] =
 pub type Row = (&'static str, &'static str, Asked, &'static str);
 
 /// What the office answers that caller on that day, in words.
-pub fn said(
+fn said(
     alloc: Global,
     office: &mut Office,
     day: &str,
@@ -59,6 +59,23 @@ pub fn opened_for(alloc: Global, most: u32) -> Result<Office, Fail> {
         said(alloc, &mut office, "2024-03-01", "anna", asked)?;
     }
     Ok(office)
+}
+
+/// Takes the rows in turn. Fails where one isn't answered as it says.
+pub fn take(alloc: Global, office: &mut Office, rows: &[Row]) -> Result<(), Fail> {
+    for (at, (day, caller, asked, told)) in rows.iter().enumerate() {
+        let answer = said(alloc, office, day, caller, *asked)?;
+        if answer.as_str() != *told {
+            return Err(Fail::new(format_args!("row {at} answers {answer}")));
+        }
+    }
+    Ok(())
+}
+
+/// Takes the rows in turn, in an office of its own.
+pub fn take_new(alloc: Global, rows: &[Row]) -> Result<(), Fail> {
+    let mut office = opened(alloc)?;
+    take(alloc, &mut office, rows)
 }
 
 /// What the office answers to all of these, in one run.

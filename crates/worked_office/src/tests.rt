@@ -1,7 +1,7 @@
 //! Rows worked out by hand from `docs/OFFICE.md`.
 
 use crate::asked::Asked;
-use crate::office::{BAG, PERCENT, Row, opened, said};
+use crate::office::{BAG, PERCENT, Row, opened, take, take_new};
 use std::test::*;
 
 const INTO_MAPS: Asked = Asked::Deposit {
@@ -36,7 +36,7 @@ const PERCENT_INTO_MAPS: Asked = Asked::Deposit {
     bag: PERCENT,
 };
 
-const FILES_BY_PATH: [Row; 5] = [
+static FILES_BY_PATH: [Row; 5] = [
     ("2024-03-01", "anna", PERCENT_INTO_MAPS, "deposit 1"),
     (
         "2024-03-01",
@@ -61,15 +61,10 @@ const FILES_BY_PATH: [Row; 5] = [
 
 #[test]
 fn a_file_is_served_at_its_own_path_alone(rt: HostRuntime) -> Result<(), Fail> {
-    let mut office = opened(rt.alloc())?;
-    for (day, caller, asked, told) in FILES_BY_PATH {
-        let answer = said(rt.alloc(), &mut office, day, caller, asked)?;
-        assert_eq!(rt; answer.as_str(), told);
-    }
-    Ok(())
+    take_new(rt.alloc(), &FILES_BY_PATH)
 }
 
-const RULE_HOLD_DATE: [Row; 14] = [
+static RULE_HOLD_DATE: [Row; 14] = [
     ("2024-03-01", "anna", INTO_TAX, "deposit 1"),
     ("2024-03-01", "anna", MORE_INTO_MAPS, "deposit 2"),
     ("2024-03-01", "anna", Asked::HoldDeposit(1), "hold 1"),
@@ -103,15 +98,10 @@ const RULE_HOLD_DATE: [Row; 14] = [
 
 #[test]
 fn a_disposal_asks_the_rules_then_holds_then_the_date(rt: HostRuntime) -> Result<(), Fail> {
-    let mut office = opened(rt.alloc())?;
-    for (day, caller, asked, told) in RULE_HOLD_DATE {
-        let answer = said(rt.alloc(), &mut office, day, caller, asked)?;
-        assert_eq!(rt; answer.as_str(), told);
-    }
-    Ok(())
+    take_new(rt.alloc(), &RULE_HOLD_DATE)
 }
 
-const ABSENT_THEN_DENIED: [Row; 7] = [
+static ABSENT_THEN_DENIED: [Row; 7] = [
     ("2024-03-01", "anna", INTO_MAPS, "deposit 1"),
     ("2024-03-01", "anna", Asked::HoldDeposit(1), "hold 1"),
     ("2024-03-05", "eve", Asked::Dispose(9), "NoSuch deposit"),
@@ -138,15 +128,10 @@ const ABSENT_THEN_DENIED: [Row; 7] = [
 
 #[test]
 fn what_is_absent_is_said_first_and_what_is_denied_next(rt: HostRuntime) -> Result<(), Fail> {
-    let mut office = opened(rt.alloc())?;
-    for (day, caller, asked, told) in ABSENT_THEN_DENIED {
-        let answer = said(rt.alloc(), &mut office, day, caller, asked)?;
-        assert_eq!(rt; answer.as_str(), told);
-    }
-    Ok(())
+    take_new(rt.alloc(), &ABSENT_THEN_DENIED)
 }
 
-const RECORDS: [Row; 10] = [
+static RECORDS: [Row; 10] = [
     ("2024-03-01", "anna", INTO_MAPS, "deposit 1"),
     (
         "2024-03-01",
@@ -181,15 +166,10 @@ const RECORDS: [Row; 10] = [
 
 #[test]
 fn records_audits_and_holds_are_told_to_whom_the_rules_allow(rt: HostRuntime) -> Result<(), Fail> {
-    let mut office = opened(rt.alloc())?;
-    for (day, caller, asked, told) in RECORDS {
-        let answer = said(rt.alloc(), &mut office, day, caller, asked)?;
-        assert_eq!(rt; answer.as_str(), told);
-    }
-    Ok(())
+    take_new(rt.alloc(), &RECORDS)
 }
 
-const DUE_AS_HOLDS_GO: [Row; 9] = [
+static DUE_AS_HOLDS_GO: [Row; 9] = [
     ("2024-03-01", "anna", INTO_MAPS, "deposit 1"),
     ("2024-03-01", "anna", MORE_INTO_MAPS, "deposit 2"),
     ("2024-03-01", "anna", Asked::HoldDeposit(2), "hold 1"),
@@ -221,7 +201,7 @@ const DUE_AS_HOLDS_GO: [Row; 9] = [
     ),
 ];
 
-const DUE_AS_YEARS_CHANGE: [Row; 7] = [
+static DUE_AS_YEARS_CHANGE: [Row; 7] = [
     ("2025-02-27", "anna", Asked::DueList, "due on 2025-02-27:"),
     (
         "2025-02-28",
@@ -239,13 +219,6 @@ const DUE_AS_YEARS_CHANGE: [Row; 7] = [
 #[test]
 fn due_lists_follow_holds_disposals_and_years(rt: HostRuntime) -> Result<(), Fail> {
     let mut office = opened(rt.alloc())?;
-    for (day, caller, asked, told) in DUE_AS_HOLDS_GO {
-        let answer = said(rt.alloc(), &mut office, day, caller, asked)?;
-        assert_eq!(rt; answer.as_str(), told);
-    }
-    for (day, caller, asked, told) in DUE_AS_YEARS_CHANGE {
-        let answer = said(rt.alloc(), &mut office, day, caller, asked)?;
-        assert_eq!(rt; answer.as_str(), told);
-    }
-    Ok(())
+    take(rt.alloc(), &mut office, &DUE_AS_HOLDS_GO)?;
+    take(rt.alloc(), &mut office, &DUE_AS_YEARS_CHANGE)
 }

@@ -1,9 +1,7 @@
 //! Sessions with an office, worked out by hand from `docs/OFFICE.md`.
 
 use crate::asked::Asked;
-use crate::office::{BAG, BAG_0_97, Row, has_stock, opened, opened_for, run_words, said};
-use office_engine::plain::Office;
-use std::alloc::Global;
+use crate::office::{BAG, BAG_0_97, Row, has_stock, opened, opened_for, run_words, take, take_new};
 use std::test::*;
 
 const A_1: Asked = Asked::Deposit {
@@ -94,17 +92,7 @@ const NO_CLASS: Asked = Asked::Deposit {
     bag: BAG,
 };
 
-/// Whether each row is answered as it says.
-fn is_told(alloc: Global, office: &mut Office, rows: &[Row]) -> Result<bool, Fail> {
-    for (day, caller, asked, told) in rows {
-        if said(alloc, office, day, caller, *asked)?.as_str() != *told {
-            return Ok(false);
-        }
-    }
-    Ok(true)
-}
-
-const DUE_DAY: [Row; 4] = [
+static DUE_DAY: [Row; 4] = [
     ("2024-03-01", "anna", A_1, "deposit 1"),
     ("2025-02-27", "anna", Asked::Dispose(1), "NotDue 2025-02-28"),
     (
@@ -118,12 +106,10 @@ const DUE_DAY: [Row; 4] = [
 
 #[test]
 fn a_deposit_is_destroyed_from_its_due_day_on(rt: HostRuntime) -> Result<(), Fail> {
-    let mut office = opened(rt.alloc())?;
-    assert!(rt; is_told(rt.alloc(), &mut office, &DUE_DAY)?);
-    Ok(())
+    take_new(rt.alloc(), &DUE_DAY)
 }
 
-const HELD: [Row; 10] = [
+static HELD: [Row; 10] = [
     (
         "2024-03-02",
         "anna",
@@ -168,17 +154,15 @@ const HELD: [Row; 10] = [
 
 #[test]
 fn a_hold_of_a_collection_covers_what_comes_later(rt: HostRuntime) -> Result<(), Fail> {
-    let mut office = opened(rt.alloc())?;
-    assert!(rt; is_told(rt.alloc(), &mut office, &HELD)?);
-    Ok(())
+    take_new(rt.alloc(), &HELD)
 }
 
-const TWO_BAGS: [Row; 2] = [
+static TWO_BAGS: [Row; 2] = [
     ("2024-03-01", "anna", A_1, "deposit 1"),
     ("2024-03-01", "anna", OLD_VERSION, "deposit 2"),
 ];
 
-const ONE_DESTROYED: [Row; 2] = [
+static ONE_DESTROYED: [Row; 2] = [
     (
         "2030-01-01",
         "anna",
@@ -193,7 +177,7 @@ const ONE_DESTROYED: [Row; 2] = [
     ),
 ];
 
-const BOTH_DESTROYED: [Row; 1] = [(
+static BOTH_DESTROYED: [Row; 1] = [(
     "2030-01-01",
     "anna",
     Asked::Dispose(2),
@@ -204,16 +188,16 @@ const BOTH_DESTROYED: [Row; 1] = [(
 fn a_content_counts_once_and_while_it_is_kept(rt: HostRuntime) -> Result<(), Fail> {
     let alloc = rt.alloc();
     let mut office = opened(alloc)?;
-    assert!(rt; is_told(alloc, &mut office, &TWO_BAGS)?);
+    take(alloc, &mut office, &TWO_BAGS)?;
     assert!(rt; has_stock(alloc, &office, 4, 185)?);
-    assert!(rt; is_told(alloc, &mut office, &ONE_DESTROYED)?);
+    take(alloc, &mut office, &ONE_DESTROYED)?;
     assert!(rt; has_stock(alloc, &office, 3, 131)?);
-    assert!(rt; is_told(alloc, &mut office, &BOTH_DESTROYED)?);
+    take(alloc, &mut office, &BOTH_DESTROYED)?;
     assert!(rt; has_stock(alloc, &office, 0, 0)?);
     Ok(())
 }
 
-const USED_ONCE: [Row; 8] = [
+static USED_ONCE: [Row; 8] = [
     ("2024-03-01", "anna", A_1, "deposit 1"),
     ("2024-03-01", "anna", A_1, "Taken 1"),
     ("2024-03-01", "anna", NOTHING_AS_A_1, "Taken 1"),
@@ -231,12 +215,10 @@ const USED_ONCE: [Row; 8] = [
 
 #[test]
 fn an_accession_is_used_once(rt: HostRuntime) -> Result<(), Fail> {
-    let mut office = opened(rt.alloc())?;
-    assert!(rt; is_told(rt.alloc(), &mut office, &USED_ONCE)?);
-    Ok(())
+    take_new(rt.alloc(), &USED_ONCE)
 }
 
-const LISTS: [Row; 7] = [
+static LISTS: [Row; 7] = [
     ("2024-03-01", "anna", LONG_MAPS, "deposit 1"),
     ("2024-03-01", "anna", LONG_TAX, "deposit 2"),
     ("2024-03-01", "anna", A_3, "deposit 3"),
@@ -248,12 +230,10 @@ const LISTS: [Row; 7] = [
 
 #[test]
 fn the_rules_decide_lists_and_due_lists(rt: HostRuntime) -> Result<(), Fail> {
-    let mut office = opened(rt.alloc())?;
-    assert!(rt; is_told(rt.alloc(), &mut office, &LISTS)?);
-    Ok(())
+    take_new(rt.alloc(), &LISTS)
 }
 
-const FULL: [Row; 3] = [
+static FULL: [Row; 3] = [
     ("2024-03-01", "anna", A_1, "deposit 1"),
     ("2024-03-01", "anna", A_2, "Full"),
     ("2024-03-01", "anna", NOTHING_AS_A_2, "BadBag S3"),
@@ -262,19 +242,15 @@ const FULL: [Row; 3] = [
 #[test]
 fn a_full_office_takes_no_more(rt: HostRuntime) -> Result<(), Fail> {
     let mut office = opened_for(rt.alloc(), 1)?;
-    assert!(rt; is_told(rt.alloc(), &mut office, &FULL)?);
-    Ok(())
+    take(rt.alloc(), &mut office, &FULL)
 }
 
 #[test]
 fn records_are_closed_before_they_come(rt: HostRuntime) -> Result<(), Fail> {
-    let mut office = opened(rt.alloc())?;
-    let rows = [("2024-03-01", "anna", AHEAD, "ClosedAhead")];
-    assert!(rt; is_told(rt.alloc(), &mut office, &rows)?);
-    Ok(())
+    take_new(rt.alloc(), &[("2024-03-01", "anna", AHEAD, "ClosedAhead")])
 }
 
-const FIRST_REFUSALS: [Row; 5] = [
+static FIRST_REFUSALS: [Row; 5] = [
     ("2024-03-01", "anna", A_1, "deposit 1"),
     ("2024-03-01", "anna", NOWHERE, "NoSuch collection"),
     ("2024-03-01", "anna", NO_CLASS, "NoSuch class"),

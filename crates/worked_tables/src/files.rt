@@ -1,9 +1,39 @@
-//! Files in memory, under a store with small caches.
+//! Files in memory, which can be told to stop, under a store with small caches.
 
 use sqlite::{Connection, Error, FileStore, Files, Options};
-use sqlite_disk::{Disk, Memory};
+use sqlite_disk::{Disk, Fuse, Memory};
 use std::alloc::Global;
 use std::test::Fail;
+
+/// The log and the database file, each in memory; after so many calls it stops.
+pub type Disks = Files<Fuse<Memory>>;
+
+/// More calls than a session makes.
+pub const MANY: u64 = u64::MAX;
+
+/// Two empty files, which stop after so many calls.
+pub fn empty(alloc: Global, log_calls: u64, db_calls: u64) -> Disks {
+    Files {
+        log: Fuse::new(Memory::new(alloc), log_calls),
+        db: Fuse::new(Memory::new(alloc), db_calls),
+    }
+}
+
+/// A file that holds the same bytes, and doesn't stop.
+fn copy(alloc: Global, from: &Fuse<Memory>) -> Result<Fuse<Memory>, Fail> {
+    let mut to = Memory::new(alloc);
+    to.write_at(0, from.inner().bytes())?;
+    to.sync()?;
+    Ok(Fuse::new(to, MANY))
+}
+
+/// Files that hold the same bytes, and don't stop.
+pub fn copied(alloc: Global, from: &Disks) -> Result<Disks, Fail> {
+    Ok(Files {
+        log: copy(alloc, &from.log)?,
+        db: copy(alloc, &from.db)?,
+    })
+}
 
 /// Opens the files with small caches: pages go to the log and come back from it.
 pub fn open<D: Disk + Drop>(
@@ -25,10 +55,10 @@ pub fn open<D: Disk + Drop>(
     }
 }
 
-/// Memory that holds the same bytes.
-pub fn copy(alloc: Global, from: &Memory) -> Result<Memory, Fail> {
-    let mut to = Memory::new(alloc);
-    to.write_at(0, from.bytes())?;
-    to.sync()?;
-    Ok(to)
+/// Closes the files, and gives them back as they are left.
+pub fn close<D: Disk + Drop>(conn: Connection<FileStore<D>>) -> Files<D> {
+    match conn.close_files() {
+        Ok(files) => files,
+        Err((_, store)) => store.close(),
+    }
 }

@@ -1,87 +1,94 @@
 //! Sessions: steps over files in memory, each with its answer.
 
-use crate::files::open;
+use crate::files::{Disks, MANY, close, empty, open};
 use crate::steps::{Step, said};
-use sqlite::{Alter, Connection, FileStore, Files};
-use sqlite_disk::Memory;
+use sqlite::{Alter, Connection, Files};
+use sqlite_disk::Disk;
 use std::alloc::Global;
 use std::test::Fail;
 
 /// A step, and the answer to it.
 pub type Row<'a> = (Step<'a>, &'a str);
 
-/// A connection over files in memory.
-#[derive(Drop)]
-pub struct Session {
-    alloc: Global,
-    conn: Connection<FileStore<Memory>>,
-}
-
-impl Session {
-    /// Opens the files.
-    pub fn over(alloc: Global, files: Files<Memory>) -> Result<Session, Fail> {
-        let conn = open(alloc, files).ok().ok_or("the files were opened")?;
-        Ok(Session { alloc, conn })
-    }
-
-    /// Opens two empty files.
-    pub fn new(alloc: Global) -> Result<Session, Fail> {
-        let files = Files {
-            log: Memory::new(alloc),
-            db: Memory::new(alloc),
-        };
-        Session::over(alloc, files)
-    }
-
-    /// Closes the files, and opens what they hold.
-    pub fn reopened(self) -> Result<Session, Fail> {
-        let Session { alloc, conn } = self;
-        let files = conn.close_files().ok().ok_or("the files were closed")?;
-        Session::over(alloc, files)
-    }
-
-    /// What the step answers.
-    pub fn said(&mut self, step: Step<'_>) -> Result<String, Fail> {
-        said(self.alloc, &mut self.conn, step)
-    }
-
-    /// Takes the steps in turn. Fails where one isn't answered as its row says.
-    pub fn take(&mut self, rows: &[Row<'_>]) -> Result<(), Fail> {
-        take_rows(self.alloc, &mut self.conn, rows)
-    }
-}
-
-fn take_rows<S: Alter>(
+/// Takes the steps in turn: the first row that is answered otherwise, with its answer, or no text.
+fn differs<S: Alter>(
     alloc: Global,
     conn: &mut Connection<S>,
     rows: &[Row<'_>],
-) -> Result<(), Fail> {
+) -> Result<String, Fail> {
     for (at, (step, wanted)) in rows.iter().enumerate() {
         let answer = said(alloc, conn, *step)?;
         if answer.as_str() != *wanted {
-            return Err(Fail::new(format_args!("row {at} answers {answer}")));
+            return Ok(format!(in alloc; "row {at} answers {answer}")?);
         }
     }
-    Ok(())
+    Ok(String::new(alloc))
 }
 
-/// Takes the steps of each table in turn, over new files, which are opened again before each table.
-pub fn take_all(alloc: Global, tables: &[&[Row<'_>]]) -> Result<(), Fail> {
-    let mut session = Session::new(alloc)?;
+/// Says that the files were not opened.
+fn not_opened(alloc: Global) -> Result<String, Fail> {
+    Ok(String::from_str(alloc, "not opened")?)
+}
+
+/// Opens the files, takes the steps in turn and closes the files, which are given back.
+fn take_once<D: Disk + Drop>(
+    alloc: Global,
+    files: Files<D>,
+    rows: &[Row<'_>],
+) -> (Result<String, Fail>, Files<D>) {
+    match open(alloc, files) {
+        Ok(mut conn) => {
+            let differs = differs(alloc, &mut conn, rows);
+            (differs, close(conn))
+        }
+        Err((_, left)) => (not_opened(alloc), left),
+    }
+}
+
+/// Opens the files, takes the steps in turn and closes the files, which are given back: the first row
+/// that is answered otherwise, with its answer, or that the files were not opened, or no text.
+pub fn take_over(alloc: Global, files: Disks, rows: &[Row<'_>]) -> (Result<String, Fail>, Disks) {
+    take_once(alloc, files, rows)
+}
+
+/// Fails where a row was answered otherwise.
+fn agree(differs: &str) -> Result<(), Fail> {
+    match differs {
+        "" => Ok(()),
+        _ => Err(Fail::new(format_args!("{differs}"))),
+    }
+}
+
+/// Takes the steps in turn over the files, which are given back. Fails where one isn't answered as its
+/// row says.
+pub fn take(alloc: Global, files: Disks, rows: &[Row<'_>]) -> Result<Disks, Fail> {
+    let (differs, left) = take_over(alloc, files, rows);
+    agree(&differs?)?;
+    Ok(left)
+}
+
+/// Takes the steps of each table in turn, over new files, which are opened again for each table.
+fn take_in_files(alloc: Global, tables: &[&[Row<'_>]]) -> Result<(), Fail> {
+    let mut files = empty(alloc, MANY, MANY);
     for table in tables {
-        session = session.reopened()?;
-        session.take(table)?;
+        files = take(alloc, files, table)?;
     }
     Ok(())
 }
 
 /// Takes the steps of each table in turn, in one database in memory.
-pub fn take_in_memory(alloc: Global, tables: &[&[Row<'_>]]) -> Result<(), Fail> {
+fn take_in_memory(alloc: Global, tables: &[&[Row<'_>]]) -> Result<(), Fail> {
     let mut conn = Connection::open_in_memory(alloc)
         .ok()
         .ok_or("a database was made")?;
     for table in tables {
-        take_rows(alloc, &mut conn, table)?;
+        agree(&differs(alloc, &mut conn, table)?)?;
     }
     Ok(())
+}
+
+/// Takes the steps of each table in turn, over new files and then in a new database in memory.
+pub fn take_all(alloc: Global, tables: &[&[Row<'_>]]) -> Result<(), Fail> {
+    take_in_files(alloc, tables)?;
+    take_in_memory(alloc, tables)
 }

@@ -1,8 +1,8 @@
-//! Each call once, over files, where what it wrote is there when they are opened again, and once in memory.
+//! Each call once over files, where what it wrote is there when they are opened again, and once in memory.
 
 use crate::answers::Read;
 use crate::changes::Change;
-use crate::sessions::{Row, take_all, take_in_memory};
+use crate::sessions::{Row, take_all};
 use crate::steps::Step;
 use std::test::*;
 
@@ -175,15 +175,4 @@ static HOLDS: [Row; 5] = [
 #[test]
 fn holds_last(rt: HostRuntime) -> Result<(), Fail> {
     take_all(rt.alloc(), &[&PLACED, &HOLDS])
-}
-
-#[test]
-fn each_call_in_memory(rt: HostRuntime) -> Result<(), Fail> {
-    let alloc = rt.alloc();
-    take_in_memory(alloc, &[&MADE, &MADE_ONCE])?;
-    take_in_memory(alloc, &[&DEFINED, &DEFINITIONS])?;
-    take_in_memory(alloc, &[&INSTALLED, &POLICY])?;
-    take_in_memory(alloc, &[&DEPOSITED, &DEPOSITS])?;
-    take_in_memory(alloc, &[&PUT, &FILES])?;
-    take_in_memory(alloc, &[&PLACED, &HOLDS])
 }

@@ -2,33 +2,48 @@
 
 use crate::answers::Read;
 use crate::changes::Change;
-use crate::sessions::{Row, Session};
+use crate::files::{MANY, empty};
+use crate::sessions::{Row, take};
 use crate::steps::Step;
 use std::alloc::{AllocError, Global};
 use std::test::*;
 
+/// A path and its content.
+type File<'a> = (&'a str, &'a [u8]);
+
 static CREATED: [Row; 1] = [(Step::Create, "done")];
 
-/// Opens new files and makes an office.
-fn new_office(alloc: Global) -> Result<Session, Fail> {
-    let mut session = Session::new(alloc)?;
-    session.take(&CREATED)?;
-    Ok(session)
+/// Puts the files of deposit 1 one after the other.
+fn puts<'a>(alloc: Global, files: &[File<'a>]) -> Result<Vec<Row<'a>>, AllocError> {
+    let mut rows = Vec::new(alloc);
+    for (path, content) in files {
+        rows.push((Step::Do(Change::File(1, path, content)), "done"))?;
+    }
+    Ok(rows)
 }
 
-/// Puts a file of deposit 1.
-fn put(session: &mut Session, path: &str, content: &[u8]) -> Result<(), Fail> {
-    session.take(&[(Step::Do(Change::File(1, path, content)), "done")])
+/// Finds each of the files of deposit 1, and then all of them as they are listed.
+fn finds<'a>(
+    alloc: Global,
+    files: &[File<'a>],
+    listed: &'a str,
+) -> Result<Vec<Row<'a>>, AllocError> {
+    let mut rows = Vec::new(alloc);
+    for (path, content) in files {
+        rows.push((Step::Read(Read::Content(1, path, content)), "true"))?;
+    }
+    rows.push((Step::Read(Read::Files(1)), listed))?;
+    Ok(rows)
 }
 
-/// Reads a file of deposit 1: it has this content.
-fn find(session: &mut Session, path: &str, content: &[u8]) -> Result<(), Fail> {
-    session.take(&[(Step::Read(Read::Content(1, path, content)), "true")])
-}
-
-/// Reads the files of a deposit, as a text.
-fn list(session: &mut Session, deposit: u32, files: &str) -> Result<(), Fail> {
-    session.take(&[(Step::Read(Read::Files(deposit)), files)])
+/// Puts the files of deposit 1 into a new office, and finds them when it is opened again. Then it takes
+/// these steps.
+fn keep(alloc: Global, files: &[File<'_>], listed: &str, then: &[Row<'_>]) -> Result<(), Fail> {
+    let disks = take(alloc, empty(alloc, MANY, MANY), &CREATED)?;
+    let disks = take(alloc, disks, &puts(alloc, files)?)?;
+    let disks = take(alloc, disks, &finds(alloc, files, listed)?)?;
+    take(alloc, disks, then)?;
+    Ok(())
 }
 
 /// A content of 16,777,216 bytes.
@@ -44,16 +59,11 @@ fn largest_content(alloc: Global) -> Result<Vec<u8>, AllocError> {
 fn contents_of_no_byte_and_of_the_most(rt: HostRuntime) -> Result<(), Fail> {
     let alloc = rt.alloc();
     let large = largest_content(alloc)?;
-    let mut session = new_office(alloc)?;
-    put(&mut session, "data/empty", b"")?;
-    put(&mut session, "data/large", &large)?;
-    let mut session = session.reopened()?;
-    find(&mut session, "data/empty", b"")?;
-    find(&mut session, "data/large", &large)?;
-    list(
-        &mut session,
-        1,
+    keep(
+        alloc,
+        &[("data/empty", b""), ("data/large", &large)],
         "1 data/empty \n1 data/large of 16777216 bytes\n",
+        &[],
     )
 }
 
@@ -94,19 +104,13 @@ fn paths_with(alloc: Global, characters: &[char]) -> Result<Vec<String>, AllocEr
     Ok(paths)
 }
 
-/// Puts files of these paths, whose contents are their paths.
-fn put_all(session: &mut Session, paths: &[String]) -> Result<(), Fail> {
+/// Files with these paths; the content of each is its path.
+fn named<'a>(alloc: Global, paths: &'a [String]) -> Result<Vec<File<'a>>, AllocError> {
+    let mut files = Vec::new(alloc);
     for path in paths {
-        put(session, path, path.as_bytes())?;
+        files.push((path.as_str(), path.as_bytes()))?;
     }
-    Ok(())
-}
-
-fn find_all(session: &mut Session, paths: &[String]) -> Result<(), Fail> {
-    for path in paths {
-        find(session, path, path.as_bytes())?;
-    }
-    Ok(())
+    Ok(files)
 }
 
 /// The files of deposit 1 that have these paths, as a text.
@@ -123,11 +127,7 @@ fn paths_with_every_byte(rt: HostRuntime) -> Result<(), Fail> {
     let alloc = rt.alloc();
     let paths = paths_with(alloc, &odd_characters(alloc)?)?;
     assert_eq!(rt; paths.len(), 240);
-    let mut session = new_office(alloc)?;
-    put_all(&mut session, &paths)?;
-    let mut session = session.reopened()?;
-    find_all(&mut session, &paths)?;
-    list(&mut session, 1, &listed(alloc, &paths)?)
+    keep(alloc, &named(alloc, &paths)?, &listed(alloc, &paths)?, &[])
 }
 
 /// A path of 1,024 bytes with this ending.
@@ -174,13 +174,10 @@ fn near_paths(alloc: Global) -> Result<Vec<String>, AllocError> {
 #[test]
 fn paths_that_differ_little(rt: HostRuntime) -> Result<(), Fail> {
     let alloc = rt.alloc();
-    let mut paths = near_paths(alloc)?;
-    let mut session = new_office(alloc)?;
-    put_all(&mut session, &paths)?;
-    let mut session = session.reopened()?;
-    find_all(&mut session, &paths)?;
-    paths.sort()?;
-    list(&mut session, 1, &listed(alloc, &paths)?)
+    let paths = near_paths(alloc)?;
+    let mut sorted = near_paths(alloc)?;
+    sorted.sort()?;
+    keep(alloc, &named(alloc, &paths)?, &listed(alloc, &sorted)?, &[])
 }
 
 /// The paths `data/0000` to `data/1999`.
@@ -192,19 +189,23 @@ fn numbered_paths(alloc: Global) -> Result<Vec<String>, AllocError> {
     Ok(paths)
 }
 
+static DROPPED: [Row; 5] = [
+    (Step::Do(Change::File(2, "data/0000", b"")), "done"),
+    (Step::Do(Change::DropFiles(1)), "done"),
+    (Step::Read(Read::Files(1)), ""),
+    (
+        Step::Read(Read::Content(1, "data/0000", b"data/0000")),
+        "none",
+    ),
+    (Step::Read(Read::Files(2)), "2 data/0000 \n"),
+];
+
+/// They are put from the last path to the first.
 #[test]
 fn two_thousand_files(rt: HostRuntime) -> Result<(), Fail> {
     let alloc = rt.alloc();
-    let mut session = new_office(alloc)?;
-    // From the last path to the first.
     let mut paths = numbered_paths(alloc)?;
+    let list = listed(alloc, &paths)?;
     paths.reverse();
-    put_all(&mut session, &paths)?;
-    session.take(&[(Step::Do(Change::File(2, "data/0000", b"")), "done")])?;
-    let mut session = session.reopened()?;
-    paths.reverse();
-    list(&mut session, 1, &listed(alloc, &paths)?)?;
-    session.take(&[(Step::Do(Change::DropFiles(1)), "done")])?;
-    list(&mut session, 1, "")?;
-    list(&mut session, 2, "2 data/0000 \n")
+    keep(alloc, &named(alloc, &paths)?, &list, &DROPPED)
 }

@@ -1,43 +1,15 @@
 //! A stop at each call of the disk while an office is made.
 
 use crate::answers::Read;
-use crate::files::{copy, open};
-use crate::sessions::{Row, Session};
+use crate::files::{Disks, MANY, copied, empty};
+use crate::sessions::{Row, take, take_over};
 use crate::steps::Step;
-use office_tables::create;
-use sqlite::{Alter, Connection, Files};
-use sqlite_disk::{Disk, Fuse, Memory};
 use std::alloc::Global;
 use std::test::*;
 
-/// More calls than a session makes.
-const MANY: u64 = 1_000_000;
+static MADE: [Row; 1] = [(Step::Create, "done")];
 
-fn is_made<S: Alter>(conn: &mut Connection<S>) -> bool {
-    conn.is_autocommit() && create(conn, 10, 20).is_ok()
-}
-
-/// Opens the files and makes an office: whether it was made, and the files as they are left.
-fn make_over<D: Disk + Drop>(alloc: Global, files: Files<D>) -> (bool, Files<D>) {
-    match open(alloc, files) {
-        Err((_, left)) => (false, left),
-        Ok(mut conn) => (is_made(&mut conn), conn.into_store().close()),
-    }
-}
-
-/// Makes an office in empty files over fuses: whether it was made, and what the files hold then.
-fn stopped(alloc: Global, log_calls: u64, db_calls: u64) -> Result<(bool, Files<Memory>), Fail> {
-    let files = Files {
-        log: Fuse::new(Memory::new(alloc), log_calls),
-        db: Fuse::new(Memory::new(alloc), db_calls),
-    };
-    let (is_made, left) = make_over(alloc, files);
-    let copied = Files {
-        log: copy(alloc, left.log.inner())?,
-        db: copy(alloc, left.db.inner())?,
-    };
-    Ok((is_made, copied))
-}
+static OPENED: [Row; 1] = [(Step::Open, "done")];
 
 /// The eight tables of an office, and its indexes, those that keys make too.
 const OBJECTS: &str =
@@ -57,12 +29,23 @@ static EMPTY: [Row; 2] = [
     (Step::Show("SELECT name FROM sqlite_schema"), ""),
 ];
 
+/// Makes an office in empty files, which stop after so many calls: whether it was made, and what the
+/// files hold then.
+fn stopped(alloc: Global, log_calls: u64, db_calls: u64) -> Result<(bool, Disks), Fail> {
+    let (differs, left) = take_over(alloc, empty(alloc, log_calls, db_calls), &MADE);
+    match differs {
+        Ok(differs) => Ok((differs.is_empty(), copied(alloc, &left)?)),
+        Err(fail) => Err(fail),
+    }
+}
+
 /// Whether the files hold an office, which is then the whole empty office; else they hold an empty
 /// database.
-fn holds_office(alloc: Global, files: Files<Memory>) -> Result<bool, Fail> {
-    let mut session = Session::over(alloc, files)?;
-    let is_office = session.said(Step::Open)?.as_str() == "done";
-    session.take(if is_office { &WHOLE } else { &EMPTY })?;
+fn hold_office(alloc: Global, files: Disks) -> Result<bool, Fail> {
+    let (differs, files) = take_over(alloc, files, &OPENED);
+    let is_office = differs?.is_empty();
+    let rows: &[Row<'_>] = if is_office { &WHOLE } else { &EMPTY };
+    take(alloc, files, rows)?;
     Ok(is_office)
 }
 
@@ -72,7 +55,7 @@ fn each_stop(alloc: Global, in_log: bool) -> Result<u64, Fail> {
     for calls in 0..5_000 {
         let (log_calls, db_calls) = if in_log { (calls, MANY) } else { (MANY, calls) };
         let (is_made, left) = stopped(alloc, log_calls, db_calls)?;
-        let is_there = holds_office(alloc, left)?;
+        let is_there = hold_office(alloc, left)?;
         if is_made && !is_there {
             Err("an office that was made is lost")?;
         }
