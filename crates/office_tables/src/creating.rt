@@ -111,7 +111,8 @@ fn is_empty(schema: &Schema) -> bool
 /// Makes the office in an empty database: its tables and its row, in one transaction with one commit.
 /// `max_deposits` and `max_holds` are how many deposits and holds it may have, each from 1 to 1,000,000.
 ///
-/// Fails with `Store` where the database isn't empty, and with `Memory` or `Store`; then nothing has changed.
+/// Fails with `Store` where the database isn't empty, which then is just as it was, and with `Memory` or `Store`: then the tables
+/// are as they were, as long as the connection is open, and a crash leaves the empty office or what it could leave before.
 pub fn create<S: Alter>(
     conn: &mut Connection<S>,
     max_deposits: u32,

@@ -81,7 +81,8 @@ fn has_office(schema: &Schema) -> bool
         && table.column_named(b"max_holds").is_some()
 }
 
-/// Finds whether the database is an office whose tables are of version 1. No answer changes anything.
+/// Finds by the table `office` whether the database is an office whose tables are of version 1. No answer changes a row, as long as
+/// the connection is open.
 ///
 /// Fails with `NotAnOffice` where there is no table `office` with its columns, or no row 1 in it of whole numbers with limits from
 /// 1 to 1,000,000; with `OtherVersion` where that row has another version (of several, the first by version counts); with `Memory` or

@@ -307,58 +307,65 @@ fn a_wrong_oxum_comes_before_a_wrong_checksum(rt: HostRuntime) -> Result<(), Fai
     Ok(())
 }
 
+static RIGHT_OXUMS: [&str; 5] = [
+    "",
+    "Payload-Oxum: 3.1\n",
+    "Payload-Oxum:003.01 \t\n",
+    "payload-OXUM : 00000000000000000003.00000000000000000001\r\n",
+    "Source-Organization: a\n b\n\n\tc: d\nPayload-Oxum: 3.1",
+];
+
+static WRONG_OXUMS: [&str; 4] = [
+    "Payload-Oxum: 3.2\n",
+    "Payload-Oxum: 30.1\n",
+    "Payload-Oxum: 18446744073709551619.1\n",
+    "Payload-Oxum: 99999999999999999999.99999999999999999999\n",
+];
+
 #[test]
 fn an_oxum_is_two_numbers(rt: HostRuntime) -> Result<(), Fail> {
-    for info in [
-        "",
-        "Payload-Oxum: 3.1\n",
-        "Payload-Oxum:003.01 \t\n",
-        "payload-OXUM : 00000000000000000003.00000000000000000001\r\n",
-        "Source-Organization: a\n b\n\n\tc: d\nPayload-Oxum: 3.1",
-    ] {
+    for info in &RIGHT_OXUMS {
         let said = verdict_with_info(rt.alloc(), info)?;
         assert_eq!(rt; said.as_str(), "valid 1.0 files 1 bytes 3 manifests 1");
     }
-    for info in [
-        "Payload-Oxum: 3.2\n",
-        "Payload-Oxum: 30.1\n",
-        "Payload-Oxum: 18446744073709551619.1\n",
-        "Payload-Oxum: 99999999999999999999.99999999999999999999\n",
-    ] {
+    for info in &WRONG_OXUMS {
         let said = verdict_with_info(rt.alloc(), info)?;
         assert_eq!(rt; said.as_str(), "invalid B16");
     }
     Ok(())
 }
 
+/// A `bag-info.txt`, and what is said of a bag of one payload file of three bytes with it.
+static INFOS: [(&str, &str); 19] = [
+    ("\u{feff}a: b\n", "invalid B13 I2"),
+    ("a: b\nc\n", "invalid B13 I3 2"),
+    (" \n: b\n", "invalid B13 I4 2"),
+    (": b\n", "invalid B13 I4 1"),
+    ("\n a: b\n", "invalid B13 I5 2"),
+    ("Payload-Oxum:\n", "invalid B14"),
+    ("Payload-Oxum: 3\n", "invalid B14"),
+    ("Payload-Oxum: .1\n", "invalid B14"),
+    ("Payload-Oxum: 3.\n", "invalid B14"),
+    ("Payload-Oxum: 3 .1\n", "invalid B14"),
+    ("Payload-Oxum: +3.1\n", "invalid B14"),
+    ("Payload-Oxum: 3.1.1\n", "invalid B14"),
+    (
+        "Payload-Oxum: 3.1\n  \n",
+        "valid 1.0 files 1 bytes 3 manifests 1",
+    ),
+    ("Payload-Oxum: 3.1\n \u{a0}\n", "invalid B14"),
+    ("Payload-Oxum:\n 3.1\n", "invalid B14"),
+    ("Payload-Oxum: 000000000000000000003.1\n", "invalid B14"),
+    ("Payload-Oxum: 3.1\npayload-oxum: 3.1\n", "invalid B15"),
+    ("Payload-Oxum: 4.1\npayload-oxum: 3.1\n", "invalid B15"),
+    ("Payload-Oxum: 3.1\npayload-oxum: 3\n", "invalid B14"),
+];
+
 #[test]
 fn faults_of_bag_info(rt: HostRuntime) -> Result<(), Fail> {
-    for (info, want) in [
-        ("\u{feff}a: b\n", "invalid B13 I2"),
-        ("a: b\nc\n", "invalid B13 I3 2"),
-        (" \n: b\n", "invalid B13 I4 2"),
-        (": b\n", "invalid B13 I4 1"),
-        ("\n a: b\n", "invalid B13 I5 2"),
-        ("Payload-Oxum:\n", "invalid B14"),
-        ("Payload-Oxum: 3\n", "invalid B14"),
-        ("Payload-Oxum: .1\n", "invalid B14"),
-        ("Payload-Oxum: 3.\n", "invalid B14"),
-        ("Payload-Oxum: 3 .1\n", "invalid B14"),
-        ("Payload-Oxum: +3.1\n", "invalid B14"),
-        ("Payload-Oxum: 3.1.1\n", "invalid B14"),
-        (
-            "Payload-Oxum: 3.1\n  \n",
-            "valid 1.0 files 1 bytes 3 manifests 1",
-        ),
-        ("Payload-Oxum: 3.1\n \u{a0}\n", "invalid B14"),
-        ("Payload-Oxum:\n 3.1\n", "invalid B14"),
-        ("Payload-Oxum: 000000000000000000003.1\n", "invalid B14"),
-        ("Payload-Oxum: 3.1\npayload-oxum: 3.1\n", "invalid B15"),
-        ("Payload-Oxum: 4.1\npayload-oxum: 3.1\n", "invalid B15"),
-        ("Payload-Oxum: 3.1\npayload-oxum: 3\n", "invalid B14"),
-    ] {
+    for (info, want) in &INFOS {
         let said = verdict_with_info(rt.alloc(), info)?;
-        assert_eq!(rt; said.as_str(), want);
+        assert_eq!(rt; said.as_str(), *want);
     }
     Ok(())
 }

@@ -13,30 +13,34 @@ const POLICY: &str =
 const RULE: &str =
     "[[rule]]\neffect = \"allow\"\nrole = \"*\"\naction = \"audit\"\ncollection = \"*\"\nclass = \"*\"\n";
 
+/// Texts, and the number of the day that each says.
+static DAYS: [(&str, Option<i32>); 16] = [
+    ("1900-01-01", Some(-25_567)),
+    ("9799-12-31", Some(2_859_848)),
+    ("1970-01-01", Some(0)),
+    ("2000-02-29", Some(11_016)),
+    ("9796-02-29", Some(2_858_447)),
+    ("1899-12-31", None),
+    ("9800-01-01", None),
+    ("1900-02-29", None),
+    ("2025-02-29", None),
+    ("2025-2-28", None),
+    ("2024-02-29 ", None),
+    ("2024-13-01", None),
+    ("+2024-2-29", None),
+    ("20240229", None),
+    ("2024-02-30", None),
+    ("", None),
+];
+
 #[test]
 fn days(rt: HostRuntime) -> Result<(), Fail> {
-    assert_eq!(rt; Day::read("1900-01-01").ok_or("first")?.number(), -25_567);
-    assert_eq!(rt; Day::read("9799-12-31").ok_or("last")?.number(), 2_859_848);
-    assert_eq!(rt; Day::read("1970-01-01").ok_or("epoch")?.number(), 0);
+    for (text, number) in &DAYS {
+        assert_eq!(rt; Day::read(text).map(|day| day.number()), *number, "{text}");
+    }
     assert_eq!(rt; Day::new(2_859_848), Day::read("9799-12-31"));
-    assert!(rt; Day::new(-25_568).is_none());
-    assert!(rt; Day::new(2_859_849).is_none());
-    assert!(rt; Day::read("2000-02-29").is_some());
-    assert!(rt; Day::read("9796-02-29").is_some());
-    let none = [
-        "1899-12-31",
-        "9800-01-01",
-        "1900-02-29",
-        "2025-02-29",
-        "2025-2-28",
-        "2024-02-29 ",
-        "2024-13-01",
-        "+2024-2-29",
-        "20240229",
-        "",
-    ];
-    for text in none {
-        assert!(rt; Day::read(text).is_none());
+    for number in [-25_568, 2_859_849] {
+        assert!(rt; Day::new(number).is_none());
     }
     let day = Day::read("2024-02-29").ok_or("day")?;
     assert_eq!(rt; format!(in rt.alloc(); "{day}")?.as_str(), "2024-02-29");
@@ -62,28 +66,42 @@ fn due_days(rt: HostRuntime) -> Result<(), Fail> {
     Ok(())
 }
 
+/// Texts, and whether each is a name, an accession and a matter.
+static TEXTS: [(&str, bool, bool, bool); 9] = [
+    ("y-1_0.a", true, true, true),
+    ("abcdefghijabcdefghijabcdefghijabcdefghij", true, true, true),
+    (
+        "abcdefghijabcdefghijabcdefghijabcdefghijk",
+        false,
+        true,
+        true,
+    ),
+    ("", false, false, false),
+    ("Anna", false, true, true),
+    ("A 1", false, false, true),
+    ("Case 7, \u{00e9}", false, false, true),
+    ("a\nb", false, false, false),
+    ("a\u{007f}", false, false, false),
+];
+
 #[test]
-fn names(rt: HostRuntime) -> Result<(), Fail> {
-    let forty = "abcdefghijabcdefghijabcdefghijabcdefghij";
-    assert!(rt; Name::read("y-1_0.a").is_some());
-    assert!(rt; Name::read(forty).is_some());
-    assert!(rt; Name::read("abcdefghijabcdefghijabcdefghijabcdefghijk").is_none());
-    assert!(rt; Name::read("").is_none());
-    assert!(rt; Name::read("Anna").is_none());
-    assert!(rt; Accession::read("A-1").is_some());
-    assert!(rt; Accession::read("A 1").is_none());
-    assert!(rt; Matter::read("Case 7, \u{00e9}").is_some());
-    assert!(rt; Matter::read("a\nb").is_none());
-    assert!(rt; Matter::read("a\u{007f}").is_none());
-    if let Some(name) = Name::read("y-1_0.a") {
-        assert_eq!(rt; name.to_owned(rt.alloc())?.as_str(), "y-1_0.a");
+fn names(rt: HostRuntime) {
+    for (text, is_name, is_accession, is_matter) in &TEXTS {
+        assert_eq!(rt; Name::read(text).is_some(), *is_name, "{text}");
+        assert_eq!(rt; Accession::read(text).is_some(), *is_accession, "{text}");
+        assert_eq!(rt; Matter::read(text).is_some(), *is_matter, "{text}");
     }
-    if let Some(accession) = Accession::read("A-1") {
-        assert_eq!(rt; accession.to_owned(rt.alloc())?.as_str(), "A-1");
-    }
-    if let Some(matter) = Matter::read("Case 7") {
-        assert_eq!(rt; matter.to_owned(rt.alloc())?.as_str(), "Case 7");
-    }
+}
+
+#[test]
+fn names_of_their_own(rt: HostRuntime) -> Result<(), Fail> {
+    let alloc = rt.alloc();
+    let name = Name::read("y-1_0.a").ok_or("name")?;
+    assert_eq!(rt; name.to_owned(alloc)?.as_str(), "y-1_0.a");
+    let accession = Accession::read("A-1").ok_or("accession")?;
+    assert_eq!(rt; accession.to_owned(alloc)?.as_str(), "A-1");
+    let matter = Matter::read("Case 7").ok_or("matter")?;
+    assert_eq!(rt; matter.to_owned(alloc)?.as_str(), "Case 7");
     Ok(())
 }
 
@@ -145,36 +163,35 @@ fn fault(alloc: Global, text: &str) -> Option<PolicyFault> {
     read_policy(alloc, text).err()
 }
 
+/// Texts, and the fault of each as a policy.
+static FAULTS: [(&str, Option<PolicyFault>); 9] = [
+    ("version = 1\n", None),
+    ("version = \n", Some(PolicyFault::NotToml)),
+    ("version = 3\n", Some(PolicyFault::BadVersion)),
+    ("", Some(PolicyFault::BadVersion)),
+    (
+        "version = 1\nnote = 1\nrule = 1\n",
+        Some(PolicyFault::UnknownKey),
+    ),
+    (
+        "version = 1\n[callers]\nanna = \"Clerk\"\n",
+        Some(PolicyFault::BadCaller),
+    ),
+    ("version = 1\ncallers = []\n", Some(PolicyFault::BadCaller)),
+    ("version = 1\nrule = [1]\n", Some(PolicyFault::BadRule(1))),
+    ("version = 1\nrule = {}\n", Some(PolicyFault::BadRule(0))),
+];
+
 #[test]
-fn policy_faults(rt: HostRuntime) -> Result<(), Fail> {
+fn policy_faults(rt: HostRuntime) {
+    for (text, found) in &FAULTS {
+        assert_eq!(rt; fault(rt.alloc(), text), *found, "{text}");
+    }
+}
+
+#[test]
+fn a_bad_rule_is_numbered(rt: HostRuntime) -> Result<(), Fail> {
     let alloc = rt.alloc();
-    assert_eq!(rt; fault(alloc, "version = 1\n"), None);
-    assert_eq!(rt; fault(alloc, "version = \n"), Some(PolicyFault::NotToml));
-    assert_eq!(rt;
-        fault(alloc, "version = 3\n"),
-        Some(PolicyFault::BadVersion)
-    );
-    assert_eq!(rt; fault(alloc, ""), Some(PolicyFault::BadVersion));
-    assert_eq!(rt;
-        fault(alloc, "version = 1\nnote = 1\nrule = 1\n"),
-        Some(PolicyFault::UnknownKey)
-    );
-    assert_eq!(rt;
-        fault(alloc, "version = 1\n[callers]\nanna = \"Clerk\"\n"),
-        Some(PolicyFault::BadCaller)
-    );
-    assert_eq!(rt;
-        fault(alloc, "version = 1\ncallers = []\n"),
-        Some(PolicyFault::BadCaller)
-    );
-    assert_eq!(rt;
-        fault(alloc, "version = 1\nrule = [1]\n"),
-        Some(PolicyFault::BadRule(1))
-    );
-    assert_eq!(rt;
-        fault(alloc, "version = 1\nrule = {}\n"),
-        Some(PolicyFault::BadRule(0))
-    );
     let second = format!(in alloc; "version = 1\n{RULE}[[rule]]\neffect = \"permit\"\n")?;
     let found = fault(alloc, second.as_str()).ok_or("fault")?;
     assert_eq!(rt; format!(in alloc; "{found}")?.as_str(), "Y5 2");

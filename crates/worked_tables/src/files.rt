@@ -1,7 +1,7 @@
 //! Files in memory, which can be told to stop, under a store with small caches.
 
 use sqlite::{Connection, Error, FileStore, Files, Options};
-use sqlite_disk::{Disk, Fuse, Memory};
+use sqlite_disk::{Crash, Disk, Fuse, Memory};
 use std::alloc::Global;
 use std::test::Fail;
 
@@ -53,6 +53,19 @@ pub fn open<D: Disk + Drop>(
         Ok(conn) => Ok(conn),
         Err((error, left)) => Err((error, left.into_files())),
     }
+}
+
+/// Whether the file has stopped.
+pub fn has_stopped<D: Disk>(file: &mut D) -> bool {
+    !file.may_be_used() || file.len().is_err()
+}
+
+/// Loses what was not synced; the files don't stop after that.
+pub fn lose(files: Disks) -> Disks {
+    let mut files = files;
+    files.log.crash();
+    files.db.crash();
+    files
 }
 
 /// Closes the files, and gives them back as they are left.

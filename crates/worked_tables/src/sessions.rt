@@ -37,16 +37,17 @@ fn take_once<D: Disk + Drop>(
     rows: &[Row<'_>],
 ) -> (Result<String, Fail>, Files<D>) {
     match open(alloc, files) {
-        Ok(mut conn) => {
-            let differs = differs(alloc, &mut conn, rows);
-            (differs, close(conn))
-        }
         Err((_, left)) => (not_opened(alloc), left),
+        Ok(mut conn) => match differs(alloc, &mut conn, rows) {
+            Ok(text) if text.is_empty() => (Ok(text), close(conn)),
+            said => (said, conn.into_store().close()),
+        },
     }
 }
 
 /// Opens the files, takes the steps in turn and closes the files, which are given back: the first row
-/// that is answered otherwise, with its answer, or that the files were not opened, or no text.
+/// that is answered otherwise, with its answer, or that the files were not opened, or no text. After
+/// a row that is answered otherwise the log isn't copied into the database file.
 pub fn take_over(alloc: Global, files: Disks, rows: &[Row<'_>]) -> (Result<String, Fail>, Disks) {
     take_once(alloc, files, rows)
 }

@@ -1,7 +1,7 @@
-//! A stop at each call of the disk while an office is made.
+//! A stop of both files at any of their calls, while an office is made and the files are closed.
 
 use crate::answers::Read;
-use crate::files::{Disks, MANY, copied, empty};
+use crate::files::{Disks, copied, empty, has_stopped, lose};
 use crate::sessions::{Row, take, take_over};
 use crate::steps::Step;
 use std::alloc::Global;
@@ -29,16 +29,6 @@ static EMPTY: [Row; 2] = [
     (Step::Show("SELECT name FROM sqlite_schema"), ""),
 ];
 
-/// Makes an office in empty files, which stop after so many calls: whether it was made, and what the
-/// files hold then.
-fn stopped(alloc: Global, log_calls: u64, db_calls: u64) -> Result<(bool, Disks), Fail> {
-    let (differs, left) = take_over(alloc, empty(alloc, log_calls, db_calls), &MADE);
-    match differs {
-        Ok(differs) => Ok((differs.is_empty(), copied(alloc, &left)?)),
-        Err(fail) => Err(fail),
-    }
-}
-
 /// Whether the files hold an office, which is then the whole empty office; else they hold an empty
 /// database.
 fn hold_office(alloc: Global, files: Disks) -> Result<bool, Fail> {
@@ -49,35 +39,54 @@ fn hold_office(alloc: Global, files: Disks) -> Result<bool, Fail> {
     Ok(is_office)
 }
 
-/// Stops one of the files at its first call, then at its second, and so on, until the office is made
-/// with no stop: at how many.
-fn each_stop(alloc: Global, in_log: bool) -> Result<u64, Fail> {
-    for calls in 0..5_000 {
-        let (log_calls, db_calls) = if in_log { (calls, MANY) } else { (MANY, calls) };
-        let (is_made, left) = stopped(alloc, log_calls, db_calls)?;
-        let is_there = hold_office(alloc, left)?;
-        if is_made && !is_there {
-            Err("an office that was made is lost")?;
-        }
-        if is_made {
-            return Ok(calls);
+/// Makes an office in empty files, which stop after so many calls, and closes them: whether the log
+/// and the database file have stopped. Fails where an office that was made is lost, with all that was
+/// written or with what was synced alone.
+fn stop(alloc: Global, log_calls: u64, db_calls: u64) -> Result<(bool, bool), Fail> {
+    let (differs, left) = take_over(alloc, empty(alloc, log_calls, db_calls), &MADE);
+    let is_made = differs?.is_empty();
+    let mut left = left;
+    let stopped = (has_stopped(&mut left.log), has_stopped(&mut left.db));
+    let is_written = hold_office(alloc, copied(alloc, &left)?)?;
+    let is_synced = hold_office(alloc, lose(left))?;
+    if is_made && !(is_written && is_synced) {
+        Err("an office that was made is lost")?;
+    }
+    Ok(stopped)
+}
+
+/// Stops the log after so many calls, and the database file at its first call, then at its second,
+/// and so on, until it doesn't stop: whether the log has stopped then, and at how many calls the
+/// database file was stopped.
+fn stops_of_database(alloc: Global, log_calls: u64) -> Result<(bool, u64), Fail> {
+    for db_calls in 0..1_000 {
+        let (log_stopped, db_stopped) = stop(alloc, log_calls, db_calls)?;
+        if !db_stopped {
+            return Ok((log_stopped, db_calls));
         }
     }
-    Err("no run without a stop")?
+    Err("no run without a stop of the database file")?
+}
+
+/// Does so with the log stopped at its first call, then at its second, and so on, until it doesn't
+/// stop: how many stops there are in all.
+fn stops(alloc: Global) -> Result<u64, Fail> {
+    let mut count = 0u64;
+    for log_calls in 0..1_000 {
+        let (log_stopped, db_calls) = stops_of_database(alloc, log_calls)?;
+        count = db_calls.saturating_add(count);
+        if !log_stopped {
+            return Ok(count);
+        }
+        count = count.saturating_add(1);
+    }
+    Err("no run without a stop of the log")?
 }
 
 #[test]
-fn the_log_stops(rt: HostRuntime) -> Result<(), Fail> {
-    let stops = each_stop(rt.alloc(), true)?;
-    println!(rt; "{stops} calls of the log")?;
-    assert!(rt; stops > 10);
-    Ok(())
-}
-
-#[test]
-fn the_database_file_stops(rt: HostRuntime) -> Result<(), Fail> {
-    let stops = each_stop(rt.alloc(), false)?;
-    println!(rt; "{stops} calls of the database file")?;
-    assert!(rt; stops > 10);
+fn each_stop_leaves_an_office_or_none(rt: HostRuntime) -> Result<(), Fail> {
+    let count = stops(rt.alloc())?;
+    println!(rt; "{count} stops")?;
+    assert!(rt; count > 100);
     Ok(())
 }
