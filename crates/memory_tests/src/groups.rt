@@ -2,7 +2,7 @@
 
 use crate::outcome::Outcome;
 use crate::{calls, lines, offices, tables};
-use office_engine::plain::Office;
+use office_history::plain::Office;
 use sqlite::{Connection, MemStore};
 use std::io;
 use worked_bags::{

@@ -4,8 +4,8 @@ use crate::outcome::Outcome;
 use office_core::{
     Accession, Answer, Day, Limits, Matter, Name, PolicyFault, Refusal, Request, Years, read_policy,
 };
-use office_engine::Stock;
-use office_engine::plain::{Office, create, install, run, step, stock};
+use office_history::Stock;
+use office_history::plain::{Office, create, install, run, step, stock};
 use std::alloc::{AllocError, Global};
 use worked_bags::{BAG, POLICY};
 

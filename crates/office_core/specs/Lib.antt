@@ -9,3 +9,4 @@ pub mod Verdicts
 pub mod FaultTexts
 pub mod Policies
 pub mod PolicyReading
+pub mod Requests

@@ -26,7 +26,7 @@ use Rattle.sql_meaning.proofs.TextKeys.{has_text, by_text, each_passes, few_name
 use Rattle.sql_meaning.proofs.Typed.{text_at, int_in, all_both}
 use Rattle.sql_meaning.proofs.Edits.{appended, updated, decoded, counted, cast_null, cast_int, map_append, none_revised}
 use Rattle.office_tables.specs.Schema.{office_schema, class_table, needed}
-use Rattle.office_tables.specs.Rows.{Tables, ClassRow, is_class, class_named, with_years, with_new_class, with_class}
+use Rattle.office_rows.specs.Rows.{Tables, ClassRow, is_class, class_named, with_years, with_new_class, with_class}
 use Rattle.office_tables.specs.Tables.{IsOffice, Becomes, tables_of, class_in}
 use Rattle.office_tables.proofs.Frames.{idle, becomes_classes}
 use Rattle.office_tables.proofs.ClassTexts.{years_text, years_columns, asks_years, revise_text, revised_columns, revise_is, revise_plain, add_class_text, class_terms, add_class_is, add_class_plain}

@@ -21,7 +21,7 @@ use Rattle.sql_meaning.proofs.TextKeys.{has_text, by_text, each_passes, few_name
 use Rattle.sql_meaning.proofs.Typed.{text_at, all_both}
 use Rattle.sql_meaning.proofs.Edits.{appended, cast_null, map_append}
 use Rattle.office_tables.specs.Schema.{office_schema, collection_table, needed}
-use Rattle.office_tables.specs.Rows.{has_collection, is_collection, with_new_collection}
+use Rattle.office_rows.specs.Rows.{has_collection, is_collection, with_new_collection}
 use Rattle.office_tables.specs.Tables.{IsOffice, Becomes, tables_of, collection_in}
 use Rattle.office_tables.proofs.Frames.{idle, becomes_collections}
 use Rattle.office_tables.proofs.ClassTexts.{find_text, name_column, asks_collection, add_collection_text, collection_terms, add_collection_is, add_collection_plain}

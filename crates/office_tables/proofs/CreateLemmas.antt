@@ -13,7 +13,7 @@ use Rattle.sql_meaning.proofs.Writing.{inserts}
 use Rattle.sql_meaning.proofs.Whole.{blank_shaped}
 use Rattle.sql_meaning.proofs.Edits.{inserted, cast_null, cast_int}
 use Rattle.office_tables.specs.Schema.{office_schema, office_table}
-use Rattle.office_tables.specs.Rows.{OfficeRow, Tables, empty_office}
+use Rattle.office_rows.specs.Rows.{OfficeRow, Tables, empty_office}
 use Rattle.office_tables.specs.Opening.{IsMade, IsLeft}
 use Rattle.office_tables.specs.Tables.{Becomes, tables_of, office_in}
 use Rattle.office_tables.proofs.Frames.{idle, becomes_office}

@@ -28,7 +28,7 @@ use Rattle.sql_meaning.proofs.RowidKeys.{by_number, has_number, each_numbered, f
 use Rattle.sql_meaning.proofs.Typed.{text_at, int_in, all_both}
 use Rattle.sql_meaning.proofs.Edits.{kept_all, inserted, put_last, updated, decoded, cast_null, cast_int, map_append}
 use Rattle.office_tables.specs.Schema.{office_schema, deposit_table, needed}
-use Rattle.office_tables.specs.Rows.{DepositRow, is_deposit, deposit_numbered, has_accession, deposit_by, last_number, DepositsBelow, with_deposit, with_gone}
+use Rattle.office_rows.specs.Rows.{DepositRow, is_deposit, deposit_numbered, has_accession, deposit_by, last_number, DepositsBelow, with_deposit, with_gone}
 use Rattle.office_tables.specs.Tables.{IsOffice, Becomes, tables_of, deposit_in}
 use Rattle.office_tables.specs.Deposits.{shown_deposit}
 use Rattle.office_tables.proofs.Frames.{idle, becomes_deposits}

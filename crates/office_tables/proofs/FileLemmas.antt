@@ -46,7 +46,7 @@ use Rattle.sql_meaning.proofs.Keys.{found_by, bytes_itself, int_itself, filter_s
 use Rattle.sql_meaning.proofs.Typed.{text_at, int_in, all_both}
 use Rattle.sql_meaning.proofs.Edits.{appended, deleted, cast_null, cast_int, map_append}
 use Rattle.office_tables.specs.Schema.{office_schema, file_table, needed}
-use Rattle.office_tables.specs.Rows.{FileRow, is_file_of, is_file_at, file_at, with_file, without_files}
+use Rattle.office_rows.specs.Rows.{FileRow, is_file_of, is_file_at, file_at, with_file, without_files}
 use Rattle.office_tables.specs.Tables.{IsOffice, Becomes, tables_of, file_in}
 use Rattle.office_tables.specs.Deposits.{shown_file, path_cmp, files_by_path}
 use Rattle.office_tables.proofs.Frames.{idle, becomes_files}

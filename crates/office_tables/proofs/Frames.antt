@@ -11,7 +11,7 @@ use Rattle.sql_meaning.specs.Whole.{AreShaped}
 use Rattle.sql_meaning.proofs.Writing.{Changes, IsIdle}
 use Rattle.sql_meaning.proofs.Whole.{whole_after}
 use Rattle.office_tables.specs.Schema.{office_schema, office_table, caller_table, rule_table, class_table, collection_table, deposit_table, file_table, hold_table}
-use Rattle.office_tables.specs.Rows.{OfficeRow, CallerRow, RuleRow, ClassRow, DepositRow, FileRow, HoldRow}
+use Rattle.office_rows.specs.Rows.{OfficeRow, CallerRow, RuleRow, ClassRow, DepositRow, FileRow, HoldRow}
 use Rattle.office_tables.specs.Tables.{Becomes, tables_of, office_in, caller_in, rule_in, class_in, collection_in, deposit_in, file_in, hold_in}
 
 -- no reference of the schema acts

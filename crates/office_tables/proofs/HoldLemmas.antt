@@ -45,7 +45,7 @@ use Rattle.sql_meaning.proofs.RowidKeys.{by_number, has_number, each_numbered, f
 use Rattle.sql_meaning.proofs.Typed.{text_at, int_in, maybe_int_at as some_int_at, maybe_text_at as some_text_at, all_both}
 use Rattle.sql_meaning.proofs.Edits.{inserted, put_last, updated, decoded, cast_null, cast_int, map_append}
 use Rattle.office_tables.specs.Schema.{office_schema, hold_table, needed, optional}
-use Rattle.office_tables.specs.Rows.{HoldRow, HoldsBelow, is_hold, hold_numbered, last_number, with_hold, with_released, is_live, holds_deposit, holds_collection, is_live_on, is_live_within, is_live_over, live_holds}
+use Rattle.office_rows.specs.Rows.{HoldRow, HoldsBelow, is_hold, hold_numbered, last_number, with_hold, with_released, is_live, holds_deposit, holds_collection, is_live_on, is_live_within, is_live_over, live_holds}
 use Rattle.office_tables.specs.Tables.{IsOffice, Becomes, tables_of, hold_in}
 use Rattle.office_tables.specs.ShownHolds.{shown_hold}
 use Rattle.office_tables.proofs.Frames.{idle, becomes_holds}

@@ -23,7 +23,7 @@ use Rattle.sqlite_keyed.proofs.SortLemmas.{sorted_unique}
 use Rattle.sql_meaning.specs.Columns.{int_at}
 use Rattle.sql_meaning.proofs.Scanning.{scan, as_program, passes, scanned, shown_same}
 use Rattle.sql_meaning.proofs.Edits.{kept_all}
-use Rattle.office_tables.specs.Rows.{last_number}
+use Rattle.office_rows.specs.Rows.{last_number}
 
 abbrev falling : List (Term × Key)
 falling = (col 1 0, record { collation = Binary; descending = true }) ∷ []

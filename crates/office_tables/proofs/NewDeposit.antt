@@ -22,7 +22,7 @@ use Rattle.sql_meaning.proofs.TextKeys.{IsText, has_text, one_named, any_parent}
 use Rattle.sql_meaning.proofs.RowidKeys.{has_number, one_numbered}
 use Rattle.sql_meaning.proofs.Edits.{any_mapped, cast_null, cast_int}
 use Rattle.office_tables.specs.Schema.{office_schema, deposit_table}
-use Rattle.office_tables.specs.Rows.{DepositRow, is_deposit, deposit_numbered, has_accession, deposit_by, is_class, has_class, is_collection, has_collection}
+use Rattle.office_rows.specs.Rows.{DepositRow, is_deposit, deposit_numbered, has_accession, deposit_by, is_class, has_class, is_collection, has_collection}
 use Rattle.office_tables.specs.Tables.{IsOffice, Becomes, tables_of, deposit_in, class_in, collection_in}
 use Rattle.office_tables.specs.Deposits.{IsAdded}
 use Rattle.office_tables.proofs.Frames.{idle, becomes_deposits}

@@ -10,7 +10,7 @@ use Rattle.sql_meaning.proofs.Scanning.{shown_of}
 use Rattle.sql_meaning.proofs.Reading.{Asks, reads_same, reads_one, finds_part}
 use Rattle.sql_meaning.proofs.RowidKeys.{by_number, has_number, each_numbered, few_numbered}
 use Rattle.office_tables.specs.Schema.{office_schema}
-use Rattle.office_tables.specs.Rows.{is_office_row, limits_in, limits_of}
+use Rattle.office_rows.specs.Rows.{is_office_row, limits_in, limits_of}
 use Rattle.office_tables.specs.Tables.{IsOffice, tables_of, office_in, shown_limits}
 
 abbrev pub limits_text : List ℕ

@@ -33,7 +33,7 @@ use Rattle.sql_meaning.proofs.Reading.{Asks}
 use Rattle.sql_meaning.proofs.Scanning.{scan, as_program, passes, shown_of, Scans, scanned, answer_sound, answer_complete}
 use Rattle.sql_meaning.proofs.Typed.{both, int_in, all_both}
 use Rattle.office_tables.specs.Schema.{office_schema, office_table, needed}
-use Rattle.office_tables.specs.Rows.{OfficeRow, is_in_range, is_known, version_of}
+use Rattle.office_rows.specs.Rows.{OfficeRow, is_in_range, is_known, version_of}
 use Rattle.office_tables.specs.Tables.{IsOffice, tables_of, office_in}
 use Rattle.office_tables.proofs.Looking.{all_passed_over, known_there}
 use Rattle.office_tables.specs.Opening.{has_office, look_text, Looks, ShowsVersion, shows_office, is_one, is_limit, is_int as is_whole}

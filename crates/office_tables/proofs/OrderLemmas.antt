@@ -11,7 +11,7 @@ use Rattle.sqlite_trees.specs.declared.store.Shape.TheVariants as shape
 use Rattle.sqlite_value.proofs.OrderLemmas.{value_cmp-Int}
 use Rattle.sqlite_rules.proofs.TableLemmas.{int_is}
 use Rattle.sql_meaning.specs.Columns.{int_at}
-use Rattle.office_tables.specs.Rows.{NumbersRise, AreInOrder, last_number, live_holds}
+use Rattle.office_rows.specs.Rows.{NumbersRise, AreInOrder, last_number, live_holds}
 use Rattle.office_tables.specs.Tables.{IsOffice, tables_of, deposit_in, hold_in, rule_in}
 use Rattle.office_tables.proofs.HoldLemmas.{live_rise}
 

@@ -30,7 +30,7 @@ use Rattle.sql_meaning.proofs.TextKeys.{has_text, by_text, each_passes, few_name
 use Rattle.sql_meaning.proofs.Typed.{text_at, all_both}
 use Rattle.sql_meaning.proofs.Edits.{appended, inserted, put_last, deleted, kept_all, cast_null, cast_int, map_append}
 use Rattle.office_tables.specs.Schema.{office_schema, caller_table, rule_table, needed}
-use Rattle.office_tables.specs.Rows.{Tables, CallerRow, RuleRow, is_caller, caller_named, RulesBelow, RulesFollow, PlacesRise, with_caller, with_rule, with_callers, with_rules, without_callers, without_rules, with_policy}
+use Rattle.office_rows.specs.Rows.{Tables, CallerRow, RuleRow, is_caller, caller_named, RulesBelow, RulesFollow, PlacesRise, with_caller, with_rule, with_callers, with_rules, without_callers, without_rules, with_policy}
 use Rattle.office_tables.specs.Tables.{IsOffice, Becomes, tables_of, caller_in, rule_in}
 use Rattle.office_tables.specs.ShownPolicy.{shown_rule}
 use Rattle.office_tables.proofs.Frames.{idle, becomes_callers, becomes_rules}

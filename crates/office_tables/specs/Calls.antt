@@ -2,7 +2,7 @@
 -- and the database was an office's: both are premises. What is said is said of Ok.
 use Rattle.std.specs.Prelude.{Result, IfOk, OnOk, ◌≡◌}
 use Rattle.sqlite.specs.State.{State, HasCleanDisk}
-use Rattle.office_tables.specs.Rows.{Tables}
+use Rattle.office_rows.specs.Rows.{Tables}
 use Rattle.office_tables.specs.Tables.{IsOffice, Becomes, tables_of}
 
 -- no row has changed

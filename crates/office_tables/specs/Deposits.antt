@@ -7,7 +7,7 @@ use Rattle.sqlite.specs.Order.{Row}
 use Rattle.sqlite.specs.Effect.{Database}
 use Rattle.sqlite_keyed.specs.Lists.{sort_by}
 use Rattle.sql_meaning.specs.Columns.{int_at, bytes_at, maybe_int_at}
-use Rattle.office_tables.specs.Rows.{DepositRow, FileRow, Tables, files_of, DepositsBelow, with_deposit, deposit_numbered, deposit_by, has_collection, has_class}
+use Rattle.office_rows.specs.Rows.{DepositRow, FileRow, Tables, files_of, DepositsBelow, with_deposit, deposit_numbered, deposit_by, has_collection, has_class}
 use Rattle.office_tables.specs.Tables.{Becomes, tables_of}
 
 abbrev pub shown_deposit : Row → DepositRow

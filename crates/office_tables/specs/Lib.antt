@@ -1,5 +1,4 @@
 pub mod Faults
-pub mod Rows
 pub mod Schema
 pub mod Tables
 pub mod Calls

@@ -11,7 +11,7 @@ use Rattle.sqlite.specs.Effect.{Database, Reads}
 use Rattle.sqlite.specs.State.{State}
 use Rattle.sqlite_schema.specs.Names.{table_named, column_named}
 use Rattle.sqlite_resolve.specs.declared.compiled.Compiled.{Compiled}
-use Rattle.office_tables.specs.Rows.{Tables, version_of}
+use Rattle.office_rows.specs.Rows.{Tables, version_of}
 use Rattle.office_tables.specs.Tables.{Becomes}
 
 -- ---- what is left

@@ -1,7 +1,7 @@
 -- The row that a query on holds shows.
 use Rattle.sqlite.specs.Order.{Row}
 use Rattle.sql_meaning.specs.Columns.{int_at, bytes_at, maybe_int_at, maybe_bytes_at}
-use Rattle.office_tables.specs.Rows.{HoldRow}
+use Rattle.office_rows.specs.Rows.{HoldRow}
 
 abbrev pub shown_hold : Row → HoldRow
 shown_hold row = record {

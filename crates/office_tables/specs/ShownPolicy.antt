@@ -1,7 +1,7 @@
 -- The rows that queries on callers and rules show.
 use Rattle.sqlite.specs.Order.{Row}
 use Rattle.sql_meaning.specs.Columns.{int_at, bytes_at}
-use Rattle.office_tables.specs.Rows.{RuleRow}
+use Rattle.office_rows.specs.Rows.{RuleRow}
 
 abbrev pub shown_rule : Row → RuleRow
 shown_rule row = record {

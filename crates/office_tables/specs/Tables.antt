@@ -5,7 +5,7 @@ use Rattle.sqlite.specs.Effect.{Database}
 use Rattle.sql_meaning.specs.Columns.{int_at, bytes_at, maybe_int_at, maybe_bytes_at}
 use Rattle.sql_meaning.specs.Whole.{IsWhole}
 use Rattle.office_tables.specs.Schema.{office_schema}
-use Rattle.office_tables.specs.Rows.{OfficeRow, Limits, CallerRow, RuleRow, ClassRow, DepositRow, FileRow, HoldRow, Tables}
+use Rattle.office_rows.specs.Rows.{OfficeRow, Limits, CallerRow, RuleRow, ClassRow, DepositRow, FileRow, HoldRow, Tables}
 
 -- ---- a stored row; its first value is the rowid, which is the key of a table whose key is a whole number
 

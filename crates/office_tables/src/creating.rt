@@ -10,7 +10,7 @@ ghost use Rattle.sql_meaning.specs.Making.{Builds};
 ghost use Rattle.sql_meaning.specs.Whole.{IsBlank};
 ghost use Rattle.office_tables.specs.Faults.{IsFailure};
 ghost use Rattle.office_tables.specs.Schema.{no_schema, office_schema};
-ghost use Rattle.office_tables.specs.Rows.{this_version, empty_office};
+ghost use Rattle.office_rows.specs.Rows.{this_version, empty_office};
 ghost use Rattle.office_tables.specs.Tables.{Becomes};
 ghost use Rattle.office_tables.specs.Opening.{IsKept, IsMade, IsLeft};
 

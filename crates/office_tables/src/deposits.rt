@@ -6,7 +6,7 @@ ghost use Rattle.sqlite.specs.Held.{state};
 ghost use Rattle.sql_meaning.specs.Inside.{Stays, GoesOn};
 ghost use Rattle.sql_meaning.specs.Columns.{int_at};
 ghost use Rattle.office_tables.specs.Faults.{IsFailure};
-ghost use Rattle.office_tables.specs.Rows.{deposit_numbered, deposit_by, has_class, has_collection, last_number, DepositsBelow, with_deposit, with_gone};
+ghost use Rattle.office_rows.specs.Rows.{deposit_numbered, deposit_by, has_class, has_collection, last_number, DepositsBelow, with_deposit, with_gone};
 ghost use Rattle.office_tables.specs.Tables.{IsOffice};
 ghost use Rattle.office_tables.specs.Calls.{Keeps, Tells, Shows, Leaves, LeavesWhere};
 ghost use Rattle.office_tables.specs.Deposits.{shown_deposit, IsAdded};
@@ -39,7 +39,7 @@ pub struct DepositRow {
 impl Model for DepositRow {
     ghost use Rattle.std.specs.Prelude.{List, ℕ, ℤ, Option, string_bytes, refl, pos};
     ghost use Rattle.std.specs.Coded.{code_by, coded×, coded_list, coded_option, coded_ℕ, coded_ℤ};
-    ghost use Rattle.office_tables.specs.Rows.{DepositRow as Deposit};
+    ghost use Rattle.office_rows.specs.Rows.{DepositRow as Deposit};
 
     ghost Value = { Deposit };
 

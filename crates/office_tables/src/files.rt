@@ -6,7 +6,7 @@ ghost use Rattle.sqlite.specs.Held.{state};
 ghost use Rattle.sql_meaning.specs.Inside.{Stays, GoesOn};
 ghost use Rattle.sql_meaning.specs.Columns.{bytes_at};
 ghost use Rattle.office_tables.specs.Faults.{IsFailure};
-ghost use Rattle.office_tables.specs.Rows.{file_at, with_file, without_files};
+ghost use Rattle.office_rows.specs.Rows.{file_at, with_file, without_files};
 ghost use Rattle.office_tables.specs.Calls.{Keeps, Tells, Shows, Leaves};
 ghost use Rattle.office_tables.specs.Deposits.{shown_file, files_by_path};
 
@@ -28,7 +28,7 @@ pub struct FileRow {
 impl Model for FileRow {
     ghost use Rattle.std.specs.Prelude.{List, ℕ, ℤ, string_bytes, refl, pos};
     ghost use Rattle.std.specs.Coded.{code_by, coded×, coded_list, coded_ℕ, coded_ℤ};
-    ghost use Rattle.office_tables.specs.Rows.{FileRow as File};
+    ghost use Rattle.office_rows.specs.Rows.{FileRow as File};
 
     ghost Value = { File };
 

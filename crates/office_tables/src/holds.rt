@@ -6,7 +6,7 @@ ghost use Rattle.sqlite.specs.Held.{state};
 ghost use Rattle.sql_meaning.specs.Inside.{Stays, GoesOn};
 ghost use Rattle.sql_meaning.specs.Columns.{int_at};
 ghost use Rattle.office_tables.specs.Faults.{IsFailure};
-ghost use Rattle.office_tables.specs.Rows.{hold_numbered, last_number, with_hold, with_released, live_holds, is_live_on, is_live_within, HoldsBelow};
+ghost use Rattle.office_rows.specs.Rows.{hold_numbered, last_number, with_hold, with_released, live_holds, is_live_on, is_live_within, HoldsBelow};
 ghost use Rattle.office_tables.specs.Calls.{Keeps, Tells, Shows, Leaves, LeavesWhere};
 ghost use Rattle.office_tables.specs.ShownHolds.{shown_hold};
 
@@ -34,7 +34,7 @@ pub struct HoldRow {
 impl Model for HoldRow {
     ghost use Rattle.std.specs.Prelude.{List, ℕ, ℤ, Option, option_map, string_bytes, refl, pos};
     ghost use Rattle.std.specs.Coded.{code_by, coded×, coded_list, coded_option, coded_ℕ, coded_ℤ};
-    ghost use Rattle.office_tables.specs.Rows.{HoldRow as Hold};
+    ghost use Rattle.office_rows.specs.Rows.{HoldRow as Hold};
 
     ghost Value = { Hold };
 

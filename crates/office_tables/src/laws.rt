@@ -4,7 +4,7 @@ ghost use Rattle.std.specs.Prelude.{◌≡◌, ℕ, ℤ, List, Some, None};
 ghost use Rattle.std.specs.Ordering.{int_cmp};
 ghost use Rattle.std.specs.declared.cmp.Ordering.TheVariants.{Less};
 ghost use Rattle.sqlite.specs.Effect.{Database};
-ghost use Rattle.office_tables.specs.Rows.{Tables, AreInOrder, NumbersRise, live_holds, last_number, DepositsBelow, HoldsBelow};
+ghost use Rattle.office_rows.specs.Rows.{Tables, AreInOrder, NumbersRise, live_holds, last_number, DepositsBelow, HoldsBelow};
 ghost use Rattle.office_tables.specs.Tables.{IsOffice, tables_of};
 
 /// In an office the numbers of deposits, those of holds and the places of rules rise from row to row, so none comes twice.

@@ -7,7 +7,7 @@ ghost use Rattle.sqlite.specs.Order.{Row as SqlRow, column};
 ghost use Rattle.sqlite.specs.declared.types.Value.TheVariants.{Int};
 ghost use Rattle.sql_meaning.specs.Inside.{Stays, GoesOn};
 ghost use Rattle.office_tables.specs.Faults.{IsFailure};
-ghost use Rattle.office_tables.specs.Rows.{this_version, limits_of, version_of};
+ghost use Rattle.office_rows.specs.Rows.{this_version, limits_of, version_of};
 ghost use Rattle.office_tables.specs.Calls.{Keeps, Tells, Shows};
 ghost use Rattle.office_tables.specs.Tables.{IsOffice, tables_of, shown_limits};
 ghost use Rattle.office_tables.specs.Opening.{shows_office, known_row, ShowsVersion, has_office, HasVersion, HasOtherVersion, IsKnownAsOther, NotAnOffice, IsKept};

@@ -6,7 +6,7 @@ ghost use Rattle.sqlite.specs.Held.{state};
 ghost use Rattle.sql_meaning.specs.Inside.{Stays, GoesOn, Stands};
 ghost use Rattle.sql_meaning.specs.Columns.{bytes_at};
 ghost use Rattle.office_tables.specs.Faults.{IsFailure};
-ghost use Rattle.office_tables.specs.Rows.{caller_named, without_callers, without_rules, with_caller, with_rule, with_callers, with_rules, with_policy, RulesBelow, RulesFollow, PlacesRise};
+ghost use Rattle.office_rows.specs.Rows.{caller_named, without_callers, without_rules, with_caller, with_rule, with_callers, with_rules, with_policy, RulesBelow, RulesFollow, PlacesRise};
 ghost use Rattle.office_tables.specs.Calls.{Keeps, Tells, Shows, Leaves, LeavesWhere};
 ghost use Rattle.office_tables.specs.ShownPolicy.{shown_rule};
 
@@ -26,7 +26,7 @@ pub struct CallerRow {
 impl Model for CallerRow {
     ghost use Rattle.std.specs.Prelude.{List, ℕ, string_bytes, refl};
     ghost use Rattle.std.specs.Coded.{code_by, coded×, coded_list, coded_ℕ};
-    ghost use Rattle.office_tables.specs.Rows.{CallerRow as Caller};
+    ghost use Rattle.office_rows.specs.Rows.{CallerRow as Caller};
 
     ghost Value = { Caller };
 
@@ -51,7 +51,7 @@ pub struct RuleRow {
 impl Model for RuleRow {
     ghost use Rattle.std.specs.Prelude.{List, ℕ, ℤ, string_bytes, refl};
     ghost use Rattle.std.specs.Coded.{code_by, coded×, coded_list, coded_ℕ, coded_ℤ};
-    ghost use Rattle.office_tables.specs.Rows.{RuleRow as Rule};
+    ghost use Rattle.office_rows.specs.Rows.{RuleRow as Rule};
 
     ghost Value = { Rule };
 

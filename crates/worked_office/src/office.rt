@@ -3,8 +3,8 @@
 use crate::asked::Asked;
 use crate::words::words;
 use office_core::{Day, Limits, read_policy};
-use office_engine::Stock;
-use office_engine::plain::{Office, create, install, run, step, stock};
+use office_history::Stock;
+use office_history::plain::{Office, create, install, run, step, stock};
 use std::alloc::Global;
 use std::test::*;
 

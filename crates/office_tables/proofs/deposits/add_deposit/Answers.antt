@@ -2,7 +2,7 @@ use Rattle.std.proofs.Common.{None, pos, refl, w64}
 use Rattle.std.proofs.lemmas.Int.{to_z-of_z}
 use Rattle.sqlite.specs.Held.{state}
 use Rattle.sql_meaning.proofs.Results.{on_ok}
-use Rattle.office_tables.specs.Rows.{DepositRow}
+use Rattle.office_rows.specs.Rows.{DepositRow}
 use Rattle.office_tables.proofs.NewDeposit.{is_added}
 use Rattle.office_tables.proofs.deposits.add_deposit.Goals as goal
 

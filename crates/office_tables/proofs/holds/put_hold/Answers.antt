@@ -1,7 +1,7 @@
 use Rattle.std.proofs.Common.{ℕ, ℤ, pos, w64, refl, List, Option, None, option_map, Bor}
 use Rattle.std.proofs.lemmas.Int.{to_z-of_z}
 use Rattle.sqlite.specs.Held.{state}
-use Rattle.office_tables.specs.Rows.{HoldRow}
+use Rattle.office_rows.specs.Rows.{HoldRow}
 use Rattle.office_tables.proofs.HoldLemmas.{puts_hold, hold_was_new, bound_number, bound_text}
 use Rattle.office_tables.proofs.holds.put_hold.Goals as goal
 

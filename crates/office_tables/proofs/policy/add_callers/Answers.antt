@@ -2,7 +2,7 @@ use Rattle.std.proofs.Common.{arith, rules, subst}
 use Rattle.sqlite.specs.State.{HasCleanDisk}
 use Rattle.sqlite.specs.Held.{state}
 use Rattle.sql_meaning.proofs.Inside.{stays_on}
-use Rattle.office_tables.specs.Rows.{CallerRow, with_caller}
+use Rattle.office_rows.specs.Rows.{CallerRow, with_caller}
 use Rattle.office_tables.specs.Tables.{Becomes, tables_of}
 use Rattle.office_tables.proofs.PolicyLemmas.{next_caller}
 use Rattle.office_tables.proofs.policy.add_callers.Goals as goal

@@ -2,7 +2,7 @@ use Rattle.std.proofs.Common.{w64}
 use Rattle.std.proofs.lemmas.Int.{to_z-of_z}
 use Rattle.sqlite.specs.Held.{state}
 use Rattle.sql_meaning.proofs.Results.{on_ok}
-use Rattle.office_tables.specs.Rows.{RuleRow}
+use Rattle.office_rows.specs.Rows.{RuleRow}
 use Rattle.office_tables.proofs.PolicyLemmas.{adds_rule}
 use Rattle.office_tables.proofs.policy.add_rule.Goals as goal
 

@@ -3,7 +3,7 @@ use Rattle.std.proofs.lemmas.Int.{to_z-of_z}
 use Rattle.sqlite.specs.State.{HasCleanDisk}
 use Rattle.sqlite.specs.Held.{state}
 use Rattle.sql_meaning.proofs.Inside.{stays_on}
-use Rattle.office_tables.specs.Rows.{RuleRow, RulesBelow, with_rule}
+use Rattle.office_rows.specs.Rows.{RuleRow, RulesBelow, with_rule}
 use Rattle.office_tables.specs.Tables.{Becomes, tables_of}
 use Rattle.office_tables.proofs.PolicyLemmas.{next_rule, next_follows}
 use Rattle.office_tables.proofs.policy.add_rules.Goals as goal

@@ -2,7 +2,7 @@ use Rattle.std.proofs.Common.{◌≡◌, drop}
 use Rattle.sqlite.specs.State.{HasCleanDisk}
 use Rattle.sqlite.specs.Held.{state}
 use Rattle.sql_meaning.specs.Inside.{Stays, Stands}
-use Rattle.office_tables.specs.Rows.{with_rules, RulesFollow}
+use Rattle.office_rows.specs.Rows.{with_rules, RulesFollow}
 use Rattle.office_tables.specs.Tables.{IsOffice, tables_of}
 use Rattle.office_tables.proofs.policy.add_rules.Given as goal
 

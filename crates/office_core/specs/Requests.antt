@@ -1,0 +1,20 @@
+-- Which requests there are: a request that is a value of the type asks only for these.
+use Rattle.std.specs.Prelude.{ℕ, ◌≤◌, List, Option, IfSome}
+use Rattle.office_core.specs.Days.{IsDay}
+use Rattle.office_core.specs.Names.{IsName, IsAccession, IsMatter}
+use Rattle.office_core.specs.declared.request.Request.{Request}
+use Rattle.office_core.specs.declared.request.Request.TheVariants.{DefineClass, DefineCollection, Deposit, List as ListDeposits, HoldDeposit, HoldCollection}
+
+-- 0 to 200 years, or for good
+abbrev pub IsYears : Option ℕ → Type 0
+IsYears years = IfSome years (λ count. count ≤ 200)
+
+-- its names are names, its accession an accession and its matter a matter; its years and its closing day are in their ranges
+abbrev pub IsRequest : Request → Type 0
+IsRequest (DefineClass name years) = IsName name × IsYears years
+IsRequest (DefineCollection name) = IsName name
+IsRequest (Deposit collection class accession closed bag) = IsName collection × IsName class × IsAccession accession × IsDay closed
+IsRequest (ListDeposits collection class) = IfSome collection IsName × IfSome class IsName
+IsRequest (HoldDeposit deposit matter) = IsMatter matter
+IsRequest (HoldCollection collection matter) = IsName collection × IsMatter matter
+IsRequest _ = Unit {0}

@@ -1,5 +1,0 @@
-use Rattle.office_engine.proofs.LegalLemmas.{run_legal}
-use Rattle.office_engine.proofs.laws.runs_stay_legal.Goals as goal
-
-pub returns : goal.returns
-returns c = λ h next items given legal r. run_legal items given h next legal r

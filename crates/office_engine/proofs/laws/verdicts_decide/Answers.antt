@@ -1,8 +1,0 @@
-use Rattle.office_engine.proofs.VerdictLemmas.{asked_verdict, disposal_verdict}
-use Rattle.office_engine.proofs.laws.verdicts_decide.Goals as goal
-
-pub returns-clause-asked : goal.returns-clause-asked
-returns-clause-asked c = asked_verdict
-
-pub returns-clause-disposal : goal.returns-clause-disposal
-returns-clause-disposal c = disposal_verdict

@@ -1,6 +1,0 @@
-use Rattle.office_engine.proofs.PlainRuns.{install_legal}
-use Rattle.office_engine.proofs.plain.history.install.Goals as goal
-
-pub returns-clause-legal : goal.returns-clause-legal
-returns-clause-legal c =
-    install_legal c.args.office.now c.accept.new.office c.args.policy c.accept.result c.rules-rules.ensures.names c.accept.ensures.accepted c.accept.ensures.failed

@@ -1,8 +1,0 @@
-use Rattle.std.proofs.Common.{◌≡◌, ◌++◌, drop}
-use Rattle.std.specs.List.{flat_map}
-use Rattle.office_engine.specs.Stocks.{files_of}
-use Rattle.office_engine.specs.PlainStocks.{texts, contents_of}
-use Rattle.office_engine.proofs.plain.keeping.all_contents.Given as goal
-
-abbrev pub invariant-loop-number : goal.invariant-loop-number
-invariant-loop-number l = texts l.all.items ++ contents_of (flat_map (files_of l.office) (drop l.number-index l.number-items)) ≡ contents_of (flat_map (files_of l.office) l.number-items)

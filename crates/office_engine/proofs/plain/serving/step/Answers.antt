@@ -1,7 +1,0 @@
-use Rattle.std.proofs.Common.{sym, subst}
-use Rattle.office_engine.specs.Runs.{IsLegal, serve}
-use Rattle.office_engine.proofs.plain.serving.step.Goals as goal
-
-pub returns-in-Ok-clause-legal : goal.returns-in-Ok-clause-legal
-returns-in-Ok-clause-legal c = λ legal.
-    subst IsLegal (sym c.in-Ok.ensures.after) (serve c.args.office.now c.args.day c.args.caller.now c.args.request.now legal)

@@ -1,0 +1,309 @@
+-- Histories that agree in all that the office decides by answer alike, and change alike.
+use Rattle.std.proofs.Common.{◌≡◌, ℕ, ◌+◌, ◌&&◌, ◌||◌, Bool, true, false, List, [], ◌∷◌, length, map, filter, Option, Some, None, option_map, slice_get, is_none, refl, sym, ap, subst, ◌∙◌, nat_le, true≢false, cond, if◌then◌else◌}
+use Rattle.std.specs.Prelude.{position, bytes_eq, not, is_some}
+use Rattle.std.specs.List.{filter_map, list_any, position_from}
+use Rattle.std.specs.Option.{option_map_or}
+use Rattle.std.proofs.lemmas.Option.{same_Some}
+use Rattle.std.proofs.lemmas.Iterator.Adapters.{position_from-zero}
+use Rattle.std.proofs.lemmas.Slice.Eq.{bytes_eq-Decides}
+use Rattle.jiff.specs.Types.{Date}
+use Rattle.bag_text.specs.TransferForm.{set_text, content_at}
+use Rattle.bag_check.specs.Validity.{payload_files, payload_bytes}
+use Rattle.office_core.specs.FirstOf.{first_some, answer_if}
+use Rattle.office_core.specs.Policies.{Contents, role_of}
+use Rattle.office_core.specs.Rules.{decision_of}
+use Rattle.office_core.specs.Retention.{due_of}
+use Rattle.office_core.specs.declared.action.Action.{Action}
+use Rattle.office_core.specs.declared.action.Action.TheVariants as acts
+use Rattle.office_core.specs.declared.answer.Answer.{Answer}
+use Rattle.office_core.specs.declared.answer.Answer.TheVariants as answers
+use Rattle.office_core.specs.declared.retention.Due.{Due}
+use Rattle.office_core.specs.declared.retention.Due.TheVariants.{Never}
+use Rattle.office_core.specs.declared.refusal.Refusal.{Refusal}
+use Rattle.office_core.specs.declared.refusal.Refusal.TheVariants.{NoSuch, Gone, Taken, Released, Full}
+use Rattle.office_core.specs.declared.refusal.Subject.TheVariants as subjects
+use Rattle.office_core.specs.declared.request.Request.{Request}
+use Rattle.office_core.specs.declared.request.Request.TheVariants.{DefineClass, DefineCollection, Deposit as MakeDeposit, List as ListDeposits, Record, Holds, DownloadBag, DownloadFile, Audit, HoldDeposit, HoldCollection, Release, Dispose, DueList}
+use Rattle.office_history.specs.Lists.{numbered, numbers, distinct_after, in_first_places}
+use Rattle.office_history.specs.Histories.{History, Change, DefinedCollection, Target, OnDeposit, OnCollection, Deposit, Hold, grown, policy, has_collection, collection_in, deposits, deposit_numbered, accession_of, gone, due, reaches, live_holds}
+use Rattle.office_history.specs.Bags.{report_on}
+use Rattle.office_core.specs.Verdicts as deciding
+use Rattle.office_history.specs.Refusals.{refused, denied, denied_at, closed_ahead, bad_bag, held, not_due, full_of_holds, no_file, of_deposit, of_hold, denied_release_of, denied_release, refusal}
+use Rattle.office_history.specs.Answers.{record_of, is_asked, listed_record, listed_records, due_list, live_hold, told_holds, audited, told, file_answer, allowed_answer, allowed_change, answer_unless, answer, changes_unless, change, after}
+use Rattle.office_history.proofs.Alike.{Outline, outline, Alike, alike_grown, same_count, same_outline, same_found, same_kept, mapped_of_kept, kept_is_not_gone}
+
+-- ---- what the rules say
+
+same_denied : (h k : History) → Alike h k → (caller : List ℕ) (action : Action) (collection class : Option (List ℕ)) → denied h caller action collection class ≡ denied k caller action collection class
+same_denied h k a caller action collection class =
+    ap (λ (p : Contents). refused (deciding.denied (decision_of p.rules (record { role = role_of p caller; action = action; collection = collection; class = class })))) a.same_policy
+
+same_denied_at : (h k : History) → Alike h k → (caller : List ℕ) (action : Action) (deposit : Deposit) → denied_at h caller action deposit ≡ denied_at k caller action deposit
+same_denied_at h k a caller action deposit = same_denied h k a caller action (Some deposit.collection) (Some deposit.class)
+
+-- ---- collections and accessions
+
+once_among : (b c a s : Bool) → (c ≡ true → s ≡ b) → cond b (a && not s) (c || (a && not (c || s))) ≡ ((c || a) && not s)
+once_among true true true true h = refl
+once_among true true false true h = refl
+once_among true true a false h = absurd (true≢false (sym (h refl)))
+once_among true false a s h = refl
+once_among false true a true h = absurd (true≢false (h refl))
+once_among false true a false h = refl
+once_among false false a s h = refl
+
+-- a text is among those kept once where it is among all, and was not seen before
+among_distinct : (text : List ℕ) (seen texts : List (List ℕ)) → list_any (bytes_eq text) (distinct_after seen texts) ≡ (list_any (bytes_eq text) texts && not (list_any (bytes_eq text) seen))
+among_distinct text seen [] = refl
+among_distinct text seen (x ∷ texts) =
+    split (list_any (bytes_eq x) seen)
+    ∙ (λ i. cond (list_any (bytes_eq x) seen) (among_distinct text seen texts i) (bytes_eq text x || among_distinct text (x ∷ seen) texts i))
+    ∙ once_among (list_any (bytes_eq x) seen) (bytes_eq text x) (list_any (bytes_eq text) texts) (list_any (bytes_eq text) seen)
+    (λ e. ap (λ (y : List ℕ). list_any (bytes_eq y) seen) ((bytes_eq-Decides text x).0 e))
+  where
+    split : (b : Bool) → list_any (bytes_eq text) (cond b (distinct_after seen texts) (x ∷ distinct_after (x ∷ seen) texts))
+        ≡ cond b (list_any (bytes_eq text) (distinct_after seen texts)) (bytes_eq text x || list_any (bytes_eq text) (distinct_after (x ∷ seen) texts))
+    split true = refl
+    split false = refl
+
+pub among_first_places : (text : List ℕ) (texts : List (List ℕ)) → list_any (bytes_eq text) (in_first_places texts) ≡ list_any (bytes_eq text) texts
+among_first_places text texts = among_distinct text [] texts ∙ all_of (list_any (bytes_eq text) texts)
+  where
+    all_of : (b : Bool) → (b && true) ≡ b
+    all_of true = refl
+    all_of false = refl
+
+same_collection : (h k : History) → Alike h k → (name : List ℕ) → has_collection h name ≡ has_collection k name
+same_collection h k a name =
+    sym (among_first_places name (filter_map collection_in h.changes))
+    ∙ ap (list_any (bytes_eq name)) a.same_collections
+    ∙ among_first_places name (filter_map collection_in k.changes)
+
+abbrev has : List ℕ → Date × Deposit → Bool
+has accession found = bytes_eq found.1.accession accession
+
+abbrev has_outline : List ℕ → Outline → Bool
+has_outline accession o = bytes_eq o.accession accession
+
+place_of_outline : (accession : List ℕ) (n : ℕ) (ds : List (Date × Deposit)) → position_from (has accession) n ds ≡ position_from (has_outline accession) n (map outline ds)
+place_of_outline accession n [] = refl
+place_of_outline accession n (d ∷ ds) = ap (cond (has accession d) (Some n)) (place_of_outline accession (n + 1) ds)
+
+place_found : (accession : List ℕ) (h : History) → position (has accession) (deposits h) ≡ position_from (has_outline accession) 0 (map outline (deposits h))
+place_found accession h = position_from-zero (has accession) (deposits h) ∙ place_of_outline accession 0 (deposits h)
+
+same_accession : (h k : History) → Alike h k → (accession : List ℕ) → accession_of h accession ≡ accession_of k accession
+same_accession h k a accession =
+    ap (option_map (λ place. place + 1))
+    (place_found accession h ∙ ap (position_from (has_outline accession) 0) a.same_deposits ∙ sym (place_found accession k))
+
+-- ---- holds and due days
+
+same_live : (h k : History) → Alike h k → (n : ℕ) (deposit : Deposit) → live_holds h n deposit ≡ live_holds k n deposit
+same_live h k a n deposit = λ i.
+    filter (λ j. is_none (a.same_released j i) && option_map_or (λ (hold : Date × Hold). reaches hold.1.target n deposit) (numbered (a.same_holds i) j) false)
+    (numbers (length (a.same_holds i)))
+
+same_due : (h k : History) → Alike h k → (deposit : Deposit) → due h deposit ≡ due k deposit
+same_due h k a deposit = ap (λ years. option_map_or (due_of deposit.closed) years Never) (a.same_years deposit.class)
+
+same_full_of_holds : (h k : History) → Alike h k → full_of_holds h ≡ full_of_holds k
+same_full_of_holds h k a = λ i. answer_if (nat_le (a.same_max_holds i) (length (a.same_holds i))) Full
+
+-- ---- the refusals of a request that names a deposit: whether it is denied, whether it is gone, and the rest
+
+abbrev denied_outline : Contents → List ℕ → Action → Outline → Option Refusal
+denied_outline p caller action o = refused (deciding.denied (decision_of p.rules (record { role = role_of p caller; action = action; collection = Some o.collection; class = Some o.class })))
+
+abbrev row : Contents → List ℕ → Action → Option Date → Option (Date × Deposit) → (Deposit → List (Option Refusal)) → Option Refusal
+row p caller action day there rest =
+    first_some (of_deposit there (λ d.
+    refused (deciding.denied (decision_of p.rules (record { role = role_of p caller; action = action; collection = Some d.collection; class = Some d.class })))
+    ∷ refused (deciding.gone day)
+    ∷ rest d))
+
+-- what stands behind a refusal is of no matter
+cut : (first : Option Refusal) (why : Refusal) (r s : List (Option Refusal)) → first_some (first ∷ Some why ∷ r) ≡ first_some (first ∷ Some why ∷ s)
+cut None why r s = refl
+cut (Some x) why r s = refl
+
+same_row_of : (p : Contents) (caller : List ℕ) (action : Action) (day : Option Date) (x y : Option (Date × Deposit)) (r s : Deposit → List (Option Refusal))
+    → option_map outline x ≡ option_map outline y → (day ≡ None → x ≡ y) → (day ≡ None → (d : Deposit) → r d ≡ s d)
+    → row p caller action day x r ≡ row p caller action day y s
+same_row_of p caller action None x y r s e same more = λ i. row p caller action None (same refl i) (λ d. more refl d i)
+same_row_of p caller action (Some day) None None r s e same more = refl
+same_row_of p caller action (Some day) None (Some y) r s e same more = absurd cc
+same_row_of p caller action (Some day) (Some x) None r s e same more = absurd cc
+same_row_of p caller action (Some day) (Some x) (Some y) r s e same more =
+    cut (denied_outline p caller action (outline x)) (Gone day) (r x.1) (s y.1)
+    ∙ ap (λ (o : Outline). first_some (denied_outline p caller action o ∷ Some (Gone day) ∷ s y.1)) (same_Some (outline x) (outline y) e)
+
+same_row_at : (h k : History) → Alike h k → (caller : List ℕ) (action : Action) (n : ℕ) (r s : Deposit → List (Option Refusal))
+    → (gone h n ≡ None → (d : Deposit) → r d ≡ s d)
+    → row (policy h) caller action (gone h n) (deposit_numbered h n) r ≡ row (policy k) caller action (gone k n) (deposit_numbered k n) s
+same_row_at h k a caller action n r s more =
+    same_row_of (policy h) caller action (gone h n) (deposit_numbered h n) (deposit_numbered k n) r s (same_outline h k a n) (same_found h k a n) more
+    ∙ (λ i. row (a.same_policy i) caller action (a.same_gone n i) (deposit_numbered k n) s)
+
+-- ---- the refusals of a release
+
+release_of_outline : (h : History) (caller : List ℕ) (x y : Option (Date × Deposit)) → option_map outline x ≡ option_map outline y → denied_release_of h caller x ≡ denied_release_of h caller y
+release_of_outline h caller None None e = refl
+release_of_outline h caller None (Some y) e = absurd cc
+release_of_outline h caller (Some x) None e = absurd cc
+release_of_outline h caller (Some x) (Some y) e = ap (λ (o : Outline). denied h caller acts.Release (Some o.collection) (Some o.class)) (same_Some (outline x) (outline y) e)
+
+release_by_policy : (h k : History) → Alike h k → (caller : List ℕ) (x : Option (Date × Deposit)) → denied_release_of h caller x ≡ denied_release_of k caller x
+release_by_policy h k a caller None = refl
+release_by_policy h k a caller (Some found) = same_denied_at h k a caller acts.Release found.1
+
+same_release : (h k : History) → Alike h k → (caller : List ℕ) (target : Target) → denied_release h caller target ≡ denied_release k caller target
+same_release h k a caller (OnDeposit n) =
+    release_of_outline h caller (deposit_numbered h n) (deposit_numbered k n) (same_outline h k a n)
+    ∙ release_by_policy h k a caller (deposit_numbered k n)
+same_release h k a caller (OnCollection name) = same_denied h k a caller acts.Release (Some name) None
+
+-- ---- all refusals
+
+pub same_refusal : (h k : History) → Alike h k → (day : Date) (caller : List ℕ) (request : Request) → refusal h day caller request ≡ refusal k day caller request
+same_refusal h k a day caller (DefineClass name years) = λ i. first_some (same_denied h k a caller acts.Class None (Some name) i ∷ [])
+same_refusal h k a day caller (DefineCollection name) = λ i. first_some (same_denied h k a caller acts.Collection (Some name) None i ∷ [])
+same_refusal h k a day caller (MakeDeposit collection class accession closed bag) = λ i.
+    first_some (
+    answer_if (not (same_collection h k a collection i)) (NoSuch subjects.Collection)
+    ∷ answer_if (not (is_some (a.same_years class i))) (NoSuch subjects.Class)
+    ∷ same_denied h k a caller acts.Deposit (Some collection) (Some class) i
+    ∷ option_map Taken (same_accession h k a accession i)
+    ∷ closed_ahead day closed
+    ∷ bad_bag bag.now
+    ∷ answer_if (nat_le (a.same_max_deposits i) (same_count h k a i)) Full
+    ∷ [])
+same_refusal h k a day caller (ListDeposits collection class) = refl
+same_refusal h k a day caller (Record n) = same_row_at h k a caller acts.Record n (λ d. []) (λ d. []) (λ e d. refl)
+same_refusal h k a day caller (Holds n) = same_row_at h k a caller acts.Holds n (λ d. []) (λ d. []) (λ e d. refl)
+same_refusal h k a day caller (DownloadBag n) = same_row_at h k a caller acts.Download n (λ d. []) (λ d. []) (λ e d. refl)
+same_refusal h k a day caller (DownloadFile n path) = same_row_at h k a caller acts.Download n (λ d. no_file d path.now ∷ []) (λ d. no_file d path.now ∷ []) (λ e d. refl)
+same_refusal h k a day caller (Audit n) = same_row_at h k a caller acts.Audit n (λ d. []) (λ d. []) (λ e d. refl)
+same_refusal h k a day caller (HoldDeposit n matter) =
+    same_row_at h k a caller acts.Hold n (λ d. full_of_holds h ∷ []) (λ d. full_of_holds k ∷ []) (λ e d i. same_full_of_holds h k a i ∷ [])
+same_refusal h k a day caller (HoldCollection name matter) = λ i.
+    first_some (
+    answer_if (not (same_collection h k a name i)) (NoSuch subjects.Collection)
+    ∷ same_denied h k a caller acts.Hold (Some name) None i
+    ∷ same_full_of_holds h k a i
+    ∷ [])
+same_refusal h k a day caller (Release j) = λ i.
+    first_some (of_hold (numbered (a.same_holds i) j) (λ hold. same_release h k a caller hold.target i ∷ option_map Released (a.same_released j i) ∷ []))
+same_refusal h k a day caller (Dispose n) =
+    same_row_at h k a caller acts.Dispose n (λ d. held h n d ∷ not_due h day d ∷ []) (λ d. held k n d ∷ not_due k day d ∷ [])
+    (λ e d i. refused (deciding.held (slice_get (same_live h k a n d i) 0)) ∷ refused (deciding.not_due day (same_due h k a d i)) ∷ [])
+same_refusal h k a day caller DueList = refl
+
+-- ---- answers
+
+same_record : (h k : History) → Alike h k → (n : ℕ) (found : Date × Deposit) → record_of h n found ≡ record_of k n found
+same_record h k a n found =
+    ap (λ (d : Due). record {
+      number = n;
+      accession = found.1.accession;
+      collection = found.1.collection;
+      class = found.1.class;
+      closed = found.1.closed;
+      deposited = found.0;
+      files = payload_files found.1.bag;
+      bytes = payload_bytes found.1.bag;
+      due = d;
+    }) (same_due h k a found.1)
+
+same_told_holds : (h k : History) → Alike h k → (n : ℕ) (deposit : Deposit) → told_holds h n deposit ≡ told_holds k n deposit
+same_told_holds h k a n deposit = λ i.
+    filter_map (λ j. option_map_or (λ found. Some (live_hold j found)) (numbered (a.same_holds i) j) None) (same_live h k a n deposit i)
+
+same_listed : (h k : History) → Alike h k → (caller : List ℕ) (collection class : Option (List ℕ)) (n : ℕ) → gone h n ≡ None → listed_record h caller collection class n ≡ listed_record k caller collection class n
+same_listed h k a caller collection class n e = λ i.
+    option_map_or (λ (found : Date × Deposit).
+    if is_asked collection found.1.collection && is_asked class found.1.class && is_none (same_denied_at h k a caller acts.List found.1 i)
+    then Some (same_record h k a n found i) else None)
+    (same_found h k a n e i) None
+
+same_list : (h k : History) → Alike h k → (caller : List ℕ) (collection class : Option (List ℕ)) → listed_records h caller collection class ≡ listed_records k caller collection class
+same_list h k a caller collection class =
+    mapped_of_kept (λ n. is_none (gone h n)) (listed_record h caller collection class) (listed_record k caller collection class) (numbers (length (deposits h)))
+    (λ n e. same_listed h k a caller collection class n (kept_is_not_gone (gone h n) e))
+    ∙ ap (filter_map (listed_record k caller collection class)) (same_kept h k a)
+
+same_due_list : (h k : History) → Alike h k → (day : Date) (caller : List ℕ) → due_list h day caller ≡ due_list k day caller
+same_due_list h k a day caller = λ i. filter (λ n. is_none (same_refusal h k a day caller (Dispose n) i)) (same_kept h k a i)
+
+-- of a deposit that is gone nothing is told
+row_stops : (p : Contents) (caller : List ℕ) (action : Action) (day : Date) (there : Option (Date × Deposit)) (r : Deposit → List (Option Refusal)) (x y : Answer)
+    → answer_unless (row p caller action (Some day) there r) x ≡ answer_unless (row p caller action (Some day) there r) y
+row_stops p caller action day None r x y = refl
+row_stops p caller action day (Some found) r x y = stops (denied_outline p caller action (outline found))
+  where
+    stops : (first : Option Refusal) → answer_unless (first_some (first ∷ Some (Gone day) ∷ r found.1)) x ≡ answer_unless (first_some (first ∷ Some (Gone day) ∷ r found.1)) y
+    stops None = refl
+    stops (Some why) = refl
+
+unless_gone : (p : Contents) (caller : List ℕ) (action : Action) (day : Option Date) (there : Option (Date × Deposit)) (r : Deposit → List (Option Refusal)) (x y : Answer) → (day ≡ None → x ≡ y)
+    → answer_unless (row p caller action day there r) x ≡ answer_unless (row p caller action day there r) y
+unless_gone p caller action None there r x y same = ap (answer_unless (row p caller action None there r)) (same refl)
+unless_gone p caller action (Some day) there r x y same = row_stops p caller action day there r x y
+
+answer_at : (h k : History) → Alike h k → (caller : List ℕ) (action : Action) (n : ℕ) (r : Deposit → List (Option Refusal)) (x y : Answer) → (gone h n ≡ None → x ≡ y)
+    → answer_unless (row (policy h) caller action (gone h n) (deposit_numbered h n) r) x ≡ answer_unless (row (policy k) caller action (gone k n) (deposit_numbered k n) r) y
+answer_at h k a caller action n r x y same =
+    unless_gone (policy h) caller action (gone h n) (deposit_numbered h n) r x y same
+    ∙ ap (λ why. answer_unless why y) (same_row_at h k a caller action n r r (λ e d. refl))
+
+pub same_answer : (h k : History) → Alike h k → (day : Date) (caller : List ℕ) (request : Request) → answer h day caller request ≡ answer k day caller request
+same_answer h k a day caller (DefineClass name years) = ap (λ why. answer_unless why (answers.Class name years)) (same_refusal h k a day caller (DefineClass name years))
+same_answer h k a day caller (DefineCollection name) = ap (λ why. answer_unless why (answers.Collection name)) (same_refusal h k a day caller (DefineCollection name))
+same_answer h k a day caller (MakeDeposit collection class accession closed bag) = λ i.
+    answer_unless (same_refusal h k a day caller (MakeDeposit collection class accession closed bag) i) (answers.Deposited (same_count h k a i + 1))
+same_answer h k a day caller (ListDeposits collection class) = ap answers.List (same_list h k a caller collection class)
+same_answer h k a day caller (Record n) =
+    answer_at h k a caller acts.Record n (λ d. []) (allowed_answer h day caller (Record n)) (allowed_answer k day caller (Record n))
+    (λ e i. told (same_found h k a n e i) (λ found. answers.Record (same_record h k a n found i)))
+same_answer h k a day caller (Holds n) =
+    answer_at h k a caller acts.Holds n (λ d. []) (allowed_answer h day caller (Holds n)) (allowed_answer k day caller (Holds n))
+    (λ e i. told (same_found h k a n e i) (λ found. answers.Holds (same_told_holds h k a n found.1 i)))
+same_answer h k a day caller (DownloadBag n) =
+    answer_at h k a caller acts.Download n (λ d. []) (allowed_answer h day caller (DownloadBag n)) (allowed_answer k day caller (DownloadBag n))
+    (λ e i. told (same_found h k a n e i) (λ found. answers.Bag (set_text found.1.bag)))
+same_answer h k a day caller (DownloadFile n path) =
+    answer_at h k a caller acts.Download n (λ d. no_file d path.now ∷ []) (allowed_answer h day caller (DownloadFile n path)) (allowed_answer k day caller (DownloadFile n path))
+    (λ e i. told (same_found h k a n e i) (λ found. file_answer (content_at found.1.bag path.now)))
+same_answer h k a day caller (Audit n) =
+    answer_at h k a caller acts.Audit n (λ d. []) (allowed_answer h day caller (Audit n)) (allowed_answer k day caller (Audit n))
+    (λ e i. told (same_found h k a n e i) (λ found. answers.Audit n (audited (report_on found.1.bag))))
+same_answer h k a day caller (HoldDeposit n matter) = λ i. answer_unless (same_refusal h k a day caller (HoldDeposit n matter) i) (answers.Held (length (a.same_holds i) + 1))
+same_answer h k a day caller (HoldCollection name matter) = λ i. answer_unless (same_refusal h k a day caller (HoldCollection name matter) i) (answers.Held (length (a.same_holds i) + 1))
+same_answer h k a day caller (Release j) = ap (λ why. answer_unless why (answers.Released j day)) (same_refusal h k a day caller (Release j))
+same_answer h k a day caller (Dispose n) = ap (λ why. answer_unless why (answers.Destroyed n day)) (same_refusal h k a day caller (Dispose n))
+same_answer h k a day caller DueList = ap (answers.DueList day) (same_due_list h k a day caller)
+
+-- ---- changes
+
+same_allowed_change : (h k : History) → Alike h k → (day : Date) (request : Request) → allowed_change h day request ≡ allowed_change k day request
+same_allowed_change h k a day (DefineCollection name) = ap (λ there. if there then [] else DefinedCollection day name ∷ []) (same_collection h k a name)
+same_allowed_change h k a day (DefineClass name years) = refl
+same_allowed_change h k a day (MakeDeposit collection class accession closed bag) = refl
+same_allowed_change h k a day (ListDeposits collection class) = refl
+same_allowed_change h k a day (Record n) = refl
+same_allowed_change h k a day (Holds n) = refl
+same_allowed_change h k a day (DownloadBag n) = refl
+same_allowed_change h k a day (DownloadFile n path) = refl
+same_allowed_change h k a day (Audit n) = refl
+same_allowed_change h k a day (HoldDeposit n matter) = refl
+same_allowed_change h k a day (HoldCollection name matter) = refl
+same_allowed_change h k a day (Release j) = refl
+same_allowed_change h k a day (Dispose n) = refl
+same_allowed_change h k a day DueList = refl
+
+same_change : (h k : History) → Alike h k → (day : Date) (caller : List ℕ) (request : Request) → change h day caller request ≡ change k day caller request
+same_change h k a day caller request = λ i. changes_unless (same_refusal h k a day caller request i) (same_allowed_change h k a day request i)
+
+pub alike_after : (h k : History) → Alike h k → (day : Date) (caller : List ℕ) (request : Request) → Alike (after h day caller request) (after k day caller request)
+alike_after h k a day caller request =
+    subst (λ (more : List Change). Alike (after h day caller request) (grown k more)) (same_change h k a day caller request) (alike_grown h k a (change h day caller request))

@@ -1,0 +1,172 @@
+-- What is known of a history where an answer was given: which hold was placed, which was released, what is told.
+use Rattle.std.proofs.Common.{◌≡◌, ℕ, zero, suc, ◌+◌, List, [], ◌∷◌, ◌++◌, length, Option, Some, None, slice_get, refl, sym, ap, ◌∙◌, length-append, arith, ◌≤◌}
+use Rattle.std.specs.List.{filter_map, cons_option}
+use Rattle.std.specs.Option.{option_or, option_map_or}
+use Rattle.std.proofs.lemmas.Bool.Decides.{Decides-eqb}
+use Rattle.std.proofs.lemmas.Option.{same_Some}
+use Rattle.jiff.specs.Types.{Date}
+use Rattle.bag_text.specs.TransferForm.{set_text, content_at}
+use Rattle.office_core.specs.FirstOf.{first_some}
+use Rattle.office_core.specs.declared.answer.Answer.{Answer}
+use Rattle.office_core.specs.declared.answer.Answer.TheVariants as answers
+use Rattle.office_core.specs.declared.answer.LiveHold.{LiveHold}
+use Rattle.office_core.specs.declared.refusal.Refusal.{Refusal}
+use Rattle.office_core.specs.declared.request.Request.{Request}
+use Rattle.office_core.specs.declared.request.Request.TheVariants.{DefineClass, DefineCollection, Deposit as MakeDeposit, List as ListDeposits, Record, Holds, DownloadBag, DownloadFile, Audit, HoldDeposit, HoldCollection, Release, Dispose, DueList}
+use Rattle.office_history.specs.Lists.{first_said, numbered}
+use Rattle.office_history.specs.Histories.{History, Change, PlacedHold, ReleasedHold, Deposit, Hold, OnDeposit, OnCollection, grown, deposit_numbered, hold_in, holds, hold_numbered, released, released_in, live_holds}
+use Rattle.office_history.specs.Bags.{report_on}
+use Rattle.office_history.specs.Refusals.{refusal, of_hold, denied_release, is_released}
+use Rattle.office_history.specs.Answers.{answer, answer_unless, allowed_answer, told, file_answer, record_of, told_hold, told_holds, live_hold, audited, change, changes_unless, allowed_change, after}
+use Rattle.office_history.proofs.ListLemmas.{numbered_last}
+use Rattle.office_history.proofs.HistoryLemmas.{holds_grown}
+use Rattle.office_history.proofs.LegalLemmas.{map_none}
+use Rattle.office_history.proofs.LawLemmas.{none_of, unrefused}
+use Rattle.office_history.proofs.OnceLemmas.{not_among_live}
+
+-- ---- holds that were placed
+
+-- a hold was placed: it has the next number, and is the only change
+pub record WasPlaced (h : History) (day : Date) (changes : List Change) (k : ℕ) : Type 0 where
+  pub next_number : length (holds h) + 1 ≡ k
+  pub hold : Hold
+  pub placed : changes ≡ PlacedHold day hold ∷ []
+
+-- what is told of a deposit is the number of no hold
+told_no_number : (found : Option (Date × Deposit)) (tell : Date × Deposit → Answer) (k : ℕ) → ((d : Date × Deposit) → tell d ≡ answers.Held k → ⊥) → told found tell ≡ answers.Held k → ⊥
+told_no_number None tell k other e = absurd cc
+told_no_number (Some d) tell k other e = other d e
+
+file_no_number : (content : Option (List ℕ)) (k : ℕ) → file_answer content ≡ answers.Held k → ⊥
+file_no_number None k e = absurd cc
+file_no_number (Some content) k e = absurd cc
+
+allowed_hold : (h : History) (day : Date) (caller : List ℕ) (request : Request) (k : ℕ) → allowed_answer h day caller request ≡ answers.Held k → WasPlaced h day (allowed_change h day request) k
+allowed_hold h day caller (HoldDeposit n matter) k e = record { next_number = (let same : answers.Held (length (holds h) + 1) ≡ answers.Held k = e in cc); hold = record { target = OnDeposit n; matter = matter }; placed = refl }
+allowed_hold h day caller (HoldCollection name matter) k e = record { next_number = (let same : answers.Held (length (holds h) + 1) ≡ answers.Held k = e in cc); hold = record { target = OnCollection name; matter = matter }; placed = refl }
+allowed_hold h day caller (DefineClass name years) k e = absurd cc
+allowed_hold h day caller (DefineCollection name) k e = absurd cc
+allowed_hold h day caller (MakeDeposit collection class accession closed bag) k e = absurd cc
+allowed_hold h day caller (ListDeposits collection class) k e = absurd cc
+allowed_hold h day caller (Record n) k e = absurd (told_no_number (deposit_numbered h n) (λ d. answers.Record (record_of h n d)) k (λ d. λ wrong. absurd cc) e)
+allowed_hold h day caller (Holds n) k e = absurd (told_no_number (deposit_numbered h n) (λ d. answers.Holds (told_holds h n d.1)) k (λ d. λ wrong. absurd cc) e)
+allowed_hold h day caller (DownloadBag n) k e = absurd (told_no_number (deposit_numbered h n) (λ d. answers.Bag (set_text d.1.bag)) k (λ d. λ wrong. absurd cc) e)
+allowed_hold h day caller (DownloadFile n path) k e = absurd (told_no_number (deposit_numbered h n) (λ d. file_answer (content_at d.1.bag path.now)) k (λ d. file_no_number (content_at d.1.bag path.now) k) e)
+allowed_hold h day caller (Audit n) k e = absurd (told_no_number (deposit_numbered h n) (λ d. answers.Audit n (audited (report_on d.1.bag))) k (λ d. λ wrong. absurd cc) e)
+allowed_hold h day caller (Release j) k e = absurd cc
+allowed_hold h day caller (Dispose n) k e = absurd cc
+allowed_hold h day caller DueList k e = absurd cc
+
+pub was_placed : (h : History) (day : Date) (caller : List ℕ) (request : Request) (k : ℕ) → answer h day caller request ≡ answers.Held k → WasPlaced h day (change h day caller request) k
+was_placed h day caller request k e =
+    let r = unrefused (refusal h day caller request) (allowed_answer h day caller request) (answers.Held k) e (λ r. λ wrong. absurd cc) in
+    let made = allowed_hold h day caller request k r.1 in
+    record { next_number = made.next_number; hold = made.hold; placed = ap (λ why. changes_unless why (allowed_change h day request)) r.0 ∙ made.placed }
+
+-- the holds after a hold was placed
+pub holds_after : (h : History) (day : Date) (changes : List Change) (hold : Hold) → changes ≡ PlacedHold day hold ∷ [] → holds (grown h changes) ≡ holds h ++ (day, hold) ∷ []
+holds_after h day changes hold e = ap (λ (c : List Change). holds (grown h c)) e ∙ holds_grown h (PlacedHold day hold ∷ [])
+
+pub more_holds : (h : History) (more : List Change) → length (holds h) ≤ length (holds (grown h more))
+more_holds h more = rw (holds_grown h more, length-append (holds h) (filter_map hold_in more)) (omega arith)
+
+-- the hold of a collection that was answered with a number has that number
+pub collection_hold : (h : History) (day : Date) (caller name matter : List ℕ) (k : ℕ) → answer h day caller (HoldCollection name matter) ≡ answers.Held k
+    → hold_numbered (after h day caller (HoldCollection name matter)) k ≡ Some (day, record { target = OnCollection name; matter = matter })
+collection_hold h day caller name matter k e =
+    let r = unrefused (refusal h day caller (HoldCollection name matter)) (answers.Held (length (holds h) + 1)) (answers.Held k) e (λ r. λ wrong. absurd cc) in
+    let next : length (holds h) + 1 ≡ k = (let same = r.1 in cc) in
+    let hold : Hold = record { target = OnCollection name; matter = matter } in
+    let made : change h day caller (HoldCollection name matter) ≡ PlacedHold day hold ∷ [] = ap (λ why. changes_unless why (PlacedHold day hold ∷ [])) r.0 in
+    ap (λ ds. numbered ds k) (holds_after h day (change h day caller (HoldCollection name matter)) hold made)
+    ∙ ap (λ m. numbered (holds h ++ (day, hold) ∷ []) m) (sym next) ∙ numbered_last (holds h) (day, hold)
+
+-- ---- holds that were released
+
+none_or : {B : Type 0} (o p : Option B) → option_or o p ≡ None → (o ≡ None) × (p ≡ None)
+none_or None p e = (refl, e)
+none_or (Some b) p e = absurd cc
+
+first_said_last : {A B : Type 0} (says : A → Option B) (xs : List A) (y : A) (b : B) → first_said says xs ≡ None → says y ≡ Some b → first_said says (xs ++ y ∷ []) ≡ Some b
+first_said_last says [] y b none e = rw e refl
+first_said_last says (x ∷ xs) y b none e =
+    let two = none_or (says x) (first_said says xs) none in
+    ap (λ o. option_or o (first_said says (xs ++ y ∷ []))) two.0 ∙ first_said_last says xs y b two.1 e
+
+-- a release that is allowed is of a hold that wasn't released
+unreleased : (h : History) (day : Date) (caller : List ℕ) (k : ℕ) → refusal h day caller (Release k) ≡ None → released h k ≡ None
+unreleased h day caller k e = by_hold (hold_numbered h k) e
+  where
+    by_hold : (there : Option (Date × Hold)) → first_some (of_hold there (λ hold. denied_release h caller hold.target ∷ is_released h k ∷ [])) ≡ None → released h k ≡ None
+    by_hold None e = absurd cc
+    by_hold (Some found) e =
+        let a = none_of (denied_release h caller found.1.target) _ e in
+        let b = none_of (is_released h k) _ a.1 in
+        map_none _ (released h k) b.0
+
+-- a hold whose release was answered is released from that day
+pub was_released : (h : History) (day on : Date) (caller : List ℕ) (k number : ℕ) → answer h day caller (Release k) ≡ answers.Released number on → released (after h day caller (Release k)) k ≡ Some day
+was_released h day on caller k number e =
+    let r = unrefused (refusal h day caller (Release k)) (answers.Released k day) (answers.Released number on) e (λ r. λ wrong. absurd cc) in
+    let says : released_in k (ReleasedHold day k) ≡ Some day = rw ((Decides-eqb k k).1 refl) refl in
+    ap (λ why. released (grown h (changes_unless why (ReleasedHold day k ∷ []))) k) r.0
+    ∙ first_said_last (released_in k) h.changes (ReleasedHold day k) day (unreleased h day caller k r.0) says
+
+-- what is told comes from an item of the list
+mapped_from : {A B : Type 0} (f : A → Option B) (xs : List A) (i : ℕ) (y : B) → slice_get (filter_map f xs) i ≡ Some y → (j : ℕ) × (x : A) × (slice_get xs j ≡ Some x) × (f x ≡ Some y)
+mapped_from f [] i y e = absurd cc
+mapped_from {A = A} {B = B} f (x ∷ xs) i y e = by_first (f x) refl i e (λ j at. mapped_from f xs j y at)
+  where
+    by_first : (o : Option B) → f x ≡ o → (i : ℕ) → slice_get (cons_option o (filter_map f xs)) i ≡ Some y
+        → ((l : ℕ) → slice_get (filter_map f xs) l ≡ Some y → (j : ℕ) × (z : A) × (slice_get xs j ≡ Some z) × (f z ≡ Some y))
+        → (j : ℕ) × (z : A) × (slice_get (x ∷ xs) j ≡ Some z) × (f z ≡ Some y)
+    by_first None is i e later = let found = later i e in (suc found.0, found.1, found.2, found.3)
+    by_first (Some z) is zero e later = (zero, x, refl, is ∙ e)
+    by_first (Some z) is (suc l) e later = let found = later l e in (suc found.0, found.1, found.2, found.3)
+
+told_number : (h : History) (k : ℕ) (hold : LiveHold) → told_hold h k ≡ Some hold → k ≡ hold.number
+told_number h k hold e = by_hold (hold_numbered h k) e
+  where
+    by_hold : (there : Option (Date × Hold)) → option_map_or (λ found. Some (live_hold k found)) there None ≡ Some hold → k ≡ hold.number
+    by_hold None e = absurd cc
+    by_hold (Some found) e = ap (λ (x : LiveHold). x.number) (same_Some _ _ e)
+
+-- a hold that was released is in no list of holds that is answered
+pub not_told : (h : History) (day on : Date) (caller : List ℕ) (k n place : ℕ) (given : List LiveHold) (hold : LiveHold)
+    → released h k ≡ Some on → answer h day caller (Holds n) ≡ answers.Holds given → slice_get given place ≡ Some hold → hold.number ≡ k → ⊥
+not_told h day on caller k n place given hold dead e at same =
+    let r = unrefused (refusal h day caller (Holds n)) (allowed_answer h day caller (Holds n)) (answers.Holds given) e (λ r. λ wrong. absurd cc) in
+    by_deposit (deposit_numbered h n) r.1
+  where
+    by_deposit : (there : Option (Date × Deposit)) → told there (λ found. answers.Holds (told_holds h n found.1)) ≡ answers.Holds given → ⊥
+    by_deposit None e = absurd cc
+    by_deposit (Some found) e =
+        let is : told_holds h n found.1 ≡ given = cc in
+        let from = mapped_from (told_hold h) (live_holds h n found.1) place hold (ap (λ hs. slice_get hs place) is ∙ at) in
+        not_among_live h k from.0 n on found.1 dead (from.2 ∙ ap Some (told_number h from.1 hold from.3 ∙ same))
+
+-- ---- refusals
+
+told_refused : (h : History) (day : Date) (caller : List ℕ) (request : Request) (why : Refusal) → allowed_answer h day caller request ≡ answers.Refused why → allowed_change h day request ≡ []
+told_refused h day caller (DefineClass name years) why e = absurd cc
+told_refused h day caller (DefineCollection name) why e = absurd cc
+told_refused h day caller (MakeDeposit collection class accession closed bag) why e = absurd cc
+told_refused h day caller (HoldDeposit n matter) why e = absurd cc
+told_refused h day caller (HoldCollection name matter) why e = absurd cc
+told_refused h day caller (Release k) why e = absurd cc
+told_refused h day caller (Dispose n) why e = absurd cc
+told_refused h day caller (ListDeposits collection class) why e = refl
+told_refused h day caller (Record n) why e = refl
+told_refused h day caller (Holds n) why e = refl
+told_refused h day caller (DownloadBag n) why e = refl
+told_refused h day caller (DownloadFile n path) why e = refl
+told_refused h day caller (Audit n) why e = refl
+told_refused h day caller DueList why e = refl
+
+-- an answer that is a refusal makes no change
+pub refused_change : (h : History) (day : Date) (caller : List ℕ) (request : Request) (why : Refusal) → answer h day caller request ≡ answers.Refused why → change h day caller request ≡ []
+refused_change h day caller request why e = by_refusal (refusal h day caller request) e
+  where
+    by_refusal : (r : Option Refusal) → answer_unless r (allowed_answer h day caller request) ≡ answers.Refused why → changes_unless r (allowed_change h day request) ≡ []
+    by_refusal None e = told_refused h day caller request why e
+    by_refusal (Some r) e = refl

@@ -1,0 +1,157 @@
+-- Worked rows of the definitions, by computing. Days are any days.
+use Rattle.std.proofs.Common.{◌≡◌, ℕ, List, [], ◌∷◌, Some, None, codes, refl}
+use Rattle.std.specs.Prelude.{pos, neg_ℤ}
+use Rattle.jiff.specs.Types.{Date}
+use Rattle.jiff.specs.Words.{epoch_day}
+use Rattle.office_core.specs.Retention.{due_of}
+use Rattle.office_core.specs.declared.refusal.Refusal.TheVariants.{NoSuch, DeniedByDefault, Taken}
+use Rattle.office_core.specs.declared.refusal.Subject.TheVariants as subjects
+use Rattle.office_core.specs.declared.request.Request.TheVariants.{Dispose}
+use Rattle.office_core.specs.declared.action.Action.TheVariants as acts
+use Rattle.office_core.specs.declared.rule.ActionPattern.TheVariants as asked
+use Rattle.office_core.specs.declared.rule.Effect.TheVariants.{Allow, Deny}
+use Rattle.office_core.specs.declared.rule.Pattern.TheVariants.{Any, Named}
+use Rattle.office_history.specs.Histories.{History, Installed, DefinedClass, DefinedCollection, Deposited, PlacedHold, ReleasedHold, Destroyed, Deposit, OnDeposit, OnCollection, gone, kept, due, live_holds}
+use Rattle.office_history.specs.Refusals.{refusal, taken}
+use Rattle.office_history.specs.Lists.{in_first_places}
+use Rattle.office_history.specs.Pictures.{picture}
+
+-- a deposit of the collection `maps` in the class `y1`
+deposited : Date → List ℕ → Deposit
+deposited closed accession = record { collection = codes "maps"; class = codes "y1"; accession = accession; closed = closed; bag = [] }
+
+-- a hold of the collection, two deposits, a hold of the second, then the first hold is released and the first deposit destroyed
+worked : Date → History
+worked day = record {
+  max_deposits = 10;
+  max_holds = 10;
+  changes =
+      DefinedClass day (codes "y1") (Some 1)
+      ∷ DefinedCollection day (codes "maps")
+      ∷ PlacedHold day (record { target = OnCollection (codes "maps"); matter = codes "Case 7" })
+      ∷ Deposited day (deposited day (codes "A-1"))
+      ∷ Deposited day (deposited day (codes "A-2"))
+      ∷ PlacedHold day (record { target = OnDeposit 2; matter = codes "Case 8" })
+      ∷ [];
+}
+
+later : Date → History
+later day = record {
+  max_deposits = 10;
+  max_holds = 10;
+  changes =
+      DefinedClass day (codes "y1") (Some 1)
+      ∷ DefinedCollection day (codes "maps")
+      ∷ PlacedHold day (record { target = OnCollection (codes "maps"); matter = codes "Case 7" })
+      ∷ Deposited day (deposited day (codes "A-1"))
+      ∷ Deposited day (deposited day (codes "A-2"))
+      ∷ PlacedHold day (record { target = OnDeposit 2; matter = codes "Case 8" })
+      ∷ ReleasedHold day 1
+      ∷ Destroyed day 1
+      ∷ DefinedClass day (codes "y1") None
+      ∷ [];
+}
+
+-- a hold of a collection covers what came later, and one of a deposit that alone
+both_cover : (day : Date) → live_holds (worked day) 2 (deposited day (codes "A-2")) ≡ 1 ∷ 2 ∷ []
+unfolding deposited worked
+both_cover day = refl
+
+one_covers : (day : Date) → live_holds (worked day) 1 (deposited day (codes "A-1")) ≡ 1 ∷ []
+unfolding deposited worked
+one_covers day = refl
+
+-- a hold that was released covers nothing more
+released_covers_none : (day : Date) → live_holds (later day) 2 (deposited day (codes "A-2")) ≡ 2 ∷ []
+unfolding deposited later
+released_covers_none day = refl
+
+-- a destroyed deposit is gone, and keeps its number and its accession
+destroyed_is_gone : (day : Date) → gone (later day) 1 ≡ Some day
+unfolding deposited later
+destroyed_is_gone day = refl
+
+others_are_kept : (day : Date) → kept (later day) ≡ 2 ∷ []
+unfolding deposited later
+others_are_kept day = refl
+
+accession_stays : (day : Date) → taken (later day) (codes "A-1") ≡ Some (Taken 1)
+unfolding deposited later
+accession_stays day = refl
+
+-- a class has the years that it was given last, and so have the due days of its deposits
+years_before : (day : Date) → due (worked day) (deposited day (codes "A-1")) ≡ due_of day (Some 1)
+unfolding deposited worked
+years_before day = refl
+
+years_after : (day : Date) → due (later day) (deposited day (codes "A-2")) ≡ due_of day None
+unfolding deposited later
+years_after day = refl
+
+-- what isn't there comes before what is denied, and without a policy everything is denied
+no_deposit : (day : Date) (caller : List ℕ) → refusal (worked day) day caller (Dispose 9) ≡ Some (NoSuch subjects.Deposit)
+unfolding deposited worked
+no_deposit day caller = refl
+
+no_rules : (day : Date) (caller : List ℕ) → refusal (worked day) day caller (Dispose 1) ≡ Some DeniedByDefault
+unfolding deposited worked
+no_rules day caller = refl
+
+-- each text once
+first_places : in_first_places (codes "a" ∷ codes "b" ∷ codes "a" ∷ []) ≡ codes "a" ∷ codes "b" ∷ []
+first_places = refl
+
+-- a policy, a class that is revised, a deposit of one payload file that is kept, one that is destroyed, and two holds
+drawn : Date → History
+drawn day = record {
+  max_deposits = 10;
+  max_holds = 20;
+  changes =
+      Installed (record {
+        callers = record { name = codes "anna"; role = codes "archivist" } ∷ [];
+        rules =
+            record { effect = Deny; role = Named (codes "archivist"); action = asked.Only acts.Dispose; collection = Named (codes "tax"); class = Any }
+            ∷ record { effect = Allow; role = Any; action = asked.Any; collection = Any; class = Named (codes "y1") }
+            ∷ [];
+      })
+      ∷ DefinedClass day (codes "y1") (Some 1)
+      ∷ DefinedClass day (codes "y2") None
+      ∷ DefinedCollection day (codes "maps")
+      ∷ Deposited day (record { collection = codes "maps"; class = codes "y1"; accession = codes "A-1"; closed = day; bag = record { path = codes "data/a"; content = codes "abc" } ∷ record { path = codes "tag"; content = codes "tt" } ∷ [] })
+      ∷ Deposited day (deposited day (codes "A-2"))
+      ∷ PlacedHold day (record { target = OnDeposit 1; matter = codes "Case 7" })
+      ∷ PlacedHold day (record { target = OnCollection (codes "maps"); matter = codes "Case 8" })
+      ∷ ReleasedHold day 2
+      ∷ Destroyed day 2
+      ∷ DefinedClass day (codes "y1") (Some 5)
+      ∷ [];
+}
+
+-- and its rows
+drawn_rows : (day : Date) → picture (pos 1) (drawn day) ≡ record {
+  office = record { id = pos 1; version = pos 1; max_deposits = pos 10; max_holds = pos 20 } ∷ [];
+  callers = record { name = codes "anna"; role = codes "archivist" } ∷ [];
+  rules =
+      record { place = pos 1; effect = pos 0; role = codes "archivist"; action = codes "dispose"; collection = codes "tax"; class = codes "*" }
+      ∷ record { place = pos 2; effect = pos 1; role = codes "*"; action = codes "*"; collection = codes "*"; class = codes "y1" }
+      ∷ [];
+  classes =
+      record { name = codes "y1"; years = pos 5 }
+      ∷ record { name = codes "y2"; years = neg_ℤ (pos 1) }
+      ∷ [];
+  collections = codes "maps" ∷ [];
+  deposits =
+      record { number = pos 1; accession = codes "A-1"; collection = codes "maps"; class = codes "y1"; closed = epoch_day day; deposited = epoch_day day; files = pos 1; bytes = pos 3; gone = None }
+      ∷ record { number = pos 2; accession = codes "A-2"; collection = codes "maps"; class = codes "y1"; closed = epoch_day day; deposited = epoch_day day; files = pos 0; bytes = pos 0; gone = Some (epoch_day day) }
+      ∷ [];
+  files =
+      record { deposit = pos 1; path = codes "data/a"; content = codes "abc" }
+      ∷ record { deposit = pos 1; path = codes "tag"; content = codes "tt" }
+      ∷ [];
+  holds =
+      record { number = pos 1; deposit = Some (pos 1); collection = None; matter = codes "Case 7"; placed = epoch_day day; released = None }
+      ∷ record { number = pos 2; deposit = None; collection = Some (codes "maps"); matter = codes "Case 8"; placed = epoch_day day; released = Some (epoch_day day) }
+      ∷ [];
+}
+unfolding deposited drawn
+drawn_rows day = refl

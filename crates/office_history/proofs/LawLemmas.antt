@@ -1,0 +1,121 @@
+-- What holds and classes do over time, and what is served of a deposit.
+use Rattle.std.proofs.Common.{◌≡◌, ◌≢◌, ℕ, true, List, [], ◌∷◌, ◌++◌, Option, Some, None, Result, Ok, Err, refl, sym, ap, ◌∙◌, inl, inr, append_assoc, append-nil}
+use Rattle.std.specs.List.{filter_map}
+use Rattle.std.proofs.lemmas.Slice.Eq.{bytes_eq-Decides}
+use denote.Ref.{Bor}
+use Rattle.jiff.specs.Types.{Date}
+use Rattle.bag_text.specs.TransferForm.{File, set_text}
+use Rattle.bag_text.specs.TransferReading.{set_of}
+use Rattle.bag_text.specs.declared.set_fault.SetFault.{SetFault}
+use Rattle.office_core.specs.Retention.{due_of}
+use Rattle.office_core.specs.declared.answer.Answer.{Answer}
+use Rattle.office_core.specs.declared.answer.Answer.TheVariants as answers
+use Rattle.office_core.specs.declared.refusal.Refusal.{Refusal}
+use Rattle.office_core.specs.declared.request.Request.TheVariants.{Deposit as MakeDeposit, DownloadBag}
+use Rattle.office_history.specs.Histories.{History, Change, DefinedClass, OnCollection, Deposit, grown, deposit_in, deposits, deposit_numbered, accession_of, hold_numbered, released, released_in, covers, years_in, due}
+use Rattle.office_history.specs.Bags.{bag_of, valid_bag, if_valid, report_on}
+use Rattle.office_core.specs.FirstOf.{first_some}
+use Rattle.office_core.specs.declared.action.Action.TheVariants as acts
+use Rattle.bag_check.specs.Validity.{Report}
+use Rattle.office_history.specs.Refusals.{refusal, bad_as, no_such_collection, no_such_class, denied, taken, closed_ahead, bad_bag}
+use Rattle.office_history.specs.Answers.{answer, answer_unless, allowed_answer, told, change, changes_unless, deposit_change, after}
+use Rattle.office_history.specs.Runs.{Item, Step, Run, IsLater}
+use Rattle.office_history.proofs.ListLemmas.{first_said_front, last_said_last}
+use Rattle.office_history.proofs.LegalLemmas.{map_none}
+use Rattle.office_history.proofs.HistoryLemmas.{deposits_grown}
+
+-- ---- holds
+
+-- a hold of a collection reaches each of its deposits
+pub covers_collection : (h : History) (k n : ℕ) (day : Date) (name matter : List ℕ) (deposit : Deposit) → hold_numbered h k ≡ Some (day, record { target = OnCollection name; matter = matter }) → deposit.collection ≡ name → covers h k n deposit ≡ true
+covers_collection h k n day name matter deposit e same = rw (e, same) ((bytes_eq-Decides name name).1 refl)
+
+-- a hold that was released stays so
+pub released_stays : (h : History) (more : List Change) (k : ℕ) (day : Date) → released h k ≡ Some day → released (grown h more) k ≡ Some day
+released_stays h more k day e = first_said_front (released_in k) h.changes more day e
+
+-- ---- classes
+
+-- what the class was given last counts for each deposit of it, whenever that came
+pub revised_due : (h : History) (day : Date) (name : List ℕ) (years : Option ℕ) (deposit : Deposit) → deposit.class ≡ name → due (grown h (DefinedClass day name years ∷ [])) deposit ≡ due_of deposit.closed years
+revised_due h day name years deposit same =
+    let says : years_in deposit.class (DefinedClass day name years) ≡ Some years = rw (same, (bytes_eq-Decides name name).1 refl) refl in
+    rw (last_said_last (years_in deposit.class) h.changes (DefinedClass day name years) years says) refl
+
+-- ---- runs add to the history
+
+pub grown_by_none : (h : History) → h ≡ grown h []
+grown_by_none h = ap (λ (changes : List Change). record h { changes = changes }) (sym (append-nil h.changes))
+
+one_item : (h next : History) (item : Item) (given : Answer) → Step h item given next → IsLater h next
+one_item h next item given (inl failed) = ([], failed.1 ∙ grown_by_none h)
+one_item h next item given (inr served) = (change h item.0 item.1.now item.2, served.1)
+
+pub later_still : (h mid next : History) → IsLater h mid → IsLater mid next → IsLater h next
+later_still h mid next one rest =
+    (one.0 ++ rest.0, rest.1 ∙ ap (λ (x : History). grown x rest.0) one.1 ∙ ap (λ (changes : List Change). record h { changes = changes }) (append_assoc h.changes one.0 rest.0))
+
+pub run_grows : (items : List Item) (given : List Answer) (h next : History) → Run h items given next → IsLater h next
+run_grows [] [] h next r = ([], r ∙ grown_by_none h)
+run_grows [] (g ∷ given) h next r = absurd r
+run_grows (item ∷ items) [] h next r = absurd r
+run_grows (item ∷ items) (g ∷ given) h next r = later_still h r.0 next (one_item h r.0 item g r.1) (run_grows items given r.0 next r.2)
+
+-- ---- what was deposited
+
+-- of refusals none stands where there is no first one
+pub none_of : {A : Type 0} (o : Option A) (os : List (Option A)) → first_some (o ∷ os) ≡ None → (o ≡ None) × (first_some os ≡ None)
+none_of None os e = (refl, e)
+none_of (Some x) os e = absurd cc
+
+pub unrefused : (why : Option Refusal) (given wanted : Answer) → answer_unless why given ≡ wanted → ((r : Refusal) → wanted ≢ answers.Refused r) → (why ≡ None) × (given ≡ wanted)
+unrefused None given wanted e other = (refl, e)
+unrefused (Some r) given wanted e other = absurd (other r (sym e))
+
+good_bag : (r : Result (List File) (List ℕ)) → bad_as r ≡ None → (bag : List File) × (r ≡ Ok bag)
+good_bag (Ok bag) e = (bag, refl)
+good_bag (Err fault) e = absurd cc
+
+-- what stands of a deposit that is allowed
+pub record IsAllowedDeposit (h : History) (day : Date) (accession : List ℕ) (closed : Date) (text : List ℕ) : Type 0 where
+  pub new_accession : accession_of h accession ≡ None
+  pub bag : List File
+  pub read : bag_of text ≡ Ok bag
+
+pub allowed_deposit : (h : History) (day : Date) (caller collection class accession : List ℕ) (closed : Date) (text : Bor (List ℕ)) → refusal h day caller (MakeDeposit collection class accession closed text) ≡ None → IsAllowedDeposit h day accession closed text.now
+allowed_deposit h day caller collection class accession closed text e =
+    let a = none_of (no_such_collection h collection) _ e in
+    let b = none_of (no_such_class h class) _ a.1 in
+    let c = none_of (denied h caller acts.Deposit (Some collection) (Some class)) _ b.1 in
+    let d = none_of (taken h accession) _ c.1 in
+    let f = none_of (closed_ahead day closed) _ d.1 in
+    let g = none_of (bad_bag text.now) _ f.1 in
+    let bag = good_bag (bag_of text.now) g.0 in
+    record { new_accession = map_none _ (accession_of h accession) d.0; bag = bag.0; read = bag.1 }
+
+-- what the change of an allowed deposit adds
+pub deposit_adds : (h : History) (day : Date) (caller collection class accession : List ℕ) (closed : Date) (text : Bor (List ℕ)) (bag : List File) → refusal h day caller (MakeDeposit collection class accession closed text) ≡ None → bag_of text.now ≡ Ok bag
+    → deposits (after h day caller (MakeDeposit collection class accession closed text)) ≡ deposits h ++ (day, record { collection = collection; class = class; accession = accession; closed = closed; bag = bag }) ∷ []
+deposit_adds h day caller collection class accession closed text bag e is =
+    deposits_grown h (change h day caller (MakeDeposit collection class accession closed text))
+    ∙ ap (λ (why : Option Refusal). deposits h ++ filter_map deposit_in (changes_unless why (deposit_change day collection class accession closed (bag_of text.now)))) e
+    ∙ ap (λ (r : Result (List File) (List ℕ)). deposits h ++ filter_map deposit_in (deposit_change day collection class accession closed r)) is
+
+-- the form of the bag that a text gives is the text
+pub form_of : ((t : List ℕ) (files : List File) → set_of t ≡ Ok files → t ≡ set_text files) → (text : List ℕ) (bag : List File) → bag_of text ≡ Ok bag → text ≡ set_text bag
+form_of forms text bag e = by_set (set_of text) refl e
+  where
+    by_report : (files : List File) (r : Result Report (List ℕ)) → set_of text ≡ Ok files → if_valid files r ≡ Ok bag → text ≡ set_text bag
+    by_report files (Ok report) s e = let same : files ≡ bag = cc in forms text files s ∙ ap set_text same
+    by_report files (Err fault) s e = absurd cc
+
+    by_set : (r : Result (List File) SetFault) → set_of text ≡ r → valid_bag r ≡ Ok bag → text ≡ set_text bag
+    by_set (Err fault) s e = absurd cc
+    by_set (Ok files) s e = by_report files (report_on files) s e
+
+-- what is served of a deposit is the form of its bag
+pub served_form : (h : History) (day : Date) (caller : List ℕ) (n : ℕ) (found : Date × Deposit) (bytes : List ℕ) → deposit_numbered h n ≡ Some found → answer h day caller (DownloadBag n) ≡ answers.Bag bytes → bytes ≡ set_text found.1.bag
+served_form h day caller n found bytes there e =
+    let told_so = unrefused (refusal h day caller (DownloadBag n)) (allowed_answer h day caller (DownloadBag n)) (answers.Bag bytes) e (λ r. λ wrong. absurd cc) in
+    let is : answers.Bag (set_text found.1.bag) ≡ answers.Bag bytes = ap (λ (o : Option (Date × Deposit)). told o (λ d. answers.Bag (set_text d.1.bag))) (sym there) ∙ told_so.1 in
+    cc

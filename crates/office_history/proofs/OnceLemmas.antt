@@ -1,0 +1,188 @@
+-- Numbers and accessions are given once, and released holds are not live.
+use Rattle.std.proofs.Common.{◌≡◌, ◌≤◌, ℕ, zero, suc, ◌+◌, Bool, true, false, ◌&&◌, List, [], ◌∷◌, ◌++◌, length, Option, Some, None, slice_get, position, bytes_eq, refl, sym, ap, subst, ◌∙◌, inl, inr, ◌⊎◌, append-nil, length-append, arith, if◌then◌else◌, filter, cond, int_lt}
+use Rattle.std.specs.List.{filter_map}
+use Rattle.std.proofs.lemmas.Bool.{and_parts, true≢false}
+use Rattle.std.proofs.lemmas.Option.{same_Some}
+use Rattle.std.proofs.lemmas.Slice.Eq.{bytes_eq-Decides}
+use denote.Ref.{Bor}
+use Rattle.jiff.specs.Types.{Date}
+use Rattle.jiff.specs.Words.{epoch_day}
+use Rattle.office_core.specs.Rules.{allows}
+use Rattle.office_core.specs.FirstOf.{first_some, answer_if}
+use Rattle.office_core.specs.declared.action.Action.TheVariants as acts
+use Rattle.office_core.specs.declared.answer.Answer.TheVariants as answers
+use Rattle.office_core.specs.declared.rule.Decision.{Decision}
+use Rattle.office_core.specs.declared.retention.Due.{Due}
+use Rattle.office_core.specs.declared.retention.Due.TheVariants.{On, Never}
+use Rattle.office_core.specs.declared.refusal.Refusal.{Refusal}
+use Rattle.office_core.specs.declared.refusal.Refusal.TheVariants.{Held}
+use Rattle.office_core.specs.declared.facts.Verdict.TheVariants.{NotDue, DeniedByRule}
+use Rattle.office_core.specs.Verdicts as deciding
+use Rattle.office_core.specs.declared.request.Request.{Request}
+use Rattle.office_core.specs.declared.request.Request.TheVariants.{DefineClass, DefineCollection, Deposit as MakeDeposit, List as ListDeposits, Record, Holds, DownloadBag, DownloadFile, Audit, HoldDeposit, HoldCollection, Release, Dispose, DueList}
+use Rattle.office_history.specs.Lists.{numbered, numbers}
+use Rattle.office_history.specs.Histories.{History, Change, Installed, DefinedCollection, Deposit, has_collection, grown, deposit_in, deposits, deposit_numbered, gone, due, holds, released, is_live, covers, live_holds}
+use Rattle.office_history.specs.Bags.{bag_of}
+use Rattle.office_history.specs.Refusals.{refused, refusal, of_deposit, denied_at, is_gone, held, not_due}
+use Rattle.office_history.specs.Answers.{answer, change, changes_unless, deposit_change, allowed_change, after}
+use Rattle.office_history.specs.Runs.{IsLegal, new, install, serve}
+use Rattle.office_history.proofs.ListLemmas.{numbered_cases, none_passes}
+use Rattle.office_history.proofs.HistoryLemmas.{deposits_grown}
+use Rattle.office_history.proofs.LegalLemmas.{map_none}
+use Rattle.office_history.proofs.LawLemmas.{allowed_deposit, deposit_adds, unrefused}
+
+-- ---- accessions
+
+-- two deposits of a list with one accession are one
+abbrev pub AreApart : List (Date × Deposit) → Type 0
+AreApart ds = (n m : ℕ) (a b : Date × Deposit) → numbered ds n ≡ Some a → numbered ds m ≡ Some b → a.1.accession ≡ b.1.accession → n ≡ m
+
+-- no deposit of the list has the accession
+unused : (ds : List (Date × Deposit)) (accession : List ℕ) (n : ℕ) (a : Date × Deposit) → position (λ (d : Date × Deposit). bytes_eq d.1.accession accession) ds ≡ None → numbered ds n ≡ Some a → a.1.accession ≡ accession → ⊥
+unused ds accession zero a none at same = absurd cc
+unused ds accession (suc place) a none at same =
+    true≢false (sym ((bytes_eq-Decides a.1.accession accession).1 same) ∙ none_passes (λ (d : Date × Deposit). bytes_eq d.1.accession accession) ds place a none at)
+
+apart_added : (ds : List (Date × Deposit)) (added : Date × Deposit) → AreApart ds → position (λ (d : Date × Deposit). bytes_eq d.1.accession added.1.accession) ds ≡ None → AreApart (ds ++ added ∷ [])
+apart_added ds added apart none n m a b at_n at_m same =
+    elim (numbered_cases ds added n a at_n) [
+      | inl old_n ↦ elim (numbered_cases ds added m b at_m) [
+        | inl old_m ↦ apart n m a b old_n old_m same
+        | inr new_m ↦ absurd (unused ds added.1.accession n a none old_n (same ∙ ap (λ (d : Date × Deposit). d.1.accession) (sym new_m.1)))
+      ]
+      | inr new_n ↦ elim (numbered_cases ds added m b at_m) [
+        | inl old_m ↦ absurd (unused ds added.1.accession m b none old_m (sym same ∙ ap (λ (d : Date × Deposit). d.1.accession) (sym new_n.1)))
+        | inr new_m ↦ new_n.0 ∙ sym new_m.0
+      ]
+    ]
+
+-- ---- numbers
+
+-- a deposit was answered, so it was allowed
+pub was_allowed : (h : History) (day : Date) (caller collection class accession : List ℕ) (closed : Date) (text : Bor (List ℕ)) (n : ℕ) → answer h day caller (MakeDeposit collection class accession closed text) ≡ answers.Deposited n → (refusal h day caller (MakeDeposit collection class accession closed text) ≡ None) × (length (deposits h) + 1 ≡ n)
+was_allowed h day caller collection class accession closed text n e =
+    let r = unrefused (refusal h day caller (MakeDeposit collection class accession closed text)) (answers.Deposited (length (deposits h) + 1)) (answers.Deposited n) e (λ r. λ wrong. absurd cc) in
+    (r.0, (let same = r.1 in cc))
+
+pub more_deposits : (h : History) (more : List Change) → length (deposits h) ≤ length (deposits (grown h more))
+more_deposits h more = rw (deposits_grown h more, length-append (deposits h) (filter_map deposit_in more)) (omega arith)
+
+silent : (why : Option Refusal) (changes : List Change) → filter_map deposit_in changes ≡ [] → filter_map deposit_in (changes_unless why changes) ≡ []
+silent None changes e = e
+silent (Some r) changes e = refl
+
+same_deposits : (h : History) (day : Date) (caller : List ℕ) (request : Request) → filter_map deposit_in (allowed_change h day request) ≡ [] → deposits (after h day caller request) ≡ deposits h
+same_deposits h day caller request e =
+    deposits_grown h (change h day caller request)
+    ∙ ap (λ (more : List (Date × Deposit)). deposits h ++ more) (silent (refusal h day caller request) (allowed_change h day request) e)
+    ∙ append-nil (deposits h)
+
+collection_silent : (there : Bool) (day : Date) (name : List ℕ) → filter_map deposit_in (if there then [] else DefinedCollection day name ∷ []) ≡ []
+collection_silent true day name = refl
+collection_silent false day name = refl
+
+-- a request leaves the accessions apart
+apart_served : (h : History) (day : Date) (caller : List ℕ) (request : Request) → AreApart (deposits h) → AreApart (deposits (after h day caller request))
+apart_served h day caller (MakeDeposit collection class accession closed text) apart = by_refusal (refusal h day caller (MakeDeposit collection class accession closed text)) refl
+  where
+    by_refusal : (why : Option Refusal) → refusal h day caller (MakeDeposit collection class accession closed text) ≡ why → AreApart (deposits (after h day caller (MakeDeposit collection class accession closed text)))
+    by_refusal (Some r) is = subst AreApart (sym (deposits_grown h (change h day caller (MakeDeposit collection class accession closed text)) ∙ ap (λ (why : Option Refusal). deposits h ++ filter_map deposit_in (changes_unless why (deposit_change day collection class accession closed (bag_of text.now)))) is ∙ append-nil (deposits h))) apart
+    by_refusal None is =
+        let allowed = allowed_deposit h day caller collection class accession closed text is in
+        let made : Deposit = record { collection = collection; class = class; accession = accession; closed = closed; bag = allowed.bag } in
+        subst AreApart (sym (deposit_adds h day caller collection class accession closed text allowed.bag is allowed.read)) (apart_added (deposits h) (day, made) apart (map_none _ _ allowed.new_accession))
+apart_served h day caller (DefineCollection name) apart = subst AreApart (sym (same_deposits h day caller (DefineCollection name) (collection_silent (has_collection h name) day name))) apart
+apart_served h day caller (DefineClass name years) apart = subst AreApart (sym (same_deposits h day caller (DefineClass name years) refl)) apart
+apart_served h day caller (HoldDeposit n matter) apart = subst AreApart (sym (same_deposits h day caller (HoldDeposit n matter) refl)) apart
+apart_served h day caller (HoldCollection name matter) apart = subst AreApart (sym (same_deposits h day caller (HoldCollection name matter) refl)) apart
+apart_served h day caller (Release k) apart = subst AreApart (sym (same_deposits h day caller (Release k) refl)) apart
+apart_served h day caller (Dispose n) apart = subst AreApart (sym (same_deposits h day caller (Dispose n) refl)) apart
+apart_served h day caller (ListDeposits collection class) apart = subst AreApart (sym (same_deposits h day caller (ListDeposits collection class) refl)) apart
+apart_served h day caller (Record n) apart = subst AreApart (sym (same_deposits h day caller (Record n) refl)) apart
+apart_served h day caller (Holds n) apart = subst AreApart (sym (same_deposits h day caller (Holds n) refl)) apart
+apart_served h day caller (DownloadBag n) apart = subst AreApart (sym (same_deposits h day caller (DownloadBag n) refl)) apart
+apart_served h day caller (DownloadFile n path) apart = subst AreApart (sym (same_deposits h day caller (DownloadFile n path) refl)) apart
+apart_served h day caller (Audit n) apart = subst AreApart (sym (same_deposits h day caller (Audit n) refl)) apart
+apart_served h day caller DueList apart = subst AreApart (sym (same_deposits h day caller DueList refl)) apart
+
+none_apart : AreApart []
+none_apart zero m a b at_n at_m same = absurd cc
+none_apart (suc n) m a b at_n at_m same = absurd cc
+
+pub accessions_apart : (h : History) → IsLegal h → AreApart (deposits h)
+accessions_apart h (new a b) = none_apart
+accessions_apart h (install before policy names legal) = subst AreApart (sym (deposits_grown before (Installed policy ∷ []) ∙ append-nil (deposits before))) (accessions_apart before legal)
+accessions_apart h (serve before day caller request legal) = apart_served before day caller request (accessions_apart before legal)
+
+-- ---- released holds
+
+-- an item that a filter keeps passes its test
+kept_passes : (p : ℕ → Bool) (ks : List ℕ) (i k : ℕ) → slice_get (filter p ks) i ≡ Some k → p k ≡ true
+kept_passes p [] i k e = absurd cc
+kept_passes p (x ∷ ks) i k e = by_test (p x) refl i e (λ j found. kept_passes p ks j k found)
+  where
+    at : (j : ℕ) → p x ≡ true → slice_get (x ∷ filter p ks) j ≡ Some k → ((l : ℕ) → slice_get (filter p ks) l ≡ Some k → p k ≡ true) → p k ≡ true
+    at zero is e later = subst (λ y. p y ≡ true) (same_Some _ _ e) is
+    at (suc l) is e later = later l e
+
+    by_test : (t : Bool) → p x ≡ t → (j : ℕ) → slice_get (cond t (x ∷ filter p ks) (filter p ks)) j ≡ Some k → ((l : ℕ) → slice_get (filter p ks) l ≡ Some k → p k ≡ true) → p k ≡ true
+    by_test true is j e later = at j is e later
+    by_test false is j e later = later j e
+
+-- a hold that was released is none of the live ones
+pub not_among_live : (h : History) (k i n : ℕ) (day : Date) (deposit : Deposit) → released h k ≡ Some day → slice_get (live_holds h n deposit) i ≡ Some k → ⊥
+not_among_live h k i n day deposit e at =
+    let passes : (is_live h k && covers h k n deposit) ≡ true = kept_passes (λ j. is_live h j && covers h j n deposit) (numbers (length (holds h))) i k at in
+    let alive : is_live h k ≡ true = (and_parts _ _ passes).0 in
+    let dead : is_live h k ≡ false = rw e refl in
+    true≢false (sym alive ∙ dead)
+
+-- what the first refusal is
+first_is : {A : Type 0} (o : Option A) (os : List (Option A)) (x : A) → first_some (o ∷ os) ≡ Some x → (o ≡ Some x) ⊎ (first_some os ≡ Some x)
+first_is None os x e = inr e
+first_is (Some y) os x e = inl e
+
+denied_is_not_held : (d : Option Decision) (k : ℕ) → refused (deciding.denied d) ≡ Some (Held k) → ⊥
+denied_is_not_held None k e = absurd cc
+denied_is_not_held (Some d) k e = by_effect (allows d.effect) e
+  where
+    by_effect : (t : Bool) → refused (if t then None else Some (DeniedByRule d.rule)) ≡ Some (Held k) → ⊥
+    by_effect true e = absurd cc
+    by_effect false e = absurd cc
+
+gone_is_not_held : (o : Option Date) (k : ℕ) → refused (deciding.gone o) ≡ Some (Held k) → ⊥
+gone_is_not_held None k e = absurd cc
+gone_is_not_held (Some day) k e = absurd cc
+
+due_is_not_held : (day : Date) (d : Due) (k : ℕ) → refused (deciding.not_due day d) ≡ Some (Held k) → ⊥
+due_is_not_held day (On date) k e = by_test (int_lt (epoch_day day) (epoch_day date)) e
+  where
+    by_test : (t : Bool) → refused (answer_if t (NotDue date)) ≡ Some (Held k) → ⊥
+    by_test true e = absurd cc
+    by_test false e = absurd cc
+due_is_not_held day Never k e = absurd cc
+
+held_by : (ks : Option ℕ) (k : ℕ) → refused (deciding.held ks) ≡ Some (Held k) → ks ≡ Some k
+held_by None k e = absurd cc
+held_by (Some j) k e = let same : j ≡ k = cc in ap Some same
+
+-- and refuses no disposal
+pub refuses_none : (h : History) (day on : Date) (caller : List ℕ) (k n : ℕ) → released h k ≡ Some on → refusal h day caller (Dispose n) ≡ Some (Held k) → ⊥
+refuses_none h day on caller k n dead e = by_deposit (deposit_numbered h n) e
+  where
+    by_deposit : (there : Option (Date × Deposit)) → first_some (of_deposit there (λ d. denied_at h caller acts.Dispose d ∷ is_gone h n ∷ held h n d ∷ not_due h day d ∷ [])) ≡ Some (Held k) → ⊥
+    by_deposit None e = absurd cc
+    by_deposit (Some found) e =
+        elim (first_is (denied_at h caller acts.Dispose found.1) _ (Held k) e) [
+          | inl a ↦ denied_is_not_held _ k a
+          | inr b ↦ elim (first_is (is_gone h n) _ (Held k) b) [
+            | inl a ↦ gone_is_not_held (gone h n) k a
+            | inr c ↦ elim (first_is (held h n found.1) _ (Held k) c) [
+              | inl a ↦ not_among_live h k 0 n on found.1 dead (held_by (slice_get (live_holds h n found.1) 0) k a)
+              | inr d ↦ elim (first_is (not_due h day found.1) [] (Held k) d) [
+                | inl a ↦ due_is_not_held day (due h found.1) k a
+                | inr wrong ↦ absurd cc
+              ]
+            ]
+          ]
+        ]

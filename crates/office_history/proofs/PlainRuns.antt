@@ -1,0 +1,55 @@
+-- What the plain office does, item by item, and that it is a run.
+use Rattle.std.proofs.Common.{◌≡◌, ℕ, zero, suc, arith, append-nil, ◌≤◌, ◌+◌, ◌<◌, List, [], ◌∷◌, ◌++◌, length, drop, get_or, sym, ap, ◌∙◌, subst, refl, inl, inr, append_assoc}
+use Rattle.std.proofs.lemmas.List.{drop_more}
+use Rattle.office_core.specs.declared.answer.Answer.{Answer}
+use Rattle.std.specs.Prelude.{Result, Ok, Err, OnOk, OnErr}
+use Rattle.office_core.specs.Policies.{Contents, IsPolicy}
+use Rattle.office_history.specs.Histories.{History, Installed, grown}
+use Rattle.office_history.specs.Runs.{Item, Step, Run, IsLegal, install}
+use Rattle.office_history.specs.PlainOffices.{Serves, ServesAll}
+
+-- what the plain office does is a step of a run
+step_of : (h : History) (item : Item) (given : Answer) (next : History) → Serves h item.0 item.1.now item.2 given next → Step h item given next
+step_of h item given next (inl failed) = inl (rw failed.0 tt, failed.1)
+step_of h item given next (inr served) = inr served
+
+-- so what it does with many items is a run
+pub run_of : (items : List Item) (given : List Answer) (h next : History) → ServesAll h items given next → Run h items given next
+run_of [] [] h next all = all
+run_of [] (g ∷ given) h next all = absurd all
+run_of (item ∷ items) [] h next all = absurd all
+run_of (item ∷ items) (g ∷ given) h next all = (all.0, step_of h item g all.0 all.1, run_of items given all.0 next all.2)
+
+-- items that were served up to one, which is served, and those behind it
+pub run_on : (first h mid last : History) (items : List Item) (i : ℕ) (item : Item) (so_far more : List Answer) (given : Answer)
+    → i < length items → item ≡ get_or items i item → Serves h item.0 item.1.now item.2 given mid
+    → ((rest : List Answer) (end : History) → ServesAll h (drop i items) rest end → ServesAll first items (so_far ++ rest) end)
+    → ServesAll mid (drop (i + 1) items) more last → ServesAll first items ((so_far ++ given ∷ []) ++ more) last
+run_on first h mid last items i item so_far more given within is served begun rest =
+    let here : drop i items ≡ item ∷ drop (i + 1) items = drop_more items i item within ∙ ap (λ (x : Item). x ∷ drop (i + 1) items) (sym is) in
+    let P : List Item → Type 0 = λ left. ServesAll h left (given ∷ more) last in
+    let on : ServesAll h (drop i items) (given ∷ more) last = subst P (sym here) (mid, served, rest) in
+    let Q : List Answer → Type 0 = λ all. ServesAll first items all last in
+    subst Q (sym (append_assoc so_far (given ∷ []) more)) (begun (given ∷ more) last on)
+
+drop_past : {A : Type 0} (i : ℕ) (xs : List A) → length xs ≤ i → drop i xs ≡ []
+drop_past zero [] h = refl
+drop_past zero (x ∷ xs) h = absurd (omega arith)
+drop_past (suc i) [] h = refl
+drop_past (suc i) (x ∷ xs) h = drop_past i xs (omega arith)
+
+-- items that were served up to the end
+pub run_end : (first last : History) (items : List Item) (i : ℕ) (answers : List Answer)
+    → length items ≤ i
+    → ((rest : List Answer) (end : History) → ServesAll last (drop i items) rest end → ServesAll first items (answers ++ rest) end)
+    → ServesAll first items answers last
+run_end first last items i answers past begun =
+    let P : List Item → Type 0 = λ left. ServesAll last left [] last in
+    let Q : List Answer → Type 0 = λ all. ServesAll first items all last in
+    subst Q (append-nil answers) (begun [] last (subst P (sym (drop_past i items past)) refl))
+
+-- an install keeps a history legal, and so does one that failed
+pub install_legal : {E : Type 0} (h next : History) (policy : Contents) (r : Result (Unit {0}) E) → IsPolicy policy
+    → OnOk r (next ≡ grown h (Installed policy ∷ [])) → OnErr r (next ≡ h) → IsLegal h → IsLegal next
+install_legal h next policy (Ok x) names installed failed legal = subst IsLegal (sym installed) (install h policy names legal)
+install_legal h next policy (Err e) names installed failed legal = subst IsLegal (sym failed) legal

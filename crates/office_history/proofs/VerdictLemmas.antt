@@ -1,0 +1,69 @@
+-- The refusals of what is asked of a deposit are those of the verdict on what is known of it.
+use Rattle.std.proofs.Common.{◌≡◌, ◌∙◌, ℕ, Bool, true, false, List, [], ◌∷◌, Option, Some, None, int_lt, refl, ap, if◌then◌else◌}
+use Rattle.std.specs.Prelude.{unwrap_or}
+use Rattle.jiff.specs.Types.{Date}
+use Rattle.jiff.specs.Words.{epoch_day}
+use Rattle.office_core.specs.FirstOf.{first_some, answer_if}
+use Rattle.office_core.specs.Rules.{allows}
+use Rattle.office_core.specs.Verdicts as deciding
+use Rattle.office_core.specs.Verdicts.{verdict_of, is_dispose, of_disposal}
+use Rattle.office_core.specs.declared.action.Action.{Action}
+use Rattle.office_core.specs.declared.action.Action.TheVariants as acts
+use Rattle.office_core.specs.declared.facts.Verdict.{Verdict}
+use Rattle.office_core.specs.declared.facts.Verdict.TheVariants.{Allow, NotDue, DeniedByRule}
+use Rattle.office_core.specs.declared.refusal.Refusal.{Refusal}
+use Rattle.office_core.specs.declared.retention.Due.{Due}
+use Rattle.office_core.specs.declared.retention.Due.TheVariants.{On, Never}
+use Rattle.office_core.specs.declared.rule.Decision.{Decision}
+use Rattle.office_core.specs.declared.request.Request.TheVariants.{Dispose}
+use Rattle.office_history.specs.Histories.{History, Deposit, deposit_numbered, gone, due, least_hold}
+use Rattle.office_history.specs.Refusals.{refusal_of, refused, decided_at, facts_of, asked_row, disposal_row, of_deposit, refusal}
+
+-- verdicts that each refuse, where they stand
+abbrev first_verdict : List (Option Verdict) → Option Refusal
+first_verdict verdicts = refusal_of (unwrap_or (first_some verdicts) Allow)
+
+-- the rules refuse first, then that the deposit is gone
+by_rules : (decision : Option Decision) (day : Option Date) (verdicts : List (Option Verdict)) (refusals : List (Option Refusal)) → first_some refusals ≡ first_verdict verdicts
+    → first_some (refused (deciding.denied decision) ∷ refused (deciding.gone day) ∷ refusals) ≡ first_verdict (deciding.denied decision ∷ deciding.gone day ∷ verdicts)
+by_rules None day verdicts refusals same = refl
+by_rules (Some decision) day verdicts refusals same = by_effect (allows decision.effect) day
+  where
+    by_effect : (t : Bool) (day : Option Date)
+        → first_some (refused (if t then None else Some (DeniedByRule decision.rule)) ∷ refused (deciding.gone day) ∷ refusals)
+        ≡ first_verdict ((if t then None else Some (DeniedByRule decision.rule)) ∷ deciding.gone day ∷ verdicts)
+    by_effect false day = refl
+    by_effect true (Some on) = refl
+    by_effect true None = same
+
+-- and of a disposal a hold, and the due day
+by_hold : (hold : Option ℕ) (day : Date) (due : Due) → first_some (refused (deciding.held hold) ∷ refused (deciding.not_due day due) ∷ []) ≡ first_verdict (deciding.held hold ∷ deciding.not_due day due ∷ [])
+by_hold (Some k) day due = refl
+by_hold None day Never = refl
+by_hold None day (On date) = by_day (int_lt (epoch_day day) (epoch_day date))
+  where
+    by_day : (t : Bool) → first_some (refused (answer_if t (NotDue date)) ∷ []) ≡ first_verdict (answer_if t (NotDue date) ∷ [])
+    by_day true = refl
+    by_day false = refl
+
+pub asked_verdict : (h : History) (day : Date) (caller : List ℕ) (action : Action) (n : ℕ) (deposit : Deposit)
+    → first_some (asked_row h day caller action n deposit) ≡ refusal_of (verdict_of (facts_of h caller action n deposit) day)
+asked_verdict h day caller acts.Dispose n deposit =
+    by_rules (decided_at h caller acts.Dispose deposit) (gone h n) (deciding.held (least_hold h n deposit) ∷ deciding.not_due day (due h deposit) ∷ []) (refused (deciding.held (least_hold h n deposit)) ∷ refused (deciding.not_due day (due h deposit)) ∷ [])
+    (by_hold (least_hold h n deposit) day (due h deposit))
+asked_verdict h day caller acts.Class n deposit = by_rules (decided_at h caller acts.Class deposit) (gone h n) (None ∷ None ∷ []) [] refl
+asked_verdict h day caller acts.Collection n deposit = by_rules (decided_at h caller acts.Collection deposit) (gone h n) (None ∷ None ∷ []) [] refl
+asked_verdict h day caller acts.Deposit n deposit = by_rules (decided_at h caller acts.Deposit deposit) (gone h n) (None ∷ None ∷ []) [] refl
+asked_verdict h day caller acts.List n deposit = by_rules (decided_at h caller acts.List deposit) (gone h n) (None ∷ None ∷ []) [] refl
+asked_verdict h day caller acts.Record n deposit = by_rules (decided_at h caller acts.Record deposit) (gone h n) (None ∷ None ∷ []) [] refl
+asked_verdict h day caller acts.Holds n deposit = by_rules (decided_at h caller acts.Holds deposit) (gone h n) (None ∷ None ∷ []) [] refl
+asked_verdict h day caller acts.Download n deposit = by_rules (decided_at h caller acts.Download deposit) (gone h n) (None ∷ None ∷ []) [] refl
+asked_verdict h day caller acts.Audit n deposit = by_rules (decided_at h caller acts.Audit deposit) (gone h n) (None ∷ None ∷ []) [] refl
+asked_verdict h day caller acts.Hold n deposit = by_rules (decided_at h caller acts.Hold deposit) (gone h n) (None ∷ None ∷ []) [] refl
+asked_verdict h day caller acts.Release n deposit = by_rules (decided_at h caller acts.Release deposit) (gone h n) (None ∷ None ∷ []) [] refl
+
+pub disposal_verdict : (h : History) (day : Date) (caller : List ℕ) (n : ℕ) (found : Date × Deposit) → deposit_numbered h n ≡ Some found
+    → refusal h day caller (Dispose n) ≡ refusal_of (verdict_of (facts_of h caller acts.Dispose n found.1) day)
+disposal_verdict h day caller n found there =
+    ap (λ (x : Option (Date × Deposit)). first_some (of_deposit x (disposal_row h day caller n))) there
+    ∙ asked_verdict h day caller acts.Dispose n found.1

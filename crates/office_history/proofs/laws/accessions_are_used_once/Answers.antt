@@ -1,0 +1,5 @@
+use Rattle.office_history.proofs.OnceLemmas.{accessions_apart}
+use Rattle.office_history.proofs.laws.accessions_are_used_once.Goals as goal
+
+pub returns : goal.returns
+returns c = accessions_apart

@@ -1,0 +1,22 @@
+use Rattle.std.proofs.Common.{◌≡◌, ◌∙◌, ap, sym, inl, inr, List}
+use Rattle.office_core.specs.declared.answer.Answer.TheVariants as answers
+use Rattle.office_core.specs.declared.refusal.Refusal.{Refusal}
+use Rattle.office_history.specs.Histories.{History, Change, grown}
+use Rattle.office_history.specs.Answers.{changes_unless, allowed_change}
+use Rattle.office_history.specs.Runs.{Item, Step}
+use Rattle.office_history.proofs.LawLemmas.{grown_by_none}
+use Rattle.office_history.proofs.AnsweredLemmas.{refused_change}
+use Rattle.office_history.proofs.laws.refused_changes_nothing.Goals as goal
+
+pub returns-clause-change : goal.returns-clause-change
+returns-clause-change c = λ h day caller request why is. ap (λ r. changes_unless r (allowed_change h day request)) is
+
+unchanged : (h next : History) (item : Item) (why : Refusal) → Step h item (answers.Refused why) next → next ≡ h
+unchanged h next item why (inl failed) = failed.1
+unchanged h next item why (inr served) =
+    served.1
+    ∙ ap (λ (more : List Change). grown h more) (refused_change h item.0 item.1.now item.2 why (sym served.0))
+    ∙ sym (grown_by_none h)
+
+pub returns-clause-answered : goal.returns-clause-answered
+returns-clause-answered c = unchanged

@@ -1,0 +1,152 @@
+-- What the office answers, and which change it accepts.
+use Rattle.std.specs.Prelude.{ℕ, ◌+◌, ◌&&◌, Bool, true, List, [], ◌∷◌, length, filter, Option, Some, None, Result, Ok, Err, is_none, bytes_eq, if◌then◌else◌}
+use Rattle.std.specs.List.{filter_map}
+use Rattle.std.specs.Option.{option_map_or}
+use Rattle.jiff.specs.Types.{Date}
+use Rattle.bag_text.specs.TransferForm.{File, set_text, content_at}
+use Rattle.bag_check.specs.Validity.{Report, payload_files, payload_bytes}
+use Rattle.office_core.specs.declared.action.Action.TheVariants as acts
+use Rattle.office_core.specs.declared.answer.Answer.{Answer}
+use Rattle.office_core.specs.declared.answer.Answer.TheVariants as answers
+use Rattle.office_core.specs.declared.answer.AuditReport.{AuditReport}
+use Rattle.office_core.specs.declared.answer.AuditReport.TheVariants.{Valid, Invalid}
+use Rattle.office_core.specs.declared.answer.DepositRecord.{DepositRecord}
+use Rattle.office_core.specs.declared.answer.LiveHold.{LiveHold}
+use Rattle.office_core.specs.declared.answer.Scope.{Scope}
+use Rattle.office_core.specs.declared.answer.Scope.TheVariants as scopes
+use Rattle.office_core.specs.declared.refusal.Subject.TheVariants as subjects
+use Rattle.office_core.specs.declared.refusal.Refusal.{Refusal}
+use Rattle.office_core.specs.declared.refusal.Refusal.TheVariants.{NoSuch, NoFile}
+use Rattle.office_core.specs.declared.request.Request.{Request}
+use Rattle.office_core.specs.declared.request.Request.TheVariants.{DefineClass, DefineCollection, Deposit as MakeDeposit, List as ListDeposits, Record, Holds, DownloadBag, DownloadFile, Audit, HoldDeposit, HoldCollection, Release, Dispose, DueList}
+use Rattle.office_history.specs.Histories.{History, Change, DefinedClass, DefinedCollection, Deposited, PlacedHold, ReleasedHold, Destroyed, Deposit, Hold, Target, OnDeposit, OnCollection, grown, has_collection, deposits, deposit_numbered, kept, due, holds, hold_numbered, live_holds}
+use Rattle.office_history.specs.Bags.{bag_of, report_on}
+use Rattle.office_history.specs.Refusals.{denied_at, refusal}
+
+-- ---- what is told of a deposit
+
+abbrev pub record_of : History → ℕ → Date × Deposit → DepositRecord
+record_of h n found = record {
+  number = n;
+  accession = found.1.accession;
+  collection = found.1.collection;
+  class = found.1.class;
+  closed = found.1.closed;
+  deposited = found.0;
+  files = payload_files found.1.bag;
+  bytes = payload_bytes found.1.bag;
+  due = due h found.1;
+}
+
+-- of the deposit of a number, if there is one
+abbrev pub of_number : {A : Type 0} → History → (Date × Deposit → Option A) → ℕ → Option A
+of_number h tell n = option_map_or tell (deposit_numbered h n) None
+
+-- ---- lists
+
+-- what is asked for by name, or everything
+abbrev pub is_asked : Option (List ℕ) → List ℕ → Bool
+is_asked None name = true
+is_asked (Some only) name = bytes_eq only name
+
+-- a deposit that the caller may list
+abbrev pub is_listed : History → List ℕ → Option (List ℕ) → Option (List ℕ) → Deposit → Bool
+is_listed h caller collection class deposit =
+    is_asked collection deposit.collection && is_asked class deposit.class && is_none (denied_at h caller acts.List deposit)
+
+abbrev pub listed_record : History → List ℕ → Option (List ℕ) → Option (List ℕ) → ℕ → Option DepositRecord
+listed_record h caller collection class n =
+    of_number h (λ found. if is_listed h caller collection class found.1 then Some (record_of h n found) else None) n
+
+-- the kept deposits, of the collection and class asked for, that the caller may list, ascending
+abbrev pub listed_records : History → List ℕ → Option (List ℕ) → Option (List ℕ) → List DepositRecord
+listed_records h caller collection class = filter_map (listed_record h caller collection class) (kept h)
+
+-- the deposits that the caller may destroy on that day, ascending: those whose disposal would be accepted
+abbrev pub due_list : History → Date → List ℕ → List ℕ
+due_list h day caller = filter (λ n. is_none (refusal h day caller (Dispose n))) (kept h)
+
+abbrev pub scope_of : Target → Scope
+scope_of (OnDeposit n) = scopes.Deposit
+scope_of (OnCollection name) = scopes.Collection
+
+abbrev pub live_hold : ℕ → Date × Hold → LiveHold
+live_hold k found = record { number = k; matter = found.1.matter; on = scope_of found.1.target; placed = found.0 }
+
+abbrev pub told_hold : History → ℕ → Option LiveHold
+told_hold h k = option_map_or (λ found. Some (live_hold k found)) (hold_numbered h k) None
+
+-- the live holds that cover a deposit, ascending
+abbrev pub told_holds : History → ℕ → Deposit → List LiveHold
+told_holds h n deposit = filter_map (told_hold h) (live_holds h n deposit)
+
+-- ---- audit
+
+abbrev pub audited : Result Report (List ℕ) → AuditReport
+audited (Ok report) = Valid (record { version = report.version; files = report.files; bytes = report.bytes; manifests = report.manifests })
+audited (Err fault) = Invalid fault
+
+-- ---- the answer to a request that isn't refused
+
+-- of a deposit that is there
+abbrev pub told : Option (Date × Deposit) → (Date × Deposit → Answer) → Answer
+told None tell = answers.Refused (NoSuch subjects.Deposit)
+told (Some found) tell = tell found
+
+abbrev pub file_answer : Option (List ℕ) → Answer
+file_answer None = answers.Refused NoFile
+file_answer (Some content) = answers.File content
+
+abbrev pub allowed_answer : History → Date → List ℕ → Request → Answer
+allowed_answer h day caller (DefineClass name years) = answers.Class name years
+allowed_answer h day caller (DefineCollection name) = answers.Collection name
+allowed_answer h day caller (MakeDeposit collection class accession closed bag) = answers.Deposited (length (deposits h) + 1)
+allowed_answer h day caller (ListDeposits collection class) = answers.List (listed_records h caller collection class)
+allowed_answer h day caller (Record n) = told (deposit_numbered h n) (λ found. answers.Record (record_of h n found))
+allowed_answer h day caller (Holds n) = told (deposit_numbered h n) (λ found. answers.Holds (told_holds h n found.1))
+allowed_answer h day caller (DownloadBag n) = told (deposit_numbered h n) (λ found. answers.Bag (set_text found.1.bag))
+allowed_answer h day caller (DownloadFile n path) = told (deposit_numbered h n) (λ found. file_answer (content_at found.1.bag path.now))
+allowed_answer h day caller (Audit n) = told (deposit_numbered h n) (λ found. answers.Audit n (audited (report_on found.1.bag)))
+allowed_answer h day caller (HoldDeposit n matter) = answers.Held (length (holds h) + 1)
+allowed_answer h day caller (HoldCollection name matter) = answers.Held (length (holds h) + 1)
+allowed_answer h day caller (Release k) = answers.Released k day
+allowed_answer h day caller (Dispose n) = answers.Destroyed n day
+allowed_answer h day caller DueList = answers.DueList day (due_list h day caller)
+
+-- ---- the change that it makes, if it makes one
+
+abbrev pub deposit_change : Date → List ℕ → List ℕ → List ℕ → Date → Result (List File) (List ℕ) → List Change
+deposit_change day collection class accession closed (Ok bag) =
+    Deposited day (record { collection = collection; class = class; accession = accession; closed = closed; bag = bag }) ∷ []
+deposit_change day collection class accession closed (Err fault) = []
+
+abbrev pub allowed_change : History → Date → Request → List Change
+allowed_change h day (DefineClass name years) = DefinedClass day name years ∷ []
+allowed_change h day (DefineCollection name) = if has_collection h name then [] else DefinedCollection day name ∷ []
+allowed_change h day (MakeDeposit collection class accession closed bag) = deposit_change day collection class accession closed (bag_of bag.now)
+allowed_change h day (HoldDeposit n matter) = PlacedHold day (record { target = OnDeposit n; matter = matter }) ∷ []
+allowed_change h day (HoldCollection name matter) = PlacedHold day (record { target = OnCollection name; matter = matter }) ∷ []
+allowed_change h day (Release k) = ReleasedHold day k ∷ []
+allowed_change h day (Dispose n) = Destroyed day n ∷ []
+allowed_change h day _ = []
+
+-- ---- with the verdict
+
+abbrev pub answer_unless : Option Refusal → Answer → Answer
+answer_unless None answer = answer
+answer_unless (Some why) answer = answers.Refused why
+
+-- the answer of the office on that day to that caller
+abbrev pub answer : History → Date → List ℕ → Request → Answer
+answer h day caller request = answer_unless (refusal h day caller request) (allowed_answer h day caller request)
+
+abbrev pub changes_unless : Option Refusal → List Change → List Change
+changes_unless None changes = changes
+changes_unless (Some why) changes = []
+
+-- the change that the request makes, if it makes one: a refusal makes none
+abbrev pub change : History → Date → List ℕ → Request → List Change
+change h day caller request = changes_unless (refusal h day caller request) (allowed_change h day request)
+
+abbrev pub after : History → Date → List ℕ → Request → History
+after h day caller request = grown h (change h day caller request)

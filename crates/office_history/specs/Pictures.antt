@@ -1,0 +1,144 @@
+-- The rows that a history gives: what the tables of an office hold after its changes, and nothing else. Days stand as day
+-- numbers, 0 for 1 January 1970, and years as numbers, -1 where a class keeps its deposits for good.
+use Rattle.std.specs.Prelude.{ℕ, ◌+◌, ℤ, pos, neg_ℤ, List, [], ◌∷◌, length, map, Option, Some, None, option_map, codes}
+use Rattle.std.specs.List.{filter_map, flat_map}
+use Rattle.jiff.specs.Types.{Date}
+use Rattle.jiff.specs.Words.{epoch_day}
+use Rattle.bag_text.specs.TransferForm.{File}
+use Rattle.bag_check.specs.Validity.{payload_files, payload_bytes}
+use Rattle.office_core.specs.Actions.{action_text}
+use Rattle.office_core.specs.declared.rule.Effect.{Effect}
+use Rattle.office_core.specs.declared.rule.Effect.TheVariants.{Allow, Deny}
+use Rattle.office_core.specs.declared.rule.Pattern.{Pattern}
+use Rattle.office_core.specs.declared.rule.Pattern.TheVariants as names
+use Rattle.office_core.specs.declared.rule.ActionPattern.{ActionPattern}
+use Rattle.office_core.specs.declared.rule.ActionPattern.TheVariants as acts
+use Rattle.office_core.specs.declared.rule.Rule.{Rule}
+use Rattle.office_core.specs.declared.caller.Caller.{Caller}
+use Rattle.office_rows.specs.Rows.{OfficeRow, CallerRow, RuleRow, ClassRow, DepositRow, FileRow, HoldRow, Tables}
+use Rattle.office_history.specs.Lists.{numbers, in_first_places}
+use Rattle.office_history.specs.Histories.{History, Change, DefinedClass, Deposit, Hold, Target, OnDeposit, OnCollection, policy, years_of, collection_in, deposits, deposit_numbered, gone, kept, holds, hold_numbered, released}
+use Rattle.office_history.specs.Stocks.{files_of}
+
+-- ---- one row each
+
+abbrev pub office_row : ℤ → History → OfficeRow
+office_row version h = record { id = pos 1; version = version; max_deposits = pos h.max_deposits; max_holds = pos h.max_holds }
+
+abbrev pub caller_row : Caller → CallerRow
+caller_row caller = record { name = caller.name; role = caller.role }
+
+abbrev pub effect_number : Effect → ℤ
+effect_number Allow = pos 1
+effect_number Deny = pos 0
+
+abbrev pub pattern_text : Pattern → List ℕ
+pattern_text names.Any = codes "*"
+pattern_text (names.Named only) = only
+
+abbrev pub action_pattern_text : ActionPattern → List ℕ
+action_pattern_text acts.Any = codes "*"
+action_pattern_text (acts.Only action) = action_text action
+
+abbrev pub rule_row : ℕ → Rule → RuleRow
+rule_row place rule = record {
+  place = pos place;
+  effect = effect_number rule.effect;
+  role = pattern_text rule.role;
+  action = action_pattern_text rule.action;
+  collection = pattern_text rule.collection;
+  class = pattern_text rule.class;
+}
+
+-- from that place on
+abbrev pub rule_rows : ℕ → List Rule → List RuleRow
+rule_rows place [] = []
+rule_rows place (rule ∷ rules) = rule_row place rule ∷ rule_rows (place + 1) rules
+
+abbrev pub years_number : Option ℕ → ℤ
+years_number None = neg_ℤ (pos 1)
+years_number (Some years) = pos years
+
+abbrev pub class_row : List ℕ → Option ℕ → ClassRow
+class_row name years = record { name = name; years = years_number years }
+
+abbrev pub deposit_row : History → ℕ → Date × Deposit → DepositRow
+deposit_row h n found = record {
+  number = pos n;
+  accession = found.1.accession;
+  collection = found.1.collection;
+  class = found.1.class;
+  closed = epoch_day found.1.closed;
+  deposited = epoch_day found.0;
+  files = pos (payload_files found.1.bag);
+  bytes = pos (payload_bytes found.1.bag);
+  gone = option_map epoch_day (gone h n);
+}
+
+abbrev pub file_row : ℕ → File → FileRow
+file_row n file = record { deposit = pos n; path = file.path; content = file.content }
+
+abbrev pub held_deposit : Target → Option ℤ
+held_deposit (OnDeposit n) = Some (pos n)
+held_deposit (OnCollection name) = None
+
+abbrev pub held_collection : Target → Option (List ℕ)
+held_collection (OnDeposit n) = None
+held_collection (OnCollection name) = Some name
+
+abbrev pub hold_row : History → ℕ → Date × Hold → HoldRow
+hold_row h k found = record {
+  number = pos k;
+  deposit = held_deposit found.1.target;
+  collection = held_collection found.1.target;
+  matter = found.1.matter;
+  placed = epoch_day found.0;
+  released = option_map epoch_day (released h k);
+}
+
+-- ---- all rows
+
+-- the class that a change defines or revises
+abbrev pub class_in : Change → Option (List ℕ)
+class_in (DefinedClass day name years) = Some name
+class_in _ = None
+
+-- a class with its years as they stand
+abbrev pub row_of_class : History → List ℕ → Option ClassRow
+row_of_class h name = option_map (class_row name) (years_of h name)
+
+-- classes and collections in the order in which they were first defined, each once
+abbrev pub class_rows : History → List ClassRow
+class_rows h = filter_map (row_of_class h) (in_first_places (filter_map class_in h.changes))
+
+abbrev pub collection_rows : History → List (List ℕ)
+collection_rows h = in_first_places (filter_map collection_in h.changes)
+
+abbrev pub row_of_deposit : History → ℕ → Option DepositRow
+row_of_deposit h n = option_map (deposit_row h n) (deposit_numbered h n)
+
+abbrev pub deposit_rows : History → List DepositRow
+deposit_rows h = filter_map (row_of_deposit h) (numbers (length (deposits h)))
+
+-- the files of the deposits that are kept
+abbrev pub file_rows : History → List FileRow
+file_rows h = flat_map (λ n. map (file_row n) (files_of h n)) (kept h)
+
+abbrev pub row_of_hold : History → ℕ → Option HoldRow
+row_of_hold h k = option_map (hold_row h k) (hold_numbered h k)
+
+abbrev pub hold_rows : History → List HoldRow
+hold_rows h = filter_map (row_of_hold h) (numbers (length (holds h)))
+
+-- what the tables of this version hold
+abbrev pub picture : ℤ → History → Tables
+picture version h = record {
+  office = office_row version h ∷ [];
+  callers = map caller_row (policy h).callers;
+  rules = rule_rows 1 (policy h).rules;
+  classes = class_rows h;
+  collections = collection_rows h;
+  deposits = deposit_rows h;
+  files = file_rows h;
+  holds = hold_rows h;
+}

@@ -1,0 +1,205 @@
+-- Which requests the office refuses, and why: for each request the refusals that it may meet, in their order. The first that
+-- stands is answered.
+use Rattle.std.specs.Prelude.{ℕ, not, List, [], ◌∷◌, length, Option, Some, None, Result, Ok, Err, ◌++◌, option_map, option_and_then, is_none, int_lt, nat_le, if◌then◌else◌}
+use Rattle.jiff.specs.Types.{Date}
+use Rattle.jiff.specs.Words.{epoch_day}
+use Rattle.bag_text.specs.TransferForm.{File, content_at}
+use Rattle.office_core.specs.FirstOf.{first_some, answer_if}
+use Rattle.office_core.specs.Policies.{role_of}
+use Rattle.office_core.specs.Rules.{decision_of}
+use Rattle.office_core.specs.Verdicts as deciding
+use Rattle.office_core.specs.Verdicts.{is_dispose}
+use Rattle.office_core.specs.declared.action.Action.{Action}
+use Rattle.office_core.specs.declared.action.Action.TheVariants as acts
+use Rattle.office_core.specs.declared.rule.Decision.{Decision}
+use Rattle.office_core.specs.declared.facts.Facts.{Facts}
+use Rattle.office_core.specs.declared.facts.Verdict.{Verdict}
+use Rattle.office_core.specs.declared.facts.Verdict.TheVariants as verdicts
+use Rattle.office_core.specs.declared.retention.Due.TheVariants.{On, Never}
+use Rattle.office_core.specs.declared.refusal.Subject.TheVariants as subjects
+use Rattle.office_core.specs.declared.refusal.Refusal.{Refusal}
+use Rattle.office_core.specs.declared.refusal.Refusal.TheVariants.{NoSuch, DeniedByRule, DeniedByDefault, Gone, Taken, ClosedAhead, BadBag, Held, NotDue, Released, Full, NoFile}
+use Rattle.office_core.specs.declared.request.Request.{Request}
+use Rattle.office_core.specs.declared.request.Request.TheVariants.{DefineClass, DefineCollection, Deposit as MakeDeposit, List as ListDeposits, Record, Holds, DownloadBag, DownloadFile, Audit, HoldDeposit, HoldCollection, Release, Dispose, DueList}
+use Rattle.office_history.specs.Histories.{History, Deposit, Hold, Target, OnDeposit, OnCollection, policy, has_class, has_collection, deposits, deposit_numbered, accession_of, gone, due, holds, hold_numbered, released, least_hold}
+use Rattle.office_history.specs.Bags.{bag_of}
+
+-- ---- the verdicts of `office_core`, as refusals
+
+abbrev pub refusal_of : Verdict → Option Refusal
+refusal_of (verdicts.DeniedByRule rule) = Some (DeniedByRule rule)
+refusal_of verdicts.DeniedByDefault = Some DeniedByDefault
+refusal_of (verdicts.Gone day) = Some (Gone day)
+refusal_of (verdicts.Held hold) = Some (Held hold)
+refusal_of (verdicts.NotDue date) = Some (NotDue (On date))
+refusal_of verdicts.Permanent = Some (NotDue Never)
+refusal_of verdicts.Allow = None
+
+-- of a verdict that stands
+abbrev pub refused : Option Verdict → Option Refusal
+refused verdict = option_and_then refusal_of verdict
+
+-- the rule that decides, by the policy that was installed last
+abbrev pub decided : History → List ℕ → Action → Option (List ℕ) → Option (List ℕ) → Option Decision
+decided h caller action collection class =
+    decision_of (policy h).rules (record { role = role_of (policy h) caller; action = action; collection = collection; class = class })
+
+-- asked of a deposit: of its collection and its class
+abbrev pub decided_at : History → List ℕ → Action → Deposit → Option Decision
+decided_at h caller action deposit = decided h caller action (Some deposit.collection) (Some deposit.class)
+
+-- what is known of an action on a deposit
+abbrev pub facts_of : History → List ℕ → Action → ℕ → Deposit → Facts
+facts_of h caller action n deposit = record {
+  action = action;
+  decision = decided_at h caller action deposit;
+  gone = gone h n;
+  hold = least_hold h n deposit;
+  due = due h deposit;
+}
+
+-- ---- the refusals
+
+-- E2: the first rule that matches denies, or none matches
+abbrev pub denied : History → List ℕ → Action → Option (List ℕ) → Option (List ℕ) → Option Refusal
+denied h caller action collection class = refused (deciding.denied (decided h caller action collection class))
+
+-- asked of a deposit: of its collection and its class
+abbrev pub denied_at : History → List ℕ → Action → Deposit → Option Refusal
+denied_at h caller action deposit = denied h caller action (Some deposit.collection) (Some deposit.class)
+
+-- E1
+abbrev pub no_such_class : History → List ℕ → Option Refusal
+no_such_class h name = answer_if (not (has_class h name)) (NoSuch subjects.Class)
+
+abbrev pub no_such_collection : History → List ℕ → Option Refusal
+no_such_collection h name = answer_if (not (has_collection h name)) (NoSuch subjects.Collection)
+
+-- E3: the deposit was destroyed
+abbrev pub is_gone : History → ℕ → Option Refusal
+is_gone h n = refused (deciding.gone (gone h n))
+
+-- E4: a deposit, kept or destroyed, has the accession
+abbrev pub taken : History → List ℕ → Option Refusal
+taken h accession = option_map Taken (accession_of h accession)
+
+-- E5: the closing day comes after the day of the request
+abbrev pub closed_ahead : Date → Date → Option Refusal
+closed_ahead day closed = answer_if (int_lt (epoch_day day) (epoch_day closed)) ClosedAhead
+
+-- E6: the text is no transfer form, or that of a bag that isn't valid
+abbrev pub bad_as : Result (List File) (List ℕ) → Option Refusal
+bad_as (Ok bag) = None
+bad_as (Err fault) = Some (BadBag fault)
+
+abbrev pub bad_bag : List ℕ → Option Refusal
+bad_bag text = bad_as (bag_of text)
+
+-- E7: a live hold covers the deposit; the least number is named
+abbrev pub held : History → ℕ → Deposit → Option Refusal
+held h n deposit = refused (deciding.held (least_hold h n deposit))
+
+-- E8: the day comes before the due day, or there is none
+abbrev pub not_due : History → Date → Deposit → Option Refusal
+not_due h day deposit = refused (deciding.not_due day (due h deposit))
+
+-- E9: the hold was released
+abbrev pub is_released : History → ℕ → Option Refusal
+is_released h k = option_map Released (released h k)
+
+-- E10: as many deposits, or holds, were accepted as the office takes
+abbrev pub full_of_deposits : History → Option Refusal
+full_of_deposits h = answer_if (nat_le h.max_deposits (length (deposits h))) Full
+
+abbrev pub full_of_holds : History → Option Refusal
+full_of_holds h = answer_if (nat_le h.max_holds (length (holds h))) Full
+
+-- E13: the bag has no file at the path
+abbrev pub no_file : Deposit → List ℕ → Option Refusal
+no_file deposit path = answer_if (is_none (content_at deposit.bag path)) NoFile
+
+-- ---- in their order
+
+-- E1 where there is no deposit of the number, and else these
+abbrev pub of_deposit : Option (Date × Deposit) → (Deposit → List (Option Refusal)) → List (Option Refusal)
+of_deposit None these = Some (NoSuch subjects.Deposit) ∷ []
+of_deposit (Some found) these = these found.1
+
+-- E1 where there is no hold of the number, and else these
+abbrev pub of_hold : Option (Date × Hold) → (Hold → List (Option Refusal)) → List (Option Refusal)
+of_hold None these = Some (NoSuch subjects.Hold) ∷ []
+of_hold (Some found) these = these found.1
+
+-- a release is asked of what the hold names
+abbrev pub denied_release_of : History → List ℕ → Option (Date × Deposit) → Option Refusal
+denied_release_of h caller None = Some (NoSuch subjects.Deposit)
+denied_release_of h caller (Some found) = denied_at h caller acts.Release found.1
+
+abbrev pub denied_release : History → List ℕ → Target → Option Refusal
+denied_release h caller (OnDeposit n) = denied_release_of h caller (deposit_numbered h n)
+denied_release h caller (OnCollection name) = denied h caller acts.Release (Some name) None
+
+-- what is asked of a deposit that is there: E2 and E3
+abbrev pub kept_row : History → List ℕ → Action → ℕ → Deposit → List (Option Refusal)
+kept_row h caller action n d = denied_at h caller action d ∷ is_gone h n ∷ []
+
+-- its disposal: E2, E3, E7 and E8
+abbrev pub disposal_row : History → Date → List ℕ → ℕ → Deposit → List (Option Refusal)
+disposal_row h day caller n d =
+    denied_at h caller acts.Dispose d ∷ is_gone h n ∷ held h n d ∷ not_due h day d ∷ []
+
+-- either of the two, by the action
+abbrev pub asked_row : History → Date → List ℕ → Action → ℕ → Deposit → List (Option Refusal)
+asked_row h day caller action n d = if is_dispose action then disposal_row h day caller n d else kept_row h caller action n d
+
+-- a file of its bag: E2, E3 and E13
+abbrev pub file_row : History → List ℕ → ℕ → List ℕ → Deposit → List (Option Refusal)
+file_row h caller n path d = denied_at h caller acts.Download d ∷ is_gone h n ∷ no_file d path ∷ []
+
+-- a hold of it: E2, E3 and E10
+abbrev pub hold_row : History → List ℕ → ℕ → Deposit → List (Option Refusal)
+hold_row h caller n d = denied_at h caller acts.Hold d ∷ is_gone h n ∷ full_of_holds h ∷ []
+
+-- a hold of a collection: E1, E2 and E10
+abbrev pub collection_hold_row : History → List ℕ → List ℕ → List (Option Refusal)
+collection_hold_row h caller name =
+    no_such_collection h name ∷ denied h caller acts.Hold (Some name) None ∷ full_of_holds h ∷ []
+
+-- a release: E2 and E9
+abbrev pub release_row : History → List ℕ → ℕ → Hold → List (Option Refusal)
+release_row h caller k hold = denied_release h caller hold.target ∷ is_released h k ∷ []
+
+-- where a bag is deposited: E1 and E2
+abbrev pub place_row : History → List ℕ → List ℕ → List ℕ → List (Option Refusal)
+place_row h caller collection class =
+    no_such_collection h collection
+    ∷ no_such_class h class
+    ∷ denied h caller acts.Deposit (Some collection) (Some class)
+    ∷ []
+
+-- and what is deposited: E4, E5, E6 and E10
+abbrev pub bag_row : History → Date → List ℕ → Date → List ℕ → List (Option Refusal)
+bag_row h day accession closed bag =
+    taken h accession ∷ closed_ahead day closed ∷ bad_bag bag ∷ full_of_deposits h ∷ []
+
+-- all refusals of a request
+abbrev pub refusals : History → Date → List ℕ → Request → List (Option Refusal)
+refusals h day caller (DefineClass name years) = denied h caller acts.Class None (Some name) ∷ []
+refusals h day caller (DefineCollection name) = denied h caller acts.Collection (Some name) None ∷ []
+refusals h day caller (MakeDeposit collection class accession closed bag) =
+    place_row h caller collection class ++ bag_row h day accession closed bag.now
+refusals h day caller (ListDeposits collection class) = []
+refusals h day caller (Record n) = of_deposit (deposit_numbered h n) (kept_row h caller acts.Record n)
+refusals h day caller (Holds n) = of_deposit (deposit_numbered h n) (kept_row h caller acts.Holds n)
+refusals h day caller (DownloadBag n) = of_deposit (deposit_numbered h n) (kept_row h caller acts.Download n)
+refusals h day caller (DownloadFile n path) = of_deposit (deposit_numbered h n) (file_row h caller n path.now)
+refusals h day caller (Audit n) = of_deposit (deposit_numbered h n) (kept_row h caller acts.Audit n)
+refusals h day caller (HoldDeposit n matter) = of_deposit (deposit_numbered h n) (hold_row h caller n)
+refusals h day caller (HoldCollection name matter) = collection_hold_row h caller name
+refusals h day caller (Release k) = of_hold (hold_numbered h k) (release_row h caller k)
+refusals h day caller (Dispose n) = of_deposit (deposit_numbered h n) (disposal_row h day caller n)
+refusals h day caller DueList = []
+
+-- the first refusal that stands, or none where the request is allowed
+abbrev pub refusal : History → Date → List ℕ → Request → Option Refusal
+refusal h day caller request = first_some (refusals h day caller request)

@@ -1,0 +1,219 @@
+//! Laws of the office, over the definitions alone.
+
+ghost use Rattle.std.specs.Prelude.{◌≡◌, ◌↔◌, ◌<◌, ◌≢◌, ℕ, ℤ, List, [], ◌∷◌, ◌++◌, Option, Some, None, Ok, Err, true, false, slice_get};
+ghost use denote.Ref.{Bor};
+ghost use Rattle.jiff.specs.Types.{Date};
+ghost use Rattle.bag_text.specs.TransferForm.{File, IsBag, set_text};
+ghost use Rattle.bag_text.specs.TransferFaults.{FaultIs};
+ghost use Rattle.bag_text.specs.FaultTexts.{set_fault_text};
+ghost use Rattle.bag_text.specs.declared.set_fault.SetFault.{SetFault};
+ghost use Rattle.bag_text.specs.declared.declaration.Version.{Version};
+ghost use Rattle.bag_check.specs.Validity.{Valid};
+ghost use Rattle.bag_check.specs.Faults.{Fault, FirstFault};
+ghost use Rattle.bag_check.specs.FaultTexts.{fault_text};
+ghost use Rattle.office_core.specs.Policies.{Contents};
+ghost use Rattle.office_core.specs.FirstOf.{first_some};
+ghost use Rattle.office_core.specs.Retention.{due_of};
+ghost use Rattle.office_core.specs.Verdicts.{verdict_of};
+ghost use Rattle.office_core.specs.declared.action.Action.{Action};
+ghost use Rattle.office_core.specs.declared.action.Action.TheVariants as acts;
+ghost use Rattle.office_core.specs.declared.answer.Answer.{Answer};
+ghost use Rattle.office_core.specs.declared.answer.Answer.TheVariants as answers;
+ghost use Rattle.office_core.specs.declared.answer.LiveHold.{LiveHold};
+ghost use Rattle.office_core.specs.declared.refusal.Refusal.{Refusal};
+ghost use Rattle.office_core.specs.declared.refusal.Refusal.TheVariants.{Held};
+ghost use Rattle.office_core.specs.declared.request.Request.{Request};
+ghost use Rattle.office_core.specs.declared.request.Request.TheVariants.{DefineClass, Deposit as MakeDeposit, DownloadBag, Holds, HoldCollection, Release, Dispose};
+ghost use Rattle.office_history.specs.Bags.{bag_of};
+ghost use Rattle.office_history.specs.Histories.{History, Change, Installed, Destroyed, Deposit, Hold, OnCollection, grown, deposit_numbered, hold_numbered, released, covers, live_holds, due};
+ghost use Rattle.office_history.specs.Refusals.{asked_row, facts_of, refusal, refusal_of};
+ghost use Rattle.office_history.specs.Answers.{answer, change, after};
+ghost use Rattle.office_history.specs.Pictures.{picture};
+ghost use Rattle.office_history.specs.Stocks.{stock};
+ghost use Rattle.office_history.specs.Runs.{Item, Step, Run, IsLater, IsLegal, IsSound, IsDisposable, as_of};
+
+/// The bag of a text is the valid bag whose transfer form it is. Where there is none, the fault is
+/// the text's first, or that of the bag.
+pub fn deposited_bags()
+    ensures valid { (text : List ℕ) (bag : List File)
+        → (bag_of text ≡ Ok bag) ↔ (IsSound bag × (text ≡ set_text bag)) }
+    ensures unreadable { (text : List ℕ) (fault : SetFault)
+        → FaultIs text fault → bag_of text ≡ Err (set_fault_text fault) }
+    ensures invalid { (bag : List File) (fault : Fault)
+        → IsBag bag → FirstFault bag fault → bag_of (set_text bag) ≡ Err (fault_text fault) }
+{
+    bag_text::laws::transfer_forms();
+    bag_check::laws::judged_bags();
+}
+
+/// In a legal history the bag of every deposit is valid.
+pub fn sound_bags()
+    ensures { (h : History) → IsLegal h → (n : ℕ) (found : Date × Deposit)
+        → deposit_numbered h n ≡ Some found → IsSound found.1.bag }
+{
+    bag_text::laws::transfer_forms();
+    bag_check::laws::judged_bags();
+}
+
+/// In a legal history no disposal stands where, at its place, a live hold covered the deposit or
+/// its due day had not come.
+pub fn disposals_stand()
+    ensures { (h : History) → IsLegal h → (before rest : List Change) (day : Date) (n : ℕ)
+        → h.changes ≡ before ++ Destroyed day n ∷ rest → IsDisposable (as_of h before) day n }
+{}
+
+/// What is asked of a deposit that is there is decided by the verdict of `office_core` on what is
+/// known of it: the row of refusals and the verdict refuse the same.
+pub fn verdicts_decide()
+    ensures asked { (h : History) (day : Date) (caller : List ℕ)
+        (action : Action) (n : ℕ) (deposit : Deposit)
+        → first_some (asked_row h day caller action n deposit)
+        ≡ refusal_of (verdict_of (facts_of h caller action n deposit) day) }
+    ensures disposal { (h : History) (day : Date) (caller : List ℕ) (n : ℕ) (found : Date × Deposit)
+        → deposit_numbered h n ≡ Some found
+        → refusal h day caller (Dispose n)
+        ≡ refusal_of (verdict_of (facts_of h caller acts.Dispose n found.1) day) }
+{}
+
+/// A refusal changes nothing, whether the office gives it, or memory or the store.
+pub fn refused_changes_nothing()
+    ensures change { (h : History) (day : Date) (caller : List ℕ)
+        (request : Request) (why : Refusal)
+        → refusal h day caller request ≡ Some why → change h day caller request ≡ [] }
+    ensures answered { (h next : History) (item : Item) (why : Refusal)
+        → Step h item (answers.Refused why) next → next ≡ h }
+{}
+
+/// Runs only add changes, and an install of a policy adds itself: what they lead to is later, and
+/// what is later than that is later too.
+pub fn runs_only_add()
+    ensures runs { (h next : History) (items : List Item) (given : List Answer)
+        → Run h items given next → IsLater h next }
+    ensures installs { (h : History) (policy : Contents)
+        → IsLater h (grown h (Installed policy ∷ [])) }
+    ensures further { (h mid next : History)
+        → IsLater h mid → IsLater mid next → IsLater h next }
+{}
+
+/// A run from a legal history ends in a legal one.
+pub fn runs_stay_legal()
+    ensures { (h next : History) (items : List Item) (given : List Answer)
+        → IsLegal h → Run h items given next → IsLegal next }
+{}
+
+/// After a bag was accepted as a deposit, each download of the deposit that is served is that bag,
+/// byte for byte: in a run of requests, and in any later history.
+pub fn served_as_deposited()
+    ensures ran { (h mid late next : History) (items : List Item) (given : List Answer)
+        (day later : Date) (n : ℕ) (bytes : List ℕ) (caller other : Bor (List ℕ))
+        (collection class accession : List ℕ) (closed : Date) (bag : Bor (List ℕ))
+        → Step h (day, caller, MakeDeposit collection class accession closed bag)
+        (answers.Deposited n) mid
+        → Run mid items given late
+        → Step late (later, other, DownloadBag n) (answers.Bag bytes) next
+        → bytes ≡ bag.now }
+    ensures answered { (h next : History) (day later : Date) (n : ℕ) (bytes : List ℕ)
+        (caller other collection class accession : List ℕ) (closed : Date) (bag : Bor (List ℕ))
+        → answer h day caller (MakeDeposit collection class accession closed bag)
+        ≡ answers.Deposited n
+        → IsLater (after h day caller (MakeDeposit collection class accession closed bag)) next
+        → answer next later other (DownloadBag n) ≡ answers.Bag bytes
+        → bytes ≡ bag.now }
+{
+    bag_text::laws::transfer_forms();
+}
+
+/// A hold of a collection covers the deposits of the collection, those that come later too.
+pub fn later_deposits_are_covered()
+    ensures answered { (h next : History) (k n : ℕ) (day : Date)
+        (caller name matter : List ℕ) (found : Date × Deposit)
+        → answer h day caller (HoldCollection name matter) ≡ answers.Held k
+        → IsLater (after h day caller (HoldCollection name matter)) next
+        → deposit_numbered next n ≡ Some found → found.1.collection ≡ name
+        → covers next k n found.1 ≡ true }
+    ensures held { (h next : History) (k n : ℕ) (day : Date)
+        (name matter : List ℕ) (found : Date × Deposit)
+        → hold_numbered h k ≡ Some (day, record { target = OnCollection name; matter = matter })
+        → IsLater h next
+        → deposit_numbered next n ≡ Some found → found.1.collection ≡ name
+        → covers next k n found.1 ≡ true }
+{}
+
+/// A hold whose release was answered is released, then and later. A hold that was released is none
+/// of the live ones, is in no list of holds that is answered, and refuses no disposal.
+pub fn released_holds_are_not_live()
+    ensures answered { (h next : History) (k number : ℕ) (day on : Date) (caller : List ℕ)
+        → answer h day caller (Release k) ≡ answers.Released number on
+        → IsLater (after h day caller (Release k)) next
+        → released next k ≡ Some day }
+    ensures listed { (h next : History) (k n place : ℕ) (day : Date) (deposit : Deposit)
+        → released h k ≡ Some day → IsLater h next
+        → slice_get (live_holds next n deposit) place ≢ Some k }
+    ensures told { (h next : History) (k n place : ℕ) (day later : Date) (caller : List ℕ)
+        (given : List LiveHold) (hold : LiveHold)
+        → released h k ≡ Some day → IsLater h next
+        → answer next later caller (Holds n) ≡ answers.Holds given
+        → slice_get given place ≡ Some hold → hold.number ≢ k }
+    ensures refuses { (h next : History) (k n : ℕ) (day later : Date) (caller : List ℕ)
+        → released h k ≡ Some day → IsLater h next
+        → refusal next later caller (Dispose n) ≢ Some (Held k) }
+{}
+
+/// A class that is revised gives its deposits the due day of their closing day and the new years,
+/// whatever the years were before: so due days come earlier or later.
+pub fn revised_classes_move_due_days()
+    ensures { (h : History) (day : Date) (caller name given_name : List ℕ)
+        (years given_years : Option ℕ) (deposit : Deposit)
+        → answer h day caller (DefineClass name years) ≡ answers.Class given_name given_years
+        → deposit.class ≡ name
+        → due (after h day caller (DefineClass name years)) deposit ≡ due_of deposit.closed years }
+{}
+
+/// No number is given to two deposits, also where the first was destroyed in between, and none to
+/// two holds.
+pub fn numbers_are_given_once()
+    ensures deposits { (h next : History) (day later : Date) (n m : ℕ)
+        (caller collection class accession : List ℕ) (closed : Date) (bag : Bor (List ℕ))
+        (other collection_2 class_2 accession_2 : List ℕ) (closed_2 : Date) (bag_2 : Bor (List ℕ))
+        → answer h day caller (MakeDeposit collection class accession closed bag)
+        ≡ answers.Deposited n
+        → IsLater (after h day caller (MakeDeposit collection class accession closed bag)) next
+        → answer next later other (MakeDeposit collection_2 class_2 accession_2 closed_2 bag_2)
+        ≡ answers.Deposited m
+        → n < m }
+    ensures holds { (h next : History) (day later : Date) (n m : ℕ)
+        (caller other : List ℕ) (request request_2 : Request)
+        → answer h day caller request ≡ answers.Held n
+        → IsLater (after h day caller request) next
+        → answer next later other request_2 ≡ answers.Held m
+        → n < m }
+{}
+
+/// In a legal history an accession is used once.
+pub fn accessions_are_used_once()
+    ensures { (h : History) → IsLegal h → (n m : ℕ) (a b : Date × Deposit)
+        → deposit_numbered h n ≡ Some a → deposit_numbered h m ≡ Some b
+        → a.1.accession ≡ b.1.accession → n ≡ m }
+{}
+
+/// Two legal histories that give the same rows answer each request alike, have the same stock, and
+/// give the same rows after each request and after each install.
+pub fn one_picture()
+    ensures answers { (h k : History) (version : ℤ)
+        → IsLegal h → IsLegal k → picture version h ≡ picture version k
+        → (day : Date) (caller : List ℕ) (request : Request)
+        → answer h day caller request ≡ answer k day caller request }
+    ensures pictures { (h k : History) (version : ℤ)
+        → IsLegal h → IsLegal k → picture version h ≡ picture version k
+        → (day : Date) (caller : List ℕ) (request : Request)
+        → picture version (after h day caller request)
+        ≡ picture version (after k day caller request) }
+    ensures installs { (h k : History) (version : ℤ)
+        → IsLegal h → IsLegal k → picture version h ≡ picture version k
+        → (policy : Contents)
+        → picture version (grown h (Installed policy ∷ []))
+        ≡ picture version (grown k (Installed policy ∷ [])) }
+    ensures stocks { (h k : History) (version : ℤ)
+        → IsLegal h → IsLegal k → picture version h ≡ picture version k
+        → stock h ≡ stock k }
+{}
