@@ -69,11 +69,11 @@ unwrap_or_or : {A : Type 0} (a b : Option A) (d : A) → unwrap_or (option_or a 
 unwrap_or_or None b d = refl
 unwrap_or_or (Some x) b d = refl
 
-last_said-append : {A B : Type 0} (says : A → Option B) (xs ys : List A) → last_said says (xs ++ ys) ≡ option_or (last_said says ys) (last_said says xs)
+pub last_said-append : {A B : Type 0} (says : A → Option B) (xs ys : List A) → last_said says (xs ++ ys) ≡ option_or (last_said says ys) (last_said says xs)
 last_said-append says [] ys = sym (or_none (last_said says ys))
 last_said-append says (x ∷ xs) ys = ap (λ o. option_or o (says x)) (last_said-append says xs ys) ∙ or_assoc (last_said says ys) (last_said says xs) (says x)
 
-first_said-append : {A B : Type 0} (says : A → Option B) (xs ys : List A) → first_said says (xs ++ ys) ≡ option_or (first_said says xs) (first_said says ys)
+pub first_said-append : {A B : Type 0} (says : A → Option B) (xs ys : List A) → first_said says (xs ++ ys) ≡ option_or (first_said says xs) (first_said says ys)
 first_said-append says [] ys = refl
 first_said-append says (x ∷ xs) ys = ap (option_or (says x)) (first_said-append says xs ys) ∙ sym (or_assoc (says x) (first_said says xs) (first_said says ys))
 

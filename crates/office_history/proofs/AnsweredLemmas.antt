@@ -20,8 +20,8 @@ use Rattle.office_history.specs.Refusals.{refusal, of_hold, denied_release, is_r
 use Rattle.office_history.specs.Answers.{answer, answer_unless, allowed_answer, told, file_answer, record_of, told_hold, told_holds, live_hold, audited, change, changes_unless, allowed_change, after}
 use Rattle.office_history.proofs.ListLemmas.{numbered_last}
 use Rattle.office_history.proofs.HistoryLemmas.{holds_grown}
-use Rattle.office_history.proofs.LegalLemmas.{map_none}
-use Rattle.office_history.proofs.LawLemmas.{none_of, unrefused}
+use Rattle.office_history.proofs.Accepted.{releasable}
+use Rattle.office_history.proofs.LawLemmas.{unrefused}
 use Rattle.office_history.proofs.OnceLemmas.{not_among_live}
 
 -- ---- holds that were placed
@@ -93,24 +93,13 @@ first_said_last says (x ∷ xs) y b none e =
     let two = none_or (says x) (first_said says xs) none in
     ap (λ o. option_or o (first_said says (xs ++ y ∷ []))) two.0 ∙ first_said_last says xs y b two.1 e
 
--- a release that is allowed is of a hold that wasn't released
-unreleased : (h : History) (day : Date) (caller : List ℕ) (k : ℕ) → refusal h day caller (Release k) ≡ None → released h k ≡ None
-unreleased h day caller k e = by_hold (hold_numbered h k) e
-  where
-    by_hold : (there : Option (Date × Hold)) → first_some (of_hold there (λ hold. denied_release h caller hold.target ∷ is_released h k ∷ [])) ≡ None → released h k ≡ None
-    by_hold None e = absurd cc
-    by_hold (Some found) e =
-        let a = none_of (denied_release h caller found.1.target) _ e in
-        let b = none_of (is_released h k) _ a.1 in
-        map_none _ (released h k) b.0
-
 -- a hold whose release was answered is released from that day
 pub was_released : (h : History) (day on : Date) (caller : List ℕ) (k number : ℕ) → answer h day caller (Release k) ≡ answers.Released number on → released (after h day caller (Release k)) k ≡ Some day
 was_released h day on caller k number e =
     let r = unrefused (refusal h day caller (Release k)) (answers.Released k day) (answers.Released number on) e (λ r. λ wrong. absurd cc) in
     let says : released_in k (ReleasedHold day k) ≡ Some day = rw ((Decides-eqb k k).1 refl) refl in
     ap (λ why. released (grown h (changes_unless why (ReleasedHold day k ∷ []))) k) r.0
-    ∙ first_said_last (released_in k) h.changes (ReleasedHold day k) day (unreleased h day caller k r.0) says
+    ∙ first_said_last (released_in k) h.changes (ReleasedHold day k) day (releasable h day caller k r.0).live says
 
 -- what is told comes from an item of the list
 mapped_from : {A B : Type 0} (f : A → Option B) (xs : List A) (i : ℕ) (y : B) → slice_get (filter_map f xs) i ≡ Some y → (j : ℕ) × (x : A) × (slice_get xs j ≡ Some x) × (f x ≡ Some y)

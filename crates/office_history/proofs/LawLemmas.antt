@@ -21,7 +21,7 @@ use Rattle.office_history.specs.Refusals.{refusal, bad_as, no_such_collection, n
 use Rattle.office_history.specs.Answers.{answer, answer_unless, allowed_answer, told, change, changes_unless, deposit_change, after}
 use Rattle.office_history.specs.Runs.{Item, Step, Run, IsLater}
 use Rattle.office_history.proofs.ListLemmas.{first_said_front, last_said_last}
-use Rattle.office_history.proofs.LegalLemmas.{map_none}
+use Rattle.office_history.proofs.Accepted.{grown_by_none}
 use Rattle.office_history.proofs.HistoryLemmas.{deposits_grown}
 
 -- ---- holds
@@ -44,9 +44,6 @@ revised_due h day name years deposit same =
 
 -- ---- runs add to the history
 
-pub grown_by_none : (h : History) → h ≡ grown h []
-grown_by_none h = ap (λ (changes : List Change). record h { changes = changes }) (sym (append-nil h.changes))
-
 one_item : (h next : History) (item : Item) (given : Answer) → Step h item given next → IsLater h next
 one_item h next item given (inl failed) = ([], failed.1 ∙ grown_by_none h)
 one_item h next item given (inr served) = (change h item.0 item.1.now item.2, served.1)
@@ -63,35 +60,9 @@ run_grows (item ∷ items) (g ∷ given) h next r = later_still h r.0 next (one_
 
 -- ---- what was deposited
 
--- of refusals none stands where there is no first one
-pub none_of : {A : Type 0} (o : Option A) (os : List (Option A)) → first_some (o ∷ os) ≡ None → (o ≡ None) × (first_some os ≡ None)
-none_of None os e = (refl, e)
-none_of (Some x) os e = absurd cc
-
 pub unrefused : (why : Option Refusal) (given wanted : Answer) → answer_unless why given ≡ wanted → ((r : Refusal) → wanted ≢ answers.Refused r) → (why ≡ None) × (given ≡ wanted)
 unrefused None given wanted e other = (refl, e)
 unrefused (Some r) given wanted e other = absurd (other r (sym e))
-
-good_bag : (r : Result (List File) (List ℕ)) → bad_as r ≡ None → (bag : List File) × (r ≡ Ok bag)
-good_bag (Ok bag) e = (bag, refl)
-good_bag (Err fault) e = absurd cc
-
--- what stands of a deposit that is allowed
-pub record IsAllowedDeposit (h : History) (day : Date) (accession : List ℕ) (closed : Date) (text : List ℕ) : Type 0 where
-  pub new_accession : accession_of h accession ≡ None
-  pub bag : List File
-  pub read : bag_of text ≡ Ok bag
-
-pub allowed_deposit : (h : History) (day : Date) (caller collection class accession : List ℕ) (closed : Date) (text : Bor (List ℕ)) → refusal h day caller (MakeDeposit collection class accession closed text) ≡ None → IsAllowedDeposit h day accession closed text.now
-allowed_deposit h day caller collection class accession closed text e =
-    let a = none_of (no_such_collection h collection) _ e in
-    let b = none_of (no_such_class h class) _ a.1 in
-    let c = none_of (denied h caller acts.Deposit (Some collection) (Some class)) _ b.1 in
-    let d = none_of (taken h accession) _ c.1 in
-    let f = none_of (closed_ahead day closed) _ d.1 in
-    let g = none_of (bad_bag text.now) _ f.1 in
-    let bag = good_bag (bag_of text.now) g.0 in
-    record { new_accession = map_none _ (accession_of h accession) d.0; bag = bag.0; read = bag.1 }
 
 -- what the change of an allowed deposit adds
 pub deposit_adds : (h : History) (day : Date) (caller collection class accession : List ℕ) (closed : Date) (text : Bor (List ℕ)) (bag : List File) → refusal h day caller (MakeDeposit collection class accession closed text) ≡ None → bag_of text.now ≡ Ok bag

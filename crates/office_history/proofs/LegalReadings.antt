@@ -3,30 +3,14 @@ use Rattle.std.proofs.Common.{◌≡◌, ℕ, ◌==◌, Bool, true, false, List,
 use Rattle.std.specs.Option.{option_or}
 use Rattle.std.proofs.lemmas.Bool.Decides.{Decides-eqb}
 use Rattle.jiff.specs.Types.{Date}
-use Rattle.bag_text.specs.TransferForm.{File}
-use Rattle.office_core.specs.FirstOf.{first_some}
-use Rattle.office_core.specs.declared.action.Action.TheVariants as acts
-use Rattle.office_core.specs.declared.refusal.Refusal.{Refusal}
-use Rattle.office_core.specs.declared.request.Request.{Request}
-use Rattle.office_core.specs.declared.request.Request.TheVariants.{DefineClass, DefineCollection, Deposit as MakeDeposit, List as ListDeposits, Record, Holds, DownloadBag, DownloadFile, Audit, HoldDeposit, HoldCollection, Release, Dispose, DueList}
 use Rattle.office_history.specs.Lists.{first_said, last_said}
-use Rattle.office_history.specs.Histories.{History, Change, Installed, DefinedCollection, Deposit, Hold, grown, installed_in, policy, has_collection, deposit_numbered, destroyed_in, gone, hold_numbered, released_in, released}
-use Rattle.office_history.specs.Bags.{bag_of}
-use Rattle.office_history.specs.Refusals.{refusal, of_deposit, of_hold, denied_at, denied_release, is_gone, held, not_due, is_released}
-use Rattle.office_history.specs.Answers.{change, changes_unless, allowed_change, deposit_change}
-use Rattle.office_core.specs.Policies.{IsPolicy}
-use Rattle.office_history.specs.Runs.{IsLegal, new, install, serve}
+use Rattle.office_history.specs.Histories.{History, Change, Installed, DefinedClass, DefinedCollection, Deposited, PlacedHold, ReleasedHold, Destroyed, Deposit, Hold, grown, installed_in, policy, deposit_numbered, destroyed_in, gone, hold_numbered, released_in, released}
+use Rattle.office_core.specs.Policies.{Contents, IsPolicy}
+use Rattle.office_history.specs.Acceptance.{IsChange, IsAllowed}
+use Rattle.office_history.specs.Runs.{IsLegal}
 use Rattle.office_history.proofs.HistoryLemmas.{deposit_stays, hold_stays}
+use Rattle.office_history.proofs.Accepted.{IsAccepted, legal_by}
 use Rattle.office_history.proofs.Alike.{policy_grown, gone_grown, released_grown}
-
--- these changes install nothing, destroy no deposit of that number, and release no hold of that one
-pub record Spares (n j : ℕ) (changes : List Change) : Type 0 where
-  pub installs : last_said installed_in changes ≡ None
-  pub destroys : first_said (destroyed_in n) changes ≡ None
-  pub releases : first_said (released_in j) changes ≡ None
-
-nothing : (n j : ℕ) → Spares n j []
-nothing n j = record { installs = refl; destroys = refl; releases = refl }
 
 not_that : {A : Type 0} (a b : ℕ) (x : A) → (a ≡ b → ⊥) → option_or (if a == b then Some x else None) None ≡ None
 not_that a b x other = by (a == b) refl
@@ -34,48 +18,6 @@ not_that a b x other = by (a == b) refl
     by : (t : Bool) → (a == b) ≡ t → option_or (if t then Some x else None) None ≡ None
     by true e = absurd (other ((Decides-eqb a b).0 e))
     by false e = refl
-
--- a disposal is refused where there is no deposit of the number, and a release where there is no hold
-no_disposal : (h : History) (day : Date) (caller : List ℕ) (n : ℕ) → deposit_numbered h n ≡ None → refusal h day caller (Dispose n) ≡ None → ⊥
-no_disposal h day caller n none e =
-    let wrong : first_some (of_deposit None (λ d. denied_at h caller acts.Dispose d ∷ is_gone h n ∷ held h n d ∷ not_due h day d ∷ [])) ≡ None =
-    sym (ap (λ there. first_some (of_deposit there (λ d. denied_at h caller acts.Dispose d ∷ is_gone h n ∷ held h n d ∷ not_due h day d ∷ []))) none) ∙ e in
-    absurd cc
-
-no_release : (h : History) (day : Date) (caller : List ℕ) (j : ℕ) → hold_numbered h j ≡ None → refusal h day caller (Release j) ≡ None → ⊥
-no_release h day caller j none e =
-    let wrong : first_some (of_hold None (λ hold. denied_release h caller hold.target ∷ is_released h j ∷ [])) ≡ None =
-    sym (ap (λ there. first_some (of_hold there (λ hold. denied_release h caller hold.target ∷ is_released h j ∷ []))) none) ∙ e in
-    absurd cc
-
--- what a request changes spares what isn't there
-spares : (h : History) (day : Date) (caller : List ℕ) (request : Request) (n j : ℕ) → deposit_numbered h n ≡ None → hold_numbered h j ≡ None
-    → (why : Option Refusal) → refusal h day caller request ≡ why → Spares n j (changes_unless why (allowed_change h day request))
-spares h day caller request n j no_deposit no_hold (Some why) is = nothing n j
-spares h day caller (Dispose m) n j no_deposit no_hold None is =
-    record { installs = refl; destroys = not_that m n day (λ same. no_disposal h day caller n no_deposit (subst (λ k. refusal h day caller (Dispose k) ≡ None) same is)); releases = refl }
-spares h day caller (Release m) n j no_deposit no_hold None is =
-    record { installs = refl; destroys = refl; releases = not_that m j day (λ same. no_release h day caller j no_hold (subst (λ k. refusal h day caller (Release k) ≡ None) same is)) }
-spares h day caller (DefineCollection name) n j no_deposit no_hold None is = defined (has_collection h name)
-  where
-    defined : (there : Bool) → Spares n j (if there then [] else DefinedCollection day name ∷ [])
-    defined true = nothing n j
-    defined false = record { installs = refl; destroys = refl; releases = refl }
-spares h day caller (MakeDeposit collection class accession closed bag) n j no_deposit no_hold None is = deposited (bag_of bag.now)
-  where
-    deposited : (r : Result (List File) (List ℕ)) → Spares n j (deposit_change day collection class accession closed r)
-    deposited (Ok files) = record { installs = refl; destroys = refl; releases = refl }
-    deposited (Err fault) = nothing n j
-spares h day caller (DefineClass name years) n j no_deposit no_hold None is = record { installs = refl; destroys = refl; releases = refl }
-spares h day caller (HoldDeposit m matter) n j no_deposit no_hold None is = record { installs = refl; destroys = refl; releases = refl }
-spares h day caller (HoldCollection name matter) n j no_deposit no_hold None is = record { installs = refl; destroys = refl; releases = refl }
-spares h day caller (ListDeposits collection class) n j no_deposit no_hold None is = nothing n j
-spares h day caller (Record m) n j no_deposit no_hold None is = nothing n j
-spares h day caller (Holds m) n j no_deposit no_hold None is = nothing n j
-spares h day caller (DownloadBag m) n j no_deposit no_hold None is = nothing n j
-spares h day caller (DownloadFile m path) n j no_deposit no_hold None is = nothing n j
-spares h day caller (Audit m) n j no_deposit no_hold None is = nothing n j
-spares h day caller DueList n j no_deposit no_hold None is = nothing n j
 
 -- what isn't there now was not there before
 no_deposit_before : (h : History) (more : List Change) (n : ℕ) → deposit_numbered (grown h more) n ≡ None → deposit_numbered h n ≡ None
@@ -92,32 +34,61 @@ no_hold_before h more j e = by (hold_numbered h j) refl
     by None is = is
     by (Some found) is = let wrong : Some found ≡ None = sym (hold_stays h more j found is) ∙ e in absurd cc
 
--- no hold, and no deposit, has the number 0
-pub none_gone : (h : History) → IsLegal h → (n : ℕ) → deposit_numbered h n ≡ None → gone h n ≡ None
-none_gone h (new a b) n e = refl
-none_gone h (install before policy names legal) n e =
-    gone_grown before (Installed policy ∷ []) n
-    ∙ ap (λ o. option_or o None) (none_gone before legal n (no_deposit_before before (Installed policy ∷ []) n e))
-none_gone h (serve before day caller request legal) n e =
-    let earlier = no_deposit_before before (change before day caller request) n e in
-    let spared = spares before day caller request n 0 earlier refl (refusal before day caller request) refl in
-    gone_grown before (change before day caller request) n
-    ∙ (λ i. option_or (none_gone before legal n earlier i) (spared.destroys i))
+-- a change that is allowed destroys no deposit, and releases no hold, that isn't there
+not_destroyed : (x : History) (n : ℕ) (c : Change) → deposit_numbered x n ≡ None → IsAllowed x c → first_said (destroyed_in n) (c ∷ []) ≡ None
+not_destroyed x n (Destroyed day m) none allowed =
+    not_that m n day (λ same. let wrong : Some allowed.found ≡ None = sym allowed.there ∙ ap (deposit_numbered x) same ∙ none in absurd cc)
+not_destroyed x n (Installed policy) none allowed = refl
+not_destroyed x n (DefinedClass day name years) none allowed = refl
+not_destroyed x n (DefinedCollection day name) none allowed = refl
+not_destroyed x n (Deposited day deposit) none allowed = refl
+not_destroyed x n (PlacedHold day hold) none allowed = refl
+not_destroyed x n (ReleasedHold day k) none allowed = refl
 
-pub none_released : (h : History) → IsLegal h → (j : ℕ) → hold_numbered h j ≡ None → released h j ≡ None
-none_released h (new a b) j e = refl
-none_released h (install before policy names legal) j e =
-    released_grown before (Installed policy ∷ []) j
-    ∙ ap (λ o. option_or o None) (none_released before legal j (no_hold_before before (Installed policy ∷ []) j e))
-none_released h (serve before day caller request legal) j e =
-    let earlier = no_hold_before before (change before day caller request) j e in
-    let spared = spares before day caller request 0 j refl earlier (refusal before day caller request) refl in
-    released_grown before (change before day caller request) j
-    ∙ (λ i. option_or (none_released before legal j earlier i) (spared.releases i))
+not_released : (x : History) (k : ℕ) (c : Change) → hold_numbered x k ≡ None → IsAllowed x c → first_said (released_in k) (c ∷ []) ≡ None
+not_released x k (ReleasedHold day j) none allowed =
+    not_that j k day (λ same. let wrong : Some allowed.found ≡ None = sym allowed.there ∙ ap (hold_numbered x) same ∙ none in absurd cc)
+not_released x k (Installed policy) none allowed = refl
+not_released x k (DefinedClass day name years) none allowed = refl
+not_released x k (DefinedCollection day name) none allowed = refl
+not_released x k (Deposited day deposit) none allowed = refl
+not_released x k (PlacedHold day hold) none allowed = refl
+not_released x k (Destroyed day n) none allowed = refl
+
+-- no hold, and no deposit, has the number 0
+abbrev pub NoneGone : History → Type 0
+NoneGone h = (n : ℕ) → deposit_numbered h n ≡ None → gone h n ≡ None
+
+pub none_gone : (h : History) → IsLegal h → NoneGone h
+none_gone h legal = legal_by NoneGone (λ a b a_in b_in n e. refl) more h legal
+  where
+    more : (x : History) (c : Change) → IsLegal x → IsAccepted x c → NoneGone x → NoneGone (grown x (c ∷ []))
+    more x c was ok so n e =
+        let earlier = no_deposit_before x (c ∷ []) n e in
+        gone_grown x (c ∷ []) n ∙ (λ i. option_or (so n earlier i) (not_destroyed x n c earlier ok.1 i))
+
+abbrev pub NoneReleased : History → Type 0
+NoneReleased h = (k : ℕ) → hold_numbered h k ≡ None → released h k ≡ None
+
+pub none_released : (h : History) → IsLegal h → NoneReleased h
+none_released h legal = legal_by NoneReleased (λ a b a_in b_in k e. refl) more h legal
+  where
+    more : (x : History) (c : Change) → IsLegal x → IsAccepted x c → NoneReleased x → NoneReleased (grown x (c ∷ []))
+    more x c was ok so k e =
+        let earlier = no_hold_before x (c ∷ []) k e in
+        released_grown x (c ∷ []) k ∙ (λ i. option_or (so k earlier i) (not_released x k c earlier ok.1 i))
+
+installed_policy : (before : Contents) (c : Change) → IsChange c → IsPolicy before → IsPolicy (unwrap_or (last_said installed_in (c ∷ [])) before)
+installed_policy before (Installed policy) ranged is = ranged
+installed_policy before (DefinedClass day name years) ranged is = is
+installed_policy before (DefinedCollection day name) ranged is = is
+installed_policy before (Deposited day deposit) ranged is = is
+installed_policy before (PlacedHold day hold) ranged is = is
+installed_policy before (ReleasedHold day k) ranged is = is
+installed_policy before (Destroyed day n) ranged is = is
 
 pub legal_policy : (h : History) → IsLegal h → IsPolicy (policy h)
-legal_policy h (new a b) = tt
-legal_policy h (install before made names legal) = subst IsPolicy (sym (policy_grown before (Installed made ∷ []))) names
-legal_policy h (serve before day caller request legal) =
-    let spared = spares before day caller request 0 0 refl refl (refusal before day caller request) refl in
-    subst IsPolicy (sym (policy_grown before (change before day caller request) ∙ ap (λ o. unwrap_or o (policy before)) spared.installs)) (legal_policy before legal)
+legal_policy h legal = legal_by (λ x. IsPolicy (policy x)) (λ a b a_in b_in. tt) more h legal
+  where
+    more : (x : History) (c : Change) → IsLegal x → IsAccepted x c → IsPolicy (policy x) → IsPolicy (policy (grown x (c ∷ [])))
+    more x c was ok is = subst IsPolicy (sym (policy_grown x (c ∷ []))) (installed_policy (policy x) c ok.0 is)

@@ -1,5 +1,6 @@
 pub mod ListLemmas
 pub mod HistoryLemmas
+pub mod Accepted
 pub mod LegalLemmas
 pub mod LawLemmas
 pub mod OnceLemmas
@@ -14,3 +15,5 @@ pub mod LegalReadings
 pub mod VerdictLemmas
 pub mod DistinctLemmas
 pub mod Pictured
+pub mod RangeLemmas
+pub mod RowLemmas

@@ -25,11 +25,11 @@ use Rattle.office_history.specs.Histories.{History, Change, Installed, DefinedCo
 use Rattle.office_history.specs.Bags.{bag_of}
 use Rattle.office_history.specs.Refusals.{refused, refusal, of_deposit, denied_at, is_gone, held, not_due}
 use Rattle.office_history.specs.Answers.{answer, change, changes_unless, deposit_change, allowed_change, after}
-use Rattle.office_history.specs.Runs.{IsLegal, new, install, serve}
+use Rattle.office_history.specs.Runs.{IsLegal}
 use Rattle.office_history.proofs.ListLemmas.{numbered_cases, none_passes}
 use Rattle.office_history.proofs.HistoryLemmas.{deposits_grown}
-use Rattle.office_history.proofs.LegalLemmas.{map_none}
-use Rattle.office_history.proofs.LawLemmas.{allowed_deposit, deposit_adds, unrefused}
+use Rattle.office_history.proofs.Accepted.{IsAccepted, legal_by, deposits_by, map_none}
+use Rattle.office_history.proofs.LawLemmas.{unrefused}
 
 -- ---- accessions
 
@@ -67,52 +67,16 @@ was_allowed h day caller collection class accession closed text n e =
 pub more_deposits : (h : History) (more : List Change) → length (deposits h) ≤ length (deposits (grown h more))
 more_deposits h more = rw (deposits_grown h more, length-append (deposits h) (filter_map deposit_in more)) (omega arith)
 
-silent : (why : Option Refusal) (changes : List Change) → filter_map deposit_in changes ≡ [] → filter_map deposit_in (changes_unless why changes) ≡ []
-silent None changes e = e
-silent (Some r) changes e = refl
-
-same_deposits : (h : History) (day : Date) (caller : List ℕ) (request : Request) → filter_map deposit_in (allowed_change h day request) ≡ [] → deposits (after h day caller request) ≡ deposits h
-same_deposits h day caller request e =
-    deposits_grown h (change h day caller request)
-    ∙ ap (λ (more : List (Date × Deposit)). deposits h ++ more) (silent (refusal h day caller request) (allowed_change h day request) e)
-    ∙ append-nil (deposits h)
-
-collection_silent : (there : Bool) (day : Date) (name : List ℕ) → filter_map deposit_in (if there then [] else DefinedCollection day name ∷ []) ≡ []
-collection_silent true day name = refl
-collection_silent false day name = refl
-
--- a request leaves the accessions apart
-apart_served : (h : History) (day : Date) (caller : List ℕ) (request : Request) → AreApart (deposits h) → AreApart (deposits (after h day caller request))
-apart_served h day caller (MakeDeposit collection class accession closed text) apart = by_refusal (refusal h day caller (MakeDeposit collection class accession closed text)) refl
-  where
-    by_refusal : (why : Option Refusal) → refusal h day caller (MakeDeposit collection class accession closed text) ≡ why → AreApart (deposits (after h day caller (MakeDeposit collection class accession closed text)))
-    by_refusal (Some r) is = subst AreApart (sym (deposits_grown h (change h day caller (MakeDeposit collection class accession closed text)) ∙ ap (λ (why : Option Refusal). deposits h ++ filter_map deposit_in (changes_unless why (deposit_change day collection class accession closed (bag_of text.now)))) is ∙ append-nil (deposits h))) apart
-    by_refusal None is =
-        let allowed = allowed_deposit h day caller collection class accession closed text is in
-        let made : Deposit = record { collection = collection; class = class; accession = accession; closed = closed; bag = allowed.bag } in
-        subst AreApart (sym (deposit_adds h day caller collection class accession closed text allowed.bag is allowed.read)) (apart_added (deposits h) (day, made) apart (map_none _ _ allowed.new_accession))
-apart_served h day caller (DefineCollection name) apart = subst AreApart (sym (same_deposits h day caller (DefineCollection name) (collection_silent (has_collection h name) day name))) apart
-apart_served h day caller (DefineClass name years) apart = subst AreApart (sym (same_deposits h day caller (DefineClass name years) refl)) apart
-apart_served h day caller (HoldDeposit n matter) apart = subst AreApart (sym (same_deposits h day caller (HoldDeposit n matter) refl)) apart
-apart_served h day caller (HoldCollection name matter) apart = subst AreApart (sym (same_deposits h day caller (HoldCollection name matter) refl)) apart
-apart_served h day caller (Release k) apart = subst AreApart (sym (same_deposits h day caller (Release k) refl)) apart
-apart_served h day caller (Dispose n) apart = subst AreApart (sym (same_deposits h day caller (Dispose n) refl)) apart
-apart_served h day caller (ListDeposits collection class) apart = subst AreApart (sym (same_deposits h day caller (ListDeposits collection class) refl)) apart
-apart_served h day caller (Record n) apart = subst AreApart (sym (same_deposits h day caller (Record n) refl)) apart
-apart_served h day caller (Holds n) apart = subst AreApart (sym (same_deposits h day caller (Holds n) refl)) apart
-apart_served h day caller (DownloadBag n) apart = subst AreApart (sym (same_deposits h day caller (DownloadBag n) refl)) apart
-apart_served h day caller (DownloadFile n path) apart = subst AreApart (sym (same_deposits h day caller (DownloadFile n path) refl)) apart
-apart_served h day caller (Audit n) apart = subst AreApart (sym (same_deposits h day caller (Audit n) refl)) apart
-apart_served h day caller DueList apart = subst AreApart (sym (same_deposits h day caller DueList refl)) apart
-
 none_apart : AreApart []
 none_apart zero m a b at_n at_m same = absurd cc
 none_apart (suc n) m a b at_n at_m same = absurd cc
 
 pub accessions_apart : (h : History) → IsLegal h → AreApart (deposits h)
-accessions_apart h (new a b) = none_apart
-accessions_apart h (install before policy names legal) = subst AreApart (sym (deposits_grown before (Installed policy ∷ []) ∙ append-nil (deposits before))) (accessions_apart before legal)
-accessions_apart h (serve before day caller request legal) = apart_served before day caller request (accessions_apart before legal)
+accessions_apart h legal = legal_by (λ x. AreApart (deposits x)) (λ a b a_in b_in. none_apart) more h legal
+  where
+    more : (x : History) (c : Change) → IsLegal x → IsAccepted x c → AreApart (deposits x) → AreApart (deposits (grown x (c ∷ [])))
+    more x c was ok apart =
+        deposits_by AreApart x c ok apart (λ day deposit ranged allowed. apart_added (deposits x) (day, deposit) apart (map_none _ _ allowed.new_accession))
 
 -- ---- released holds
 

@@ -47,7 +47,7 @@ same_list (x ∷ xs) (y ∷ ys) e =
     let rest : xs ≡ ys = same_list xs ys (λ i. e (suc i)) in
     λ i. first i ∷ rest i
 
-there_is : {A : Type 0} (xs : List A) (i : ℕ) → i < length xs → (x : A) × (slice_get xs i ≡ Some x)
+pub there_is : {A : Type 0} (xs : List A) (i : ℕ) → i < length xs → (x : A) × (slice_get xs i ≡ Some x)
 there_is [] i lt = absurd (omega (arith, lt))
 there_is (x ∷ xs) zero lt = (x, refl)
 there_is (x ∷ xs) (suc i) lt = there_is xs i (omega (arith, lt))

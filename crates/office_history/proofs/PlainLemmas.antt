@@ -15,7 +15,8 @@ use Rattle.office_history.specs.Refusals.{place_row, bag_row, refusal}
 use Rattle.jiff.specs.Types.{Date}
 use Rattle.office_history.specs.Histories.{History, Change, Installed, DefinedClass, DefinedCollection, Deposited, PlacedHold, ReleasedHold, Destroyed, Deposit, Hold, grown, deposit_in, hold_in, deposits, holds, accession_of}
 use Rattle.office_history.specs.Lists.{numbered}
-use Rattle.office_history.specs.PlainOffices.{IsWithin, HasRoom}
+use Rattle.office_history.specs.Runs.{IsWithin}
+use Rattle.office_history.specs.PlainOffices.{HasRoom}
 
 -- a change that is neither a deposit nor a hold adds none
 within_other : (h : History) (change : Change) → deposit_in change ≡ None → hold_in change ≡ None → IsWithin h → IsWithin (grown h (change ∷ []))
@@ -25,8 +26,8 @@ within_other h change no_deposit no_hold within =
     record {
       deposits_in = rw d within.deposits_in;
       holds_in = rw k within.holds_in;
-      deposits_few = within.deposits_few;
-      holds_few = within.holds_few;
+      deposits_limit = within.deposits_limit;
+      holds_limit = within.holds_limit;
     }
 
 within_deposit : (h : History) (day : Date) (deposit : Deposit) → length (deposits h) < h.max_deposits → IsWithin h → IsWithin (grown h (Deposited day deposit ∷ []))
@@ -36,8 +37,8 @@ within_deposit h day deposit room within =
     record {
       deposits_in = rw d (omega arith);
       holds_in = rw k within.holds_in;
-      deposits_few = within.deposits_few;
-      holds_few = within.holds_few;
+      deposits_limit = within.deposits_limit;
+      holds_limit = within.holds_limit;
     }
 
 within_hold : (h : History) (day : Date) (hold : Hold) → length (holds h) < h.max_holds → IsWithin h → IsWithin (grown h (PlacedHold day hold ∷ []))
@@ -47,8 +48,8 @@ within_hold h day hold room within =
     record {
       deposits_in = rw d within.deposits_in;
       holds_in = rw k (omega arith);
-      deposits_few = within.deposits_few;
-      holds_few = within.holds_few;
+      deposits_limit = within.deposits_limit;
+      holds_limit = within.holds_limit;
     }
 
 -- a change for which there is room keeps the limits

@@ -3,9 +3,11 @@ pub mod Histories
 pub mod Bags
 pub mod Refusals
 pub mod Answers
+pub mod Acceptance
 pub mod Runs
 pub mod Stocks
 pub mod Pictures
+pub mod RowRanges
 pub mod PlainBags
 pub mod PlainTargets
 pub mod PlainChanges

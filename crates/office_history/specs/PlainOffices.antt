@@ -1,5 +1,5 @@
--- What is true of every office of the plain program.
-use Rattle.std.specs.Prelude.{◌≡◌, ℕ, ◌≤◌, ◌<◌, ◌⊎◌, List, [], ◌∷◌, length}
+-- What the plain office may accept, and how it serves.
+use Rattle.std.specs.Prelude.{◌≡◌, ℕ, ◌<◌, ◌⊎◌, List, [], ◌∷◌, length}
 use Rattle.jiff.specs.Types.{Date}
 use Rattle.office_core.specs.declared.answer.Answer.{Answer}
 use Rattle.office_core.specs.declared.answer.Answer.TheVariants.{Refused}
@@ -8,13 +8,6 @@ use Rattle.office_core.specs.declared.request.Request.{Request}
 use Rattle.office_history.specs.Answers.{answer, after}
 use Rattle.office_history.specs.Histories.{History, Change, Deposited, PlacedHold, deposits, holds}
 use Rattle.office_history.specs.Runs.{Item}
-
--- no more deposits and holds were accepted than the limits say, which are at most a million
-pub record IsWithin (h : History) : Type 0 where
-  pub deposits_in : length (deposits h) ≤ h.max_deposits
-  pub holds_in : length (holds h) ≤ h.max_holds
-  pub deposits_few : h.max_deposits ≤ 1000000
-  pub holds_few : h.max_holds ≤ 1000000
 
 -- the limits let this change be accepted
 abbrev pub HasRoom : History → Change → Type 0

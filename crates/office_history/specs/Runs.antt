@@ -1,23 +1,31 @@
 -- Runs of requests, and the histories that they make.
-use Rattle.std.specs.Prelude.{◌≡◌, ℕ, ◌⊎◌, ◌≤ℤ◌, List, [], ◌∷◌, Some, None}
+use Rattle.std.specs.Prelude.{◌≡◌, ℕ, ◌≤◌, ◌⊎◌, List, [], ◌∷◌, length}
+use Rattle.std.specs.List.{AllByRecursion}
 use denote.Ref.{Bor}
 use Rattle.jiff.specs.Types.{Date}
+use Rattle.office_core.specs.Days.{IsDay}
 use Rattle.office_core.specs.Policies.{Contents, IsPolicy}
+use Rattle.office_core.specs.Requests.{IsRequest}
 use Rattle.bag_text.specs.TransferForm.{File, IsBag}
 use Rattle.bag_text.specs.declared.declaration.Version.{Version}
 use Rattle.bag_check.specs.Validity.{Valid}
-use Rattle.jiff.specs.Words.{epoch_day}
-use Rattle.office_core.specs.declared.retention.Due.TheVariants.{On}
 use Rattle.office_core.specs.declared.answer.Answer.{Answer}
 use Rattle.office_core.specs.declared.answer.Answer.TheVariants.{Refused}
 use Rattle.office_core.specs.declared.refusal.Refusal.TheVariants.{Memory, Store}
 use Rattle.office_core.specs.declared.request.Request.{Request}
-use Rattle.office_history.specs.Histories.{History, Change, Installed, Deposit, grown, deposit_numbered, gone, due, live_holds}
+use Rattle.office_history.specs.Histories.{History, Change, Installed, grown, deposits, holds}
 use Rattle.office_history.specs.Answers.{answer, after}
 
 -- a day, a caller's name, and what the caller asks
 abbrev pub Item : Type 0
 Item = Date × Bor (List ℕ) × Request
+
+-- an item in range: its day is one of the office, and so is what its request asks for; any text is a caller's name
+abbrev pub IsItem : Item → Type 0
+IsItem item = IsDay item.0 × IsRequest item.2
+
+abbrev pub AreItems : List Item → Type 0
+AreItems items = AllByRecursion IsItem items
 
 -- E11 or E12: memory ran out, or the store failed
 abbrev pub IsFailure : Answer → Type 0
@@ -48,11 +56,16 @@ abbrev pub created : ℕ → ℕ → History
 created max_deposits max_holds =
     record { max_deposits = max_deposits; max_holds = max_holds; changes = [] }
 
--- A legal history is made from that of a new office by installs of policies and by requests.
+-- a limit of an office is from 1 to 1,000,000
+abbrev pub IsLimit : ℕ → Type 0
+IsLimit most = (1 ≤ most) × (most ≤ 1000000)
+
+-- A legal history is made from that of a new office by installs of policies and by requests, all in range.
 pub data IsLegal : History → Type 0 where
-  new : (max_deposits max_holds : ℕ) → IsLegal (created max_deposits max_holds)
+  new : (max_deposits max_holds : ℕ) → IsLimit max_deposits → IsLimit max_holds → IsLegal (created max_deposits max_holds)
   install : (h : History) (policy : Contents) → IsPolicy policy → IsLegal h → IsLegal (grown h (Installed policy ∷ []))
-  serve : (h : History) (day : Date) (caller : List ℕ) (request : Request) → IsLegal h → IsLegal (after h day caller request)
+  serve : (h : History) (day : Date) (caller : List ℕ) (request : Request)
+      → IsDay day → IsRequest request → IsLegal h → IsLegal (after h day caller request)
 
 -- ---- what legal histories have
 
@@ -62,15 +75,12 @@ pub record IsSound (files : List File) : Type 0 where
   pub version : Version
   pub valid : Valid files version
 
--- a deposit that may be destroyed on that day: no live hold covers it, and its due day has come
-pub record IsDisposable (h : History) (day : Date) (n : ℕ) : Type 0 where
-  pub found : Date × Deposit
-  pub date : Date
-  pub there : deposit_numbered h n ≡ Some found
-  pub kept : gone h n ≡ None
-  pub unheld : live_holds h n found.1 ≡ []
-  pub due : due h found.1 ≡ On date
-  pub has_come : epoch_day date ≤ℤ epoch_day day
+-- no more deposits and holds were accepted than the limits say, which are in their range
+pub record IsWithin (h : History) : Type 0 where
+  pub deposits_in : length (deposits h) ≤ h.max_deposits
+  pub holds_in : length (holds h) ≤ h.max_holds
+  pub deposits_limit : IsLimit h.max_deposits
+  pub holds_limit : IsLimit h.max_holds
 
 -- the history as it was when these were its changes
 abbrev pub as_of : History → List Change → History

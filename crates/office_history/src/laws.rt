@@ -25,12 +25,13 @@ ghost use Rattle.office_core.specs.declared.refusal.Refusal.TheVariants.{Held};
 ghost use Rattle.office_core.specs.declared.request.Request.{Request};
 ghost use Rattle.office_core.specs.declared.request.Request.TheVariants.{DefineClass, Deposit as MakeDeposit, DownloadBag, Holds, HoldCollection, Release, Dispose};
 ghost use Rattle.office_history.specs.Bags.{bag_of};
-ghost use Rattle.office_history.specs.Histories.{History, Change, Installed, Destroyed, Deposit, Hold, OnCollection, grown, deposit_numbered, hold_numbered, released, covers, live_holds, due};
+ghost use Rattle.office_history.specs.Histories.{History, Change, Installed, ReleasedHold, Destroyed, Deposit, Hold, OnCollection, grown, deposit_numbered, hold_numbered, released, covers, live_holds, due};
 ghost use Rattle.office_history.specs.Refusals.{asked_row, facts_of, refusal, refusal_of};
 ghost use Rattle.office_history.specs.Answers.{answer, change, after};
 ghost use Rattle.office_history.specs.Pictures.{picture};
 ghost use Rattle.office_history.specs.Stocks.{stock};
-ghost use Rattle.office_history.specs.Runs.{Item, Step, Run, IsLater, IsLegal, IsSound, IsDisposable, as_of};
+ghost use Rattle.office_history.specs.Acceptance.{IsChange, IsAllowed, IsReleasable, IsDisposable};
+ghost use Rattle.office_history.specs.Runs.{Item, AreItems, Step, Run, IsLater, IsLegal, IsSound, as_of};
 
 /// The bag of a text is the valid bag whose transfer form it is. Where there is none, the fault is
 /// the text's first, or that of the bag.
@@ -54,6 +55,17 @@ pub fn sound_bags()
     bag_text::laws::transfer_forms();
     bag_check::laws::judged_bags();
 }
+
+/// Each change of a legal history is in range, and the history before it allowed it: so each
+/// release stands where the hold is there and was live.
+pub fn changes_stand()
+    ensures changes { (h : History) → IsLegal h → (before rest : List Change) (change : Change)
+        → h.changes ≡ before ++ change ∷ rest
+        → IsChange change × IsAllowed (as_of h before) change }
+    ensures releases { (h : History) → IsLegal h
+        → (before rest : List Change) (day : Date) (k : ℕ)
+        → h.changes ≡ before ++ ReleasedHold day k ∷ rest → IsReleasable (as_of h before) k }
+{}
 
 /// In a legal history no disposal stands where, at its place, a live hold covered the deposit or
 /// its due day had not come.
@@ -95,10 +107,10 @@ pub fn runs_only_add()
         → IsLater h mid → IsLater mid next → IsLater h next }
 {}
 
-/// A run from a legal history ends in a legal one.
+/// A run of items in range from a legal history ends in a legal one.
 pub fn runs_stay_legal()
     ensures { (h next : History) (items : List Item) (given : List Answer)
-        → IsLegal h → Run h items given next → IsLegal next }
+        → AreItems items → IsLegal h → Run h items given next → IsLegal next }
 {}
 
 /// After a bag was accepted as a deposit, each download of the deposit that is served is that bag,

@@ -2,8 +2,8 @@
 
 ghost use Rattle.std.specs.Prelude.{◌≡◌, ◌≤◌, length, [], ◌∷◌, IfErr, IfOk, OnOk, OnErr};
 ghost use Rattle.office_history.specs.Histories.{grown, Installed};
-ghost use Rattle.office_history.specs.Runs.{created, IsLegal};
-ghost use Rattle.office_history.specs.PlainOffices.{IsWithin, HasRoom};
+ghost use Rattle.office_history.specs.Runs.{created, IsLegal, IsWithin};
+ghost use Rattle.office_history.specs.PlainOffices.{HasRoom};
 ghost use Rattle.office_history.specs.PlainChanges.{change_seen};
 
 use crate::plain::change::{Change, Kind};
@@ -20,7 +20,7 @@ pub struct Office {
 
 impl Model for Office {
     ghost use Rattle.office_history.specs.Histories.{History};
-    ghost use Rattle.office_history.specs.PlainOffices.{IsWithin};
+    ghost use Rattle.office_history.specs.Runs.{IsWithin};
     ghost use Rattle.office_history.specs.PlainChanges.{change_seen};
 
     ghost Value = { History };

@@ -2,7 +2,8 @@ use Rattle.std.proofs.Common.{◌≡◌, ◌≤◌, ◌∙◌, ap, sym, subst, �
 use Rattle.office_core.specs.declared.request.Request.TheVariants.{Deposit as MakeDeposit}
 use Rattle.office_history.specs.Histories.{deposits, holds}
 use Rattle.office_history.specs.Answers.{change, after}
-use Rattle.office_history.proofs.LawLemmas.{allowed_deposit, deposit_adds}
+use Rattle.office_history.proofs.Accepted.{depositable}
+use Rattle.office_history.proofs.LawLemmas.{deposit_adds}
 use Rattle.office_history.proofs.OnceLemmas.{was_allowed, more_deposits}
 use Rattle.office_history.proofs.AnsweredLemmas.{was_placed, holds_after, more_holds}
 use Rattle.office_history.proofs.laws.numbers_are_given_once.Goals as goal
@@ -11,9 +12,9 @@ pub returns-clause-deposits : goal.returns-clause-deposits
 returns-clause-deposits c = λ h next day later n m caller collection class accession closed bag other collection_2 class_2 accession_2 closed_2 bag_2 e grown e_2.
     let was = was_allowed h day caller collection class accession closed bag n e in
     let is = was_allowed next later other collection_2 class_2 accession_2 closed_2 bag_2 m e_2 in
-    let allowed = allowed_deposit h day caller collection class accession closed bag was.0 in
+    let allowed = depositable h day caller collection class accession closed bag.now was.0 in
     let mid = after h day caller (MakeDeposit collection class accession closed bag) in
-    let count : length (deposits mid) ≡ length (deposits h) + 1 = ap length (deposit_adds h day caller collection class accession closed bag allowed.bag was.0 allowed.read) ∙ length-append (deposits h) _ in
+    let count : length (deposits mid) ≡ length (deposits h) + 1 = ap length (deposit_adds h day caller collection class accession closed bag allowed.0 was.0 allowed.1) ∙ length-append (deposits h) _ in
     let more : length (deposits mid) ≤ length (deposits next) = subst (λ x. length (deposits mid) ≤ length (deposits x)) (sym grown.1) (more_deposits mid grown.0) in
     omega (arith, was.1, is.1, count, more)
 

@@ -2,4 +2,4 @@ use Rattle.office_history.proofs.LegalLemmas.{run_legal}
 use Rattle.office_history.proofs.laws.runs_stay_legal.Goals as goal
 
 pub returns : goal.returns
-returns c = λ h next items given legal r. run_legal items given h next legal r
+returns c = λ h next items given ranged legal r. run_legal items given h next ranged legal r

@@ -10,7 +10,8 @@ use Rattle.office_history.specs.Runs.{Item, Step, Run, IsLater}
 use Rattle.office_history.specs.Lists.{numbered}
 use Rattle.office_history.proofs.ListLemmas.{numbered_last}
 use Rattle.office_history.proofs.HistoryLemmas.{deposit_stays}
-use Rattle.office_history.proofs.LawLemmas.{allowed_deposit, deposit_adds, form_of, served_form, run_grows}
+use Rattle.office_history.proofs.Accepted.{depositable}
+use Rattle.office_history.proofs.LawLemmas.{deposit_adds, form_of, served_form, run_grows}
 use Rattle.office_history.proofs.OnceLemmas.{was_allowed}
 use Rattle.office_history.proofs.laws.served_as_deposited.Goals as goal
 
@@ -38,15 +39,15 @@ in_run law h mid late next items given day later n bytes caller other collection
 pub returns-clause-answered : goal.returns-clause-answered
 returns-clause-answered c = λ h next day later n bytes caller other collection class accession closed bag e grown served.
     let was = was_allowed h day caller collection class accession closed bag n e in
-    let allowed = allowed_deposit h day caller collection class accession closed bag was.0 in
-    let made : Date × Deposit = (day, record { collection = collection; class = class; accession = accession; closed = closed; bag = allowed.bag }) in
+    let allowed = depositable h day caller collection class accession closed bag.now was.0 in
+    let made : Date × Deposit = (day, record { collection = collection; class = class; accession = accession; closed = closed; bag = allowed.0 }) in
     let mid = after h day caller (MakeDeposit collection class accession closed bag) in
     let there : deposit_numbered mid n ≡ Some made =
-    ap (λ ds. numbered ds n) (deposit_adds h day caller collection class accession closed bag allowed.bag was.0 allowed.read)
+    ap (λ ds. numbered ds n) (deposit_adds h day caller collection class accession closed bag allowed.0 was.0 allowed.1)
     ∙ ap (λ m. numbered (deposits h ++ made ∷ []) m) (sym was.1) ∙ numbered_last (deposits h) made in
     let still : deposit_numbered next n ≡ Some made = ap (λ x. deposit_numbered x n) grown.1 ∙ deposit_stays mid grown.0 n made there in
     served_form next later other n made bytes still served
-    ∙ sym (form_of (λ t files is. ((c.transfer_forms.ensures.read t files).0 is).1) bag.now allowed.bag allowed.read)
+    ∙ sym (form_of (λ t files is. ((c.transfer_forms.ensures.read t files).0 is).1) bag.now allowed.0 allowed.1)
 
 pub returns-clause-ran : goal.returns-clause-ran
 returns-clause-ran c = in_run (returns-clause-answered c)

@@ -1,0 +1,263 @@
+-- Where a request is allowed its change is one that the history allows; so what each such change keeps, each legal history has.
+use Rattle.std.proofs.Common.{◌≡◌, ◌≤ℤ◌, ℕ, ◌<◌, Bool, true, false, not, List, [], ◌∷◌, ◌++◌, length, Option, Some, None, Result, Ok, Err, IsSome, option_map, slice_get, int_lt, refl, sym, ap, subst, ◌∙◌, inl, inr, append-nil, arith, rules, if◌then◌else◌}
+use Rattle.std.specs.Prelude.{nat_le}
+use Rattle.std.proofs.lemmas.Bool.Decides.{nat_tests}
+use Rattle.std.proofs.lemmas.Int.{by_lt_z}
+use Rattle.jiff.specs.Types.{Date}
+use Rattle.jiff.specs.Words.{epoch_day}
+use Rattle.bag_text.specs.TransferForm.{File}
+use Rattle.office_core.specs.Days.{IsDay}
+use Rattle.office_core.specs.FirstOf.{first_some, answer_if}
+use Rattle.office_core.specs.Requests.{IsRequest}
+use Rattle.office_core.specs.declared.retention.Due.{Due}
+use Rattle.office_core.specs.declared.retention.Due.TheVariants.{On, Never}
+use Rattle.office_core.specs.declared.action.Action.TheVariants as acts
+use Rattle.office_core.specs.declared.refusal.Refusal.{Refusal}
+use Rattle.office_core.specs.declared.refusal.Refusal.TheVariants.{Full}
+use Rattle.office_core.specs.declared.facts.Verdict.TheVariants.{NotDue}
+use Rattle.office_core.specs.Verdicts as deciding
+use Rattle.office_core.specs.declared.request.Request.{Request}
+use Rattle.office_core.specs.declared.request.Request.TheVariants.{DefineClass, DefineCollection, Deposit as MakeDeposit, List as ListDeposits, Record, Holds, DownloadBag, DownloadFile, Audit, HoldDeposit, HoldCollection, Release, Dispose, DueList}
+use Rattle.office_history.specs.Histories.{History, Change, Installed, DefinedClass, DefinedCollection, Deposited, PlacedHold, ReleasedHold, Destroyed, Deposit, Hold, grown, has_class, has_collection, deposits, deposit_numbered, accession_of, gone, due, holds, hold_numbered, released, live_holds, least_hold}
+use Rattle.office_history.specs.Bags.{bag_of}
+use Rattle.office_history.specs.Refusals.{refused, refusal, bad_as, of_deposit, of_hold, denied, denied_at, denied_release, is_gone, is_released, held, not_due, no_such_collection, no_such_class, taken, closed_ahead, bad_bag, full_of_deposits, full_of_holds}
+use Rattle.office_history.specs.Answers.{change, changes_unless, allowed_change, deposit_change}
+use Rattle.office_history.specs.Acceptance.{IsChange, IsAllowed, IsDeposit, IsHold, IsDepositable, IsPlaceable, IsReleasable, IsDisposable}
+use Rattle.office_history.specs.Runs.{IsLimit, IsLegal, created, new, install, serve}
+use Rattle.office_history.proofs.HistoryLemmas.{deposits_grown, holds_grown}
+
+-- ---- where no refusal stands
+
+-- of refusals none stands where there is no first one
+pub none_of : {A : Type 0} (o : Option A) (os : List (Option A)) → first_some (o ∷ os) ≡ None → (o ≡ None) × (first_some os ≡ None)
+none_of None os e = (refl, e)
+none_of (Some x) os e = absurd cc
+
+pub map_none : {A B : Type 0} (f : A → B) (o : Option A) → option_map f o ≡ None → o ≡ None
+map_none f None e = refl
+map_none f (Some x) e = absurd cc
+
+not_so : {A : Type 0} (test : Bool) (x : A) → answer_if test x ≡ None → test ≡ false
+not_so true x e = absurd cc
+not_so false x e = refl
+
+is_so : {A : Type 0} (test : Bool) (x : A) → answer_if (not test) x ≡ None → test ≡ true
+is_so true x e = refl
+is_so false x e = absurd cc
+
+below : (most count : ℕ) → answer_if (nat_le most count) Full ≡ None → count < most
+below most count e = let no = not_so (nat_le most count) Full e in grind (arith, nat_tests)
+
+not_later : (day date : Date) → int_lt (epoch_day day) (epoch_day date) ≡ false → epoch_day date ≤ℤ epoch_day day
+not_later day date no =
+    by_lt_z (epoch_day day) (epoch_day date)
+    (λ lt. let before : int_lt (epoch_day day) (epoch_day date) ≡ true = search (rules, lt) in absurd (let wrong : true ≡ false = sym before ∙ no in cc))
+    (λ ge. ge)
+
+not_before : (day date : Date) → refused (answer_if (int_lt (epoch_day day) (epoch_day date)) (NotDue date)) ≡ None → epoch_day date ≤ℤ epoch_day day
+not_before day date e = not_later day date (by (int_lt (epoch_day day) (epoch_day date)) e)
+  where
+    by : (test : Bool) → refused (answer_if test (NotDue date)) ≡ None → test ≡ false
+    by true e = absurd cc
+    by false e = refl
+
+not_gone : (o : Option Date) → refused (deciding.gone o) ≡ None → o ≡ None
+not_gone None e = refl
+not_gone (Some day) e = absurd cc
+
+not_held : (o : Option ℕ) → refused (deciding.held o) ≡ None → o ≡ None
+not_held None e = refl
+not_held (Some k) e = absurd cc
+
+none_first : (ks : List ℕ) → slice_get ks 0 ≡ None → ks ≡ []
+none_first [] e = refl
+none_first (k ∷ ks) e = absurd cc
+
+good_bag : (r : Result (List File) (List ℕ)) → bad_as r ≡ None → (bag : List File) × (r ≡ Ok bag)
+good_bag (Ok bag) e = (bag, refl)
+good_bag (Err fault) e = absurd cc
+
+due_has_come : (day : Date) (d : Due) → refused (deciding.not_due day d) ≡ None → (date : Date) × (d ≡ On date) × (epoch_day date ≤ℤ epoch_day day)
+due_has_come day (On date) e = (date, refl, not_before day date e)
+due_has_come day Never e = absurd cc
+
+-- ---- what a request that is allowed finds
+
+pub depositable : (h : History) (day : Date) (caller collection class accession : List ℕ) (closed : Date) (form : List ℕ)
+    → first_some (no_such_collection h collection ∷ no_such_class h class ∷ denied h caller acts.Deposit (Some collection) (Some class) ∷ taken h accession ∷ closed_ahead day closed ∷ bad_bag form ∷ full_of_deposits h ∷ []) ≡ None
+    → (bag : List File) × (bag_of form ≡ Ok bag) × IsDepositable h day (record { collection = collection; class = class; accession = accession; closed = closed; bag = bag })
+depositable h day caller collection class accession closed form e =
+    let a = none_of (no_such_collection h collection) _ e in
+    let b = none_of (no_such_class h class) _ a.1 in
+    let c = none_of (denied h caller acts.Deposit (Some collection) (Some class)) _ b.1 in
+    let d = none_of (taken h accession) _ c.1 in
+    let f = none_of (closed_ahead day closed) _ d.1 in
+    let g = none_of (bad_bag form) _ f.1 in
+    let i = none_of (full_of_deposits h) _ g.1 in
+    let bag = good_bag (bag_of form) g.0 in
+    (bag.0, bag.1, record {
+      collection = is_so (has_collection h collection) _ a.0;
+      class = is_so (has_class h class) _ b.0;
+      new_accession = map_none _ (accession_of h accession) d.0;
+      closed = not_later day closed (not_so _ _ f.0);
+      form = form;
+      read = bag.1;
+      room = below h.max_deposits (length (deposits h)) i.0;
+    })
+
+disposable_at : (h : History) (day : Date) (caller : List ℕ) (n : ℕ) (there : Option (Date × Deposit)) → deposit_numbered h n ≡ there
+    → first_some (of_deposit there (λ d. denied_at h caller acts.Dispose d ∷ is_gone h n ∷ held h n d ∷ not_due h day d ∷ [])) ≡ None → IsDisposable h day n
+disposable_at h day caller n None is e = absurd cc
+disposable_at h day caller n (Some found) is e =
+    let allowed = none_of (denied_at h caller acts.Dispose found.1) _ e in
+    let there = none_of (is_gone h n) _ allowed.1 in
+    let free = none_of (held h n found.1) _ there.1 in
+    let late = none_of (not_due h day found.1) _ free.1 in
+    let come = due_has_come day (due h found.1) late.0 in
+    record {
+      found = found;
+      date = come.0;
+      there = is;
+      kept = not_gone (gone h n) there.0;
+      unheld = none_first (live_holds h n found.1) (not_held (least_hold h n found.1) free.0);
+      due = come.1;
+      has_come = come.2;
+    }
+
+pub disposable : (h : History) (day : Date) (caller : List ℕ) (n : ℕ) → refusal h day caller (Dispose n) ≡ None → IsDisposable h day n
+disposable h day caller n e = disposable_at h day caller n (deposit_numbered h n) refl e
+
+holdable_at : (h : History) (caller : List ℕ) (n : ℕ) (there : Option (Date × Deposit)) → deposit_numbered h n ≡ there
+    → first_some (of_deposit there (λ d. denied_at h caller acts.Hold d ∷ is_gone h n ∷ full_of_holds h ∷ [])) ≡ None → IsSome (deposit_numbered h n) × (length (holds h) < h.max_holds)
+holdable_at h caller n None is e = absurd cc
+holdable_at h caller n (Some found) is e =
+    let a = none_of (denied_at h caller acts.Hold found.1) _ e in
+    let b = none_of (is_gone h n) _ a.1 in
+    let c = none_of (full_of_holds h) _ b.1 in
+    (rw is tt, below h.max_holds (length (holds h)) c.0)
+
+releasable_at : (h : History) (caller : List ℕ) (k : ℕ) (there : Option (Date × Hold)) → hold_numbered h k ≡ there
+    → first_some (of_hold there (λ hold. denied_release h caller hold.target ∷ is_released h k ∷ [])) ≡ None → IsReleasable h k
+releasable_at h caller k None is e = absurd cc
+releasable_at h caller k (Some found) is e =
+    let a = none_of (denied_release h caller found.1.target) _ e in
+    let b = none_of (is_released h k) _ a.1 in
+    record { found = found; there = is; live = map_none _ (released h k) b.0 }
+
+pub releasable : (h : History) (day : Date) (caller : List ℕ) (k : ℕ) → refusal h day caller (Release k) ≡ None → IsReleasable h k
+releasable h day caller k e = releasable_at h caller k (hold_numbered h k) refl e
+
+-- ---- the change that it makes
+
+-- of changes that are one at most: it is so
+abbrev pub AtMostOne : (Change → Type 0) → List Change → Type 0
+AtMostOne P [] = Unit {0}
+AtMostOne P (c ∷ []) = P c
+AtMostOne P (c ∷ d ∷ more) = ⊥
+
+pub allowed_of : (h : History) (day : Date) (caller : List ℕ) (request : Request) → refusal h day caller request ≡ None → AtMostOne (IsAllowed h) (allowed_change h day request)
+allowed_of h day caller (DefineClass name years) e = tt
+allowed_of h day caller (DefineCollection name) e = by (has_collection h name) refl
+  where
+    by : (there : Bool) → has_collection h name ≡ there → AtMostOne (IsAllowed h) (if there then [] else DefinedCollection day name ∷ [])
+    by true is = tt
+    by false is = is
+allowed_of h day caller (MakeDeposit collection class accession closed bag) e =
+    let found = depositable h day caller collection class accession closed bag.now e in
+    subst (λ (r : Result (List File) (List ℕ)). AtMostOne (IsAllowed h) (deposit_change day collection class accession closed r)) (sym found.1) found.2
+allowed_of h day caller (HoldDeposit n matter) e =
+    let found = holdable_at h caller n (deposit_numbered h n) refl e in
+    record { there = found.0; room = found.1 }
+allowed_of h day caller (HoldCollection name matter) e =
+    let a = none_of (no_such_collection h name) _ e in
+    let b = none_of (denied h caller acts.Hold (Some name) None) _ a.1 in
+    let c = none_of (full_of_holds h) _ b.1 in
+    record { there = is_so (has_collection h name) _ a.0; room = below h.max_holds (length (holds h)) c.0 }
+allowed_of h day caller (Release k) e = releasable h day caller k e
+allowed_of h day caller (Dispose n) e = disposable h day caller n e
+allowed_of h day caller (ListDeposits collection class) e = tt
+allowed_of h day caller (Record n) e = tt
+allowed_of h day caller (Holds n) e = tt
+allowed_of h day caller (DownloadBag n) e = tt
+allowed_of h day caller (DownloadFile n path) e = tt
+allowed_of h day caller (Audit n) e = tt
+allowed_of h day caller DueList e = tt
+
+-- what a request in range changes is in range
+pub ranged_of : (h : History) (day : Date) (request : Request) → IsDay day → IsRequest request → AtMostOne IsChange (allowed_change h day request)
+ranged_of h day (DefineClass name years) in_day asked = (in_day, asked.0, asked.1)
+ranged_of h day (DefineCollection name) in_day asked = by (has_collection h name)
+  where
+    by : (there : Bool) → AtMostOne IsChange (if there then [] else DefinedCollection day name ∷ [])
+    by true = tt
+    by false = (in_day, asked)
+ranged_of h day (MakeDeposit collection class accession closed bag) in_day asked = by (bag_of bag.now)
+  where
+    by : (r : Result (List File) (List ℕ)) → AtMostOne IsChange (deposit_change day collection class accession closed r)
+    by (Ok files) = (in_day, record { collection = asked.0; class = asked.1; accession = asked.2; closed = asked.3 })
+    by (Err fault) = tt
+ranged_of h day (HoldDeposit n matter) in_day asked = (in_day, record { target = tt; matter = asked })
+ranged_of h day (HoldCollection name matter) in_day asked = (in_day, record { target = asked.0; matter = asked.1 })
+ranged_of h day (Release k) in_day asked = in_day
+ranged_of h day (Dispose n) in_day asked = in_day
+ranged_of h day (ListDeposits collection class) in_day asked = tt
+ranged_of h day (Record n) in_day asked = tt
+ranged_of h day (Holds n) in_day asked = tt
+ranged_of h day (DownloadBag n) in_day asked = tt
+ranged_of h day (DownloadFile n path) in_day asked = tt
+ranged_of h day (Audit n) in_day asked = tt
+ranged_of h day DueList in_day asked = tt
+
+-- ---- what each change keeps, each legal history has
+
+pub grown_by_none : (h : History) → h ≡ grown h []
+grown_by_none h = ap (λ (changes : List Change). record h { changes = changes }) (sym (append-nil h.changes))
+
+-- a change that is in range, and that the history allows
+abbrev pub IsAccepted : History → Change → Type 0
+IsAccepted h c = IsChange c × IsAllowed h c
+
+after_change : (P : History → Type 0) (h : History) (day : Date) (caller : List ℕ) (request : Request)
+    → IsDay day → IsRequest request → ((c : Change) → IsAccepted h c → P (grown h (c ∷ []))) → P h
+    → (why : Option Refusal) → refusal h day caller request ≡ why → P (grown h (changes_unless why (allowed_change h day request)))
+after_change P h day caller request in_day asked more here (Some why) is = subst P (grown_by_none h) here
+after_change P h day caller request in_day asked more here None is =
+    by (allowed_change h day request) (ranged_of h day request in_day asked) (allowed_of h day caller request is)
+  where
+    by : (changes : List Change) → AtMostOne IsChange changes → AtMostOne (IsAllowed h) changes → P (grown h changes)
+    by [] ranged allowed = subst P (grown_by_none h) here
+    by (c ∷ []) ranged allowed = more c (ranged, allowed)
+    by (c ∷ d ∷ rest) ranged allowed = absurd ranged
+
+pub legal_by : (P : History → Type 0)
+    → ((max_deposits max_holds : ℕ) → IsLimit max_deposits → IsLimit max_holds → P (created max_deposits max_holds))
+    → ((h : History) (c : Change) → IsLegal h → IsAccepted h c → P h → P (grown h (c ∷ [])))
+    → (h : History) → IsLegal h → P h
+legal_by P begun more h (new a b a_in b_in) = begun a b a_in b_in
+legal_by P begun more h (install before policy is legal) = more before (Installed policy) legal (is, tt) (legal_by P begun more before legal)
+legal_by P begun more h (serve before day caller request in_day asked legal) =
+    after_change P before day caller request in_day asked (λ c ok. more before c legal ok (legal_by P begun more before legal)) (legal_by P begun more before legal) (refusal before day caller request) refl
+
+-- the deposits after a change: those before, or one more
+pub deposits_by : (P : List (Date × Deposit) → Type 0) (x : History) (c : Change) → IsAccepted x c → P (deposits x)
+    → ((day : Date) (deposit : Deposit) → IsDay day × IsDeposit deposit → IsDepositable x day deposit → P (deposits x ++ (day, deposit) ∷ []))
+    → P (deposits (grown x (c ∷ [])))
+deposits_by P x (Deposited day deposit) ok here made = subst P (sym (deposits_grown x (Deposited day deposit ∷ []))) (made day deposit ok.0 ok.1)
+deposits_by P x (Installed policy) ok here made = subst P (sym (deposits_grown x (Installed policy ∷ []) ∙ append-nil (deposits x))) here
+deposits_by P x (DefinedClass day name years) ok here made = subst P (sym (deposits_grown x (DefinedClass day name years ∷ []) ∙ append-nil (deposits x))) here
+deposits_by P x (DefinedCollection day name) ok here made = subst P (sym (deposits_grown x (DefinedCollection day name ∷ []) ∙ append-nil (deposits x))) here
+deposits_by P x (PlacedHold day hold) ok here made = subst P (sym (deposits_grown x (PlacedHold day hold ∷ []) ∙ append-nil (deposits x))) here
+deposits_by P x (ReleasedHold day k) ok here made = subst P (sym (deposits_grown x (ReleasedHold day k ∷ []) ∙ append-nil (deposits x))) here
+deposits_by P x (Destroyed day n) ok here made = subst P (sym (deposits_grown x (Destroyed day n ∷ []) ∙ append-nil (deposits x))) here
+
+-- the holds after a change, likewise
+pub holds_by : (P : List (Date × Hold) → Type 0) (x : History) (c : Change) → IsAccepted x c → P (holds x)
+    → ((day : Date) (hold : Hold) → IsDay day × IsHold hold → IsPlaceable x hold → P (holds x ++ (day, hold) ∷ []))
+    → P (holds (grown x (c ∷ [])))
+holds_by P x (PlacedHold day hold) ok here made = subst P (sym (holds_grown x (PlacedHold day hold ∷ []))) (made day hold ok.0 ok.1)
+holds_by P x (Installed policy) ok here made = subst P (sym (holds_grown x (Installed policy ∷ []) ∙ append-nil (holds x))) here
+holds_by P x (DefinedClass day name years) ok here made = subst P (sym (holds_grown x (DefinedClass day name years ∷ []) ∙ append-nil (holds x))) here
+holds_by P x (DefinedCollection day name) ok here made = subst P (sym (holds_grown x (DefinedCollection day name ∷ []) ∙ append-nil (holds x))) here
+holds_by P x (Deposited day deposit) ok here made = subst P (sym (holds_grown x (Deposited day deposit ∷ []) ∙ append-nil (holds x))) here
+holds_by P x (ReleasedHold day k) ok here made = subst P (sym (holds_grown x (ReleasedHold day k ∷ []) ∙ append-nil (holds x))) here
+holds_by P x (Destroyed day n) ok here made = subst P (sym (holds_grown x (Destroyed day n ∷ []) ∙ append-nil (holds x))) here

@@ -1,0 +1,223 @@
+-- Each legal history: its limits hold, what is named is there, and its rows are in range.
+use Rattle.std.proofs.Common.{◌≡◌, ◌≤◌, ◌≤ℤ◌, ℕ, zero, suc, ◌+◌, ◌<◌, ◌||◌, ℤ, pos, Bool, true, false, List, [], ◌∷◌, ◌++◌, length, map, filter, Option, Some, None, IfSome, IsSome, is_some, option_map, refl, sym, ap, subst, ◌∙◌, inl, inr, append-nil, arith, cond, if◌then◌else◌}
+use Rattle.std.specs.Prelude.{bytes_eq, codes}
+use Rattle.std.specs.List.{AllByRecursion, filter_map, flat_map, list_any, range_with_len, cons_option}
+use Rattle.std.specs.Option.{option_or}
+use Rattle.std.proofs.lemmas.List.Elements.{filter_map-append}
+use Rattle.std.proofs.lemmas.List.Folds.{list_any-append}
+use Rattle.std.proofs.lemmas.Slice.Eq.{bytes_eq-Decides}
+use Rattle.jiff.specs.Types.{Date}
+use Rattle.jiff.specs.Words.{epoch_day}
+use Rattle.bag_text.specs.TransferForm.{File, Fits}
+use Rattle.office_core.proofs.DayLemmas.{day_number}
+use Rattle.office_core.specs.Days.{IsDay, IsDayNumber}
+use Rattle.office_core.specs.Names.{IsName}
+use Rattle.office_core.specs.Requests.{IsYears}
+use Rattle.office_history.specs.Lists.{first_said, last_said, numbered, numbers, distinct_after, in_first_places}
+use Rattle.office_history.specs.Histories.{History, Change, Installed, DefinedClass, DefinedCollection, Deposited, PlacedHold, ReleasedHold, Destroyed, Target, OnDeposit, OnCollection, Deposit, Hold, grown, years_in, years_of, has_class, collection_in, has_collection, deposit_in, deposits, deposit_numbered, destroyed_in, gone, hold_in, holds, hold_numbered, released_in, released}
+use Rattle.office_history.specs.Acceptance.{IsChange, IsDeposit, IsHold, IsThere}
+use Rattle.office_history.specs.Runs.{IsLegal, IsWithin}
+use Rattle.office_history.proofs.ListLemmas.{all_append}
+use Rattle.office_history.proofs.HistoryLemmas.{deposit_stays}
+use Rattle.office_history.proofs.Alike.{last_said-append}
+use Rattle.office_history.proofs.Accepted.{IsAccepted, legal_by, deposits_by, holds_by}
+use Rattle.office_history.proofs.PlainLemmas.{within_grown}
+use Rattle.office_history.proofs.PlainRoom.{has_room}
+
+-- ---- the limits
+
+pub limits_hold : (h : History) → IsLegal h → IsWithin h
+limits_hold h legal =
+    legal_by IsWithin
+    (λ a b a_in b_in. record { deposits_in = omega arith; holds_in = omega arith; deposits_limit = a_in; holds_limit = b_in })
+    (λ x c was ok within. within_grown x c (has_room x c ok.1) within) h legal
+
+-- ---- the day of a deposit
+
+abbrev pub WasClosed : Date × Deposit → Type 0
+WasClosed found = epoch_day found.1.closed ≤ℤ epoch_day found.0
+
+pub closed_deposits : (h : History) → IsLegal h → AllByRecursion WasClosed (deposits h)
+closed_deposits h legal =
+    legal_by (λ x. AllByRecursion WasClosed (deposits x)) (λ a b a_in b_in. tt)
+    (λ x c was ok all. deposits_by (AllByRecursion WasClosed) x c ok all (λ day deposit ranged allowed. all_append WasClosed (deposits x) ((day, deposit) ∷ []) all (allowed.closed, tt)))
+    h legal
+
+-- ---- all changes are in range
+
+pub ranged_changes : (h : History) → IsLegal h → AllByRecursion IsChange h.changes
+ranged_changes h legal =
+    legal_by (λ x. AllByRecursion IsChange x.changes) (λ a b a_in b_in. tt)
+    (λ x c was ok all. all_append IsChange x.changes (c ∷ []) all (ok.0, tt)) h legal
+
+-- what changes in range say is in range, where what each says is
+abbrev pub Says : {B : Type 0} → (Change → Option B) → (B → Type 0) → Type 0
+Says {B = B} says P = (c : Change) → IsChange c → (b : B) → says c ≡ Some b → P b
+
+either : {B : Type 0} (P : B → Type 0) (o p : Option B) → ((b : B) → o ≡ Some b → P b) → ((b : B) → p ≡ Some b → P b) → (b : B) → option_or o p ≡ Some b → P b
+either P None p first rest b e = rest b e
+either P (Some x) p first rest b e = first b e
+
+first_ranged : {B : Type 0} (says : Change → Option B) (P : B → Type 0) → Says says P → (cs : List Change) → AllByRecursion IsChange cs → (b : B) → first_said says cs ≡ Some b → P b
+first_ranged says P so [] all b e = absurd cc
+first_ranged says P so (c ∷ cs) all b e = either P (says c) (first_said says cs) (so c all.0) (first_ranged says P so cs all.1) b e
+
+last_ranged : {B : Type 0} (says : Change → Option B) (P : B → Type 0) → Says says P → (cs : List Change) → AllByRecursion IsChange cs → (b : B) → last_said says cs ≡ Some b → P b
+last_ranged says P so [] all b e = absurd cc
+last_ranged says P so (c ∷ cs) all b e = either P (last_said says cs) (says c) (last_ranged says P so cs all.1) (so c all.0) b e
+
+all_ranged : {B : Type 0} (says : Change → Option B) (P : B → Type 0) → Says says P → (cs : List Change) → AllByRecursion IsChange cs → AllByRecursion P (filter_map says cs)
+all_ranged says P so [] all = tt
+all_ranged {B = B} says P so (c ∷ cs) all = by (says c) refl (all_ranged says P so cs all.1)
+  where
+    by : (o : Option B) → says c ≡ o → AllByRecursion P (filter_map says cs) → AllByRecursion P (cons_option o (filter_map says cs))
+    by None e rest = rest
+    by (Some b) e rest = (so c all.0 b e, rest)
+
+where_so : {A : Type 0} (test : Bool) (x y : A) → (if test then Some x else None) ≡ Some y → (test ≡ true) × (x ≡ y)
+where_so true x y e = (refl, (let same : x ≡ y = cc in same))
+where_so false x y e = absurd cc
+
+gone_day : (n : ℕ) → Says (destroyed_in n) IsDay
+gone_day n (Destroyed day m) ranged b e = subst IsDay (where_so _ day b e).1 ranged
+gone_day n (Installed policy) ranged b e = absurd cc
+gone_day n (DefinedClass day name years) ranged b e = absurd cc
+gone_day n (DefinedCollection day name) ranged b e = absurd cc
+gone_day n (Deposited day deposit) ranged b e = absurd cc
+gone_day n (PlacedHold day hold) ranged b e = absurd cc
+gone_day n (ReleasedHold day k) ranged b e = absurd cc
+
+released_day : (k : ℕ) → Says (released_in k) IsDay
+released_day k (ReleasedHold day j) ranged b e = subst IsDay (where_so _ day b e).1 ranged
+released_day k (Installed policy) ranged b e = absurd cc
+released_day k (DefinedClass day name years) ranged b e = absurd cc
+released_day k (DefinedCollection day name) ranged b e = absurd cc
+released_day k (Deposited day deposit) ranged b e = absurd cc
+released_day k (PlacedHold day hold) ranged b e = absurd cc
+released_day k (Destroyed day n) ranged b e = absurd cc
+
+-- the years of a class that is there, and its name
+class_years : (name : List ℕ) → Says (years_in name) (λ years. IsName name × IsYears years)
+class_years name (DefinedClass day class years) ranged b e =
+    let found = where_so (bytes_eq class name) years b e in
+    (subst IsName ((bytes_eq-Decides class name).0 found.0) ranged.1, subst IsYears found.1 ranged.2)
+class_years name (Installed policy) ranged b e = absurd cc
+class_years name (DefinedCollection day other) ranged b e = absurd cc
+class_years name (Deposited day deposit) ranged b e = absurd cc
+class_years name (PlacedHold day hold) ranged b e = absurd cc
+class_years name (ReleasedHold day k) ranged b e = absurd cc
+class_years name (Destroyed day n) ranged b e = absurd cc
+
+same_some : {A : Type 0} (x y : A) → Some x ≡ Some y → x ≡ y
+same_some x y e = cc
+
+collection_name : Says collection_in IsName
+collection_name (DefinedCollection day name) ranged b e = subst IsName (same_some name b e) ranged.1
+collection_name (Installed policy) ranged b e = absurd cc
+collection_name (DefinedClass day name years) ranged b e = absurd cc
+collection_name (Deposited day deposit) ranged b e = absurd cc
+collection_name (PlacedHold day hold) ranged b e = absurd cc
+collection_name (ReleasedHold day k) ranged b e = absurd cc
+collection_name (Destroyed day n) ranged b e = absurd cc
+
+abbrev pub IsDeposited : Date × Deposit → Type 0
+IsDeposited found = IsDay found.0 × IsDeposit found.1
+
+deposited_so : Says deposit_in IsDeposited
+deposited_so (Deposited day deposit) ranged b e = subst IsDeposited (same_some (day, deposit) b e) ranged
+deposited_so (Installed policy) ranged b e = absurd cc
+deposited_so (DefinedClass day name years) ranged b e = absurd cc
+deposited_so (DefinedCollection day name) ranged b e = absurd cc
+deposited_so (PlacedHold day hold) ranged b e = absurd cc
+deposited_so (ReleasedHold day k) ranged b e = absurd cc
+deposited_so (Destroyed day n) ranged b e = absurd cc
+
+abbrev pub IsPlaced : Date × Hold → Type 0
+IsPlaced found = IsDay found.0 × IsHold found.1
+
+placed_so : Says hold_in IsPlaced
+placed_so (PlacedHold day hold) ranged b e = subst IsPlaced (same_some (day, hold) b e) ranged
+placed_so (Installed policy) ranged b e = absurd cc
+placed_so (DefinedClass day name years) ranged b e = absurd cc
+placed_so (DefinedCollection day name) ranged b e = absurd cc
+placed_so (Deposited day deposit) ranged b e = absurd cc
+placed_so (ReleasedHold day k) ranged b e = absurd cc
+placed_so (Destroyed day n) ranged b e = absurd cc
+
+pub gone_days : (h : History) → IsLegal h → (n : ℕ) (day : Date) → gone h n ≡ Some day → IsDay day
+gone_days h legal n = first_ranged (destroyed_in n) IsDay (gone_day n) h.changes (ranged_changes h legal)
+
+pub released_days : (h : History) → IsLegal h → (k : ℕ) (day : Date) → released h k ≡ Some day → IsDay day
+released_days h legal k = first_ranged (released_in k) IsDay (released_day k) h.changes (ranged_changes h legal)
+
+pub named_classes : (h : History) → IsLegal h → (name : List ℕ) (years : Option ℕ) → years_of h name ≡ Some years → IsName name × IsYears years
+named_classes h legal name = last_ranged (years_in name) (λ years. IsName name × IsYears years) (class_years name) h.changes (ranged_changes h legal)
+
+pub named_collections : (h : History) → IsLegal h → AllByRecursion IsName (filter_map collection_in h.changes)
+named_collections h legal = all_ranged collection_in IsName collection_name h.changes (ranged_changes h legal)
+
+pub ranged_deposits : (h : History) → IsLegal h → AllByRecursion IsDeposited (deposits h)
+ranged_deposits h legal = all_ranged deposit_in IsDeposited deposited_so h.changes (ranged_changes h legal)
+
+pub ranged_holds : (h : History) → IsLegal h → AllByRecursion IsPlaced (holds h)
+ranged_holds h legal = all_ranged hold_in IsPlaced placed_so h.changes (ranged_changes h legal)
+
+-- ---- what is named is there
+
+some_or : {A : Type 0} (a b : Option A) → is_some b ≡ true → is_some (option_or a b) ≡ true
+some_or None b e = e
+some_or (Some x) b e = refl
+
+or_true : (a b : Bool) → a ≡ true → (a || b) ≡ true
+or_true true b e = refl
+or_true false b e = absurd cc
+
+class_stays : (h : History) (more : List Change) (name : List ℕ) → has_class h name ≡ true → has_class (grown h more) name ≡ true
+class_stays h more name e = ap is_some (last_said-append (years_in name) h.changes more) ∙ some_or (last_said (years_in name) more) (years_of h name) e
+
+collection_stays : (h : History) (more : List Change) (name : List ℕ) → has_collection h name ≡ true → has_collection (grown h more) name ≡ true
+collection_stays h more name e =
+    ap (list_any (bytes_eq name)) (filter_map-append collection_in h.changes more)
+    ∙ list_any-append (bytes_eq name) (filter_map collection_in h.changes) (filter_map collection_in more)
+    ∙ or_true (has_collection h name) _ e
+
+there_stays : (h : History) (more : List Change) (target : Target) → IsThere h target → IsThere (grown h more) target
+there_stays h more (OnCollection name) e = collection_stays h more name e
+there_stays h more (OnDeposit n) e = by (deposit_numbered h n) refl e
+  where
+    by : (o : Option (Date × Deposit)) → deposit_numbered h n ≡ o → IsSome o → IsSome (deposit_numbered (grown h more) n)
+    by None is e = absurd e
+    by (Some found) is e = subst (λ (o : Option (Date × Deposit)). IsSome o) (sym (deposit_stays h more n found is)) e
+
+all_weaker : {A : Type 0} (P Q : A → Type 0) → ((x : A) → P x → Q x) → (xs : List A) → AllByRecursion P xs → AllByRecursion Q xs
+all_weaker P Q so [] all = tt
+all_weaker P Q so (x ∷ xs) all = (so x all.0, all_weaker P Q so xs all.1)
+
+abbrev pub HasPlace : History → Date × Deposit → Type 0
+HasPlace h found = (has_collection h found.1.collection ≡ true) × (has_class h found.1.class ≡ true)
+
+place_stays : (h : History) (more : List Change) (found : Date × Deposit) → HasPlace h found → HasPlace (grown h more) found
+place_stays h more found e = (collection_stays h more found.1.collection e.0, class_stays h more found.1.class e.1)
+
+pub placed_deposits : (h : History) → IsLegal h → AllByRecursion (HasPlace h) (deposits h)
+placed_deposits h legal = legal_by (λ x. AllByRecursion (HasPlace x) (deposits x)) (λ a b a_in b_in. tt) more h legal
+  where
+    more : (x : History) (c : Change) → IsLegal x → IsAccepted x c → AllByRecursion (HasPlace x) (deposits x) → AllByRecursion (HasPlace (grown x (c ∷ []))) (deposits (grown x (c ∷ [])))
+    more x c was ok all =
+        let still = all_weaker (HasPlace x) (HasPlace (grown x (c ∷ []))) (place_stays x (c ∷ [])) (deposits x) all in
+        deposits_by (AllByRecursion (HasPlace (grown x (c ∷ [])))) x c ok still
+        (λ day deposit ranged allowed. all_append (HasPlace (grown x (c ∷ []))) (deposits x) ((day, deposit) ∷ []) still
+        (place_stays x (c ∷ []) (day, deposit) (allowed.collection, allowed.class), tt))
+
+abbrev pub HasTarget : History → Date × Hold → Type 0
+HasTarget h found = IsThere h found.1.target
+
+pub placed_holds : (h : History) → IsLegal h → AllByRecursion (HasTarget h) (holds h)
+placed_holds h legal = legal_by (λ x. AllByRecursion (HasTarget x) (holds x)) (λ a b a_in b_in. tt) more h legal
+  where
+    more : (x : History) (c : Change) → IsLegal x → IsAccepted x c → AllByRecursion (HasTarget x) (holds x) → AllByRecursion (HasTarget (grown x (c ∷ []))) (holds (grown x (c ∷ [])))
+    more x c was ok all =
+        let still = all_weaker (HasTarget x) (HasTarget (grown x (c ∷ []))) (λ found there. there_stays x (c ∷ []) found.1.target there) (holds x) all in
+        holds_by (AllByRecursion (HasTarget (grown x (c ∷ [])))) x c ok still
+        (λ day hold ranged allowed. all_append (HasTarget (grown x (c ∷ []))) (holds x) ((day, hold) ∷ []) still
+        (there_stays x (c ∷ []) hold.target allowed.there, tt))

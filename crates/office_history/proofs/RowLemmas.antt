@@ -1,0 +1,211 @@
+-- The rows of a legal history are in range.
+use Rattle.std.proofs.Common.{◌≡◌, ◌≤◌, ◌≤ℤ◌, ℕ, zero, suc, ◌+◌, ◌<◌, ℤ, pos, Bool, true, false, List, [], ◌∷◌, ◌++◌, length, map, Option, Some, None, IfSome, IsSome, option_map, refl, sym, ap, subst, ◌∙◌, inl, inr, arith, cond, if◌then◌else◌}
+use Rattle.std.specs.Prelude.{bytes_eq, codes, neg_ℤ}
+use Rattle.std.specs.List.{AllByRecursion, filter_map, flat_map, list_any, range_with_len, cons_option}
+use Rattle.std.specs.Option.{option_map_or}
+use Rattle.std.proofs.lemmas.Int.{signed_arith}
+use Rattle.jiff.specs.Types.{Date}
+use Rattle.jiff.specs.Words.{epoch_day, IsBetween}
+use Rattle.bag_text.specs.TransferForm.{File, Fits}
+use Rattle.office_core.proofs.DayLemmas.{day_number}
+use Rattle.office_core.specs.Days.{IsDay, IsDayNumber}
+use Rattle.office_core.specs.Names.{IsName}
+use Rattle.office_core.specs.Requests.{IsYears}
+use Rattle.office_core.specs.Policies.{IsPolicy, IsNamed, HasNames, IsNamedCaller}
+use Rattle.office_core.specs.declared.caller.Caller.{Caller}
+use Rattle.office_core.specs.declared.rule.ActionPattern.{ActionPattern}
+use Rattle.office_core.specs.declared.rule.ActionPattern.TheVariants as action_patterns
+use Rattle.office_core.specs.declared.rule.Effect.{Effect}
+use Rattle.office_core.specs.declared.rule.Effect.TheVariants.{Allow, Deny}
+use Rattle.office_core.specs.declared.rule.Pattern.{Pattern}
+use Rattle.office_core.specs.declared.rule.Pattern.TheVariants as patterns
+use Rattle.office_core.specs.declared.rule.Rule.{Rule}
+use Rattle.office_rows.specs.Rows.{CallerRow, RuleRow, ClassRow, DepositRow, FileRow, HoldRow, Tables}
+use Rattle.office_history.specs.Lists.{numbered, numbers, distinct_after, in_first_places}
+use Rattle.office_history.specs.Histories.{History, Target, OnDeposit, OnCollection, Deposit, Hold, policy, years_of, collection_in, deposits, deposit_numbered, gone, kept, holds, hold_numbered, released}
+use Rattle.office_history.specs.Acceptance.{IsThere, IsTarget}
+use Rattle.office_history.specs.Pictures.{effect_number, pattern_text, action_pattern_text, caller_row, rule_row, rule_rows, years_number, class_row, class_in, row_of_class, deposit_row, row_of_deposit, file_row, file_rows, held_deposit, held_collection, hold_row, row_of_hold, picture}
+use Rattle.office_history.specs.RowRanges.{AreNumbered, IsPatternText, IsActionText, IsOneTarget, IsCallerRow, IsRuleRow, IsClassRow, IsDepositRow, IsFileRow, IsHoldRow, AreInRange}
+use Rattle.office_history.specs.Runs.{IsLegal, IsSound}
+use Rattle.office_history.specs.Stocks.{files_of}
+use Rattle.office_history.proofs.ListLemmas.{all_append, all_numbered}
+use Rattle.office_history.proofs.LegalLemmas.{Reads, Judges, HasSoundBag, sound_deposits}
+use Rattle.office_history.proofs.LegalReadings.{legal_policy}
+use Rattle.office_history.proofs.Pictured.{there_is}
+use Rattle.office_history.proofs.RangeLemmas.{limits_hold, WasClosed, closed_deposits, gone_days, released_days, named_classes, named_collections, IsDeposited, ranged_deposits, IsPlaced, ranged_holds, HasTarget, placed_holds}
+
+-- ---- lists
+
+-- of what is told of some numbers, each is so
+all_told : {R : Type 0} (P : R → Type 0) (tell : ℕ → Option R) → ((n : ℕ) (row : R) → tell n ≡ Some row → P row) → (ns : List ℕ) → AllByRecursion P (filter_map tell ns)
+all_told P tell so [] = tt
+all_told {R = R} P tell so (n ∷ ns) = by (tell n) refl (all_told P tell so ns)
+  where
+    by : (o : Option R) → tell n ≡ o → AllByRecursion P (filter_map tell ns) → AllByRecursion P (cons_option o (filter_map tell ns))
+    by None e rest = rest
+    by (Some row) e rest = (so n row e, rest)
+
+-- the same of texts
+all_texts_told : {R : Type 0} (P : R → Type 0) (tell : List ℕ → Option R) → ((text : List ℕ) (row : R) → tell text ≡ Some row → P row) → (texts : List (List ℕ)) → AllByRecursion P (filter_map tell texts)
+all_texts_told P tell so [] = tt
+all_texts_told {R = R} P tell so (text ∷ texts) = by (tell text) refl (all_texts_told P tell so texts)
+  where
+    by : (o : Option R) → tell text ≡ o → AllByRecursion P (filter_map tell texts) → AllByRecursion P (cons_option o (filter_map tell texts))
+    by None e rest = rest
+    by (Some row) e rest = (so text row e, rest)
+
+mapped_some : {A R : Type 0} (f : A → R) (o : Option A) (r : R) → option_map f o ≡ Some r → (x : A) × (o ≡ Some x) × (f x ≡ r)
+mapped_some f None r e = absurd cc
+mapped_some f (Some x) r e = (x, refl, (let same : f x ≡ r = cc in same))
+
+-- the items have the numbers from 1 on
+item_there : {A : Type 0} (xs : List A) (n : ℕ) → 1 ≤ n → n ≤ length xs → (x : A) × (numbered xs n ≡ Some x)
+item_there xs zero low high = absurd (omega (arith, low))
+item_there xs (suc i) low high = there_is xs i (omega (arith, high))
+
+numbered_rows : {A R : Type 0} (xs : List A) (tell : ℕ → A → R) (number : R → ℤ) → ((n : ℕ) (x : A) → number (tell n x) ≡ pos n)
+    → (len start : ℕ) → 1 ≤ start → start + len ≤ length xs + 1
+    → AreNumbered number start (filter_map (λ m. option_map (tell m) (numbered xs m)) (range_with_len start len))
+numbered_rows xs tell number is zero start low high = tt
+numbered_rows {A = A} {R = R} xs tell number is (suc len) start low high =
+    let here = item_there xs start low (omega (arith, high)) in
+    subst (λ (o : Option A). AreNumbered number start (cons_option (option_map (tell start) o) (filter_map (λ m. option_map (tell m) (numbered xs m)) (range_with_len (start + 1) len))))
+    (sym here.1)
+    (is start here.0, numbered_rows xs tell number is len (start + 1) (omega arith) (omega (arith, high)))
+
+all_distinct : (P : List ℕ → Type 0) (seen texts : List (List ℕ)) → AllByRecursion P texts → AllByRecursion P (distinct_after seen texts)
+all_distinct P seen [] all = tt
+all_distinct P seen (text ∷ texts) all = by (list_any (bytes_eq text) seen)
+  where
+    by : (there : Bool) → AllByRecursion P (if there then distinct_after seen texts else text ∷ distinct_after (text ∷ seen) texts)
+    by true = all_distinct P seen texts all.1
+    by false = (all.0, all_distinct P (text ∷ seen) texts all.1)
+
+-- ---- callers and rules
+
+ranged_callers : (callers : List Caller) → AllByRecursion IsNamedCaller callers → AllByRecursion IsCallerRow (map caller_row callers)
+ranged_callers [] all = tt
+ranged_callers (caller ∷ callers) all = (record { name = all.0.0; role = all.0.1 }, ranged_callers callers all.1)
+
+pattern_ranged : (p : Pattern) → IsNamed p → IsPatternText (pattern_text p)
+pattern_ranged patterns.Any named = inl refl
+pattern_ranged (patterns.Named only) named = inr named
+
+action_ranged : (p : ActionPattern) → IsActionText (action_pattern_text p)
+action_ranged action_patterns.Any = inl refl
+action_ranged (action_patterns.Only action) = inr (action, refl)
+
+effect_ranged : (effect : Effect) → (effect_number effect ≡ pos 0) ⊎ (effect_number effect ≡ pos 1)
+effect_ranged Allow = inr refl
+effect_ranged Deny = inl refl
+
+ranged_rules : (place : ℕ) (rules : List Rule) → AllByRecursion HasNames rules → AllByRecursion IsRuleRow (rule_rows place rules)
+ranged_rules place [] all = tt
+ranged_rules place (rule ∷ rules) all = (record {
+  effect = effect_ranged rule.effect;
+  role = pattern_ranged rule.role all.0.0;
+  action = action_ranged rule.action;
+  collection = pattern_ranged rule.collection all.0.1;
+  class = pattern_ranged rule.class all.0.2;
+}, ranged_rules (place + 1) rules all.1)
+
+numbered_rules : (place : ℕ) (rules : List Rule) → AreNumbered (λ (row : RuleRow). row.place) place (rule_rows place rules)
+numbered_rules place [] = tt
+numbered_rules place (rule ∷ rules) = (refl, numbered_rules (place + 1) rules)
+
+-- ---- classes
+
+years_ranged : (years : Option ℕ) → IsYears years → IsBetween (neg_ℤ (pos 1)) (pos 200) (years_number years)
+years_ranged None is = (omega (arith, signed_arith), omega (arith, signed_arith))
+years_ranged (Some years) is = (omega (arith, signed_arith), omega (arith, signed_arith, is))
+
+class_ranged : (h : History) → IsLegal h → (name : List ℕ) (row : ClassRow) → row_of_class h name ≡ Some row → IsClassRow row
+class_ranged h legal name row e =
+    let found = mapped_some (class_row name) (years_of h name) row e in
+    let named = named_classes h legal name found.0 found.1 in
+    subst IsClassRow found.2 (record { name = named.0; years = years_ranged found.0 named.1 })
+
+-- ---- deposits and their files
+
+day_ranged : (o : Option Date) → ((day : Date) → o ≡ Some day → IsDay day) → IfSome (option_map epoch_day o) IsDayNumber
+day_ranged None so = tt
+day_ranged (Some day) so = day_number day (so day refl)
+
+deposit_ranged : (h : History) → IsLegal h → (n : ℕ) (row : DepositRow) → row_of_deposit h n ≡ Some row → IsDepositRow row
+deposit_ranged h legal n row e =
+    let found = mapped_some (deposit_row h n) (deposit_numbered h n) row e in
+    let made = all_numbered IsDeposited (deposits h) n found.0 (ranged_deposits h legal) found.1 in
+    let closed = all_numbered WasClosed (deposits h) n found.0 (closed_deposits h legal) found.1 in
+    subst IsDepositRow found.2 (record {
+      accession = made.1.accession;
+      collection = made.1.collection;
+      class = made.1.class;
+      closed = day_number found.0.1.closed made.1.closed;
+      deposited = day_number found.0.0 made.0;
+      in_turn = closed;
+      files = omega (arith, signed_arith);
+      bytes = omega (arith, signed_arith);
+      gone = day_ranged (gone h n) (gone_days h legal n);
+    })
+
+files_ranged : (n : ℕ) (files : List File) → AllByRecursion Fits files → AllByRecursion IsFileRow (map (file_row n) files)
+files_ranged n [] all = tt
+files_ranged n (file ∷ files) all = (record { good = all.0.good; small = all.0.small }, files_ranged n files all.1)
+
+bag_ranged : Reads → Judges → (h : History) → IsLegal h → (n : ℕ) → AllByRecursion Fits (files_of h n)
+bag_ranged reads judges h legal n = by (deposit_numbered h n) refl
+  where
+    by : (o : Option (Date × Deposit)) → deposit_numbered h n ≡ o → AllByRecursion Fits (option_map_or (λ found. found.1.bag) o [])
+    by None e = tt
+    by (Some found) e = (all_numbered HasSoundBag (deposits h) n found (sound_deposits reads judges h legal) e).bag.each
+
+rows_ranged : (files : ℕ → List File) → ((n : ℕ) → AllByRecursion Fits (files n)) → (ns : List ℕ) → AllByRecursion IsFileRow (flat_map (λ n. map (file_row n) (files n)) ns)
+rows_ranged files so [] = tt
+rows_ranged files so (n ∷ ns) = all_append IsFileRow (map (file_row n) (files n)) _ (files_ranged n (files n) (so n)) (rows_ranged files so ns)
+
+-- ---- holds
+
+-- no deposit has the number 0
+target_ranged : (h : History) (target : Target) → IsThere h target → IsTarget target → IsOneTarget (held_deposit target) (held_collection target)
+target_ranged h (OnDeposit zero) there is = absurd there
+target_ranged h (OnDeposit (suc n)) there is = omega (arith, signed_arith)
+target_ranged h (OnCollection name) there is = is
+
+hold_ranged : (h : History) → IsLegal h → (k : ℕ) (row : HoldRow) → row_of_hold h k ≡ Some row → IsHoldRow row
+hold_ranged h legal k row e =
+    let found = mapped_some (hold_row h k) (hold_numbered h k) row e in
+    let made = all_numbered IsPlaced (holds h) k found.0 (ranged_holds h legal) found.1 in
+    let there = all_numbered (HasTarget h) (holds h) k found.0 (placed_holds h legal) found.1 in
+    subst IsHoldRow found.2 (record {
+      target = target_ranged h found.0.1.target there made.1.target;
+      matter = made.1.matter;
+      placed = day_number found.0.0 made.0;
+      released = day_ranged (released h k) (released_days h legal k);
+    })
+
+-- ---- all rows
+
+pub rows_in_range : Reads → Judges → (h : History) (version : ℤ) → IsLegal h → AreInRange version (picture version h)
+rows_in_range reads judges h version legal =
+    let within = limits_hold h legal in
+    let rules = legal_policy h legal in
+    record {
+      office_row = record { id = pos 1; version = version; max_deposits = pos h.max_deposits; max_holds = pos h.max_holds };
+      one_office = refl;
+      office = record {
+        id = refl;
+        version = refl;
+        max_deposits = (omega (arith, signed_arith, within.deposits_limit.0), omega (arith, signed_arith, within.deposits_limit.1));
+        max_holds = (omega (arith, signed_arith, within.holds_limit.0), omega (arith, signed_arith, within.holds_limit.1));
+      };
+      callers = ranged_callers (policy h).callers rules.callers_are_names;
+      rules = ranged_rules 1 (policy h).rules rules.rules_ask_for_names;
+      places = numbered_rules 1 (policy h).rules;
+      classes = all_texts_told IsClassRow (row_of_class h) (class_ranged h legal) (in_first_places (filter_map class_in h.changes));
+      collections = all_distinct IsName [] (filter_map collection_in h.changes) (named_collections h legal);
+      deposits = all_told IsDepositRow (row_of_deposit h) (deposit_ranged h legal) (numbers (length (deposits h)));
+      deposit_numbers = numbered_rows (deposits h) (deposit_row h) (λ (row : DepositRow). row.number) (λ n x. refl) (length (deposits h)) 1 (omega arith) (omega arith);
+      files = rows_ranged (files_of h) (bag_ranged reads judges h legal) (kept h);
+      holds = all_told IsHoldRow (row_of_hold h) (hold_ranged h legal) (numbers (length (holds h)));
+      hold_numbers = numbered_rows (holds h) (hold_row h) (λ (row : HoldRow). row.number) (λ n x. refl) (length (holds h)) 1 (omega arith) (omega arith);
+    }

@@ -1,0 +1,90 @@
+-- The rows that accepted changes write: one row of the office, and every number, name and day in its range.
+use Rattle.std.specs.Prelude.{◌≡◌, ℕ, ◌+◌, ◌≤ℤ◌, ◌⊎◌, ℤ, pos, neg_ℤ, List, [], ◌∷◌, Option, Some, None, IfSome, codes}
+use Rattle.std.specs.List.{AllByRecursion}
+use Rattle.jiff.specs.Words.{IsBetween}
+use Rattle.bag_text.specs.TransferForm.{Fits}
+use Rattle.office_core.specs.Actions.{action_text}
+use Rattle.office_core.specs.Days.{IsDayNumber}
+use Rattle.office_core.specs.Names.{IsName, IsAccession, IsMatter}
+use Rattle.office_core.specs.declared.action.Action.{Action}
+use Rattle.office_rows.specs.Rows.{OfficeRow, CallerRow, RuleRow, ClassRow, DepositRow, FileRow, HoldRow, Tables}
+
+-- the numbers of the rows are these: n, n + 1, n + 2 and so on
+abbrev pub AreNumbered : {Row : Type 0} → (Row → ℤ) → ℕ → List Row → Type 0
+AreNumbered number n [] = Unit {0}
+AreNumbered number n (row ∷ rows) = (number row ≡ pos n) × AreNumbered number (n + 1) rows
+
+-- ---- one row each
+
+pub record IsOfficeRow (version : ℤ) (row : OfficeRow) : Type 0 where
+  pub id : row.id ≡ pos 1
+  pub version : row.version ≡ version
+  pub max_deposits : IsBetween (pos 1) (pos 1000000) row.max_deposits
+  pub max_holds : IsBetween (pos 1) (pos 1000000) row.max_holds
+
+pub record IsCallerRow (row : CallerRow) : Type 0 where
+  pub name : IsName row.name
+  pub role : IsName row.role
+
+-- `*` or a name
+abbrev pub IsPatternText : List ℕ → Type 0
+IsPatternText text = (text ≡ codes "*") ⊎ IsName text
+
+-- `*` or an action
+abbrev pub IsActionText : List ℕ → Type 0
+IsActionText text = (text ≡ codes "*") ⊎ ((action : Action) × (text ≡ action_text action))
+
+pub record IsRuleRow (row : RuleRow) : Type 0 where
+  pub effect : (row.effect ≡ pos 0) ⊎ (row.effect ≡ pos 1)
+  pub role : IsPatternText row.role
+  pub action : IsActionText row.action
+  pub collection : IsPatternText row.collection
+  pub class : IsPatternText row.class
+
+pub record IsClassRow (row : ClassRow) : Type 0 where
+  pub name : IsName row.name
+  pub years : IsBetween (neg_ℤ (pos 1)) (pos 200) row.years
+
+pub record IsDepositRow (row : DepositRow) : Type 0 where
+  pub accession : IsAccession row.accession
+  pub collection : IsName row.collection
+  pub class : IsName row.class
+  pub closed : IsDayNumber row.closed
+  pub deposited : IsDayNumber row.deposited
+  pub in_turn : row.closed ≤ℤ row.deposited
+  pub files : pos 0 ≤ℤ row.files
+  pub bytes : pos 0 ≤ℤ row.bytes
+  pub gone : IfSome row.gone IsDayNumber
+
+-- a file that a bag may have
+abbrev pub IsFileRow : FileRow → Type 0
+IsFileRow row = Fits (record { path = row.path; content = row.content })
+
+-- a deposit or a collection, and not both
+abbrev pub IsOneTarget : Option ℤ → Option (List ℕ) → Type 0
+IsOneTarget (Some deposit) None = pos 1 ≤ℤ deposit
+IsOneTarget None (Some collection) = IsName collection
+IsOneTarget _ _ = ⊥
+
+pub record IsHoldRow (row : HoldRow) : Type 0 where
+  pub target : IsOneTarget row.deposit row.collection
+  pub matter : IsMatter row.matter
+  pub placed : IsDayNumber row.placed
+  pub released : IfSome row.released IsDayNumber
+
+-- ---- all rows
+
+pub record AreInRange (version : ℤ) (tables : Tables) : Type 0 where
+  pub office_row : OfficeRow
+  pub one_office : tables.office ≡ office_row ∷ []
+  pub office : IsOfficeRow version office_row
+  pub callers : AllByRecursion IsCallerRow tables.callers
+  pub rules : AllByRecursion IsRuleRow tables.rules
+  pub places : AreNumbered (λ row. row.place) 1 tables.rules
+  pub classes : AllByRecursion IsClassRow tables.classes
+  pub collections : AllByRecursion IsName tables.collections
+  pub deposits : AllByRecursion IsDepositRow tables.deposits
+  pub deposit_numbers : AreNumbered (λ row. row.number) 1 tables.deposits
+  pub files : AllByRecursion IsFileRow tables.files
+  pub holds : AllByRecursion IsHoldRow tables.holds
+  pub hold_numbers : AreNumbered (λ row. row.number) 1 tables.holds
