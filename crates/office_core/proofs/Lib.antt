@@ -1,7 +1,9 @@
 pub mod OptionLemmas
+pub mod TomlKeys
 pub mod DayLemmas
 pub mod RuleLemmas
 pub mod PolicyAnswers
 pub mod PolicyLemmas
 pub mod PolicyNames
+pub mod PolicyPlaces
 pub mod DueLemmas

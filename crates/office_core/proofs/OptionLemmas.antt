@@ -4,6 +4,7 @@ use Rattle.std.proofs.lemmas.Bool.{cases_Bool}
 use Rattle.std.proofs.lemmas.Option.{same_Some}
 use Rattle.std.proofs.lemmas.Bool.{false≢true}
 use Rattle.std.specs.Result.{result_ok}
+use Rattle.office_core.specs.FirstOf.{first_some, answer_if}
 use Rattle.office_core.specs.DayReading.{◌>>=◌}
 
 -- a result that is there is there as an option
@@ -27,6 +28,16 @@ some_if false o x e = cc
 pub some_and_then : {A B : Type 0} (o : Option A) (f : A → Option B) (y : B) → (o >>= f) ≡ Some y → (x : A) × (o ≡ Some x) × (f x ≡ Some y)
 some_and_then (Some x) f y e = (x, refl, e)
 some_and_then None f y e = cc
+
+-- nothing is there where the first of all is not there
+pub none_of : {A : Type 0} (o : Option A) (os : List (Option A)) → first_some (o ∷ os) ≡ None → (o ≡ None) × (first_some os ≡ None)
+none_of None os e = (refl, e)
+none_of (Some x) os e = absurd cc
+
+-- an answer that isn't there is asked for by no test
+pub answer_if_none : {A : Type 0} (test : Bool) (answer : A) → answer_if test answer ≡ None → test ≡ false
+answer_if_none false answer e = refl
+answer_if_none true answer e = absurd cc
 
 pub IfSome_from : {A : Type 0} {P : A → Type 0} (o : Option A) → ((x : A) → o ≡ Some x → P x) → IfSome o P
 IfSome_from (Some x) f = f x refl

@@ -1,13 +1,19 @@
--- The rules of a policy ask for names.
-use Rattle.std.proofs.Common.{◌≡◌, ℕ, Bool, true, false, List, [], ◌∷◌, Option, Some, None, Ok, refl, sym, subst, if◌then◌else◌}
+-- What each policy that a text spells has: names, each caller once, and not too many of them.
+use Rattle.std.proofs.Common.{◌≡◌, ◌≢◌, ◌∙◌, ◌≤◌, ℕ, Bool, true, false, ◌&&◌, List, [], ◌∷◌, length, Option, Some, None, option_map, Ok, Err, nat_lt, refl, sym, ap, subst, if◌then◌else◌, arith}
 use Rattle.std.specs.Prelude.{codes, bytes_eq}
+use Rattle.std.proofs.lemmas.Bool.{and_parts, or_parts, false≢true}
+use Rattle.std.proofs.lemmas.Bool.Decides.{nat_tests}
 use Rattle.std.specs.List.{list_all, filter_map, AllByRecursion}
-use Rattle.toml.specs.Data.{Data, Members, as_table}
-use Rattle.office_core.specs.FirstOf.{answer_if}
+use Rattle.toml.specs.Data.{Data, string, integer, float, boolean, datetime, array, table, Members, no_members, member, same_key, get_member, as_str, as_table}
+use Rattle.office_core.specs.FirstOf.{first_some, answer_if}
 use Rattle.office_core.specs.Names.{is_name}
 use Rattle.office_core.specs.DayReading.{◌>>=◌}
-use Rattle.office_core.specs.Policies.{Contents, entries, is_one_of, rule_keys, text_at, effect_at, action_at, pattern_in, pattern_at, rule_of, rule_in, rules_among, bad_rule_among, rule_values, IsNamed, HasNames, IsPolicy, SpellsPolicy}
-use Rattle.office_core.specs.PolicyReading.{rules_or, read_rules}
+use Rattle.office_core.specs.Policies.{Contents, contents_of, entries, is_one_of, caller_in, table_entries, caller_entries, callers_among, is_bad_among, callers_of, rule_keys, text_at, effect_at, action_at, pattern_in, pattern_at, rule_of, rule_in, rules_among, bad_rule_among, bad_rule, rule_values, rules_of, has_bad_version, has_unknown_key, has_bad_caller, has_too_many, faults, IsNamed, HasNames, IsNamedCaller, EachCallerOnce, IsPolicy, SpellsPolicy}
+use Rattle.office_core.specs.PolicyReading.{rules_or, read_callers, read_rules}
+use Rattle.office_core.specs.declared.caller.Caller.{Caller}
+use Rattle.office_core.specs.declared.policy_fault.PolicyFault.TheVariants.{BadVersion, UnknownKey, BadCaller, BadRule, TooMany}
+use Rattle.office_core.proofs.OptionLemmas.{none_of, answer_if_none}
+use Rattle.office_core.proofs.TomlKeys.{IsNoKey, HasKeysOnce, AllSound, same_key-self, parsed_sound, member_sound}
 use Rattle.office_core.specs.declared.rule.Effect.{Effect}
 use Rattle.office_core.specs.declared.rule.Pattern.{Pattern}
 use Rattle.office_core.specs.declared.rule.Pattern.TheVariants as names
@@ -83,19 +89,134 @@ all_named : (values : List Data) → AllByRecursion HasNames (filter_map rule_in
 all_named [] = tt
 all_named (value ∷ values) = one_more value values (all_named values) (rule_in value) refl
 
--- ---- policies
-
 among_named : (found : Option (List Data)) → AllByRecursion HasNames (rules_among found)
 among_named None = tt
 among_named (Some values) = all_named values
 
-pub spelled_policy : (text : List ℕ) (policy : Contents) → SpellsPolicy text policy → IsPolicy policy
-spelled_policy text policy spells = subst IsPolicy (sym spells.is) (among_named (rule_values spells.tree))
+-- ---- callers
 
--- rules that were read are those that stand there
-pub rules_read : (found : Option (List Data)) (rules : List Rule) → read_rules found ≡ Ok rules → AllByRecursion HasNames rules
+-- what stands at a caller is that caller, with names
+caller_is : (entry : List ℕ × Data) (caller : Caller) → caller_in entry ≡ Some caller → (caller.name ≡ entry.0) × IsNamedCaller caller
+caller_is entry caller e = by_role (as_str entry.1) e
+  where
+    by_names : (role : List ℕ) (test : Bool) → (is_name entry.0 && is_name role) ≡ test → answer_if test (record { name = entry.0; role = role }) ≡ Some caller
+        → (caller.name ≡ entry.0) × IsNamedCaller caller
+    by_names role false is made = absurd cc
+    by_names role true is made =
+        let both = and_parts (is_name entry.0) (is_name role) is in
+        let read : Caller = record { name = entry.0; role = role } in
+        let same : read ≡ caller = cc in
+        subst (λ (c : Caller). (c.name ≡ entry.0) × IsNamedCaller c) same (refl, both)
+
+    by_role : (role : Option (List ℕ)) → (role >>= λ role. answer_if (is_name entry.0 && is_name role) (record { name = entry.0; role = role })) ≡ Some caller
+        → (caller.name ≡ entry.0) × IsNamedCaller caller
+    by_role None made = absurd cc
+    by_role (Some role) made = by_names role (is_name entry.0 && is_name role) refl made
+
+one_more_caller : (P : Caller → Type 0) (entry : List ℕ × Data) (entries : List (List ℕ × Data)) (found : Option Caller) → caller_in entry ≡ found → ((caller : Caller) → caller_in entry ≡ Some caller → P caller)
+    → AllByRecursion P (filter_map caller_in entries) → AllByRecursion P (filter_map caller_in (entry ∷ entries))
+one_more_caller P entry entries None is here more = rw is more
+one_more_caller P entry entries (Some caller) is here more = rw is (here caller is, more)
+
+callers_named : (entries : List (List ℕ × Data)) → AllByRecursion IsNamedCaller (filter_map caller_in entries)
+callers_named [] = tt
+callers_named (entry ∷ entries) = one_more_caller IsNamedCaller entry entries (caller_in entry) refl (λ caller is. (caller_is entry caller is).1) (callers_named entries)
+
+callers_among_named : (found : Option (List (List ℕ × Data))) → AllByRecursion IsNamedCaller (callers_among found)
+callers_among_named None = tt
+callers_among_named (Some entries) = callers_named entries
+
+-- a key that isn't there is no caller's name
+no_such_caller : (key : List ℕ) (ms : Members) → IsNoKey key ms → AllByRecursion (λ other. key ≢ other.name) (filter_map caller_in (entries ms))
+no_such_caller key no_members none = tt
+no_such_caller key (member l d ms) none =
+    one_more_caller (λ other. key ≢ other.name) (l, d) (entries ms) (caller_in (l, d)) refl
+    (λ caller is e. false≢true (sym none.0 ∙ ap (same_key key) (sym (caller_is (l, d) caller is).0 ∙ sym e) ∙ same_key-self key))
+    (no_such_caller key ms none.1)
+
+entries_once : (ms : Members) → HasKeysOnce ms → EachCallerOnce (filter_map caller_in (entries ms))
+entries_once no_members once = tt
+entries_once (member key d ms) once = by_caller (caller_in (key, d)) refl (entries_once ms once.1)
+  where
+    by_caller : (found : Option Caller) → caller_in (key, d) ≡ found → EachCallerOnce (filter_map caller_in (entries ms)) → EachCallerOnce (filter_map caller_in (entries (member key d ms)))
+    by_caller None is more = rw is more
+    by_caller (Some caller) is more =
+        rw is (subst (λ name. AllByRecursion (λ other. name ≢ other.name) (filter_map caller_in (entries ms))) (sym (caller_is (key, d) caller is).0) (no_such_caller key ms once.0), more)
+
+-- each caller of a tree stands once
+pub callers_once : (tree : Members) → AllSound tree → EachCallerOnce (callers_of tree)
+callers_once tree sound = by_table (get_member (codes "callers") tree) refl
+  where
+    by_table : (found : Option Data) → get_member (codes "callers") tree ≡ found → EachCallerOnce (callers_among (table_entries found))
+    by_table None is = tt
+    by_table (Some (table ms)) is = entries_once ms (member_sound (codes "callers") tree (table ms) sound is)
+    by_table (Some (array ds)) is = tt
+    by_table (Some (string t)) is = tt
+    by_table (Some (integer z)) is = tt
+    by_table (Some (float x)) is = tt
+    by_table (Some (boolean b)) is = tt
+    by_table (Some (datetime dt)) is = tt
+
+-- ---- policies
+
+pub no_policy_is_policy : IsPolicy (record { callers = []; rules = [] })
+no_policy_is_policy = record {
+  rules_ask_for_names = tt;
+  callers_are_names = tt;
+  callers_stand_once = tt;
+  few_rules = omega arith;
+  few_callers = omega arith;
+}
+
+-- a tree without a fault has not too many
+not_too_many : (tree : Members) → first_some (faults tree) ≡ None → has_too_many tree ≡ false
+not_too_many tree sound =
+    let unknown = (none_of (answer_if (has_bad_version tree) BadVersion) _ sound).1 in
+    let caller = (none_of (answer_if (has_unknown_key tree) UnknownKey) _ unknown).1 in
+    let rule = (none_of (answer_if (has_bad_caller tree) BadCaller) _ caller).1 in
+    let many = (none_of (option_map BadRule (bad_rule tree)) _ rule).1 in
+    answer_if_none (has_too_many tree) TooMany (none_of (answer_if (has_too_many tree) TooMany) [] many).0
+
+tree_policy : (tree : Members) → AllSound tree → first_some (faults tree) ≡ None → IsPolicy (contents_of tree)
+tree_policy tree once sound =
+    let few = or_parts (nat_lt 200 (length (rules_of tree))) (nat_lt 1000 (length (callers_of tree))) (not_too_many tree sound) in
+    record {
+      rules_ask_for_names = among_named (rule_values tree);
+      callers_are_names = callers_among_named (caller_entries tree);
+      callers_stand_once = callers_once tree once;
+      few_rules = grind (arith, nat_tests, few.0);
+      few_callers = grind (arith, nat_tests, few.1);
+    }
+
+pub spelled_policy : (text : List ℕ) (policy : Contents) → SpellsPolicy text policy → IsPolicy policy
+spelled_policy text policy spells =
+    subst IsPolicy (sym spells.is) (tree_policy spells.tree (parsed_sound text spells.tree spells.parsed) spells.sound)
+
+-- callers and rules that were read are those that stand there
+pub callers_read : (found : Option (List (List ℕ × Data))) (callers : List Caller) → read_callers found ≡ Ok callers → callers_among found ≡ callers
+callers_read found callers e = by_bad (is_bad_among found) e
+  where
+    by_bad : (bad : Bool) → (if bad then Err BadCaller else Ok (callers_among found)) ≡ Ok callers → callers_among found ≡ callers
+    by_bad true e = absurd cc
+    by_bad false e = cc
+
+pub rules_read : (found : Option (List Data)) (rules : List Rule) → read_rules found ≡ Ok rules → rules_among found ≡ rules
 rules_read found rules e = by_bad (bad_rule_among found) e
   where
-    by_bad : (bad : Option ℕ) → rules_or (rules_among found) bad ≡ Ok rules → AllByRecursion HasNames rules
+    by_bad : (bad : Option ℕ) → rules_or (rules_among found) bad ≡ Ok rules → rules_among found ≡ rules
     by_bad (Some number) e = absurd cc
-    by_bad None e = let same : rules_among found ≡ rules = cc in subst (AllByRecursion HasNames) same (among_named found)
+    by_bad None e = cc
+
+-- what is read of a tree is a policy, where it isn't too much
+pub read_policy_is : (tree : Members) (callers : List Caller) (rules : List Rule) → EachCallerOnce (callers_of tree) → read_callers (caller_entries tree) ≡ Ok callers → read_rules (rule_values tree) ≡ Ok rules
+    → length rules ≤ 200 → length callers ≤ 1000 → IsPolicy (record { callers = callers; rules = rules })
+read_policy_is tree callers rules once callers_are rules_are few_rules few_callers =
+    let same_callers = callers_read (caller_entries tree) callers callers_are in
+    let same_rules = rules_read (rule_values tree) rules rules_are in
+    record {
+      rules_ask_for_names = subst (AllByRecursion HasNames) same_rules (among_named (rule_values tree));
+      callers_are_names = subst (AllByRecursion IsNamedCaller) same_callers (callers_among_named (caller_entries tree));
+      callers_stand_once = subst EachCallerOnce same_callers once;
+      few_rules = few_rules;
+      few_callers = few_callers;
+    }

@@ -1,5 +1,5 @@
 -- The policy file: the callers and the rules that the tree of a TOML text spells, and its faults.
-use Rattle.std.specs.Prelude.{◌≡◌, ◌⊎◌, ℕ, suc, pos, Bool, true, false, not, ◌&&◌, ◌||◌, List, [], ◌∷◌, length, Option, Some, None, Result, Ok, Err, is_none, nat_lt, codes, bytes_eq, find, option_map, option_and_then, if◌then◌else◌}
+use Rattle.std.specs.Prelude.{◌≡◌, ◌≢◌, ◌≤◌, ◌⊎◌, ℕ, suc, pos, Bool, true, false, not, ◌&&◌, ◌||◌, List, [], ◌∷◌, length, Option, Some, None, Result, Ok, Err, is_none, nat_lt, codes, bytes_eq, find, slice_get, option_map, option_and_then, if◌then◌else◌}
 use Rattle.std.specs.List.{list_all, list_any, filter_map, AllByRecursion}
 use Rattle.std.specs.Option.{option_map_or}
 use Rattle.std.specs.Ordering.{int_eq}
@@ -184,25 +184,51 @@ pub record SpellsPolicy (text : List ℕ) (policy : Contents) : Type 0 where
   pub sound : first_some (faults tree) ≡ None
   pub is : policy ≡ contents_of tree
 
+-- each value gives the item at its place, and there are as many items as values
+pub record GivesEach {A B : Type 0} (read : A → Option B) (values : List A) (items : List B) : Type 0 where
+  pub count : length items ≡ length values
+  pub each : (place : ℕ) → slice_get items place ≡ option_and_then read (slice_get values place)
+
+-- the values of the array `rule` of a tree give these rules, each in its place
+abbrev pub SpellsRules : Members → List Rule → Type 0
+SpellsRules tree rules = (values : List Data) × (rule_values tree ≡ Some values) × GivesEach rule_in values rules
+
+-- the entries of the table `callers` of a tree give these callers, each in its place
+abbrev pub SpellsCallers : Members → List Caller → Type 0
+SpellsCallers tree callers = (found : List (List ℕ × Data)) × (caller_entries tree ≡ Some found) × GivesEach caller_in found callers
+
 -- this is the first fault of a text: it is no TOML, or its tree has the fault
 abbrev pub HasFirstFault : List ℕ → PolicyFault → Type 0
 HasFirstFault text fault =
     ((parse_document text ≡ None) × (fault ≡ NotToml))
     ⊎ ((tree : Members) × (parse_document text ≡ Some tree) × (first_some (faults tree) ≡ Some fault))
 
--- ---- what every policy has: its rules ask for names
+-- ---- what every policy has
 
 -- a pattern asks for everything, or for a name
 abbrev pub IsNamed : Pattern → Type 0
 IsNamed names.Any = Unit {0}
 IsNamed (names.Named only) = IsName only
 
+-- a rule asks for names
 abbrev pub HasNames : Rule → Type 0
 HasNames rule = IsNamed rule.role × IsNamed rule.collection × IsNamed rule.class
 
--- each rule asks for names
-abbrev pub IsPolicy : Contents → Type 0
-IsPolicy policy = AllByRecursion HasNames policy.rules
+-- a caller and its role are names
+abbrev pub IsNamedCaller : Caller → Type 0
+IsNamedCaller caller = IsName caller.name × IsName caller.role
+
+-- each caller stands once: no later one has its name
+abbrev pub EachCallerOnce : List Caller → Type 0
+EachCallerOnce [] = Unit {0}
+EachCallerOnce (caller ∷ more) = AllByRecursion (λ other. caller.name ≢ other.name) more × EachCallerOnce more
+
+pub record IsPolicy (policy : Contents) : Type 0 where
+  pub rules_ask_for_names : AllByRecursion HasNames policy.rules
+  pub callers_are_names : AllByRecursion IsNamedCaller policy.callers
+  pub callers_stand_once : EachCallerOnce policy.callers
+  pub few_rules : length policy.rules ≤ 200
+  pub few_callers : length policy.callers ≤ 1000
 
 -- ---- what a call answers, memory aside
 

@@ -2,7 +2,7 @@
 
 ghost use Rattle.std.specs.Prelude.{◌≡◌, ◌⊎◌, Err, IfErr, IfOk, MatchResult, option_copied, find, bytes_eq};
 ghost use Rattle.toml.specs.View.{table_view};
-ghost use Rattle.office_core.specs.Policies.{Answers, Contents, HasFirstFault, IsPolicy, SpellsPolicy, policy_of, role_of, role_or_stranger};
+ghost use Rattle.office_core.specs.Policies.{Answers, Contents, EachCallerOnce, HasFirstFault, IsPolicy, SpellsPolicy, callers_of, policy_of, role_of, role_or_stranger};
 ghost use Rattle.office_core.specs.PolicyReading.{read_contents};
 ghost use Rattle.office_core.specs.declared.policy_fault.PolicyFault.{PolicyFault};
 ghost use Rattle.office_core.specs.declared.policy_fault.PolicyFault.TheVariants.{Memory};
@@ -16,6 +16,8 @@ use std::marker::Model;
 use toml::Table;
 
 /// A policy: callers, each with its role, and rules, of which the first that matches decides.
+/// Callers, roles and what the rules ask for are names, each caller stands once, and there are at
+/// most 200 rules and 1,000 callers.
 #[derive(Debug, Drop)]
 pub struct Policy {
     callers: Vec<Caller>,
@@ -35,15 +37,16 @@ impl Model for Policy {
 impl Policy {
     /// The callers, each with its role.
     pub fn callers(&self) -> &[Caller]
-        ensures { result.now ≡ self.now.callers }
+        ensures callers { result.now ≡ self.now.callers }
+        ensures policy { IsPolicy self.now }
     {
         self.callers.as_slice()
     }
 
-    /// The rules, in the order of the file. They ask for names.
+    /// The rules, in the order of the file.
     pub fn rules(&self) -> &[Rule]
         ensures rules { result.now ≡ self.now.rules }
-        ensures names { IsPolicy self.now }
+        ensures policy { IsPolicy self.now }
     {
         self.rules.as_slice()
     }
@@ -73,6 +76,7 @@ fn role_in<'a>(callers: &'a [Caller], name: &str) -> &'a str
 }
 
 fn read_tree(alloc: Global, tree: &Table) -> Result<Policy, PolicyFault>
+    requires { EachCallerOnce (callers_of (table_view tree.now)) }
     ensures { Answers result (read_contents (table_view tree.now)) }
 {
     if !has_version_1(tree) {

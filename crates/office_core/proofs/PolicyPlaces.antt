@@ -1,0 +1,66 @@
+-- Each value of a policy file gives the rule or the caller in its place.
+use Rattle.std.proofs.Common.{◌≡◌, ℕ, zero, suc, Bool, true, false, List, [], ◌∷◌, Option, Some, None, is_none, option_map, option_and_then, slice_get, refl, sym, ap, if◌then◌else◌}
+use Rattle.std.proofs.lemmas.Bool.{or_parts}
+use Rattle.std.specs.List.{list_any, filter_map, AllByRecursion}
+use Rattle.toml.specs.Data.{Data, Members}
+use Rattle.office_core.specs.FirstOf.{first_some, answer_if}
+use Rattle.office_core.specs.Policies.{caller_in, caller_entries, callers_among, callers_of, is_bad_among, rule_in, rule_values, rules_among, rules_of, first_bad, bad_rule_among, bad_rule, has_bad_version, has_unknown_key, has_bad_caller, faults, GivesEach, SpellsRules, SpellsCallers}
+use Rattle.office_core.specs.declared.policy_fault.PolicyFault.TheVariants.{BadVersion, UnknownKey, BadCaller, BadRule}
+use Rattle.office_core.proofs.OptionLemmas.{none_of, answer_if_none}
+
+-- what each value gives is there
+abbrev AllGive : {A B : Type 0} → (A → Option B) → List A → Type 0
+AllGive read values = AllByRecursion (λ value. is_none (read value) ≡ false) values
+
+one_more : {A B : Type 0} (read : A → Option B) (value : A) (values : List A) (found : Option B) → read value ≡ found → is_none found ≡ false → GivesEach read values (filter_map read values)
+    → GivesEach read (value ∷ values) (filter_map read (value ∷ values))
+one_more read value values None is there more = absurd cc
+one_more read value values (Some item) is there more = rw is (record { count = ap suc more.count; each = by_place })
+  where
+    by_place : (place : ℕ) → slice_get (item ∷ filter_map read values) place ≡ option_and_then read (slice_get (value ∷ values) place)
+    by_place zero = sym is
+    by_place (suc place) = more.each place
+
+gives_each : {A B : Type 0} (read : A → Option B) (values : List A) → AllGive read values → GivesEach read values (filter_map read values)
+gives_each read [] all = record { count = refl; each = λ place. refl }
+gives_each read (value ∷ values) all = one_more read value values (read value) refl all.0 (gives_each read values all.1)
+
+none_is_bad : (number : ℕ) (values : List Data) → first_bad number values ≡ None → AllGive rule_in values
+none_is_bad number [] e = tt
+none_is_bad number (value ∷ values) e = by_rule (is_none (rule_in value)) refl e (none_is_bad (suc number) values)
+  where
+    by_rule : (test : Bool) → is_none (rule_in value) ≡ test → (if test then Some number else first_bad (suc number) values) ≡ None → (first_bad (suc number) values ≡ None → AllGive rule_in values)
+        → AllGive rule_in (value ∷ values)
+    by_rule true is found more = absurd cc
+    by_rule false is found more = (is, more found)
+
+none_is_bad_caller : (entries : List (List ℕ × Data)) → list_any (λ entry. is_none (caller_in entry)) entries ≡ false → AllGive caller_in entries
+none_is_bad_caller [] e = tt
+none_is_bad_caller (entry ∷ entries) e =
+    let both = or_parts (is_none (caller_in entry)) (list_any (λ other. is_none (caller_in other)) entries) e in
+    (both.0, none_is_bad_caller entries both.1)
+
+rules_are : (found : Option (List Data)) → bad_rule_among found ≡ None → (values : List Data) × (found ≡ Some values) × GivesEach rule_in values (rules_among found)
+rules_are None e = absurd cc
+rules_are (Some values) e = (values, refl, gives_each rule_in values (none_is_bad 1 values e))
+
+callers_are : (found : Option (List (List ℕ × Data))) → is_bad_among found ≡ false → (entries : List (List ℕ × Data)) × (found ≡ Some entries) × GivesEach caller_in entries (callers_among found)
+callers_are None e = absurd cc
+callers_are (Some entries) e = (entries, refl, gives_each caller_in entries (none_is_bad_caller entries e))
+
+option_map_none : {A B : Type 0} (f : A → B) (o : Option A) → option_map f o ≡ None → o ≡ None
+option_map_none f None e = refl
+option_map_none f (Some x) e = absurd cc
+
+pub tree_rules : (tree : Members) → first_some (faults tree) ≡ None → SpellsRules tree (rules_of tree)
+tree_rules tree sound =
+    let unknown = (none_of (answer_if (has_bad_version tree) BadVersion) _ sound).1 in
+    let caller = (none_of (answer_if (has_unknown_key tree) UnknownKey) _ unknown).1 in
+    let rule = (none_of (answer_if (has_bad_caller tree) BadCaller) _ caller).1 in
+    rules_are (rule_values tree) (option_map_none BadRule (bad_rule tree) (none_of (option_map BadRule (bad_rule tree)) _ rule).0)
+
+pub tree_callers : (tree : Members) → first_some (faults tree) ≡ None → SpellsCallers tree (callers_of tree)
+tree_callers tree sound =
+    let unknown = (none_of (answer_if (has_bad_version tree) BadVersion) _ sound).1 in
+    let caller = (none_of (answer_if (has_unknown_key tree) UnknownKey) _ unknown).1 in
+    callers_are (caller_entries tree) (answer_if_none (has_bad_caller tree) BadCaller (none_of (answer_if (has_bad_caller tree) BadCaller) _ caller).0)
