@@ -1,5 +1,5 @@
 -- Which requests there are: a request that is a value of the type asks only for these.
-use Rattle.std.specs.Prelude.{ℕ, ◌≤◌, List, Option, IfSome}
+use Rattle.std.specs.Prelude.{ℕ, ◌≤◌, Option, IfSome}
 use Rattle.office_core.specs.Days.{IsDay}
 use Rattle.office_core.specs.Names.{IsName, IsAccession, IsMatter}
 use Rattle.office_core.specs.declared.request.Request.{Request}

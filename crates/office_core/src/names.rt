@@ -106,6 +106,7 @@ impl<'a> Name<'a> {
         }
     }
 
+    /// The text of the name.
     pub fn as_str(&self) -> &'a str
         ensures text { result.now ≡ self.now }
         ensures name { IsName result.now }
@@ -141,6 +142,16 @@ impl Model for OwnedName {
 }
 
 impl OwnedName {
+    /// The same name, lent.
+    pub fn lend(&self) -> Name<'_>
+        ensures { result ≡ self.now }
+    {
+        Name {
+            text: self.text.as_str(),
+        }
+    }
+
+    /// The text of the name.
     pub fn as_str(&self) -> &str
         ensures text { result.now ≡ self.now }
         ensures name { IsName result.now }
@@ -178,6 +189,7 @@ impl<'a> Accession<'a> {
         }
     }
 
+    /// The text of the accession number.
     pub fn as_str(&self) -> &'a str
         ensures text { result.now ≡ self.now }
         ensures accession { IsAccession result.now }
@@ -213,6 +225,16 @@ impl Model for OwnedAccession {
 }
 
 impl OwnedAccession {
+    /// The same accession number, lent.
+    pub fn lend(&self) -> Accession<'_>
+        ensures { result ≡ self.now }
+    {
+        Accession {
+            text: self.text.as_str(),
+        }
+    }
+
+    /// The text of the accession number.
     pub fn as_str(&self) -> &str
         ensures text { result.now ≡ self.now }
         ensures accession { IsAccession result.now }
@@ -251,6 +273,7 @@ impl<'a> Matter<'a> {
         }
     }
 
+    /// The text of the matter.
     pub fn as_str(&self) -> &'a str
         ensures text { result.now ≡ self.now }
         ensures matter { IsMatter result.now }
@@ -286,6 +309,16 @@ impl Model for OwnedMatter {
 }
 
 impl OwnedMatter {
+    /// The same matter, lent.
+    pub fn lend(&self) -> Matter<'_>
+        ensures { result ≡ self.now }
+    {
+        Matter {
+            text: self.text.as_str(),
+        }
+    }
+
+    /// The text of the matter.
     pub fn as_str(&self) -> &str
         ensures text { result.now ≡ self.now }
         ensures matter { IsMatter result.now }

@@ -1,5 +1,9 @@
 //! What a caller asks of the office.
 
+ghost use Rattle.std.specs.Prelude.{IfSome};
+ghost use Rattle.office_core.specs.Names.{IsName};
+ghost use Rattle.office_core.specs.Requests.{IsRequest};
+
 use crate::day::Day;
 use crate::names::{Accession, Matter, Name};
 use crate::retention::Years;
@@ -71,4 +75,57 @@ pub enum Request<'a> {
     },
     /// The deposits that the caller may destroy that day.
     DueList,
+}
+
+/// An optional name is a name where it is there. Does nothing when it runs.
+fn prove_optional_name(name: &Option<Name<'_>>)
+    ensures { IfSome name.now IsName }
+{
+    if let Some(name) = name {
+        let _text = name.as_str();
+    }
+}
+
+impl Request<'_> {
+    /// Each part of the request is in its range: names, the accession and the matter have their
+    /// forms, the years are at most 200, and the closing day is a day of the office.
+    ///
+    /// It does nothing when it runs. Code that has a request calls it where a proof needs the fact.
+    pub fn prove_in_range(&self)
+        ensures { IsRequest self.now }
+    {
+        match self {
+            Request::DefineClass { name, years } => {
+                let _name = name.as_str();
+                let _years = years.count();
+            }
+            Request::DefineCollection { name } => {
+                let _name = name.as_str();
+            }
+            Request::Deposit {
+                collection,
+                class,
+                accession,
+                closed,
+                ..
+            } => {
+                let _collection = collection.as_str();
+                let _class = class.as_str();
+                let _accession = accession.as_str();
+                let _closed = closed.date();
+            }
+            Request::List { collection, class } => {
+                prove_optional_name(collection);
+                prove_optional_name(class);
+            }
+            Request::HoldDeposit { matter, .. } => {
+                let _matter = matter.as_str();
+            }
+            Request::HoldCollection { collection, matter } => {
+                let _collection = collection.as_str();
+                let _matter = matter.as_str();
+            }
+            _ => {}
+        }
+    }
 }
