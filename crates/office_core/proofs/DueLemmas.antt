@@ -1,10 +1,13 @@
 -- The due day that is computed is the one of the definition.
-use Rattle.std.proofs.Common.{◌≡◌, ℕ, pos, neg_ℤ, Bool, true, false, T, leb, Option, Some, None, refl, sym, ap, ◌∙◌, if◌then◌else◌}
+use Rattle.std.proofs.Common.{◌≡◌, ℕ, pos, neg_ℤ, Bool, true, false, T, leb, Option, Some, None, refl, sym, ap, subst, ◌∙◌, ◌+ℤ◌, ◌≤ℤ◌, ◌≤◌, arith, if◌then◌else◌}
 use Rattle.std.specs.Int.Signed.{le_z}
 use Rattle.jiff.specs.Types.{Date}
 use Rattle.jiff.proofs.Family.{same_date}
 use Rattle.jiff.specs.Words.{days_in_month}
-use Rattle.office_core.specs.Days.{IsYearsAfter, is_missing}
+use Rattle.jiff_core.proofs.SignedLemmas.{signed_arith}
+use Rattle.office_core.specs.Days.{IsDay, IsYearsAfter, is_missing}
+use Rattle.office_core.specs.Requests.{IsYears}
+use Rattle.office_core.proofs.DayLemmas.{kept_is}
 use Rattle.office_core.specs.Retention.{IsDue, where_so, date_of, on_or_never, years_after, due_of}
 use Rattle.office_core.specs.declared.retention.Due.{Due}
 use Rattle.office_core.specs.declared.retention.Due.TheVariants.{On, Never}
@@ -34,3 +37,28 @@ due_of_is closing (Some years) (On date) h = ap on_or_never (years_after_is clos
 due_of_is closing (Some years) Never h = absurd h
 due_of_is closing None (On date) h = absurd h
 due_of_is closing None Never h = refl
+
+-- the date that many years after a day of the office
+date_after : (closing : Date) (years : ℕ) → IsDay closing → years ≤ 200 → (date : Date) × IsYearsAfter closing years date
+date_after closing years is few =
+    let year = closing.year +ℤ pos years in
+    let day = if is_missing year closing.month closing.day then 28 else closing.day in
+    let low : pos 1900 ≤ℤ year = omega (arith, signed_arith, is.0) in
+    let high : year ≤ℤ pos 9999 = omega (arith, signed_arith, is.1, few) in
+    let (in_year, in_month, in_day) = kept_is closing year low high in
+    let date : Date = record {
+      year = year;
+      month = closing.month;
+      day = day;
+      year_in = in_year;
+      month_in = closing.month_in;
+      day_in = (omega (arith, signed_arith, in_day.0), omega (arith, signed_arith, in_day.1));
+    } in
+    (date, record { year = refl; month = refl; day = refl })
+
+-- what is computed of a day is the due day
+pub is_due_of : (closing : Date) (years : Option ℕ) → IsDay closing → IsYears years → IsDue closing years (due_of closing years)
+is_due_of closing None is few = tt
+is_due_of closing (Some years) is few =
+    let (date, after) = date_after closing years is few in
+    subst (IsDue closing (Some years)) (sym (due_of_is closing (Some years) (On date) after)) after

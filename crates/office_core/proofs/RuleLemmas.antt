@@ -1,15 +1,15 @@
 -- Which rule decides, and what follows from its effect.
-use Rattle.std.proofs.Common.{◌≡◌, ◌<◌, ◌<ℤ◌, ℕ, zero, suc, ◌+◌, Bool, true, false, ◌&&◌, ◌++◌, List, [], ◌∷◌, length, Option, Some, None, refl, sym, ap, ◌∙◌, inl, inr, arith, rules, slice_get, position, unwrap_or, int_lt, option_and_then, option_map, not, nat_lt, length-append}
-use Rattle.std.specs.List.{list_any, position_or_len, prefix_len}
+use Rattle.std.proofs.Common.{◌≡◌, ◌<◌, ◌<ℤ◌, ◌≤ℤ◌, ℕ, zero, suc, ◌+◌, Bool, true, false, ◌&&◌, ◌++◌, List, [], ◌∷◌, length, Option, Some, None, refl, sym, ap, ◌∙◌, inl, inr, arith, rules, slice_get, get_or, ◌≤◌, ◌↔◌, position, unwrap_or, int_lt, option_and_then, option_map, not, nat_lt, length-append}
+use Rattle.std.specs.List.{list_any, position_or_len, prefix_len, AllByRecursion}
 use Rattle.std.proofs.lemmas.Bool.{cases_Bool, false≢true, and_parts}
 use Rattle.std.proofs.lemmas.Bool.Decides.{nat_tests}
 use Rattle.std.proofs.lemmas.Int.{by_lt_z}
-use Rattle.std.proofs.lemmas.Option.{same_Some, cond_some, option_and_then_some, get_or_from_slice_get}
+use Rattle.std.proofs.lemmas.Option.{none-some, same_Some, cond_some, option_and_then_some, slice_get_within, slice_get-get_or, get_or_from_slice_get}
 use Rattle.std.proofs.lemmas.List.Quantifiers.{position-Some}
 use Rattle.jiff.specs.Types.{Date}
 use Rattle.jiff.specs.Words.{epoch_day}
 use Rattle.office_core.specs.FirstOf.{first_some}
-use Rattle.office_core.specs.Rules.{Question, matches, matches_name, first_place, decision_of, decision_at, some_rule_allows, allows}
+use Rattle.office_core.specs.Rules.{Question, IsFirstMatch, NoneMatches, matches, matches_name, first_place, decision_of, decision_at, some_rule_allows, allows}
 use Rattle.office_core.specs.Verdicts.{verdict_of, is_denied, IsReadyForDisposal, held, not_due}
 use Rattle.office_core.specs.declared.action.Action.TheVariants.{Dispose}
 use Rattle.office_core.specs.declared.rule.Rule.{Rule}
@@ -52,6 +52,71 @@ position-append p xs ys i e =
     let under : position_or_len p xs < length xs = grind (arith, nat_tests, within) in
     let longer : nat_lt (position_or_len p xs) (length (xs ++ ys)) ≡ true = grind (arith, nat_tests, under, length-append xs ys) in
     rw (prefix_len-append (λ x. not (p x)) xs ys under, longer) (ap Some same)
+
+-- ---- the first rule that matches
+
+first_place_at : {A : Type 0} (p : A → Bool) (xs : List A) (i : ℕ) (x : A) → slice_get xs i ≡ Some x → p x ≡ true
+    → ((k : ℕ) (y : A) → k < i → slice_get xs k ≡ Some y → p y ≡ false) → position_or_len p xs ≡ i
+first_place_at p [] i x at passes before = absurd (none-some x at)
+first_place_at p (y ∷ ys) zero x at passes before = let same : y ≡ x = same_Some _ _ at in rw (same, passes) refl
+first_place_at p (y ∷ ys) (suc i) x at passes before =
+    rw (before 0 y (omega arith) refl) (omega (arith, first_place_at p ys i x at passes (λ k z lt is. before (suc k) z (omega (arith, lt)) is)))
+
+fails_before_end : {A : Type 0} (p : A → Bool) (xs : List A) → length xs ≤ position_or_len p xs → AllByRecursion (λ x. p x ≡ false) xs
+fails_before_end p [] h = tt
+fails_before_end p (x ∷ xs) h =
+    elim (cases_Bool (p x)) [
+      | inl hit ↦ absurd (omega (arith, rw hit at h))
+      | inr miss ↦ (miss, fails_before_end p xs (omega (arith, rw miss at h)))
+    ]
+
+end_where_all_fail : {A : Type 0} (p : A → Bool) (xs : List A) → AllByRecursion (λ x. p x ≡ false) xs → position_or_len p xs ≡ length xs
+end_where_all_fail p [] h = refl
+end_where_all_fail p (x ∷ xs) h = rw h.0 (omega (arith, end_where_all_fail p xs h.1))
+
+place_matches : (rules : List Rule) (asked : Question) (place : ℕ) → first_place rules asked ≡ Some place → IsFirstMatch rules asked place
+place_matches [] asked place e = absurd cc
+place_matches (rule ∷ rules) asked place e =
+    let (within, here, earlier) = position-Some (λ r. matches r asked) (rule ∷ rules) place rule e in
+    record {
+      rule = get_or (rule ∷ rules) place rule;
+      at = slice_get-get_or (rule ∷ rules) place rule within;
+      matched = here;
+      before = λ k other lt is. rw (get_or_from_slice_get (rule ∷ rules) k other rule is) at (earlier k lt);
+    }
+
+match_is_first : (rules : List Rule) (asked : Question) (place : ℕ) → IsFirstMatch rules asked place → first_place rules asked ≡ Some place
+match_is_first rules asked place is =
+    let same = first_place_at (λ r. matches r asked) rules place is.rule is.at is.matched is.before in
+    let under : position_or_len (λ r. matches r asked) rules < length rules = omega (arith, same, slice_get_within rules place is.rule is.at) in
+    let within : nat_lt (position_or_len (λ r. matches r asked) rules) (length rules) ≡ true = grind (arith, nat_tests, under) in
+    rw within (ap Some same)
+
+-- `first_place` is the place of the first rule that matches
+pub first_place_is : (rules : List Rule) (asked : Question) (place : ℕ) → (first_place rules asked ≡ Some place) ↔ IsFirstMatch rules asked place
+first_place_is rules asked place = (place_matches rules asked place, match_is_first rules asked place)
+
+place_is_none : (p : Rule → Bool) (rules : List Rule) → position p rules ≡ None → length rules ≤ position_or_len p rules
+place_is_none p rules e =
+    elim (cases_Bool (nat_lt (position_or_len p rules) (length rules))) [
+      | inl within ↦ absurd (none-some (position_or_len p rules) (sym e ∙ rw within refl))
+      | inr past ↦ grind (arith, nat_tests, past)
+    ]
+
+none_at_end : (p : Rule → Bool) (rules : List Rule) → AllByRecursion (λ rule. p rule ≡ false) rules → position p rules ≡ None
+none_at_end p rules fail =
+    let same = end_where_all_fail p rules fail in
+    let past : nat_lt (position_or_len p rules) (length rules) ≡ false = grind (arith, nat_tests, same) in
+    rw past refl
+
+-- and there is none exactly where no rule matches
+pub no_place_is : (rules : List Rule) (asked : Question) → (first_place rules asked ≡ None) ↔ NoneMatches rules asked
+no_place_is rules asked = (
+  λ e. fails_before_end (λ r. matches r asked) rules (place_is_none (λ r. matches r asked) rules e),
+  none_at_end (λ r. matches r asked) rules,
+)
+
+-- ---- the rule that decides
 
 option_map_some : {A B P : Type 0} (f : A → B) (o : Option A) (y : B) → option_map f o ≡ Some y → ((x : A) → o ≡ Some x → f x ≡ y → P) → P
 option_map_some f (Some x) y e k = k x refl (same_Some _ _ e)
@@ -125,3 +190,12 @@ allowed_from facts day (Some decision) a d is = allowed_by facts day decision de
 -- an allowed disposal is ready
 pub allowed_disposal : (facts : Facts) (day : Date) → facts.action ≡ Dispose → verdict_of facts day ≡ Allow → IsReadyForDisposal facts day
 allowed_disposal facts day d is = allowed_from facts day facts.decision refl d is
+
+ready_allows : (day date : Date) → epoch_day date ≤ℤ epoch_day day → unwrap_or (first_some (not_due day (On date) ∷ [])) Allow ≡ Allow
+ready_allows day date come =
+    let due : int_lt (epoch_day day) (epoch_day date) ≡ false = search (rules, come) in
+    rw due refl
+
+-- and a disposal that is ready is allowed
+pub ready_disposal : (facts : Facts) (day : Date) → facts.action ≡ Dispose → IsReadyForDisposal facts day → verdict_of facts day ≡ Allow
+ready_disposal facts day d is = rw (is.decided, is.allowed, is.kept, d, is.unheld, is.due) (ready_allows day is.date is.has_come)

@@ -1,7 +1,7 @@
 -- When a rule matches what is asked, and which rule decides.
-use Rattle.std.specs.Prelude.{ℕ, ◌+◌, Bool, true, false, ◌&&◌, List, Option, bytes_eq, position, slice_get, option_map, option_and_then, option_copied}
+use Rattle.std.specs.Prelude.{◌≡◌, ◌<◌, ℕ, ◌+◌, Bool, true, false, ◌&&◌, List, Option, Some, bytes_eq, position, slice_get, option_map, option_and_then, option_copied}
 use Rattle.std.specs.Option.{option_map_or}
-use Rattle.std.specs.List.{list_any}
+use Rattle.std.specs.List.{list_any, AllByRecursion}
 use Rattle.office_core.specs.Actions.{action_text}
 use Rattle.office_core.specs.declared.action.Action.{Action}
 use Rattle.office_core.specs.declared.rule.Effect.{Effect}
@@ -51,6 +51,17 @@ matches rule asked =
 -- the least place, from 0, of a rule that matches
 abbrev pub first_place : List Rule → Question → Option ℕ
 first_place rules asked = position (λ rule. matches rule asked) rules
+
+-- the rule at that place, from 0, matches, and none before it does
+pub record IsFirstMatch (rules : List Rule) (asked : Question) (place : ℕ) : Type 0 where
+  pub rule : Rule
+  pub at : slice_get rules place ≡ Some rule
+  pub matched : matches rule asked ≡ true
+  pub before : (earlier : ℕ) (other : Rule) → earlier < place → slice_get rules earlier ≡ Some other → matches other asked ≡ false
+
+-- no rule matches
+abbrev pub NoneMatches : List Rule → Question → Type 0
+NoneMatches rules asked = AllByRecursion (λ rule. matches rule asked ≡ false) rules
 
 -- the number of a rule, from 1, and its effect
 abbrev pub decision_at : ℕ → Rule → Decision

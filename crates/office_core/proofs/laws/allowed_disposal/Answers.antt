@@ -1,5 +1,5 @@
-use Rattle.office_core.proofs.RuleLemmas.{allowed_disposal}
+use Rattle.office_core.proofs.RuleLemmas.{allowed_disposal, ready_disposal}
 use Rattle.office_core.proofs.laws.allowed_disposal.Goals as goal
 
 pub returns : goal.returns
-returns c = allowed_disposal
+returns c = λ facts day dispose. (allowed_disposal facts day dispose, ready_disposal facts day dispose)
