@@ -4,8 +4,7 @@ use Rattle.std.proofs.lemmas.Bool.{cases_Bool}
 use Rattle.std.proofs.lemmas.Option.{same_Some}
 use Rattle.std.proofs.lemmas.Bool.{false≢true}
 use Rattle.std.specs.Result.{result_ok}
-use Rattle.office_core.specs.FirstOf.{first_some, answer_if}
-use Rattle.office_core.specs.DayReading.{◌>>=◌}
+use Rattle.office_core.specs.FirstOf.{◌>>=◌, first_some, answer_if}
 
 -- a result that is there is there as an option
 pub some_ok : {A E : Type 0} (o : Option A) (r : Result A E) → o ≡ result_ok r → IsOk r → IsSome o

@@ -5,9 +5,8 @@ use Rattle.std.proofs.lemmas.Bool.{and_parts, or_parts, false≢true}
 use Rattle.std.proofs.lemmas.Bool.Decides.{nat_tests}
 use Rattle.std.specs.List.{list_all, filter_map, AllByRecursion}
 use Rattle.toml.specs.Data.{Data, string, integer, float, boolean, datetime, array, table, Members, no_members, member, same_key, get_member, as_str, as_table}
-use Rattle.office_core.specs.FirstOf.{first_some, answer_if}
+use Rattle.office_core.specs.FirstOf.{◌>>=◌, first_some, answer_if}
 use Rattle.office_core.specs.Names.{is_name}
-use Rattle.office_core.specs.DayReading.{◌>>=◌}
 use Rattle.office_core.specs.Policies.{Contents, contents_of, entries, is_one_of, caller_in, table_entries, caller_entries, callers_among, is_bad_among, callers_of, rule_keys, text_at, effect_at, action_at, pattern_in, pattern_at, rule_of, rule_in, rules_among, bad_rule_among, bad_rule, rule_values, rules_of, has_bad_version, has_unknown_key, has_bad_caller, has_too_many, faults, IsNamed, HasNames, IsNamedCaller, EachCallerOnce, IsPolicy, SpellsPolicy}
 use Rattle.office_core.specs.PolicyReading.{rules_or, read_callers, read_rules}
 use Rattle.office_core.specs.declared.caller.Caller.{Caller}

@@ -1,11 +1,7 @@
 -- What reading a day gives, step by step.
 use Rattle.std.specs.Prelude.{ℕ, ◌+◌, ◌-◌, ◌*◌, ◌&&◌, List, [], ◌∷◌, Option, Some, None, ◌==◌, if◌then◌else◌}
 use Rattle.std.specs.Char.{is_ascii_digit}
-
-infixl 10 ◌>>=◌
-abbrev pub ◌>>=◌ : {A B : Type 0} → Option A → (A → Option B) → Option B
-(Some x) >>= f = f x
-None >>= f = None
+use Rattle.office_core.specs.FirstOf.{◌>>=◌}
 
 -- the number that two digits write
 unfoldable pub number_of : ℕ → ℕ → Option ℕ

@@ -1,6 +1,13 @@
--- The first of some answers that is there.
+-- Answers that may not be there: what follows from one, and the first of some that is there.
 use Rattle.std.specs.Prelude.{Bool, List, [], ◌∷◌, Option, Some, None, if◌then◌else◌}
 
+-- what follows from an answer that is there
+infixl 10 ◌>>=◌
+abbrev pub ◌>>=◌ : {A B : Type 0} → Option A → (A → Option B) → Option B
+(Some x) >>= f = f x
+None >>= f = None
+
+-- the first of some answers that is there
 abbrev pub first_some : {A : Type 0} → List (Option A) → Option A
 first_some [] = None
 first_some (Some x ∷ more) = Some x

@@ -1,6 +1,7 @@
 pub mod Days
 pub mod DayReading
 pub mod Retention
+pub mod RetentionReading
 pub mod Names
 pub mod FirstOf
 pub mod Actions

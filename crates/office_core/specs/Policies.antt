@@ -5,10 +5,9 @@ use Rattle.std.specs.Option.{option_map_or}
 use Rattle.std.specs.Ordering.{int_eq}
 use Rattle.toml.specs.Data.{Data, Items, no_items, item, Members, no_members, member, get_member, as_str, as_integer, as_table, as_array}
 use Rattle.toml.specs.Parse.{parse_document}
-use Rattle.office_core.specs.FirstOf.{first_some, answer_if}
+use Rattle.office_core.specs.FirstOf.{◌>>=◌, first_some, answer_if}
 use Rattle.office_core.specs.Names.{is_name, IsName}
 use Rattle.office_core.specs.Actions.{action_of}
-use Rattle.office_core.specs.DayReading.{◌>>=◌}
 use Rattle.office_core.specs.declared.policy_fault.PolicyFault.{PolicyFault}
 use Rattle.office_core.specs.declared.policy_fault.PolicyFault.TheVariants.{NotToml, BadVersion, UnknownKey, BadCaller, BadRule, TooMany, Memory}
 use Rattle.office_core.specs.declared.rule.Effect.{Effect}

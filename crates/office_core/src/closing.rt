@@ -3,7 +3,8 @@
 ghost use Rattle.std.specs.Prelude.{◌≡◌, ◌≤◌, ◌≤ℤ◌, ◌+ℤ◌, pos, if◌then◌else◌};
 ghost use Rattle.jiff.specs.Words.{is_leap_year};
 ghost use Rattle.office_core.specs.Days.{IsDay, is_missing, IsYearsAfter};
-ghost use Rattle.office_core.specs.Retention.{IsDue, due_of};
+ghost use Rattle.office_core.specs.Retention.{IsDue};
+ghost use Rattle.office_core.specs.RetentionReading.{due_of};
 
 use crate::day::Day;
 use crate::retention::{Due, Years};

@@ -6,7 +6,8 @@ ghost use Rattle.office_core.specs.Policies.{Contents, SpellsPolicy, SpellsRules
 ghost use Rattle.office_core.specs.Rules.{Question, IsFirstMatch, NoneMatches, first_place, decision_of, some_rule_allows};
 ghost use Rattle.office_core.specs.Days.{IsDay};
 ghost use Rattle.office_core.specs.Requests.{IsYears};
-ghost use Rattle.office_core.specs.Retention.{IsDue, due_of};
+ghost use Rattle.office_core.specs.Retention.{IsDue};
+ghost use Rattle.office_core.specs.RetentionReading.{due_of};
 ghost use Rattle.office_core.specs.declared.retention.Due.{Due};
 ghost use Rattle.office_core.specs.Verdicts.{verdict_of, is_denied, IsReadyForDisposal};
 ghost use Rattle.office_core.specs.declared.rule.Rule.{Rule};
