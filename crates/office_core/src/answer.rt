@@ -71,9 +71,9 @@ pub enum Answer {
     File { bytes: Sequence<u8> },
     Audit { deposit: u32, report: AuditReport },
     /// The hold of that number was placed.
-    Held { hold: u32 },
+    HoldPlaced { hold: u32 },
     /// The hold was released on that day.
-    Released { hold: u32, day: Day },
+    HoldReleased { hold: u32, day: Day },
     /// The deposit was destroyed on that day.
     Destroyed { deposit: u32, day: Day },
     /// The numbers of the deposits that the caller may destroy on that day, ascending.
