@@ -17,7 +17,7 @@ use crate::fault::BagFault;
 use crate::info::keep_info;
 use crate::listed::{Listed, Named, find_manifests, read_manifests};
 use crate::names::{Kind, is_kind};
-use crate::payload::count_payload;
+use crate::payload::{PayloadCounts, count_payload};
 use crate::place::first_place;
 use crate::report::BagReport;
 use crate::rule::Rule;
@@ -135,7 +135,7 @@ fn report_on(version: Version, bag: &BagSet<'_>, manifests: usize) -> BagReport
       manifests = manifests;
     } }
 {
-    let (files, bytes) = count_payload(bag.files());
+    let PayloadCounts { files, bytes } = count_payload(bag);
     BagReport {
         version,
         files,

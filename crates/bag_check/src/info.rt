@@ -45,9 +45,9 @@ fn is_formless(pair: &(&str, CowStr<'_, Global>)) -> bool
 fn names_others(bag: &BagSet<'_>, pair: &(&str, CowStr<'_, Global>)) -> bool
     ensures { result ≡ are_others bag.now (counts_of (cow_str_bytes pair.now.1)) }
 {
-    let (files, bytes) = count_payload(bag.files());
+    let payload = count_payload(bag);
     match read_counts(pair.1.as_str().as_bytes()) {
-        Some(counts) => counts.bytes != bytes as u128 || counts.files != files as u128,
+        Some(counts) => counts.bytes != payload.bytes as u128 || counts.files != payload.files as u128,
         None => false,
     }
 }

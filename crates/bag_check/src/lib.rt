@@ -18,5 +18,5 @@ mod rule;
 pub use check::check_bag;
 pub use digest::digest_matches;
 pub use fault::BagFault;
-pub use payload::count_payload;
+pub use payload::{PayloadCounts, count_payload};
 pub use report::BagReport;

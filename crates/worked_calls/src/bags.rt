@@ -1,6 +1,6 @@
 //! The calls of `bag_check`: what is said of small bags, and why.
 
-use bag_check::{BagReport, check_bag, count_payload, digest_matches};
+use bag_check::{BagReport, PayloadCounts, check_bag, count_payload, digest_matches};
 use bag_text::{BagSet, Checksum, read_bagset};
 use std::alloc::Global;
 use std::test::*;
@@ -61,7 +61,7 @@ fn a_small_bag_is_valid(rt: HostRuntime) -> Result<(), Fail> {
     let said = verdict(rt.alloc(), &files)?;
     assert_eq!(rt; said.as_str(), "valid 1.0 files 1 bytes 3 manifests 1");
     let bag = read_bagset(rt.alloc(), text.as_bytes())?;
-    assert_eq!(rt; count_payload(bag.files()), (1, 3));
+    assert_eq!(rt; count_payload(&bag), PayloadCounts { files: 1, bytes: 3 });
     Ok(())
 }
 

@@ -2,7 +2,7 @@ use Rattle.std.proofs.Common.{◌∙◌, ◌+◌, drop, get_or, sym, ap, [], ari
 use Rattle.std.proofs.lemmas.List.{drop_more}
 use Rattle.bag_text.specs.TransferReading.{files_of, file_of}
 use Rattle.bag_check.proofs.CodeLemmas.{few_payload, small_payload, count_take}
-use Rattle.bag_check.proofs.payload.count_payload.Goals as goal
+use Rattle.bag_check.proofs.payload.count_files.Goals as goal
 
 abbrev none : Bor (List ℕ) × Bor (List ℕ)
 none = (record { ref_ptr = (0, 0); now = [] }, record { ref_ptr = (0, 0); now = [] })
