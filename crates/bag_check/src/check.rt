@@ -73,17 +73,17 @@ fn need_payload_manifest<'a>(found: &[Named<'a>]) -> Result<(), BagFault<'a>>
 }
 
 /// The fault of a rule that is broken at a place.
-fn broken<'a>(rule: Rule, name: &'a str, path: CowStr<'a, Global>) -> BagFault<'a>
-    ensures { named_fault result ≡ Some (Breaks rule name.entry.now (cow_str_bytes path.entry)) }
+fn broken<'a>(rule: Rule, manifest: &'a str, path: CowStr<'a, Global>) -> BagFault<'a>
+    ensures { named_fault result ≡ Some (Breaks rule manifest.entry.now (cow_str_bytes path.entry)) }
 {
     match rule {
-        Rule::OutsidePayload => BagFault::OutsidePayload(name, path),
-        Rule::TagManifestListed => BagFault::TagManifestListed(name, path),
-        Rule::PayloadInTagManifest => BagFault::PayloadInTagManifest(name, path),
-        Rule::PayloadManifestUnlisted => BagFault::PayloadManifestUnlisted(name, path),
-        Rule::Missing => BagFault::Missing(name, path),
-        Rule::Unlisted => BagFault::Unlisted(name, path),
-        Rule::ChecksumWrong => BagFault::ChecksumWrong(name, path),
+        Rule::OutsidePayload => BagFault::OutsidePayload { manifest, path },
+        Rule::TagManifestListed => BagFault::TagManifestListed { manifest, path },
+        Rule::PayloadInTagManifest => BagFault::PayloadInTagManifest { manifest, path },
+        Rule::PayloadManifestUnlisted => BagFault::PayloadManifestUnlisted { manifest, path },
+        Rule::Missing => BagFault::Missing { manifest, path },
+        Rule::Unlisted => BagFault::Unlisted { manifest, path },
+        Rule::ChecksumWrong => BagFault::ChecksumWrong { manifest, path },
     }
 }
 

@@ -28,28 +28,23 @@ impl<'a> fmt::Display for BagFault<'a> {
             BagFault::NoDeclaration => f.write_str("B1"),
             BagFault::Declaration(fault) => write!(f, "B2 {fault}"),
             BagFault::FetchNotSupported => f.write_str("B3"),
-            BagFault::UnsupportedAlgorithm(name) => write_named(f, "B4", name),
+            BagFault::UnsupportedAlgorithm { manifest } => write_named(f, "B4", manifest),
             BagFault::NoPayloadManifest => f.write_str("B5"),
-            BagFault::ManifestText(name, fault) => {
-                write_named(f, "B6", name)?;
+            BagFault::ManifestText { manifest, fault } => {
+                write_named(f, "B6", manifest)?;
                 write!(f, " {fault}")
             }
-            BagFault::OutsidePayload(name, path) => write_place(f, "B7", name, path.as_str()),
-            BagFault::TagManifestListed(name, path) => write_place(f, "B8", name, path.as_str()),
-            BagFault::PayloadInTagManifest(name, path) => write_place(f, "B9", name, path.as_str()),
-            BagFault::PayloadManifestUnlisted(name, path) => write_place(
-                f,
-                "B10",
-                name,
-                path.as_str(),
-            ),
-            BagFault::Missing(name, path) => write_place(f, "B11", name, path.as_str()),
-            BagFault::Unlisted(name, path) => write_place(f, "B12", name, path.as_str()),
+            BagFault::OutsidePayload { manifest, path } => write_place(f, "B7", manifest, path.as_str()),
+            BagFault::TagManifestListed { manifest, path } => write_place(f, "B8", manifest, path.as_str()),
+            BagFault::PayloadInTagManifest { manifest, path } => write_place(f, "B9", manifest, path.as_str()),
+            BagFault::PayloadManifestUnlisted { manifest, path } => write_place(f, "B10", manifest, path.as_str()),
+            BagFault::Missing { manifest, path } => write_place(f, "B11", manifest, path.as_str()),
+            BagFault::Unlisted { manifest, path } => write_place(f, "B12", manifest, path.as_str()),
             BagFault::InfoText(fault) => write!(f, "B13 {fault}"),
             BagFault::OxumForm => f.write_str("B14"),
             BagFault::OxumTwice => f.write_str("B15"),
             BagFault::OxumWrong => f.write_str("B16"),
-            BagFault::ChecksumWrong(name, path) => write_place(f, "B17", name, path.as_str()),
+            BagFault::ChecksumWrong { manifest, path } => write_place(f, "B17", manifest, path.as_str()),
             BagFault::Memory => f.write_str("B18"),
         }
     }

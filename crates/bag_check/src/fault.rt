@@ -8,7 +8,8 @@ use std::alloc::{AllocError, AllocFailed, Global};
 use std::borrow::CowStr;
 
 /// Why a bag is not valid: the first fault by number, then by the manifest's name, then by the path,
-/// by bytes.
+/// by bytes. A `manifest` is the name of the manifest at fault, a `path` the file's or the one that
+/// is listed.
 #[derive(Debug, Drop)]
 pub enum BagFault<'a> {
     /// B1: there is no `bagit.txt`.
@@ -18,23 +19,46 @@ pub enum BagFault<'a> {
     /// B3: there is a `fetch.txt`.
     FetchNotSupported,
     /// B4: a manifest of another algorithm than SHA-256 and SHA-512.
-    UnsupportedAlgorithm(&'a str),
+    UnsupportedAlgorithm {
+        manifest: &'a str,
+    },
     /// B5: there is no payload manifest.
     NoPayloadManifest,
     /// B6: a manifest's text is refused.
-    ManifestText(&'a str, LineFault),
+    ManifestText {
+        manifest: &'a str,
+        fault: LineFault,
+    },
     /// B7: a payload manifest lists a path outside `data/`.
-    OutsidePayload(&'a str, CowStr<'a, Global>),
+    OutsidePayload {
+        manifest: &'a str,
+        path: CowStr<'a, Global>,
+    },
     /// B8: a tag manifest lists a tag manifest.
-    TagManifestListed(&'a str, CowStr<'a, Global>),
+    TagManifestListed {
+        manifest: &'a str,
+        path: CowStr<'a, Global>,
+    },
     /// B9: a tag manifest lists a payload file.
-    PayloadInTagManifest(&'a str, CowStr<'a, Global>),
+    PayloadInTagManifest {
+        manifest: &'a str,
+        path: CowStr<'a, Global>,
+    },
     /// B10: a tag manifest doesn't list a payload manifest.
-    PayloadManifestUnlisted(&'a str, CowStr<'a, Global>),
+    PayloadManifestUnlisted {
+        manifest: &'a str,
+        path: CowStr<'a, Global>,
+    },
     /// B11: a listed file isn't there.
-    Missing(&'a str, CowStr<'a, Global>),
+    Missing {
+        manifest: &'a str,
+        path: CowStr<'a, Global>,
+    },
     /// B12: a payload file isn't listed in a payload manifest.
-    Unlisted(&'a str, CowStr<'a, Global>),
+    Unlisted {
+        manifest: &'a str,
+        path: CowStr<'a, Global>,
+    },
     /// B13: `bag-info.txt` is refused.
     InfoText(InfoFault),
     /// B14: a `Payload-Oxum` that isn't two numbers with a full stop between them.
@@ -44,7 +68,10 @@ pub enum BagFault<'a> {
     /// B16: a `Payload-Oxum` that isn't the payload's.
     OxumWrong,
     /// B17: a checksum isn't the digest of its file.
-    ChecksumWrong(&'a str, CowStr<'a, Global>),
+    ChecksumWrong {
+        manifest: &'a str,
+        path: CowStr<'a, Global>,
+    },
     /// B18: a growth was refused.
     Memory,
 }

@@ -44,7 +44,7 @@ fn named_file<'a>(path: &'a str, text: &'a [u8]) -> Result<Option<Named<'a>>, Ba
             algorithm,
             text,
         })),
-        None => Err(BagFault::UnsupportedAlgorithm(path)),
+        None => Err(BagFault::UnsupportedAlgorithm { manifest: path }),
     }
 }
 
@@ -82,7 +82,10 @@ fn read_named<'a>(
             manifest,
         }),
         Err(LineFault::Memory) => Err(BagFault::Memory),
-        Err(fault) => Err(BagFault::ManifestText(named.name, fault)),
+        Err(fault) => Err(BagFault::ManifestText {
+            manifest: named.name,
+            fault,
+        }),
     }
 }
 
