@@ -74,7 +74,7 @@ file_again offset before f behind good after =
 -- ---- a good path has a length that a header can name
 
 pub path_fits : (path : List ℕ) → is_good path ≡ true → InBounds 1 max_path (length path)
-path_fits path e = record { low = by_empty (eqb (length path) 0) refl; high = by_long (ltb 1024 (length path)) refl }
+path_fits path e = record { low = by_empty (eqb (length path) 0) refl; high = by_long (ltb max_path (length path)) refl }
   where
     both : is_none (path_fault path) ≡ true
     both = second (is_utf8 path) e
@@ -87,10 +87,10 @@ path_fits path e = record { low = by_empty (eqb (length path) 0) refl; high = by
     by_empty true is = let e2 = rw is at both in absurd cc
     by_empty false is = grind (arith, nat_tests)
 
-    by_long : (x : Bool) → ltb 1024 (length path) ≡ x → length path ≤ 1024
+    by_long : (x : Bool) → ltb max_path (length path) ≡ x → length path ≤ max_path
     by_long true is = by_either (eqb (length path) 0) refl
       where
-        by_either : (x : Bool) → eqb (length path) 0 ≡ x → length path ≤ 1024
+        by_either : (x : Bool) → eqb (length path) 0 ≡ x → length path ≤ max_path
         by_either true also = let e2 = rw also at both in absurd cc
         by_either false also = let e2 = rw (also, is) at both in absurd cc
     by_long false is = grind (arith, nat_tests)

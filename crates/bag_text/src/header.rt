@@ -1,6 +1,8 @@
 //! What stands at an entry's place in a transfer form.
 
 ghost use Rattle.std.specs.Prelude.{◌≤◌};
+ghost use Rattle.bag_text.specs.Paths.{max_path};
+ghost use Rattle.bag_text.specs.TransferForm.{max_content};
 
 /// Why a piece isn't read: the text ends in it, or has another byte.
 #[derive(Clone, Copy, Debug, PartialEq, Eq)]
@@ -15,8 +17,8 @@ pub struct Header<'a> {
     pub path_len: usize,
     pub content_len: usize,
     pub rest: &'a [u8],
-    ghost path_fits: { path_len ≤ 1024 },
-    ghost content_fits: { content_len ≤ 16777216 },
+    ghost path_fits: { path_len ≤ max_path },
+    ghost content_fits: { content_len ≤ max_content },
 }
 
 /// What stands at an entry's place.

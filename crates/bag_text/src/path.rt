@@ -23,7 +23,7 @@ pub enum PathFault {
     Nul,
 }
 
-/// The most bytes that a path has.
+/// The most bytes that a path of a bag has.
 pub const MAX_PATH: usize = 1024;
 
 /// A good path: UTF-8 of 1 to 1,024 bytes with `/` between its segments, none of which is empty, `.` or

@@ -11,10 +11,10 @@ use crate::path::{MAX_PATH, good_path};
 use crate::set_fault::SetFault;
 use std::alloc::Global;
 
-/// The most bytes of a content.
+/// The most bytes that the content of a bag's file has: 16 MiB.
 pub const MAX_CONTENT: usize = 16_777_216;
 
-/// The most files of a bag.
+/// The most files that a bag has.
 pub const MAX_FILES: usize = 2000;
 
 /// What stands behind the bytes that a text must begin with.

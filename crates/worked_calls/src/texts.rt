@@ -1,7 +1,7 @@
 //! The calls of `bag_text`: texts that are read and written, and the faults at each limit.
 
 use bag_text::{
-    Algorithm, BagPath, BagSet, Checksum, InfoFault, Listing, PathFault, SetFault, Version,
+    Algorithm, BagPath, BagSet, Checksum, InfoFault, Listing, MAX_CONTENT, MAX_FILES, MAX_PATH, PathFault, SetFault, Version,
     read_bag_info, read_bagset, read_declaration, read_manifest, write_bagset,
 };
 use std::alloc::Global;
@@ -153,8 +153,8 @@ fn names_the_faults_of_lists(rt: HostRuntime) {
 
 #[test]
 fn names_what_is_too_long_in_a_list(rt: HostRuntime) -> Result<(), Fail> {
-    let content = vec![in rt.alloc(); 0; 16_777_217]?;
-    let path = "a".repeat(rt.alloc(), 1025)?;
+    let content = vec![in rt.alloc(); 0; MAX_CONTENT + 1]?;
+    let path = "a".repeat(rt.alloc(), MAX_PATH + 1)?;
     let mut files: Vec<(&str, &[u8])> = Vec::new(rt.alloc());
     files.push((path.as_str(), content.as_slice()))?;
     assert!(rt; matches!(BagSet::of(rt.alloc(), &files), Err(SetFault::BadEntry(0))));
@@ -175,7 +175,7 @@ fn takes_two_thousand_files(rt: HostRuntime) -> Result<(), Fail> {
         files.push((path.as_str(), b"".as_slice()))?;
     }
     assert!(rt; matches!(BagSet::of(rt.alloc(), &files), Err(SetFault::TooManyFiles)));
-    files.truncate(2000);
+    files.truncate(MAX_FILES);
     assert!(rt; BagSet::of(rt.alloc(), &files).is_ok());
     Ok(())
 }
