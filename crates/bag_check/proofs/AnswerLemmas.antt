@@ -9,12 +9,13 @@ use Rattle.bag_check.specs.declared.report.BagReport.{BagReport}
 use Rattle.bag_check.specs.Validity.{Report, Valid, report_of}
 use Rattle.bag_check.specs.Faults.{Fault, FirstFault}
 use Rattle.bag_check.specs.Judging.{judge}
-use Rattle.bag_check.specs.Answers.{named_fault, NamesFirst, FailsAs, Gives, report_seen}
+use Rattle.bag_text.specs.Answers.{FailsAs, Gives}
+use Rattle.bag_check.specs.Answers.{named_fault, NamesFirst, report_seen}
 use Rattle.bag_check.proofs.JudgeLaws.{judged_valid, judged_fault, valid_judged, fault_judged}
 
 -- an answer that gives what judging gives, as a word over the result
 abbrev pub Answered : List File → Result BagReport BagFault → Type 0
-Answered bag result = Gives report_seen result (judge bag)
+Answered bag result = Gives named_fault report_seen result (judge bag)
 
 pub accepted_is_valid : (bag : List File) → IsBag bag → (result : Result BagReport BagFault) → Answered bag result
     → IfOk result (λ report. Valid bag report.version × (report_seen report ≡ report_of report.version bag))
@@ -25,8 +26,8 @@ accepted_is_valid bag is (Ok report) e =
     (subst (λ (v : Version). Valid bag v) version found.1, found.2 ∙ ap (λ (v : Version). report_of v bag) version)
 
 -- an answer in the place of judging's own
-given : (bag : List File) (judged : Result Report Fault) → judge bag ≡ judged → (result : Result BagReport BagFault) → Answered bag result → Gives report_seen result judged
-given bag judged e result answered = subst (λ (r : Result Report Fault). Gives report_seen result r) e answered
+given : (bag : List File) (judged : Result Report Fault) → judge bag ≡ judged → (result : Result BagReport BagFault) → Answered bag result → Gives named_fault report_seen result judged
+given bag judged e result answered = subst (λ (r : Result Report Fault). Gives named_fault report_seen result r) e answered
 
 -- no fault but want of memory names none
 only_memory : (fault : BagFault) → named_fault fault ≡ None → fault ≡ faults.Memory

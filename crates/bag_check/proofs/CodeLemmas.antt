@@ -32,8 +32,8 @@ use Rattle.bag_check.specs.Contents.{is_payload, payload_of, manifest_name, algo
 use Rattle.bag_check.specs.Validity.{is_oxum, oxums_of, payload_files, payload_bytes, manifest_count, Report}
 use Rattle.bag_check.specs.FaultTexts.{is_escaped, printed, printed_byte, fault_text}
 use Rattle.bag_check.specs.Faults.{Fault, Breaks, rule_number}
-use Rattle.bag_check.specs.Judging.{◌>>=◌, Named, Listed, named_of, onto, manifests_in, listed_or_fault, listings_of, asks_for, first_unlisted, first_in, first_place, named_by, named_or_fault, version_in, no_fetch, some_payload, keeps, listing_rules, keeps_contents, judge}
-use Rattle.bag_check.specs.Answers.{FailsAs}
+use Rattle.bag_text.specs.Answers.{◌>>=◌, FailsAs}
+use Rattle.bag_check.specs.Judging.{Named, Listed, named_of, onto, manifests_in, listed_or_fault, listings_of, asks_for, first_unlisted, first_in, first_place, named_by, named_or_fault, version_in, no_fetch, some_payload, keeps, listing_rules, keeps_contents, judge}
 
 -- ---- bytes that are printed as escapes
 
@@ -131,11 +131,6 @@ broken_text rule name path =
 -- what was found before, and what is still found
 abbrev pub fronted : {A : Type 0} → List A → Result (List A) Fault → Result (List A) Fault
 fronted front read = read >>= λ xs. Ok (front ++ xs)
-
--- a step that fails makes the whole fail
-pub fails_on : {A B : Type 0} (fault : Option Fault) (r : Result A Fault) (next : A → Result B Fault) → FailsAs fault r → FailsAs fault (r >>= next)
-fails_on None r next h = tt
-fails_on (Some f) r next h = rw h refl
 
 -- what is found goes to what was found before
 again_onto : {A : Type 0} (front : List A) (x : A) (r : Result (List A) Fault) → fronted front (r >>= λ xs. Ok (x ∷ xs)) ≡ fronted (front ++ x ∷ []) r

@@ -20,7 +20,7 @@ use Rattle.bag_check.specs.declared.rule.Rule.{Rule}
 use Rattle.bag_check.specs.declared.rule.Rule.TheVariants as rules_of
 use Rattle.bag_check.specs.Contents.{declaration_path, info_path, DeclaresVersion, HasManifest, word_of}
 use Rattle.bag_check.specs.Faults.{Fault, NoDeclaration, Declaration, FetchNotSupported, UnsupportedAlgorithm, NoPayloadManifest, ManifestText, Breaks, InfoText, OxumForm, OxumTwice, OxumWrong, Stands, rule_number, fault_number, fault_name, fault_path, PlaceBefore, ComesFirst, FirstFault}
-use Rattle.bag_check.proofs.ResultLemmas.{same_ok, same_err}
+use Rattle.bag_text.proofs.ResultLemmas.{same_ok, same_err}
 use Rattle.bag_check.proofs.OrderLemmas.{apart, one_first}
 use Rattle.bag_check.proofs.TextFacts.{declares_again, fault_again}
 use Rattle.bag_check.proofs.BagLemmas.{one_content}

@@ -13,8 +13,9 @@ use Rattle.bag_check.specs.Contents.{Holds, HasFile, info_path, DeclaresVersion}
 use Rattle.bag_check.specs.Validity.{NamesCounts, oxums_of, payload_bytes, payload_files, InfoIsRight}
 use Rattle.bag_check.specs.Faults.{Fault, InfoText, OxumForm, OxumTwice, OxumWrong, HasOxum, Stands, FirstFault}
 use Rattle.bag_check.specs.OxumReading.{counts_of}
-use Rattle.bag_check.specs.Judging.{◌>>=◌, are_others, oxums_kept, or_info, info_kept, keeps_info}
-use Rattle.bag_check.proofs.ResultLemmas.{same_err, never_both}
+use Rattle.bag_text.specs.Answers.{◌>>=◌}
+use Rattle.bag_check.specs.Judging.{are_others, oxums_kept, or_info, info_kept, keeps_info}
+use Rattle.bag_text.proofs.ResultLemmas.{same_err, never_both}
 use Rattle.bag_check.proofs.OrderLemmas.{Has, contains_has, has_contains, any_has, none_has}
 use Rattle.bag_check.proofs.BagLemmas.{one_content, content_found, no_content}
 use Rattle.bag_check.proofs.FaultLemmas.{at_13, at_14, at_15, at_16, Earlier, none_earlier, NoneBelow, none_more, named_first}

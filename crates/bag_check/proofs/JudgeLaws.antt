@@ -15,8 +15,9 @@ use Rattle.bag_check.specs.Contents.{Holds, HasFile, IsPayload, is_payload, fetc
 use Rattle.bag_check.specs.Fixity.{matches_of}
 use Rattle.bag_check.specs.Validity.{Report, report_of, Valid}
 use Rattle.bag_check.specs.Faults.{Fault, Breaks, IsBroken, Stands, FirstFault}
-use Rattle.bag_check.specs.Judging.{◌>>=◌, has_path, version_in, no_fetch, Named, manifests_in, some_payload, Listed, listings_of, keeps, listing_rules, keeps_info, keeps_contents, judge}
-use Rattle.bag_check.proofs.ResultLemmas.{bind_ok, bind_err, same_ok}
+use Rattle.bag_text.specs.Answers.{◌>>=◌}
+use Rattle.bag_check.specs.Judging.{has_path, version_in, no_fetch, Named, manifests_in, some_payload, Listed, listings_of, keeps, listing_rules, keeps_info, keeps_contents, judge}
+use Rattle.bag_text.proofs.ResultLemmas.{bind_ok, bind_err, same_ok}
 use Rattle.bag_check.proofs.OrderLemmas.{Has, contains_has, has_contains}
 use Rattle.bag_check.proofs.TextFacts.{manifest_is}
 use Rattle.bag_check.proofs.BagLemmas.{has_path_is, no_path_is, is_payload_is, is_payload_again}

@@ -1,4 +1,3 @@
-pub mod ResultLemmas
 pub mod OrderLemmas
 pub mod TextFacts
 pub mod BagLemmas

@@ -14,7 +14,7 @@ use Rattle.bag_text.proofs.InfoLemmas.{info_said, info_fault}
 use Rattle.bag_check.specs.Contents.{Holds, info_path}
 use Rattle.bag_check.specs.Validity.{IsNumber, NamesCounts, oxums_of, payload_bytes, payload_files, Valid}
 use Rattle.bag_check.specs.Faults.{InfoText, OxumForm, OxumTwice, OxumWrong, Stands}
-use Rattle.bag_check.proofs.ResultLemmas.{same_ok, never_both}
+use Rattle.bag_text.proofs.ResultLemmas.{same_ok, never_both}
 
 -- ---- a run of digits ends at one place
 

@@ -14,7 +14,7 @@ use Rattle.bag_check.specs.declared.rule.Rule.{Rule}
 use Rattle.bag_check.specs.Contents.{Holds, HasFile, declaration_path, fetch_path, DeclaresVersion, IsManifestName, word_of, HasManifest}
 use Rattle.bag_check.specs.Faults.{Fault, NoDeclaration, Declaration, FetchNotSupported, UnsupportedAlgorithm, NoPayloadManifest, ManifestText, Breaks, IsBroken, Stands, rule_number, PlaceBefore, FirstFault}
 use Rattle.bag_check.specs.Judging.{has_path, or_declaration, declared_by, version_in, no_fetch, Named, manifests_in, some_payload, Listed, listings_of, first_place, kept_by, keeps}
-use Rattle.bag_check.proofs.ResultLemmas.{bind_ok, bind_err, same_err, never_both}
+use Rattle.bag_text.proofs.ResultLemmas.{bind_ok, bind_err, same_err, never_both}
 use Rattle.bag_check.proofs.OrderLemmas.{Has, apart, contains_has, has_contains, Ascending, ascending_rest}
 use Rattle.bag_check.proofs.TextFacts.{declares_is, declares_again, refused_is, refused_again, fault_is, fault_again}
 use Rattle.bag_check.proofs.BagLemmas.{bag_ascends, ascends_up, path_of_file, one_content, content_found, no_content, has_path_is, no_path_is}

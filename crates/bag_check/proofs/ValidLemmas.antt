@@ -14,7 +14,7 @@ use Rattle.bag_check.proofs.TextFacts.{declares_again, refused_again, read_again
 use Rattle.bag_check.proofs.BagLemmas.{one_content}
 use Rattle.bag_check.proofs.FaultLemmas.{one_version}
 use Rattle.bag_check.proofs.OxumLemmas.{info_is_read, oxum_has_form, one_oxum, oxum_is_right}
-use Rattle.bag_check.proofs.ResultLemmas.{never_both}
+use Rattle.bag_text.proofs.ResultLemmas.{never_both}
 
 -- in a valid bag no rule is broken
 pub no_rule_broken : (bag : List File) (v : Version) → Valid bag v → (rule : Rule) (name path : List ℕ) → IsBroken bag v rule name path → ⊥

@@ -53,15 +53,6 @@ printed_fault fault = text_or (named_fault fault)
 abbrev pub report_seen : BagReport → Report
 report_seen r = record { version = r.version; files = r.files; bytes = r.bytes; manifests = r.manifests }
 
-abbrev pub FailsAs : {Y : Type 0} → Option Fault → Result Y Fault → Type 0
-FailsAs None judged = Unit {0}
-FailsAs (Some fault) judged = judged ≡ Err fault
-
--- what an answer gives is what judging gives, unless memory ran out
-abbrev pub Gives : {X Y : Type 0} → (X → Y) → Result X BagFault → Result Y Fault → Type 0
-Gives view (Ok x) judged = judged ≡ Ok (view x)
-Gives view (Err fault) judged = FailsAs (named_fault fault) judged
-
 abbrev pub named_seen : Named → judging.Named
 named_seen m = record { name = m.name.now; kind = m.kind; algorithm = m.algorithm; text = m.text.now }
 

@@ -2,6 +2,7 @@
 -- answer.
 use Rattle.std.specs.Prelude.{ℕ, Bool, true, false, not, List, [], ◌∷◌, length, map, filter, find, Option, Some, None, is_some, option_map, Result, Ok, Err, ◌==◌, ◌||◌, nat_lt, if◌then◌else◌}
 use Rattle.std.specs.List.{list_any}
+use Rattle.bag_text.specs.Answers.{◌>>=◌}
 use Rattle.bag_text.specs.TransferForm.{File, content_at}
 use Rattle.bag_text.specs.declared.declaration.Version.{Version}
 use Rattle.bag_text.specs.declared.declaration.DeclFault.{DeclFault}
@@ -22,11 +23,6 @@ use Rattle.bag_check.specs.Fixity.{matches_of}
 use Rattle.bag_check.specs.Validity.{oxums_of, payload_bytes, payload_files, Report, report_of}
 use Rattle.bag_check.specs.Faults.{Fault, NoDeclaration, Declaration, FetchNotSupported, UnsupportedAlgorithm, NoPayloadManifest, ManifestText, Breaks, InfoText, OxumForm, OxumTwice, OxumWrong}
 use Rattle.bag_check.specs.OxumReading.{counts_of}
-
-infixl 10 ◌>>=◌
-abbrev pub ◌>>=◌ : {A B : Type 0} → Result A Fault → (A → Result B Fault) → Result B Fault
-(Ok x) >>= f = f x
-(Err e) >>= f = Err e
 
 -- ---- files by path
 

@@ -3,6 +3,7 @@
 ghost use Rattle.std.specs.Prelude.{◌≡◌, ◌⊎◌, IfOk, IfErr, IsErrAnd, MatchResult, Some, map};
 ghost use Rattle.std.specs.List.{list_any};
 ghost use Rattle.std.specs.Cow.{cow_str_bytes};
+ghost use Rattle.bag_text.specs.Answers.{Gives};
 ghost use Rattle.bag_text.specs.TransferReading.{files_of};
 ghost use Rattle.bag_check.specs.declared.names.Kind.TheVariants.{Payload};
 ghost use Rattle.bag_check.specs.Contents.{is_kind};
@@ -11,7 +12,7 @@ ghost use Rattle.bag_text.specs.declared.declaration.Version.{Version};
 ghost use Rattle.bag_check.specs.declared.fault.BagFault.TheVariants.{Memory};
 ghost use Rattle.bag_check.specs.Faults.{Fault, Breaks, FirstFault};
 ghost use Rattle.bag_check.specs.Judging.{version_in, no_fetch, some_payload, first_place, kept_by, keeps, listing_rules, keeps_contents, judge};
-ghost use Rattle.bag_check.specs.Answers.{Gives, named_fault, named_seen, listed_seen, report_seen, NamesFirst};
+ghost use Rattle.bag_check.specs.Answers.{named_fault, named_seen, listed_seen, report_seen, NamesFirst};
 
 use crate::fault::BagFault;
 use crate::info::keep_info;
@@ -27,7 +28,7 @@ use std::borrow::CowStr;
 
 /// The version that a bag declares.
 fn read_version<'a>(bag: &BagSet<'a>) -> Result<Version, BagFault<'a>>
-    ensures { Gives (λ version. version) result (version_in bag.now) }
+    ensures { Gives named_fault (λ version. version) result (version_in bag.now) }
 {
     let Some(text) = bag.get("bagit.txt") else {
         return Err(BagFault::NoDeclaration);
@@ -40,7 +41,7 @@ fn read_version<'a>(bag: &BagSet<'a>) -> Result<Version, BagFault<'a>>
 
 /// Refuses a bag with a `fetch.txt`.
 fn refuse_fetch<'a>(bag: &BagSet<'a>) -> Result<(), BagFault<'a>>
-    ensures { Gives (λ unit. unit) result (no_fetch bag.now) }
+    ensures { Gives named_fault (λ unit. unit) result (no_fetch bag.now) }
 {
     if bag.get("fetch.txt").is_some() {
         Err(BagFault::FetchNotSupported)
@@ -63,7 +64,7 @@ fn has_payload_manifest(found: &[Named<'_>]) -> bool
 
 /// Refuses a bag without a payload manifest.
 fn need_payload_manifest<'a>(found: &[Named<'a>]) -> Result<(), BagFault<'a>>
-    ensures { Gives (λ unit. unit) result (some_payload (map named_seen found.now)) }
+    ensures { Gives named_fault (λ unit. unit) result (some_payload (map named_seen found.now)) }
 {
     if has_payload_manifest(found) {
         Ok(())
@@ -89,7 +90,7 @@ fn broken<'a>(rule: Rule, manifest: &'a str, path: CowStr<'a, Global>) -> BagFau
 
 /// Refuses a bag that breaks a rule, at the first place.
 fn keep_rule<'a>(bag: &BagSet<'a>, rule: Rule, listed: &[Listed<'a>]) -> Result<(), BagFault<'a>>
-    ensures { Gives (λ unit. unit) result
+    ensures { Gives named_fault (λ unit. unit) result
         (kept_by rule (first_place bag.now rule (map listed_seen listed.now))) }
 {
     match first_place(bag, rule, listed)? {
@@ -101,7 +102,7 @@ fn keep_rule<'a>(bag: &BagSet<'a>, rule: Rule, listed: &[Listed<'a>]) -> Result<
 /// Refuses a bag that breaks a rule about what is listed, the first rule first.
 #[tactic(auto, unfolding(crate::specs::Judging::keeps))]
 fn keep_listing_rules<'a>(bag: &BagSet<'a>, listed: &[Listed<'a>]) -> Result<(), BagFault<'a>>
-    ensures { Gives (λ unit. unit) result
+    ensures { Gives named_fault (λ unit. unit) result
         (keeps bag.now (map listed_seen listed.now) listing_rules) }
 {
     keep_rule(bag, Rule::OutsidePayload, listed)?;
@@ -120,7 +121,7 @@ fn keep_contents<'a>(
     bag: &BagSet<'a>,
     listed: &[Listed<'a>],
 ) -> Result<(), BagFault<'a>>
-    ensures { Gives (λ unit. unit) result (keeps_contents bag.now (map listed_seen listed.now)) }
+    ensures { Gives named_fault (λ unit. unit) result (keeps_contents bag.now (map listed_seen listed.now)) }
 {
     keep_info(alloc, bag)?;
     keep_rule(bag, Rule::ChecksumWrong, listed)?;
@@ -151,7 +152,7 @@ fn judge_bag<'a>(
     files: &[(&'a str, &'a [u8])],
 ) -> Result<BagReport, BagFault<'a>>
     requires { files_of files.now ≡ bag.now }
-    ensures { Gives report_seen result (judge bag.now) }
+    ensures { Gives named_fault report_seen result (judge bag.now) }
 {
     let version = read_version(bag)?;
     refuse_fetch(bag)?;
@@ -182,7 +183,7 @@ pub fn check_bag<'a>(alloc: Global, bag: &BagSet<'a>) -> Result<BagReport, BagFa
         → IsErrAnd result (λ fault. (fault ≡ Memory) ⊎ (named_fault fault ≡ Some first)) }
 
     // What judging the bag step by step gives.
-    ensures exact { Gives report_seen result (judge bag.now) }
+    ensures exact { Gives named_fault report_seen result (judge bag.now) }
 {
     judge_bag(alloc, bag, bag.files())
 }

@@ -34,17 +34,42 @@ impl<'a> fmt::Display for BagFault<'a> {
                 write_named(f, "B6", manifest)?;
                 write!(f, " {fault}")
             }
-            BagFault::OutsidePayload { manifest, path } => write_place(f, "B7", manifest, path.as_str()),
-            BagFault::TagManifestListed { manifest, path } => write_place(f, "B8", manifest, path.as_str()),
-            BagFault::PayloadInTagManifest { manifest, path } => write_place(f, "B9", manifest, path.as_str()),
-            BagFault::PayloadManifestUnlisted { manifest, path } => write_place(f, "B10", manifest, path.as_str()),
+            BagFault::OutsidePayload { manifest, path } => write_place(
+                f,
+                "B7",
+                manifest,
+                path.as_str(),
+            ),
+            BagFault::TagManifestListed { manifest, path } => write_place(
+                f,
+                "B8",
+                manifest,
+                path.as_str(),
+            ),
+            BagFault::PayloadInTagManifest { manifest, path } => write_place(
+                f,
+                "B9",
+                manifest,
+                path.as_str(),
+            ),
+            BagFault::PayloadManifestUnlisted { manifest, path } => write_place(
+                f,
+                "B10",
+                manifest,
+                path.as_str(),
+            ),
             BagFault::Missing { manifest, path } => write_place(f, "B11", manifest, path.as_str()),
             BagFault::Unlisted { manifest, path } => write_place(f, "B12", manifest, path.as_str()),
             BagFault::InfoText(fault) => write!(f, "B13 {fault}"),
             BagFault::OxumForm => f.write_str("B14"),
             BagFault::OxumTwice => f.write_str("B15"),
             BagFault::OxumWrong => f.write_str("B16"),
-            BagFault::ChecksumWrong { manifest, path } => write_place(f, "B17", manifest, path.as_str()),
+            BagFault::ChecksumWrong { manifest, path } => write_place(
+                f,
+                "B17",
+                manifest,
+                path.as_str(),
+            ),
             BagFault::Memory => f.write_str("B18"),
         }
     }

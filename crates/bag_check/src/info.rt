@@ -3,11 +3,12 @@
 ghost use Rattle.std.specs.Prelude.{◌≡◌, length, not, is_some};
 ghost use Rattle.std.specs.List.{list_any};
 ghost use Rattle.std.specs.Cow.{cow_str_bytes};
+ghost use Rattle.bag_text.specs.Answers.{Gives};
 ghost use Rattle.bag_text.specs.InfoReading.{info_of, pairs_in, pairs_of, pair_in};
 ghost use Rattle.bag_check.specs.Validity.{is_oxum, oxums_of};
 ghost use Rattle.bag_check.specs.OxumReading.{counts_of};
 ghost use Rattle.bag_check.specs.Judging.{or_info, are_others, oxums_kept, keeps_info};
-ghost use Rattle.bag_check.specs.Answers.{Gives};
+ghost use Rattle.bag_check.specs.Answers.{named_fault};
 
 use crate::fault::BagFault;
 use crate::oxum::read_counts;
@@ -18,7 +19,7 @@ use std::borrow::CowStr;
 
 /// What the text says, or its fault as one of the bag.
 fn read_info<'a>(alloc: Global, text: &'a [u8]) -> Result<BagInfo<'a>, BagFault<'a>>
-    ensures { Gives pairs_in result (or_info (info_of text.now)) }
+    ensures { Gives named_fault pairs_in result (or_info (info_of text.now)) }
 {
     match read_bag_info(alloc, text) {
         Ok(info) => Ok(info),
@@ -47,7 +48,8 @@ fn names_others(bag: &BagSet<'_>, pair: &(&str, CowStr<'_, Global>)) -> bool
 {
     let payload = count_payload(bag);
     match read_counts(pair.1.as_str().as_bytes()) {
-        Some(counts) => counts.bytes != payload.bytes as u128 || counts.files != payload.files as u128,
+        Some(counts) => counts.bytes != payload.bytes as u128
+            || counts.files != payload.files as u128,
         None => false,
     }
 }
@@ -82,7 +84,7 @@ fn keep_oxums<'a>(
     bag: &BagSet<'_>,
     pairs: &[(&str, CowStr<'_, Global>)],
 ) -> Result<(), BagFault<'a>>
-    ensures { Gives (λ unit. unit) result (oxums_kept bag.now (oxums_of (pairs_of pairs.now))) }
+    ensures { Gives named_fault (λ unit. unit) result (oxums_kept bag.now (oxums_of (pairs_of pairs.now))) }
 {
     if has_formless(pairs) {
         return Err(BagFault::OxumForm);
@@ -98,7 +100,7 @@ fn keep_oxums<'a>(
 
 /// Refuses a bag whose `bag-info.txt` can't be read, or has a `Payload-Oxum` that isn't right.
 pub fn keep_info<'a>(alloc: Global, bag: &BagSet<'a>) -> Result<(), BagFault<'a>>
-    ensures { Gives (λ unit. unit) result (keeps_info bag.now) }
+    ensures { Gives named_fault (λ unit. unit) result (keeps_info bag.now) }
 {
     let Some(text) = bag.get("bag-info.txt") else {
         return Ok(());

@@ -1,10 +1,11 @@
 //! The manifests of a bag, found and read.
 
 ghost use Rattle.std.specs.Prelude.{map, option_map};
+ghost use Rattle.bag_text.specs.Answers.{Gives};
 ghost use Rattle.bag_text.specs.TransferReading.{files_of};
 ghost use Rattle.bag_text.specs.ManifestReading.{manifest_of};
 ghost use Rattle.bag_check.specs.Judging.{named_of, manifests_in, listed_or_fault, listings_of};
-ghost use Rattle.bag_check.specs.Answers.{Gives, named_seen, listed_seen};
+ghost use Rattle.bag_check.specs.Answers.{named_fault, named_seen, listed_seen};
 
 use crate::fault::BagFault;
 use crate::names::{Kind, algorithm_of, manifest_of};
@@ -31,7 +32,7 @@ pub struct Listed<'a> {
 
 /// What a file is: no manifest, one of a known algorithm, or one that isn't supported.
 fn named_file<'a>(path: &'a str, text: &'a [u8]) -> Result<Option<Named<'a>>, BagFault<'a>>
-    ensures { Gives (λ found. option_map named_seen found) result
+    ensures { Gives named_fault (λ found. option_map named_seen found) result
         (named_of (record { path = path.now; content = text.now })) }
 {
     let Some((kind, alg)) = manifest_of(path) else {
@@ -53,7 +54,7 @@ pub fn find_manifests<'a>(
     alloc: Global,
     files: &[(&'a str, &'a [u8])],
 ) -> Result<Vec<Named<'a>>, BagFault<'a>>
-    ensures { Gives (λ found. map named_seen found.items) result
+    ensures { Gives named_fault (λ found. map named_seen found.items) result
         (manifests_in (files_of files.now)) }
 {
     let mut found = Vec::new(alloc);
@@ -71,7 +72,7 @@ fn read_named<'a>(
     version: Version,
     named: Named<'a>,
 ) -> Result<Listed<'a>, BagFault<'a>>
-    ensures { Gives listed_seen result (listed_or_fault (named_seen named.entry)
+    ensures { Gives named_fault listed_seen result (listed_or_fault (named_seen named.entry)
         (manifest_of version named.entry.algorithm named.entry.text.now)) }
 {
     match read_manifest(alloc, named.text, version, named.algorithm) {
@@ -95,7 +96,7 @@ pub fn read_manifests<'a>(
     version: Version,
     found: &[Named<'a>],
 ) -> Result<Vec<Listed<'a>>, BagFault<'a>>
-    ensures { Gives (λ read. map listed_seen read.items) result
+    ensures { Gives named_fault (λ read. map listed_seen read.items) result
         (listings_of version (map named_seen found.now)) }
 {
     let mut read = Vec::new(alloc);

@@ -8,7 +8,8 @@ use Rattle.bag_text.specs.declared.set_fault.SetFault.TheVariants.{Memory}
 use Rattle.bag_text.specs.declared.path.PathFault.{PathFault}
 use Rattle.bag_text.specs.Paths.{is_good, path_fault}
 use Rattle.bag_text.specs.TransferForm.{File, Ascends, IsBag}
-use Rattle.bag_text.specs.TransferReading.{Answers}
+use Rattle.bag_text.specs.Answers.{Answers}
+use Rattle.bag_text.specs.TransferReading.{named_set_fault}
 use Rattle.bag_text.specs.BagList.{ListFault, file_fault, or_else, fault_from, list_fault}
 use Rattle.bag_text.specs.ListReading.{Makes}
 use Rattle.bag_text.proofs.ListLemmas.{from_none, list_fault_law, list_bag_law}
@@ -86,12 +87,12 @@ is_list files (Ok set) h = ((made (λ set. set) files set h).0, made_bag (λ set
 is_list files (Err fault) h = tt
 
 -- a bag is made, unless memory ran out
-pub is_made : (files : List File) (result : Result (List File) SetFault) → IsBag files → Makes (λ set. set) files (list_fault files) result → Answers result (Ok files)
+pub is_made : (files : List File) (result : Result (List File) SetFault) → IsBag files → Makes (λ set. set) files (list_fault files) result → Answers named_set_fault result (Ok files)
 is_made files result bag h = by_result result (subst (λ (found : Option SetFault). Makes (λ set. set) files found result) ((list_bag_law files).1 bag) h)
   where
-    by_result : (r : Result (List File) SetFault) → Makes (λ set. set) files None r → Answers r (Ok files)
+    by_result : (r : Result (List File) SetFault) → Makes (λ set. set) files None r → Answers named_set_fault r (Ok files)
     by_result (Ok set) h = ap (λ (fs : List File). Ok fs) (sym h)
-    by_result (Err fault) h = subst (λ (f : SetFault). Answers (Err f) (Ok files)) (sym h) tt
+    by_result (Err fault) h = subst (λ (f : SetFault). Answers named_set_fault (Err f) (Ok files)) (sym h) tt
 
 -- a list with a fault is refused with it
 pub is_refused : (files : List File) (result : Result (List File) SetFault) (fault : SetFault) → ListFault files fault → Makes (λ set. set) files (list_fault files) result → result ≡ Err fault

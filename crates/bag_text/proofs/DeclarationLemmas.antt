@@ -11,7 +11,8 @@ use Rattle.std.proofs.lemmas.Bool.Decides.{nat_tests}
 use Rattle.bag_text.specs.Text.{is_blank, has_mark, trim_blanks, skip_blanks, drop_last_blanks}
 use Rattle.bag_text.specs.Lines.{lines}
 use Rattle.bag_text.specs.Declaration.{version_text, version_label, encoding_label, IsLabelled, Declares, after_label, is_version, is_supported, is_utf8_name, declaration_fault}
-use Rattle.bag_text.specs.DeclarationReading.{version_of, encoding_fault, exactly_two, two_lines_of, declaration_of, ◌>>=◌}
+use Rattle.bag_text.specs.Answers.{◌>>=◌}
+use Rattle.bag_text.specs.DeclarationReading.{version_of, encoding_fault, exactly_two, two_lines_of, declaration_of}
 use Rattle.bag_text.specs.declared.declaration.Version.{Version}
 use Rattle.bag_text.specs.declared.declaration.Version.TheVariants.{V1_0, V0_97}
 use Rattle.bag_text.specs.declared.declaration.DeclFault.{DeclFault}

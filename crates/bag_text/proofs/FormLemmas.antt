@@ -11,7 +11,8 @@ use Rattle.bag_text.specs.declared.header.Flaw.TheVariants.{Short, Bad}
 use Rattle.bag_text.specs.declared.set_fault.SetFault.{SetFault}
 use Rattle.bag_text.specs.declared.set_fault.SetFault.TheVariants.{BadEntry, Truncated, OutOfOrder, BadPath, TrailingBytes, PathClash}
 use Rattle.bag_text.specs.Paths.{path_fault}
-use Rattle.bag_text.specs.TransferReading.{◌>>=◌, Head, Place, End, Entry, literal_at, header_at, place_at, file_at, placed, entry_of, entry_at, files_at, opened, set_of, Gives}
+use Rattle.bag_text.specs.Answers.{◌>>=◌, Gives}
+use Rattle.bag_text.specs.TransferReading.{Head, Place, End, Entry, literal_at, header_at, place_at, file_at, placed, entry_of, entry_at, files_at, opened, set_of, named_set_fault}
 use Rattle.bag_text.specs.TransferForm.{File, header, entry, opening, ending, set_text, max_content, max_files, Ascends, clashes, Fits, IsBag}
 use Rattle.bag_text.specs.Paths.{max_path, is_good, comes_before}
 use Rattle.bag_text.proofs.NumberLemmas.{InBounds}
@@ -293,7 +294,7 @@ set_ok t fs e = by_opening (literal_at opening t) refl e
             })
 
 -- what a call that gives the files found
-pub is_found : {X : Type 0} (t : List ℕ) (view : X → List File) (r : Result X SetFault) → Gives view r (set_of t) → IfOk r (λ x. IsBag (view x) × (t ≡ set_text (view x)))
+pub is_found : {X : Type 0} (t : List ℕ) (view : X → List File) (r : Result X SetFault) → Gives named_set_fault view r (set_of t) → IfOk r (λ x. IsBag (view x) × (t ≡ set_text (view x)))
 is_found t view (Ok x) e = let r = set_ok t (view x) e in (r.bag, r.text)
 is_found t view (Err f) e = tt
 

@@ -5,7 +5,8 @@ use Rattle.std.proofs.lemmas.Bool.Decides.{nat_tests}
 use Rattle.std.proofs.lemmas.Bool.{eqb-true}
 use Rattle.bag_text.specs.declared.header.Flaw.{Flaw}
 use Rattle.bag_text.specs.declared.header.Flaw.TheVariants.{Short, Bad}
-use Rattle.bag_text.specs.TransferReading.{◌>>=◌, Head, literal_at, number_at, header_at}
+use Rattle.bag_text.specs.Answers.{◌>>=◌}
+use Rattle.bag_text.specs.TransferReading.{Head, literal_at, number_at, header_at}
 use Rattle.bag_text.specs.TransferForm.{header, max_content}
 use Rattle.bag_text.specs.Paths.{max_path}
 use Rattle.bag_text.proofs.NumberLemmas.{InBounds, ok_is, number_ok, number_again}

@@ -5,11 +5,13 @@ use Rattle.bag_text.specs.declared.bag_info.BagInfo.{BagInfo}
 use Rattle.bag_text.specs.declared.bag_info.InfoFault.{InfoFault}
 use Rattle.bag_text.specs.declared.bag_info.InfoFault.TheVariants.{NotUtf8, ByteOrderMark, NoColon, EmptyLabel, StrayContinuation, Memory}
 use Rattle.bag_text.specs.BagInfo.{Pair, SaysInfo, InfoFaultIs}
-use Rattle.bag_text.specs.InfoReading.{info_of, FailsAs, Gives, pairs_in}
+use Rattle.bag_text.specs.Answers.{FailsAs, Gives}
+use Rattle.bag_text.proofs.ResultLemmas.{same_ok, same_err, never_both}
+use Rattle.bag_text.specs.InfoReading.{info_of, named_info_fault, pairs_in}
 use Rattle.bag_text.proofs.InfoLemmas.{info_said, info_fault}
 
 -- an answered fault is memory or the one that was read
-fails : (fault : InfoFault) (read : Result (List Pair) InfoFault) → FailsAs fault read → (fault ≡ Memory) ⊎ (read ≡ Err fault)
+fails : (fault : InfoFault) (read : Result (List Pair) InfoFault) → FailsAs (named_info_fault fault) read → (fault ≡ Memory) ⊎ (read ≡ Err fault)
 fails Memory read e = inl refl
 fails NotUtf8 read e = inr e
 fails ByteOrderMark read e = inr e
@@ -17,36 +19,23 @@ fails (NoColon n) read e = inr e
 fails (EmptyLabel n) read e = inr e
 fails (StrayContinuation n) read e = inr e
 
--- pairs and a fault aren't both read
-pairs_or_fault : (pairs : List Pair) (fault : InfoFault) (read : Result (List Pair) InfoFault) → read ≡ Ok pairs → read ≡ Err fault → ⊥
-pairs_or_fault pairs fault (Ok x) e g = cc
-pairs_or_fault pairs fault (Err f) e g = cc
-
--- one list of pairs is read
-pairs_same : (a b : List Pair) (read : Result (List Pair) InfoFault) → read ≡ Ok a → read ≡ Ok b → a ≡ b
-pairs_same a b read e g = cc
-
--- one fault is read
-fault_same : (a b : InfoFault) (read : Result (List Pair) InfoFault) → read ≡ Err a → read ≡ Err b → a ≡ b
-fault_same a b read e g = cc
-
 module _ (t : List ℕ) where
   -- what is read is what the text says
-  pub info_says : (r : Result BagInfo InfoFault) → Gives pairs_in r (info_of t) → IfOk r (λ info. SaysInfo t (pairs_in info))
+  pub info_says : (r : Result BagInfo InfoFault) → Gives named_info_fault pairs_in r (info_of t) → IfOk r (λ info. SaysInfo t (pairs_in info))
   info_says (Ok info) g = (info_said t (pairs_in info)).0 g
   info_says (Err fault) g = tt
 
   -- what the text says is read, memory aside
-  pub info_reads : (r : Result BagInfo InfoFault) → Gives pairs_in r (info_of t) → (pairs : List Pair) → SaysInfo t pairs → MatchResult r (λ info. pairs_in info ≡ pairs) (λ fault. fault ≡ Memory)
-  info_reads (Ok info) g pairs is = pairs_same (pairs_in info) pairs (info_of t) g ((info_said t pairs).1 is)
+  pub info_reads : (r : Result BagInfo InfoFault) → Gives named_info_fault pairs_in r (info_of t) → (pairs : List Pair) → SaysInfo t pairs → MatchResult r (λ info. pairs_in info ≡ pairs) (λ fault. fault ≡ Memory)
+  info_reads (Ok info) g pairs is = same_ok (pairs_in info) pairs (info_of t) g ((info_said t pairs).1 is)
   info_reads (Err fault) g pairs is = by_fault (fails fault (info_of t) g)
     where
       by_fault : (fault ≡ Memory) ⊎ (info_of t ≡ Err fault) → fault ≡ Memory
       by_fault (inl e) = e
-      by_fault (inr e) = absurd (pairs_or_fault pairs fault (info_of t) ((info_said t pairs).1 is) e)
+      by_fault (inr e) = absurd (never_both pairs fault (info_of t) ((info_said t pairs).1 is) e)
 
   -- a refusal names the first fault, memory aside
-  pub info_refused : (r : Result BagInfo InfoFault) → Gives pairs_in r (info_of t) → IfErr r (λ fault. (fault ≡ Memory) ⊎ InfoFaultIs t fault)
+  pub info_refused : (r : Result BagInfo InfoFault) → Gives named_info_fault pairs_in r (info_of t) → IfErr r (λ fault. (fault ≡ Memory) ⊎ InfoFaultIs t fault)
   info_refused (Ok info) g = tt
   info_refused (Err fault) g = by_fault (fails fault (info_of t) g)
     where
@@ -55,10 +44,10 @@ module _ (t : List ℕ) where
       by_fault (inr e) = inr ((info_fault t fault).0 e)
 
   -- the first fault is the answer, memory aside
-  pub info_first : (r : Result BagInfo InfoFault) → Gives pairs_in r (info_of t) → (fault : InfoFault) → InfoFaultIs t fault → (r ≡ Err fault) ⊎ (r ≡ Err Memory)
-  info_first (Ok info) g fault is = absurd (pairs_or_fault (pairs_in info) fault (info_of t) g ((info_fault t fault).1 is))
+  pub info_first : (r : Result BagInfo InfoFault) → Gives named_info_fault pairs_in r (info_of t) → (fault : InfoFault) → InfoFaultIs t fault → (r ≡ Err fault) ⊎ (r ≡ Err Memory)
+  info_first (Ok info) g fault is = absurd (never_both (pairs_in info) fault (info_of t) g ((info_fault t fault).1 is))
   info_first (Err other) g fault is = by_fault (fails other (info_of t) g)
     where
       by_fault : (other ≡ Memory) ⊎ (info_of t ≡ Err other) → (◌≡◌ {A = Result BagInfo InfoFault} (Err other) (Err fault)) ⊎ (◌≡◌ {A = Result BagInfo InfoFault} (Err other) (Err Memory))
       by_fault (inl e) = inr (ap (λ (f : InfoFault). Err f) e)
-      by_fault (inr e) = inl (ap (λ (f : InfoFault). Err f) (fault_same other fault (info_of t) e ((info_fault t fault).1 is)))
+      by_fault (inr e) = inl (ap (λ (f : InfoFault). Err f) (same_err other fault (info_of t) e ((info_fault t fault).1 is)))

@@ -12,7 +12,8 @@ use Rattle.bag_text.specs.Lines.{lines}
 use Rattle.bag_text.specs.declared.bag_info.InfoFault.{InfoFault}
 use Rattle.bag_text.specs.declared.bag_info.InfoFault.TheVariants.{NotUtf8, ByteOrderMark, NoColon, EmptyLabel, StrayContinuation, Memory}
 use Rattle.bag_text.specs.BagInfo.{Pair, begins_blank, is_colon, IsPairLine, AreGroups, SaysInfo, filled, IsReached, InfoFaultIs}
-use Rattle.bag_text.specs.InfoReading.{label_of, value_of, pair_of, extend_last, add_info_line, pairs_from, info_of, ◌>>=◌}
+use Rattle.bag_text.specs.Answers.{◌>>=◌}
+use Rattle.bag_text.specs.InfoReading.{label_of, value_of, pair_of, extend_last, add_info_line, pairs_from, info_of}
 use Rattle.bag_text.proofs.BlankLemmas.{skipped, dropped, skip_front, drop_back}
 
 one_plus : (n : ℕ) → 1 + n ≡ suc n

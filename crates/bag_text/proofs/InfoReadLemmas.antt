@@ -17,7 +17,9 @@ use Rattle.bag_text.specs.Lines.{is_end, lines, End, LF, CR, CRLF, end_bytes, En
 use Rattle.bag_text.specs.declared.bag_info.InfoFault.{InfoFault}
 use Rattle.bag_text.specs.declared.bag_info.InfoFault.TheVariants.{NotUtf8, ByteOrderMark, NoColon, EmptyLabel, StrayContinuation, Memory}
 use Rattle.bag_text.specs.BagInfo.{Pair, is_colon, begins_blank}
-use Rattle.bag_text.specs.InfoReading.{◌>>=◌, label_of, value_of, colon_cut, pair_of, extend_last, add_info_line, pairs_from, FailsAs, Kept, pair_in, pairs_of, has_line_feed, IsMarked, AreMarked}
+use Rattle.bag_text.specs.Answers.{◌>>=◌, FailsAs}
+use Rattle.bag_text.proofs.ResultLemmas.{fails_on}
+use Rattle.bag_text.specs.InfoReading.{label_of, value_of, colon_cut, pair_of, extend_last, add_info_line, pairs_from, named_info_fault, Kept, pair_in, pairs_of, has_line_feed, IsMarked, AreMarked}
 use Rattle.bag_text.proofs.BlankLemmas.{dropped}
 use Rattle.bag_text.proofs.LineLemmas.{no_lines, are_lines}
 use Rattle.bag_text.proofs.InfoLemmas.{cut_again, has_colon, extended, some_pairs, unfolded_lines, no_lines_left}
@@ -311,16 +313,8 @@ next_line n before now t line rest total is e so_far =
 
 -- a line at fault is the fault of all
 pub line_fails : (n : ℕ) (before : List Pair) (t line rest : List ℕ) (fault : InfoFault) (total : Result (List Pair) InfoFault)
-    → lines t ≡ line ∷ lines rest → FailsAs fault (add_info_line n before line) → pairs_from n before (lines t) ≡ total → FailsAs fault total
-line_fails n before t line rest fault total is e so_far = by_fault fault e
+    → lines t ≡ line ∷ lines rest → FailsAs (named_info_fault fault) (add_info_line n before line) → pairs_from n before (lines t) ≡ total → FailsAs (named_info_fault fault) total
+line_fails n before t line rest fault total is e so_far = fails_on (named_info_fault fault) _ total one e
   where
     one : (f : InfoFault) → add_info_line n before line ≡ Err f → total ≡ Err f
     one f e = sym so_far ∙ ap (pairs_from n before) is ∙ unfolded_lines n before line (lines rest) ∙ ap (λ (r : Result (List Pair) InfoFault). r >>= λ x. pairs_from (n + 1) x (lines rest)) e
-
-    by_fault : (f : InfoFault) → FailsAs f (add_info_line n before line) → FailsAs f total
-    by_fault Memory e = tt
-    by_fault NotUtf8 e = one NotUtf8 e
-    by_fault ByteOrderMark e = one ByteOrderMark e
-    by_fault (NoColon k) e = one (NoColon k) e
-    by_fault (EmptyLabel k) e = one (EmptyLabel k) e
-    by_fault (StrayContinuation k) e = one (StrayContinuation k) e

@@ -1,3 +1,4 @@
+pub mod ResultLemmas
 pub mod LineLemmas
 pub mod TextLemmas
 pub mod InfoLemmas

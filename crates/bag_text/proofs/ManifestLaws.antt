@@ -27,7 +27,9 @@ use Rattle.bag_text.specs.Text.{AreBlanks, has_mark, begins_with}
 use Rattle.bag_text.specs.Lines.{lines}
 use Rattle.bag_text.specs.Paths.{GoodPath, is_good}
 use Rattle.bag_text.specs.Manifest.{Spells, decode, has_coded, size_of, checksum_of, IsEntry, LineIs, ListsOn, LineLists, Lists, IsManifest, AscendingPaths, sum_text, path_text, IsReached, ManifestFault}
-use Rattle.bag_text.specs.ManifestReading.{Entry, Entries, checksum_in, path_of, entry_of, manifest_of, is_owned, listed, entries_in, paths_of, HasEntry, HasPath, listing_at, is_listed, FailsAs, Gives}
+use Rattle.bag_text.specs.Answers.{FailsAs, Gives}
+use Rattle.bag_text.proofs.ResultLemmas.{never_both, same_err}
+use Rattle.bag_text.specs.ManifestReading.{Entry, Entries, checksum_in, path_of, entry_of, manifest_of, is_owned, listed, entries_in, paths_of, HasEntry, HasPath, listing_at, is_listed, named_line_fault}
 use Rattle.bag_text.proofs.GoodPathLemmas.{good_from}
 use Rattle.bag_text.proofs.ManifestLemmas.{spells_decoded, spelled_is_decoded, looked_up}
 use Rattle.bag_text.proofs.ManifestLineLemmas.{reads_bad_checksum, reads_no_path, reads_bad_path, entry_reads}
@@ -266,7 +268,7 @@ lists_iff v a text es path checksum e = (there, back)
 -- ---- what reading answers, memory aside
 
 -- a fault is of memory, or what reading gives
-fails : (fault : LineFault) (read : Result Entries LineFault) → FailsAs fault read → (fault ≡ Memory) ⊎ (read ≡ Err fault)
+fails : (fault : LineFault) (read : Result Entries LineFault) → FailsAs (named_line_fault fault) read → (fault ≡ Memory) ⊎ (read ≡ Err fault)
 fails Memory read e = inl refl
 fails NotUtf8 read e = inr e
 fails ByteOrderMark read e = inr e
@@ -274,14 +276,6 @@ fails (BadChecksum n) read e = inr e
 fails (NoPath n) read e = inr e
 fails (BadPath n) read e = inr e
 fails (ListedTwice n) read e = inr e
-
--- no text is read and refused
-entries_or_fault : (es : Entries) (fault : LineFault) (read : Result Entries LineFault) → read ≡ Ok es → read ≡ Err fault → ⊥
-entries_or_fault es fault read a b = cc
-
--- a text is refused with one fault
-fault_same : (f g : LineFault) (read : Result Entries LineFault) → read ≡ Err f → read ≡ Err g → f ≡ g
-fault_same f g read a b = cc
 
 -- an entry of the map is one of those that were read
 has_listing : (xs : List (CowStr Global × Listing)) (x : CowStr Global × Listing) → Has xs x → Has (map listed xs) (listed x)
@@ -329,39 +323,39 @@ borrowed_iff (text.Owned p) coded e = (λ h. absurd h, λ none. true≢false (e 
 
 module _ (v : Version) (a : Algorithm) (t : List ℕ) where
   -- what is read is a manifest
-  pub says_manifest : (r : Result Manifest LineFault) → Gives entries_in r (manifest_of v a t) → IfOk r (λ m. IsManifest v a t)
+  pub says_manifest : (r : Result Manifest LineFault) → Gives named_line_fault entries_in r (manifest_of v a t) → IfOk r (λ m. IsManifest v a t)
   says_manifest (Ok m) g = read_is_manifest v a t (entries_in m) g
   says_manifest (Err fault) g = tt
 
   -- a manifest is read, memory aside
-  pub says_reads : (r : Result Manifest LineFault) → Gives entries_in r (manifest_of v a t) → IsManifest v a t → IfErr r (λ fault. fault ≡ Memory)
+  pub says_reads : (r : Result Manifest LineFault) → Gives named_line_fault entries_in r (manifest_of v a t) → IsManifest v a t → IfErr r (λ fault. fault ≡ Memory)
   says_reads (Ok m) g is = tt
   says_reads (Err fault) g is = by_fault (fails fault (manifest_of v a t) g)
     where
       by_fault : (fault ≡ Memory) ⊎ (manifest_of v a t ≡ Err fault) → fault ≡ Memory
       by_fault (inl e) = e
-      by_fault (inr e) = let read = manifest_is_read v a t is in absurd (entries_or_fault read.0 fault (manifest_of v a t) read.1 e)
+      by_fault (inr e) = let read = manifest_is_read v a t is in absurd (never_both read.0 fault (manifest_of v a t) read.1 e)
 
   -- the entries are what the lines list
-  pub says_lists : (r : Result Manifest LineFault) → Gives entries_in r (manifest_of v a t) → IfOk r (λ m. (path : List ℕ) (checksum : Checksum) (line : ℕ) → HasEntry m path checksum line ↔ LineLists v a t line path checksum)
+  pub says_lists : (r : Result Manifest LineFault) → Gives named_line_fault entries_in r (manifest_of v a t) → IfOk r (λ m. (path : List ℕ) (checksum : Checksum) (line : ℕ) → HasEntry m path checksum line ↔ LineLists v a t line path checksum)
   says_lists (Ok m) g = λ path checksum line.
       let both = entries_iff v a t (entries_in m) path checksum line g in
       (λ h. both.0 (entry_has_read m path checksum line h), λ l. read_has_entry m path checksum line (both.1 l))
   says_lists (Err fault) g = tt
 
   -- the paths ascend
-  pub says_ascending : (r : Result Manifest LineFault) → Gives entries_in r (manifest_of v a t) → IfOk r (λ m. AscendingPaths (paths_of m))
+  pub says_ascending : (r : Result Manifest LineFault) → Gives named_line_fault entries_in r (manifest_of v a t) → IfOk r (λ m. AscendingPaths (paths_of m))
   says_ascending (Ok m) g = subst AscendingPaths (paths_same m.entries.entries) (entries_ascend v a t (entries_in m) g)
   says_ascending (Err fault) g = tt
 
   -- a path is borrowed where nothing is decoded
-  pub says_borrowed : (r : Result Manifest LineFault) → Gives entries_in r (manifest_of v a t) → IfOk r (λ m. (path : CowStr Global) (listing : Listing) (line : List ℕ) → Contains m.entries.entries (path, listing) → LineIs t listing.line line → IsBorrowedStr path ↔ (has_coded v (path_text line) ≡ false))
+  pub says_borrowed : (r : Result Manifest LineFault) → Gives named_line_fault entries_in r (manifest_of v a t) → IfOk r (λ m. (path : CowStr Global) (listing : Listing) (line : List ℕ) → Contains m.entries.entries (path, listing) → LineIs t listing.line line → IsBorrowedStr path ↔ (has_coded v (path_text line) ≡ false))
   says_borrowed (Ok m) g = λ path listing line has at.
       borrowed_iff path (has_coded v (path_text line)) (entry_is_decoded v a t (entries_in m) (cow_str_bytes path) (listed (path, listing)).1 line g (contains_listed m path listing has) at)
   says_borrowed (Err fault) g = tt
 
   -- a refusal is the first fault, memory aside
-  pub says_refused : (r : Result Manifest LineFault) → Gives entries_in r (manifest_of v a t) → IfErr r (λ fault. (fault ≡ Memory) ⊎ ManifestFault v a t fault)
+  pub says_refused : (r : Result Manifest LineFault) → Gives named_line_fault entries_in r (manifest_of v a t) → IfErr r (λ fault. (fault ≡ Memory) ⊎ ManifestFault v a t fault)
   says_refused (Ok m) g = tt
   says_refused (Err fault) g = by_fault (fails fault (manifest_of v a t) g)
     where
@@ -370,13 +364,13 @@ module _ (v : Version) (a : Algorithm) (t : List ℕ) where
       by_fault (inr e) = inr (refused_is_fault v a t fault e)
 
   -- the first fault is the answer, memory aside
-  pub says_fault : (r : Result Manifest LineFault) → Gives entries_in r (manifest_of v a t) → (fault : LineFault) → ManifestFault v a t fault → (r ≡ Err fault) ⊎ (r ≡ Err Memory)
-  says_fault (Ok m) g fault is = absurd (entries_or_fault (entries_in m) fault (manifest_of v a t) g (fault_is_refused v a t fault is))
+  pub says_fault : (r : Result Manifest LineFault) → Gives named_line_fault entries_in r (manifest_of v a t) → (fault : LineFault) → ManifestFault v a t fault → (r ≡ Err fault) ⊎ (r ≡ Err Memory)
+  says_fault (Ok m) g fault is = absurd (never_both (entries_in m) fault (manifest_of v a t) g (fault_is_refused v a t fault is))
   says_fault (Err other) g fault is = by_fault (fails other (manifest_of v a t) g)
     where
       by_fault : (other ≡ Memory) ⊎ (manifest_of v a t ≡ Err other) → (◌≡◌ {A = Result Manifest LineFault} (Err other) (Err fault)) ⊎ (◌≡◌ {A = Result Manifest LineFault} (Err other) (Err Memory))
       by_fault (inl e) = inr (ap (λ (f : LineFault). Err f) e)
-      by_fault (inr e) = inl (ap (λ (f : LineFault). Err f) (fault_same other fault (manifest_of v a t) e (fault_is_refused v a t fault is)))
+      by_fault (inr e) = inl (ap (λ (f : LineFault). Err f) (same_err other fault (manifest_of v a t) e (fault_is_refused v a t fault is)))
 
 -- ---- looking a path up in a manifest
 

@@ -26,7 +26,9 @@ use Rattle.bag_text.specs.Paths.{path_fault}
 use Rattle.bag_text.specs.Paths.{is_good}
 use Rattle.bag_text.specs.Text.{is_blank}
 use Rattle.bag_text.specs.Manifest.{coded, coded_front, has_coded, Spells, nothing, triple, itself, decode}
-use Rattle.bag_text.specs.ManifestReading.{next_char, Entries, listed, is_listed, entry_of, add_line_of, entries_of, FailsAs}
+use Rattle.bag_text.specs.Answers.{FailsAs}
+use Rattle.bag_text.proofs.ResultLemmas.{fails_on}
+use Rattle.bag_text.specs.ManifestReading.{next_char, Entries, listed, is_listed, entry_of, add_line_of, entries_of, named_line_fault}
 
 pub sum_fits : (line : List ℕ) → position_or_len is_blank line ≤ length line
 sum_fits line = prefix_len-le-length (λ b. not (is_blank b)) line
@@ -158,21 +160,12 @@ next_line v a number before now t line rest total is e so_far =
     sym one ∙ so_far
 
 pub line_fails : (v : Version) (a : Algorithm) (number : ℕ) (before : Entries) (t line rest : List ℕ) (fault : LineFault) (total : Result Entries LineFault)
-    → lines t ≡ line ∷ lines rest → FailsAs fault (add_line_of v a number before line) → entries_of v a number before (lines t) ≡ total → FailsAs fault total
+    → lines t ≡ line ∷ lines rest → FailsAs (named_line_fault fault) (add_line_of v a number before line) → entries_of v a number before (lines t) ≡ total → FailsAs (named_line_fault fault) total
 unfolding entries_of
-line_fails v a number before t line rest fault total is e so_far = by_fault fault e
+line_fails v a number before t line rest fault total is e so_far = fails_on (named_line_fault fault) _ total one e
   where
     one : (f : LineFault) → add_line_of v a number before line ≡ Err f → total ≡ Err f
     one f e = let two : entries_of v a number before (lines t) ≡ Err f = rw (is, e) refl in sym so_far ∙ two
-
-    by_fault : (f : LineFault) → FailsAs f (add_line_of v a number before line) → FailsAs f total
-    by_fault Memory e = tt
-    by_fault NotUtf8 e = one NotUtf8 e
-    by_fault ByteOrderMark e = one ByteOrderMark e
-    by_fault (BadChecksum n) e = one (BadChecksum n) e
-    by_fault (NoPath n) e = one (NoPath n) e
-    by_fault (BadPath n) e = one (BadPath n) e
-    by_fault (ListedTwice n) e = one (ListedTwice n) e
 
 pub added : (v : Version) (a : Algorithm) (number : ℕ) (es : List (CowStr Global × Listing)) (line : List ℕ) (path : CowStr Global) (listing : Listing) (old : Option Listing) (now : List (CowStr Global × Listing))
     → list_all is_blank line ≡ false → entry_of v a number line ≡ Ok (listed (path, listing)) → old ≡ lookup (is_at (compare path)) es → is_some old ≡ false → now ≡ insert_entry compare es path listing

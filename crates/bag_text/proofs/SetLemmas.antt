@@ -5,7 +5,8 @@ use Rattle.std.specs.Prelude.{Option, Some, None}
 use Rattle.bag_text.specs.declared.header.Flaw.TheVariants.{Short}
 use Rattle.bag_text.specs.declared.set_fault.SetFault.{SetFault}
 use Rattle.bag_text.specs.declared.set_fault.SetFault.TheVariants.{BadOpening, BadEntry, Truncated, OutOfOrder, BadPath, TooManyFiles, TrailingBytes, PathClash, Memory}
-use Rattle.bag_text.specs.TransferReading.{◌>>=◌, literal_at, files_at, entry_at, FailsAs}
+use Rattle.bag_text.specs.Answers.{◌>>=◌, FailsAs}
+use Rattle.bag_text.specs.TransferReading.{literal_at, files_at, entry_at, named_set_fault}
 use Rattle.bag_text.specs.TransferForm.{File}
 
 literal_nil : (w : List ℕ) → 0 < length w → literal_at w [] ≡ Err Short
@@ -61,12 +62,12 @@ is_done front whole offset left before text o total at e none so_far =
 
 pub ends : (front : List File) (whole offset left : ℕ) (before text : List ℕ) (fault : SetFault) (total : Result (List File) SetFault)
     → offset ≡ whole - length text → entry_at offset left before text ≡ Err fault
-    → fronted front (files_at whole left before text) ≡ total → FailsAs fault total
+    → fronted front (files_at whole left before text) ≡ total → FailsAs (named_set_fault fault) total
 ends front whole offset left before text fault total at e so_far =
     let found : entry_at (whole - length text) left before text ≡ Err fault = rw (← at) e in
     is_that fault (sym so_far ∙ ap (fronted front) (at_fault whole left before text fault found))
   where
-    is_that : (f : SetFault) → total ≡ Err f → FailsAs f total
+    is_that : (f : SetFault) → total ≡ Err f → FailsAs (named_set_fault f) total
     is_that Memory h = tt
     is_that BadOpening h = h
     is_that (BadEntry n) h = h

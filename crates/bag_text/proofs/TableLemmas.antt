@@ -9,7 +9,8 @@ use Rattle.bag_text.specs.declared.header.Flaw.{Flaw}
 use Rattle.bag_text.specs.declared.header.Flaw.TheVariants.{Short, Bad}
 use Rattle.bag_text.specs.declared.set_fault.SetFault.{SetFault}
 use Rattle.bag_text.specs.declared.set_fault.SetFault.TheVariants.{BadOpening, BadEntry, Truncated, OutOfOrder, BadPath, TooManyFiles, TrailingBytes, PathClash, Memory}
-use Rattle.bag_text.specs.TransferReading.{◌>>=◌, Head, Place, End, Entry, literal_at, place_at, file_at, placed, entry_of, entry_at, files_at, opened, set_of, Gives}
+use Rattle.bag_text.specs.Answers.{◌>>=◌, Gives}
+use Rattle.bag_text.specs.TransferReading.{Head, Place, End, Entry, literal_at, place_at, file_at, placed, entry_of, entry_at, files_at, opened, set_of, named_set_fault}
 use Rattle.bag_text.specs.TransferForm.{File, header, entry, opening, ending, max_files, Ascends, clashes, Fits}
 use Rattle.bag_text.specs.Paths.{is_good, comes_before}
 use Rattle.bag_text.specs.TransferFaults.{HasSizes, EntryFault, PlaceFault, last_path, GoOn, FaultIs}
@@ -212,7 +213,7 @@ set_fault t f e = by_opening (literal_at opening t) refl e
                 let r = files_ok (length t) max_files [] rest files is2 in
                 subst (λ (f : SetFault). FaultIs t f) (wrong_is {A = List File} PathClash f e) (files, record { text = literal_ok opening t rest is ∙ ap (λ (x : List ℕ). opening ++ x) r.text ∙ sym (append_assoc opening (flat_map entry files) ending); few = r.few; each = r.each; ascending = r.up }, is3)
 
-pub is_fault : {X : Type 0} (t : List ℕ) (view : X → List File) (r : Result X SetFault) → Gives view r (set_of t) → IfErr r (λ f. f ≢ Memory → FaultIs t f)
+pub is_fault : {X : Type 0} (t : List ℕ) (view : X → List File) (r : Result X SetFault) → Gives named_set_fault view r (set_of t) → IfErr r (λ f. f ≢ Memory → FaultIs t f)
 is_fault t view (Ok x) e = tt
 is_fault t view (Err Memory) e = λ other. absurd (other refl)
 is_fault t view (Err BadOpening) e = λ other. set_fault t BadOpening e

@@ -1,6 +1,7 @@
 -- What reading a declaration gives, step by step.
 use Rattle.std.specs.Prelude.{ℕ, not, List, [], ◌∷◌, length, Result, Ok, Err, ok_or, ◌==◌, bytes_eq, codes, if◌then◌else◌}
 use Rattle.std.specs.Str.{is_utf8}
+use Rattle.bag_text.specs.Answers.{◌>>=◌}
 use Rattle.bag_text.specs.Text.{has_mark}
 use Rattle.bag_text.specs.Lines.{lines}
 use Rattle.bag_text.specs.Declaration.{after_label, version_label, encoding_label, is_version, is_utf8_name}
@@ -8,11 +9,6 @@ use Rattle.bag_text.specs.declared.declaration.Version.{Version}
 use Rattle.bag_text.specs.declared.declaration.Version.TheVariants.{V1_0, V0_97}
 use Rattle.bag_text.specs.declared.declaration.DeclFault.{DeclFault}
 use Rattle.bag_text.specs.declared.declaration.DeclFault.TheVariants.{NotUtf8, ByteOrderMark, NotTwoLines, BadVersionLine, UnsupportedVersion, BadEncodingLine, UnsupportedEncoding}
-
-infixl 10 ◌>>=◌
-abbrev pub ◌>>=◌ : {A B : Type 0} → Result A DeclFault → (A → Result B DeclFault) → Result B DeclFault
-(Ok x) >>= f = f x
-(Err e) >>= f = Err e
 
 abbrev pub version_of : List ℕ → Result Version DeclFault
 version_of line = do

@@ -6,6 +6,7 @@ use Rattle.std.specs.Cow.{cow_str_bytes}
 use Rattle.std.specs.declared.borrow.CowStr.{CowStr}
 use Rattle.std.specs.Global.{Global}
 use denote.Ref.{Bor}
+use Rattle.bag_text.specs.Answers.{◌>>=◌}
 use Rattle.bag_text.specs.Text.{is_blank, has_mark, skip_blanks, drop_last_blanks}
 use Rattle.bag_text.specs.Lines.{lines}
 use Rattle.bag_text.specs.BagInfo.{Pair, is_colon, begins_blank}
@@ -13,11 +14,6 @@ use Rattle.bag_text.specs.declared.bag_info.InfoFault.{InfoFault}
 use Rattle.bag_text.specs.declared.bag_info.InfoFault.TheVariants.{NotUtf8, ByteOrderMark, NoColon, EmptyLabel, StrayContinuation, Memory}
 use Rattle.bag_text.specs.declared.bag_info.BagInfo.{BagInfo}
 use Rattle.bag_text.specs.ManifestReading.{is_owned}
-
-infixl 10 ◌>>=◌
-abbrev pub ◌>>=◌ : {A B : Type 0} → Result A InfoFault → (A → Result B InfoFault) → Result B InfoFault
-(Ok x) >>= f = f x
-(Err e) >>= f = Err e
 
 abbrev pub label_of : List ℕ → List ℕ
 label_of line = drop_last_blanks (take (position_or_len is_colon line) line)
@@ -62,13 +58,10 @@ info_of text =
 
 -- ---- what a call answers, memory aside
 
-abbrev pub FailsAs : {Y : Type 0} → InfoFault → Result Y InfoFault → Type 0
-FailsAs Memory read = Unit {0}
-FailsAs fault read = read ≡ Err fault
-
-abbrev pub Gives : {X Y : Type 0} → (X → Y) → Result X InfoFault → Result Y InfoFault → Type 0
-Gives view (Ok x) read = read ≡ Ok (view x)
-Gives view (Err e) read = FailsAs e read
+-- the fault that an error names, none for want of memory
+abbrev pub named_info_fault : InfoFault → Option InfoFault
+named_info_fault Memory = None
+named_info_fault fault = Some fault
 
 -- a pair as the code has it: a slice of the text, and a value
 abbrev pub Kept : Type 0

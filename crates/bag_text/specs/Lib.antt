@@ -1,3 +1,4 @@
+pub mod Answers
 pub mod Text
 pub mod Lines
 pub mod LineReading

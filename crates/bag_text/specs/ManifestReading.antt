@@ -19,6 +19,7 @@ use Rattle.bag_text.specs.declared.listing.Listing.{Listing}
 use Rattle.bag_text.specs.declared.listing.Manifest.{Manifest}
 use Rattle.bag_text.specs.declared.listing.LineFault.{LineFault}
 use Rattle.bag_text.specs.declared.listing.LineFault.TheVariants.{NotUtf8, ByteOrderMark, BadChecksum, NoPath, BadPath, ListedTwice, Memory}
+use Rattle.bag_text.specs.Answers.{◌>>=◌}
 use Rattle.bag_text.specs.Text.{is_blank, has_mark, begins_with}
 use Rattle.bag_text.specs.Lines.{lines}
 use Rattle.bag_text.specs.Paths.{is_good}
@@ -42,11 +43,6 @@ path_of v spelled = if begins_with 42 spelled then None else good_of (has_coded 
 -- the checksum that hex digits spell
 abbrev pub checksum_in : Algorithm → List ℕ → Option Checksum
 checksum_in a digits = option_map (checksum_of a) (result_ok (decode_sized digits (size_of a)))
-
-infixl 10 ◌>>=◌
-abbrev pub ◌>>=◌ : {A B : Type 0} → Result A LineFault → (A → Result B LineFault) → Result B LineFault
-(Ok x) >>= f = f x
-(Err e) >>= f = Err e
 
 abbrev pub or_fault : {A : Type 0} → Option A → LineFault → Result A LineFault
 or_fault (Some x) fault = Ok x
@@ -92,13 +88,10 @@ manifest_of v a text =
 
 -- ---- what a call answers, memory aside
 
-abbrev pub FailsAs : {Y : Type 0} → LineFault → Result Y LineFault → Type 0
-FailsAs Memory read = Unit {0}
-FailsAs fault read = read ≡ Err fault
-
-abbrev pub Gives : {X Y : Type 0} → (X → Y) → Result X LineFault → Result Y LineFault → Type 0
-Gives view (Ok x) read = read ≡ Ok (view x)
-Gives view (Err e) read = FailsAs e read
+-- the fault that an error names, none for want of memory
+abbrev pub named_line_fault : LineFault → Option LineFault
+named_line_fault Memory = None
+named_line_fault fault = Some fault
 
 -- whether a path is owned
 abbrev pub is_owned : CowStr Global → Bool

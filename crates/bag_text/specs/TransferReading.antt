@@ -3,6 +3,7 @@ use Rattle.std.specs.Prelude.{◌≡◌, ℕ, zero, suc, ◌+◌, ◌-◌, ◌*�
 use Rattle.std.specs.Char.{is_ascii_digit}
 use Rattle.std.specs.List.Sorted.{IsPartitionPoint}
 use denote.Ref.{Bor}
+use Rattle.bag_text.specs.Answers.{◌>>=◌}
 use Rattle.bag_text.specs.Paths.{max_path, is_good, comes_before}
 use Rattle.bag_text.specs.TransferForm.{File, opening, ending, max_content, max_files, clashes}
 use Rattle.bag_text.specs.declared.header.Header.{Header}
@@ -12,11 +13,6 @@ use Rattle.bag_text.specs.declared.header.Flaw.{Flaw}
 use Rattle.bag_text.specs.declared.header.Flaw.TheVariants.{Short, Bad}
 use Rattle.bag_text.specs.declared.set_fault.SetFault.{SetFault}
 use Rattle.bag_text.specs.declared.set_fault.SetFault.TheVariants.{BadOpening, BadEntry, Truncated, OutOfOrder, BadPath, TooManyFiles, TrailingBytes, PathClash, Memory}
-
-infixl 10 ◌>>=◌
-abbrev pub ◌>>=◌ : {A B E : Type 0} → Result A E → (A → Result B E) → Result B E
-(Ok x) >>= f = f x
-(Err e) >>= f = Err e
 
 unfoldable pub literal_at : List ℕ → List ℕ → Result (List ℕ) Flaw
 literal_at [] text = Ok text
@@ -114,17 +110,10 @@ set_of text = do
 
 -- ---- what a call answers, memory aside
 
-abbrev pub FailsAs : {Y : Type 0} → SetFault → Result Y SetFault → Type 0
-FailsAs Memory read = Unit {0}
-FailsAs fault read = read ≡ Err fault
-
-abbrev pub Gives : {X Y : Type 0} → (X → Y) → Result X SetFault → Result Y SetFault → Type 0
-Gives view (Ok x) read = read ≡ Ok (view x)
-Gives view (Err e) read = FailsAs e read
-
--- a call answers this, unless memory ran out
-abbrev pub Answers : {Y : Type 0} → Result Y SetFault → Result Y SetFault → Type 0
-Answers result wanted = Gives (λ found. found) result wanted
+-- the fault that an error names, none for want of memory
+abbrev pub named_set_fault : SetFault → Option SetFault
+named_set_fault Memory = None
+named_set_fault fault = Some fault
 
 abbrev pub file_of : Bor (List ℕ) × Bor (List ℕ) → File
 file_of pair = record { path = pair.0.now; content = pair.1.now }

@@ -7,9 +7,10 @@ ghost use Rattle.std.specs.Cow.{cow_str_bytes, IsBorrowedStr};
 ghost use Rattle.std.specs.Global.{Global};
 ghost use Rattle.std.specs.declared.borrow.CowStr.{CowStr};
 ghost use denote.Ref.{Bor};
+ghost use Rattle.bag_text.specs.Answers.{Gives};
 ghost use Rattle.bag_text.specs.Lines.{is_end, lines};
 ghost use Rattle.bag_text.specs.BagInfo.{Pair, is_colon, begins_blank, SaysInfo, InfoFaultIs};
-ghost use Rattle.bag_text.specs.InfoReading.{colon_cut, pair_of, extend_last, add_info_line, pairs_from, info_of, Gives, pairs_of, pairs_in, has_line_feed, AreMarked};
+ghost use Rattle.bag_text.specs.InfoReading.{colon_cut, pair_of, extend_last, add_info_line, pairs_from, info_of, named_info_fault, pairs_of, pairs_in, has_line_feed, AreMarked};
 ghost use Rattle.bag_text.specs.ManifestReading.{is_owned};
 ghost use Rattle.bag_text.specs.declared.bag_info.InfoFault.{InfoFault};
 ghost use Rattle.bag_text.specs.declared.bag_info.InfoFault.TheVariants.{StrayContinuation, Memory};
@@ -88,7 +89,7 @@ fn continue_last<'a>(
     line: &str,
     pairs: &mut Vec<(&'a str, CowStr<'a, Global>)>,
 ) -> Result<(), InfoFault>
-    ensures value { Gives (λ x. pairs_of pairs.new.items) result (if length (pairs_of pairs.old.items) == 0
+    ensures value { Gives named_info_fault (λ x. pairs_of pairs.new.items) result (if length (pairs_of pairs.old.items) == 0
         then Err (StrayContinuation number) else Ok (extend_last (pairs_of pairs.old.items) line.now)) }
     ensures marked { AreMarked pairs.old.items → IfOk result (λ x. AreMarked pairs.new.items) }
 {
@@ -119,7 +120,7 @@ fn add_line<'a>(
     pairs: &mut Vec<(&'a str, CowStr<'a, Global>)>,
 ) -> Result<(), InfoFault>
     requires { utf8.is_utf8 line.now ≡ true }
-    ensures value { Gives (λ x. pairs_of pairs.new.items) result (add_info_line number (pairs_of pairs.old.items) line.now) }
+    ensures value { Gives named_info_fault (λ x. pairs_of pairs.new.items) result (add_info_line number (pairs_of pairs.old.items) line.now) }
     ensures marked { list_any is_end line.now ≡ false → AreMarked pairs.old.items → IfOk result (λ x. AreMarked pairs.new.items) }
 {
     let rest = without_first_blanks(line);
@@ -140,7 +141,7 @@ fn read_pairs<'a>(
     text: &'a [u8],
 ) -> Result<Vec<(&'a str, CowStr<'a, Global>)>, InfoFault>
     requires { utf8.is_utf8 text.now ≡ true }
-    ensures value { Gives (λ pairs. pairs_of pairs.items) result (pairs_from 1 [] (lines text.now)) }
+    ensures value { Gives named_info_fault (λ pairs. pairs_of pairs.items) result (pairs_from 1 [] (lines text.now)) }
     ensures marked { IfOk result (λ pairs. AreMarked pairs.items) }
 {
     let mut pairs: Vec<(&'a str, CowStr<'a, Global>)> = Vec::new(alloc);
@@ -158,7 +159,7 @@ fn read_pairs<'a>(
 /// What the lines of a text say, or its first fault.
 #[tactic(auto, unfolding(crate::specs::InfoReading::info_of))]
 fn read_lines<'a>(alloc: Global, text: &'a [u8]) -> Result<BagInfo<'a>, InfoFault>
-    ensures value { Gives pairs_in result (info_of text.now) }
+    ensures value { Gives named_info_fault pairs_in result (info_of text.now) }
     ensures marked { IfOk result (λ info. AreMarked info.pairs.items) }
 {
     if !is_text(text) {
@@ -193,7 +194,7 @@ pub fn read_bag_info<'a>(alloc: Global, text: &'a [u8]) -> Result<BagInfo<'a>, I
         (result ≡ Err fault) ⊎ (result ≡ Err Memory) }
 
     // The same by computing.
-    ensures exact { Gives pairs_in result (info_of text.now) }
+    ensures exact { Gives named_info_fault pairs_in result (info_of text.now) }
 {
     read_lines(alloc, text)
 }

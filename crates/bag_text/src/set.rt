@@ -1,9 +1,10 @@
 //! Bags that were read.
 
 ghost use Rattle.std.specs.Prelude.{◌≡◌, ◌≢◌, ◌↔◌, ℕ, List, Some, Ok, Err, IfOk, IfErr, IsNone, Contains, option_copied};
+ghost use Rattle.bag_text.specs.Answers.{Answers};
 ghost use Rattle.bag_text.specs.TransferForm.{File, IsBag, set_text, content_at};
 ghost use Rattle.bag_text.specs.TransferFaults.{FaultIs};
-ghost use Rattle.bag_text.specs.TransferReading.{set_of, files_of, Answers};
+ghost use Rattle.bag_text.specs.TransferReading.{set_of, files_of, named_set_fault};
 ghost use Rattle.bag_text.specs.BagList.{ListFault, list_fault};
 ghost use Rattle.bag_text.specs.ListReading.{Makes};
 ghost use Rattle.bag_text.specs.declared.set_fault.SetFault.{SetFault};
@@ -36,7 +37,7 @@ impl<'a> BagSet<'a> {
         // What is made is the list itself, and it is a bag.
         ensures made { IfOk result (λ set. (set ≡ files_of files.now) × IsBag set) }
         // A list that is a bag is made, unless memory runs out.
-        ensures only { IsBag (files_of files.now) → Answers result (Ok (files_of files.now)) }
+        ensures only { IsBag (files_of files.now) → Answers named_set_fault result (Ok (files_of files.now)) }
         // A list that is refused has the fault that is named, its first one.
         ensures fault { IfErr result (λ fault. fault ≢ Memory → ListFault (files_of files.now) fault) }
         // A list that has a fault is refused with it.
@@ -70,19 +71,19 @@ pub fn read_bagset<'a>(alloc: Global, text: &'a [u8]) -> Result<BagSet<'a>, SetF
     // What is read is the transfer form of a bag.
     ensures found { IfOk result (λ set. IsBag set × (text.now ≡ set_text set)) }
     // A bag's transfer form is read, unless memory runs out.
-    ensures only { (files : List File) → IsBag files → text.now ≡ set_text files → Answers result (Ok files) }
+    ensures only { (files : List File) → IsBag files → text.now ≡ set_text files → Answers named_set_fault result (Ok files) }
     // A text that is refused has the fault that is named.
     ensures fault { IfErr result (λ fault. fault ≢ Memory → FaultIs text.now fault) }
     // A text that has a fault is refused with it, unless memory runs out.
-    ensures refused { (fault : SetFault) → FaultIs text.now fault → Answers result (Err fault) }
+    ensures refused { (fault : SetFault) → FaultIs text.now fault → Answers named_set_fault result (Err fault) }
     // What reading the text byte by byte gives.
-    ensures exact { Answers result (set_of text.now) }
+    ensures exact { Answers named_set_fault result (set_of text.now) }
 {
     read_whole(alloc, text)
 }
 
 fn read_whole<'a>(alloc: Global, text: &'a [u8]) -> Result<BagSet<'a>, SetFault>
-    ensures { Answers result (set_of text.now) }
+    ensures { Answers named_set_fault result (set_of text.now) }
 {
     let files = read_set(alloc, text)?;
     Ok(BagSet { files })

@@ -1,8 +1,9 @@
 //! Reading the transfer form of a bag.
 
 ghost use Rattle.std.specs.Prelude.{◌≡◌, ◌<◌, ◌≤◌, ◌^◌, List, [], length, map, ℕ, Option, option_map, codes, None, Some, Ok, Err, IfOk, IfSome, MatchResult};
+ghost use Rattle.bag_text.specs.Answers.{Gives};
 ghost use Rattle.bag_text.specs.TransferForm.{File, opening, ending, max_content, max_files};
-ghost use Rattle.bag_text.specs.TransferReading.{literal_at, digits_at, number_at, header_at, place_at, file_at, files_at, set_of, Gives, file_of, files_of, Head, head_of, place_of, opened, flaw_at, placed, entry_at};
+ghost use Rattle.bag_text.specs.TransferReading.{literal_at, digits_at, number_at, header_at, place_at, file_at, files_at, set_of, named_set_fault, file_of, files_of, Head, head_of, place_of, opened, flaw_at, placed, entry_at};
 
 use crate::clash::do_clash;
 use crate::header::{EntryPlace, Flaw, Header};
@@ -205,7 +206,7 @@ fn read_files<'a>(
     whole: usize,
     body: &'a [u8],
 ) -> Result<Vec<(&'a str, &'a [u8])>, SetFault>
-    ensures { Gives (λ v. files_of v.items) result (files_at whole max_files [] body.now) }
+    ensures { Gives named_set_fault (λ v. files_of v.items) result (files_at whole max_files [] body.now) }
 {
     let mut files: Vec<(&'a str, &'a [u8])> = Vec::new(alloc);
     let mut before: &'a [u8] = &[];
@@ -228,7 +229,7 @@ fn read_files<'a>(
 /// The files of the bag whose transfer form the text is, or the first fault of the text.
 #[tactic(auto, unfolding(crate::specs::TransferReading::set_of))]
 pub fn read_set<'a>(alloc: Global, text: &'a [u8]) -> Result<Vec<(&'a str, &'a [u8])>, SetFault>
-    ensures { Gives (λ v. files_of v.items) result (set_of text.now) }
+    ensures { Gives named_set_fault (λ v. files_of v.items) result (set_of text.now) }
 {
     let body = read_opening(text)?;
     let files = read_files(alloc, text.len(), body)?;

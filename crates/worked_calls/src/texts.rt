@@ -1,8 +1,9 @@
 //! The calls of `bag_text`: texts that are read and written, and the faults at each limit.
 
 use bag_text::{
-    Algorithm, BagPath, BagSet, Checksum, InfoFault, Listing, MAX_CONTENT, MAX_FILES, MAX_PATH, PathFault, SetFault, Version,
-    read_bag_info, read_bagset, read_declaration, read_manifest, write_bagset,
+    Algorithm, BagPath, BagSet, Checksum, InfoFault, Listing, MAX_CONTENT, MAX_FILES, MAX_PATH,
+    PathFault, SetFault, Version, read_bag_info, read_bagset, read_declaration, read_manifest,
+    write_bagset,
 };
 use std::alloc::Global;
 use std::borrow::CowStr;
