@@ -12,7 +12,6 @@ use Rattle.sqlite.specs.Cast.{cast, cast_row}
 use Rattle.sqlite.specs.Effect.{Database}
 use Rattle.sqlite.specs.State.{State, Shown, Executes}
 use Rattle.sqlite_schema.specs.declared.schema.Constraint.TheVariants.{Datatype, NotNull, Unique}
-use Rattle.sqlite_schema.specs.Rules.{Fits}
 use Rattle.sqlite_rules.specs.Lists.{Has}
 use Rattle.sqlite_rules.specs.Calls.{ids_of}
 use Rattle.sqlite_rules.proofs.ListLemmas.{all_has, all_from}
@@ -25,29 +24,30 @@ use Rattle.sql_meaning.proofs.Reading.{reads_same, reads_one, finds_part}
 use Rattle.sql_meaning.proofs.TextKeys.{has_text, by_text, each_passes, few_named}
 use Rattle.sql_meaning.proofs.Typed.{text_at, int_in, all_both}
 use Rattle.sql_meaning.proofs.Edits.{appended, updated, decoded, counted, cast_null, cast_int, map_append, none_revised}
+use Rattle.sql_meaning.proofs.Whole.{keeps_rule}
 use Rattle.office_tables.specs.Schema.{office_schema, class_table, needed}
 use Rattle.office_rows.specs.Rows.{Tables, ClassRow, is_class, class_named, with_years, with_new_class, with_class}
 use Rattle.office_tables.specs.Tables.{IsOffice, Becomes, tables_of, class_in}
-use Rattle.office_tables.proofs.Frames.{idle, becomes_classes}
+use Rattle.office_tables.proofs.Frames.{idle, becomes}
 use Rattle.office_tables.proofs.ClassTexts.{years_text, years_columns, asks_years, revise_text, revised_columns, revise_is, revise_plain, add_class_text, class_terms, add_class_is, add_class_plain}
 
 -- a stored class, as the rules of its table leave it
 abbrev pub IsClassRow : Row → Type 0
 IsClassRow r = (column r 1 ≡ Text (bytes_at r 1)) × (column r 2 ≡ Int (int_at r 2))
 
-pub class_rows : (db : Trees) → Fits office_schema db → AllByRecursion IsClassRow (db 4)
-class_rows db fits = all_both (λ r typed present. (
-  text_at office_schema db class_table r typed present 0 (needed (codes "name") kind.Text) refl refl refl refl refl,
-  int_in office_schema db class_table r typed present 1 (needed (codes "years") kind.Integer) refl refl refl refl refl,
-)) (db 4) (fits.rules Datatype (λ e. cc)).1.1.1.0 (fits.rules NotNull (λ e. cc)).1.1.1.0
+pub class_rows : (db : Database) → IsOffice db → AllByRecursion IsClassRow (db.trees 4)
+class_rows db office = all_both (λ r typed present. (
+  text_at office_schema db.trees class_table r typed present 0 (needed (codes "name") kind.Text) refl refl refl refl refl,
+  int_in office_schema db.trees class_table r typed present 1 (needed (codes "years") kind.Integer) refl refl refl refl refl,
+)) (db.trees 4) (keeps_rule office Datatype).1.1.1.0 (keeps_rule office NotNull).1.1.1.0
 
 -- what is known of the table: each name is a text, and at most one class has it
 module _ (db : Database) (office : IsOffice db) (name : List ℕ) where
   named : AllByRecursion (λ r. column r 1 ≡ Text (bytes_at r 1)) (db.trees 4)
-  named = all_from _ (db.trees 4) (λ r there. (all_has IsClassRow (db.trees 4) r (class_rows db.trees office.fits) there).0)
+  named = all_from _ (db.trees 4) (λ r there. (all_has IsClassRow (db.trees 4) r (class_rows db office) there).0)
 
   few : (filter (has_text 1 name) (db.trees 4) ≡ []) ⊎ ((r : Row) × Has (db.trees 4) r × (has_text 1 name r ≡ true) × (filter (has_text 1 name) (db.trees 4) ≡ r ∷ []))
-  few = few_named 1 (db.trees 4) office.shaped.1.1.1.0 named (office.fits.rules Unique (λ e. cc)).1.1.1.0 name
+  few = few_named 1 (db.trees 4) office.shaped.1.1.1.0 named (keeps_rule office Unique).1.1.1.0 name
 
 -- ---- the years of a class
 
@@ -74,7 +74,7 @@ adds_class old new name years count office h =
     let done = inserts add_class_text params old new office_schema office.schema_is 3 class_table refl idle add_class_plain class_terms 3 add_class_is refl refl count h in
     let cast_is : cast_row class_table source ≡ Null ∷ Text name ∷ Int years ∷ [] = rw (cast_null, cast_int years) refl in
     let end = appended db class_table source (Text name ∷ Int years ∷ []) office.shaped.1.1.1.0 cast_is in
-    becomes_classes old new edit count edit.news office.shaped done refl _ (ap (map class_in) end ∙ map_append class_in (db 4) _)
+    becomes old new edit count edit.news office.shaped done _ (ap (λ rows. record (tables_of old.now) { classes = rows }) (ap (map class_in) end ∙ map_append class_in (db 4) _))
 
 -- ---- other years
 
@@ -93,14 +93,14 @@ revises_class old new name years count office h =
     let answer = done.0 in
     let edit = edit_of db class_table (ids_of answer) Given 1 answer in
     let shaped = office.shaped.1.1.1.0 in
-    let typed = class_rows db office.fits in
+    let typed = class_rows old.now office in
     let keep = has_text 1 name in
     let set : Row → Row = λ r. rowid r ∷ Text (bytes_at r 1) ∷ Int years ∷ [] in
     let found = scanned db params 4 (by_text 1) revised_columns [] answer done.1.answer in
     let is = answers_one db params 4 (by_text 1) revised_columns [] answer keep found (each_passes 1 name (Int years ∷ []) (db 4) (named old.now office name)) (few old.now office name) in
     let made = updated db class_table answer keep (shown_of params revised_columns) set shaped (few old.now office name) is
     (λ r there. (refl, cast_set years r (all_has IsClassRow (db 4) r typed there) (all_has _ (db 4) r shaped.1 there), refl)) in (
-      becomes_classes old new edit count edit.news office.shaped done.2 refl _ (ap (map class_in) made ∙ decoded class_in keep set (is_class name) (λ c. record c { years = years }) (λ r. refl) (λ r. refl) (db 4)),
+      becomes old new edit count edit.news office.shaped done.2 _ (ap (λ rows. record (tables_of old.now) { classes = rows }) (ap (map class_in) made ∙ decoded class_in keep set (is_class name) (λ c. record c { years = years }) (λ r. refl) (λ r. refl) (db 4))),
       done.2.counted ∙ counted db class_table answer keep (shown_of params revised_columns) class_in (is_class name) (λ r. refl) (few old.now office name) is,
     )
 

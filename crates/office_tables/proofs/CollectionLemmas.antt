@@ -20,19 +20,20 @@ use Rattle.sql_meaning.proofs.Reading.{reads_same, reads_one, finds_any}
 use Rattle.sql_meaning.proofs.TextKeys.{has_text, by_text, each_passes, few_named}
 use Rattle.sql_meaning.proofs.Typed.{text_at, all_both}
 use Rattle.sql_meaning.proofs.Edits.{appended, cast_null, map_append}
+use Rattle.sql_meaning.proofs.Whole.{keeps_rule}
 use Rattle.office_tables.specs.Schema.{office_schema, collection_table, needed}
 use Rattle.office_rows.specs.Rows.{has_collection, is_collection, with_new_collection}
 use Rattle.office_tables.specs.Tables.{IsOffice, Becomes, tables_of, collection_in}
-use Rattle.office_tables.proofs.Frames.{idle, becomes_collections}
+use Rattle.office_tables.proofs.Frames.{idle, becomes}
 use Rattle.office_tables.proofs.ClassTexts.{find_text, name_column, asks_collection, add_collection_text, collection_terms, add_collection_is, add_collection_plain}
 
 pub collection_rows : (db : Database) → IsOffice db → AllByRecursion (λ r. column r 1 ≡ Text (bytes_at r 1)) (db.trees 6)
 collection_rows db office = all_both (λ r typed present. text_at office_schema db.trees collection_table r typed present 0 (needed (codes "name") kind.Text) refl refl refl refl refl)
-    (db.trees 6) (office.fits.rules Datatype (λ e. cc)).1.1.1.1.0 (office.fits.rules NotNull (λ e. cc)).1.1.1.1.0
+    (db.trees 6) (keeps_rule office Datatype).1.1.1.1.0 (keeps_rule office NotNull).1.1.1.1.0
 
 module _ (db : Database) (office : IsOffice db) (name : List ℕ) where
   few : (filter (has_text 1 name) (db.trees 6) ≡ []) ⊎ ((r : Row) × Has (db.trees 6) r × (has_text 1 name r ≡ true) × (filter (has_text 1 name) (db.trees 6) ≡ r ∷ []))
-  few = few_named 1 (db.trees 6) office.shaped.1.1.1.1.0 (collection_rows db office) (office.fits.rules Unique (λ e. cc)).1.1.1.1.0 name
+  few = few_named 1 (db.trees 6) office.shaped.1.1.1.1.0 (collection_rows db office) (keeps_rule office Unique).1.1.1.1.0 name
 
 some_there : {X : Type 0} (xs : List X) → list_any (λ x. true) xs ≡ not (length xs == 0)
 some_there [] = refl
@@ -62,4 +63,4 @@ adds_collection old new name count office h =
     let done = inserts add_collection_text params old new office_schema office.schema_is 4 collection_table refl idle add_collection_plain collection_terms 2 add_collection_is refl refl count h in
     let cast_is : cast_row collection_table source ≡ Null ∷ Text name ∷ [] = rw cast_null refl in
     let end = appended db collection_table source (Text name ∷ []) office.shaped.1.1.1.1.0 cast_is in
-    becomes_collections old new edit count edit.news office.shaped done refl _ (ap (map collection_in) end ∙ map_append collection_in (db 6) _)
+    becomes old new edit count edit.news office.shaped done _ (ap (λ rows. record (tables_of old.now) { collections = rows }) (ap (map collection_in) end ∙ map_append collection_in (db 6) _))

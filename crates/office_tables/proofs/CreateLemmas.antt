@@ -16,7 +16,7 @@ use Rattle.office_tables.specs.Schema.{office_schema, office_table}
 use Rattle.office_rows.specs.Rows.{OfficeRow, Tables, empty_office}
 use Rattle.office_tables.specs.Opening.{IsMade, IsLeft}
 use Rattle.office_tables.specs.Tables.{Becomes, tables_of, office_in}
-use Rattle.office_tables.proofs.Frames.{idle, becomes_office}
+use Rattle.office_tables.proofs.Frames.{idle, becomes}
 use Rattle.office_tables.proofs.CreateTexts.{start_text, start_terms, start_is, start_plain}
 
 pub starts_office : (old new : State) (deposits holds : ℤ) (count : ℕ) → IsBlank office_schema old.now → Executes start_text (Int deposits ∷ Int holds ∷ []) old new (Ok count)
@@ -32,7 +32,7 @@ starts_office old new deposits holds count blank h =
     let e = blank.empty in
     let alone : edited db edit ≡ (Int (pos 1) ∷ columns) ∷ [] = inserted db office_table source columns (pos 1) cast_is ∙ ap (put_row (Int (pos 1) ∷ columns)) e.0 in
     let row : OfficeRow = record { id = pos 1; version = pos 1; max_deposits = deposits; max_holds = holds } in
-    let made : Becomes new.now (record (tables_of old.now) { office = row ∷ [] }) = becomes_office old new edit count edit.news (blank_shaped office_schema old.now blank) done refl _ (ap (map office_in) alone) in
+    let made : Becomes new.now (record (tables_of old.now) { office = row ∷ [] }) = becomes old new edit count edit.news (blank_shaped office_schema old.now blank) done _ (ap (λ rows. record (tables_of old.now) { office = rows }) (ap (map office_in) alone)) in
     let rest : record (tables_of old.now) { office = row ∷ [] } ≡ empty_office (pos 1) deposits holds =
     rw (e.1.0, e.1.1.0, e.1.1.1.0, e.1.1.1.1.0, e.1.1.1.1.1.0, e.1.1.1.1.1.1.0, e.1.1.1.1.1.1.1.0) refl in
     record { office = made.office; are = made.are ∙ rest }

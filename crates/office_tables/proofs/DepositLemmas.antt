@@ -18,7 +18,6 @@ use Rattle.sqlite_rules.proofs.TableLemmas.{int_is}
 use Rattle.sqlite_value.proofs.OrderLemmas.{value_cmp-Int}
 use Rattle.sqlite_keyed.proofs.ListLemmas.{ascending_weaker, map-map}
 use Rattle.sqlite_schema.specs.declared.schema.Constraint.TheVariants.{Datatype, NotNull, Unique}
-use Rattle.sqlite_schema.specs.Rules.{Fits}
 use Rattle.sql_meaning.specs.Columns.{int_at, bytes_at}
 use Rattle.sql_meaning.proofs.Writing.{inserts, updates}
 use Rattle.sql_meaning.proofs.Scanning.{scan, as_program, shown_of, scanned, answers_one, finds_one}
@@ -27,11 +26,12 @@ use Rattle.sql_meaning.proofs.TextKeys.{has_text, by_text, each_passes, few_name
 use Rattle.sql_meaning.proofs.RowidKeys.{by_number, has_number, each_numbered, few_numbered}
 use Rattle.sql_meaning.proofs.Typed.{text_at, int_in, all_both}
 use Rattle.sql_meaning.proofs.Edits.{kept_all, inserted, put_last, updated, decoded, cast_null, cast_int, map_append}
+use Rattle.sql_meaning.proofs.Whole.{keeps_rule}
 use Rattle.office_tables.specs.Schema.{office_schema, deposit_table, needed}
 use Rattle.office_rows.specs.Rows.{DepositRow, is_deposit, deposit_numbered, has_accession, deposit_by, last_number, DepositsBelow, with_deposit, with_gone}
 use Rattle.office_tables.specs.Tables.{IsOffice, Becomes, tables_of, deposit_in}
 use Rattle.office_tables.specs.Deposits.{shown_deposit}
-use Rattle.office_tables.proofs.Frames.{idle, becomes_deposits}
+use Rattle.office_tables.proofs.Frames.{idle, becomes}
 use Rattle.office_tables.proofs.LastRow.{reads_last}
 use Rattle.office_tables.proofs.DepositTexts.{deposit_text, accession_text, deposits_text, last_text, asks_last, deposit_columns, rising, asks_deposit, asks_accession, asks_deposits, put_text, put_terms, put_is, put_plain, gone_text, gone_columns, gone_is, gone_plain}
 
@@ -40,16 +40,16 @@ abbrev IsDepositRow : Row → Type 0
 IsDepositRow r = (column r 2 ≡ Text (bytes_at r 2)) × (column r 3 ≡ Text (bytes_at r 3)) × (column r 4 ≡ Text (bytes_at r 4))
     × (column r 5 ≡ Int (int_at r 5)) × (column r 6 ≡ Int (int_at r 6)) × (column r 7 ≡ Int (int_at r 7)) × (column r 8 ≡ Int (int_at r 8))
 
-pub deposit_rows : (db : Trees) → Fits office_schema db → AllByRecursion IsDepositRow (db 8)
-deposit_rows db fits = all_both (λ r t p. (
-  text_at office_schema db deposit_table r t p 1 (needed (codes "accession") kind.Text) refl refl refl refl refl,
-  text_at office_schema db deposit_table r t p 2 (needed (codes "collection") kind.Text) refl refl refl refl refl,
-  text_at office_schema db deposit_table r t p 3 (needed (codes "class") kind.Text) refl refl refl refl refl,
-  int_in office_schema db deposit_table r t p 4 (needed (codes "closed") kind.Integer) refl refl refl refl refl,
-  int_in office_schema db deposit_table r t p 5 (needed (codes "deposited") kind.Integer) refl refl refl refl refl,
-  int_in office_schema db deposit_table r t p 6 (needed (codes "files") kind.Integer) refl refl refl refl refl,
-  int_in office_schema db deposit_table r t p 7 (needed (codes "bytes") kind.Integer) refl refl refl refl refl,
-)) (db 8) (fits.rules Datatype (λ e. cc)).1.1.1.1.1.0 (fits.rules NotNull (λ e. cc)).1.1.1.1.1.0
+pub deposit_rows : (db : Database) → IsOffice db → AllByRecursion IsDepositRow (db.trees 8)
+deposit_rows db office = all_both (λ r t p. (
+  text_at office_schema db.trees deposit_table r t p 1 (needed (codes "accession") kind.Text) refl refl refl refl refl,
+  text_at office_schema db.trees deposit_table r t p 2 (needed (codes "collection") kind.Text) refl refl refl refl refl,
+  text_at office_schema db.trees deposit_table r t p 3 (needed (codes "class") kind.Text) refl refl refl refl refl,
+  int_in office_schema db.trees deposit_table r t p 4 (needed (codes "closed") kind.Integer) refl refl refl refl refl,
+  int_in office_schema db.trees deposit_table r t p 5 (needed (codes "deposited") kind.Integer) refl refl refl refl refl,
+  int_in office_schema db.trees deposit_table r t p 6 (needed (codes "files") kind.Integer) refl refl refl refl refl,
+  int_in office_schema db.trees deposit_table r t p 7 (needed (codes "bytes") kind.Integer) refl refl refl refl refl,
+)) (db.trees 8) (keeps_rule office Datatype).1.1.1.1.1.0 (keeps_rule office NotNull).1.1.1.1.1.0
 
 -- ---- one deposit
 
@@ -67,11 +67,11 @@ finds_deposit old new n rows office h =
 
 -- at most one deposit has the accession
 pub accessions : (db : Database) → IsOffice db → AllByRecursion (λ r. column r 2 ≡ Text (bytes_at r 2)) (db.trees 8)
-accessions db office = all_from _ (db.trees 8) (λ r there. (all_has IsDepositRow (db.trees 8) r (deposit_rows db.trees office.fits) there).0)
+accessions db office = all_from _ (db.trees 8) (λ r there. (all_has IsDepositRow (db.trees 8) r (deposit_rows db office) there).0)
 
 pub few_accessions : (db : Database) → IsOffice db → (accession : List ℕ)
     → (filter (has_text 2 accession) (db.trees 8) ≡ []) ⊎ ((r : Row) × Has (db.trees 8) r × (has_text 2 accession r ≡ true) × (filter (has_text 2 accession) (db.trees 8) ≡ r ∷ []))
-few_accessions db office accession = few_named 2 (db.trees 8) office.shaped.1.1.1.1.1.0 (accessions db office) (office.fits.rules Unique (λ e. cc)).1.1.1.1.1.0 accession
+few_accessions db office accession = few_named 2 (db.trees 8) office.shaped.1.1.1.1.1.0 (accessions db office) (keeps_rule office Unique).1.1.1.1.1.0 accession
 
 pub finds_accession : (old new : State) (accession : List ℕ) (rows : List Row) → IsOffice old.now → Shown accession_text (Text accession ∷ []) old new rows
     → (new.now ≡ old.now) × (deposit_by accession (tables_of old.now).deposits ≡ option_map shown_deposit (slice_get rows 0))
@@ -129,7 +129,7 @@ puts_deposit old new d count kept office low h =
     let placed = inserted db deposit_table source (stored_of d) d.number cast_is in
     let end = put_last (Int d.number ∷ stored_of d) (db 8) (lower_rows d.number (db 8) office.shaped.1.1.1.1.1.0.1 low) in
     let is_d : deposit_in (Int d.number ∷ stored_of d) ≡ d = ap (λ g. record d { gone = g }) (sym kept) in
-    becomes_deposits old new edit count edit.news office.shaped done refl _ (ap (map deposit_in) (placed ∙ end) ∙ map_append deposit_in (db 8) _ ∙ ap (λ x. map deposit_in (db 8) ++ x ∷ []) is_d)
+    becomes old new edit count edit.news office.shaped done _ (ap (λ rows. record (tables_of old.now) { deposits = rows }) (ap (map deposit_in) (placed ∙ end) ∙ map_append deposit_in (db 8) _ ∙ ap (λ x. map deposit_in (db 8) ++ x ∷ []) is_d))
 
 -- ---- the day when it was destroyed
 
@@ -151,11 +151,11 @@ marks_gone old new n day count office h =
     let answer = done.0 in
     let edit = edit_of db deposit_table (ids_of answer) Given 1 answer in
     let shaped = office.shaped.1.1.1.1.1.0 in
-    let typed = deposit_rows db office.fits in
+    let typed = deposit_rows old.now office in
     let keep = has_number n in
     let set : Row → Row = set_gone day in
     let found = scanned db params 8 by_number gone_columns [] answer done.1.answer in
     let is = answers_one db params 8 by_number gone_columns [] answer keep found (each_numbered n (Int day ∷ []) (db 8) shaped) (few_numbered n (db 8) shaped) in
     let made = updated db deposit_table answer keep (shown_of params gone_columns) set shaped (few_numbered n (db 8) shaped) is
     (λ r there. (refl, cast_gone n day r (all_has IsDepositRow (db 8) r typed there) (all_has _ (db 8) r shaped.1 there), refl)) in
-    becomes_deposits old new edit count edit.news office.shaped done.2 refl _ (ap (map deposit_in) made ∙ decoded deposit_in keep set (is_deposit n) (λ d. record d { gone = Some day }) (λ r. refl) (λ r. refl) (db 8))
+    becomes old new edit count edit.news office.shaped done.2 _ (ap (λ rows. record (tables_of old.now) { deposits = rows }) (ap (map deposit_in) made ∙ decoded deposit_in keep set (is_deposit n) (λ d. record d { gone = Some day }) (λ r. refl) (λ r. refl) (db 8)))

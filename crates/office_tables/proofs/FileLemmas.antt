@@ -36,7 +36,7 @@ use Rattle.sqlite_rules.proofs.ListLemmas.{all_has, all_from, has_filtered}
 use Rattle.sqlite_rules.proofs.KeyLemmas.{agree_back, agree_chain}
 use Rattle.sqlite_schema.specs.declared.schema.Constraint.TheVariants.{Datatype, NotNull, Unique}
 use Rattle.sqlite_schema.specs.declared.schema.Keys.TheVariants.{Enforced}
-use Rattle.sqlite_schema.specs.Rules.{Fits, agree, equal}
+use Rattle.sqlite_schema.specs.Rules.{agree, equal}
 use Rattle.sql_meaning.specs.Columns.{int_at, bytes_at}
 use Rattle.sql_meaning.proofs.Writing.{inserts, deletes}
 use Rattle.sql_meaning.proofs.Scanning.{scan, as_program, passes, shown_of, scanned, answer_sound, answer_complete}
@@ -45,22 +45,23 @@ use Rattle.sql_meaning.proofs.Inserts.{none_before}
 use Rattle.sql_meaning.proofs.Keys.{found_by, bytes_itself, int_itself, filter_same, same_key, trailing, same_text, same_int, lone}
 use Rattle.sql_meaning.proofs.Typed.{text_at, int_in, all_both}
 use Rattle.sql_meaning.proofs.Edits.{appended, deleted, cast_null, cast_int, map_append}
+use Rattle.sql_meaning.proofs.Whole.{keeps_rule, whole_after}
 use Rattle.office_tables.specs.Schema.{office_schema, file_table, needed}
 use Rattle.office_rows.specs.Rows.{FileRow, is_file_of, is_file_at, file_at, with_file, without_files}
 use Rattle.office_tables.specs.Tables.{IsOffice, Becomes, tables_of, file_in}
 use Rattle.office_tables.specs.Deposits.{shown_file, path_cmp, files_by_path}
-use Rattle.office_tables.proofs.Frames.{idle, becomes_files}
+use Rattle.office_tables.proofs.Frames.{idle, becomes}
 use Rattle.office_tables.proofs.FileTexts.{by_deposit, by_place, by_path, content_text, content_column, asks_content, files_text, file_columns, asks_files, put_text, put_terms, put_is, put_plain, drop_text, rowid_column, drop_is, drop_plain}
 
 -- a stored file, as the rules of its table leave it
 abbrev IsFileRow : Row → Type 0
 IsFileRow r = (column r 1 ≡ Int (int_at r 1)) × (column r 2 ≡ Text (bytes_at r 2))
 
-file_rows : (db : Trees) → Fits office_schema db → AllByRecursion IsFileRow (db 10)
-file_rows db fits = all_both (λ r t p. (
-  int_in office_schema db file_table r t p 0 (needed (codes "deposit") kind.Integer) refl refl refl refl refl,
-  text_at office_schema db file_table r t p 1 (needed (codes "path") kind.Text) refl refl refl refl refl,
-)) (db 10) (fits.rules Datatype (λ e. cc)).1.1.1.1.1.1.0 (fits.rules NotNull (λ e. cc)).1.1.1.1.1.1.0
+file_rows : (db : Database) → IsOffice db → AllByRecursion IsFileRow (db.trees 10)
+file_rows db office = all_both (λ r t p. (
+  int_in office_schema db.trees file_table r t p 0 (needed (codes "deposit") kind.Integer) refl refl refl refl refl,
+  text_at office_schema db.trees file_table r t p 1 (needed (codes "path") kind.Text) refl refl refl refl refl,
+)) (db.trees 10) (keeps_rule office Datatype).1.1.1.1.1.1.0 (keeps_rule office NotNull).1.1.1.1.1.1.0
 
 -- ---- the tests by the deposit, and by the deposit and the path
 
@@ -78,11 +79,11 @@ passes_place n path r it = ap₂ ◌&&◌
     (ap (λ v. is_true (binary (Compare Eq Binary) v (Int n))) it.0 ∙ same_int (int_at r 1) n)
     (trailing _ ∙ ap (λ v. is_true (binary (Compare Eq Binary) v (Text path))) it.1 ∙ same_text (bytes_at r 2) path)
 
-each_of : (db : Trees) → Fits office_schema db → (n : ℤ) → AllByRecursion (λ r. passes (Int n ∷ []) by_deposit r ≡ has_deposit n r) (db 10)
-each_of db fits n = all_from _ (db 10) (λ r there. passes_deposit n r (all_has IsFileRow (db 10) r (file_rows db fits) there))
+each_of : (db : Database) → IsOffice db → (n : ℤ) → AllByRecursion (λ r. passes (Int n ∷ []) by_deposit r ≡ has_deposit n r) (db.trees 10)
+each_of db office n = all_from _ (db.trees 10) (λ r there. passes_deposit n r (all_has IsFileRow (db.trees 10) r (file_rows db office) there))
 
-each_at : (db : Trees) → Fits office_schema db → (n : ℤ) (path : List ℕ) → AllByRecursion (λ r. passes (Int n ∷ Text path ∷ []) by_place r ≡ has_place n path r) (db 10)
-each_at db fits n path = all_from _ (db 10) (λ r there. passes_place n path r (all_has IsFileRow (db 10) r (file_rows db fits) there))
+each_at : (db : Database) → IsOffice db → (n : ℤ) (path : List ℕ) → AllByRecursion (λ r. passes (Int n ∷ Text path ∷ []) by_place r ≡ has_place n path r) (db.trees 10)
+each_at db office n path = all_from _ (db.trees 10) (λ r there. passes_place n path r (all_has IsFileRow (db.trees 10) r (file_rows db office) there))
 
 first_of : (a b : Bool) → a && b ≡ true → a ≡ true
 first_of true b h = refl
@@ -97,10 +98,10 @@ module _ (db : Database) (office : IsOffice db) (n : ℤ) where
   one_file : (path : List ℕ) (x y : Row) → Has (db.trees 10) x → Has (db.trees 10) y → has_place n path x ≡ true → has_place n path y ≡ true → x ≡ y
   unfolding first_key
   one_file path x y hx hy px py =
-      let rows = file_rows db.trees office.fits in
+      let rows = file_rows db office in
       let tx = all_has IsFileRow (db.trees 10) x rows hx in
       let ty = all_has IsFileRow (db.trees 10) y rows hy in
-      let apart = all_has _ (db.trees 10) y (office.fits.rules Unique (λ e. cc)).1.1.1.1.1.1.0 hy in
+      let apart = all_has _ (db.trees 10) y (keeps_rule office Unique).1.1.1.1.1.1.0 hy in
       let key : Row = Int n ∷ Text path ∷ [] in
       let eqx : equal Binary (column x 1) (Int n) ≡ true = ap (λ v. equal Binary v (Int n)) tx.0 ∙ same_int (int_at x 1) n ∙ first_of _ _ px in
       let eqy : equal Binary (column y 1) (Int n) ≡ true = ap (λ v. equal Binary v (Int n)) ty.0 ∙ same_int (int_at y 1) n ∙ first_of _ _ py in
@@ -126,7 +127,7 @@ finds_content old new n path rows office h =
     let params : Row = Int n ∷ Text path ∷ [] in
     let stored = old.now.trees 10 in
     let is = reads_one office_schema content_text 10 by_place content_column [] asks_content params old new office.schema_is rows h (has_place n path)
-    (each_at old.now.trees office.fits n path) (few_files old.now office n path) in (
+    (each_at old.now office n path) (few_files old.now office n path) in (
       reads_same office_schema content_text 10 by_place content_column [] asks_content params old new office.schema_is rows h,
       finds_part stored rows (has_place n path) (shown_of params content_column) file_in (is_file_at n path) (λ r. refl) is (λ (f : FileRow). f.content) (λ row. bytes_at row 0) (λ r. refl),
     )
@@ -143,7 +144,7 @@ puts_file old new n path content count office h =
     let done = inserts put_text params old new office_schema office.schema_is 6 file_table refl idle put_plain put_terms 4 put_is refl refl count h in
     let cast_is : cast_row file_table source ≡ Null ∷ Int n ∷ Text path ∷ Blob content ∷ [] = rw (cast_null, cast_int n) refl in
     let end = appended db file_table source (Int n ∷ Text path ∷ Blob content ∷ []) office.shaped.1.1.1.1.1.1.0 cast_is in
-    becomes_files old new edit count edit.news office.shaped done refl _ (ap (map file_in) end ∙ map_append file_in (db 10) _)
+    becomes old new edit count edit.news office.shaped done _ (ap (λ rows. record (tables_of old.now) { files = rows }) (ap (map file_in) end ∙ map_append file_in (db 10) _))
 
 -- so there was no such file
 pub path_was_new : (old new : State) (n : ℤ) (path content : List ℕ) (count : ℕ) → IsOffice old.now → Executes put_text (Int n ∷ Text path ∷ Blob content ∷ []) old new (Ok count)
@@ -154,7 +155,7 @@ path_was_new old new n path content count office h =
     let source : Row = Null ∷ Int n ∷ Text path ∷ Blob content ∷ [] in
     let edit = edit_of db file_table [] Chosen 0 (source ∷ []) in
     let done = inserts put_text params old new office_schema office.schema_is 6 file_table refl idle put_plain put_terms 4 put_is refl refl count h in
-    let after : IsOffice new.now = (becomes_files old new edit count edit.news office.shaped done refl _ refl).office in
+    let after : IsOffice new.now = whole_after office_schema old new edit count edit.news done office.shaped in
     let cast_is : cast_row file_table source ≡ source = rw (cast_null, cast_int n) refl in
     let places : has_place n path (with_rowid Chosen (db 10) source) ≡ true = ap₂ ◌&&◌ (int_itself n) (bytes_itself path) in
     let placed : has_place n path (with_rowid Chosen (db 10) (cast_row file_table source)) ≡ true = ap (λ r. has_place n path (with_rowid Chosen (db 10) r)) cast_is ∙ places in
@@ -172,11 +173,11 @@ drops_files old new n count office h =
     let answer = done.0 in
     let edit = edit_of db file_table (ids_of answer) Given 0 [] in
     let keep = has_deposit n in
-    let each = each_of db office.fits n in
+    let each = each_of old.now office n in
     let found = scanned db params 10 by_deposit rowid_column [] answer done.1.answer in
     let made = deleted db file_table answer keep (shown_of params rowid_column) office.shaped.1.1.1.1.1.1.0 (λ r. refl)
     (answer_sound db params 10 by_deposit rowid_column [] answer keep found each) (answer_complete db params 10 by_deposit rowid_column [] answer keep found each) in
-    becomes_files old new edit count _ office.shaped done.2 refl _ (ap (map file_in) made ∙ sym (filter-map (λ f. not (is_file_of n f)) file_in (db 10)))
+    becomes old new edit count _ office.shaped done.2 _ (ap (λ rows. record (tables_of old.now) { files = rows }) (ap (map file_in) made ∙ sym (filter-map (λ f. not (is_file_of n f)) file_in (db 10))))
 
 -- ---- the files of a deposit, by path
 
@@ -228,11 +229,11 @@ lists_files old new n rows office h =
     let db = old.now.trees in
     let q = scan 10 by_deposit file_columns by_path in
     let found = reads_scan office_schema files_text 10 by_deposit file_columns by_path asks_files params old new office.schema_is rows h in
-    let typed = file_rows db office.fits in
+    let typed = file_rows old.now office in
     let keep = has_deposit n in
     let kept = filter keep (db 10) in
     let out : Row → Row × Row = λ r. output q (params ∷ r ∷ []) in
-    let passed : filter (passes params by_deposit) (db 10) ≡ kept = filter_same (passes params by_deposit) keep (db 10) (each_of db office.fits n) in
+    let passed : filter (passes params by_deposit) (db 10) ≡ kept = filter_same (passes params by_deposit) keep (db 10) (each_of old.now office n) in
     let same : IsPermutation (map out kept) found.ordered = subst (λ rs. IsPermutation (map out rs) found.ordered) passed found.same in
     let typed_out : AllByRecursion IsByPath (map out kept) = all_map IsByPath out kept (all_from (λ r. IsByPath (out r)) kept (λ r there. (all_has IsFileRow (db 10) r typed (has_filtered keep (db 10) r there).0).1)) in
     let typed_ordered : AllByRecursion IsByPath found.ordered = recursion_from_All IsByPath found.ordered (All-permutation IsByPath (map out kept) found.ordered same (All-from_recursion IsByPath (map out kept) typed_out)) in

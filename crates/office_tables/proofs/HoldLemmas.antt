@@ -20,7 +20,6 @@ use Rattle.sqlite.specs.Kind.TheVariants as kind
 use Rattle.sqlite.specs.Cast.{cast, cast_row}
 use Rattle.sqlite.specs.State.{State, Shown, Executes}
 use Rattle.sqlite_schema.specs.declared.schema.Constraint.TheVariants.{Datatype, NotNull}
-use Rattle.sqlite_schema.specs.Rules.{Fits}
 use Rattle.sqlite_value.proofs.OrderLemmas.{value_cmp-Int, value_cmp-Null, value_cmp-apart}
 use Rattle.sqlite.specs.Collation.TheVariants.{Binary}
 use Rattle.sqlite.specs.Ops.{binary, unary, is_true, truth, from_truth, not3}
@@ -44,11 +43,12 @@ use Rattle.sql_meaning.proofs.Reading.{Asks, reads_same, reads_one, reads_rising
 use Rattle.sql_meaning.proofs.RowidKeys.{by_number, has_number, each_numbered, few_numbered, one_numbered}
 use Rattle.sql_meaning.proofs.Typed.{text_at, int_in, maybe_int_at as some_int_at, maybe_text_at as some_text_at, all_both}
 use Rattle.sql_meaning.proofs.Edits.{inserted, put_last, updated, decoded, cast_null, cast_int, map_append}
+use Rattle.sql_meaning.proofs.Whole.{keeps_rule, whole_after}
 use Rattle.office_tables.specs.Schema.{office_schema, hold_table, needed, optional}
 use Rattle.office_rows.specs.Rows.{HoldRow, HoldsBelow, is_hold, hold_numbered, last_number, with_hold, with_released, is_live, holds_deposit, holds_collection, is_live_on, is_live_within, is_live_over, live_holds}
 use Rattle.office_tables.specs.Tables.{IsOffice, Becomes, tables_of, hold_in}
 use Rattle.office_tables.specs.ShownHolds.{shown_hold}
-use Rattle.office_tables.proofs.Frames.{idle, becomes_holds}
+use Rattle.office_tables.proofs.Frames.{idle, becomes}
 use Rattle.office_tables.proofs.LastRow.{reads_last}
 use Rattle.office_tables.proofs.HoldTexts.{hold_text, hold_columns, asks_hold, last_text, asks_last, put_text, hold_terms, put_is, put_plain, end_text, ended_columns, end_is, end_plain, number_column, rising, on_text, on, asks_on, within_text, within, asks_within}
 
@@ -120,7 +120,7 @@ puts_hold old new hold count office live low h =
     let shaped = office.shaped.1.1.1.1.1.1.1.0 in
     let end = inserted db hold_table source (stored_of hold) hold.number cast_is ∙ put_last (Int hold.number ∷ stored_of hold) (db 12) (lower_rows hold.number (db 12) shaped.1 low) in
     let is_it : hold_in (Int hold.number ∷ stored_of hold) ≡ hold = rw (maybe_back hold.deposit [], text_back hold.collection [], live) refl in
-    becomes_holds old new edit count edit.news office.shaped done refl _ (ap (map hold_in) end ∙ map_append hold_in (db 12) _ ∙ ap (λ x. map hold_in (db 12) ++ x ∷ []) is_it)
+    becomes old new edit count edit.news office.shaped done _ (ap (λ rows. record (tables_of old.now) { holds = rows }) (ap (map hold_in) end ∙ map_append hold_in (db 12) _ ∙ ap (λ x. map hold_in (db 12) ++ x ∷ []) is_it))
 
 -- so there was no hold of its number
 pub hold_was_new : (old new : State) (hold : HoldRow) (count : ℕ) → IsOffice old.now → Executes put_text (params_of hold) old new (Ok count) → hold_numbered hold.number (tables_of old.now).holds ≡ None
@@ -131,7 +131,7 @@ hold_was_new old new hold count office h =
     let source : Row = Int n ∷ stored_of hold in
     let edit = edit_of db hold_table [] Chosen 0 (source ∷ []) in
     let done = inserts put_text params old new office_schema office.schema_is 7 hold_table refl idle put_plain hold_terms 7 put_is refl refl count h in
-    let after : IsOffice new.now = (becomes_holds old new edit count edit.news office.shaped done refl _ refl).office in
+    let after : IsOffice new.now = whole_after office_schema old new edit count edit.news done office.shaped in
     let cast_is : cast_row hold_table source ≡ source = rw (cast_null, cast_int n, cast_maybe hold.deposit, cast_text hold.collection, cast_int hold.placed) refl in
     let placed : has_number n (with_rowid Chosen (db 12) (cast_row hold_table source)) ≡ true = ap (λ r. has_number n (with_rowid Chosen (db 12) r)) cast_is ∙ int_itself n in
     let none = none_before office_schema Enforced db new.now.trees hold_table source done.applies (has_number n) placed (one_numbered (new.now.trees 12) after.shaped.1.1.1.1.1.1.1.0 n) in
@@ -143,14 +143,14 @@ abbrev IsStoredHold : Row → Type 0
 IsStoredHold r = ((column r 2 ≡ Null) ⊎ (column r 2 ≡ Int (int_at r 2))) × ((column r 3 ≡ Null) ⊎ (column r 3 ≡ Text (bytes_at r 3)))
     × (column r 4 ≡ Text (bytes_at r 4)) × (column r 5 ≡ Int (int_at r 5)) × ((column r 6 ≡ Null) ⊎ (column r 6 ≡ Int (int_at r 6)))
 
-pub hold_rows : (db : Trees) → Fits office_schema db → AllByRecursion IsStoredHold (db 12)
-hold_rows db fits = all_both (λ r typed present. (
-  some_int_at office_schema db hold_table r typed present 1 (optional (codes "deposit") kind.Integer) refl refl refl refl,
-  some_text_at office_schema db hold_table r typed present 2 (optional (codes "collection") kind.Text) refl refl refl refl,
-  text_at office_schema db hold_table r typed present 3 (needed (codes "matter") kind.Text) refl refl refl refl refl,
-  int_in office_schema db hold_table r typed present 4 (needed (codes "placed") kind.Integer) refl refl refl refl refl,
-  some_int_at office_schema db hold_table r typed present 5 (optional (codes "released") kind.Integer) refl refl refl refl,
-)) (db 12) (fits.rules Datatype (λ e. cc)).1.1.1.1.1.1.1.0 (fits.rules NotNull (λ e. cc)).1.1.1.1.1.1.1.0
+pub hold_rows : (db : Database) → IsOffice db → AllByRecursion IsStoredHold (db.trees 12)
+hold_rows db office = all_both (λ r typed present. (
+  some_int_at office_schema db.trees hold_table r typed present 1 (optional (codes "deposit") kind.Integer) refl refl refl refl,
+  some_text_at office_schema db.trees hold_table r typed present 2 (optional (codes "collection") kind.Text) refl refl refl refl,
+  text_at office_schema db.trees hold_table r typed present 3 (needed (codes "matter") kind.Text) refl refl refl refl refl,
+  int_in office_schema db.trees hold_table r typed present 4 (needed (codes "placed") kind.Integer) refl refl refl refl refl,
+  some_int_at office_schema db.trees hold_table r typed present 5 (optional (codes "released") kind.Integer) refl refl refl refl,
+)) (db.trees 12) (keeps_rule office Datatype).1.1.1.1.1.1.1.0 (keeps_rule office NotNull).1.1.1.1.1.1.1.0
 
 keeps_int : (v : Value) → (v ≡ Null) ⊎ (v ≡ Int (id_in v)) → cast kind.Integer v ≡ v
 keeps_int v (inl is) = subst (λ w. cast kind.Integer w ≡ w) (sym is) cast_null
@@ -177,14 +177,14 @@ ends_hold old new k day count office h =
     let answer = done.0 in
     let edit = edit_of db hold_table (ids_of answer) Given 1 answer in
     let shaped = office.shaped.1.1.1.1.1.1.1.0 in
-    let typed = hold_rows db office.fits in
+    let typed = hold_rows old.now office in
     let keep = has_number k in
     let few = few_numbered k (db 12) shaped in
     let found = scanned db params 12 by_number ended_columns [] answer done.1.answer in
     let is = answers_one db params 12 by_number ended_columns [] answer keep found (each_numbered k (Int day ∷ []) (db 12) shaped) few in
     let made = updated db hold_table answer keep (shown_of params ended_columns) (ended day) shaped few is
     (λ r there. (refl, cast_ended day r (all_has IsStoredHold (db 12) r typed there) (all_has _ (db 12) r shaped.1 there), refl)) in
-    becomes_holds old new edit count edit.news office.shaped done.2 refl _ (ap (map hold_in) made ∙ decoded hold_in keep (ended day) (is_hold k) (λ h. record h { released = Some day }) (λ r. refl) (λ r. refl) (db 12))
+    becomes old new edit count edit.news office.shaped done.2 _ (ap (λ rows. record (tables_of old.now) { holds = rows }) (ap (map hold_in) made ∙ decoded hold_in keep (ended day) (is_hold k) (λ h. record h { released = Some day }) (λ r. refl) (λ r. refl) (db 12)))
 
 -- ---- the live holds
 
@@ -249,7 +249,7 @@ module _ (old new : State) (text : List ℕ) (test : List Term) (asks : Asks off
       → (new.now ≡ old.now) × (map (λ (h : HoldRow). h.number) (filter p (tables_of old.now).holds) ≡ map (λ row. int_at row 0) rows)
   lists_those p tests =
       let db = old.now.trees in
-      let typed = hold_rows db office.fits in
+      let typed = hold_rows old.now office in
       let keep : Row → Bool = λ r. p (hold_in r) in
       let up = ascending_weaker _ _ (λ a b lower. rw lower refl) (db 12) office.shaped.1.1.1.1.1.1.1.0.0 in
       let each = all_from (λ r. passes params test r ≡ keep r) (db 12) (λ r there. tests r (all_has IsStoredHold (db 12) r typed there)) in

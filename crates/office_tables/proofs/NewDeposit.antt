@@ -9,7 +9,7 @@ use Rattle.sqlite.specs.Cast.{cast_row}
 use Rattle.sqlite.specs.State.{State, Executes}
 use Rattle.sqlite_schema.specs.declared.schema.Keys.TheVariants.{Enforced}
 use Rattle.sqlite_schema.specs.Rules.{agree}
-use Rattle.sqlite_schema.specs.declared.schema.Constraint.TheVariants.{Unique}
+use Rattle.sqlite_schema.specs.declared.schema.Constraint.TheVariants.{Unique, ForeignKey}
 use Rattle.sqlite_value.specs.Keys.{plain, joined}
 use Rattle.sqlite_schema.specs.Names.{same_name}
 use Rattle.sqlite_rules.specs.Lists.{Has}
@@ -21,11 +21,12 @@ use Rattle.sql_meaning.proofs.Inserts.{put, was_put, none_before}
 use Rattle.sql_meaning.proofs.TextKeys.{IsText, has_text, one_named, any_parent}
 use Rattle.sql_meaning.proofs.RowidKeys.{has_number, one_numbered}
 use Rattle.sql_meaning.proofs.Edits.{any_mapped, cast_null, cast_int}
+use Rattle.sql_meaning.proofs.Whole.{keeps_rule}
 use Rattle.office_tables.specs.Schema.{office_schema, deposit_table}
 use Rattle.office_rows.specs.Rows.{DepositRow, is_deposit, deposit_numbered, has_accession, deposit_by, is_class, has_class, is_collection, has_collection}
 use Rattle.office_tables.specs.Tables.{IsOffice, Becomes, tables_of, deposit_in, class_in, collection_in}
 use Rattle.office_tables.specs.Deposits.{IsAdded}
-use Rattle.office_tables.proofs.Frames.{idle, becomes_deposits}
+use Rattle.office_tables.proofs.Frames.{idle, becomes}
 use Rattle.office_tables.proofs.ClassLemmas.{IsClassRow, class_rows}
 use Rattle.office_tables.proofs.CollectionLemmas.{collection_rows}
 use Rattle.office_tables.proofs.DepositLemmas.{params_of, stored_of, accessions, puts_deposit}
@@ -42,7 +43,7 @@ module _ (old new : State) (d : DepositRow) (count : ℕ) (office : IsOffice old
   change = inserts put_text (params_of d) old new office_schema office.schema_is 5 deposit_table refl idle put_plain put_terms 10 put_is refl refl count h
 
   after : Becomes new.now (record (tables_of old.now) { deposits = map deposit_in (edited old.now.trees edit) })
-  after = becomes_deposits old new edit count edit.news office.shaped change refl _ refl
+  after = becomes old new edit count edit.news office.shaped change _ refl
 
   row_is : put office_schema Enforced old.now.trees new.now.trees deposit_table row change.applies ≡ row
   row_is =
@@ -60,7 +61,7 @@ module _ (old new : State) (d : DepositRow) (count : ℕ) (office : IsOffice old
 
   accession_was_new : deposit_by d.accession (tables_of old.now).deposits ≡ None
   accession_was_new =
-      let alike = one_named 2 (new.now.trees 8) after.office.shaped.1.1.1.1.1.0 (accessions new.now after.office) (after.office.fits.rules Unique (λ e. cc)).1.1.1.1.1.0 d.accession in
+      let alike = one_named 2 (new.now.trees 8) after.office.shaped.1.1.1.1.1.0 (accessions new.now after.office) (keeps_rule after.office Unique).1.1.1.1.1.0 d.accession in
       let none = none_passes (has_text 2 d.accession) (bytes_itself d.accession) alike in
       found_by (has_accession d.accession) (has_text 2 d.accession) deposit_in (old.now.trees 8) (all_from _ (old.now.trees 8) (λ r there. refl)) ∙ ap (λ rs. option_map deposit_in (slice_get rs 0)) none
 
@@ -71,7 +72,7 @@ module _ (old new : State) (d : DepositRow) (count : ℕ) (office : IsOffice old
   held : (list_any (λ parent. agree plain (1 ∷ []) parent (3 ∷ []) row) (new.now.trees 6) ≡ true) × (list_any (λ parent. agree plain (1 ∷ []) parent (4 ∷ []) row) (new.now.trees 4) ≡ true)
   unfolding joined same_name
   held =
-      let each = all_has _ (new.now.trees 8) row after.office.refers.1.1.1.1.1.0 was_there in
+      let each = all_has _ (new.now.trees 8) row (keeps_rule after.office ForeignKey).1.1.1.1.1.0 was_there in
       let two = both _ _ each in
       (two.0, (both _ _ two.1).0)
 
@@ -82,7 +83,7 @@ module _ (old new : State) (d : DepositRow) (count : ℕ) (office : IsOffice old
 
   class_was_there : IsTrue (has_class d.class (tables_of old.now))
   class_was_there =
-      let names : AllByRecursion (IsText 1) (new.now.trees 4) = all_from _ (new.now.trees 4) (λ r there. (all_has IsClassRow (new.now.trees 4) r (class_rows new.now.trees after.office.fits) there).0) in
+      let names : AllByRecursion (IsText 1) (new.now.trees 4) = all_from _ (new.now.trees 4) (λ r there. (all_has IsClassRow (new.now.trees 4) r (class_rows new.now after.office) there).0) in
       let named = any_parent 1 4 d.class row (new.now.trees 4) names refl in
       sym (ap (λ t. has_class d.class t) after.are) ∙ any_mapped class_in (has_text 1 d.class) (is_class d.class) (λ r. refl) (new.now.trees 4) ∙ sym named ∙ held.1
 

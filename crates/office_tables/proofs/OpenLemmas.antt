@@ -20,7 +20,6 @@ use Rattle.sqlite.proofs.Callers.{command_of}
 use Rattle.sqlite_tied.specs.Compute.{everything}
 use Rattle.sqlite_trees.specs.View.{is_int}
 use Rattle.sqlite_schema.specs.declared.schema.Constraint.TheVariants.{Datatype, NotNull}
-use Rattle.sqlite_schema.specs.Rules.{Fits}
 use Rattle.sqlite_schema.specs.Names.{same_name}
 use Rattle.sqlite.specs.Schema.{Schema}
 use Rattle.sqlite_rules.specs.Lists.{Has}
@@ -32,6 +31,7 @@ use Rattle.sql_meaning.proofs.RowidKeys.{one_numbered}
 use Rattle.sql_meaning.proofs.Reading.{Asks}
 use Rattle.sql_meaning.proofs.Scanning.{scan, as_program, passes, shown_of, Scans, scanned, answer_sound, answer_complete}
 use Rattle.sql_meaning.proofs.Typed.{both, int_in, all_both}
+use Rattle.sql_meaning.proofs.Whole.{keeps_rule}
 use Rattle.office_tables.specs.Schema.{office_schema, office_table, needed}
 use Rattle.office_rows.specs.Rows.{OfficeRow, is_in_range, is_known, version_of}
 use Rattle.office_tables.specs.Tables.{IsOffice, tables_of, office_in}
@@ -42,12 +42,12 @@ use Rattle.office_tables.specs.Opening.{has_office, look_text, Looks, ShowsVersi
 abbrev IsOfficeRow : Row → Type 0
 IsOfficeRow r = (column r 2 ≡ Int (int_at r 2)) × (column r 3 ≡ Int (int_at r 3)) × (column r 4 ≡ Int (int_at r 4))
 
-office_rows : (db : Trees) → Fits office_schema db → AllByRecursion IsOfficeRow (db 0)
-office_rows db fits = all_both (λ r t p. (
-  int_in office_schema db office_table r t p 1 (needed (codes "version") kind.Integer) refl refl refl refl refl,
-  int_in office_schema db office_table r t p 2 (needed (codes "max_deposits") kind.Integer) refl refl refl refl refl,
-  int_in office_schema db office_table r t p 3 (needed (codes "max_holds") kind.Integer) refl refl refl refl refl,
-)) (db 0) (fits.rules Datatype (λ e. cc)).0 (fits.rules NotNull (λ e. cc)).0
+office_rows : (db : Database) → IsOffice db → AllByRecursion IsOfficeRow (db.trees 0)
+office_rows db office = all_both (λ r t p. (
+  int_in office_schema db.trees office_table r t p 1 (needed (codes "version") kind.Integer) refl refl refl refl refl,
+  int_in office_schema db.trees office_table r t p 2 (needed (codes "max_deposits") kind.Integer) refl refl refl refl refl,
+  int_in office_schema db.trees office_table r t p 3 (needed (codes "max_holds") kind.Integer) refl refl refl refl refl,
+)) (db.trees 0) (keeps_rule office Datatype).0 (keeps_rule office NotNull).0
 
 -- the schema of an office has its table
 at_once : has_office office_schema ≡ true
@@ -103,7 +103,7 @@ module _ (db : Database) (office : IsOffice db) where
   known r = is_known (office_in r)
 
   told : (r : Row) → Has (db.trees 0) r → shows_office (shown_of [] look_columns r) ≡ known r
-  told r there = shows_is r (all_has IsOfficeRow (db.trees 0) r (office_rows db.trees office.fits) there) (all_has _ (db.trees 0) r office.shaped.0.1 there)
+  told r there = shows_is r (all_has IsOfficeRow (db.trees 0) r (office_rows db office) there) (all_has _ (db.trees 0) r office.shaped.0.1 there)
 
   found : find is_known (map office_in (db.trees 0)) ≡ option_map office_in (slice_get (filter known (db.trees 0)) 0)
   found = found_by is_known known office_in (db.trees 0) (all_from _ (db.trees 0) (λ r there. refl))
@@ -126,7 +126,7 @@ module _ (db : Database) (office : IsOffice db) where
       let first = known_there shown.0 shown.1 shown.3 in
       let it = answer_sound db.trees [] 0 [] look_columns by_version shown.0 (λ r. true) scans every shown.1 first.0 in
       let is : known it.0 ≡ true = sym (told it.0 it.1) ∙ ap shows_office (sym it.3) ∙ first.1 in
-      let typed = all_has IsOfficeRow (db.trees 0) it.0 (office_rows db.trees office.fits) it.1 in
+      let typed = all_has IsOfficeRow (db.trees 0) it.0 (office_rows db office) it.1 in
       let one : filter known (db.trees 0) ≡ it.0 ∷ [] = elim (lone known (db.trees 0) (db.trees 0) office.shaped.0.0 (λ r there. there) alike) [
         | inl none ↦ absurd (let within = subst (λ rs. Has rs it.0) none (has_kept known (db.trees 0) it.0 it.1 is) in within)
         | inr single ↦ single.3 ∙ ap (λ r. r ∷ []) (alike single.0 it.0 single.1 it.1 single.2 is)

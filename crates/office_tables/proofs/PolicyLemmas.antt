@@ -29,21 +29,22 @@ use Rattle.sql_meaning.proofs.Keys.{none_pass}
 use Rattle.sql_meaning.proofs.TextKeys.{has_text, by_text, each_passes, few_named}
 use Rattle.sql_meaning.proofs.Typed.{text_at, all_both}
 use Rattle.sql_meaning.proofs.Edits.{appended, inserted, put_last, deleted, kept_all, cast_null, cast_int, map_append}
+use Rattle.sql_meaning.proofs.Whole.{keeps_rule}
 use Rattle.office_tables.specs.Schema.{office_schema, caller_table, rule_table, needed}
 use Rattle.office_rows.specs.Rows.{Tables, CallerRow, RuleRow, is_caller, caller_named, RulesBelow, RulesFollow, PlacesRise, with_caller, with_rule, with_callers, with_rules, without_callers, without_rules, with_policy}
 use Rattle.office_tables.specs.Tables.{IsOffice, Becomes, tables_of, caller_in, rule_in}
 use Rattle.office_tables.specs.ShownPolicy.{shown_rule}
-use Rattle.office_tables.proofs.Frames.{idle, becomes_callers, becomes_rules}
+use Rattle.office_tables.proofs.Frames.{idle, becomes}
 use Rattle.office_tables.proofs.PolicyTexts.{role_text, role_columns, asks_role, rules_text, rule_columns, rising, asks_rules, drop_callers_text, drop_callers_is, drop_callers_plain, drop_rules_text, drop_rules_is, drop_rules_plain, add_caller_text, caller_terms, add_caller_is, add_caller_plain, add_rule_text, rule_terms, add_rule_is, add_rule_plain}
 
 -- what is known of the callers: each name is a text, and at most one caller has it
 module _ (db : Database) (office : IsOffice db) (name : List ℕ) where
   named : AllByRecursion (λ r. column r 1 ≡ Text (bytes_at r 1)) (db.trees 1)
   named = all_both (λ r typed present. text_at office_schema db.trees caller_table r typed present 0 (needed (codes "name") kind.Text) refl refl refl refl refl)
-      (db.trees 1) (office.fits.rules Datatype (λ e. cc)).1.0 (office.fits.rules NotNull (λ e. cc)).1.0
+      (db.trees 1) (keeps_rule office Datatype).1.0 (keeps_rule office NotNull).1.0
 
   few : (filter (has_text 1 name) (db.trees 1) ≡ []) ⊎ ((r : Row) × Has (db.trees 1) r × (has_text 1 name r ≡ true) × (filter (has_text 1 name) (db.trees 1) ≡ r ∷ []))
-  few = few_named 1 (db.trees 1) office.shaped.1.0 named (office.fits.rules Unique (λ e. cc)).1.0 name
+  few = few_named 1 (db.trees 1) office.shaped.1.0 named (keeps_rule office Unique).1.0 name
 
 -- ---- reads
 
@@ -82,7 +83,7 @@ drops_callers old new count office h =
     let found = scanned db [] 1 [] (col 1 0 ∷ []) [] answer done.1.answer in
     let made = deleted db caller_table answer (λ r. true) (shown_of [] (col 1 0 ∷ [])) office.shaped.1.0 (λ r. refl)
     (answer_sound db [] 1 [] (col 1 0 ∷ []) [] answer (λ r. true) found each) (answer_complete db [] 1 [] (col 1 0 ∷ []) [] answer (λ r. true) found each) in
-    becomes_callers old new edit count _ office.shaped done.2 refl [] (ap (map caller_in) (made ∙ none_pass (λ r. false) (db 1) (λ r there. refl)))
+    becomes old new edit count _ office.shaped done.2 _ (ap (λ rows. record (tables_of old.now) { callers = rows }) (ap (map caller_in) (made ∙ none_pass (λ r. false) (db 1) (λ r there. refl))))
 
 pub drops_rules : (old new : State) (count : ℕ) → IsOffice old.now → Executes drop_rules_text [] old new (Ok count) → Becomes new.now (without_rules (tables_of old.now))
 drops_rules old new count office h =
@@ -94,7 +95,7 @@ drops_rules old new count office h =
     let found = scanned db [] 3 [] (col 1 0 ∷ []) [] answer done.1.answer in
     let made = deleted db rule_table answer (λ r. true) (shown_of [] (col 1 0 ∷ [])) office.shaped.1.1.0 (λ r. refl)
     (answer_sound db [] 3 [] (col 1 0 ∷ []) [] answer (λ r. true) found each) (answer_complete db [] 3 [] (col 1 0 ∷ []) [] answer (λ r. true) found each) in
-    becomes_rules old new edit count _ office.shaped done.2 refl [] (ap (map rule_in) (made ∙ none_pass (λ r. false) (db 3) (λ r there. refl)))
+    becomes old new edit count _ office.shaped done.2 _ (ap (λ rows. record (tables_of old.now) { rules = rows }) (ap (map rule_in) (made ∙ none_pass (λ r. false) (db 3) (λ r there. refl))))
 
 -- ---- the new rows
 
@@ -107,7 +108,7 @@ adds_caller old new caller count office h =
     let done = inserts add_caller_text (Text caller.name ∷ Text caller.role ∷ []) old new office_schema office.schema_is 1 caller_table refl idle add_caller_plain caller_terms 3 add_caller_is refl refl count h in
     let cast_is : cast_row caller_table source ≡ Null ∷ Text caller.name ∷ Text caller.role ∷ [] = rw cast_null refl in
     let end = appended db caller_table source (Text caller.name ∷ Text caller.role ∷ []) office.shaped.1.0 cast_is in
-    becomes_callers old new edit count edit.news office.shaped done refl _ (ap (map caller_in) end ∙ map_append caller_in (db 1) _)
+    becomes old new edit count edit.news office.shaped done _ (ap (λ rows. record (tables_of old.now) { callers = rows }) (ap (map caller_in) end ∙ map_append caller_in (db 1) _))
 
 lower_rows : (place : ℤ) (rows : List Row) → AllByRecursion (λ r. IsTrue (is_int (rowid r))) rows → RulesBelow place (map rule_in rows) → AllByRecursion (λ r. value_cmp (rowid r) (Int place) ≡ Less) rows
 lower_rows place [] whole low = tt
@@ -129,7 +130,7 @@ adds_rule old new rule count office low h =
     let done = inserts add_rule_text params old new office_schema office.schema_is 2 rule_table refl idle add_rule_plain rule_terms 7 add_rule_is refl refl count h in
     let cast_is : cast_row rule_table source ≡ Int rule.place ∷ stored_of rule = rw (cast_null, cast_int rule.place, cast_int rule.effect) refl in
     let end = inserted db rule_table source (stored_of rule) rule.place cast_is ∙ put_last (Int rule.place ∷ stored_of rule) (db 3) (lower_rows rule.place (db 3) office.shaped.1.1.0.1 low) in
-    becomes_rules old new edit count edit.news office.shaped done refl _ (ap (map rule_in) end ∙ map_append rule_in (db 3) _)
+    becomes old new edit count edit.news office.shaped done _ (ap (λ rows. record (tables_of old.now) { rules = rows }) (ap (map rule_in) end ∙ map_append rule_in (db 3) _))
 
 -- ---- all the new rows
 

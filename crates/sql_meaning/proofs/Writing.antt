@@ -14,21 +14,18 @@ use Rattle.sqlite.specs.Rows.{Written, Task, Then, Inserts, Updates, Deletes, Ed
 use Rattle.sqlite.specs.Effect.{Database, IsDatabase, Answers, value_rows}
 use Rattle.sqlite.specs.State.{State, mode_of, Executes}
 use Rattle.sqlite.specs.Listing.{understood}
-use Rattle.sqlite_schema.specs.Rules.{Refers}
-use Rattle.sqlite_schema.specs.declared.schema.Among.TheVariants.{All}
 use Rattle.sqlite_schema.specs.declared.schema.Keys.TheVariants.{Enforced}
 use Rattle.sqlite_schema.specs.declared.program.Program.{Program}
 use Rattle.sqlite_rules.specs.Action.{works}
 use Rattle.sqlite_rules.specs.Calls.{ids_of}
 use Rattle.sqlite.proofs.Callers.{IsPlain, command_of, runs_as, one_step}
 
--- the edit was applied, every reference holds, the trees list the schema, and nothing else changed
+-- the edit was applied, the trees list the schema and keep its rules, and nothing else changed
 pub record Changes (schema : Schema) (old new : State) (edit : Edit) (count : ℕ) (written : List Row) : Type 0 where
   pub counted : count ≡ length written
   pub applies : Applies schema Enforced old.now.trees edit new.now.trees
   pub schema_is : new.now.schema ≡ schema
   pub listed : IsDatabase new.now
-  pub refers : Refers All schema new.now.trees
 
 pub same_value : {B E : Type 0} {a b : B} → ◌≡◌ {A = Result B E} (Ok a) (Ok b) → a ≡ b
 same_value e = cc
@@ -46,11 +43,11 @@ IsIdle schema = (tree : ℕ) (olds news : List Row) → works schema Enforced 0 
 
 module _ (old new : State) (schema : Schema) (table : Table) (params : Row) (tally : Tally) where
   concluded : (w : Written) → Concludes (task_on old schema table params) (mode_of old) None w (Ok (tally, new.now))
-      → (new.now ≡ record { schema = schema; trees = w.trees }) × Refers All schema w.trees × (tally.rows ≡ Some (length w.rows))
+      → (new.now ≡ record { schema = schema; trees = w.trees }) × (tally.rows ≡ Some (length w.rows))
   concluded w h =
       let tested = went h in
       let rows = went tested.2 in
-      (ap (λ (p : Tally × Database). p.1) (same_value rows.2), tested.1.0, ap (λ (p : Tally × Database). p.0.rows) (same_value rows.2))
+      (ap (λ (p : Tally × Database). p.1) (same_value rows.2), ap (λ (p : Tally × Database). p.0.rows) (same_value rows.2))
 
 counts_none : (task : Task) (counter : Option Row) (top : ℤ) (mid next : Trees) → task.table.is_counted ≡ false → Counts task mid counter top (Ok next) → next ≡ mid
 counts_none task counter top mid next uncounted h = same_value (rw uncounted at h)
@@ -93,11 +90,10 @@ finished : (old new : State) (schema : Schema) (table : Table) (params : Row) (t
     → Concludes (task_on old schema table params) (mode_of old) None w (Ok (tally, new.now)) → Changes schema old new edit count rows
 finished old new schema table params tally edit w count rows applies shown counted listed h =
     let done = concluded old new schema table params tally w h in record {
-      counted = counted ∙ ap (λ o. unwrap_or o 0) done.2 ∙ ap length shown;
+      counted = counted ∙ ap (λ o. unwrap_or o 0) done.1 ∙ ap length shown;
       applies = subst (λ (d : Database). Applies schema Enforced old.now.trees edit d.trees) (sym done.0) applies;
       schema_is = ap (λ (d : Database). d.schema) done.0;
       listed = listed;
-      refers = subst (λ (d : Database). Refers All schema d.trees) (sym done.0) done.1;
     }
 
 module _ (text : List ℕ) (params : Row) (old new : State) (schema : Schema) (has : old.now.schema ≡ schema) (at : ℕ) (table : Table)

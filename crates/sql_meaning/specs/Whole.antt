@@ -6,20 +6,16 @@ use Rattle.sqlite.specs.Schema.{Schema}
 use Rattle.sqlite.specs.Effect.{Database, IsDatabase}
 use Rattle.sqlite.specs.View.{IsShaped}
 use Rattle.sqlite_trees.specs.declared.store.Shape.TheVariants as shape
-use Rattle.sqlite_schema.specs.Rules.{Fits, Refers}
-use Rattle.sqlite_schema.specs.declared.schema.Among.TheVariants.{All}
 
 -- the rows of each table ascend by their rowids
 abbrev pub AreShaped : Schema → Trees → Type 0
 AreShaped schema db = AllByRecursion (λ t. IsShaped shape.Table (db t.tree)) schema.tables
 
--- the database has this schema, which its trees list, rows in the order of their rowids, and keeps each rule of the schema
+-- the database has this schema, which its trees list and whose rules they keep, and rows in the order of their rowids
 pub record IsWhole (schema : Schema) (db : Database) : Type 0 where
   pub schema_is : db.schema ≡ schema
   pub listed : IsDatabase db
   pub shaped : AreShaped schema db.trees
-  pub fits : Fits schema db.trees
-  pub refers : Refers All schema db.trees
 
 -- the database has this schema, and no row
 pub record IsBlank (schema : Schema) (db : Database) : Type 0 where
