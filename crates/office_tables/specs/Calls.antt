@@ -1,26 +1,43 @@
--- What a call inside a transaction says of the rows. `old` is the state before it and `new` the state after it. The disk is honest,
--- and the database was an office's: both are premises. What is said is said of Ok.
+-- What a call inside a transaction does to its connection, and what it says of the rows. `old` is the connection before it and `new`
+-- the connection after it. What is said of rows is said of Ok, where the disk is honest and the database was an office's: both are
+-- premises.
 use Rattle.std.specs.Prelude.{Result, IfOk, OnOk, ◌≡◌}
-use Rattle.sqlite.specs.State.{State, HasCleanDisk}
+use Rattle.sqlite.specs.Store.{Ghosts}
+use Rattle.sqlite.specs.State.{HasCleanDisk}
+use Rattle.sqlite.specs.Held.{Held, state}
+use Rattle.sql_meaning.specs.Inside.{Stays, GoesOn, Stands}
 use Rattle.office_rows.specs.Rows.{Tables}
 use Rattle.office_tables.specs.Tables.{IsOffice, Becomes, tables_of}
 
+-- ---- the connection
+
+-- on each exit: nothing is committed, and a crash leaves what it could leave before
+abbrev pub CommitsNothing : {S : Type 0} → Ghosts S → Held S → Held S → Type 0
+CommitsNothing g old new = Stays (state g old) (state g new)
+
+-- on Ok the transaction goes on
+abbrev pub Continues : {S T E : Type 0} → Ghosts S → Held S → Held S → Result T E → Type 0
+Continues g old new result = HasCleanDisk (state g new) → OnOk result (GoesOn (state g old) (state g new))
+
+-- the same of calls in turn, of which there may be none
+abbrev pub ContinuesInTurn : {S T E : Type 0} → Ghosts S → Held S → Held S → Result T E → Type 0
+ContinuesInTurn g old new result = HasCleanDisk (state g new) → OnOk result (Stands (state g old) (state g new))
+
+-- ---- the rows
+
 -- no row has changed
-abbrev pub Keeps : {T E : Type 0} → State → State → Result T E → Type 0
-Keeps old new result = HasCleanDisk new → IsOffice old.now → OnOk result (new.now ≡ old.now)
+abbrev pub Keeps : {S T E : Type 0} → Ghosts S → Held S → Held S → Result T E → Type 0
+Keeps g old new result = HasCleanDisk (state g new) → IsOffice (state g old).now → OnOk result ((state g new).now ≡ (state g old).now)
 
 -- this is so of the rows before and of what is answered
-abbrev pub Tells : {T E : Type 0} → State → State → Result T E → (Tables → T → Type 0) → Type 0
-Tells old new result is_so = HasCleanDisk new → IsOffice old.now → IfOk result (is_so (tables_of old.now))
+abbrev pub Tells : {S T E : Type 0} → Ghosts S → Held S → Held S → Result T E → (Tables → T → Type 0) → Type 0
+Tells g old new result is_so = HasCleanDisk (state g new) → IsOffice (state g old).now → IfOk result (is_so (tables_of (state g old).now))
 
 -- no row has changed, and this is so of the rows and of what is answered
-abbrev pub Shows : {T E : Type 0} → State → State → Result T E → (Tables → T → Type 0) → Type 0
-Shows old new result is_so = HasCleanDisk new → IsOffice old.now → IfOk result (λ shown. (new.now ≡ old.now) × is_so (tables_of old.now) shown)
+abbrev pub Shows : {S T E : Type 0} → Ghosts S → Held S → Held S → Result T E → (Tables → T → Type 0) → Type 0
+Shows g old new result is_so =
+    HasCleanDisk (state g new) → IsOffice (state g old).now → IfOk result (λ shown. ((state g new).now ≡ (state g old).now) × is_so (tables_of (state g old).now) shown)
 
 -- an office again, whose rows are what this makes of the rows before
-abbrev pub Leaves : {T E : Type 0} → State → State → Result T E → (Tables → Tables) → Type 0
-Leaves old new result next = HasCleanDisk new → IsOffice old.now → OnOk result (Becomes new.now (next (tables_of old.now)))
-
--- where this was so of the rows before: the rows are what that makes of them
-abbrev pub LeavesWhere : {T E : Type 0} → State → State → Result T E → (Tables → Type 0) → (Tables → Tables) → Type 0
-LeavesWhere old new result was_so next = HasCleanDisk new → IsOffice old.now → was_so (tables_of old.now) → OnOk result (Becomes new.now (next (tables_of old.now)))
+abbrev pub Leaves : {S T E : Type 0} → Ghosts S → Held S → Held S → Result T E → (Tables → Tables) → Type 0
+Leaves g old new result next = HasCleanDisk (state g new) → IsOffice (state g old).now → OnOk result (Becomes (state g new).now (next (tables_of (state g old).now)))

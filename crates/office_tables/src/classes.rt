@@ -1,13 +1,10 @@
 //! Classes and collections.
 
-ghost use Rattle.std.specs.Prelude.{◌≡◌, IfErr, OnOk, option_map, slice_get, if◌then◌else◌};
-ghost use Rattle.sqlite.specs.State.{HasCleanDisk};
-ghost use Rattle.sqlite.specs.Held.{state};
-ghost use Rattle.sql_meaning.specs.Inside.{Stays, GoesOn};
+ghost use Rattle.std.specs.Prelude.{◌≡◌, IfErr, option_map, slice_get, if◌then◌else◌};
 ghost use Rattle.sql_meaning.specs.Columns.{int_at};
 ghost use Rattle.office_tables.specs.Faults.{IsFailure};
 ghost use Rattle.office_rows.specs.Rows.{class_named, has_class, with_class, with_new_class, with_years, has_collection, with_collection, with_new_collection};
-ghost use Rattle.office_tables.specs.Calls.{Keeps, Tells, Shows, Leaves};
+ghost use Rattle.office_tables.specs.Calls.{CommitsNothing, Continues, Keeps, Tells, Shows, Leaves};
 
 use crate::fault::TableFault;
 use crate::run::{ask, change, number_in};
@@ -16,10 +13,10 @@ use sqlite::{Alter, Row, Transaction, params};
 /// The row that shows the years of the class of that name, if there is one.
 fn rows_of_class<S: Alter>(tx: &mut Transaction<'_, S>, name: &str) -> Result<Vec<Row>, TableFault>
     ensures same_reference { tx.new.conn.ghost_name ≡ tx.old.conn.ghost_name }
-    ensures stays { Stays (state S.Store tx.old.conn.now) (state S.Store tx.new.conn.now) }
-    ensures goes_on { HasCleanDisk (state S.Store tx.new.conn.now) → OnOk result (GoesOn (state S.Store tx.old.conn.now) (state S.Store tx.new.conn.now)) }
+    ensures stays { CommitsNothing S.Store tx.old.conn.now tx.new.conn.now }
+    ensures goes_on { Continues S.Store tx.old.conn.now tx.new.conn.now result }
     ensures failure { IfErr result IsFailure }
-    ensures found { Shows (state S.Store tx.old.conn.now) (state S.Store tx.new.conn.now) result (λ tables rows.
+    ensures found { Shows S.Store tx.old.conn.now tx.new.conn.now result (λ tables rows.
         option_map (λ c. c.years) (class_named name.now tables.classes) ≡ option_map (λ row. int_at row 0) (slice_get rows.items 0)) }
 {
     ask(tx, "SELECT years FROM class WHERE name = ?1", params![name])
@@ -33,11 +30,11 @@ pub fn class_of<S: Alter>(
     name: &str,
 ) -> Result<Option<i64>, TableFault>
     ensures same_reference { tx.new.conn.ghost_name ≡ tx.old.conn.ghost_name }
-    ensures stays { Stays (state S.Store tx.old.conn.now) (state S.Store tx.new.conn.now) }
-    ensures goes_on { HasCleanDisk (state S.Store tx.new.conn.now) → OnOk result (GoesOn (state S.Store tx.old.conn.now) (state S.Store tx.new.conn.now)) }
+    ensures stays { CommitsNothing S.Store tx.old.conn.now tx.new.conn.now }
+    ensures goes_on { Continues S.Store tx.old.conn.now tx.new.conn.now result }
     ensures failure { IfErr result IsFailure }
-    ensures same { Keeps (state S.Store tx.old.conn.now) (state S.Store tx.new.conn.now) result }
-    ensures found { Tells (state S.Store tx.old.conn.now) (state S.Store tx.new.conn.now) result (λ tables found.
+    ensures same { Keeps S.Store tx.old.conn.now tx.new.conn.now result }
+    ensures found { Tells S.Store tx.old.conn.now tx.new.conn.now result (λ tables found.
         found ≡ option_map (λ c. c.years) (class_named name.now tables.classes)) }
 {
     let rows = rows_of_class(tx, name)?;
@@ -54,11 +51,11 @@ fn revise_class<S: Alter>(
     years: i64,
 ) -> Result<usize, TableFault>
     ensures same_reference { tx.new.conn.ghost_name ≡ tx.old.conn.ghost_name }
-    ensures stays { Stays (state S.Store tx.old.conn.now) (state S.Store tx.new.conn.now) }
-    ensures goes_on { HasCleanDisk (state S.Store tx.new.conn.now) → OnOk result (GoesOn (state S.Store tx.old.conn.now) (state S.Store tx.new.conn.now)) }
+    ensures stays { CommitsNothing S.Store tx.old.conn.now tx.new.conn.now }
+    ensures goes_on { Continues S.Store tx.old.conn.now tx.new.conn.now result }
     ensures failure { IfErr result IsFailure }
-    ensures becomes { Leaves (state S.Store tx.old.conn.now) (state S.Store tx.new.conn.now) result (with_years name.now years) }
-    ensures counted { Tells (state S.Store tx.old.conn.now) (state S.Store tx.new.conn.now) result (λ tables count. count ≡ (if has_class name.now tables then 1 else 0)) }
+    ensures becomes { Leaves S.Store tx.old.conn.now tx.new.conn.now result (with_years name.now years) }
+    ensures counted { Tells S.Store tx.old.conn.now tx.new.conn.now result (λ tables count. count ≡ (if has_class name.now tables then 1 else 0)) }
 {
     change(
         tx,
@@ -74,10 +71,10 @@ fn add_class<S: Alter>(
     years: i64,
 ) -> Result<usize, TableFault>
     ensures same_reference { tx.new.conn.ghost_name ≡ tx.old.conn.ghost_name }
-    ensures stays { Stays (state S.Store tx.old.conn.now) (state S.Store tx.new.conn.now) }
-    ensures goes_on { HasCleanDisk (state S.Store tx.new.conn.now) → OnOk result (GoesOn (state S.Store tx.old.conn.now) (state S.Store tx.new.conn.now)) }
+    ensures stays { CommitsNothing S.Store tx.old.conn.now tx.new.conn.now }
+    ensures goes_on { Continues S.Store tx.old.conn.now tx.new.conn.now result }
     ensures failure { IfErr result IsFailure }
-    ensures becomes { Leaves (state S.Store tx.old.conn.now) (state S.Store tx.new.conn.now) result (with_new_class name.now years) }
+    ensures becomes { Leaves S.Store tx.old.conn.now tx.new.conn.now result (with_new_class name.now years) }
 {
     change(
         tx,
@@ -95,10 +92,10 @@ pub fn put_class<S: Alter>(
     years: i64,
 ) -> Result<(), TableFault>
     ensures same_reference { tx.new.conn.ghost_name ≡ tx.old.conn.ghost_name }
-    ensures stays { Stays (state S.Store tx.old.conn.now) (state S.Store tx.new.conn.now) }
-    ensures goes_on { HasCleanDisk (state S.Store tx.new.conn.now) → OnOk result (GoesOn (state S.Store tx.old.conn.now) (state S.Store tx.new.conn.now)) }
+    ensures stays { CommitsNothing S.Store tx.old.conn.now tx.new.conn.now }
+    ensures goes_on { Continues S.Store tx.old.conn.now tx.new.conn.now result }
     ensures failure { IfErr result IsFailure }
-    ensures becomes { Leaves (state S.Store tx.old.conn.now) (state S.Store tx.new.conn.now) result (with_class name.now years) }
+    ensures becomes { Leaves S.Store tx.old.conn.now tx.new.conn.now result (with_class name.now years) }
 {
     if revise_class(tx, name, years)? == 0 {
         add_class(tx, name, years)?;
@@ -111,11 +108,11 @@ pub fn put_class<S: Alter>(
 /// Fails with `Memory` or `Store`.
 pub fn has_collection<S: Alter>(tx: &mut Transaction<'_, S>, name: &str) -> Result<bool, TableFault>
     ensures same_reference { tx.new.conn.ghost_name ≡ tx.old.conn.ghost_name }
-    ensures stays { Stays (state S.Store tx.old.conn.now) (state S.Store tx.new.conn.now) }
-    ensures goes_on { HasCleanDisk (state S.Store tx.new.conn.now) → OnOk result (GoesOn (state S.Store tx.old.conn.now) (state S.Store tx.new.conn.now)) }
+    ensures stays { CommitsNothing S.Store tx.old.conn.now tx.new.conn.now }
+    ensures goes_on { Continues S.Store tx.old.conn.now tx.new.conn.now result }
     ensures failure { IfErr result IsFailure }
-    ensures same { Keeps (state S.Store tx.old.conn.now) (state S.Store tx.new.conn.now) result }
-    ensures found { Tells (state S.Store tx.old.conn.now) (state S.Store tx.new.conn.now) result (λ tables found.
+    ensures same { Keeps S.Store tx.old.conn.now tx.new.conn.now result }
+    ensures found { Tells S.Store tx.old.conn.now tx.new.conn.now result (λ tables found.
         found ≡ has_collection name.now tables) }
 {
     let rows = ask(
@@ -129,10 +126,10 @@ pub fn has_collection<S: Alter>(tx: &mut Transaction<'_, S>, name: &str) -> Resu
 /// Adds a collection at the end.
 fn add_collection<S: Alter>(tx: &mut Transaction<'_, S>, name: &str) -> Result<usize, TableFault>
     ensures same_reference { tx.new.conn.ghost_name ≡ tx.old.conn.ghost_name }
-    ensures stays { Stays (state S.Store tx.old.conn.now) (state S.Store tx.new.conn.now) }
-    ensures goes_on { HasCleanDisk (state S.Store tx.new.conn.now) → OnOk result (GoesOn (state S.Store tx.old.conn.now) (state S.Store tx.new.conn.now)) }
+    ensures stays { CommitsNothing S.Store tx.old.conn.now tx.new.conn.now }
+    ensures goes_on { Continues S.Store tx.old.conn.now tx.new.conn.now result }
     ensures failure { IfErr result IsFailure }
-    ensures becomes { Leaves (state S.Store tx.old.conn.now) (state S.Store tx.new.conn.now) result (with_new_collection name.now) }
+    ensures becomes { Leaves S.Store tx.old.conn.now tx.new.conn.now result (with_new_collection name.now) }
 {
     change(
         tx,
@@ -146,10 +143,10 @@ fn add_collection<S: Alter>(tx: &mut Transaction<'_, S>, name: &str) -> Result<u
 /// Fails with `Memory` or `Store`.
 pub fn put_collection<S: Alter>(tx: &mut Transaction<'_, S>, name: &str) -> Result<(), TableFault>
     ensures same_reference { tx.new.conn.ghost_name ≡ tx.old.conn.ghost_name }
-    ensures stays { Stays (state S.Store tx.old.conn.now) (state S.Store tx.new.conn.now) }
-    ensures goes_on { HasCleanDisk (state S.Store tx.new.conn.now) → OnOk result (GoesOn (state S.Store tx.old.conn.now) (state S.Store tx.new.conn.now)) }
+    ensures stays { CommitsNothing S.Store tx.old.conn.now tx.new.conn.now }
+    ensures goes_on { Continues S.Store tx.old.conn.now tx.new.conn.now result }
     ensures failure { IfErr result IsFailure }
-    ensures becomes { Leaves (state S.Store tx.old.conn.now) (state S.Store tx.new.conn.now) result (with_collection name.now) }
+    ensures becomes { Leaves S.Store tx.old.conn.now tx.new.conn.now result (with_collection name.now) }
 {
     if !has_collection(tx, name)? {
         add_collection(tx, name)?;

@@ -3,12 +3,11 @@
 ghost use Rattle.std.specs.Prelude.{◌≡◌, IfOk, IsTrue, IfErr, OnOk, None, pos, option_map, slice_get, map};
 ghost use Rattle.sqlite.specs.State.{HasCleanDisk};
 ghost use Rattle.sqlite.specs.Held.{state};
-ghost use Rattle.sql_meaning.specs.Inside.{Stays, GoesOn};
 ghost use Rattle.sql_meaning.specs.Columns.{int_at};
 ghost use Rattle.office_tables.specs.Faults.{IsFailure};
 ghost use Rattle.office_rows.specs.Rows.{deposit_numbered, deposit_by, has_class, has_collection, last_number, DepositsBelow, with_deposit, with_gone};
 ghost use Rattle.office_tables.specs.Tables.{IsOffice};
-ghost use Rattle.office_tables.specs.Calls.{Keeps, Tells, Shows, Leaves, LeavesWhere};
+ghost use Rattle.office_tables.specs.Calls.{CommitsNothing, Continues, Keeps, Tells, Shows, Leaves, LeavesWhere};
 ghost use Rattle.office_tables.specs.Deposits.{shown_deposit, IsAdded};
 
 use crate::fault::TableFault;
@@ -108,10 +107,10 @@ fn rows_of_deposit<S: Alter>(
     number: u32,
 ) -> Result<Vec<Row>, TableFault>
     ensures same_reference { tx.new.conn.ghost_name ≡ tx.old.conn.ghost_name }
-    ensures stays { Stays (state S.Store tx.old.conn.now) (state S.Store tx.new.conn.now) }
-    ensures goes_on { HasCleanDisk (state S.Store tx.new.conn.now) → OnOk result (GoesOn (state S.Store tx.old.conn.now) (state S.Store tx.new.conn.now)) }
+    ensures stays { CommitsNothing S.Store tx.old.conn.now tx.new.conn.now }
+    ensures goes_on { Continues S.Store tx.old.conn.now tx.new.conn.now result }
     ensures failure { IfErr result IsFailure }
-    ensures found { Shows (state S.Store tx.old.conn.now) (state S.Store tx.new.conn.now) result (λ tables rows.
+    ensures found { Shows S.Store tx.old.conn.now tx.new.conn.now result (λ tables rows.
         deposit_numbered (pos number) tables.deposits ≡ option_map shown_deposit (slice_get rows.items 0)) }
 {
     ask(
@@ -129,11 +128,11 @@ pub fn deposit_row<S: Alter>(
     number: u32,
 ) -> Result<Option<DepositRow>, TableFault>
     ensures same_reference { tx.new.conn.ghost_name ≡ tx.old.conn.ghost_name }
-    ensures stays { Stays (state S.Store tx.old.conn.now) (state S.Store tx.new.conn.now) }
-    ensures goes_on { HasCleanDisk (state S.Store tx.new.conn.now) → OnOk result (GoesOn (state S.Store tx.old.conn.now) (state S.Store tx.new.conn.now)) }
+    ensures stays { CommitsNothing S.Store tx.old.conn.now tx.new.conn.now }
+    ensures goes_on { Continues S.Store tx.old.conn.now tx.new.conn.now result }
     ensures failure { IfErr result IsFailure }
-    ensures same { Keeps (state S.Store tx.old.conn.now) (state S.Store tx.new.conn.now) result }
-    ensures found { Tells (state S.Store tx.old.conn.now) (state S.Store tx.new.conn.now) result (λ tables found.
+    ensures same { Keeps S.Store tx.old.conn.now tx.new.conn.now result }
+    ensures found { Tells S.Store tx.old.conn.now tx.new.conn.now result (λ tables found.
         found ≡ deposit_numbered (pos number) tables.deposits) }
 {
     let rows = rows_of_deposit(tx, number)?;
@@ -146,10 +145,10 @@ fn rows_of_accession<S: Alter>(
     accession: &str,
 ) -> Result<Vec<Row>, TableFault>
     ensures same_reference { tx.new.conn.ghost_name ≡ tx.old.conn.ghost_name }
-    ensures stays { Stays (state S.Store tx.old.conn.now) (state S.Store tx.new.conn.now) }
-    ensures goes_on { HasCleanDisk (state S.Store tx.new.conn.now) → OnOk result (GoesOn (state S.Store tx.old.conn.now) (state S.Store tx.new.conn.now)) }
+    ensures stays { CommitsNothing S.Store tx.old.conn.now tx.new.conn.now }
+    ensures goes_on { Continues S.Store tx.old.conn.now tx.new.conn.now result }
     ensures failure { IfErr result IsFailure }
-    ensures found { Shows (state S.Store tx.old.conn.now) (state S.Store tx.new.conn.now) result (λ tables rows.
+    ensures found { Shows S.Store tx.old.conn.now tx.new.conn.now result (λ tables rows.
         deposit_by accession.now tables.deposits ≡ option_map shown_deposit (slice_get rows.items 0)) }
 {
     ask(
@@ -167,11 +166,11 @@ pub fn by_accession<S: Alter>(
     accession: &str,
 ) -> Result<Option<DepositRow>, TableFault>
     ensures same_reference { tx.new.conn.ghost_name ≡ tx.old.conn.ghost_name }
-    ensures stays { Stays (state S.Store tx.old.conn.now) (state S.Store tx.new.conn.now) }
-    ensures goes_on { HasCleanDisk (state S.Store tx.new.conn.now) → OnOk result (GoesOn (state S.Store tx.old.conn.now) (state S.Store tx.new.conn.now)) }
+    ensures stays { CommitsNothing S.Store tx.old.conn.now tx.new.conn.now }
+    ensures goes_on { Continues S.Store tx.old.conn.now tx.new.conn.now result }
     ensures failure { IfErr result IsFailure }
-    ensures same { Keeps (state S.Store tx.old.conn.now) (state S.Store tx.new.conn.now) result }
-    ensures found { Tells (state S.Store tx.old.conn.now) (state S.Store tx.new.conn.now) result (λ tables found.
+    ensures same { Keeps S.Store tx.old.conn.now tx.new.conn.now result }
+    ensures found { Tells S.Store tx.old.conn.now tx.new.conn.now result (λ tables found.
         found ≡ deposit_by accession.now tables.deposits) }
 {
     let rows = rows_of_accession(tx, accession)?;
@@ -181,10 +180,10 @@ pub fn by_accession<S: Alter>(
 /// The row that shows the last number, if there is a deposit.
 fn rows_of_last<S: Alter>(tx: &mut Transaction<'_, S>) -> Result<Vec<Row>, TableFault>
     ensures same_reference { tx.new.conn.ghost_name ≡ tx.old.conn.ghost_name }
-    ensures stays { Stays (state S.Store tx.old.conn.now) (state S.Store tx.new.conn.now) }
-    ensures goes_on { HasCleanDisk (state S.Store tx.new.conn.now) → OnOk result (GoesOn (state S.Store tx.old.conn.now) (state S.Store tx.new.conn.now)) }
+    ensures stays { CommitsNothing S.Store tx.old.conn.now tx.new.conn.now }
+    ensures goes_on { Continues S.Store tx.old.conn.now tx.new.conn.now result }
     ensures failure { IfErr result IsFailure }
-    ensures found { Shows (state S.Store tx.old.conn.now) (state S.Store tx.new.conn.now) result (λ tables rows.
+    ensures found { Shows S.Store tx.old.conn.now tx.new.conn.now result (λ tables rows.
         last_number (λ d. d.number) tables.deposits ≡ option_map (λ row. int_at row 0) (slice_get rows.items 0)) }
 {
     ask(
@@ -199,11 +198,11 @@ fn rows_of_last<S: Alter>(tx: &mut Transaction<'_, S>) -> Result<Vec<Row>, Table
 /// Fails with `Memory` or `Store`.
 pub fn last_deposit<S: Alter>(tx: &mut Transaction<'_, S>) -> Result<Option<u32>, TableFault>
     ensures same_reference { tx.new.conn.ghost_name ≡ tx.old.conn.ghost_name }
-    ensures stays { Stays (state S.Store tx.old.conn.now) (state S.Store tx.new.conn.now) }
-    ensures goes_on { HasCleanDisk (state S.Store tx.new.conn.now) → OnOk result (GoesOn (state S.Store tx.old.conn.now) (state S.Store tx.new.conn.now)) }
+    ensures stays { CommitsNothing S.Store tx.old.conn.now tx.new.conn.now }
+    ensures goes_on { Continues S.Store tx.old.conn.now tx.new.conn.now result }
     ensures failure { IfErr result IsFailure }
-    ensures same { Keeps (state S.Store tx.old.conn.now) (state S.Store tx.new.conn.now) result }
-    ensures found { Tells (state S.Store tx.old.conn.now) (state S.Store tx.new.conn.now) result (λ tables found.
+    ensures same { Keeps S.Store tx.old.conn.now tx.new.conn.now result }
+    ensures found { Tells S.Store tx.old.conn.now tx.new.conn.now result (λ tables found.
         option_map pos found ≡ last_number (λ d. d.number) tables.deposits) }
 {
     let rows = rows_of_last(tx)?;
@@ -216,10 +215,10 @@ pub fn last_deposit<S: Alter>(tx: &mut Transaction<'_, S>) -> Result<Option<u32>
 /// The rows that show every deposit, by number.
 fn rows_of_deposits<S: Alter>(tx: &mut Transaction<'_, S>) -> Result<Vec<Row>, TableFault>
     ensures same_reference { tx.new.conn.ghost_name ≡ tx.old.conn.ghost_name }
-    ensures stays { Stays (state S.Store tx.old.conn.now) (state S.Store tx.new.conn.now) }
-    ensures goes_on { HasCleanDisk (state S.Store tx.new.conn.now) → OnOk result (GoesOn (state S.Store tx.old.conn.now) (state S.Store tx.new.conn.now)) }
+    ensures stays { CommitsNothing S.Store tx.old.conn.now tx.new.conn.now }
+    ensures goes_on { Continues S.Store tx.old.conn.now tx.new.conn.now result }
     ensures failure { IfErr result IsFailure }
-    ensures found { Shows (state S.Store tx.old.conn.now) (state S.Store tx.new.conn.now) result (λ tables rows.
+    ensures found { Shows S.Store tx.old.conn.now tx.new.conn.now result (λ tables rows.
         tables.deposits ≡ map shown_deposit rows.items) }
 {
     ask(
@@ -249,11 +248,11 @@ pub fn deposit_rows<S: Alter>(
     tx: &mut Transaction<'_, S>,
 ) -> Result<Vec<DepositRow>, TableFault>
     ensures same_reference { tx.new.conn.ghost_name ≡ tx.old.conn.ghost_name }
-    ensures stays { Stays (state S.Store tx.old.conn.now) (state S.Store tx.new.conn.now) }
-    ensures goes_on { HasCleanDisk (state S.Store tx.new.conn.now) → OnOk result (GoesOn (state S.Store tx.old.conn.now) (state S.Store tx.new.conn.now)) }
+    ensures stays { CommitsNothing S.Store tx.old.conn.now tx.new.conn.now }
+    ensures goes_on { Continues S.Store tx.old.conn.now tx.new.conn.now result }
     ensures failure { IfErr result IsFailure }
-    ensures same { Keeps (state S.Store tx.old.conn.now) (state S.Store tx.new.conn.now) result }
-    ensures found { Tells (state S.Store tx.old.conn.now) (state S.Store tx.new.conn.now) result (λ tables all.
+    ensures same { Keeps S.Store tx.old.conn.now tx.new.conn.now result }
+    ensures found { Tells S.Store tx.old.conn.now tx.new.conn.now result (λ tables all.
         all.items ≡ tables.deposits) }
 {
     let rows = rows_of_deposits(tx)?;
@@ -273,8 +272,8 @@ fn add_deposit<S: Alter>(
     bytes: i64,
 ) -> Result<usize, TableFault>
     ensures same_reference { tx.new.conn.ghost_name ≡ tx.old.conn.ghost_name }
-    ensures stays { Stays (state S.Store tx.old.conn.now) (state S.Store tx.new.conn.now) }
-    ensures goes_on { HasCleanDisk (state S.Store tx.new.conn.now) → OnOk result (GoesOn (state S.Store tx.old.conn.now) (state S.Store tx.new.conn.now)) }
+    ensures stays { CommitsNothing S.Store tx.old.conn.now tx.new.conn.now }
+    ensures goes_on { Continues S.Store tx.old.conn.now tx.new.conn.now result }
     ensures failure { IfErr result IsFailure }
     ensures added { HasCleanDisk (state S.Store tx.new.conn.now) → IsOffice (state S.Store tx.old.conn.now).now → OnOk result (
         IsAdded (record {
@@ -314,10 +313,10 @@ pub fn put_deposit<S: Alter>(
     bytes: i64,
 ) -> Result<(), TableFault>
     ensures same_reference { tx.new.conn.ghost_name ≡ tx.old.conn.ghost_name }
-    ensures stays { Stays (state S.Store tx.old.conn.now) (state S.Store tx.new.conn.now) }
-    ensures goes_on { HasCleanDisk (state S.Store tx.new.conn.now) → OnOk result (GoesOn (state S.Store tx.old.conn.now) (state S.Store tx.new.conn.now)) }
+    ensures stays { CommitsNothing S.Store tx.old.conn.now tx.new.conn.now }
+    ensures goes_on { Continues S.Store tx.old.conn.now tx.new.conn.now result }
     ensures failure { IfErr result IsFailure }
-    ensures becomes { LeavesWhere (state S.Store tx.old.conn.now) (state S.Store tx.new.conn.now) result (λ tables. DepositsBelow (pos number) tables.deposits)
+    ensures becomes { LeavesWhere S.Store tx.old.conn.now tx.new.conn.now result (λ tables. DepositsBelow (pos number) tables.deposits)
         (with_deposit (record {
           number = pos number;
           accession = accession.now;
@@ -329,10 +328,10 @@ pub fn put_deposit<S: Alter>(
           bytes = bytes;
           gone = None;
         })) }
-    ensures new_number { Tells (state S.Store tx.old.conn.now) (state S.Store tx.new.conn.now) result (λ tables _. deposit_numbered (pos number) tables.deposits ≡ None) }
-    ensures new_accession { Tells (state S.Store tx.old.conn.now) (state S.Store tx.new.conn.now) result (λ tables _. deposit_by accession.now tables.deposits ≡ None) }
-    ensures its_collection { Tells (state S.Store tx.old.conn.now) (state S.Store tx.new.conn.now) result (λ tables _. IsTrue (has_collection collection.now tables)) }
-    ensures its_class { Tells (state S.Store tx.old.conn.now) (state S.Store tx.new.conn.now) result (λ tables _. IsTrue (has_class class.now tables)) }
+    ensures new_number { Tells S.Store tx.old.conn.now tx.new.conn.now result (λ tables _. deposit_numbered (pos number) tables.deposits ≡ None) }
+    ensures new_accession { Tells S.Store tx.old.conn.now tx.new.conn.now result (λ tables _. deposit_by accession.now tables.deposits ≡ None) }
+    ensures its_collection { Tells S.Store tx.old.conn.now tx.new.conn.now result (λ tables _. IsTrue (has_collection collection.now tables)) }
+    ensures its_class { Tells S.Store tx.old.conn.now tx.new.conn.now result (λ tables _. IsTrue (has_class class.now tables)) }
 {
     add_deposit(
         tx, number, accession, collection, class, closed, deposited, files, bytes,
@@ -349,10 +348,10 @@ pub fn mark_gone<S: Alter>(
     day: i64,
 ) -> Result<(), TableFault>
     ensures same_reference { tx.new.conn.ghost_name ≡ tx.old.conn.ghost_name }
-    ensures stays { Stays (state S.Store tx.old.conn.now) (state S.Store tx.new.conn.now) }
-    ensures goes_on { HasCleanDisk (state S.Store tx.new.conn.now) → OnOk result (GoesOn (state S.Store tx.old.conn.now) (state S.Store tx.new.conn.now)) }
+    ensures stays { CommitsNothing S.Store tx.old.conn.now tx.new.conn.now }
+    ensures goes_on { Continues S.Store tx.old.conn.now tx.new.conn.now result }
     ensures failure { IfErr result IsFailure }
-    ensures becomes { Leaves (state S.Store tx.old.conn.now) (state S.Store tx.new.conn.now) result (with_gone (pos number) day) }
+    ensures becomes { Leaves S.Store tx.old.conn.now tx.new.conn.now result (with_gone (pos number) day) }
 {
     change(
         tx,

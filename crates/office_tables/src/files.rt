@@ -1,13 +1,10 @@
 //! The files of deposits.
 
-ghost use Rattle.std.specs.Prelude.{◌≡◌, IfOk, IfErr, OnOk, None, pos, map, option_map, slice_get};
-ghost use Rattle.sqlite.specs.State.{HasCleanDisk};
-ghost use Rattle.sqlite.specs.Held.{state};
-ghost use Rattle.sql_meaning.specs.Inside.{Stays, GoesOn};
+ghost use Rattle.std.specs.Prelude.{◌≡◌, IfOk, IfErr, None, pos, map, option_map, slice_get};
 ghost use Rattle.sql_meaning.specs.Columns.{bytes_at};
 ghost use Rattle.office_tables.specs.Faults.{IsFailure};
 ghost use Rattle.office_rows.specs.Rows.{file_at, with_file, without_files};
-ghost use Rattle.office_tables.specs.Calls.{Keeps, Tells, Shows, Leaves};
+ghost use Rattle.office_tables.specs.Calls.{CommitsNothing, Continues, Keeps, Tells, Shows, Leaves};
 ghost use Rattle.office_tables.specs.Deposits.{shown_file, files_by_path};
 
 use crate::fault::TableFault;
@@ -48,11 +45,11 @@ pub fn put_file<S: Alter>(
     content: &[u8],
 ) -> Result<(), TableFault>
     ensures same_reference { tx.new.conn.ghost_name ≡ tx.old.conn.ghost_name }
-    ensures stays { Stays (state S.Store tx.old.conn.now) (state S.Store tx.new.conn.now) }
-    ensures goes_on { HasCleanDisk (state S.Store tx.new.conn.now) → OnOk result (GoesOn (state S.Store tx.old.conn.now) (state S.Store tx.new.conn.now)) }
+    ensures stays { CommitsNothing S.Store tx.old.conn.now tx.new.conn.now }
+    ensures goes_on { Continues S.Store tx.old.conn.now tx.new.conn.now result }
     ensures failure { IfErr result IsFailure }
-    ensures becomes { Leaves (state S.Store tx.old.conn.now) (state S.Store tx.new.conn.now) result (with_file (record { deposit = pos number; path = path.now; content = content.now })) }
-    ensures new_path { Tells (state S.Store tx.old.conn.now) (state S.Store tx.new.conn.now) result (λ tables _. file_at (pos number) path.now tables.files ≡ None) }
+    ensures becomes { Leaves S.Store tx.old.conn.now tx.new.conn.now result (with_file (record { deposit = pos number; path = path.now; content = content.now })) }
+    ensures new_path { Tells S.Store tx.old.conn.now tx.new.conn.now result (λ tables _. file_at (pos number) path.now tables.files ≡ None) }
 {
     change(
         tx,
@@ -69,10 +66,10 @@ fn rows_of_file<S: Alter>(
     path: &str,
 ) -> Result<Vec<Row>, TableFault>
     ensures same_reference { tx.new.conn.ghost_name ≡ tx.old.conn.ghost_name }
-    ensures stays { Stays (state S.Store tx.old.conn.now) (state S.Store tx.new.conn.now) }
-    ensures goes_on { HasCleanDisk (state S.Store tx.new.conn.now) → OnOk result (GoesOn (state S.Store tx.old.conn.now) (state S.Store tx.new.conn.now)) }
+    ensures stays { CommitsNothing S.Store tx.old.conn.now tx.new.conn.now }
+    ensures goes_on { Continues S.Store tx.old.conn.now tx.new.conn.now result }
     ensures failure { IfErr result IsFailure }
-    ensures found { Shows (state S.Store tx.old.conn.now) (state S.Store tx.new.conn.now) result (λ tables rows.
+    ensures found { Shows S.Store tx.old.conn.now tx.new.conn.now result (λ tables rows.
         option_map (λ f. f.content) (file_at (pos number) path.now tables.files) ≡ option_map (λ row. bytes_at row 0) (slice_get rows.items 0)) }
 {
     ask(
@@ -91,11 +88,11 @@ pub fn file_of<S: Alter>(
     path: &str,
 ) -> Result<Option<Vec<u8>>, TableFault>
     ensures same_reference { tx.new.conn.ghost_name ≡ tx.old.conn.ghost_name }
-    ensures stays { Stays (state S.Store tx.old.conn.now) (state S.Store tx.new.conn.now) }
-    ensures goes_on { HasCleanDisk (state S.Store tx.new.conn.now) → OnOk result (GoesOn (state S.Store tx.old.conn.now) (state S.Store tx.new.conn.now)) }
+    ensures stays { CommitsNothing S.Store tx.old.conn.now tx.new.conn.now }
+    ensures goes_on { Continues S.Store tx.old.conn.now tx.new.conn.now result }
     ensures failure { IfErr result IsFailure }
-    ensures same { Keeps (state S.Store tx.old.conn.now) (state S.Store tx.new.conn.now) result }
-    ensures found { Tells (state S.Store tx.old.conn.now) (state S.Store tx.new.conn.now) result (λ tables found.
+    ensures same { Keeps S.Store tx.old.conn.now tx.new.conn.now result }
+    ensures found { Tells S.Store tx.old.conn.now tx.new.conn.now result (λ tables found.
         option_map (λ content. content.items) found ≡ option_map (λ f. f.content) (file_at (pos number) path.now tables.files)) }
 {
     let rows = rows_of_file(tx, number, path)?;
@@ -110,10 +107,10 @@ pub fn file_of<S: Alter>(
 /// Fails with `Memory` or `Store`.
 pub fn drop_files<S: Alter>(tx: &mut Transaction<'_, S>, number: u32) -> Result<(), TableFault>
     ensures same_reference { tx.new.conn.ghost_name ≡ tx.old.conn.ghost_name }
-    ensures stays { Stays (state S.Store tx.old.conn.now) (state S.Store tx.new.conn.now) }
-    ensures goes_on { HasCleanDisk (state S.Store tx.new.conn.now) → OnOk result (GoesOn (state S.Store tx.old.conn.now) (state S.Store tx.new.conn.now)) }
+    ensures stays { CommitsNothing S.Store tx.old.conn.now tx.new.conn.now }
+    ensures goes_on { Continues S.Store tx.old.conn.now tx.new.conn.now result }
     ensures failure { IfErr result IsFailure }
-    ensures becomes { Leaves (state S.Store tx.old.conn.now) (state S.Store tx.new.conn.now) result (without_files (pos number)) }
+    ensures becomes { Leaves S.Store tx.old.conn.now tx.new.conn.now result (without_files (pos number)) }
 {
     change(tx, "DELETE FROM file WHERE deposit = ?1", params![number])?;
     Ok(())
@@ -146,10 +143,10 @@ fn files_in(alloc: Global, rows: &[Row]) -> Result<Vec<FileRow>, TableFault>
 /// The rows that show the files of the deposit, ascending by path.
 fn rows_of_files<S: Alter>(tx: &mut Transaction<'_, S>, number: u32) -> Result<Vec<Row>, TableFault>
     ensures same_reference { tx.new.conn.ghost_name ≡ tx.old.conn.ghost_name }
-    ensures stays { Stays (state S.Store tx.old.conn.now) (state S.Store tx.new.conn.now) }
-    ensures goes_on { HasCleanDisk (state S.Store tx.new.conn.now) → OnOk result (GoesOn (state S.Store tx.old.conn.now) (state S.Store tx.new.conn.now)) }
+    ensures stays { CommitsNothing S.Store tx.old.conn.now tx.new.conn.now }
+    ensures goes_on { Continues S.Store tx.old.conn.now tx.new.conn.now result }
     ensures failure { IfErr result IsFailure }
-    ensures found { Shows (state S.Store tx.old.conn.now) (state S.Store tx.new.conn.now) result (λ tables rows.
+    ensures found { Shows S.Store tx.old.conn.now tx.new.conn.now result (λ tables rows.
         files_by_path (pos number) tables ≡ map shown_file rows.items) }
 {
     ask(
@@ -168,11 +165,11 @@ pub fn files_of<S: Alter>(
     number: u32,
 ) -> Result<Vec<FileRow>, TableFault>
     ensures same_reference { tx.new.conn.ghost_name ≡ tx.old.conn.ghost_name }
-    ensures stays { Stays (state S.Store tx.old.conn.now) (state S.Store tx.new.conn.now) }
-    ensures goes_on { HasCleanDisk (state S.Store tx.new.conn.now) → OnOk result (GoesOn (state S.Store tx.old.conn.now) (state S.Store tx.new.conn.now)) }
+    ensures stays { CommitsNothing S.Store tx.old.conn.now tx.new.conn.now }
+    ensures goes_on { Continues S.Store tx.old.conn.now tx.new.conn.now result }
     ensures failure { IfErr result IsFailure }
-    ensures same { Keeps (state S.Store tx.old.conn.now) (state S.Store tx.new.conn.now) result }
-    ensures found { Tells (state S.Store tx.old.conn.now) (state S.Store tx.new.conn.now) result (λ tables all.
+    ensures same { Keeps S.Store tx.old.conn.now tx.new.conn.now result }
+    ensures found { Tells S.Store tx.old.conn.now tx.new.conn.now result (λ tables all.
         all.items ≡ files_by_path (pos number) tables) }
 {
     let rows = rows_of_files(tx, number)?;

@@ -1,14 +1,13 @@
 //! Opening an office, and its limits.
 
-ghost use Rattle.std.specs.Prelude.{pos, [], Ok, Err, ◌≡◌, ◌≢◌, true, false, MatchOption, IfOk, IfErr, OnOk, IsTrue, Some, None, option_map, slice_get};
+ghost use Rattle.std.specs.Prelude.{pos, [], Ok, Err, ◌≡◌, true, false, MatchOption, IfOk, IfErr, OnOk, IsTrue, Some, None, option_map, slice_get};
 ghost use Rattle.sqlite.specs.State.{HasCleanDisk, Survives};
 ghost use Rattle.sqlite.specs.Held.{state};
 ghost use Rattle.sqlite.specs.Order.{Row as SqlRow, column};
 ghost use Rattle.sqlite.specs.declared.types.Value.TheVariants.{Int};
-ghost use Rattle.sql_meaning.specs.Inside.{Stays, GoesOn};
 ghost use Rattle.office_tables.specs.Faults.{IsFailure};
 ghost use Rattle.office_rows.specs.Rows.{this_version, limits_of, version_of};
-ghost use Rattle.office_tables.specs.Calls.{Keeps, Tells, Shows};
+ghost use Rattle.office_tables.specs.Calls.{CommitsNothing, Continues, Keeps, Tells, Shows};
 ghost use Rattle.office_tables.specs.Tables.{IsOffice, tables_of, shown_limits};
 ghost use Rattle.office_tables.specs.Opening.{shows_office, known_row, ShowsVersion, has_office, HasVersion, HasOtherVersion, IsKnownAsOther, NotAnOffice, IsKept};
 
@@ -53,7 +52,7 @@ fn version_among(rows: &[Row]) -> Option<i64>
 /// The version that the table `office` shows.
 fn look<S: Alter>(tx: &mut Transaction<'_, S>) -> Result<Option<i64>, TableFault>
     ensures same_reference { tx.new.conn.ghost_name ≡ tx.old.conn.ghost_name }
-    ensures stays { Stays (state S.Store tx.old.conn.now) (state S.Store tx.new.conn.now) }
+    ensures stays { CommitsNothing S.Store tx.old.conn.now tx.new.conn.now }
     ensures failure { IfErr result IsFailure }
     ensures shown { HasCleanDisk (state S.Store tx.new.conn.now) → IfOk result (ShowsVersion (state S.Store tx.old.conn.now).now) }
 {
@@ -97,7 +96,7 @@ pub fn open_tables<S: Alter>(conn: &mut Connection<S>) -> Result<(), TableFault>
     ensures other_version { HasCleanDisk (state S.Store conn.new) → result ≡ Err TableFault.OtherVersion → HasOtherVersion (state S.Store conn.old).now this_version }
     ensures no_table { has_office (state S.Store conn.old).now.schema ≡ false → result ≡ Err TableFault.NotAnOffice }
     ensures untouched { has_office (state S.Store conn.old).now.schema ≡ false → conn.new ≡ conn.old }
-    ensures known { Tells (state S.Store conn.old) (state S.Store conn.new) result (λ tables _. version_of tables ≡ Some this_version) }
+    ensures known { Tells S.Store conn.old conn.new result (λ tables _. version_of tables ≡ Some this_version) }
     ensures unknown { HasCleanDisk (state S.Store conn.new) → IsOffice (state S.Store conn.old).now → result ≡ Err TableFault.NotAnOffice
         → version_of (tables_of (state S.Store conn.old).now) ≡ None }
     ensures known_as_other { HasCleanDisk (state S.Store conn.new) → IsOffice (state S.Store conn.old).now → result ≡ Err TableFault.OtherVersion
@@ -127,10 +126,10 @@ pub struct OfficeLimits {
 /// The row that shows the limits.
 fn rows_of_limits<S: Alter>(tx: &mut Transaction<'_, S>) -> Result<Vec<Row>, TableFault>
     ensures same_reference { tx.new.conn.ghost_name ≡ tx.old.conn.ghost_name }
-    ensures stays { Stays (state S.Store tx.old.conn.now) (state S.Store tx.new.conn.now) }
-    ensures goes_on { HasCleanDisk (state S.Store tx.new.conn.now) → OnOk result (GoesOn (state S.Store tx.old.conn.now) (state S.Store tx.new.conn.now)) }
+    ensures stays { CommitsNothing S.Store tx.old.conn.now tx.new.conn.now }
+    ensures goes_on { Continues S.Store tx.old.conn.now tx.new.conn.now result }
     ensures failure { IfErr result IsFailure }
-    ensures found { Shows (state S.Store tx.old.conn.now) (state S.Store tx.new.conn.now) result (λ tables rows.
+    ensures found { Shows S.Store tx.old.conn.now tx.new.conn.now result (λ tables rows.
         limits_of tables ≡ option_map shown_limits (slice_get rows.items 0)) }
 {
     ask(
@@ -145,11 +144,11 @@ fn rows_of_limits<S: Alter>(tx: &mut Transaction<'_, S>) -> Result<Vec<Row>, Tab
 /// Fails with `Store` where it has none that fit, and with `Memory` or `Store`.
 pub fn limits<S: Alter>(tx: &mut Transaction<'_, S>) -> Result<OfficeLimits, TableFault>
     ensures same_reference { tx.new.conn.ghost_name ≡ tx.old.conn.ghost_name }
-    ensures stays { Stays (state S.Store tx.old.conn.now) (state S.Store tx.new.conn.now) }
-    ensures goes_on { HasCleanDisk (state S.Store tx.new.conn.now) → OnOk result (GoesOn (state S.Store tx.old.conn.now) (state S.Store tx.new.conn.now)) }
+    ensures stays { CommitsNothing S.Store tx.old.conn.now tx.new.conn.now }
+    ensures goes_on { Continues S.Store tx.old.conn.now tx.new.conn.now result }
     ensures failure { IfErr result IsFailure }
-    ensures same { Keeps (state S.Store tx.old.conn.now) (state S.Store tx.new.conn.now) result }
-    ensures found { Tells (state S.Store tx.old.conn.now) (state S.Store tx.new.conn.now) result (λ tables limits.
+    ensures same { Keeps S.Store tx.old.conn.now tx.new.conn.now result }
+    ensures found { Tells S.Store tx.old.conn.now tx.new.conn.now result (λ tables limits.
         limits_of tables ≡ Some (record { max_deposits = pos limits.max_deposits; max_holds = pos limits.max_holds })) }
 {
     let rows = rows_of_limits(tx)?;

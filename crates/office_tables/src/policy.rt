@@ -1,13 +1,10 @@
 //! The policy: the callers with their roles, and the rules.
 
-ghost use Rattle.std.specs.Prelude.{◌≡◌, ℕ, IfOk, IfErr, OnOk, map, option_map, slice_get, string_bytes};
-ghost use Rattle.sqlite.specs.State.{HasCleanDisk};
-ghost use Rattle.sqlite.specs.Held.{state};
-ghost use Rattle.sql_meaning.specs.Inside.{Stays, GoesOn, Stands};
+ghost use Rattle.std.specs.Prelude.{◌≡◌, ℕ, IfOk, IfErr, map, option_map, slice_get, string_bytes};
 ghost use Rattle.sql_meaning.specs.Columns.{bytes_at};
 ghost use Rattle.office_tables.specs.Faults.{IsFailure};
 ghost use Rattle.office_rows.specs.Rows.{caller_named, without_callers, without_rules, with_caller, with_rule, with_callers, with_rules, with_policy, RulesBelow, RulesFollow, PlacesRise};
-ghost use Rattle.office_tables.specs.Calls.{Keeps, Tells, Shows, Leaves, LeavesWhere};
+ghost use Rattle.office_tables.specs.Calls.{CommitsNothing, Continues, ContinuesInTurn, Keeps, Tells, Shows, Leaves, LeavesWhere};
 ghost use Rattle.office_tables.specs.ShownPolicy.{shown_rule};
 
 use crate::fault::TableFault;
@@ -74,10 +71,10 @@ impl Model for RuleRow {
 /// The row that shows the role of the caller of that name, if there is one.
 fn rows_of_role<S: Alter>(tx: &mut Transaction<'_, S>, name: &str) -> Result<Vec<Row>, TableFault>
     ensures same_reference { tx.new.conn.ghost_name ≡ tx.old.conn.ghost_name }
-    ensures stays { Stays (state S.Store tx.old.conn.now) (state S.Store tx.new.conn.now) }
-    ensures goes_on { HasCleanDisk (state S.Store tx.new.conn.now) → OnOk result (GoesOn (state S.Store tx.old.conn.now) (state S.Store tx.new.conn.now)) }
+    ensures stays { CommitsNothing S.Store tx.old.conn.now tx.new.conn.now }
+    ensures goes_on { Continues S.Store tx.old.conn.now tx.new.conn.now result }
     ensures failure { IfErr result IsFailure }
-    ensures found { Shows (state S.Store tx.old.conn.now) (state S.Store tx.new.conn.now) result (λ tables rows.
+    ensures found { Shows S.Store tx.old.conn.now tx.new.conn.now result (λ tables rows.
         option_map (λ c. c.role) (caller_named name.now tables.callers) ≡ option_map (λ row. bytes_at row 0) (slice_get rows.items 0)) }
 {
     ask(tx, "SELECT role FROM caller WHERE name = ?1", params![name])
@@ -99,11 +96,11 @@ pub fn role_of<S: Alter>(
     name: &str,
 ) -> Result<Option<String>, TableFault>
     ensures same_reference { tx.new.conn.ghost_name ≡ tx.old.conn.ghost_name }
-    ensures stays { Stays (state S.Store tx.old.conn.now) (state S.Store tx.new.conn.now) }
-    ensures goes_on { HasCleanDisk (state S.Store tx.new.conn.now) → OnOk result (GoesOn (state S.Store tx.old.conn.now) (state S.Store tx.new.conn.now)) }
+    ensures stays { CommitsNothing S.Store tx.old.conn.now tx.new.conn.now }
+    ensures goes_on { Continues S.Store tx.old.conn.now tx.new.conn.now result }
     ensures failure { IfErr result IsFailure }
-    ensures same { Keeps (state S.Store tx.old.conn.now) (state S.Store tx.new.conn.now) result }
-    ensures found { Tells (state S.Store tx.old.conn.now) (state S.Store tx.new.conn.now) result (λ tables found.
+    ensures same { Keeps S.Store tx.old.conn.now tx.new.conn.now result }
+    ensures found { Tells S.Store tx.old.conn.now tx.new.conn.now result (λ tables found.
         option_map string_bytes found ≡ option_map (λ c. c.role) (caller_named name.now tables.callers)) }
 {
     let rows = rows_of_role(tx, name)?;
@@ -116,10 +113,10 @@ pub fn role_of<S: Alter>(
 /// The rows that show the rules.
 fn rows_of_rules<S: Alter>(tx: &mut Transaction<'_, S>) -> Result<Vec<Row>, TableFault>
     ensures same_reference { tx.new.conn.ghost_name ≡ tx.old.conn.ghost_name }
-    ensures stays { Stays (state S.Store tx.old.conn.now) (state S.Store tx.new.conn.now) }
-    ensures goes_on { HasCleanDisk (state S.Store tx.new.conn.now) → OnOk result (GoesOn (state S.Store tx.old.conn.now) (state S.Store tx.new.conn.now)) }
+    ensures stays { CommitsNothing S.Store tx.old.conn.now tx.new.conn.now }
+    ensures goes_on { Continues S.Store tx.old.conn.now tx.new.conn.now result }
     ensures failure { IfErr result IsFailure }
-    ensures found { Shows (state S.Store tx.old.conn.now) (state S.Store tx.new.conn.now) result (λ tables rows.
+    ensures found { Shows S.Store tx.old.conn.now tx.new.conn.now result (λ tables rows.
         tables.rules ≡ map shown_rule rows.items) }
 {
     ask(
@@ -164,11 +161,11 @@ pub fn rules<S: Alter>(
     tx: &mut Transaction<'_, S>,
 ) -> Result<Vec<RuleRow>, TableFault>
     ensures same_reference { tx.new.conn.ghost_name ≡ tx.old.conn.ghost_name }
-    ensures stays { Stays (state S.Store tx.old.conn.now) (state S.Store tx.new.conn.now) }
-    ensures goes_on { HasCleanDisk (state S.Store tx.new.conn.now) → OnOk result (GoesOn (state S.Store tx.old.conn.now) (state S.Store tx.new.conn.now)) }
+    ensures stays { CommitsNothing S.Store tx.old.conn.now tx.new.conn.now }
+    ensures goes_on { Continues S.Store tx.old.conn.now tx.new.conn.now result }
     ensures failure { IfErr result IsFailure }
-    ensures same { Keeps (state S.Store tx.old.conn.now) (state S.Store tx.new.conn.now) result }
-    ensures found { Tells (state S.Store tx.old.conn.now) (state S.Store tx.new.conn.now) result (λ tables rules.
+    ensures same { Keeps S.Store tx.old.conn.now tx.new.conn.now result }
+    ensures found { Tells S.Store tx.old.conn.now tx.new.conn.now result (λ tables rules.
         rules.items ≡ tables.rules) }
 {
     let rows = rows_of_rules(tx)?;
@@ -178,10 +175,10 @@ pub fn rules<S: Alter>(
 /// Takes out each caller.
 fn drop_callers<S: Alter>(tx: &mut Transaction<'_, S>) -> Result<usize, TableFault>
     ensures same_reference { tx.new.conn.ghost_name ≡ tx.old.conn.ghost_name }
-    ensures stays { Stays (state S.Store tx.old.conn.now) (state S.Store tx.new.conn.now) }
-    ensures goes_on { HasCleanDisk (state S.Store tx.new.conn.now) → OnOk result (GoesOn (state S.Store tx.old.conn.now) (state S.Store tx.new.conn.now)) }
+    ensures stays { CommitsNothing S.Store tx.old.conn.now tx.new.conn.now }
+    ensures goes_on { Continues S.Store tx.old.conn.now tx.new.conn.now result }
     ensures failure { IfErr result IsFailure }
-    ensures becomes { Leaves (state S.Store tx.old.conn.now) (state S.Store tx.new.conn.now) result without_callers }
+    ensures becomes { Leaves S.Store tx.old.conn.now tx.new.conn.now result without_callers }
 {
     change(tx, "DELETE FROM caller", &[])
 }
@@ -189,10 +186,10 @@ fn drop_callers<S: Alter>(tx: &mut Transaction<'_, S>) -> Result<usize, TableFau
 /// Takes out each rule.
 fn drop_rules<S: Alter>(tx: &mut Transaction<'_, S>) -> Result<usize, TableFault>
     ensures same_reference { tx.new.conn.ghost_name ≡ tx.old.conn.ghost_name }
-    ensures stays { Stays (state S.Store tx.old.conn.now) (state S.Store tx.new.conn.now) }
-    ensures goes_on { HasCleanDisk (state S.Store tx.new.conn.now) → OnOk result (GoesOn (state S.Store tx.old.conn.now) (state S.Store tx.new.conn.now)) }
+    ensures stays { CommitsNothing S.Store tx.old.conn.now tx.new.conn.now }
+    ensures goes_on { Continues S.Store tx.old.conn.now tx.new.conn.now result }
     ensures failure { IfErr result IsFailure }
-    ensures becomes { Leaves (state S.Store tx.old.conn.now) (state S.Store tx.new.conn.now) result without_rules }
+    ensures becomes { Leaves S.Store tx.old.conn.now tx.new.conn.now result without_rules }
 {
     change(tx, "DELETE FROM rule", &[])
 }
@@ -204,10 +201,10 @@ fn add_caller<S: Alter>(
     role: &str,
 ) -> Result<usize, TableFault>
     ensures same_reference { tx.new.conn.ghost_name ≡ tx.old.conn.ghost_name }
-    ensures stays { Stays (state S.Store tx.old.conn.now) (state S.Store tx.new.conn.now) }
-    ensures goes_on { HasCleanDisk (state S.Store tx.new.conn.now) → OnOk result (GoesOn (state S.Store tx.old.conn.now) (state S.Store tx.new.conn.now)) }
+    ensures stays { CommitsNothing S.Store tx.old.conn.now tx.new.conn.now }
+    ensures goes_on { Continues S.Store tx.old.conn.now tx.new.conn.now result }
     ensures failure { IfErr result IsFailure }
-    ensures becomes { Leaves (state S.Store tx.old.conn.now) (state S.Store tx.new.conn.now) result (with_caller (record { name = name.now; role = role.now })) }
+    ensures becomes { Leaves S.Store tx.old.conn.now tx.new.conn.now result (with_caller (record { name = name.now; role = role.now })) }
 {
     change(
         tx,
@@ -227,10 +224,10 @@ fn add_rule<S: Alter>(
     class: &str,
 ) -> Result<usize, TableFault>
     ensures same_reference { tx.new.conn.ghost_name ≡ tx.old.conn.ghost_name }
-    ensures stays { Stays (state S.Store tx.old.conn.now) (state S.Store tx.new.conn.now) }
-    ensures goes_on { HasCleanDisk (state S.Store tx.new.conn.now) → OnOk result (GoesOn (state S.Store tx.old.conn.now) (state S.Store tx.new.conn.now)) }
+    ensures stays { CommitsNothing S.Store tx.old.conn.now tx.new.conn.now }
+    ensures goes_on { Continues S.Store tx.old.conn.now tx.new.conn.now result }
     ensures failure { IfErr result IsFailure }
-    ensures becomes { LeavesWhere (state S.Store tx.old.conn.now) (state S.Store tx.new.conn.now) result (λ tables. RulesBelow place tables.rules)
+    ensures becomes { LeavesWhere S.Store tx.old.conn.now tx.new.conn.now result (λ tables. RulesBelow place tables.rules)
         (with_rule (record { place = place; effect = effect; role = role.now; action = action.now; collection = collection.now; class = class.now })) }
 {
     change(
@@ -246,10 +243,10 @@ fn add_callers<S: Alter>(
     callers: &[CallerRow],
 ) -> Result<(), TableFault>
     ensures same_reference { tx.new.conn.ghost_name ≡ tx.old.conn.ghost_name }
-    ensures stays { Stays (state S.Store tx.old.conn.now) (state S.Store tx.new.conn.now) }
-    ensures goes_on { HasCleanDisk (state S.Store tx.new.conn.now) → OnOk result (Stands (state S.Store tx.old.conn.now) (state S.Store tx.new.conn.now)) }
+    ensures stays { CommitsNothing S.Store tx.old.conn.now tx.new.conn.now }
+    ensures goes_on { ContinuesInTurn S.Store tx.old.conn.now tx.new.conn.now result }
     ensures failure { IfErr result IsFailure }
-    ensures becomes { Leaves (state S.Store tx.old.conn.now) (state S.Store tx.new.conn.now) result (with_callers callers.now) }
+    ensures becomes { Leaves S.Store tx.old.conn.now tx.new.conn.now result (with_callers callers.now) }
 {
     for caller in callers {
         add_caller(tx, &caller.name, &caller.role)?;
@@ -260,10 +257,10 @@ fn add_callers<S: Alter>(
 /// Adds these rules in turn; the place of each is to be above all that are there when its turn comes.
 fn add_rules<S: Alter>(tx: &mut Transaction<'_, S>, rules: &[RuleRow]) -> Result<(), TableFault>
     ensures same_reference { tx.new.conn.ghost_name ≡ tx.old.conn.ghost_name }
-    ensures stays { Stays (state S.Store tx.old.conn.now) (state S.Store tx.new.conn.now) }
-    ensures goes_on { HasCleanDisk (state S.Store tx.new.conn.now) → OnOk result (Stands (state S.Store tx.old.conn.now) (state S.Store tx.new.conn.now)) }
+    ensures stays { CommitsNothing S.Store tx.old.conn.now tx.new.conn.now }
+    ensures goes_on { ContinuesInTurn S.Store tx.old.conn.now tx.new.conn.now result }
     ensures failure { IfErr result IsFailure }
-    ensures becomes { LeavesWhere (state S.Store tx.old.conn.now) (state S.Store tx.new.conn.now) result (λ tables. RulesFollow rules.now tables)
+    ensures becomes { LeavesWhere S.Store tx.old.conn.now tx.new.conn.now result (λ tables. RulesFollow rules.now tables)
         (with_rules rules.now) }
 {
     for rule in rules {
@@ -289,10 +286,10 @@ pub fn put_policy<S: Alter>(
     rules: &[RuleRow],
 ) -> Result<(), TableFault>
     ensures same_reference { tx.new.conn.ghost_name ≡ tx.old.conn.ghost_name }
-    ensures stays { Stays (state S.Store tx.old.conn.now) (state S.Store tx.new.conn.now) }
-    ensures goes_on { HasCleanDisk (state S.Store tx.new.conn.now) → OnOk result (GoesOn (state S.Store tx.old.conn.now) (state S.Store tx.new.conn.now)) }
+    ensures stays { CommitsNothing S.Store tx.old.conn.now tx.new.conn.now }
+    ensures goes_on { Continues S.Store tx.old.conn.now tx.new.conn.now result }
     ensures failure { IfErr result IsFailure }
-    ensures becomes { LeavesWhere (state S.Store tx.old.conn.now) (state S.Store tx.new.conn.now) result (λ _. PlacesRise rules.now)
+    ensures becomes { LeavesWhere S.Store tx.old.conn.now tx.new.conn.now result (λ _. PlacesRise rules.now)
         (with_policy callers.now rules.now) }
 {
     drop_callers(tx)?;
