@@ -159,8 +159,8 @@ fn fits(part: Part, answer: &Answer) -> bool {
         (Part::Collection, Answer::Collection { name }) => name.as_str() == "maps",
         (Part::BadBag, Answer::Refused(Refusal::BadBag(fault))) => fault.as_str() == "S3",
         (Part::Deposit, Answer::Deposited { deposit }) => *deposit == 1,
-        (Part::Hold, Answer::Held { hold }) => *hold == 1,
-        (Part::DepositHold, Answer::Held { hold }) => *hold == 2,
+        (Part::Hold, Answer::HoldPlaced { hold }) => *hold == 1,
+        (Part::DepositHold, Answer::HoldPlaced { hold }) => *hold == 2,
         (Part::List, Answer::List { deposits }) => deposits.as_slice().len() == 1,
         (Part::Record, Answer::Record(record)) => record.number == 1,
         (Part::Holds, Answer::Holds { holds }) => holds.as_slice().len() == 2,
@@ -168,8 +168,8 @@ fn fits(part: Part, answer: &Answer) -> bool {
         (Part::File, Answer::File { bytes }) => bytes.as_slice() == b"abc".as_slice(),
         (Part::Audit, Answer::Audit { deposit, .. }) => *deposit == 1,
         (Part::HeldDisposal, Answer::Refused(Refusal::Held(hold))) => *hold == 1,
-        (Part::Release, Answer::Released { hold, .. }) => *hold == 1,
-        (Part::DepositRelease, Answer::Released { hold, .. }) => *hold == 2,
+        (Part::Release, Answer::HoldReleased { hold, .. }) => *hold == 1,
+        (Part::DepositRelease, Answer::HoldReleased { hold, .. }) => *hold == 2,
         (Part::DueList, Answer::DueList { deposits, .. }) => {
             deposits.as_slice() == [1].as_slice()
         }

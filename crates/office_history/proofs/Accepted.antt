@@ -49,9 +49,9 @@ below : (most count : ℕ) → answer_if (nat_le most count) Full ≡ None → c
 below most count e = let no = not_so (nat_le most count) Full e in grind (arith, nat_tests)
 
 not_later : (day date : Date) → int_lt (epoch_day day) (epoch_day date) ≡ false → epoch_day date ≤ℤ epoch_day day
-not_later day date no =
+not_later day date passed =
     by_lt_z (epoch_day day) (epoch_day date)
-    (λ lt. let before : int_lt (epoch_day day) (epoch_day date) ≡ true = search (rules, lt) in absurd (let wrong : true ≡ false = sym before ∙ no in cc))
+    (λ lt. let before : int_lt (epoch_day day) (epoch_day date) ≡ true = search (rules, lt) in absurd (let wrong : true ≡ false = sym before ∙ passed in cc))
     (λ ge. ge)
 
 not_before : (day date : Date) → refused (answer_if (int_lt (epoch_day day) (epoch_day date)) (NotDue date)) ≡ None → epoch_day date ≤ℤ epoch_day day
@@ -134,7 +134,7 @@ holdable_at h caller n (Some found) is e =
     let a = none_of (denied_at h caller acts.Hold found.1) _ e in
     let b = none_of (is_gone h n) _ a.1 in
     let c = none_of (full_of_holds h) _ b.1 in
-    (rw is tt, below h.max_holds (length (holds h)) c.0)
+    (rw is refl, below h.max_holds (length (holds h)) c.0)
 
 releasable_at : (h : History) (caller : List ℕ) (k : ℕ) (there : Option (Date × Hold)) → hold_numbered h k ≡ there
     → first_some (of_hold there (λ hold. denied_release h caller hold.target ∷ is_released h k ∷ [])) ≡ None → IsReleasable h k

@@ -12,7 +12,7 @@ use Rattle.bag_check.specs.Validity.{payload_files, payload_bytes}
 use Rattle.office_core.specs.FirstOf.{first_some, answer_if}
 use Rattle.office_core.specs.Policies.{Contents, role_of}
 use Rattle.office_core.specs.Rules.{decision_of}
-use Rattle.office_core.specs.Retention.{due_of}
+use Rattle.office_core.specs.RetentionReading.{due_of}
 use Rattle.office_core.specs.declared.action.Action.{Action}
 use Rattle.office_core.specs.declared.action.Action.TheVariants as acts
 use Rattle.office_core.specs.declared.answer.Answer.{Answer}
@@ -36,7 +36,7 @@ use Rattle.office_history.proofs.Alike.{Outline, outline, Alike, alike_grown, sa
 
 same_denied : (h k : History) → Alike h k → (caller : List ℕ) (action : Action) (collection class : Option (List ℕ)) → denied h caller action collection class ≡ denied k caller action collection class
 same_denied h k a caller action collection class =
-    ap (λ (p : Contents). refused (deciding.denied (decision_of p.rules (record { role = role_of p caller; action = action; collection = collection; class = class })))) a.same_policy
+    ap (λ (p : Contents). refused (deciding.denial_verdict (decision_of p.rules (record { role = role_of p caller; action = action; collection = collection; class = class })))) a.same_policy
 
 same_denied_at : (h k : History) → Alike h k → (caller : List ℕ) (action : Action) (deposit : Deposit) → denied_at h caller action deposit ≡ denied_at k caller action deposit
 same_denied_at h k a caller action deposit = same_denied h k a caller action (Some deposit.collection) (Some deposit.class)
@@ -113,13 +113,13 @@ same_full_of_holds h k a = λ i. answer_if (nat_le (a.same_max_holds i) (length 
 -- ---- the refusals of a request that names a deposit: whether it is denied, whether it is gone, and the rest
 
 abbrev denied_outline : Contents → List ℕ → Action → Outline → Option Refusal
-denied_outline p caller action o = refused (deciding.denied (decision_of p.rules (record { role = role_of p caller; action = action; collection = Some o.collection; class = Some o.class })))
+denied_outline p caller action o = refused (deciding.denial_verdict (decision_of p.rules (record { role = role_of p caller; action = action; collection = Some o.collection; class = Some o.class })))
 
 abbrev row : Contents → List ℕ → Action → Option Date → Option (Date × Deposit) → (Deposit → List (Option Refusal)) → Option Refusal
 row p caller action day there rest =
     first_some (of_deposit there (λ d.
-    refused (deciding.denied (decision_of p.rules (record { role = role_of p caller; action = action; collection = Some d.collection; class = Some d.class })))
-    ∷ refused (deciding.gone day)
+    refused (deciding.denial_verdict (decision_of p.rules (record { role = role_of p caller; action = action; collection = Some d.collection; class = Some d.class })))
+    ∷ refused (deciding.gone_verdict day)
     ∷ rest d))
 
 -- what stands behind a refusal is of no matter
@@ -196,7 +196,7 @@ same_refusal h k a day caller (Release j) = λ i.
     first_some (of_hold (numbered (a.same_holds i) j) (λ hold. same_release h k a caller hold.target i ∷ option_map Released (a.same_released j i) ∷ []))
 same_refusal h k a day caller (Dispose n) =
     same_row_at h k a caller acts.Dispose n (λ d. held h n d ∷ not_due h day d ∷ []) (λ d. held k n d ∷ not_due k day d ∷ [])
-    (λ e d i. refused (deciding.held (slice_get (same_live h k a n d i) 0)) ∷ refused (deciding.not_due day (same_due h k a d i)) ∷ [])
+    (λ e d i. refused (deciding.hold_verdict (slice_get (same_live h k a n d i) 0)) ∷ refused (deciding.due_verdict day (same_due h k a d i)) ∷ [])
 same_refusal h k a day caller DueList = refl
 
 -- ---- answers
@@ -277,9 +277,9 @@ same_answer h k a day caller (DownloadFile n path) =
 same_answer h k a day caller (Audit n) =
     answer_at h k a caller acts.Audit n (λ d. []) (allowed_answer h day caller (Audit n)) (allowed_answer k day caller (Audit n))
     (λ e i. told (same_found h k a n e i) (λ found. answers.Audit n (audited (report_on found.1.bag))))
-same_answer h k a day caller (HoldDeposit n matter) = λ i. answer_unless (same_refusal h k a day caller (HoldDeposit n matter) i) (answers.Held (length (a.same_holds i) + 1))
-same_answer h k a day caller (HoldCollection name matter) = λ i. answer_unless (same_refusal h k a day caller (HoldCollection name matter) i) (answers.Held (length (a.same_holds i) + 1))
-same_answer h k a day caller (Release j) = ap (λ why. answer_unless why (answers.Released j day)) (same_refusal h k a day caller (Release j))
+same_answer h k a day caller (HoldDeposit n matter) = λ i. answer_unless (same_refusal h k a day caller (HoldDeposit n matter) i) (answers.HoldPlaced (length (a.same_holds i) + 1))
+same_answer h k a day caller (HoldCollection name matter) = λ i. answer_unless (same_refusal h k a day caller (HoldCollection name matter) i) (answers.HoldPlaced (length (a.same_holds i) + 1))
+same_answer h k a day caller (Release j) = ap (λ why. answer_unless why (answers.HoldReleased j day)) (same_refusal h k a day caller (Release j))
 same_answer h k a day caller (Dispose n) = ap (λ why. answer_unless why (answers.Destroyed n day)) (same_refusal h k a day caller (Dispose n))
 same_answer h k a day caller DueList = ap (answers.DueList day) (same_due_list h k a day caller)
 

@@ -33,17 +33,17 @@ pub record WasPlaced (h : History) (day : Date) (changes : List Change) (k : ℕ
   pub placed : changes ≡ PlacedHold day hold ∷ []
 
 -- what is told of a deposit is the number of no hold
-told_no_number : (found : Option (Date × Deposit)) (tell : Date × Deposit → Answer) (k : ℕ) → ((d : Date × Deposit) → tell d ≡ answers.Held k → ⊥) → told found tell ≡ answers.Held k → ⊥
+told_no_number : (found : Option (Date × Deposit)) (tell : Date × Deposit → Answer) (k : ℕ) → ((d : Date × Deposit) → tell d ≡ answers.HoldPlaced k → ⊥) → told found tell ≡ answers.HoldPlaced k → ⊥
 told_no_number None tell k other e = absurd cc
 told_no_number (Some d) tell k other e = other d e
 
-file_no_number : (content : Option (List ℕ)) (k : ℕ) → file_answer content ≡ answers.Held k → ⊥
+file_no_number : (content : Option (List ℕ)) (k : ℕ) → file_answer content ≡ answers.HoldPlaced k → ⊥
 file_no_number None k e = absurd cc
 file_no_number (Some content) k e = absurd cc
 
-allowed_hold : (h : History) (day : Date) (caller : List ℕ) (request : Request) (k : ℕ) → allowed_answer h day caller request ≡ answers.Held k → WasPlaced h day (allowed_change h day request) k
-allowed_hold h day caller (HoldDeposit n matter) k e = record { next_number = (let same : answers.Held (length (holds h) + 1) ≡ answers.Held k = e in cc); hold = record { target = OnDeposit n; matter = matter }; placed = refl }
-allowed_hold h day caller (HoldCollection name matter) k e = record { next_number = (let same : answers.Held (length (holds h) + 1) ≡ answers.Held k = e in cc); hold = record { target = OnCollection name; matter = matter }; placed = refl }
+allowed_hold : (h : History) (day : Date) (caller : List ℕ) (request : Request) (k : ℕ) → allowed_answer h day caller request ≡ answers.HoldPlaced k → WasPlaced h day (allowed_change h day request) k
+allowed_hold h day caller (HoldDeposit n matter) k e = record { next_number = (let same : answers.HoldPlaced (length (holds h) + 1) ≡ answers.HoldPlaced k = e in cc); hold = record { target = OnDeposit n; matter = matter }; placed = refl }
+allowed_hold h day caller (HoldCollection name matter) k e = record { next_number = (let same : answers.HoldPlaced (length (holds h) + 1) ≡ answers.HoldPlaced k = e in cc); hold = record { target = OnCollection name; matter = matter }; placed = refl }
 allowed_hold h day caller (DefineClass name years) k e = absurd cc
 allowed_hold h day caller (DefineCollection name) k e = absurd cc
 allowed_hold h day caller (MakeDeposit collection class accession closed bag) k e = absurd cc
@@ -57,9 +57,9 @@ allowed_hold h day caller (Release j) k e = absurd cc
 allowed_hold h day caller (Dispose n) k e = absurd cc
 allowed_hold h day caller DueList k e = absurd cc
 
-pub was_placed : (h : History) (day : Date) (caller : List ℕ) (request : Request) (k : ℕ) → answer h day caller request ≡ answers.Held k → WasPlaced h day (change h day caller request) k
+pub was_placed : (h : History) (day : Date) (caller : List ℕ) (request : Request) (k : ℕ) → answer h day caller request ≡ answers.HoldPlaced k → WasPlaced h day (change h day caller request) k
 was_placed h day caller request k e =
-    let r = unrefused (refusal h day caller request) (allowed_answer h day caller request) (answers.Held k) e (λ r. λ wrong. absurd cc) in
+    let r = unrefused (refusal h day caller request) (allowed_answer h day caller request) (answers.HoldPlaced k) e (λ r. λ wrong. absurd cc) in
     let made = allowed_hold h day caller request k r.1 in
     record { next_number = made.next_number; hold = made.hold; placed = ap (λ why. changes_unless why (allowed_change h day request)) r.0 ∙ made.placed }
 
@@ -71,10 +71,10 @@ pub more_holds : (h : History) (more : List Change) → length (holds h) ≤ len
 more_holds h more = rw (holds_grown h more, length-append (holds h) (filter_map hold_in more)) (omega arith)
 
 -- the hold of a collection that was answered with a number has that number
-pub collection_hold : (h : History) (day : Date) (caller name matter : List ℕ) (k : ℕ) → answer h day caller (HoldCollection name matter) ≡ answers.Held k
+pub collection_hold : (h : History) (day : Date) (caller name matter : List ℕ) (k : ℕ) → answer h day caller (HoldCollection name matter) ≡ answers.HoldPlaced k
     → hold_numbered (after h day caller (HoldCollection name matter)) k ≡ Some (day, record { target = OnCollection name; matter = matter })
 collection_hold h day caller name matter k e =
-    let r = unrefused (refusal h day caller (HoldCollection name matter)) (answers.Held (length (holds h) + 1)) (answers.Held k) e (λ r. λ wrong. absurd cc) in
+    let r = unrefused (refusal h day caller (HoldCollection name matter)) (answers.HoldPlaced (length (holds h) + 1)) (answers.HoldPlaced k) e (λ r. λ wrong. absurd cc) in
     let next : length (holds h) + 1 ≡ k = (let same = r.1 in cc) in
     let hold : Hold = record { target = OnCollection name; matter = matter } in
     let made : change h day caller (HoldCollection name matter) ≡ PlacedHold day hold ∷ [] = ap (λ why. changes_unless why (PlacedHold day hold ∷ [])) r.0 in
@@ -94,9 +94,9 @@ first_said_last says (x ∷ xs) y b none e =
     ap (λ o. option_or o (first_said says (xs ++ y ∷ []))) two.0 ∙ first_said_last says xs y b two.1 e
 
 -- a hold whose release was answered is released from that day
-pub was_released : (h : History) (day on : Date) (caller : List ℕ) (k number : ℕ) → answer h day caller (Release k) ≡ answers.Released number on → released (after h day caller (Release k)) k ≡ Some day
+pub was_released : (h : History) (day on : Date) (caller : List ℕ) (k number : ℕ) → answer h day caller (Release k) ≡ answers.HoldReleased number on → released (after h day caller (Release k)) k ≡ Some day
 was_released h day on caller k number e =
-    let r = unrefused (refusal h day caller (Release k)) (answers.Released k day) (answers.Released number on) e (λ r. λ wrong. absurd cc) in
+    let r = unrefused (refusal h day caller (Release k)) (answers.HoldReleased k day) (answers.HoldReleased number on) e (λ r. λ wrong. absurd cc) in
     let says : released_in k (ReleasedHold day k) ≡ Some day = rw ((Decides-eqb k k).1 refl) refl in
     ap (λ why. released (grown h (changes_unless why (ReleasedHold day k ∷ []))) k) r.0
     ∙ first_said_last (released_in k) h.changes (ReleasedHold day k) day (releasable h day caller k r.0).live says

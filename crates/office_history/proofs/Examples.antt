@@ -3,7 +3,7 @@ use Rattle.std.proofs.Common.{◌≡◌, ℕ, List, [], ◌∷◌, Some, None, c
 use Rattle.std.specs.Prelude.{pos, neg_ℤ}
 use Rattle.jiff.specs.Types.{Date}
 use Rattle.jiff.specs.Words.{epoch_day}
-use Rattle.office_core.specs.Retention.{due_of}
+use Rattle.office_core.specs.RetentionReading.{due_of}
 use Rattle.office_core.specs.declared.refusal.Refusal.TheVariants.{NoSuch, DeniedByDefault, Taken}
 use Rattle.office_core.specs.declared.refusal.Subject.TheVariants as subjects
 use Rattle.office_core.specs.declared.request.Request.TheVariants.{Dispose}

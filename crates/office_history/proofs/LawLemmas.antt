@@ -7,7 +7,7 @@ use Rattle.jiff.specs.Types.{Date}
 use Rattle.bag_text.specs.TransferForm.{File, set_text}
 use Rattle.bag_text.specs.TransferReading.{set_of}
 use Rattle.bag_text.specs.declared.set_fault.SetFault.{SetFault}
-use Rattle.office_core.specs.Retention.{due_of}
+use Rattle.office_core.specs.RetentionReading.{due_of}
 use Rattle.office_core.specs.declared.answer.Answer.{Answer}
 use Rattle.office_core.specs.declared.answer.Answer.TheVariants as answers
 use Rattle.office_core.specs.declared.refusal.Refusal.{Refusal}

@@ -5,6 +5,7 @@ use Rattle.std.proofs.lemmas.Bool.Decides.{Decides-eqb}
 use Rattle.jiff.specs.Types.{Date}
 use Rattle.office_history.specs.Lists.{first_said, last_said}
 use Rattle.office_history.specs.Histories.{History, Change, Installed, DefinedClass, DefinedCollection, Deposited, PlacedHold, ReleasedHold, Destroyed, Deposit, Hold, grown, installed_in, policy, deposit_numbered, destroyed_in, gone, hold_numbered, released_in, released}
+use Rattle.office_core.proofs.PolicyNames.{no_policy_is_policy}
 use Rattle.office_core.specs.Policies.{Contents, IsPolicy}
 use Rattle.office_history.specs.Acceptance.{IsChange, IsAllowed}
 use Rattle.office_history.specs.Runs.{IsLegal}
@@ -88,7 +89,7 @@ installed_policy before (ReleasedHold day k) ranged is = is
 installed_policy before (Destroyed day n) ranged is = is
 
 pub legal_policy : (h : History) → IsLegal h → IsPolicy (policy h)
-legal_policy h legal = legal_by (λ x. IsPolicy (policy x)) (λ a b a_in b_in. tt) more h legal
+legal_policy h legal = legal_by (λ x. IsPolicy (policy x)) (λ a b a_in b_in. no_policy_is_policy) more h legal
   where
     more : (x : History) (c : Change) → IsLegal x → IsAccepted x c → IsPolicy (policy x) → IsPolicy (policy (grown x (c ∷ [])))
     more x c was ok is = subst IsPolicy (sym (policy_grown x (c ∷ []))) (installed_policy (policy x) c ok.0 is)

@@ -1,4 +1,5 @@
 pub mod ListLemmas
+pub mod MemberLemmas
 pub mod HistoryLemmas
 pub mod Accepted
 pub mod LegalLemmas
@@ -17,3 +18,4 @@ pub mod DistinctLemmas
 pub mod Pictured
 pub mod RangeLemmas
 pub mod RowLemmas
+pub mod KeptLemmas

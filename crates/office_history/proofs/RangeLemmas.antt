@@ -186,7 +186,7 @@ there_stays h more (OnCollection name) e = collection_stays h more name e
 there_stays h more (OnDeposit n) e = by (deposit_numbered h n) refl e
   where
     by : (o : Option (Date × Deposit)) → deposit_numbered h n ≡ o → IsSome o → IsSome (deposit_numbered (grown h more) n)
-    by None is e = absurd e
+    by None is e = absurd cc
     by (Some found) is e = subst (λ (o : Option (Date × Deposit)). IsSome o) (sym (deposit_stays h more n found is)) e
 
 all_weaker : {A : Type 0} (P Q : A → Type 0) → ((x : A) → P x → Q x) → (xs : List A) → AllByRecursion P xs → AllByRecursion Q xs

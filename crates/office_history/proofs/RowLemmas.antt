@@ -3,7 +3,7 @@ use Rattle.std.proofs.Common.{◌≡◌, ◌≤◌, ◌≤ℤ◌, ℕ, zero, suc
 use Rattle.std.specs.Prelude.{bytes_eq, codes, neg_ℤ}
 use Rattle.std.specs.List.{AllByRecursion, filter_map, flat_map, list_any, range_with_len, cons_option}
 use Rattle.std.specs.Option.{option_map_or}
-use Rattle.std.proofs.lemmas.Int.{signed_arith}
+use Rattle.jiff_core.proofs.SignedLemmas.{signed_arith}
 use Rattle.jiff.specs.Types.{Date}
 use Rattle.jiff.specs.Words.{epoch_day, IsBetween}
 use Rattle.bag_text.specs.TransferForm.{File, Fits}
@@ -167,7 +167,7 @@ rows_ranged files so (n ∷ ns) = all_append IsFileRow (map (file_row n) (files 
 
 -- no deposit has the number 0
 target_ranged : (h : History) (target : Target) → IsThere h target → IsTarget target → IsOneTarget (held_deposit target) (held_collection target)
-target_ranged h (OnDeposit zero) there is = absurd there
+target_ranged h (OnDeposit zero) there is = absurd cc
 target_ranged h (OnDeposit (suc n)) there is = omega (arith, signed_arith)
 target_ranged h (OnCollection name) there is = is
 

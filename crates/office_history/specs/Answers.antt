@@ -107,9 +107,9 @@ allowed_answer h day caller (Holds n) = told (deposit_numbered h n) (λ found. a
 allowed_answer h day caller (DownloadBag n) = told (deposit_numbered h n) (λ found. answers.Bag (set_text found.1.bag))
 allowed_answer h day caller (DownloadFile n path) = told (deposit_numbered h n) (λ found. file_answer (content_at found.1.bag path.now))
 allowed_answer h day caller (Audit n) = told (deposit_numbered h n) (λ found. answers.Audit n (audited (report_on found.1.bag)))
-allowed_answer h day caller (HoldDeposit n matter) = answers.Held (length (holds h) + 1)
-allowed_answer h day caller (HoldCollection name matter) = answers.Held (length (holds h) + 1)
-allowed_answer h day caller (Release k) = answers.Released k day
+allowed_answer h day caller (HoldDeposit n matter) = answers.HoldPlaced (length (holds h) + 1)
+allowed_answer h day caller (HoldCollection name matter) = answers.HoldPlaced (length (holds h) + 1)
+allowed_answer h day caller (Release k) = answers.HoldReleased k day
 allowed_answer h day caller (Dispose n) = answers.Destroyed n day
 allowed_answer h day caller DueList = answers.DueList day (due_list h day caller)
 

@@ -6,7 +6,7 @@ use Rattle.std.specs.Option.{option_map_or}
 use Rattle.jiff.specs.Types.{Date}
 use Rattle.bag_text.specs.TransferForm.{File}
 use Rattle.office_core.specs.Policies.{Contents}
-use Rattle.office_core.specs.Retention.{due_of}
+use Rattle.office_core.specs.RetentionReading.{due_of}
 use Rattle.office_core.specs.declared.retention.Due.{Due}
 use Rattle.office_core.specs.declared.retention.Due.TheVariants.{Never}
 use Rattle.office_history.specs.Lists.{first_said, last_said, numbered, numbers}

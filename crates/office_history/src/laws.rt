@@ -1,37 +1,43 @@
 //! Laws of the office, over the definitions alone.
 
-ghost use Rattle.std.specs.Prelude.{◌≡◌, ◌↔◌, ◌<◌, ◌≢◌, ℕ, ℤ, List, [], ◌∷◌, ◌++◌, Option, Some, None, Ok, Err, true, false, slice_get};
+ghost use Rattle.std.specs.Prelude.{◌≡◌, ◌↔◌, ◌≤ℤ◌, ◌<◌, ◌≢◌, ℕ, ℤ, List, [], ◌∷◌, ◌++◌, Option, Some, None, Ok, Err, true, false, slice_get, bytes_eq};
+ghost use Rattle.std.specs.List.{IsDistinct};
 ghost use denote.Ref.{Bor};
 ghost use Rattle.jiff.specs.Types.{Date};
+ghost use Rattle.jiff.specs.Words.{epoch_day};
 ghost use Rattle.bag_text.specs.TransferForm.{File, IsBag, set_text};
 ghost use Rattle.bag_text.specs.TransferFaults.{FaultIs};
 ghost use Rattle.bag_text.specs.FaultTexts.{set_fault_text};
 ghost use Rattle.bag_text.specs.declared.set_fault.SetFault.{SetFault};
 ghost use Rattle.bag_text.specs.declared.declaration.Version.{Version};
-ghost use Rattle.bag_check.specs.Validity.{Valid};
+ghost use Rattle.bag_check.specs.declared.report.BagReport.{BagReport};
 ghost use Rattle.bag_check.specs.Faults.{Fault, FirstFault};
 ghost use Rattle.bag_check.specs.FaultTexts.{fault_text};
 ghost use Rattle.office_core.specs.Policies.{Contents};
 ghost use Rattle.office_core.specs.FirstOf.{first_some};
-ghost use Rattle.office_core.specs.Retention.{due_of};
+ghost use Rattle.office_core.specs.RetentionReading.{due_of};
 ghost use Rattle.office_core.specs.Verdicts.{verdict_of};
 ghost use Rattle.office_core.specs.declared.action.Action.{Action};
 ghost use Rattle.office_core.specs.declared.action.Action.TheVariants as acts;
 ghost use Rattle.office_core.specs.declared.answer.Answer.{Answer};
 ghost use Rattle.office_core.specs.declared.answer.Answer.TheVariants as answers;
+ghost use Rattle.office_core.specs.declared.answer.AuditReport.{AuditReport};
+ghost use Rattle.office_core.specs.declared.answer.AuditReport.TheVariants.{Valid};
 ghost use Rattle.office_core.specs.declared.answer.LiveHold.{LiveHold};
 ghost use Rattle.office_core.specs.declared.refusal.Refusal.{Refusal};
 ghost use Rattle.office_core.specs.declared.refusal.Refusal.TheVariants.{Held};
 ghost use Rattle.office_core.specs.declared.request.Request.{Request};
-ghost use Rattle.office_core.specs.declared.request.Request.TheVariants.{DefineClass, Deposit as MakeDeposit, DownloadBag, Holds, HoldCollection, Release, Dispose};
+ghost use Rattle.office_core.specs.declared.request.Request.TheVariants.{DefineClass, Deposit as MakeDeposit, DownloadBag, Audit, Holds, HoldCollection, Release, Dispose};
 ghost use Rattle.office_history.specs.Bags.{bag_of};
-ghost use Rattle.office_history.specs.Histories.{History, Change, Installed, ReleasedHold, Destroyed, Deposit, Hold, OnCollection, grown, deposit_numbered, hold_numbered, released, covers, live_holds, due};
+ghost use Rattle.office_history.specs.Histories.{History, Change, Installed, ReleasedHold, Destroyed, Deposit, Hold, OnCollection, grown, has_class, has_collection, deposit_numbered, hold_numbered, released, covers, live_holds, due};
 ghost use Rattle.office_history.specs.Refusals.{asked_row, facts_of, refusal, refusal_of};
-ghost use Rattle.office_history.specs.Answers.{answer, change, after};
+ghost use Rattle.office_history.specs.Answers.{answer, due_list, change, after};
 ghost use Rattle.office_history.specs.Pictures.{picture};
-ghost use Rattle.office_history.specs.Stocks.{stock};
-ghost use Rattle.office_history.specs.Acceptance.{IsChange, IsAllowed, IsReleasable, IsDisposable};
-ghost use Rattle.office_history.specs.Runs.{Item, AreItems, Step, Run, IsLater, IsLegal, IsSound, as_of};
+ghost use Rattle.office_history.specs.Lists.{IsIn};
+ghost use Rattle.office_history.specs.RowRanges.{AreInRange};
+ghost use Rattle.office_history.specs.Stocks.{stock, contents, IsKept};
+ghost use Rattle.office_history.specs.Acceptance.{IsChange, IsAllowed, IsThere, IsReleasable, IsDisposable};
+ghost use Rattle.office_history.specs.Runs.{Item, AreItems, Step, Run, IsLater, IsLegal, IsSound, IsWithin, as_of};
 
 /// The bag of a text is the valid bag whose transfer form it is. Where there is none, the fault is
 /// the text's first, or that of the bag.
@@ -72,6 +78,29 @@ pub fn changes_stand()
 pub fn disposals_stand()
     ensures { (h : History) → IsLegal h → (before rest : List Change) (day : Date) (n : ℕ)
         → h.changes ≡ before ++ Destroyed day n ∷ rest → IsDisposable (as_of h before) day n }
+{}
+
+/// In a legal history the limits are from 1 to 1,000,000, and no more deposits and holds were
+/// accepted than they say.
+pub fn limits_hold()
+    ensures { (h : History) → IsLegal h → IsWithin h }
+{}
+
+/// In a legal history the collection and the class of each deposit are there, and so is what each
+/// hold names.
+pub fn what_is_named_is_there()
+    ensures deposits { (h : History) → IsLegal h → (n : ℕ) (found : Date × Deposit)
+        → deposit_numbered h n ≡ Some found
+        → (has_collection h found.1.collection ≡ true) × (has_class h found.1.class ≡ true) }
+    ensures holds { (h : History) → IsLegal h → (k : ℕ) (found : Date × Hold)
+        → hold_numbered h k ≡ Some found → IsThere h found.1.target }
+{}
+
+/// In a legal history the records of each deposit were closed at or before the day of the deposit.
+pub fn closed_by_the_day_of_deposit()
+    ensures { (h : History) → IsLegal h → (n : ℕ) (found : Date × Deposit)
+        → deposit_numbered h n ≡ Some found
+        → epoch_day found.1.closed ≤ℤ epoch_day found.0 }
 {}
 
 /// What is asked of a deposit that is there is decided by the verdict of `office_core` on what is
@@ -135,11 +164,44 @@ pub fn served_as_deposited()
     bag_text::laws::transfer_forms();
 }
 
+/// The due list has exactly the deposits whose disposal, asked by that caller on that day, would be
+/// answered as destroyed.
+pub fn due_lists_are_disposals()
+    ensures { (h : History) (day : Date) (caller : List ℕ) (n : ℕ)
+        → IsIn n (due_list h day caller)
+        ↔ (answer h day caller (Dispose n) ≡ answers.Destroyed n day) }
+{}
+
+/// In a legal history each audit that is answered says that the bag is valid.
+pub fn audits_are_valid()
+    ensures { (h : History) → IsLegal h → (day : Date) (caller : List ℕ)
+        (n m : ℕ) (report : AuditReport)
+        → answer h day caller (Audit n) ≡ answers.Audit m report
+        → (counts : BagReport) × (report ≡ Valid counts) }
+{}
+
+/// The contents that are kept are exactly those of the files of kept deposits, each once.
+pub fn contents_are_kept_once()
+    ensures exactly { (h : History) (content : List ℕ)
+        → IsIn content (contents h) ↔ IsKept h content }
+    ensures once { (h : History) → IsDistinct bytes_eq (contents h) }
+{}
+
+/// The rows that a legal history gives are in their ranges: one row of the office, of that version;
+/// effects 0 and 1; names, accessions and matters; years from -1 to 200; numbers of days; one
+/// target a hold; places and numbers 1, 2, 3 and so on.
+pub fn pictures_are_in_range()
+    ensures { (h : History) (version : ℤ) → IsLegal h → AreInRange version (picture version h) }
+{
+    bag_text::laws::transfer_forms();
+    bag_check::laws::judged_bags();
+}
+
 /// A hold of a collection covers the deposits of the collection, those that come later too.
 pub fn later_deposits_are_covered()
     ensures answered { (h next : History) (k n : ℕ) (day : Date)
         (caller name matter : List ℕ) (found : Date × Deposit)
-        → answer h day caller (HoldCollection name matter) ≡ answers.Held k
+        → answer h day caller (HoldCollection name matter) ≡ answers.HoldPlaced k
         → IsLater (after h day caller (HoldCollection name matter)) next
         → deposit_numbered next n ≡ Some found → found.1.collection ≡ name
         → covers next k n found.1 ≡ true }
@@ -155,7 +217,7 @@ pub fn later_deposits_are_covered()
 /// of the live ones, is in no list of holds that is answered, and refuses no disposal.
 pub fn released_holds_are_not_live()
     ensures answered { (h next : History) (k number : ℕ) (day on : Date) (caller : List ℕ)
-        → answer h day caller (Release k) ≡ answers.Released number on
+        → answer h day caller (Release k) ≡ answers.HoldReleased number on
         → IsLater (after h day caller (Release k)) next
         → released next k ≡ Some day }
     ensures listed { (h next : History) (k n place : ℕ) (day : Date) (deposit : Deposit)
@@ -195,9 +257,9 @@ pub fn numbers_are_given_once()
         → n < m }
     ensures holds { (h next : History) (day later : Date) (n m : ℕ)
         (caller other : List ℕ) (request request_2 : Request)
-        → answer h day caller request ≡ answers.Held n
+        → answer h day caller request ≡ answers.HoldPlaced n
         → IsLater (after h day caller request) next
-        → answer next later other request_2 ≡ answers.Held m
+        → answer next later other request_2 ≡ answers.HoldPlaced m
         → n < m }
 {}
 

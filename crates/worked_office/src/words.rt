@@ -162,8 +162,8 @@ pub fn words(alloc: Global, answer: &Answer) -> Result<String, Fail> {
             let report = audit_words(alloc, report)?;
             Ok(format!(in alloc; "audit {deposit} {report}")?)
         }
-        Answer::Held { hold } => Ok(format!(in alloc; "hold {hold}")?),
-        Answer::Released { hold, day } => Ok(format!(in alloc; "released {hold} {day}")?),
+        Answer::HoldPlaced { hold } => Ok(format!(in alloc; "hold {hold}")?),
+        Answer::HoldReleased { hold, day } => Ok(format!(in alloc; "released {hold} {day}")?),
         Answer::Destroyed { deposit, day } => Ok(format!(in alloc; "destroyed {deposit} {day}")?),
         Answer::Refused(refusal) => refusal_words(alloc, refusal),
         _ => list_words(alloc, answer),

@@ -18,37 +18,10 @@ use crate::plain::reading::{
 use crate::plain::refusing::denied_at;
 use crate::plain::rows::dispose_refusal;
 use office_core::{
-    Accession, Action, Answer, Day, DepositRecord, LiveHold, Matter, Name, OwnedAccession,
-    OwnedMatter, OwnedName, Refusal, Request, Scope, Sequence, Subject,
+    Action, Answer, Day, DepositRecord, LiveHold, Name, OwnedName, Refusal, Request, Scope,
+    Sequence, Subject,
 };
 use std::alloc::{AllocError, Global};
-
-fn copy_name(alloc: Global, name: &OwnedName) -> Result<OwnedName, AllocError>
-    ensures { IfOk result (λ copy. copy ≡ name.now) }
-{
-    match Name::read(name.as_str()) {
-        Some(name) => name.to_owned(alloc),
-        None => unreachable!(),
-    }
-}
-
-fn copy_accession(alloc: Global, accession: &OwnedAccession) -> Result<OwnedAccession, AllocError>
-    ensures { IfOk result (λ copy. copy ≡ accession.now) }
-{
-    match Accession::read(accession.as_str()) {
-        Some(accession) => accession.to_owned(alloc),
-        None => unreachable!(),
-    }
-}
-
-fn copy_matter(alloc: Global, matter: &OwnedMatter) -> Result<OwnedMatter, AllocError>
-    ensures { IfOk result (λ copy. copy ≡ matter.now) }
-{
-    match Matter::read(matter.as_str()) {
-        Some(matter) => matter.to_owned(alloc),
-        None => unreachable!(),
-    }
-}
 
 /// What is told of a deposit.
 fn record_of(
@@ -60,19 +33,16 @@ fn record_of(
 ) -> Result<DepositRecord, AllocError>
     ensures { IfOk result (λ told. told ≡ record_of office.now number (day, deposit.now)) }
 {
-    let (files, bytes) = deposit.bag.payload(alloc)?;
-    let accession = copy_accession(alloc, &deposit.accession)?;
-    let collection = copy_name(alloc, &deposit.collection)?;
-    let class = copy_name(alloc, &deposit.class)?;
+    let payload = deposit.bag.payload(alloc)?;
     Ok(DepositRecord {
         number,
-        accession,
-        collection,
-        class,
+        accession: deposit.accession.lend().to_owned(alloc)?,
+        collection: deposit.collection.lend().to_owned(alloc)?,
+        class: deposit.class.lend().to_owned(alloc)?,
         closed: deposit.closed,
         deposited: day,
-        files,
-        bytes,
+        files: payload.files,
+        bytes: payload.bytes,
         due: due(office, deposit),
     })
 }
@@ -172,7 +142,7 @@ fn live_hold(alloc: Global, number: u32, day: Day, hold: &Hold) -> Result<LiveHo
 {
     Ok(LiveHold {
         number,
-        matter: copy_matter(alloc, &hold.matter)?,
+        matter: hold.matter.lend().to_owned(alloc)?,
         on: scope_of(hold),
         placed: day,
     })
@@ -310,13 +280,13 @@ pub fn allowed_answer(
         Request::DownloadBag { deposit } => bag_answer(alloc, office, *deposit),
         Request::DownloadFile { deposit, path } => path_answer(alloc, office, *deposit, *path),
         Request::Audit { deposit } => audit_answer(alloc, office, *deposit),
-        Request::HoldDeposit { .. } => Ok(Answer::Held {
+        Request::HoldDeposit { .. } => Ok(Answer::HoldPlaced {
             hold: hold_count(office) + 1,
         }),
-        Request::HoldCollection { .. } => Ok(Answer::Held {
+        Request::HoldCollection { .. } => Ok(Answer::HoldPlaced {
             hold: hold_count(office) + 1,
         }),
-        Request::Release { hold } => Ok(Answer::Released { hold: *hold, day }),
+        Request::Release { hold } => Ok(Answer::HoldReleased { hold: *hold, day }),
         Request::Dispose { deposit } => Ok(Answer::Destroyed {
             deposit: *deposit,
             day,

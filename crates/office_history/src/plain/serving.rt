@@ -130,6 +130,9 @@ pub fn step(
     ensures served { Serves office.old day caller.now request.now result office.new }
     ensures legal { IsLegal office.old → IsLegal office.new }
 {
+    // What the types of a day and of a request say of their values.
+    let _date = day.date();
+    request.prove_in_range();
     match serve(alloc, office, day, caller, request) {
         Ok(answer) => answer,
         Err(_) => Answer::Refused(Refusal::Memory),

@@ -5,7 +5,7 @@ ghost use Rattle.bag_text.specs.TransferForm.{IsBag, set_text, content_at};
 ghost use Rattle.bag_text.specs.TransferReading.{set_of, files_of};
 ghost use Rattle.bag_check.specs.Validity.{payload_files, payload_bytes};
 
-use bag_check::count_payload;
+use bag_check::{PayloadCounts, count_payload};
 use bag_text::{BagSet, read_bagset};
 use std::alloc::{AllocError, Global};
 use std::marker::Model;
@@ -70,12 +70,12 @@ impl StoredBag {
     }
 
     /// How many files the payload has, and how many bytes.
-    pub fn payload(&self, alloc: Global) -> Result<(usize, usize), AllocError>
-        ensures files { IfOk result (λ counts. counts.0 ≡ payload_files self.now) }
-        ensures bytes { IfOk result (λ counts. counts.1 ≡ payload_bytes self.now) }
+    pub fn payload(&self, alloc: Global) -> Result<PayloadCounts, AllocError>
+        ensures files { IfOk result (λ counts. counts.files ≡ payload_files self.now) }
+        ensures bytes { IfOk result (λ counts. counts.bytes ≡ payload_bytes self.now) }
     {
         let bag = self.read(alloc)?;
-        Ok(count_payload(bag.files()))
+        Ok(count_payload(&bag))
     }
 }
 

@@ -4,7 +4,7 @@ use Rattle.office_core.specs.declared.refusal.Refusal.{Refusal}
 use Rattle.office_history.specs.Histories.{History, Change, grown}
 use Rattle.office_history.specs.Answers.{changes_unless, allowed_change}
 use Rattle.office_history.specs.Runs.{Item, Step}
-use Rattle.office_history.proofs.LawLemmas.{grown_by_none}
+use Rattle.office_history.proofs.Accepted.{grown_by_none}
 use Rattle.office_history.proofs.AnsweredLemmas.{refused_change}
 use Rattle.office_history.proofs.laws.refused_changes_nothing.Goals as goal
 

@@ -3,4 +3,4 @@ use Rattle.office_history.proofs.plain.history.install.Goals as goal
 
 pub returns-clause-legal : goal.returns-clause-legal
 returns-clause-legal c =
-    install_legal c.args.office.now c.accept.new.office c.args.policy c.accept.result c.rules-rules.ensures.names c.accept.ensures.accepted c.accept.ensures.failed
+    install_legal c.args.office.now c.accept.new.office c.args.policy c.accept.result c.rules-rules.ensures.policy c.accept.ensures.accepted c.accept.ensures.failed

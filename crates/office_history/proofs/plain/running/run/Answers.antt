@@ -1,13 +1,13 @@
 use Rattle.std.proofs.Common.{arith}
 use Rattle.std.proofs.lemmas.Grind.{common_steps}
 use Rattle.office_history.proofs.PlainRuns.{run_on, run_end, run_of}
-use Rattle.office_history.proofs.LegalLemmas.{run_legal}
 use Rattle.office_history.proofs.plain.running.run.Goals as goal
 
 pub loop-item-preserved : goal.loop-item-preserved
 loop-item-preserved c = record {
   count = grind (arith, common_steps);
   room = grind (arith, common_steps);
+  legal = λ legal. c.step-answer.ensures.legal (c.loop-item.invariant.legal legal);
   served = λ more last rest. rw c.in_ok-push.ensures.items (run_on c.args.office.now c.loop-item.office c.step-answer.new.office last c.args.items.now c.loop-item.item-index c.item-item.result c.loop-item.answers.items more c.step-answer.result c.loop-item-test.true c.item-item.is c.step-answer.ensures.served c.loop-item.invariant.served rest);
 }
 
@@ -18,5 +18,4 @@ pub returns-clause-ran : goal.returns-clause-ran
 returns-clause-ran c = run_of c.args.items.now c.loop-item.answers.items c.args.office.now c.loop-item.office (returns-clause-served c)
 
 pub returns-clause-legal : goal.returns-clause-legal
-returns-clause-legal c = λ legal.
-    run_legal c.args.items.now c.loop-item.answers.items c.args.office.now c.loop-item.office legal (returns-clause-ran c)
+returns-clause-legal c = c.loop-item.invariant.legal

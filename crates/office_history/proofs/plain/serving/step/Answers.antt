@@ -4,4 +4,5 @@ use Rattle.office_history.proofs.plain.serving.step.Goals as goal
 
 pub returns-in-Ok-clause-legal : goal.returns-in-Ok-clause-legal
 returns-in-Ok-clause-legal c = λ legal.
-    subst IsLegal (sym c.in-Ok.ensures.after) (serve c.args.office.now c.args.day c.args.caller.now c.args.request.now legal)
+    subst IsLegal (sym c.in-Ok.ensures.after)
+    (serve c.args.office.now c.args.day c.args.caller.now c.args.request.now c.date-date.ensures.range c.prove_in_range.ensures legal)

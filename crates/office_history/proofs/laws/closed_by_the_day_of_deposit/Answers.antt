@@ -1,0 +1,7 @@
+use Rattle.office_history.specs.Histories.{deposits}
+use Rattle.office_history.proofs.ListLemmas.{all_numbered}
+use Rattle.office_history.proofs.RangeLemmas.{WasClosed, closed_deposits}
+use Rattle.office_history.proofs.laws.closed_by_the_day_of_deposit.Goals as goal
+
+pub returns : goal.returns
+returns c = λ h legal n found e. all_numbered WasClosed (deposits h) n found (closed_deposits h legal) e

@@ -1,0 +1,5 @@
+use Rattle.office_history.proofs.RangeLemmas.{limits_hold}
+use Rattle.office_history.proofs.laws.limits_hold.Goals as goal
+
+pub returns : goal.returns
+returns c = limits_hold
