@@ -10,7 +10,7 @@ use Rattle.jiff.specs.Types.{Date}
 use Rattle.jiff.specs.Words.{epoch_day}
 use Rattle.office_core.specs.FirstOf.{first_some}
 use Rattle.office_core.specs.Rules.{Question, IsFirstMatch, NoneMatches, matches, matches_name, first_place, decision_of, decision_at, some_rule_allows, allows}
-use Rattle.office_core.specs.Verdicts.{verdict_of, is_denied, IsReadyForDisposal, held, not_due}
+use Rattle.office_core.specs.Verdicts.{verdict_of, is_denied, IsReadyForDisposal, hold_verdict, due_verdict}
 use Rattle.office_core.specs.declared.action.Action.TheVariants.{Dispose}
 use Rattle.office_core.specs.declared.rule.Rule.{Rule}
 use Rattle.office_core.specs.declared.rule.Effect.{Effect}
@@ -141,7 +141,7 @@ allows_none : (a b : Effect) → a ≡ b → ¬ (allows a ≡ true) → allows b
 allows_none effects.Allow b e h = absurd (h refl)
 allows_none effects.Deny b e h = rw (← e) refl
 
-not_before : (day date : Date) → epoch_day day <ℤ epoch_day date → unwrap_or (first_some (not_due day (On date) ∷ [])) Allow ≡ Allow → ⊥
+not_before : (day date : Date) → epoch_day day <ℤ epoch_day date → unwrap_or (first_some (due_verdict day (On date) ∷ [])) Allow ≡ Allow → ⊥
 not_before day date lt is =
     let before : int_lt (epoch_day day) (epoch_day date) ≡ true = search (rules, lt) in
     let wrong : NotDue date ≡ Allow = rw before at is in
@@ -163,7 +163,7 @@ denied_verdict facts day (Some d) e h = rw (e, h d refl) refl
 
 -- what an allowed disposal stands on
 ready : (facts : Facts) (day : Date) (decision : Decision) (hold : Option ℕ) (due : Due) → facts.decision ≡ Some decision → decision.effect ≡ effects.Allow → facts.gone ≡ None → facts.hold ≡ hold → facts.due ≡ due
-    → unwrap_or (first_some (held hold ∷ not_due day due ∷ [])) Allow ≡ Allow → IsReadyForDisposal facts day
+    → unwrap_or (first_some (hold_verdict hold ∷ due_verdict day due ∷ [])) Allow ≡ Allow → IsReadyForDisposal facts day
 ready facts day decision (Some k) due a b c d e is = cc
 ready facts day decision None Never a b c d e is = cc
 ready facts day decision None (On date) a b c d e is =
@@ -191,7 +191,7 @@ allowed_from facts day (Some decision) a d is = allowed_by facts day decision de
 pub allowed_disposal : (facts : Facts) (day : Date) → facts.action ≡ Dispose → verdict_of facts day ≡ Allow → IsReadyForDisposal facts day
 allowed_disposal facts day d is = allowed_from facts day facts.decision refl d is
 
-ready_allows : (day date : Date) → epoch_day date ≤ℤ epoch_day day → unwrap_or (first_some (not_due day (On date) ∷ [])) Allow ≡ Allow
+ready_allows : (day date : Date) → epoch_day date ≤ℤ epoch_day day → unwrap_or (first_some (due_verdict day (On date) ∷ [])) Allow ≡ Allow
 ready_allows day date come =
     let due : int_lt (epoch_day day) (epoch_day date) ≡ false = search (rules, come) in
     rw due refl

@@ -15,22 +15,22 @@ use Rattle.office_core.specs.declared.facts.Verdict.{Verdict}
 use Rattle.office_core.specs.declared.facts.Verdict.TheVariants.{DeniedByRule, DeniedByDefault, Gone, Held, NotDue, Permanent, Allow}
 
 -- the rule that decides denies, or none decides
-abbrev pub denied : Option Decision → Option Verdict
-denied None = Some DeniedByDefault
-denied (Some decision) = if allows decision.effect then None else Some (DeniedByRule decision.rule)
+abbrev pub denial_verdict : Option Decision → Option Verdict
+denial_verdict None = Some DeniedByDefault
+denial_verdict (Some decision) = if allows decision.effect then None else Some (DeniedByRule decision.rule)
 
 -- the deposit was destroyed
-abbrev pub gone : Option Date → Option Verdict
-gone day = option_map Gone day
+abbrev pub gone_verdict : Option Date → Option Verdict
+gone_verdict day = option_map Gone day
 
 -- a disposal of what a hold covers
-abbrev pub held : Option ℕ → Option Verdict
-held hold = option_map Held hold
+abbrev pub hold_verdict : Option ℕ → Option Verdict
+hold_verdict hold = option_map Held hold
 
 -- a disposal before the due day, or of what is kept for good
-abbrev pub not_due : Date → Due → Option Verdict
-not_due day (On date) = answer_if (int_lt (epoch_day day) (epoch_day date)) (NotDue date)
-not_due day Never = Some Permanent
+abbrev pub due_verdict : Date → Due → Option Verdict
+due_verdict day (On date) = answer_if (int_lt (epoch_day day) (epoch_day date)) (NotDue date)
+due_verdict day Never = Some Permanent
 
 abbrev pub is_dispose : Action → Bool
 is_dispose Dispose = true
@@ -43,10 +43,10 @@ of_disposal action verdict = if is_dispose action then verdict else None
 -- the refusals, in their order
 abbrev pub refusals : Facts → Date → List (Option Verdict)
 refusals facts day =
-    denied facts.decision
-    ∷ gone facts.gone
-    ∷ of_disposal facts.action (held facts.hold)
-    ∷ of_disposal facts.action (not_due day facts.due)
+    denial_verdict facts.decision
+    ∷ gone_verdict facts.gone
+    ∷ of_disposal facts.action (hold_verdict facts.hold)
+    ∷ of_disposal facts.action (due_verdict day facts.due)
     ∷ []
 
 -- the first refusal that applies, else `Allow`
@@ -55,7 +55,7 @@ verdict_of facts day = unwrap_or (first_some (refusals facts day)) Allow
 
 -- the verdict on a disposal that the rules allow
 abbrev pub disposal_of : Option ℕ → Due → Date → Verdict
-disposal_of hold due day = unwrap_or (first_some (held hold ∷ not_due day due ∷ [])) Allow
+disposal_of hold due day = unwrap_or (first_some (hold_verdict hold ∷ due_verdict day due ∷ [])) Allow
 
 abbrev pub is_denied : Verdict → Bool
 is_denied (DeniedByRule rule) = true

@@ -2,7 +2,7 @@
 
 ghost use Rattle.std.specs.Prelude.{◌≡◌, int_lt};
 ghost use Rattle.jiff.specs.Words.{epoch_day};
-ghost use Rattle.office_core.specs.Verdicts.{denied, disposal_of, verdict_of};
+ghost use Rattle.office_core.specs.Verdicts.{denial_verdict, disposal_of, verdict_of};
 
 use crate::action::Action;
 use crate::day::Day;
@@ -24,8 +24,8 @@ fn is_before(day: Day, date: civil::Date) -> bool
 }
 
 /// The verdict of the rules alone, where they refuse: the rule that decides denies, or none does.
-pub fn denied(decision: Option<Decision>) -> Option<Verdict>
-    ensures { result ≡ denied decision }
+pub fn denial_verdict(decision: Option<Decision>) -> Option<Verdict>
+    ensures { result ≡ denial_verdict decision }
 {
     match decision {
         None => Some(Verdict::DeniedByDefault),
@@ -41,7 +41,7 @@ pub fn denied(decision: Option<Decision>) -> Option<Verdict>
 pub fn verdict(facts: &Facts, day: Day) -> Verdict
     ensures { result ≡ verdict_of facts.now day }
 {
-    if let Some(verdict) = denied(facts.decision) {
+    if let Some(verdict) = denial_verdict(facts.decision) {
         return verdict;
     }
     if let Some(gone) = facts.gone {

@@ -30,7 +30,7 @@ pub use answer::{Answer, AuditReport, DepositRecord, LiveHold, Scope};
 pub use caller::Caller;
 pub use closing::due;
 pub use day::Day;
-pub use deciding::{denied, verdict};
+pub use deciding::{denial_verdict, verdict};
 pub use facts::{Facts, Verdict};
 pub use limits::Limits;
 pub use names::{Accession, Matter, Name, OwnedAccession, OwnedMatter, OwnedName};
