@@ -4,7 +4,7 @@ use Rattle.std.specs.Prelude.{IfErr, MatchResult}
 use Rattle.toml.specs.Data.{Members}
 use Rattle.toml.specs.Parse.{parse_document}
 use Rattle.office_core.specs.FirstOf.{first_some}
-use Rattle.office_core.specs.Policies.{Answers, Contents, FailsAs, HasFirstFault, SpellsPolicy, contents_of, faults, policy_of, read_tree, spelled}
+use Rattle.office_core.specs.Policies.{Answers, Contents, FailsAs, HasFirstFault, SpellsPolicy, contents_of, faults, policy_of, read_tree, contents_unless}
 use Rattle.office_core.specs.declared.policy_fault.PolicyFault.{PolicyFault}
 use Rattle.office_core.specs.declared.policy_fault.PolicyFault.TheVariants.{NotToml, BadVersion, UnknownKey, BadCaller, BadRule, TooMany, Memory}
 
@@ -17,7 +17,7 @@ policy_is : (text : List ℕ) (policy : Contents) → policy_of text ≡ Ok poli
 policy_is text policy e = go (parse_document text) refl e
   where
     by_fault : (tree : Members) (fault : Option PolicyFault) → parse_document text ≡ Some tree → first_some (faults tree) ≡ fault
-        → spelled (contents_of tree) fault ≡ Ok policy → SpellsPolicy text policy
+        → contents_unless (contents_of tree) fault ≡ Ok policy → SpellsPolicy text policy
     by_fault tree None parsed sound read = record { tree = tree; parsed = parsed; sound = sound; is = cc }
     by_fault tree (Some fault) parsed sound read = absurd cc
 
@@ -29,7 +29,7 @@ fault_is : (text : List ℕ) (fault : PolicyFault) → policy_of text ≡ Err fa
 fault_is text fault e = go (parse_document text) refl e
   where
     by_fault : (tree : Members) (found : Option PolicyFault) → parse_document text ≡ Some tree → first_some (faults tree) ≡ found
-        → spelled (contents_of tree) found ≡ Err fault → HasFirstFault text fault
+        → contents_unless (contents_of tree) found ≡ Err fault → HasFirstFault text fault
     by_fault tree None parsed first read = absurd cc
     by_fault tree (Some found) parsed first read = let same : found ≡ fault = cc in inr (tree, parsed, first ∙ ap Some same)
 
@@ -39,11 +39,11 @@ fault_is text fault e = go (parse_document text) refl e
 
 of_policy : (text : List ℕ) (policy : Contents) → SpellsPolicy text policy → policy_of text ≡ Ok policy
 of_policy text policy spells =
-    ap read_tree spells.parsed ∙ ap (spelled (contents_of spells.tree)) spells.sound ∙ ap Ok (sym spells.is)
+    ap read_tree spells.parsed ∙ ap (contents_unless (contents_of spells.tree)) spells.sound ∙ ap Ok (sym spells.is)
 
 of_fault : (text : List ℕ) (fault : PolicyFault) → HasFirstFault text fault → policy_of text ≡ Err fault
 of_fault text fault (inl (none, is)) = ap read_tree none ∙ ap Err (sym is)
-of_fault text fault (inr (tree, parsed, first)) = ap read_tree parsed ∙ ap (spelled (contents_of tree)) first
+of_fault text fault (inr (tree, parsed, first)) = ap read_tree parsed ∙ ap (contents_unless (contents_of tree)) first
 
 -- ---- what an answer says
 

@@ -163,14 +163,14 @@ faults tree =
 abbrev pub contents_of : Members → Contents
 contents_of tree = record { callers = callers_of tree; rules = rules_of tree }
 
--- the first fault of a tree, or the policy that it spells
-abbrev pub spelled : Contents → Option PolicyFault → Result Contents PolicyFault
-spelled contents (Some fault) = Err fault
-spelled contents None = Ok contents
+-- a fault, or else the contents
+abbrev pub contents_unless : Contents → Option PolicyFault → Result Contents PolicyFault
+contents_unless contents (Some fault) = Err fault
+contents_unless contents None = Ok contents
 
 abbrev pub read_tree : Option Members → Result Contents PolicyFault
 read_tree None = Err NotToml
-read_tree (Some tree) = spelled (contents_of tree) (first_some (faults tree))
+read_tree (Some tree) = contents_unless (contents_of tree) (first_some (faults tree))
 
 -- Y1 where the text is no TOML, else what its tree gives
 abbrev pub policy_of : List ℕ → Result Contents PolicyFault

@@ -24,8 +24,8 @@ rules_or rules None = Ok rules
 abbrev pub read_rules : Option (List Data) → Result (List Rule) PolicyFault
 read_rules found = rules_or (rules_among found) (bad_rule_among found)
 
-abbrev pub counted : List Caller → List Rule → Result Contents PolicyFault
-counted callers rules =
+abbrev pub contents_within_limits : List Caller → List Rule → Result Contents PolicyFault
+contents_within_limits callers rules =
     if nat_lt 200 (length rules) || nat_lt 1000 (length callers) then Err TooMany else Ok (record { callers = callers; rules = rules })
 
 -- what reading a tree gives
@@ -33,7 +33,7 @@ abbrev pub read_contents : Members → Result Contents PolicyFault
 read_contents tree =
     if has_bad_version tree then Err BadVersion
     else if has_unknown_key tree then Err UnknownKey
-    else (read_callers (caller_entries tree) >>= λ callers. read_rules (rule_values tree) >>= λ rules. counted callers rules)
+    else (read_callers (caller_entries tree) >>= λ callers. read_rules (rule_values tree) >>= λ rules. contents_within_limits callers rules)
 
 -- a part of a rule is read, or isn't there, memory aside
 abbrev pub Reads : {A : Type 0} → Result A RuleFlaw → Option A → Type 0

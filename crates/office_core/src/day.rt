@@ -85,7 +85,7 @@ fn year_of(century: u8, year: u8) -> i16
     century as i16 * 100 + year as i16
 }
 
-fn small(number: u8) -> i8
+fn signed_byte(number: u8) -> i8
     requires { number < 100 }
     ensures { result ≡ pos number }
 {
@@ -101,7 +101,7 @@ fn date_of(century: u8, year: u8, month: u8, day: u8) -> Option<civil::Date>
     ensures value { IfSome result (IsYmd (pos (century * 100 + year)) (pos month) (pos day)) }
     ensures only { IsDate (pos (century * 100 + year)) (pos month) (pos day) → IsSome result }
 {
-    civil_date(year_of(century, year), small(month), small(day))
+    civil_date(year_of(century, year), signed_byte(month), signed_byte(day))
 }
 
 /// 1970-01-01, whose number is 0.

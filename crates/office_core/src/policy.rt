@@ -59,7 +59,7 @@ impl Policy {
     }
 }
 
-fn listed<'a>(callers: &'a [Caller], name: &str) -> Option<&'a Caller>
+fn caller_named<'a>(callers: &'a [Caller], name: &str) -> Option<&'a Caller>
     ensures { option_copied result ≡ find (λ caller. bytes_eq caller.name name.now) callers.now }
 {
     callers.iter().find(|caller| caller.name.as_str() == name)
@@ -69,7 +69,7 @@ fn role_in<'a>(callers: &'a [Caller], name: &str) -> &'a str
     ensures { result.now
         ≡ role_or_stranger (find (λ caller. bytes_eq caller.name name.now) callers.now) }
 {
-    match listed(callers, name) {
+    match caller_named(callers, name) {
         Some(caller) => caller.role.as_str(),
         None => "stranger",
     }
