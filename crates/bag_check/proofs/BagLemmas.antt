@@ -9,42 +9,8 @@ use Rattle.bag_text.specs.Paths.{comes_before}
 use Rattle.bag_text.specs.TransferForm.{File, IsBag, Ascends, content_at}
 use Rattle.bag_check.specs.Contents.{Holds, HasFile, IsPayload, is_payload}
 use Rattle.bag_check.specs.Judging.{has_path}
-use Rattle.bag_check.proofs.OrderLemmas.{Has, contains_has, has_contains, apart, chain, Up, Ascending, ascending_rest, later_path}
-
--- ---- elements of a list that is mapped or filtered
-
--- an element is one of the mapped list, mapped
-pub has_map : {A B : Type 0} (f : A → B) (xs : List A) (x : A) → Has xs x → Has (map f xs) (f x)
-has_map f [] x h = absurd h
-has_map f (y ∷ ys) x (inl e) = inl (ap f e)
-has_map f (y ∷ ys) x (inr h) = inr (has_map f ys x h)
-
--- an element of a mapped list comes from one of the list
-pub map_has : {A B : Type 0} (f : A → B) (xs : List A) (y : B) → Has (map f xs) y → (x : A) × Has xs x × (f x ≡ y)
-map_has f [] y h = absurd h
-map_has f (x ∷ xs) y (inl e) = (x, inl refl, e)
-map_has f (x ∷ xs) y (inr h) = let found = map_has f xs y h in (found.0, inr found.1, found.2)
-
--- an element that passes is kept
-pub has_filter : {A : Type 0} (p : A → Bool) (xs : List A) (x : A) → Has xs x → p x ≡ true → Has (filter p xs) x
-has_filter p [] x h e = absurd h
-has_filter {A} p (y ∷ ys) x h e = by_test (p y) refl h (λ h. has_filter p ys x h e)
-  where
-    by_test : (t : Bool) → p y ≡ t → (y ≡ x) ⊎ Has ys x → (Has ys x → Has (filter p ys) x) → Has (cond t (y ∷ filter p ys) (filter p ys)) x
-    by_test true t (inl is) again = inl is
-    by_test true t (inr h) again = inr (again h)
-    by_test false t (inl is) again = absurd (false≢true (sym t ∙ ap p is ∙ e))
-    by_test false t (inr h) again = again h
-
--- what is kept is an element that passes
-pub filter_has : {A : Type 0} (p : A → Bool) (xs : List A) (x : A) → Has (filter p xs) x → Has xs x × (p x ≡ true)
-filter_has p [] x h = absurd h
-filter_has {A} p (y ∷ ys) x h = by_test (p y) refl h (λ h. filter_has p ys x h)
-  where
-    by_test : (t : Bool) → p y ≡ t → Has (cond t (y ∷ filter p ys) (filter p ys)) x → (Has (filter p ys) x → Has ys x × (p x ≡ true)) → ((y ≡ x) ⊎ Has ys x) × (p x ≡ true)
-    by_test true t (inl is) again = (inl is, ap p (sym is) ∙ t)
-    by_test true t (inr h) again = let more = again h in (inr more.0, more.1)
-    by_test false t h again = let more = again h in (inr more.0, more.1)
+use Rattle.bag_check.proofs.OrderLemmas.{apart, chain, Up, Ascending, ascending_rest, later_path}
+use Rattle.bag_text.proofs.ElementLemmas.{Has, contains_has, has_contains, has_map, map_has, has_filter, filter_has}
 
 -- ---- a bag's paths
 

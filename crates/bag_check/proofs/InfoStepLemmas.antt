@@ -16,11 +16,11 @@ use Rattle.bag_check.specs.OxumReading.{counts_of}
 use Rattle.bag_text.specs.Answers.{◌>>=◌}
 use Rattle.bag_check.specs.Judging.{are_others, oxums_kept, or_info, info_kept, keeps_info}
 use Rattle.bag_text.proofs.ResultLemmas.{same_err, never_both}
-use Rattle.bag_check.proofs.OrderLemmas.{Has, contains_has, has_contains, any_has, none_has}
 use Rattle.bag_check.proofs.BagLemmas.{one_content, content_found, no_content}
 use Rattle.bag_check.proofs.FaultLemmas.{at_13, at_14, at_15, at_16, Earlier, none_earlier, NoneBelow, none_more, named_first}
 use Rattle.bag_check.proofs.OxumLemmas.{one_info}
 use Rattle.bag_check.proofs.CountsLemmas.{counts_is, counts_again}
+use Rattle.bag_text.proofs.ElementLemmas.{Has, contains_has, has_contains, any_has, none_has}
 
 -- ---- a bag-info.txt that is read
 

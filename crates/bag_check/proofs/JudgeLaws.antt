@@ -18,7 +18,6 @@ use Rattle.bag_check.specs.Faults.{Fault, Breaks, IsBroken, Stands, FirstFault}
 use Rattle.bag_text.specs.Answers.{◌>>=◌}
 use Rattle.bag_check.specs.Judging.{has_path, version_in, no_fetch, Named, manifests_in, some_payload, Listed, listings_of, keeps, listing_rules, keeps_info, keeps_contents, judge}
 use Rattle.bag_text.proofs.ResultLemmas.{bind_ok, bind_err, same_ok}
-use Rattle.bag_check.proofs.OrderLemmas.{Has, contains_has, has_contains}
 use Rattle.bag_check.proofs.TextFacts.{manifest_is}
 use Rattle.bag_check.proofs.BagLemmas.{has_path_is, no_path_is, is_payload_is, is_payload_again}
 use Rattle.bag_check.proofs.FaultLemmas.{last_number, NoneBelow, one_version, one_first_fault}
@@ -27,6 +26,7 @@ use Rattle.bag_check.proofs.RuleLemmas.{AreListed, listed, lists_found, found_li
 use Rattle.bag_check.proofs.StepLemmas.{version_ok, version_err, below_3, fetch_ok, fetch_err, below_4, names_err, below_5, payload_err, below_6, are_listed, texts_err, below_7, Follow, rules_ok, rules_err}
 use Rattle.bag_check.proofs.InfoStepLemmas.{info_ok, info_err, info_right}
 use Rattle.bag_check.proofs.ValidLemmas.{none_stands}
+use Rattle.bag_text.proofs.ElementLemmas.{Has, contains_has, has_contains}
 
 -- what judging knows once the manifests are read
 record IsRead (bag : List File) (v : Version) (ms : List Named) (ls : List Listed) : Type 0 where

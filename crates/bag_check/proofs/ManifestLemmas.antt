@@ -15,9 +15,10 @@ use Rattle.bag_check.specs.Faults.{Fault, UnsupportedAlgorithm, NoPayloadManifes
 use Rattle.bag_text.specs.Answers.{◌>>=◌}
 use Rattle.bag_check.specs.Judging.{Named, named_by, named_or_fault, named_of, onto, manifests_in, some_payload, Listed, listed_or_fault, listings_of}
 use Rattle.bag_text.proofs.ResultLemmas.{bind_ok, bind_err, same_ok, same_err, never_both}
-use Rattle.bag_check.proofs.OrderLemmas.{Has, any_has, none_has, apart, chain, Up, Ascending, ascending_rest, later_path}
-use Rattle.bag_check.proofs.BagLemmas.{paths, has_map, up_skip}
+use Rattle.bag_check.proofs.OrderLemmas.{apart, chain, Up, Ascending, ascending_rest, later_path}
+use Rattle.bag_check.proofs.BagLemmas.{paths, up_skip}
 use Rattle.bag_check.proofs.NameLemmas.{kind_is, kind_again, name_is, no_name, one_name, algorithm_is, no_algorithm}
+use Rattle.bag_text.proofs.ElementLemmas.{Has, any_has, none_has, has_map}
 
 -- ---- what a file is
 

@@ -1,7 +1,6 @@
 -- The order of paths by bytes, and what comes first in an ascending list.
-use Rattle.std.proofs.Common.{◌≡◌, ℕ, ◌⊎◌, inl, inr, Bool, true, false, cond, ◌||◌, List, [], ◌∷◌, zero, suc, refl, sym, ap, subst, ◌∙◌, arith}
-use Rattle.std.specs.Prelude.{Option, Some, None, find, Contains}
-use Rattle.std.specs.List.{list_any}
+use Rattle.std.proofs.Common.{◌≡◌, ℕ, ◌⊎◌, inl, inr, Bool, true, false, cond, List, [], ◌∷◌, refl, sym, ap, subst, ◌∙◌}
+use Rattle.std.specs.Prelude.{Option, Some, None, find}
 use Rattle.std.specs.Cmp.Lexicographic.{slice_cmp}
 use Rattle.std.specs.declared.cmp.Ordering.{Ordering}
 use Rattle.std.specs.declared.cmp.Ordering.TheVariants.{Less, Equal, Greater}
@@ -10,44 +9,7 @@ use Rattle.std.proofs.lemmas.Cmp.{nat_list_cmp_total}
 use Rattle.std.proofs.lemmas.Map.Text.{is_eq-slice_cmp}
 use Rattle.std.proofs.lemmas.Slice.Eq.{bytes_eq-Decides}
 use Rattle.bag_text.specs.Paths.{comes_before}
-
--- ---- elements
-
--- x is an element, by the list's parts
-abbrev pub Has : {A : Type 0} → List A → A → Type 0
-Has [] x = ⊥
-Has (y ∷ ys) x = (y ≡ x) ⊎ Has ys x
-
--- what a list contains is one of its parts
-pub contains_has : {A : Type 0} (xs : List A) (x : A) → Contains xs x → Has xs x
-contains_has [] x (k, within, is) = absurd (omega arith)
-contains_has (y ∷ ys) x (zero, within, is) = inl is
-contains_has (y ∷ ys) x (suc k, within, is) = inr (contains_has ys x (k, omega arith, is))
-
--- a part of a list is contained in it
-pub has_contains : {A : Type 0} (xs : List A) (x : A) → Has xs x → Contains xs x
-has_contains [] x h = absurd h
-has_contains (y ∷ ys) x (inl e) = (0, omega arith, e)
-has_contains (y ∷ ys) x (inr h) = let rest = has_contains ys x h in (suc rest.0, omega (arith, rest.1), rest.2)
-
--- where some element passes there is one
-pub any_has : {A : Type 0} (p : A → Bool) (xs : List A) → list_any p xs ≡ true → (x : A) × Has xs x × (p x ≡ true)
-any_has p [] e = absurd cc
-any_has {A} p (x ∷ xs) e = by_test (p x) refl e (λ e. any_has p xs e)
-  where
-    by_test : (t : Bool) → p x ≡ t → (t || list_any p xs) ≡ true → (list_any p xs ≡ true → (y : A) × Has xs y × (p y ≡ true)) → (y : A) × ((x ≡ y) ⊎ Has xs y) × (p y ≡ true)
-    by_test true t e again = (x, inl refl, t)
-    by_test false t e again = let found = again e in (found.0, inr found.1, found.2)
-
--- where none passes no element does
-pub none_has : {A : Type 0} (p : A → Bool) (xs : List A) (x : A) → list_any p xs ≡ false → Has xs x → p x ≡ true → ⊥
-none_has p [] x none h e = h
-none_has {A} p (y ∷ ys) x none h e = by_test (p y) refl none h (λ n h. none_has p ys x n h e)
-  where
-    by_test : (t : Bool) → p y ≡ t → (t || list_any p ys) ≡ false → (y ≡ x) ⊎ Has ys x → (list_any p ys ≡ false → Has ys x → ⊥) → ⊥
-    by_test true t none h again = absurd cc
-    by_test false t none (inl is) again = let same : p y ≡ p x = ap p is in absurd cc
-    by_test false t none (inr h) again = again none h
+use Rattle.bag_text.proofs.ElementLemmas.{Has}
 
 -- ---- the order by bytes
 

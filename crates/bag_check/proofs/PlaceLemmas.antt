@@ -8,9 +8,10 @@ use Rattle.bag_text.specs.ManifestReading.{Entry, is_listed}
 use Rattle.bag_check.specs.declared.rule.Rule.{Rule}
 use Rattle.bag_check.specs.Faults.{PlaceBefore}
 use Rattle.bag_check.specs.Judging.{Listed, concerns, is_about_files, breaks_at, asked_of, first_listed, first_unlisted, first_in, or_place, first_place}
-use Rattle.bag_check.proofs.OrderLemmas.{Has, apart, chain, Ascending, ascending_rest, later_path, IsLeastPath, find_is_least}
-use Rattle.bag_check.proofs.BagLemmas.{paths, has_map}
+use Rattle.bag_check.proofs.OrderLemmas.{apart, chain, Ascending, ascending_rest, later_path, IsLeastPath, find_is_least}
+use Rattle.bag_check.proofs.BagLemmas.{paths}
 use Rattle.bag_check.proofs.ManifestLemmas.{list_names}
+use Rattle.bag_text.proofs.ElementLemmas.{Has, has_map}
 
 -- ---- in one manifest
 

@@ -15,7 +15,7 @@ use Rattle.bag_check.specs.Contents.{Holds, HasFile, declaration_path, fetch_pat
 use Rattle.bag_check.specs.Faults.{Fault, NoDeclaration, Declaration, FetchNotSupported, UnsupportedAlgorithm, NoPayloadManifest, ManifestText, Breaks, IsBroken, Stands, rule_number, PlaceBefore, FirstFault}
 use Rattle.bag_check.specs.Judging.{has_path, or_declaration, declared_by, version_in, no_fetch, Named, manifests_in, some_payload, Listed, listings_of, first_place, kept_by, keeps}
 use Rattle.bag_text.proofs.ResultLemmas.{bind_ok, bind_err, same_err, never_both}
-use Rattle.bag_check.proofs.OrderLemmas.{Has, apart, contains_has, has_contains, Ascending, ascending_rest}
+use Rattle.bag_check.proofs.OrderLemmas.{apart, Ascending, ascending_rest}
 use Rattle.bag_check.proofs.TextFacts.{declares_is, declares_again, refused_is, refused_again, fault_is, fault_again}
 use Rattle.bag_check.proofs.BagLemmas.{bag_ascends, ascends_up, path_of_file, one_content, content_found, no_content, has_path_is, no_path_is}
 use Rattle.bag_check.proofs.NameLemmas.{one_algorithm}
@@ -23,6 +23,7 @@ use Rattle.bag_check.proofs.FaultLemmas.{at_1, at_2, at_3, at_4, at_5, at_6, at_
 use Rattle.bag_check.proofs.ManifestLemmas.{at, as_named, as_listed, read_of, names, Found, IsFirstUnsupported, first_unsupported, no_payload_manifest, AreRead, IsFirstRefused, first_refused}
 use Rattle.bag_check.proofs.PlaceLemmas.{Place, IsLeastPlace}
 use Rattle.bag_check.proofs.RuleLemmas.{AreListed, listed, broken_first}
+use Rattle.bag_text.proofs.ElementLemmas.{Has, contains_has, has_contains}
 
 -- ---- the declaration
 

@@ -14,7 +14,8 @@ use Rattle.bag_text.specs.ManifestReading.{Entry, Entries, manifest_of, is_liste
 use Rattle.bag_text.proofs.DeclarationLemmas as declaration
 use Rattle.bag_text.proofs.ManifestEntryLemmas as entries
 use Rattle.bag_text.proofs.ManifestLaws as manifest
-use Rattle.bag_check.proofs.OrderLemmas.{Has, contains_has, has_contains, Up, Ascending}
+use Rattle.bag_check.proofs.OrderLemmas.{Up, Ascending}
+use Rattle.bag_text.proofs.ElementLemmas.{Has, contains_has, has_contains}
 
 -- a text that is read declares that version
 pub declares_is : (text : List ℕ) (v : Version) → declaration_of text ≡ Ok v → Declares text v
@@ -75,14 +76,10 @@ fault_is = manifest.refused_is_fault
 pub fault_again : (v : Version) (a : Algorithm) (text : List ℕ) (f : LineFault) → ManifestFault v a text f → manifest_of v a text ≡ Err f
 fault_again = manifest.fault_is_refused
 
--- the same word in the crate below
-from_parts : {A : Type 0} (xs : List A) (x : A) → entries.Has xs x → Has xs x
-from_parts xs x h = contains_has xs x (entries.has_contains xs x h)
-
 -- a path that is found has an entry
 pub listed_has : (path : List ℕ) (es : Entries) → is_listed path es ≡ true → (e : Entry) × Has es (path, e)
-listed_has path es found = let entry = entries.listed_has path es found in (entry.0, from_parts es (path, entry.0) entry.1)
+listed_has = entries.listed_has
 
 -- a path that has an entry is found
 pub has_listed : (path : List ℕ) (e : Entry) (es : Entries) → Has es (path, e) → is_listed path es ≡ true
-has_listed path e es has = entries.has_listed path e es (entries.contains_has es (path, e) (has_contains es (path, e) has))
+has_listed = entries.has_listed

@@ -1,5 +1,5 @@
 -- What the calls of this crate answer, as the definitions speak of it.
-use Rattle.std.specs.Prelude.{◌≡◌, ℕ, List, map, codes, Option, Some, None, Result, Ok, Err}
+use Rattle.std.specs.Prelude.{◌≡◌, ℕ, List, map, codes, Option, Some, None}
 use Rattle.std.specs.Cow.{cow_str_bytes}
 use Rattle.std.specs.declared.borrow.CowStr.{CowStr}
 use Rattle.std.specs.Global.{Global}

@@ -15,7 +15,7 @@ use Rattle.std.proofs.Math.Seq.{get_or-append_seam, take-append_seam, drop-appen
 use Rattle.bag_text.specs.Text.{is_blank, AreBlanks, skip_blanks, drop_last_blanks}
 use Rattle.bag_text.specs.Lines.{is_end, lines, End, LF, CR, CRLF, end_bytes, EndsBefore, AreLines}
 use Rattle.bag_text.specs.declared.bag_info.InfoFault.{InfoFault}
-use Rattle.bag_text.specs.declared.bag_info.InfoFault.TheVariants.{NotUtf8, ByteOrderMark, NoColon, EmptyLabel, StrayContinuation, Memory}
+use Rattle.bag_text.specs.declared.bag_info.InfoFault.TheVariants.{NoColon, EmptyLabel, StrayContinuation}
 use Rattle.bag_text.specs.BagInfo.{Pair, is_colon, begins_blank}
 use Rattle.bag_text.specs.Answers.{◌>>=◌, FailsAs}
 use Rattle.bag_text.proofs.ResultLemmas.{fails_on}

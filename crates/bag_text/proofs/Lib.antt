@@ -1,4 +1,5 @@
 pub mod ResultLemmas
+pub mod ElementLemmas
 pub mod LineLemmas
 pub mod TextLemmas
 pub mod InfoLemmas

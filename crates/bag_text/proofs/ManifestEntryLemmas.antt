@@ -1,6 +1,6 @@
 -- The entries of a manifest, line after line.
 use Rattle.std.proofs.Common.{◌≡◌, ℕ, zero, suc, ◌+◌, ◌-◌, ◌<◌, ◌≤◌, Bool, true, false, cond, List, [], ◌∷◌, ◌++◌, length, refl, sym, ap, subst, ◌∙◌, ◌⊎◌, inl, inr, arith}
-use Rattle.std.specs.Prelude.{Some, is_some, map, slice_get, Contains}
+use Rattle.std.specs.Prelude.{Some, is_some, map, slice_get}
 use Rattle.std.specs.List.{AllByRecursion}
 use Rattle.std.specs.declared.cmp.Ordering.{Ordering}
 use Rattle.std.specs.declared.cmp.Ordering.TheVariants.{Less, Equal, Greater}
@@ -17,25 +17,7 @@ use Rattle.std.proofs.lemmas.List.{length_push}
 use Rattle.bag_text.specs.Paths.{comes_before}
 use Rattle.bag_text.specs.Manifest.{AscendingPaths}
 use Rattle.bag_text.specs.ManifestReading.{Entry, Entries, is_listed}
-
--- ---- elements
-
--- x is an element, by the list's parts
-abbrev pub Has : {A : Type 0} → List A → A → Type 0
-Has [] x = ⊥
-Has (y ∷ ys) x = (y ≡ x) ⊎ Has ys x
-
--- an element by its place is one by the parts
-pub contains_has : {A : Type 0} (xs : List A) (x : A) → Contains xs x → Has xs x
-contains_has [] x (k, within, is) = absurd (omega arith)
-contains_has (y ∷ ys) x (zero, within, is) = inl is
-contains_has (y ∷ ys) x (suc k, within, is) = inr (contains_has ys x (k, omega arith, is))
-
--- an element by the parts has a place
-pub has_contains : {A : Type 0} (xs : List A) (x : A) → Has xs x → Contains xs x
-has_contains [] x h = absurd h
-has_contains (y ∷ ys) x (inl e) = (0, omega arith, e)
-has_contains (y ∷ ys) x (inr h) = let rest = has_contains ys x h in (suc rest.0, omega (arith, rest.1), rest.2)
+use Rattle.bag_text.proofs.ElementLemmas.{Has}
 
 -- ---- places in a list of lines
 

@@ -33,8 +33,9 @@ use Rattle.bag_text.specs.ManifestReading.{Entry, Entries, checksum_in, path_of,
 use Rattle.bag_text.proofs.GoodPathLemmas.{good_from}
 use Rattle.bag_text.proofs.ManifestLemmas.{spells_decoded, spelled_is_decoded, looked_up}
 use Rattle.bag_text.proofs.ManifestLineLemmas.{reads_bad_checksum, reads_no_path, reads_bad_path, entry_reads}
-use Rattle.bag_text.proofs.ManifestEntryLemmas.{Has, contains_has, has_contains, At, at_same, same_path, itself}
+use Rattle.bag_text.proofs.ManifestEntryLemmas.{At, at_same, same_path, itself}
 use Rattle.bag_text.proofs.ManifestReadLemmas.{IsSomeEntry, one_path_a_line, IsOutcome, manifest_outcome}
+use Rattle.bag_text.proofs.ElementLemmas.{Has, contains_has, has_contains, has_map, map_has}
 
 -- a text spells a path exactly where it is decoded to it
 pub spells_iff : (v : Version) (s p : List ℕ) → Spells v s p ↔ (decode v s ≡ p)
@@ -277,21 +278,9 @@ fails (NoPath n) read e = inr e
 fails (BadPath n) read e = inr e
 fails (ListedTwice n) read e = inr e
 
--- an entry of the map is one of those that were read
-has_listing : (xs : List (CowStr Global × Listing)) (x : CowStr Global × Listing) → Has xs x → Has (map listed xs) (listed x)
-has_listing [] x h = absurd h
-has_listing (y ∷ ys) x (inl e) = inl (ap listed e)
-has_listing (y ∷ ys) x (inr h) = inr (has_listing ys x h)
-
--- what was read is an entry of the map
-listing_has : (xs : List (CowStr Global × Listing)) (e : List ℕ × Entry) → Has (map listed xs) e → (x : CowStr Global × Listing) × Has xs x × (listed x ≡ e)
-listing_has [] e h = absurd h
-listing_has (y ∷ ys) e (inl is) = (y, inl refl, is)
-listing_has (y ∷ ys) e (inr h) = let found = listing_has ys e h in (found.0, inr found.1, found.2)
-
 -- an entry of a manifest is one of those that were read
 contains_listed : (m : Manifest) (key : CowStr Global) (listing : Listing) → Contains m.entries.entries (key, listing) → Contains (entries_in m) (listed (key, listing))
-contains_listed m key listing h = has_contains (entries_in m) (listed (key, listing)) (has_listing m.entries.entries (key, listing) (contains_has m.entries.entries (key, listing) h))
+contains_listed m key listing h = has_contains (entries_in m) (listed (key, listing)) (has_map listed m.entries.entries (key, listing) (contains_has m.entries.entries (key, listing) h))
 
 -- an entry of a manifest was read
 entry_has_read : (m : Manifest) (path : List ℕ) (checksum : Checksum) (line : ℕ) → HasEntry m path checksum line → HasRead (entries_in m) path checksum line
@@ -301,7 +290,7 @@ entry_has_read m path checksum line (key, has, is) =
 -- what was read is an entry of the manifest
 read_has_entry : (m : Manifest) (path : List ℕ) (checksum : Checksum) (line : ℕ) → HasRead (entries_in m) path checksum line → HasEntry m path checksum line
 read_has_entry m path checksum line (is_decoded, has) =
-    let found = listing_has m.entries.entries (path, record { checksum = checksum; line = line; is_decoded = is_decoded }) (contains_has (entries_in m) (path, record { checksum = checksum; line = line; is_decoded = is_decoded }) has) in
+    let found = map_has listed m.entries.entries (path, record { checksum = checksum; line = line; is_decoded = is_decoded }) (contains_has (entries_in m) (path, record { checksum = checksum; line = line; is_decoded = is_decoded }) has) in
     let sum : found.0.1.checksum ≡ checksum = ap (λ (e : List ℕ × Entry). e.1.checksum) found.2 in
     let number : found.0.1.line ≡ line = ap (λ (e : List ℕ × Entry). e.1.line) found.2 in
     let here : Contains m.entries.entries (found.0.0, record { checksum = found.0.1.checksum; line = found.0.1.line }) = has_contains m.entries.entries found.0 found.1 in (

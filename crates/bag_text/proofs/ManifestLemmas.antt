@@ -18,7 +18,7 @@ use Rattle.std.specs.Global.{Global}
 use Rattle.bag_text.specs.declared.checksum.Algorithm.{Algorithm}
 use Rattle.bag_text.specs.declared.listing.Listing.{Listing}
 use Rattle.bag_text.specs.declared.listing.LineFault.{LineFault}
-use Rattle.bag_text.specs.declared.listing.LineFault.TheVariants.{NotUtf8, ByteOrderMark, BadChecksum, NoPath, BadPath, ListedTwice, Memory}
+use Rattle.bag_text.specs.declared.listing.LineFault.TheVariants.{ListedTwice}
 use Rattle.bag_text.specs.Lines.{lines}
 use Rattle.bag_text.proofs.LineLemmas.{no_lines}
 use Rattle.std.specs.Str.{is_utf8}

@@ -25,7 +25,8 @@ use Rattle.bag_text.specs.ManifestReading.{Entry, Entries, checksum_in, path_of,
 use Rattle.bag_text.proofs.GoodPathLemmas.{good_again}
 use Rattle.bag_text.proofs.ManifestLemmas.{spells_decoded, spelled_is_decoded}
 use Rattle.bag_text.proofs.ManifestLineLemmas.{LineView, bad_checksum, no_path, bad_path, sound, line_view, reads_bad_checksum, reads_no_path, reads_bad_path, reads_sound, EntryRead, sound_entry, blank_is_no_entry, entry_digits, entry_spelled}
-use Rattle.bag_text.proofs.ManifestEntryLemmas.{Has, At, at_front, at_within, at_back, at_last, at_push, listed_has, has_listed, put_new, put_old, put_cases, put_ascends, paths_in}
+use Rattle.bag_text.proofs.ManifestEntryLemmas.{At, at_front, at_within, at_back, at_last, at_push, listed_has, has_listed, put_new, put_old, put_cases, put_ascends, paths_in}
+use Rattle.bag_text.proofs.ElementLemmas.{Has}
 
 -- some path and checksum that a line lists
 abbrev pub IsSomeEntry : Version → Algorithm → List ℕ → Type 0
