@@ -1,6 +1,7 @@
 //! How a bag's faults are printed.
 
 ghost use Rattle.std.specs.Prelude.{◌≡◌, ℕ, Some, ◌++◌, ◌∷◌};
+ghost use Rattle.std.specs.Cow.{cow_str_bytes};
 ghost use Rattle.std.specs.Fmt.{DisplaysOnOk};
 ghost use Rattle.percent_encoding.specs.AsciiSet.{should_percent_encode};
 ghost use Rattle.bag_check.specs.FaultTexts.{is_escaped, printed};
@@ -8,6 +9,8 @@ ghost use Rattle.bag_check.specs.Answers.{printed_fault};
 
 use crate::fault::BagFault;
 use percent_encoding::{AsciiSet, CONTROLS, utf8_percent_encode};
+use std::alloc::Global;
+use std::borrow::CowStr;
 use std::error::Error;
 use std::fmt;
 
@@ -34,53 +37,32 @@ impl<'a> fmt::Display for BagFault<'a> {
                 write_named(f, "B6", manifest)?;
                 write!(f, " {fault}")
             }
-            BagFault::OutsidePayload { manifest, path } => write_place(
-                f,
-                "B7",
-                manifest,
-                path.as_str(),
-            ),
-            BagFault::TagManifestListed { manifest, path } => write_place(
-                f,
-                "B8",
-                manifest,
-                path.as_str(),
-            ),
+            BagFault::OutsidePayload { manifest, path } => write_place(f, "B7", manifest, path),
+            BagFault::TagManifestListed { manifest, path } => write_place(f, "B8", manifest, path),
             BagFault::PayloadInTagManifest { manifest, path } => write_place(
-                f,
-                "B9",
-                manifest,
-                path.as_str(),
+                f, "B9", manifest, path,
             ),
             BagFault::PayloadManifestUnlisted { manifest, path } => write_place(
-                f,
-                "B10",
-                manifest,
-                path.as_str(),
+                f, "B10", manifest, path,
             ),
-            BagFault::Missing { manifest, path } => write_place(f, "B11", manifest, path.as_str()),
-            BagFault::Unlisted { manifest, path } => write_place(f, "B12", manifest, path.as_str()),
+            BagFault::Missing { manifest, path } => write_place(f, "B11", manifest, path),
+            BagFault::Unlisted { manifest, path } => write_place(f, "B12", manifest, path),
             BagFault::InfoText(fault) => write!(f, "B13 {fault}"),
             BagFault::OxumForm => f.write_str("B14"),
             BagFault::OxumTwice => f.write_str("B15"),
             BagFault::OxumWrong => f.write_str("B16"),
-            BagFault::ChecksumWrong { manifest, path } => write_place(
-                f,
-                "B17",
-                manifest,
-                path.as_str(),
-            ),
+            BagFault::ChecksumWrong { manifest, path } => write_place(f, "B17", manifest, path),
             BagFault::Memory => f.write_str("B18"),
         }
     }
 }
 
 /// Writes a code and a manifest's name.
-fn write_named<W: fmt::Write>(f: &mut fmt::Formatter<W>, code: &str, name: &str) -> fmt::Result
+fn write_named<W: fmt::Write>(f: &mut fmt::Formatter<W>, code: &str, manifest: &str) -> fmt::Result
     ensures { DisplaysOnOk W.write_str_gives f.old result
-        (Some (code.now ++ 32 ∷ printed name.now)) f.new }
+        (Some (code.now ++ 32 ∷ printed manifest.now)) f.new }
 {
-    let name = utf8_percent_encode(name, escaped());
+    let name = utf8_percent_encode(manifest, escaped());
     write!(f, "{code} {name}")
 }
 
@@ -88,14 +70,14 @@ fn write_named<W: fmt::Write>(f: &mut fmt::Formatter<W>, code: &str, name: &str)
 fn write_place<W: fmt::Write>(
     f: &mut fmt::Formatter<W>,
     code: &str,
-    name: &str,
-    path: &str,
+    manifest: &str,
+    path: &CowStr<'_, Global>,
 ) -> fmt::Result
     ensures { DisplaysOnOk W.write_str_gives f.old result
-        (Some (code.now ++ 32 ∷ printed name.now ++ 32 ∷ printed path.now)) f.new }
+        (Some (code.now ++ 32 ∷ printed manifest.now ++ 32 ∷ printed (cow_str_bytes path.now))) f.new }
 {
-    write_named(f, code, name)?;
-    let path = utf8_percent_encode(path, escaped());
+    write_named(f, code, manifest)?;
+    let path = utf8_percent_encode(path.as_str(), escaped());
     write!(f, " {path}")
 }
 
