@@ -4,6 +4,8 @@ ghost use Rattle.std.specs.Prelude.{◌≡◌, ℕ, Bool, List, [], ◌++◌, �
 ghost use Rattle.std.specs.Str.{is_utf8};
 ghost use Rattle.bag_text.specs.Lines.{AreLines, lines};
 ghost use Rattle.bag_text.specs.Paths.{GoodPath, is_good, path_fault};
+ghost use Rattle.bag_text.specs.Declaration.{Declares, declaration_fault};
+ghost use Rattle.bag_text.specs.DeclarationReading.{declaration_of};
 ghost use Rattle.bag_text.specs.Manifest.{Spells, decode, IsManifest, ManifestFault, LineLists};
 ghost use Rattle.bag_text.specs.ManifestReading.{Entries, manifest_of};
 ghost use Rattle.bag_text.specs.BagInfo.{Pair, SaysInfo, InfoFaultIs};
@@ -15,6 +17,7 @@ ghost use Rattle.bag_text.specs.BagList.{ListFault, list_fault};
 ghost use Rattle.bag_text.specs.declared.bag_info.InfoFault.{InfoFault};
 ghost use Rattle.bag_text.specs.declared.checksum.Algorithm.{Algorithm};
 ghost use Rattle.bag_text.specs.declared.checksum.Checksum.{Checksum};
+ghost use Rattle.bag_text.specs.declared.declaration.DeclFault.{DeclFault};
 ghost use Rattle.bag_text.specs.declared.declaration.Version.{Version};
 ghost use Rattle.bag_text.specs.declared.listing.LineFault.{LineFault};
 ghost use Rattle.bag_text.specs.declared.set_fault.SetFault.{SetFault};
@@ -66,6 +69,15 @@ pub fn good_paths()
 /// A text spells a path exactly where it is decoded to it, so each spells one.
 pub fn one_path()
     ensures { (v : Version) (s p : List ℕ) → Spells v s p ↔ (decode v s ≡ p) }
+{}
+
+/// A text declares a version exactly where reading it answers that version, and where it declares none, reading answers
+/// the first fault that stands.
+pub fn declarations()
+    ensures declared { (text : List ℕ) (version : Version) →
+        (declaration_of text ≡ Ok version) ↔ Declares text version }
+    ensures first { (text : List ℕ) (fault : DeclFault) →
+        (declaration_of text ≡ Err fault) ↔ (declaration_fault text ≡ Some fault) }
 {}
 
 /// A text of `bag-info.txt` says the pairs that reading it answers, and where it says nothing, reading
