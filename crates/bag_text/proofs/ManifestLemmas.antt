@@ -25,7 +25,7 @@ use Rattle.std.specs.Str.{is_utf8}
 use Rattle.bag_text.specs.Paths.{path_fault}
 use Rattle.bag_text.specs.Paths.{is_good}
 use Rattle.bag_text.specs.Text.{is_blank}
-use Rattle.bag_text.specs.Manifest.{coded, coded_front, has_coded, Spells, nothing, triple, itself, decode}
+use Rattle.bag_text.specs.Manifest.{coded_character, coded_front, has_coded, Spells, nothing, triple, itself, decode}
 use Rattle.bag_text.specs.Answers.{FailsAs}
 use Rattle.bag_text.proofs.ResultLemmas.{fails_on}
 use Rattle.bag_text.specs.ManifestReading.{next_char, Entries, listed, is_listed, entry_of, add_line_of, entries_of, named_line_fault}
@@ -41,16 +41,16 @@ abbrev decode_by : Version → ℕ → List ℕ → List ℕ → Option ℕ → 
 decode_by v a near far (Some x) = x ∷ decode v far
 decode_by v a near far None = a ∷ decode v near
 
-by_code : (v : Version) (a b c : ℕ) (s : List ℕ) → decode v (a ∷ b ∷ c ∷ s) ≡ decode_by v a (b ∷ c ∷ s) s (coded v a b c)
+by_code : (v : Version) (a b c : ℕ) (s : List ℕ) → decode v (a ∷ b ∷ c ∷ s) ≡ decode_by v a (b ∷ c ∷ s) s (coded_character v a b c)
 unfolding decode
-by_code v a b c s = of_code (coded v a b c)
+by_code v a b c s = of_code (coded_character v a b c)
   where
     of_code : (o : Option ℕ) → (elim o as (λ x. List ℕ) [ Some x ↦ x ∷ decode v s | None ↦ a ∷ decode v (b ∷ c ∷ s) ]) ≡ decode_by v a (b ∷ c ∷ s) s o
     of_code (Some x) = refl
     of_code None = refl
 
-next_code : (v : Version) (a b c : ℕ) (s : List ℕ) → next_char v (a ∷ b ∷ c ∷ s) ≡ next_by a (b ∷ c ∷ s) s (coded v a b c)
-next_code v a b c s = of_code (coded v a b c)
+next_code : (v : Version) (a b c : ℕ) (s : List ℕ) → next_char v (a ∷ b ∷ c ∷ s) ≡ next_by a (b ∷ c ∷ s) s (coded_character v a b c)
+next_code v a b c s = of_code (coded_character v a b c)
   where
     of_code : (o : Option ℕ) → (elim o as (λ x. Option (ℕ × List ℕ)) [ Some x ↦ Some (x, s) | None ↦ Some (a, b ∷ c ∷ s) ]) ≡ next_by a (b ∷ c ∷ s) s o
     of_code (Some x) = refl
@@ -73,7 +73,7 @@ unfolding decode
 decode_step v [] x rest e = absurd cc
 decode_step v (a ∷ []) x rest e = short_step v a x [] rest (a ∷ []) refl e
 decode_step v (a ∷ b ∷ []) x rest e = short_step v a x (b ∷ []) rest (a ∷ b ∷ []) refl e
-decode_step v (a ∷ b ∷ c ∷ s) x rest e = by_code v a b c s ∙ of_code (coded v a b c) (sym (next_code v a b c s) ∙ e)
+decode_step v (a ∷ b ∷ c ∷ s) x rest e = by_code v a b c s ∙ of_code (coded_character v a b c) (sym (next_code v a b c s) ∙ e)
   where
     of_code : (o : Option ℕ) → next_by a (b ∷ c ∷ s) s o ≡ Some (x, rest) → decode_by v a (b ∷ c ∷ s) s o ≡ x ∷ decode v rest
     of_code (Some y) e = short_step v y x s rest (y ∷ decode v s) refl e
@@ -84,7 +84,7 @@ unfolding decode
 decode_none v [] e = refl
 decode_none v (a ∷ []) e = absurd cc
 decode_none v (a ∷ b ∷ []) e = absurd cc
-decode_none v (a ∷ b ∷ c ∷ s) e = of_code (coded v a b c) (sym (next_code v a b c s) ∙ e)
+decode_none v (a ∷ b ∷ c ∷ s) e = of_code (coded_character v a b c) (sym (next_code v a b c s) ∙ e)
   where
     of_code : (o : Option ℕ) → next_by a (b ∷ c ∷ s) s o ≡ None → decode v (a ∷ b ∷ c ∷ s) ≡ []
     of_code (Some x) e = absurd cc
@@ -105,8 +105,8 @@ plain v [] e = refl
 plain v (a ∷ []) e = refl
 plain v (a ∷ b ∷ []) e = refl
 plain v (a ∷ b ∷ c ∷ s) e =
-    let n = none (is_some (coded v a b c)) (has_coded v (b ∷ c ∷ s)) e in
-    by_code v a b c s ∙ ap (decode_by v a (b ∷ c ∷ s) s) (no_code (coded v a b c) n.0) ∙ ap (λ (t : List ℕ). a ∷ t) (plain v (b ∷ c ∷ s) n.1)
+    let n = none (is_some (coded_character v a b c)) (has_coded v (b ∷ c ∷ s)) e in
+    by_code v a b c s ∙ ap (decode_by v a (b ∷ c ∷ s) s) (no_code (coded_character v a b c) n.0) ∙ ap (λ (t : List ℕ). a ∷ t) (plain v (b ∷ c ∷ s) n.1)
 
 pub step : (before now : List ℕ) (v : Version) (s : List ℕ) (o : Option (ℕ × List ℕ)) (x : ℕ) (rest total : List ℕ) → o ≡ next_char v s → o ≡ Some (x, rest) → now ≡ before ++ x ∷ [] → before ++ decode v s ≡ total → now ++ decode v rest ≡ total
 step before now v s o x rest total e some is so_far =
@@ -190,9 +190,9 @@ unfolding decode
 spells_decoded v [] = nothing
 spells_decoded v (a ∷ []) = itself refl nothing
 spells_decoded v (a ∷ b ∷ []) = itself refl (itself refl nothing)
-spells_decoded v (a ∷ b ∷ c ∷ s) = of_code (coded v a b c) refl (spells_decoded v s) (spells_decoded v (b ∷ c ∷ s))
+spells_decoded v (a ∷ b ∷ c ∷ s) = of_code (coded_character v a b c) refl (spells_decoded v s) (spells_decoded v (b ∷ c ∷ s))
   where
-    of_code : (o : Option ℕ) → coded v a b c ≡ o → Spells v s (decode v s) → Spells v (b ∷ c ∷ s) (decode v (b ∷ c ∷ s)) → Spells v (a ∷ b ∷ c ∷ s) (decode v (a ∷ b ∷ c ∷ s))
+    of_code : (o : Option ℕ) → coded_character v a b c ≡ o → Spells v s (decode v s) → Spells v (b ∷ c ∷ s) (decode v (b ∷ c ∷ s)) → Spells v (a ∷ b ∷ c ∷ s) (decode v (a ∷ b ∷ c ∷ s))
     of_code (Some x) e far near = subst (λ (p : List ℕ). Spells v (a ∷ b ∷ c ∷ s) p) (sym (by_code v a b c s ∙ ap (decode_by v a (b ∷ c ∷ s) s) e)) (triple e far)
     of_code None e far near = subst (λ (p : List ℕ). Spells v (a ∷ b ∷ c ∷ s) p) (sym (by_code v a b c s ∙ ap (decode_by v a (b ∷ c ∷ s) s) e)) (itself e near)
 

@@ -22,8 +22,8 @@ percent V1_0 = Some 37
 percent V0_97 = None
 
 -- the character that three bytes stand for, where they are a coded triple: %0A, %0D, in 1.0 also %25
-abbrev pub coded : Version → ℕ → ℕ → ℕ → Option ℕ
-coded v a b c =
+abbrev pub coded_character : Version → ℕ → ℕ → ℕ → Option ℕ
+coded_character v a b c =
     if not (a == 37) then None
     else if b == 48 && (c == 65 || c == 97) then Some 10
     else if b == 48 && (c == 68 || c == 100) then Some 13
@@ -31,7 +31,7 @@ coded v a b c =
     else None
 
 abbrev pub coded_front : Version → List ℕ → Option ℕ
-coded_front v (a ∷ b ∷ c ∷ s) = coded v a b c
+coded_front v (a ∷ b ∷ c ∷ s) = coded_character v a b c
 coded_front v s = None
 
 -- whether some place of a text begins a coded triple, so that something is decoded
@@ -43,12 +43,12 @@ has_coded v (a ∷ s) = is_some (coded_front v (a ∷ s)) || has_coded v s
 -- character that begins no coded triple and itself.
 pub data Spells (v : Version) : List ℕ → List ℕ → Type 0 where
   nothing : Spells v [] []
-  triple : {a b c x : ℕ} {s p : List ℕ} → coded v a b c ≡ Some x → Spells v s p → Spells v (a ∷ b ∷ c ∷ s) (x ∷ p)
+  triple : {a b c x : ℕ} {s p : List ℕ} → coded_character v a b c ≡ Some x → Spells v s p → Spells v (a ∷ b ∷ c ∷ s) (x ∷ p)
   itself : {a : ℕ} {s p : List ℕ} → coded_front v (a ∷ s) ≡ None → Spells v s p → Spells v (a ∷ s) (a ∷ p)
 
 -- the path that a text spells, read left to right, once
 unfoldable pub decode : Version → List ℕ → List ℕ
-decode v (a ∷ b ∷ c ∷ s) = elim (coded v a b c) [ Some x ↦ x ∷ decode v s | None ↦ a ∷ decode v (b ∷ c ∷ s) ]
+decode v (a ∷ b ∷ c ∷ s) = elim (coded_character v a b c) [ Some x ↦ x ∷ decode v s | None ↦ a ∷ decode v (b ∷ c ∷ s) ]
 decode v s = s
 
 -- ---- lines

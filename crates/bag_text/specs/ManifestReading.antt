@@ -23,12 +23,12 @@ use Rattle.bag_text.specs.Answers.{◌>>=◌}
 use Rattle.bag_text.specs.Text.{is_blank, has_mark, begins_with}
 use Rattle.bag_text.specs.Lines.{lines}
 use Rattle.bag_text.specs.Paths.{is_good}
-use Rattle.bag_text.specs.Manifest.{coded, has_coded, decode, size_of, checksum_of, sum_text, path_text}
+use Rattle.bag_text.specs.Manifest.{coded_character, has_coded, decode, size_of, checksum_of, sum_text, path_text}
 
 -- the first character, and the spelling of the others
 abbrev pub next_char : Version → List ℕ → Option (ℕ × List ℕ)
 next_char v [] = None
-next_char v (a ∷ b ∷ c ∷ s) = elim (coded v a b c) [ Some x ↦ Some (x, s) | None ↦ Some (a, b ∷ c ∷ s) ]
+next_char v (a ∷ b ∷ c ∷ s) = elim (coded_character v a b c) [ Some x ↦ Some (x, s) | None ↦ Some (a, b ∷ c ∷ s) ]
 next_char v (a ∷ s) = Some (a, s)
 
 -- ---- lines
