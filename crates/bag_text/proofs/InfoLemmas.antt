@@ -11,7 +11,7 @@ use Rattle.bag_text.specs.Text.{is_blank, AreBlanks, has_mark, begins_with, skip
 use Rattle.bag_text.specs.Lines.{lines}
 use Rattle.bag_text.specs.declared.bag_info.InfoFault.{InfoFault}
 use Rattle.bag_text.specs.declared.bag_info.InfoFault.TheVariants.{NotUtf8, ByteOrderMark, NoColon, EmptyLabel, StrayContinuation, Memory}
-use Rattle.bag_text.specs.BagInfo.{Pair, begins_blank, is_colon, IsPairLine, AreGroups, SaysInfo, filled, IsReached, InfoFaultIs}
+use Rattle.bag_text.specs.BagInfo.{Pair, begins_blank, is_colon, IsPairLine, AreGroups, SaysInfo, filled_lines, IsReached, InfoFaultIs}
 use Rattle.bag_text.specs.Answers.{◌>>=◌}
 use Rattle.bag_text.specs.InfoReading.{label_of, value_of, pair_of, extend_last, add_info_line, pairs_from, info_of}
 use Rattle.bag_text.proofs.BlankLemmas.{skipped, dropped, skip_front, drop_back}
@@ -229,7 +229,7 @@ record GoesOn (init : List Pair) (p : Pair) (ls : List (List ℕ)) (pairs : List
   more : List (List ℕ)
   rest : List (List ℕ)
   others : List Pair
-  is : filled ls ≡ more ++ rest
+  is : filled_lines ls ≡ more ++ rest
   blank : list_all begins_blank more ≡ true
   groups : AreGroups rest others
   whole : pairs ≡ init ++ longer p more ∷ others
@@ -276,35 +276,35 @@ going_on n init p (line ∷ ls) pairs e =
     by_blank false is e again = by_begin is (begins_blank line) refl e again
 
 -- lines that are read fall into groups
-groups_read : (n : ℕ) (ls : List (List ℕ)) (pairs : List Pair) → pairs_from n [] ls ≡ Ok pairs → AreGroups (filled ls) pairs
+groups_read : (n : ℕ) (ls : List (List ℕ)) (pairs : List Pair) → pairs_from n [] ls ≡ Ok pairs → AreGroups (filled_lines ls) pairs
 groups_read n [] pairs e =
     let none : [] ≡ pairs = let h = sym (no_lines_left n []) ∙ e in cc in
     subst (AreGroups []) none refl
 groups_read n (line ∷ ls) pairs e = by_blank (list_all is_blank line) refl (sym (unfolded_lines n [] line ls) ∙ e) (λ e. groups_read (n + 1) ls pairs e)
   where
-    beginning : list_all is_blank line ≡ false → (q : Pair) → IsPairLine line q.label q.value → GoesOn [] q ls pairs → AreGroups (filled (line ∷ ls)) pairs
+    beginning : list_all is_blank line ≡ false → (q : Pair) → IsPairLine line q.label q.value → GoesOn [] q ls pairs → AreGroups (filled_lines (line ∷ ls)) pairs
     beginning is q pair h =
-        let all : line ∷ h.more ++ h.rest ≡ filled (line ∷ ls) = rw is (ap (λ (x : List (List ℕ)). line ∷ x) (sym h.is)) in
+        let all : line ∷ h.more ++ h.rest ≡ filled_lines (line ∷ ls) = rw is (ap (λ (x : List (List ℕ)). line ∷ x) (sym h.is)) in
         subst (λ (x : List (List ℕ)). AreGroups x pairs) all (subst (AreGroups (line ∷ h.more ++ h.rest)) (sym h.whole) (line, h.more, h.rest, q.value, refl, pair, h.blank, refl, h.groups))
 
-    by_pair : list_all is_blank line ≡ false → begins_blank line ≡ false → (r : Result (List Pair) InfoFault) → pair_added n [] line ≡ r → (r >>= λ now. pairs_from (n + 1) now ls) ≡ Ok pairs → AreGroups (filled (line ∷ ls)) pairs
+    by_pair : list_all is_blank line ≡ false → begins_blank line ≡ false → (r : Result (List Pair) InfoFault) → pair_added n [] line ≡ r → (r >>= λ now. pairs_from (n + 1) now ls) ≡ Ok pairs → AreGroups (filled_lines (line ∷ ls)) pairs
     by_pair is begins (Err f) e g = absurd cc
     by_pair is begins (Ok now) e g =
         let a = added n [] line now begins e in
         beginning is a.pair a.is (going_on (n + 1) [] a.pair ls pairs (ap (λ (x : List Pair). pairs_from (n + 1) x ls) (sym a.now_is) ∙ g))
 
-    by_begin : list_all is_blank line ≡ false → (x : Bool) → begins_blank line ≡ x → (add_info_line n [] line >>= λ now. pairs_from (n + 1) now ls) ≡ Ok pairs → AreGroups (filled (line ∷ ls)) pairs
+    by_begin : list_all is_blank line ≡ false → (x : Bool) → begins_blank line ≡ x → (add_info_line n [] line >>= λ now. pairs_from (n + 1) now ls) ≡ Ok pairs → AreGroups (filled_lines (line ∷ ls)) pairs
     by_begin is true begins e = let wrong = sym (ap (λ (r : Result (List Pair) InfoFault). r >>= λ now. pairs_from (n + 1) now ls) (add_stray n line is begins)) ∙ e in absurd cc
     by_begin is false begins e = by_pair is begins (pair_added n [] line) refl (sym (ap (λ (r : Result (List Pair) InfoFault). r >>= λ now. pairs_from (n + 1) now ls) (add_other n [] line is begins)) ∙ e)
 
-    by_blank : (x : Bool) → list_all is_blank line ≡ x → (add_info_line n [] line >>= λ now. pairs_from (n + 1) now ls) ≡ Ok pairs → (pairs_from (n + 1) [] ls ≡ Ok pairs → AreGroups (filled ls) pairs) → AreGroups (filled (line ∷ ls)) pairs
+    by_blank : (x : Bool) → list_all is_blank line ≡ x → (add_info_line n [] line >>= λ now. pairs_from (n + 1) now ls) ≡ Ok pairs → (pairs_from (n + 1) [] ls ≡ Ok pairs → AreGroups (filled_lines ls) pairs) → AreGroups (filled_lines (line ∷ ls)) pairs
     by_blank true is e again = rw is (again (sym (ap (λ (r : Result (List Pair) InfoFault). r >>= λ now. pairs_from (n + 1) now ls) (add_blank n [] line is)) ∙ e))
     by_blank false is e again = by_begin is (begins_blank line) refl e
 
 -- ---- what is said is read
 
 -- lines that continue the last pair, then groups
-going_again : (n : ℕ) (init : List Pair) (p : Pair) (ls more rest : List (List ℕ)) (others : List Pair) → filled ls ≡ more ++ rest → list_all begins_blank more ≡ true → AreGroups rest others → pairs_from n (init ++ p ∷ []) ls ≡ Ok (init ++ longer p more ∷ others)
+going_again : (n : ℕ) (init : List Pair) (p : Pair) (ls more rest : List (List ℕ)) (others : List Pair) → filled_lines ls ≡ more ++ rest → list_all begins_blank more ≡ true → AreGroups rest others → pairs_from n (init ++ p ∷ []) ls ≡ Ok (init ++ longer p more ∷ others)
 going_again n init p [] (m ∷ more) rest others is blank groups = absurd cc
 going_again n init p [] [] (r ∷ rest) others is blank groups = absurd cc
 going_again n init p [] [] [] [] is blank groups = no_lines_left n (init ++ p ∷ []) ∙ ap (λ (q : Pair). Ok (init ++ q ∷ [])) (sym (longer_none p))
@@ -313,7 +313,7 @@ going_again n init p (line ∷ ls) more rest others is blank groups =
     unfolded_lines n (init ++ p ∷ []) line ls ∙ by_blank (list_all is_blank line) refl more rest others is blank groups (λ init p more rest others is blank groups. going_again (n + 1) init p ls more rest others is blank groups)
   where
     Again : Type 0
-    Again = (init : List Pair) (p : Pair) (more rest : List (List ℕ)) (others : List Pair) → filled ls ≡ more ++ rest → list_all begins_blank more ≡ true → AreGroups rest others → pairs_from (n + 1) (init ++ p ∷ []) ls ≡ Ok (init ++ longer p more ∷ others)
+    Again = (init : List Pair) (p : Pair) (more rest : List (List ℕ)) (others : List Pair) → filled_lines ls ≡ more ++ rest → list_all begins_blank more ≡ true → AreGroups rest others → pairs_from (n + 1) (init ++ p ∷ []) ls ≡ Ok (init ++ longer p more ∷ others)
 
     with_line : {r s : Result (List Pair) InfoFault} → r ≡ s → (r >>= λ now. pairs_from (n + 1) now ls) ≡ (s >>= λ now. pairs_from (n + 1) now ls)
     with_line e = ap (λ (r : Result (List Pair) InfoFault). r >>= λ now. pairs_from (n + 1) now ls) e
@@ -322,10 +322,10 @@ going_again n init p (line ∷ ls) more rest others is blank groups =
     parts true y h = (refl, h)
     parts false y h = absurd cc
 
-    by_line : list_all is_blank line ≡ false → (more rest : List (List ℕ)) (others : List Pair) → line ∷ filled ls ≡ more ++ rest → list_all begins_blank more ≡ true → AreGroups rest others → Again → (add_info_line n (init ++ p ∷ []) line >>= λ now. pairs_from (n + 1) now ls) ≡ Ok (init ++ longer p more ∷ others)
+    by_line : list_all is_blank line ≡ false → (more rest : List (List ℕ)) (others : List Pair) → line ∷ filled_lines ls ≡ more ++ rest → list_all begins_blank more ≡ true → AreGroups rest others → Again → (add_info_line n (init ++ p ∷ []) line >>= λ now. pairs_from (n + 1) now ls) ≡ Ok (init ++ longer p more ∷ others)
     by_line full (m ∷ more) rest others is blank groups again =
         let same : line ≡ m = cc in
-        let left : filled ls ≡ more ++ rest = cc in
+        let left : filled_lines ls ≡ more ++ rest = cc in
         let both = parts (begins_blank m) (list_all begins_blank more) blank in
         with_line (add_more n init p line full (ap begins_blank same ∙ both.0))
         ∙ again init (at p.label (p.value ++ 10 ∷ skip_blanks line)) more rest others left both.1 groups
@@ -333,9 +333,9 @@ going_again n init p (line ∷ ls) more rest others is blank groups =
         ∙ ap (λ (l : List ℕ). Ok (init ++ longer p (l ∷ more) ∷ others)) same
     by_line full [] rest [] is blank groups again = absurd (let wrong : rest ≡ [] = groups in cc)
     by_line full [] rest (q ∷ others) is blank (first, more, left, value, whole, pair, begins, says, groups) again =
-        let cut : line ∷ filled ls ≡ first ∷ (more ++ left) = is ∙ whole in
+        let cut : line ∷ filled_lines ls ≡ first ∷ (more ++ left) = is ∙ whole in
         let same : first ≡ line = cc in
-        let tail : filled ls ≡ more ++ left = cc in
+        let tail : filled_lines ls ≡ more ++ left = cc in
         let here : IsPairLine line q.label value = subst (λ (l : List ℕ). IsPairLine l q.label value) same pair in
         with_line (add_other n (init ++ p ∷ []) line full (pair_again line q.label value here).not_blank ∙ added_again n (init ++ p ∷ []) line q.label value here)
         ∙ again (init ++ p ∷ []) (at q.label value) more left others tail begins groups
@@ -343,12 +343,12 @@ going_again n init p (line ∷ ls) more rest others is blank groups =
         ∙ ap (λ (v : List ℕ). Ok (init ++ p ∷ at q.label v ∷ others)) (sym says)
         ∙ ap (λ (x : Pair). Ok (init ++ x ∷ q ∷ others)) (sym (longer_none p))
 
-    by_blank : (x : Bool) → list_all is_blank line ≡ x → (more rest : List (List ℕ)) (others : List Pair) → cond (not x) (line ∷ filled ls) (filled ls) ≡ more ++ rest → list_all begins_blank more ≡ true → AreGroups rest others → Again → (add_info_line n (init ++ p ∷ []) line >>= λ now. pairs_from (n + 1) now ls) ≡ Ok (init ++ longer p more ∷ others)
+    by_blank : (x : Bool) → list_all is_blank line ≡ x → (more rest : List (List ℕ)) (others : List Pair) → cond (not x) (line ∷ filled_lines ls) (filled_lines ls) ≡ more ++ rest → list_all begins_blank more ≡ true → AreGroups rest others → Again → (add_info_line n (init ++ p ∷ []) line >>= λ now. pairs_from (n + 1) now ls) ≡ Ok (init ++ longer p more ∷ others)
     by_blank true e more rest others is blank groups again = with_line (add_blank n (init ++ p ∷ []) line e) ∙ again init p more rest others is blank groups
     by_blank false e more rest others is blank groups again = by_line e more rest others is blank groups again
 
 -- lines that fall into groups are read
-groups_again : (n : ℕ) (ls : List (List ℕ)) (pairs : List Pair) → AreGroups (filled ls) pairs → pairs_from n [] ls ≡ Ok pairs
+groups_again : (n : ℕ) (ls : List (List ℕ)) (pairs : List Pair) → AreGroups (filled_lines ls) pairs → pairs_from n [] ls ≡ Ok pairs
 groups_again n [] [] groups = no_lines_left n []
 groups_again n [] (q ∷ others) groups = absurd (let wrong = groups.4 in cc)
 groups_again n (line ∷ ls) pairs groups = unfolded_lines n [] line ls ∙ by_blank (list_all is_blank line) refl pairs groups (λ groups. groups_again (n + 1) ls pairs groups)
@@ -356,17 +356,17 @@ groups_again n (line ∷ ls) pairs groups = unfolded_lines n [] line ls ∙ by_b
     with_line : {r s : Result (List Pair) InfoFault} → r ≡ s → (r >>= λ now. pairs_from (n + 1) now ls) ≡ (s >>= λ now. pairs_from (n + 1) now ls)
     with_line e = ap (λ (r : Result (List Pair) InfoFault). r >>= λ now. pairs_from (n + 1) now ls) e
 
-    by_line : list_all is_blank line ≡ false → (pairs : List Pair) → AreGroups (line ∷ filled ls) pairs → (add_info_line n [] line >>= λ now. pairs_from (n + 1) now ls) ≡ Ok pairs
-    by_line full [] groups = absurd (let wrong : line ∷ filled ls ≡ [] = groups in cc)
+    by_line : list_all is_blank line ≡ false → (pairs : List Pair) → AreGroups (line ∷ filled_lines ls) pairs → (add_info_line n [] line >>= λ now. pairs_from (n + 1) now ls) ≡ Ok pairs
+    by_line full [] groups = absurd (let wrong : line ∷ filled_lines ls ≡ [] = groups in cc)
     by_line full (q ∷ others) (first, more, left, value, whole, pair, begins, says, groups) =
         let same : first ≡ line = cc in
-        let tail : filled ls ≡ more ++ left = cc in
+        let tail : filled_lines ls ≡ more ++ left = cc in
         let here : IsPairLine line q.label value = subst (λ (l : List ℕ). IsPairLine l q.label value) same pair in
         with_line (add_other n [] line full (pair_again line q.label value here).not_blank ∙ added_again n [] line q.label value here)
         ∙ going_again (n + 1) [] (at q.label value) ls more left others tail begins groups
         ∙ ap (λ (v : List ℕ). Ok (at q.label v ∷ others)) (sym says)
 
-    by_blank : (x : Bool) → list_all is_blank line ≡ x → (pairs : List Pair) → AreGroups (cond (not x) (line ∷ filled ls) (filled ls)) pairs → (AreGroups (filled ls) pairs → pairs_from (n + 1) [] ls ≡ Ok pairs) → (add_info_line n [] line >>= λ now. pairs_from (n + 1) now ls) ≡ Ok pairs
+    by_blank : (x : Bool) → list_all is_blank line ≡ x → (pairs : List Pair) → AreGroups (cond (not x) (line ∷ filled_lines ls) (filled_lines ls)) pairs → (AreGroups (filled_lines ls) pairs → pairs_from (n + 1) [] ls ≡ Ok pairs) → (add_info_line n [] line >>= λ now. pairs_from (n + 1) now ls) ≡ Ok pairs
     by_blank true e pairs groups again = with_line (add_blank n [] line e) ∙ again groups
     by_blank false e pairs groups again = by_line e pairs groups
 

@@ -47,14 +47,14 @@ AreGroups ls (p ∷ ps) =
     × AreGroups rest ps
 
 -- the lines that aren't of blanks alone
-abbrev pub filled : List (List ℕ) → List (List ℕ)
-filled ls = filter (λ line. not (list_all is_blank line)) ls
+abbrev pub filled_lines : List (List ℕ) → List (List ℕ)
+filled_lines ls = filter (λ line. not (list_all is_blank line)) ls
 
 -- A text says these pairs, in their order.
 pub record SaysInfo (text : List ℕ) (pairs : List Pair) : Type 0 where
   pub utf8 : is_utf8 text ≡ true
   pub unmarked : has_mark text ≡ false
-  pub groups : AreGroups (filled (lines text)) pairs
+  pub groups : AreGroups (filled_lines (lines text)) pairs
 
 -- ---- the faults
 
@@ -66,7 +66,7 @@ pub record IsReached (text : List ℕ) (pairs : List Pair) (number : ℕ) (line 
   pub after : List (List ℕ)
   pub is : lines text ≡ before ++ line ∷ after
   pub place : number ≡ length before + 1
-  pub said : AreGroups (filled before) pairs
+  pub said : AreGroups (filled_lines before) pairs
   pub full : list_all is_blank line ≡ false
 
 -- The first fault of a text that says nothing.
