@@ -12,7 +12,7 @@ use Rattle.bag_text.specs.declared.set_fault.SetFault.{SetFault}
 use Rattle.bag_text.specs.declared.set_fault.SetFault.TheVariants.{BadEntry, Truncated, OutOfOrder, BadPath, TrailingBytes, PathClash}
 use Rattle.bag_text.specs.Paths.{path_fault}
 use Rattle.bag_text.specs.Answers.{◌>>=◌, Gives}
-use Rattle.bag_text.specs.TransferReading.{Head, Place, End, Entry, literal_at, header_at, place_at, file_at, placed, entry_of, entry_at, files_at, opened, set_of, named_set_fault}
+use Rattle.bag_text.specs.TransferReading.{Head, Place, End, Entry, literal_at, header_at, place_at, file_at, placed, entry_of, entry_at, files_at, after_opening, set_of, named_set_fault}
 use Rattle.bag_text.specs.TransferForm.{File, header, entry, opening, ending, set_text, max_content, max_files, Ascends, clashes, Fits, IsBag}
 use Rattle.bag_text.specs.Paths.{max_path, is_good, comes_before}
 use Rattle.bag_text.proofs.NumberLemmas.{InBounds}
@@ -278,7 +278,7 @@ pub set_ok : (t : List ℕ) (fs : List File) → set_of t ≡ Ok fs → IsRead t
 unfolding set_of
 set_ok t fs e = by_opening (literal_at opening t) refl e
   where
-    by_opening : (r : Result (List ℕ) Flaw) → literal_at opening t ≡ r → (opened r >>= λ rest. files_at (length t) max_files [] rest >>= λ files. cond (clashes files) (Err PathClash) (Ok files)) ≡ Ok fs → IsRead t fs
+    by_opening : (r : Result (List ℕ) Flaw) → literal_at opening t ≡ r → (after_opening r >>= λ rest. files_at (length t) max_files [] rest >>= λ files. cond (clashes files) (Err PathClash) (Ok files)) ≡ Ok fs → IsRead t fs
     by_opening (Err Short) is e = absurd cc
     by_opening (Err Bad) is e = absurd cc
     by_opening (Ok rest) is e = by_files (files_at (length t) max_files [] rest) refl e

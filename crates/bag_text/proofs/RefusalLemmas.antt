@@ -11,7 +11,7 @@ use Rattle.bag_text.specs.declared.set_fault.SetFault.TheVariants.{BadOpening, B
 use Rattle.bag_text.specs.Paths.{is_good, comes_before}
 use Rattle.bag_text.specs.TransferForm.{File, header, entry, opening, ending, set_text, max_files, Ascends, clashes, Fits, IsBag}
 use Rattle.bag_text.specs.TransferFaults.{BeginsWith, IsProperBeginning, IsOpening, HasSizes, IsEndOrHeader, EntryFault, PlaceFault, last_path, GoOn, FaultIs}
-use Rattle.bag_text.specs.TransferReading.{Head, Place, End, Entry, literal_at, place_at, file_at, placed, entry_at, files_at, opened, set_of}
+use Rattle.bag_text.specs.TransferReading.{Head, Place, End, Entry, literal_at, place_at, file_at, placed, entry_at, files_at, after_opening, set_of}
 use Rattle.bag_text.proofs.HeaderLemmas.{literal_ok, literal_again, literal_ends, literal_bad}
 use Rattle.bag_text.proofs.FormLemmas.{place_ok, place_header, end_trails, entry_again, files_again, set_ok, set_again}
 use Rattle.bag_text.proofs.FaultLemmas.{sized, fit, place_end, short_place, bad_place}
@@ -206,7 +206,7 @@ files_refused whole (x ∷ fs) (suc left) before rest f few fits up h =
 
 -- ---- the whole text
 
-opening_refused : (t : List ℕ) (f : SetFault) → opened (literal_at opening t) ≡ Err f → set_of t ≡ Err f
+opening_refused : (t : List ℕ) (f : SetFault) → after_opening (literal_at opening t) ≡ Err f → set_of t ≡ Err f
 unfolding set_of
 opening_refused t f e = rw e refl
 

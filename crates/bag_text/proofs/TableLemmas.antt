@@ -10,7 +10,7 @@ use Rattle.bag_text.specs.declared.header.Flaw.TheVariants.{Short, Bad}
 use Rattle.bag_text.specs.declared.set_fault.SetFault.{SetFault}
 use Rattle.bag_text.specs.declared.set_fault.SetFault.TheVariants.{BadOpening, BadEntry, Truncated, OutOfOrder, BadPath, TooManyFiles, TrailingBytes, PathClash, Memory}
 use Rattle.bag_text.specs.Answers.{◌>>=◌, Gives}
-use Rattle.bag_text.specs.TransferReading.{Head, Place, End, Entry, literal_at, place_at, file_at, placed, entry_of, entry_at, files_at, opened, set_of, named_set_fault}
+use Rattle.bag_text.specs.TransferReading.{Head, Place, End, Entry, literal_at, place_at, file_at, placed, entry_of, entry_at, files_at, after_opening, set_of, named_set_fault}
 use Rattle.bag_text.specs.TransferForm.{File, header, entry, opening, ending, max_files, Ascends, clashes, Fits}
 use Rattle.bag_text.specs.Paths.{is_good, comes_before}
 use Rattle.bag_text.specs.TransferFaults.{HasSizes, EntryFault, PlaceFault, last_path, GoOn, FaultIs}
@@ -192,7 +192,7 @@ pub set_fault : (t : List ℕ) (f : SetFault) → set_of t ≡ Err f → FaultIs
 unfolding set_of
 set_fault t f e = by_opening (literal_at opening t) refl e
   where
-    by_opening : (r : Result (List ℕ) Flaw) → literal_at opening t ≡ r → (opened r >>= λ rest. files_at (length t) max_files [] rest >>= λ files. cond (clashes files) (Err PathClash) (Ok files)) ≡ Err f → FaultIs t f
+    by_opening : (r : Result (List ℕ) Flaw) → literal_at opening t ≡ r → (after_opening r >>= λ rest. files_at (length t) max_files [] rest >>= λ files. cond (clashes files) (Err PathClash) (Ok files)) ≡ Err f → FaultIs t f
     by_opening (Err Short) is e =
         let w = literal_ends opening t is in
         subst (λ (f : SetFault). FaultIs t f) (wrong_is {A = List File} Truncated f e) (inl (w.0, (λ none. not_both t [] Short is (sym (append-nil t) ∙ ap (λ (x : List ℕ). t ++ x) (sym none) ∙ w.1 ∙ sym (append-nil opening))), w.1))

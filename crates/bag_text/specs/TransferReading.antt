@@ -96,15 +96,15 @@ files_at whole (suc more) before text =
     ]
 
 -- what a text begins with in the place of the opening
-abbrev pub opened : Result (List ℕ) Flaw → Result (List ℕ) SetFault
-opened (Ok rest) = Ok rest
-opened (Err Short) = Err Truncated
-opened (Err Bad) = Err BadOpening
+abbrev pub after_opening : Result (List ℕ) Flaw → Result (List ℕ) SetFault
+after_opening (Ok rest) = Ok rest
+after_opening (Err Short) = Err Truncated
+after_opening (Err Bad) = Err BadOpening
 
 -- the files of a text, or its first fault
 unfoldable pub set_of : List ℕ → Result (List File) SetFault
 set_of text = do
-  rest ← opened (literal_at opening text)
+  rest ← after_opening (literal_at opening text)
   files ← files_at (length text) max_files [] rest
   if clashes files then Err PathClash else Ok files
 

@@ -3,7 +3,7 @@
 ghost use Rattle.std.specs.Prelude.{◌≡◌, ◌<◌, ◌≤◌, ◌^◌, List, [], length, map, ℕ, Option, option_map, codes, None, Some, Ok, Err, IfOk, IfSome, MatchResult};
 ghost use Rattle.bag_text.specs.Answers.{Gives};
 ghost use Rattle.bag_text.specs.TransferForm.{File, opening, ending, max_content, max_files};
-ghost use Rattle.bag_text.specs.TransferReading.{literal_at, digits_at, number_at, header_at, place_at, file_at, files_at, set_of, named_set_fault, file_of, files_of, Head, head_of, place_of, opened, flaw_at, placed, entry_at};
+ghost use Rattle.bag_text.specs.TransferReading.{literal_at, digits_at, number_at, header_at, place_at, file_at, files_at, set_of, named_set_fault, file_of, files_of, Head, head_of, place_of, after_opening, flaw_at, placed, entry_at};
 
 use crate::clash::do_clash;
 use crate::header::{EntryPlace, Flaw, Header};
@@ -240,7 +240,7 @@ pub fn read_set<'a>(alloc: Global, text: &'a [u8]) -> Result<Vec<(&'a str, &'a [
 }
 
 fn read_opening(text: &[u8]) -> Result<&[u8], SetFault>
-    ensures { MatchResult result (λ rest. opened (literal_at opening text.now) ≡ Ok rest.now) (λ fault. opened (literal_at opening text.now) ≡ Err fault) }
+    ensures { MatchResult result (λ rest. after_opening (literal_at opening text.now) ≡ Ok rest.now) (λ fault. after_opening (literal_at opening text.now) ≡ Err fault) }
 {
     match literal(b"BAGSET 1\n", text) {
         Ok(rest) => Ok(rest),
