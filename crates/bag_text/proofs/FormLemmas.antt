@@ -12,7 +12,7 @@ use Rattle.bag_text.specs.declared.set_fault.SetFault.{SetFault}
 use Rattle.bag_text.specs.declared.set_fault.SetFault.TheVariants.{BadEntry, Truncated, OutOfOrder, BadPath, TrailingBytes, PathClash}
 use Rattle.bag_text.specs.Paths.{path_fault}
 use Rattle.bag_text.specs.Answers.{◌>>=◌, Gives}
-use Rattle.bag_text.specs.TransferReading.{Head, Place, End, Entry, literal_at, header_at, place_at, file_at, placed, entry_of, entry_at, files_at, after_opening, set_of, named_set_fault}
+use Rattle.bag_text.specs.TransferReading.{Head, Place, End, Entry, literal_at, header_at, place_at, file_at, result_at, entry_of, entry_at, files_at, after_opening, set_of, named_set_fault}
 use Rattle.bag_text.specs.TransferForm.{File, header, entry, opening, ending, set_text, max_content, max_files, Ascends, clashes, Fits, IsBag}
 use Rattle.bag_text.specs.Paths.{max_path, is_good, comes_before}
 use Rattle.bag_text.proofs.NumberLemmas.{InBounds}
@@ -115,7 +115,7 @@ unfolding entry_at
 entry_again offset more before f rest fits after =
     let head : HeadFits (length f.path) (length f.content) = record { path = path_fits f.path fits.good; content = record { low = omega arith; high = fits.small } } in
     let place : place_at (entry f ++ rest) ≡ Ok (Entry (record { path_len = length f.path; content_len = length f.content; rest = f.path ++ (f.content ++ 10 ∷ rest) })) = ap place_at (entry_bytes f rest) ∙ place_header (length f.path) (length f.content) (f.path ++ (f.content ++ 10 ∷ rest)) head in
-    ap (λ (p : Result Place Flaw). placed offset p >>= entry_of offset (suc more) before) place ∙ rw (file_again offset before f rest fits.good after) refl
+    ap (λ (p : Result Place Flaw). result_at offset p >>= entry_of offset (suc more) before) place ∙ rw (file_again offset before f rest fits.good after) refl
 
 pub files_again : (whole : ℕ) (fs : List File) (left : ℕ) (before : List ℕ) → length fs ≤ left → AllByRecursion Fits fs → Ascends before fs → files_at whole left before (flat_map entry fs ++ ending) ≡ Ok fs
 unfolding files_at
@@ -194,7 +194,7 @@ pub entry_ok : (offset left : ℕ) (before t : List ℕ) (o : Option (File × Li
 unfolding entry_at
 entry_ok offset left before t o e = by_place left (place_at t) refl e
   where
-    by_place : (left : ℕ) (r : Result Place Flaw) → place_at t ≡ r → (placed offset r >>= entry_of offset left before) ≡ Ok o → IsEntry before t o
+    by_place : (left : ℕ) (r : Result Place Flaw) → place_at t ≡ r → (result_at offset r >>= entry_of offset left before) ≡ Ok o → IsEntry before t o
     by_place left (Err f) is e = absurd cc
     by_place left (Ok (End rest)) is e = by_rest rest is e
       where
@@ -222,7 +222,7 @@ no_file_past_limit : (offset : ℕ) (before text : List ℕ) (file : File × Lis
 unfolding entry_at
 no_file_past_limit offset before text file e = by_place (place_at text) e
   where
-    by_place : (p : Result Place Flaw) → (placed offset p >>= entry_of offset 0 before) ≡ Ok (Some file) → ⊥
+    by_place : (p : Result Place Flaw) → (result_at offset p >>= entry_of offset 0 before) ≡ Ok (Some file) → ⊥
     by_place (Ok (End rest)) h = by_end (eqb (length rest) 0) h
       where
         by_end : (b : Bool) → cond b (Ok None) (Err TrailingBytes) ≡ Ok (Some file) → ⊥

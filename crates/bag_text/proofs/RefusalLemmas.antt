@@ -11,7 +11,7 @@ use Rattle.bag_text.specs.declared.set_fault.SetFault.TheVariants.{BadOpening, B
 use Rattle.bag_text.specs.Paths.{is_good, comes_before}
 use Rattle.bag_text.specs.TransferForm.{File, header, entry, opening, ending, set_text, max_files, Ascends, clashes, Fits, IsBag}
 use Rattle.bag_text.specs.TransferFaults.{BeginsWith, IsProperBeginning, IsOpening, HasSizes, IsEndOrHeader, EntryFault, PlaceFault, last_path, GoOn, FaultIs}
-use Rattle.bag_text.specs.TransferReading.{Head, Place, End, Entry, literal_at, place_at, file_at, placed, entry_at, files_at, after_opening, set_of}
+use Rattle.bag_text.specs.TransferReading.{Head, Place, End, Entry, literal_at, place_at, file_at, result_at, entry_at, files_at, after_opening, set_of}
 use Rattle.bag_text.proofs.HeaderLemmas.{literal_ok, literal_again, literal_ends, literal_bad}
 use Rattle.bag_text.proofs.FormLemmas.{place_ok, place_header, end_trails, entry_again, files_again, set_ok, set_again}
 use Rattle.bag_text.proofs.FaultLemmas.{sized, fit, place_end, short_place, bad_place}
@@ -164,7 +164,7 @@ header_refused offset zero before t p c rest f sizes is lt h = absurd (omega ari
 header_refused offset (suc more) before t p c rest f sizes is lt h =
     rw (is, place_header p c rest (fit p c sizes), file_refused offset before p c rest f h) refl
 
-place_fails : (offset left : ℕ) (before t : List ℕ) (flaw : Flaw) (f : SetFault) → place_at t ≡ Err flaw → placed offset (place_at t) ≡ Err f → entry_at offset left before t ≡ Err f
+place_fails : (offset left : ℕ) (before t : List ℕ) (flaw : Flaw) (f : SetFault) → place_at t ≡ Err flaw → result_at offset (place_at t) ≡ Err f → entry_at offset left before t ≡ Err f
 unfolding entry_at
 place_fails offset left before t flaw f e g = rw g refl
 

@@ -10,7 +10,7 @@ use Rattle.bag_text.specs.declared.header.Flaw.TheVariants.{Short, Bad}
 use Rattle.bag_text.specs.declared.set_fault.SetFault.{SetFault}
 use Rattle.bag_text.specs.declared.set_fault.SetFault.TheVariants.{BadOpening, BadEntry, Truncated, OutOfOrder, BadPath, TooManyFiles, TrailingBytes, PathClash, Memory}
 use Rattle.bag_text.specs.Answers.{◌>>=◌, Gives}
-use Rattle.bag_text.specs.TransferReading.{Head, Place, End, Entry, literal_at, place_at, file_at, placed, entry_of, entry_at, files_at, after_opening, set_of, named_set_fault}
+use Rattle.bag_text.specs.TransferReading.{Head, Place, End, Entry, literal_at, place_at, file_at, result_at, entry_of, entry_at, files_at, after_opening, set_of, named_set_fault}
 use Rattle.bag_text.specs.TransferForm.{File, header, entry, opening, ending, max_files, Ascends, clashes, Fits}
 use Rattle.bag_text.specs.Paths.{is_good, comes_before}
 use Rattle.bag_text.specs.TransferFaults.{HasSizes, EntryFault, PlaceFault, last_path, GoOn, FaultIs}
@@ -96,7 +96,7 @@ pub entry_fault : (offset left : ℕ) (before t : List ℕ) (f : SetFault) → e
 unfolding entry_at
 entry_fault offset left before t f e = by_place left (place_at t) refl e
   where
-    by_place : (left : ℕ) (r : Result Place Flaw) → place_at t ≡ r → (placed offset r >>= entry_of offset left before) ≡ Err f → PlaceFault offset left before t f
+    by_place : (left : ℕ) (r : Result Place Flaw) → place_at t ≡ r → (result_at offset r >>= entry_of offset left before) ≡ Err f → PlaceFault offset left before t f
     by_place left (Err Short) is e = subst (λ (f : SetFault). PlaceFault offset left before t f) (wrong_is {A = Option (File × List ℕ)} Truncated f e) (inl (short_place t is))
     by_place left (Err Bad) is e = let b = bad_place t is in subst (λ (f : SetFault). PlaceFault offset left before t f) (wrong_is {A = Option (File × List ℕ)} (BadEntry offset) f e) (inl (refl, b.0, b.1))
     by_place left (Ok (End [])) is e = absurd cc

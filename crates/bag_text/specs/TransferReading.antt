@@ -73,9 +73,9 @@ abbrev pub flaw_at : ℕ → Flaw → SetFault
 flaw_at offset Short = Truncated
 flaw_at offset Bad = BadEntry offset
 
-abbrev pub placed : {A : Type 0} → ℕ → Result A Flaw → Result A SetFault
-placed offset (Ok x) = Ok x
-placed offset (Err e) = Err (flaw_at offset e)
+abbrev pub result_at : {A : Type 0} → ℕ → Result A Flaw → Result A SetFault
+result_at offset (Ok x) = Ok x
+result_at offset (Err e) = Err (flaw_at offset e)
 
 -- what follows from what stands there: none at the end, else a file and what stands behind it
 abbrev pub entry_of : ℕ → ℕ → List ℕ → Place → Result (Option (File × List ℕ)) SetFault
@@ -84,7 +84,7 @@ entry_of offset zero before (Entry head) = Err TooManyFiles
 entry_of offset (suc more) before (Entry head) = file_at offset before head >>= λ file. Ok (Some file)
 
 unfoldable pub entry_at : ℕ → ℕ → List ℕ → List ℕ → Result (Option (File × List ℕ)) SetFault
-entry_at offset left before text = placed offset (place_at text) >>= entry_of offset left before
+entry_at offset left before text = result_at offset (place_at text) >>= entry_of offset left before
 
 -- the files of what is left, of which there may be so many more
 unfoldable pub files_at : ℕ → ℕ → List ℕ → List ℕ → Result (List File) SetFault
