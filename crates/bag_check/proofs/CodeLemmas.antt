@@ -21,7 +21,7 @@ use Rattle.bag_text.specs.TransferForm.{File, Fits, max_content}
 use Rattle.bag_text.specs.declared.listing.Listing.{Listing}
 use Rattle.bag_text.specs.declared.listing.Manifest.{Manifest}
 use Rattle.bag_text.specs.declared.declaration.Version.{Version}
-use Rattle.bag_text.specs.ManifestReading.{listed, is_listed, manifest_of}
+use Rattle.bag_text.specs.ManifestReading.{entry_in, is_listed, manifest_of}
 use Rattle.bag_text.specs.BagInfo.{Pair}
 use Rattle.bag_text.specs.InfoReading.{Kept, pair_in, pairs_of}
 use Rattle.bag_check.specs.declared.rule.Rule.{Rule}
@@ -204,11 +204,11 @@ listings_done v front ms total is so_far = sym so_far ∙ ap (λ (ns : List Name
 
 -- the first file that a rule asks for and a manifest doesn't list
 abbrev pub unlisted : Rule → Manifest → List File → Option (List ℕ)
-unlisted rule manifest files = first_unlisted files rule (map listed manifest.entries.entries)
+unlisted rule manifest files = first_unlisted files rule (map entry_in manifest.entries.entries)
 
 -- whether a manifest lists a file's path
 abbrev is_its : Manifest → File → Bool
-is_its manifest f = is_listed f.path (map listed manifest.entries.entries)
+is_its manifest f = is_listed f.path (map entry_in manifest.entries.entries)
 
 -- a file that the rule asks for and the manifest doesn't list
 pub unlisted_here : (rule : Rule) (manifest : Manifest) (fs more : List File) (f : File) (total : Option (List ℕ)) → fs ≡ f ∷ more → asks_for rule f.path ≡ true → is_its manifest f ≡ false → unlisted rule manifest fs ≡ total → Some f.path ≡ total
@@ -229,11 +229,11 @@ unlisted_listed rule manifest fs more f total is asks its so_far =
     sym one ∙ ap (unlisted rule manifest) (sym is) ∙ so_far
 
 -- a path is found by its bytes
-pub found_by_bytes : (es : List (CowStr Global × Listing)) (path : List ℕ) → is_some (lookup (is_at (λ k. slice_cmp nat_cmp path (cow_str_bytes k))) es) ≡ is_listed path (map listed es)
+pub found_by_bytes : (es : List (CowStr Global × Listing)) (path : List ℕ) → is_some (lookup (is_at (λ k. slice_cmp nat_cmp path (cow_str_bytes k))) es) ≡ is_listed path (map entry_in es)
 found_by_bytes [] path = refl
 found_by_bytes (e ∷ es) path = by_test (is_at (slice_cmp nat_cmp path) (cow_str_bytes e.0)) (found_by_bytes es path)
   where
-    by_test : (x : Bool) → is_some (lookup (is_at (λ k. slice_cmp nat_cmp path (cow_str_bytes k))) es) ≡ is_listed path (map listed es) → is_some (cond x (Some e.1) (lookup (is_at (λ k. slice_cmp nat_cmp path (cow_str_bytes k))) es)) ≡ is_some (cond x (Some (listed e).1) (lookup (is_at (slice_cmp nat_cmp path)) (map listed es)))
+    by_test : (x : Bool) → is_some (lookup (is_at (λ k. slice_cmp nat_cmp path (cow_str_bytes k))) es) ≡ is_listed path (map entry_in es) → is_some (cond x (Some e.1) (lookup (is_at (λ k. slice_cmp nat_cmp path (cow_str_bytes k))) es)) ≡ is_some (cond x (Some (entry_in e).1) (lookup (is_at (slice_cmp nat_cmp path)) (map entry_in es)))
     by_test true again = refl
     by_test false again = again
 

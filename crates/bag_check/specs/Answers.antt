@@ -4,7 +4,7 @@ use Rattle.std.specs.Cow.{cow_str_bytes}
 use Rattle.std.specs.declared.borrow.CowStr.{CowStr}
 use Rattle.std.specs.Global.{Global}
 use denote.Ref.{Bor}
-use Rattle.bag_text.specs.ManifestReading.{listed}
+use Rattle.bag_text.specs.ManifestReading.{entry_in}
 use Rattle.bag_check.specs.declared.fault.BagFault.{BagFault}
 use Rattle.bag_check.specs.declared.fault.BagFault.TheVariants as faults
 use Rattle.bag_check.specs.declared.rule.Rule.TheVariants as rules_of
@@ -57,7 +57,7 @@ abbrev pub named_seen : Named → judging.Named
 named_seen m = record { name = m.name.now; kind = m.kind; algorithm = m.algorithm; text = m.text.now }
 
 abbrev pub listed_seen : Listed → judging.Listed
-listed_seen l = record { name = l.name.now; kind = l.kind; algorithm = l.algorithm; entries = map listed l.manifest.entries.entries }
+listed_seen l = record { name = l.name.now; kind = l.kind; algorithm = l.algorithm; entries = map entry_in l.manifest.entries.entries }
 
 -- the counts that a value names, as the definitions speak of them: the bytes, and the files
 abbrev pub counts_seen : Counts → ℕ × ℕ

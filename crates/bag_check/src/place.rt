@@ -4,7 +4,7 @@ ghost use Rattle.std.specs.Prelude.{◌≡◌, map, IfOk, option_map, option_cop
 ghost use Rattle.std.specs.Cow.{cow_str_bytes};
 ghost use Rattle.bag_text.specs.TransferForm.{content_at};
 ghost use Rattle.bag_text.specs.TransferReading.{files_of};
-ghost use Rattle.bag_text.specs.ManifestReading.{listed};
+ghost use Rattle.bag_text.specs.ManifestReading.{entry_in};
 ghost use Rattle.bag_check.specs.Judging.{concerns, is_about_files, asks_for, is_wrong, breaks_at, first_listed, first_unlisted, first_in, first_place};
 ghost use Rattle.bag_check.specs.Answers.{listed_seen, place_seen};
 
@@ -69,7 +69,7 @@ fn asks_for(rule: Rule, path: &str) -> bool
 
 /// Whether what is listed of a path breaks a rule.
 fn breaks(bag: &BagSet<'_>, rule: Rule, path: &CowStr<'_, Global>, listing: &Listing) -> bool
-    ensures { result ≡ breaks_at bag.now rule (listed (path.now, listing.now)) }
+    ensures { result ≡ breaks_at bag.now rule (entry_in (path.now, listing.now)) }
 {
     match rule {
         Rule::OutsidePayload => !is_payload_path(path.as_str()),
@@ -88,7 +88,7 @@ fn first_listed<'a>(
     manifest: &Manifest<'a>,
 ) -> Result<Option<CowStr<'a, Global>>, AllocError>
     ensures { IfOk result (λ path. option_map cow_str_bytes path
-        ≡ first_listed bag.now rule (map listed manifest.now.entries.entries)) }
+        ≡ first_listed bag.now rule (map entry_in manifest.now.entries.entries)) }
 {
     for (path, listing) in &manifest.entries {
         if breaks(bag, rule, path, listing) {
@@ -105,7 +105,7 @@ fn first_unlisted<'a>(
     manifest: &Manifest<'a>,
 ) -> Option<&'a str>
     ensures { option_copied result
-        ≡ first_unlisted (files_of files.now) rule (map listed manifest.now.entries.entries) }
+        ≡ first_unlisted (files_of files.now) rule (map entry_in manifest.now.entries.entries) }
 {
     for file in files {
         if asks_for(rule, file.0) && !manifest.lists(file.0) {

@@ -29,7 +29,7 @@ use Rattle.bag_text.specs.Paths.{GoodPath, is_good}
 use Rattle.bag_text.specs.Manifest.{Spells, decode, has_coded, size_of, checksum_of, IsEntry, LineIs, ListsOn, LineLists, Lists, IsManifest, AscendingPaths, sum_text, path_text, IsReached, ManifestFault}
 use Rattle.bag_text.specs.Answers.{FailsAs, Gives}
 use Rattle.bag_text.proofs.ResultLemmas.{never_both, same_err}
-use Rattle.bag_text.specs.ManifestReading.{Entry, Entries, checksum_in, path_of, entry_of, manifest_of, is_owned, listed, entries_in, paths_of, HasEntry, HasPath, listing_at, is_listed, named_line_fault}
+use Rattle.bag_text.specs.ManifestReading.{Entry, Entries, checksum_in, path_of, entry_of, manifest_of, is_owned, entry_in, entries_in, paths_of, HasEntry, HasPath, listing_at, is_listed, named_line_fault}
 use Rattle.bag_text.proofs.GoodPathLemmas.{good_from}
 use Rattle.bag_text.proofs.ManifestLemmas.{spells_decoded, spelled_is_decoded, looked_up}
 use Rattle.bag_text.proofs.ManifestLineLemmas.{reads_bad_checksum, reads_no_path, reads_bad_path, entry_reads}
@@ -279,8 +279,8 @@ fails (BadPath n) read e = inr e
 fails (ListedTwice n) read e = inr e
 
 -- an entry of a manifest is one of those that were read
-contains_listed : (m : Manifest) (key : CowStr Global) (listing : Listing) → Contains m.entries.entries (key, listing) → Contains (entries_in m) (listed (key, listing))
-contains_listed m key listing h = has_contains (entries_in m) (listed (key, listing)) (has_map listed m.entries.entries (key, listing) (contains_has m.entries.entries (key, listing) h))
+contains_listed : (m : Manifest) (key : CowStr Global) (listing : Listing) → Contains m.entries.entries (key, listing) → Contains (entries_in m) (entry_in (key, listing))
+contains_listed m key listing h = has_contains (entries_in m) (entry_in (key, listing)) (has_map entry_in m.entries.entries (key, listing) (contains_has m.entries.entries (key, listing) h))
 
 -- an entry of a manifest was read
 entry_has_read : (m : Manifest) (path : List ℕ) (checksum : Checksum) (line : ℕ) → HasEntry m path checksum line → HasRead (entries_in m) path checksum line
@@ -290,7 +290,7 @@ entry_has_read m path checksum line (key, has, is) =
 -- what was read is an entry of the manifest
 read_has_entry : (m : Manifest) (path : List ℕ) (checksum : Checksum) (line : ℕ) → HasRead (entries_in m) path checksum line → HasEntry m path checksum line
 read_has_entry m path checksum line (is_decoded, has) =
-    let found = map_has listed m.entries.entries (path, record { checksum = checksum; line = line; is_decoded = is_decoded }) (contains_has (entries_in m) (path, record { checksum = checksum; line = line; is_decoded = is_decoded }) has) in
+    let found = map_has entry_in m.entries.entries (path, record { checksum = checksum; line = line; is_decoded = is_decoded }) (contains_has (entries_in m) (path, record { checksum = checksum; line = line; is_decoded = is_decoded }) has) in
     let sum : found.0.1.checksum ≡ checksum = ap (λ (e : List ℕ × Entry). e.1.checksum) found.2 in
     let number : found.0.1.line ≡ line = ap (λ (e : List ℕ × Entry). e.1.line) found.2 in
     let here : Contains m.entries.entries (found.0.0, record { checksum = found.0.1.checksum; line = found.0.1.line }) = has_contains m.entries.entries found.0 found.1 in (
@@ -301,7 +301,7 @@ read_has_entry m path checksum line (is_decoded, has) =
     )
 
 -- the paths of the map are those that were read
-paths_same : (xs : List (CowStr Global × Listing)) → map (λ e. e.0) (map listed xs) ≡ map (λ e. cow_str_bytes e.0) xs
+paths_same : (xs : List (CowStr Global × Listing)) → map (λ e. e.0) (map entry_in xs) ≡ map (λ e. cow_str_bytes e.0) xs
 paths_same [] = refl
 paths_same (x ∷ xs) = ap (λ (ps : List (List ℕ)). cow_str_bytes x.0 ∷ ps) (paths_same xs)
 
@@ -340,7 +340,7 @@ module _ (v : Version) (a : Algorithm) (t : List ℕ) where
   -- a path is borrowed where nothing is decoded
   pub says_borrowed : (r : Result Manifest LineFault) → Gives named_line_fault entries_in r (manifest_of v a t) → IfOk r (λ m. (path : CowStr Global) (listing : Listing) (line : List ℕ) → Contains m.entries.entries (path, listing) → LineIs t listing.line line → IsBorrowedStr path ↔ (has_coded v (path_text line) ≡ false))
   says_borrowed (Ok m) g = λ path listing line has at.
-      borrowed_iff path (has_coded v (path_text line)) (entry_is_decoded v a t (entries_in m) (cow_str_bytes path) (listed (path, listing)).1 line g (contains_listed m path listing has) at)
+      borrowed_iff path (has_coded v (path_text line)) (entry_is_decoded v a t (entries_in m) (cow_str_bytes path) (entry_in (path, listing)).1 line g (contains_listed m path listing has) at)
   says_borrowed (Err fault) g = tt
 
   -- a refusal is the first fault, memory aside

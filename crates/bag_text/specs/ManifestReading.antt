@@ -103,11 +103,11 @@ abbrev pub key_of : CowStr Global → List ℕ × Bool
 key_of path = (cow_str_bytes path, is_owned path)
 
 -- an entry of a manifest: what is owned was decoded
-abbrev pub listed : CowStr Global × Listing → List ℕ × Entry
-listed e = (cow_str_bytes e.0, record { checksum = e.1.checksum; line = e.1.line; is_decoded = is_owned e.0 })
+abbrev pub entry_in : CowStr Global × Listing → List ℕ × Entry
+entry_in e = (cow_str_bytes e.0, record { checksum = e.1.checksum; line = e.1.line; is_decoded = is_owned e.0 })
 
 abbrev pub entries_in : Manifest → Entries
-entries_in m = map listed m.entries.entries
+entries_in m = map entry_in m.entries.entries
 
 -- a manifest's paths, in order
 abbrev pub paths_of : Manifest → List (List ℕ)

@@ -6,7 +6,7 @@ ghost use Rattle.bag_text.specs.Text.{is_blank, begins_with};
 ghost use Rattle.bag_text.specs.Paths.{is_good};
 ghost use Rattle.bag_text.specs.Lines.{lines};
 ghost use Rattle.bag_text.specs.Manifest.{coded_front, has_coded, decode};
-ghost use Rattle.bag_text.specs.ManifestReading.{next_char, good_of, key_of, checksum_in, path_of, entry_of, manifest_of, add_line_of, entries_of, listed, named_line_fault};
+ghost use Rattle.bag_text.specs.ManifestReading.{next_char, good_of, key_of, checksum_in, path_of, entry_of, manifest_of, add_line_of, entries_of, entry_in, named_line_fault};
 ghost use Rattle.bag_text.specs.Answers.{Gives};
 ghost use Rattle.std.specs.Prelude.{◌↔◌, ◌⊎◌, IfErr, IsTrue, IsSome, Contains, is_some};
 ghost use Rattle.std.specs.Cow.{IsBorrowedStr};
@@ -177,7 +177,7 @@ fn read_line<'a>(
     number: usize,
     line: &'a [u8],
 ) -> Result<(CowStr<'a, Global>, Listing), LineFault>
-    ensures { Gives named_line_fault listed result (entry_of version algorithm number line.now) }
+    ensures { Gives named_line_fault entry_in result (entry_of version algorithm number line.now) }
 {
     let (digits, rest) = line.split_at(sum_len(line));
     let checksum = read_checksum(algorithm, digits).ok_or(LineFault::BadChecksum(number))?;
@@ -205,7 +205,7 @@ fn add_line<'a>(
     line: &'a [u8],
     entries: &mut BTreeMap<CowStr<'a, Global>, Listing>,
 ) -> Result<(), LineFault>
-    ensures { Gives named_line_fault (λ x. map listed entries.new.entries) result (add_line_of version algorithm number (map listed entries.old.entries) line.now) }
+    ensures { Gives named_line_fault (λ x. map entry_in entries.new.entries) result (add_line_of version algorithm number (map entry_in entries.old.entries) line.now) }
 {
     if is_blank_line(line) {
         return Ok(());
@@ -224,7 +224,7 @@ fn read_entries<'a>(
     algorithm: Algorithm,
     text: &'a [u8],
 ) -> Result<BTreeMap<CowStr<'a, Global>, Listing>, LineFault>
-    ensures { Gives named_line_fault (λ m. map listed m.entries) result (entries_of version algorithm 1 [] (lines text.now)) }
+    ensures { Gives named_line_fault (λ m. map entry_in m.entries) result (entries_of version algorithm 1 [] (lines text.now)) }
 {
     let mut entries: BTreeMap<CowStr<'a, Global>, Listing> = BTreeMap::new(alloc);
     let mut rest = text;

@@ -1,8 +1,8 @@
 use Rattle.std.proofs.Common.{◌≡◌, map}
 use Rattle.std.specs.Prelude.{find}
-use Rattle.bag_text.specs.ManifestReading.{listed}
+use Rattle.bag_text.specs.ManifestReading.{entry_in}
 use Rattle.bag_check.specs.Judging.{breaks_at}
 use Rattle.bag_check.proofs.place.first_listed.Given as goal
 
 abbrev pub invariant-loop-path : goal.invariant-loop-path
-invariant-loop-path l = find (breaks_at l.bag l.rule) (map listed l.path-iterator) ≡ find (breaks_at l.bag l.rule) (map listed l.manifest.entries.entries)
+invariant-loop-path l = find (breaks_at l.bag l.rule) (map entry_in l.path-iterator) ≡ find (breaks_at l.bag l.rule) (map entry_in l.manifest.entries.entries)

@@ -1,10 +1,10 @@
 use Rattle.std.proofs.Common.{◌≡◌, ◌+◌, ◌≤◌, length, map, []}
 use Rattle.bag_text.specs.Lines.{lines}
-use Rattle.bag_text.specs.ManifestReading.{entries_of, listed}
+use Rattle.bag_text.specs.ManifestReading.{entries_of, entry_in}
 use Rattle.bag_text.proofs.manifest.read_entries.Given as goal
 
 abbrev pub invariant-loop-rest : goal.invariant-loop-rest
-invariant-loop-rest l = (l.number + length l.rest ≤ length l.text + 1) × (entries_of l.version l.algorithm l.number (map listed l.entries.entries) (lines l.rest) ≡ entries_of l.version l.algorithm 1 [] (lines l.text))
+invariant-loop-rest l = (l.number + length l.rest ≤ length l.text + 1) × (entries_of l.version l.algorithm l.number (map entry_in l.entries.entries) (lines l.rest) ≡ entries_of l.version l.algorithm 1 [] (lines l.text))
 
 abbrev pub decreases-loop-rest : goal.decreases-loop-rest
 decreases-loop-rest l = length l.rest
