@@ -9,7 +9,7 @@ ghost use Rattle.bag_text.specs.declared.declaration.DeclFault.{DeclFault};
 ghost use Rattle.bag_text.specs.DeclarationReading.{declaration_of, version_of, encoding_fault, two_lines_of};
 
 use crate::lines::split_line;
-use crate::text::{has_byte_order_mark, is_text, trimmed};
+use crate::text::{has_byte_order_mark, is_text, trim_blanks};
 
 /// The version of BagIt that a bag declares.
 #[derive(Clone, Copy, Debug, PartialEq, Eq)]
@@ -44,7 +44,7 @@ fn value_of<'a>(line: &'a [u8], label: &[u8]) -> Option<&'a [u8]>
     ensures { option_copied result ≡ after_label label.now line.now }
 {
     let value = line.strip_prefix(label)?;
-    Some(trimmed(value))
+    Some(trim_blanks(value))
 }
 
 /// How many bytes stand before the first full stop.

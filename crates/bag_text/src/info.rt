@@ -68,7 +68,7 @@ fn read_pair<'a>(number: usize, line: &'a [u8]) -> Result<(&'a str, &'a str), In
 }
 
 /// A value with one line more.
-fn joined<'a>(
+fn join_line<'a>(
     alloc: Global,
     value: CowStr<'a, Global>,
     line: &str,
@@ -96,7 +96,7 @@ fn continue_last<'a>(
     let Some((label, value)) = pairs.pop() else {
         return Err(InfoFault::StrayContinuation(number));
     };
-    let value = joined(alloc, value, line)?;
+    let value = join_line(alloc, value, line)?;
     pairs.push((label, value))?;
     Ok(())
 }

@@ -60,7 +60,7 @@ fn read_char<'a>(version: Version, spelled: &'a [u8]) -> Option<(u8, &'a [u8])>
 }
 
 /// The path that is spelled so.
-fn decoded(alloc: Global, version: Version, spelled: &[u8]) -> Result<Vec<u8>, AllocError>
+fn decode(alloc: Global, version: Version, spelled: &[u8]) -> Result<Vec<u8>, AllocError>
     ensures { IfOk result (λ v. v.items ≡ decode version spelled.now) }
 {
     let mut path = Vec::new(alloc);
@@ -134,7 +134,7 @@ fn read_path<'a>(
     if !has_coded(version, spelled) {
         return Ok(borrowed_path(spelled));
     }
-    let path = decoded(alloc, version, spelled)?;
+    let path = decode(alloc, version, spelled)?;
     Ok(owned_path(path))
 }
 

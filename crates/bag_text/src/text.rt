@@ -60,7 +60,7 @@ pub fn without_last_blanks(text: &[u8]) -> &[u8]
 }
 
 /// The text without the blanks round it.
-pub fn trimmed(text: &[u8]) -> &[u8]
+pub fn trim_blanks(text: &[u8]) -> &[u8]
     ensures { result.now ≡ trim_blanks text.now }
 {
     without_last_blanks(without_first_blanks(text))

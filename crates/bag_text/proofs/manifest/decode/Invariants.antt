@@ -1,6 +1,6 @@
 use Rattle.std.proofs.Common.{◌≡◌, ◌++◌, length}
 use Rattle.bag_text.specs.Manifest.{decode}
-use Rattle.bag_text.proofs.manifest.decoded.Given as goal
+use Rattle.bag_text.proofs.manifest.decode.Given as goal
 
 abbrev pub invariant-loop-byte : goal.invariant-loop-byte
 invariant-loop-byte l = l.path.items ++ decode l.version l.rest ≡ decode l.version l.spelled

@@ -2,7 +2,7 @@ use Rattle.std.proofs.Common.{ap}
 use Rattle.std.specs.Prelude.{option_map}
 use Rattle.bag_text.specs.Manifest.{decode}
 use Rattle.bag_text.proofs.ManifestLemmas.{step, done}
-use Rattle.bag_text.proofs.manifest.decoded.Goals as goal
+use Rattle.bag_text.proofs.manifest.decode.Goals as goal
 
 pub loop-byte-preserved : goal.loop-byte-preserved
 loop-byte-preserved c = step c.loop-byte.path.items c.push.new.self.items c.args.version c.loop-byte.rest.now _ c.in-Some.byte c.in-Some.after.now (decode c.args.version c.args.spelled.now) c.read_char.ensures.value (ap (option_map (λ x. (x.0, x.1.now))) c.in-Some.is) c.in_ok-push.ensures.items c.loop-byte.invariant
