@@ -30,7 +30,7 @@ use Rattle.bag_check.specs.declared.names.Kind.{Kind}
 use Rattle.bag_text.specs.declared.checksum.Algorithm.{Algorithm}
 use Rattle.bag_check.specs.Contents.{is_payload, payload_of, manifest_name, algorithm_named}
 use Rattle.bag_check.specs.Validity.{is_oxum, oxums_of, payload_files, payload_bytes, manifest_count, Report}
-use Rattle.bag_check.specs.FaultTexts.{is_escaped, printed, printed_byte, fault_text}
+use Rattle.bag_check.specs.FaultTexts.{is_escaped, printed_text, printed_byte, fault_text}
 use Rattle.bag_check.specs.Faults.{Fault, Breaks, rule_number}
 use Rattle.bag_text.specs.Answers.{◌>>=◌, FailsAs}
 use Rattle.bag_check.specs.Judging.{Named, Listed, named_of, onto, manifests_in, listed_or_fault, listings_of, asks_for, first_unlisted, first_in, first_place, named_by, named_or_fault, version_in, no_fetch, some_payload, keeps, listing_rules, keeps_contents, judge}
@@ -93,7 +93,7 @@ escapes b = by_place (nat_lt b 128) refl
     by_place false e = above b (grind (arith, nat_tests))
 
 -- what such a set encodes is what is printed
-pub encodes : (set : AsciiSet) → ((b : ℕ) → should_percent_encode set b ≡ is_escaped b) → (bs : List ℕ) → percent_encode set bs ≡ printed bs
+pub encodes : (set : AsciiSet) → ((b : ℕ) → should_percent_encode set b ≡ is_escaped b) → (bs : List ℕ) → percent_encode set bs ≡ printed_text bs
 unfolding percent_encode
 encodes set h [] = refl
 encodes set h (b ∷ bs) = rw (h b) (ap (λ (t : List ℕ). printed_byte b ++ t) (encodes set h bs))
@@ -120,11 +120,11 @@ coded Unlisted = refl
 coded ChecksumWrong = refl
 
 -- how a fault of a rule is printed
-pub broken_text : (rule : Rule) (name path : List ℕ) → fault_text (Breaks rule name path) ≡ code rule ++ 32 ∷ printed name ++ 32 ∷ printed path
+pub broken_text : (rule : Rule) (name path : List ℕ) → fault_text (Breaks rule name path) ≡ code rule ++ 32 ∷ printed_text name ++ 32 ∷ printed_text path
 broken_text rule name path =
-    ap (λ (t : List ℕ). t ++ codes " " ++ printed name ++ codes " " ++ printed path) (coded rule)
-    ∙ append_assoc (code rule ++ codes " " ++ printed name) (codes " ") (printed path)
-    ∙ ap (λ (t : List ℕ). t ++ 32 ∷ printed path) (append_assoc (code rule) (codes " ") (printed name))
+    ap (λ (t : List ℕ). t ++ codes " " ++ printed_text name ++ codes " " ++ printed_text path) (coded rule)
+    ∙ append_assoc (code rule ++ codes " " ++ printed_text name) (codes " ") (printed_text path)
+    ∙ ap (λ (t : List ℕ). t ++ 32 ∷ printed_text path) (append_assoc (code rule) (codes " ") (printed_text name))
 
 -- ---- manifests, file after file
 

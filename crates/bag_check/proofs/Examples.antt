@@ -11,7 +11,7 @@ use Rattle.bag_check.specs.Contents.{manifest_name}
 use Rattle.bag_check.specs.Validity.{NamesCounts, oxums_of}
 use Rattle.bag_check.specs.OxumReading.{counts_of}
 use Rattle.bag_check.specs.Faults.{NoDeclaration, NoPayloadManifest, Breaks}
-use Rattle.bag_check.specs.FaultTexts.{printed, fault_text}
+use Rattle.bag_check.specs.FaultTexts.{printed_text, fault_text}
 use Rattle.bag_check.specs.Judging.{judge, manifests_in}
 
 is_a_manifest : (manifest_name (codes "manifest-sha256.txt") ≡ Some (Payload, codes "sha256")) × (manifest_name (codes "tagmanifest-md5.txt") ≡ Some (Tag, codes "md5"))
@@ -24,7 +24,7 @@ is_no_manifest :
 is_no_manifest = (refl, refl, refl, refl)
 
 -- an LF, a blank, `%` and a byte above 126
-prints_escaped : printed (codes "data/" ++ 10 ∷ 32 ∷ 37 ∷ 233 ∷ []) ≡ codes "data/%0A%20%25%E9"
+prints_escaped : printed_text (codes "data/" ++ 10 ∷ 32 ∷ 37 ∷ 233 ∷ []) ≡ codes "data/%0A%20%25%E9"
 unfolding percent_encode_byte
 prints_escaped = refl
 

@@ -13,17 +13,17 @@ abbrev pub printed_byte : ℕ → List ℕ
 printed_byte b = if is_escaped b then percent_encode_byte b else b ∷ []
 
 -- a name or a path, as it is printed
-abbrev pub printed : List ℕ → List ℕ
-printed path = flat_map printed_byte path
+abbrev pub printed_text : List ℕ → List ℕ
+printed_text path = flat_map printed_byte path
 
 abbrev pub fault_text : Fault → List ℕ
 fault_text NoDeclaration = codes "B1"
 fault_text (Declaration f) = codes "B2 " ++ declaration_fault_text f
 fault_text FetchNotSupported = codes "B3"
-fault_text (UnsupportedAlgorithm name) = codes "B4 " ++ printed name
+fault_text (UnsupportedAlgorithm name) = codes "B4 " ++ printed_text name
 fault_text NoPayloadManifest = codes "B5"
-fault_text (ManifestText name f) = codes "B6 " ++ printed name ++ codes " " ++ line_fault_text f
-fault_text (Breaks rule name path) = codes "B" ++ decimal (rule_number rule) ++ codes " " ++ printed name ++ codes " " ++ printed path
+fault_text (ManifestText name f) = codes "B6 " ++ printed_text name ++ codes " " ++ line_fault_text f
+fault_text (Breaks rule name path) = codes "B" ++ decimal (rule_number rule) ++ codes " " ++ printed_text name ++ codes " " ++ printed_text path
 fault_text (InfoText f) = codes "B13 " ++ info_fault_text f
 fault_text OxumForm = codes "B14"
 fault_text OxumTwice = codes "B15"

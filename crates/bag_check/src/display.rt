@@ -4,7 +4,7 @@ ghost use Rattle.std.specs.Prelude.{◌≡◌, ℕ, Some, ◌++◌, ◌∷◌};
 ghost use Rattle.std.specs.Cow.{cow_str_bytes};
 ghost use Rattle.std.specs.Fmt.{DisplaysOnOk};
 ghost use Rattle.percent_encoding.specs.AsciiSet.{should_percent_encode};
-ghost use Rattle.bag_check.specs.FaultTexts.{is_escaped, printed};
+ghost use Rattle.bag_check.specs.FaultTexts.{is_escaped, printed_text};
 ghost use Rattle.bag_check.specs.Answers.{printed_fault};
 
 use crate::fault::BagFault;
@@ -60,7 +60,7 @@ impl<'a> fmt::Display for BagFault<'a> {
 /// Writes a code and a manifest's name.
 fn write_named<W: fmt::Write>(f: &mut fmt::Formatter<W>, code: &str, manifest: &str) -> fmt::Result
     ensures { DisplaysOnOk W.write_str_gives f.old result
-        (Some (code.now ++ 32 ∷ printed manifest.now)) f.new }
+        (Some (code.now ++ 32 ∷ printed_text manifest.now)) f.new }
 {
     let name = utf8_percent_encode(manifest, escaped());
     write!(f, "{code} {name}")
@@ -74,7 +74,7 @@ fn write_place<W: fmt::Write>(
     path: &CowStr<'_, Global>,
 ) -> fmt::Result
     ensures { DisplaysOnOk W.write_str_gives f.old result
-        (Some (code.now ++ 32 ∷ printed manifest.now ++ 32 ∷ printed (cow_str_bytes path.now))) f.new }
+        (Some (code.now ++ 32 ∷ printed_text manifest.now ++ 32 ∷ printed_text (cow_str_bytes path.now))) f.new }
 {
     write_named(f, code, manifest)?;
     let path = utf8_percent_encode(path.as_str(), escaped());
