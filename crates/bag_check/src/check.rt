@@ -74,7 +74,7 @@ fn need_payload_manifest<'a>(found: &[Named<'a>]) -> Result<(), BagFault<'a>>
 }
 
 /// The fault of a rule that is broken at a place.
-fn broken<'a>(rule: Rule, manifest: &'a str, path: CowStr<'a, Global>) -> BagFault<'a>
+fn fault_at<'a>(rule: Rule, manifest: &'a str, path: CowStr<'a, Global>) -> BagFault<'a>
     ensures { named_fault result ≡ Some (Breaks rule manifest.entry.now (cow_str_bytes path.entry)) }
 {
     match rule {
@@ -94,7 +94,7 @@ fn keep_rule<'a>(bag: &BagSet<'a>, rule: Rule, listed: &[Listed<'a>]) -> Result<
         (kept_by rule (first_place bag.now rule (map listed_seen listed.now))) }
 {
     match first_place(bag, rule, listed)? {
-        Some((name, path)) => Err(broken(rule, name, path)),
+        Some((name, path)) => Err(fault_at(rule, name, path)),
         None => Ok(()),
     }
 }

@@ -17,7 +17,7 @@ use std::fmt;
 const ESCAPED: AsciiSet = percent_encoding::ascii_set!(CONTROLS.add(b' ').add(b'%'));
 
 /// The bytes that are printed as `%` and two hex digits: those below 33, `%`, and those above 126.
-fn escaped() -> AsciiSet
+fn escaped_bytes() -> AsciiSet
     ensures { (b : ℕ) → should_percent_encode result b ≡ is_escaped b }
 {
     ESCAPED
@@ -62,7 +62,7 @@ fn write_named<W: fmt::Write>(f: &mut fmt::Formatter<W>, code: &str, manifest: &
     ensures { DisplaysOnOk W.write_str_gives f.old result
         (Some (code.now ++ 32 ∷ printed_text manifest.now)) f.new }
 {
-    let name = utf8_percent_encode(manifest, escaped());
+    let name = utf8_percent_encode(manifest, escaped_bytes());
     write!(f, "{code} {name}")
 }
 
@@ -77,7 +77,7 @@ fn write_place<W: fmt::Write>(
         (Some (code.now ++ 32 ∷ printed_text manifest.now ++ 32 ∷ printed_text (cow_str_bytes path.now))) f.new }
 {
     write_named(f, code, manifest)?;
-    let path = utf8_percent_encode(path.as_str(), escaped());
+    let path = utf8_percent_encode(path.as_str(), escaped_bytes());
     write!(f, " {path}")
 }
 

@@ -4,5 +4,5 @@ use Rattle.bag_check.proofs.display.write_named.Goals as goal
 
 pub returns : goal.returns
 returns g c =
-    let text = c.utf8_percent_encode-name.ensures.text ∙ encodes c.escaped.result c.escaped.ensures c.args.manifest.now in
+    let text = c.utf8_percent_encode-name.ensures.text ∙ encodes c.escaped_bytes.result c.escaped_bytes.ensures c.args.manifest.now in
     rw (← text) (search rules)

@@ -1,5 +1,5 @@
 use Rattle.bag_check.proofs.CodeLemmas.{escapes}
-use Rattle.bag_check.proofs.display.escaped.Goals as goal
+use Rattle.bag_check.proofs.display.escaped_bytes.Goals as goal
 
 pub returns : goal.returns
 returns c = escapes
