@@ -2,7 +2,7 @@
 
 use crate::outcome::Outcome;
 use office_tables::{
-    CallerRow, RuleRow, TableFault, by_accession, class_of, create, deposit_row, deposit_rows,
+    CallerRow, HoldTarget, NewDeposit, RuleRow, TableFault, by_accession, class_of, create, deposit_row, deposit_rows,
     drop_files, end_hold, file_of, files_of, has_collection, hold_row, last_deposit, last_hold,
     limits, live_holds, mark_gone, open_tables, put_class, put_collection, put_deposit, put_file,
     put_hold, put_policy, role_of, rules,
@@ -71,6 +71,17 @@ fn take<S: Alter>(alloc: Global, conn: &mut Connection<S>, step: Step) -> Result
     }
 }
 
+const DEPOSIT: NewDeposit<'static> = NewDeposit {
+    number: 1,
+    accession: "A-1",
+    collection: "maps",
+    class: "short",
+    closed: 10,
+    deposited: 11,
+    files: 2,
+    bytes: 3,
+};
+
 /// The changes of a step.
 fn change<S: Alter>(
     alloc: Global,
@@ -84,13 +95,13 @@ fn change<S: Alter>(
         }
         Step::Install => install(alloc, tx),
         Step::Deposit => {
-            put_deposit(tx, 1, "A-1", "maps", "short", 10, 11, 2, 3)?;
+            put_deposit(tx, DEPOSIT)?;
             put_file(tx, 1, "data/b", b"bb")?;
             put_file(tx, 1, "data/a", b"a")
         }
         Step::Hold => {
-            put_hold(tx, 1, Some(1), None, "suit", 100)?;
-            put_hold(tx, 2, None, Some("maps"), "suit", 101)
+            put_hold(tx, 1, HoldTarget::Deposit(1), "suit", 100)?;
+            put_hold(tx, 2, HoldTarget::Collection("maps"), "suit", 101)
         }
         _ => {
             mark_gone(tx, 1, 99)?;

@@ -2,7 +2,7 @@
 -- Texts are lists of bytes. Days are day numbers, 0 for 1970-01-01. Sizes are in bytes, years are calendar years.
 use Rattle.std.specs.Prelude.{⊤, ℕ, ℤ, pos, negsuc, nat_le, List, [], ◌∷◌, ◌++◌, map, find, filter, Option, Some, None, bytes_eq, not, is_some, unwrap_or, option_map, ◌≡◌, ◌&&◌, ◌||◌, Bool, false, if◌then◌else◌}
 use Rattle.std.specs.List.{AllByRecursion, list_any}
-use Rattle.std.specs.Ordering.{int_eq, int_cmp}
+use Rattle.std.specs.Ordering.{int_eq, int_cmp, is_lt}
 use Rattle.std.specs.declared.cmp.Ordering.TheVariants.{Less}
 
 -- ---- the rows
@@ -76,6 +76,32 @@ pub record Tables : Type 0 where
   pub files : List FileRow
   pub holds : List HoldRow
 
+-- ---- rows in the order of their numbers
+
+-- the rows with this one in its place by number: after those before it that are lower
+abbrev pub put_by : {Row : Type 0} → (Row → ℤ) → Row → List Row → List Row
+put_by number x [] = x ∷ []
+put_by number x (r ∷ rs) = if is_lt (int_cmp (number r) (number x)) then r ∷ put_by number x rs else x ∷ r ∷ rs
+
+-- the rows with each of these in its place by number, one after another
+abbrev pub put_each_by : {Row : Type 0} → (Row → ℤ) → List Row → List Row → List Row
+put_each_by number [] rows = rows
+put_each_by number (x ∷ xs) rows = put_each_by number xs (put_by number x rows)
+
+-- these sorted by number
+abbrev pub sorted_by : {Row : Type 0} → (Row → ℤ) → List Row → List Row
+sorted_by number xs = put_each_by number xs []
+
+-- each row's number is lower than those of all rows after it
+abbrev pub NumbersRise : {Row : Type 0} → (Row → ℤ) → List Row → Type 0
+NumbersRise number [] = ⊤
+NumbersRise number (r ∷ rs) = AllByRecursion (λ s. int_cmp (number r) (number s) ≡ Less) rs × NumbersRise number rs
+
+-- the highest number of a list whose numbers rise
+abbrev pub last_number : {Row : Type 0} → (Row → ℤ) → List Row → Option ℤ
+last_number number [] = None
+last_number number (r ∷ rs) = Some (unwrap_or (last_number number rs) (number r))
+
 -- ---- the office
 
 abbrev pub is_office_row : OfficeRow → Bool
@@ -133,9 +159,13 @@ is_caller name c = bytes_eq c.name name
 abbrev pub caller_named : List ℕ → List CallerRow → Option CallerRow
 caller_named name = find (is_caller name)
 
--- these callers and rules, and none of those before
+-- the rules ascend by place
+abbrev pub PlacesRise : List RuleRow → Type 0
+PlacesRise = NumbersRise (λ r. r.place)
+
+-- these callers, and these rules sorted by place; and none of those before
 abbrev pub with_policy : List CallerRow → List RuleRow → Tables → Tables
-with_policy callers rules t = record t { callers = callers; rules = rules }
+with_policy callers rules t = record t { callers = callers; rules = sorted_by (λ r. r.place) rules }
 
 -- ---- classes and collections
 
@@ -189,22 +219,13 @@ deposit_by accession = find (has_accession accession)
 abbrev pub DepositsBelow : ℤ → List DepositRow → Type 0
 DepositsBelow n = AllByRecursion (λ d. int_cmp d.number n ≡ Less)
 
+-- the deposit is in its place by number
 abbrev pub with_deposit : DepositRow → Tables → Tables
-with_deposit d t = record t { deposits = t.deposits ++ d ∷ [] }
+with_deposit d t = record t { deposits = put_by (λ e. e.number) d t.deposits }
 
 -- the deposit was destroyed on that day
 abbrev pub with_gone : ℤ → ℤ → Tables → Tables
 with_gone n day t = record t { deposits = map (λ d. if is_deposit n d then record d { gone = Some day } else d) t.deposits }
-
--- each row's number is lower than those of all rows after it
-abbrev pub NumbersRise : {Row : Type 0} → (Row → ℤ) → List Row → Type 0
-NumbersRise number [] = ⊤
-NumbersRise number (r ∷ rs) = AllByRecursion (λ s. int_cmp (number r) (number s) ≡ Less) rs × NumbersRise number rs
-
--- the highest number of a list whose numbers rise
-abbrev pub last_number : {Row : Type 0} → (Row → ℤ) → List Row → Option ℤ
-last_number number [] = None
-last_number number (r ∷ rs) = Some (unwrap_or (last_number number rs) (number r))
 
 -- ---- files
 
@@ -234,11 +255,13 @@ is_hold k h = int_eq h.number k
 abbrev pub hold_numbered : ℤ → List HoldRow → Option HoldRow
 hold_numbered k = find (is_hold k)
 
+-- each number that is there is lower
 abbrev pub HoldsBelow : ℤ → List HoldRow → Type 0
 HoldsBelow k = AllByRecursion (λ h. int_cmp h.number k ≡ Less)
 
+-- the hold is in its place by number
 abbrev pub with_hold : HoldRow → Tables → Tables
-with_hold h t = record t { holds = t.holds ++ h ∷ [] }
+with_hold h t = record t { holds = put_by (λ g. g.number) h t.holds }
 
 -- the hold was released on that day
 abbrev pub with_released : ℤ → ℤ → Tables → Tables
@@ -274,13 +297,6 @@ live_holds n collection t = map (λ h. h.number) (filter (is_live_over n collect
 abbrev pub with_caller : CallerRow → Tables → Tables
 with_caller c t = record t { callers = t.callers ++ c ∷ [] }
 
-abbrev pub with_rule : RuleRow → Tables → Tables
-with_rule r t = record t { rules = t.rules ++ r ∷ [] }
-
--- each place that is there is lower
-abbrev pub RulesBelow : ℤ → List RuleRow → Type 0
-RulesBelow place = AllByRecursion (λ r. int_cmp r.place place ≡ Less)
-
 abbrev pub without_callers : Tables → Tables
 without_callers t = record t { callers = [] }
 
@@ -291,18 +307,11 @@ abbrev pub with_callers : List CallerRow → Tables → Tables
 with_callers [] t = t
 with_callers (c ∷ cs) t = with_callers cs (with_caller c t)
 
+abbrev pub with_rule : RuleRow → Tables → Tables
+with_rule r t = record t { rules = put_by (λ s. s.place) r t.rules }
+
 abbrev pub with_rules : List RuleRow → Tables → Tables
-with_rules [] t = t
-with_rules (r ∷ rs) t = with_rules rs (with_rule r t)
-
--- each is above all that are there when its turn comes
-abbrev pub RulesFollow : List RuleRow → Tables → Type 0
-RulesFollow [] t = ⊤
-RulesFollow (r ∷ rs) t = RulesBelow r.place t.rules × RulesFollow rs (with_rule r t)
-
--- the rules ascend by place
-abbrev pub PlacesRise : List RuleRow → Type 0
-PlacesRise = NumbersRise (λ r. r.place)
+with_rules rs t = record t { rules = put_each_by (λ s. s.place) rs t.rules }
 
 -- ---- the order of the rows
 

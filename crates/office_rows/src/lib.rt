@@ -1,3 +1,5 @@
 //! The rows of the office's tables as plain records, for the definitions of the office and for the
-//! calls on its tables. This crate has no code.
+//! calls on its tables, and their laws.
 #![tactic(auto)]
+
+pub mod laws;

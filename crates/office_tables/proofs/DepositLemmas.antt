@@ -105,32 +105,6 @@ pub finds_last : (old new : State) (rows : List Row) → IsOffice old.now → Sh
 finds_last old new rows office h =
     reads_last 8 deposit_in (λ (d : DepositRow). d.number) (λ r. refl) office_schema last_text asks_last old new office.schema_is office.shaped.1.1.1.1.1.0.0 rows h
 
--- ---- a new deposit, with a number above the others
-
-abbrev pub params_of : DepositRow → Row
-params_of d = Int d.number ∷ Text d.accession ∷ Text d.collection ∷ Text d.class ∷ Int d.closed ∷ Int d.deposited ∷ Int d.files ∷ Int d.bytes ∷ []
-
-abbrev pub stored_of : DepositRow → Row
-stored_of d = Null ∷ Text d.accession ∷ Text d.collection ∷ Text d.class ∷ Int d.closed ∷ Int d.deposited ∷ Int d.files ∷ Int d.bytes ∷ Null ∷ []
-
-lower_rows : (n : ℤ) (rows : List Row) → AllByRecursion (λ r. IsTrue (is_int (rowid r))) rows → DepositsBelow n (map deposit_in rows) → AllByRecursion (λ r. value_cmp (rowid r) (Int n) ≡ Less) rows
-lower_rows n [] whole low = tt
-lower_rows n (r ∷ rows) whole low = (subst (λ v. value_cmp v (Int n) ≡ Less) (sym (int_is (rowid r) whole.0)) (value_cmp-Int (int_at r 0) n ∙ low.0), lower_rows n rows whole.1 low.1)
-
-pub puts_deposit : (old new : State) (d : DepositRow) (count : ℕ) → d.gone ≡ None → IsOffice old.now → DepositsBelow d.number (tables_of old.now).deposits → Executes put_text (params_of d) old new (Ok count)
-    → Becomes new.now (with_deposit d (tables_of old.now))
-puts_deposit old new d count kept office low h =
-    let params = params_of d in
-    let db = old.now.trees in
-    let source : Row = Int d.number ∷ stored_of d in
-    let edit = edit_of db deposit_table [] Chosen 0 (source ∷ []) in
-    let done = inserts put_text params old new office_schema office.schema_is 5 deposit_table refl idle put_plain put_terms 10 put_is refl refl count h in
-    let cast_is : cast_row deposit_table source ≡ Int d.number ∷ stored_of d = rw (cast_null, cast_int d.number, cast_int d.closed, cast_int d.deposited, cast_int d.files, cast_int d.bytes) refl in
-    let placed = inserted db deposit_table source (stored_of d) d.number cast_is in
-    let end = put_last (Int d.number ∷ stored_of d) (db 8) (lower_rows d.number (db 8) office.shaped.1.1.1.1.1.0.1 low) in
-    let is_d : deposit_in (Int d.number ∷ stored_of d) ≡ d = ap (λ g. record d { gone = g }) (sym kept) in
-    becomes old new edit count edit.news office.shaped done _ (ap (λ rows. record (tables_of old.now) { deposits = rows }) (ap (map deposit_in) (placed ∙ end) ∙ map_append deposit_in (db 8) _ ∙ ap (λ x. map deposit_in (db 8) ++ x ∷ []) is_d))
-
 -- ---- the day when it was destroyed
 
 abbrev set_gone : ℤ → Row → Row

@@ -11,7 +11,7 @@ use Rattle.sqlite.specs.declared.types.Value.{Value}
 use Rattle.sqlite.specs.declared.types.Value.TheVariants.{Null, Int, Text}
 use Rattle.sqlite.specs.Order.{Row, column, bytes, value_cmp}
 use Rattle.sqlite.specs.Values.{or_null, bound_value}
-use Rattle.sqlite.specs.Edit.{id_in, edit_of, with_rowid}
+use Rattle.sqlite.specs.Edit.{Edit, id_in, edit_of, with_rowid}
 use Rattle.sqlite.specs.Rowids.TheVariants.{Chosen, Given}
 use Rattle.sqlite.specs.Tree.{Trees, rowid, IsAscending}
 use Rattle.sqlite.specs.Term.{Term}
@@ -35,20 +35,21 @@ use Rattle.sqlite_rules.proofs.ListLemmas.{all_has, all_from}
 use Rattle.sqlite_rules.proofs.TableLemmas.{int_is}
 use Rattle.sqlite_trees.specs.View.{is_int}
 use Rattle.sql_meaning.specs.Columns.{int_at, bytes_at, maybe_int, maybe_bytes, maybe_int_at, maybe_bytes_at}
-use Rattle.sql_meaning.proofs.Writing.{inserts, updates}
+use Rattle.sql_meaning.proofs.Writing.{Changes, inserts, updates}
 use Rattle.sql_meaning.proofs.Inserts.{none_before}
 use Rattle.sqlite_schema.specs.declared.schema.Keys.TheVariants.{Enforced}
 use Rattle.sql_meaning.proofs.Scanning.{scan, as_program, passes, shown_of, scanned, answers_one, finds_one}
 use Rattle.sql_meaning.proofs.Reading.{Asks, reads_same, reads_one, reads_rising}
 use Rattle.sql_meaning.proofs.RowidKeys.{by_number, has_number, each_numbered, few_numbered, one_numbered}
 use Rattle.sql_meaning.proofs.Typed.{text_at, int_in, maybe_int_at as some_int_at, maybe_text_at as some_text_at, all_both}
-use Rattle.sql_meaning.proofs.Edits.{inserted, put_last, updated, decoded, cast_null, cast_int, map_append}
-use Rattle.sql_meaning.proofs.Whole.{keeps_rule, whole_after}
+use Rattle.sql_meaning.proofs.Edits.{updated, decoded, cast_null, cast_int, map_append}
+use Rattle.sql_meaning.proofs.Whole.{keeps_rule}
 use Rattle.office_tables.specs.Schema.{office_schema, hold_table, needed, optional}
-use Rattle.office_rows.specs.Rows.{HoldRow, HoldsBelow, is_hold, hold_numbered, last_number, with_hold, with_released, is_live, holds_deposit, holds_collection, is_live_on, is_live_within, is_live_over, live_holds}
+use Rattle.office_rows.specs.Rows.{HoldRow, put_by, is_hold, hold_numbered, last_number, with_hold, with_released, is_live, holds_deposit, holds_collection, is_live_on, is_live_within, is_live_over, live_holds}
 use Rattle.office_tables.specs.Tables.{IsOffice, Becomes, tables_of, hold_in}
 use Rattle.office_tables.specs.ShownHolds.{shown_hold}
 use Rattle.office_tables.proofs.Frames.{idle, becomes}
+use Rattle.office_tables.proofs.InOrder.{placed}
 use Rattle.office_tables.proofs.LastRow.{reads_last}
 use Rattle.office_tables.proofs.HoldTexts.{hold_text, hold_columns, asks_hold, last_text, asks_last, put_text, hold_terms, put_is, put_plain, end_text, ended_columns, end_is, end_plain, number_column, rising, on_text, on, asks_on, within_text, within, asks_within}
 
@@ -72,10 +73,6 @@ finds_last old new rows office h =
     reads_last 12 hold_in (λ (h : HoldRow). h.number) (λ r. refl) office_schema last_text asks_last old new office.schema_is office.shaped.1.1.1.1.1.1.1.0.0 rows h
 
 -- ---- a new hold
-
-lower_rows : (k : ℤ) (rows : List Row) → AllByRecursion (λ r. IsTrue (is_int (rowid r))) rows → HoldsBelow k (map hold_in rows) → AllByRecursion (λ r. value_cmp (rowid r) (Int k) ≡ Less) rows
-lower_rows k [] whole low = tt
-lower_rows k (r ∷ rows) whole low = (subst (λ v. value_cmp v (Int k) ≡ Less) (sym (int_is (rowid r) whole.0)) (value_cmp-Int (int_at r 0) k ∙ low.0), lower_rows k rows whole.1 low.1)
 
 abbrev pub params_of : HoldRow → Row
 params_of h = Int h.number ∷ or_null Int h.deposit ∷ or_null Text h.collection ∷ Text h.matter ∷ Int h.placed ∷ []
@@ -108,34 +105,34 @@ pub bound_text : (t : Option (Bor (List ℕ))) → bound_value (or_null (λ (s :
 bound_text None = refl
 bound_text (Some t) = refl
 
-pub puts_hold : (old new : State) (hold : HoldRow) (count : ℕ) → IsOffice old.now → hold.released ≡ None → HoldsBelow hold.number (tables_of old.now).holds → Executes put_text (params_of hold) old new (Ok count)
-    → Becomes new.now (with_hold hold (tables_of old.now))
-puts_hold old new hold count office live low h =
-    let params = params_of hold in
-    let db = old.now.trees in
-    let source : Row = Int hold.number ∷ stored_of hold in
-    let edit = edit_of db hold_table [] Chosen 0 (source ∷ []) in
-    let done = inserts put_text params old new office_schema office.schema_is 7 hold_table refl idle put_plain hold_terms 7 put_is refl refl count h in
-    let cast_is : cast_row hold_table source ≡ Int hold.number ∷ stored_of hold = rw (cast_null, cast_int hold.number, cast_maybe hold.deposit, cast_text hold.collection, cast_int hold.placed) refl in
-    let shaped = office.shaped.1.1.1.1.1.1.1.0 in
-    let end = inserted db hold_table source (stored_of hold) hold.number cast_is ∙ put_last (Int hold.number ∷ stored_of hold) (db 12) (lower_rows hold.number (db 12) shaped.1 low) in
-    let is_it : hold_in (Int hold.number ∷ stored_of hold) ≡ hold = rw (maybe_back hold.deposit [], text_back hold.collection [], live) refl in
-    becomes old new edit count edit.news office.shaped done _ (ap (λ rows. record (tables_of old.now) { holds = rows }) (ap (map hold_in) end ∙ map_append hold_in (db 12) _ ∙ ap (λ x. map hold_in (db 12) ++ x ∷ []) is_it))
+module _ (old new : State) (hold : HoldRow) (live : hold.released ≡ None) (count : ℕ) (office : IsOffice old.now) (h : Executes put_text (params_of hold) old new (Ok count)) where
+  abbrev put_hold : Row
+  put_hold = Int hold.number ∷ stored_of hold
 
--- so there was no hold of its number
-pub hold_was_new : (old new : State) (hold : HoldRow) (count : ℕ) → IsOffice old.now → Executes put_text (params_of hold) old new (Ok count) → hold_numbered hold.number (tables_of old.now).holds ≡ None
-hold_was_new old new hold count office h =
-    let params = params_of hold in
-    let db = old.now.trees in
-    let n = hold.number in
-    let source : Row = Int n ∷ stored_of hold in
-    let edit = edit_of db hold_table [] Chosen 0 (source ∷ []) in
-    let done = inserts put_text params old new office_schema office.schema_is 7 hold_table refl idle put_plain hold_terms 7 put_is refl refl count h in
-    let after : IsOffice new.now = whole_after office_schema old new edit count edit.news done office.shaped in
-    let cast_is : cast_row hold_table source ≡ source = rw (cast_null, cast_int n, cast_maybe hold.deposit, cast_text hold.collection, cast_int hold.placed) refl in
-    let placed : has_number n (with_rowid Chosen (db 12) (cast_row hold_table source)) ≡ true = ap (λ r. has_number n (with_rowid Chosen (db 12) r)) cast_is ∙ int_itself n in
-    let none = none_before office_schema Enforced db new.now.trees hold_table source done.applies (has_number n) placed (one_numbered (new.now.trees 12) after.shaped.1.1.1.1.1.1.1.0 n) in
-    found_by (is_hold n) (has_number n) hold_in (db 12) (all_from _ (db 12) (λ r there. refl)) ∙ ap (λ rs. option_map hold_in (slice_get rs 0)) none
+  abbrev put_edit : Edit
+  put_edit = edit_of old.now.trees hold_table [] Chosen 0 (put_hold ∷ [])
+
+  put_change : Changes office_schema old new put_edit count put_edit.news
+  put_change = inserts put_text (params_of hold) old new office_schema office.schema_is 7 hold_table refl idle put_plain hold_terms 7 put_is refl refl count h
+
+  put_cast : cast_row hold_table put_hold ≡ put_hold
+  put_cast = rw (cast_null, cast_int hold.number, cast_maybe hold.deposit, cast_text hold.collection, cast_int hold.placed) refl
+
+  pub puts_hold : Becomes new.now (with_hold hold (tables_of old.now))
+  puts_hold =
+      let number : HoldRow → ℤ = λ g. g.number in
+      let is_it : hold_in put_hold ≡ hold = rw (maybe_back hold.deposit [], text_back hold.collection [], live) refl in
+      let at_its_place = placed hold_in number (λ r. refl) old new hold_table put_hold (stored_of hold) hold.number count put_edit.news office.shaped.1.1.1.1.1.1.1.0 put_cast put_change in
+      becomes old new put_edit count put_edit.news office.shaped put_change _ (ap (λ rows. record (tables_of old.now) { holds = rows }) (at_its_place ∙ ap (λ x. put_by number x (map hold_in (old.now.trees 12))) is_it))
+
+  -- so there was no hold of its number
+  pub hold_was_new : hold_numbered hold.number (tables_of old.now).holds ≡ None
+  hold_was_new =
+      let n = hold.number in
+      let stored = old.now.trees 12 in
+      let is_there : has_number n (with_rowid Chosen stored (cast_row hold_table put_hold)) ≡ true = ap (λ r. has_number n (with_rowid Chosen stored r)) put_cast ∙ int_itself n in
+      let none = none_before office_schema Enforced old.now.trees new.now.trees hold_table put_hold put_change.applies (has_number n) is_there (one_numbered (new.now.trees 12) puts_hold.office.shaped.1.1.1.1.1.1.1.0 n) in
+      found_by (is_hold n) (has_number n) hold_in stored (all_from _ stored (λ r there. refl)) ∙ ap (λ rs. option_map hold_in (slice_get rs 0)) none
 
 -- ---- the end of a hold
 

@@ -1,4 +1,5 @@
 pub mod Frames
+pub mod InOrder
 pub mod ClassTexts
 pub mod ClassLemmas
 pub mod CollectionLemmas
@@ -13,7 +14,7 @@ pub mod PolicyTexts
 pub mod PolicyLemmas
 pub mod DepositTexts
 pub mod DepositLemmas
-pub mod NewDeposit
+pub mod DepositAdded
 pub mod FileTexts
 pub mod FileLemmas
 pub mod OpenLemmas

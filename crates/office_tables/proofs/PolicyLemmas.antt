@@ -28,13 +28,14 @@ use Rattle.sql_meaning.proofs.Reading.{reads_same, reads_one, reads_rising, find
 use Rattle.sql_meaning.proofs.Keys.{none_pass}
 use Rattle.sql_meaning.proofs.TextKeys.{has_text, by_text, each_passes, few_named}
 use Rattle.sql_meaning.proofs.Typed.{text_at, all_both}
-use Rattle.sql_meaning.proofs.Edits.{appended, inserted, put_last, deleted, kept_all, cast_null, cast_int, map_append}
+use Rattle.sql_meaning.proofs.Edits.{appended, deleted, kept_all, cast_null, cast_int, map_append}
 use Rattle.sql_meaning.proofs.Whole.{keeps_rule}
 use Rattle.office_tables.specs.Schema.{office_schema, caller_table, rule_table, needed}
-use Rattle.office_rows.specs.Rows.{Tables, CallerRow, RuleRow, is_caller, caller_named, RulesBelow, RulesFollow, PlacesRise, with_caller, with_rule, with_callers, with_rules, without_callers, without_rules, with_policy}
+use Rattle.office_rows.specs.Rows.{Tables, CallerRow, RuleRow, is_caller, caller_named, with_caller, with_rule, with_callers, with_rules, without_callers, without_rules, with_policy}
 use Rattle.office_tables.specs.Tables.{IsOffice, Becomes, tables_of, caller_in, rule_in}
 use Rattle.office_tables.specs.ShownPolicy.{shown_rule}
 use Rattle.office_tables.proofs.Frames.{idle, becomes}
+use Rattle.office_tables.proofs.InOrder.{placed}
 use Rattle.office_tables.proofs.PolicyTexts.{role_text, role_columns, asks_role, rules_text, rule_columns, rising, asks_rules, drop_callers_text, drop_callers_is, drop_callers_plain, drop_rules_text, drop_rules_is, drop_rules_plain, add_caller_text, caller_terms, add_caller_is, add_caller_plain, add_rule_text, rule_terms, add_rule_is, add_rule_plain}
 
 -- what is known of the callers: each name is a text, and at most one caller has it
@@ -110,27 +111,21 @@ adds_caller old new caller count office h =
     let end = appended db caller_table source (Text caller.name ∷ Text caller.role ∷ []) office.shaped.1.0 cast_is in
     becomes old new edit count edit.news office.shaped done _ (ap (λ rows. record (tables_of old.now) { callers = rows }) (ap (map caller_in) end ∙ map_append caller_in (db 1) _))
 
-lower_rows : (place : ℤ) (rows : List Row) → AllByRecursion (λ r. IsTrue (is_int (rowid r))) rows → RulesBelow place (map rule_in rows) → AllByRecursion (λ r. value_cmp (rowid r) (Int place) ≡ Less) rows
-lower_rows place [] whole low = tt
-lower_rows place (r ∷ rows) whole low = (subst (λ v. value_cmp v (Int place) ≡ Less) (sym (int_is (rowid r) whole.0)) (value_cmp-Int (int_at r 0) place ∙ low.0), lower_rows place rows whole.1 low.1)
-
 abbrev pub params_of : RuleRow → Row
 params_of r = Int r.place ∷ Int r.effect ∷ Text r.role ∷ Text r.action ∷ Text r.collection ∷ Text r.class ∷ []
 
 abbrev stored_of : RuleRow → Row
 stored_of r = Null ∷ Int r.effect ∷ Text r.role ∷ Text r.action ∷ Text r.collection ∷ Text r.class ∷ []
 
-pub adds_rule : (old new : State) (rule : RuleRow) (count : ℕ) → IsOffice old.now → RulesBelow rule.place (tables_of old.now).rules → Executes add_rule_text (params_of rule) old new (Ok count)
+pub adds_rule : (old new : State) (rule : RuleRow) (count : ℕ) → IsOffice old.now → Executes add_rule_text (params_of rule) old new (Ok count)
     → Becomes new.now (with_rule rule (tables_of old.now))
-adds_rule old new rule count office low h =
-    let params = params_of rule in
-    let db = old.now.trees in
-    let source : Row = Int rule.place ∷ stored_of rule in
-    let edit = edit_of db rule_table [] Chosen 0 (source ∷ []) in
-    let done = inserts add_rule_text params old new office_schema office.schema_is 2 rule_table refl idle add_rule_plain rule_terms 7 add_rule_is refl refl count h in
-    let cast_is : cast_row rule_table source ≡ Int rule.place ∷ stored_of rule = rw (cast_null, cast_int rule.place, cast_int rule.effect) refl in
-    let end = inserted db rule_table source (stored_of rule) rule.place cast_is ∙ put_last (Int rule.place ∷ stored_of rule) (db 3) (lower_rows rule.place (db 3) office.shaped.1.1.0.1 low) in
-    becomes old new edit count edit.news office.shaped done _ (ap (λ rows. record (tables_of old.now) { rules = rows }) (ap (map rule_in) end ∙ map_append rule_in (db 3) _))
+adds_rule old new rule count office h =
+    let row : Row = Int rule.place ∷ stored_of rule in
+    let edit = edit_of old.now.trees rule_table [] Chosen 0 (row ∷ []) in
+    let done = inserts add_rule_text (params_of rule) old new office_schema office.schema_is 2 rule_table refl idle add_rule_plain rule_terms 7 add_rule_is refl refl count h in
+    let cast_is : cast_row rule_table row ≡ row = rw (cast_null, cast_int rule.place, cast_int rule.effect) refl in
+    becomes old new edit count edit.news office.shaped done _ (ap (λ rows. record (tables_of old.now) { rules = rows })
+    (placed rule_in (λ (r : RuleRow). r.place) (λ r. refl) old new rule_table row (stored_of rule) rule.place count edit.news office.shaped.1.1.0 cast_is done))
 
 -- ---- all the new rows
 
@@ -138,55 +133,21 @@ pub callers_added : (cs : List CallerRow) (t : Tables) → with_callers cs t ≡
 callers_added [] t = ap (λ all. record t { callers = all }) (sym (append-nil t.callers))
 callers_added (c ∷ cs) t = callers_added cs (with_caller c t) ∙ ap (λ all. record t { callers = all }) (append_assoc t.callers (c ∷ []) cs)
 
-pub rules_added : (rs : List RuleRow) (t : Tables) → with_rules rs t ≡ record t { rules = t.rules ++ rs }
-rules_added [] t = ap (λ all. record t { rules = all }) (sym (append-nil t.rules))
-rules_added (r ∷ rs) t = rules_added rs (with_rule r t) ∙ ap (λ all. record t { rules = all }) (append_assoc t.rules (r ∷ []) rs)
-
-pub rules_follow : (rs : List RuleRow) (t : Tables) → PlacesRise rs → AllByRecursion (λ (r : RuleRow). RulesBelow r.place t.rules) rs → RulesFollow rs t
-rules_follow [] t rise low = tt
-rules_follow (r ∷ rs) t rise low = (low.0, rules_follow rs (with_rule r t) rise.1 (more rs rise.0 low.1))
-  where
-    more : (later : List RuleRow) → AllByRecursion (λ (s : RuleRow). int_cmp r.place s.place ≡ Less) later → AllByRecursion (λ (s : RuleRow). RulesBelow s.place t.rules) later → AllByRecursion (λ (s : RuleRow). RulesBelow s.place (t.rules ++ r ∷ [])) later
-    more [] up below = tt
-    more (s ∷ later) up below = (all-append (λ (x : RuleRow). int_cmp x.place s.place ≡ Less) t.rules (r ∷ []) below.0 (up.0, tt), more later up.1 below.1)
-
-none_below : (rs : List RuleRow) → AllByRecursion (λ (r : RuleRow). RulesBelow r.place []) rs
-none_below [] = tt
-none_below (r ∷ rs) = (tt, none_below rs)
-
-pub rules_fresh : (rs : List RuleRow) (t : Tables) → t.rules ≡ [] → PlacesRise rs → RulesFollow rs t
-rules_fresh rs t none rise = rules_follow rs t rise (subst (λ all. AllByRecursion (λ (r : RuleRow). RulesBelow r.place all) rs) (sym none) (none_below rs))
-
 -- ---- one step of a loop
 
-pub next_caller : (cs : List CallerRow) (i : ℕ) (x : CallerRow) → x ≡ get_or cs i x → i < length cs → (t : Tables) (now new : Database) → Becomes new (with_caller x (tables_of now))
-    → with_callers (drop i cs) (tables_of now) ≡ with_callers cs t → IsOffice new × (with_callers (drop (i + 1) cs) (tables_of new) ≡ with_callers cs t)
-next_caller cs i x is low t now new added there =
-    let here : with_callers (drop i cs) (tables_of now) ≡ with_callers (drop (i + 1) cs) (with_caller (get_or cs i x) (tables_of now)) = at_drop_more (λ more. with_callers more (tables_of now)) cs i x low in
-    (added.office, ap (with_callers (drop (i + 1) cs)) (added.are ∙ ap (λ c. with_caller c (tables_of now)) is) ∙ sym here ∙ there)
-
--- the next rule is above all that are there
-pub next_follows : (rs : List RuleRow) (i : ℕ) (x : RuleRow) → x ≡ get_or rs i x → i < length rs → (t : Tables) → RulesFollow (drop i rs) t → RulesBelow x.place t.rules × RulesFollow (drop (i + 1) rs) (with_rule x t)
-next_follows rs i x is low t follow =
-    let here : drop i rs ≡ get_or rs i x ∷ drop (i + 1) rs = at_drop_more (λ more. more) rs i x low in
-    let both : RulesFollow (get_or rs i x ∷ drop (i + 1) rs) t = subst (λ (more : List RuleRow). RulesFollow more t) here follow in
-    subst (λ (r : RuleRow). RulesBelow r.place t.rules × RulesFollow (drop (i + 1) rs) (with_rule r t)) (sym is) both
-
-pub next_rule : (rs : List RuleRow) (i : ℕ) (x : RuleRow) → x ≡ get_or rs i x → i < length rs → (t : Tables) (now new : Database) → Becomes new (with_rule x (tables_of now))
-    → RulesFollow (drop (i + 1) rs) (with_rule x (tables_of now)) → with_rules (drop i rs) (tables_of now) ≡ with_rules rs t
-    → IsOffice new × RulesFollow (drop (i + 1) rs) (tables_of new) × (with_rules (drop (i + 1) rs) (tables_of new) ≡ with_rules rs t)
-next_rule rs i x is low t now new added follow there =
-    let here : with_rules (drop i rs) (tables_of now) ≡ with_rules (drop (i + 1) rs) (with_rule (get_or rs i x) (tables_of now)) = at_drop_more (λ more. with_rules more (tables_of now)) rs i x low in (
-      added.office,
-      subst (RulesFollow (drop (i + 1) rs)) (sym added.are) follow,
-      ap (with_rules (drop (i + 1) rs)) (added.are ∙ ap (λ r. with_rule r (tables_of now)) is) ∙ sym here ∙ there,
-    )
+module _ {X : Type 0} (add : X → Tables → Tables) (add_each : List X → Tables → Tables) (in_turn : (x : X) (xs : List X) (t : Tables) → add_each (x ∷ xs) t ≡ add_each xs (add x t)) where
+  pub next_added : (xs : List X) (i : ℕ) (x : X) → x ≡ get_or xs i x → i < length xs → (t : Tables) (now new : Database) → Becomes new (add x (tables_of now))
+      → add_each (drop i xs) (tables_of now) ≡ add_each xs t → IsOffice new × (add_each (drop (i + 1) xs) (tables_of new) ≡ add_each xs t)
+  next_added xs i x is low t now new added there =
+      let rest = drop (i + 1) xs in
+      let here : add_each (drop i xs) (tables_of now) ≡ add_each (get_or xs i x ∷ rest) (tables_of now) = at_drop_more (λ more. add_each more (tables_of now)) xs i x low in
+      (added.office, ap (add_each rest) (added.are ∙ ap (λ y. add y (tables_of now)) is) ∙ sym (here ∙ in_turn (get_or xs i x) rest (tables_of now)) ∙ there)
 
 -- ---- the whole policy
 
-pub puts_policy : (t : Tables) (cs : List CallerRow) (rs : List RuleRow) (bare empty called : Database) → Becomes bare (without_callers t) → Becomes empty (without_rules (tables_of bare)) → Becomes called (with_callers cs (tables_of empty))
-    → PlacesRise rs → RulesFollow rs (tables_of called) × ((new : Database) → Becomes new (with_rules rs (tables_of called)) → Becomes new (with_policy cs rs t))
-puts_policy t cs rs bare empty called first second third rise =
+pub puts_policy : (t : Tables) (cs : List CallerRow) (rs : List RuleRow) (bare empty called new : Database) → Becomes bare (without_callers t) → Becomes empty (without_rules (tables_of bare))
+    → Becomes called (with_callers cs (tables_of empty)) → Becomes new (with_rules rs (tables_of called)) → Becomes new (with_policy cs rs t)
+puts_policy t cs rs bare empty called new first second third last =
     let is : tables_of called ≡ record t { callers = cs; rules = [] } =
     third.are ∙ callers_added cs (tables_of empty) ∙ ap (λ (u : Tables). record u { callers = u.callers ++ cs }) (second.are ∙ ap without_rules first.are) in
-    (rules_fresh rs (tables_of called) (ap (λ (u : Tables). u.rules) is) rise, λ new done. record { office = done.office; are = done.are ∙ ap (with_rules rs) is ∙ rules_added rs (record t { callers = cs; rules = [] }) })
+    record { office = last.office; are = last.are ∙ ap (with_rules rs) is }

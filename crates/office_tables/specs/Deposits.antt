@@ -1,5 +1,5 @@
 -- The rows that the queries on deposits and files show, the order of paths, and what a deposit that was added tells.
-use Rattle.std.specs.Prelude.{ℤ, List, None, IsTrue, ◌≡◌}
+use Rattle.std.specs.Prelude.{ℤ, pos, List, None, IsTrue, ◌≡◌}
 use Rattle.std.specs.Ordering.{nat_cmp}
 use Rattle.std.specs.Cmp.Lexicographic.{slice_cmp}
 use Rattle.std.specs.declared.cmp.Ordering.{Ordering}
@@ -7,8 +7,9 @@ use Rattle.sqlite.specs.Order.{Row}
 use Rattle.sqlite.specs.Effect.{Database}
 use Rattle.sqlite_keyed.specs.Lists.{sort_by}
 use Rattle.sql_meaning.specs.Columns.{int_at, bytes_at, maybe_int_at}
-use Rattle.office_rows.specs.Rows.{DepositRow, FileRow, Tables, files_of, DepositsBelow, with_deposit, deposit_numbered, deposit_by, has_collection, has_class}
+use Rattle.office_rows.specs.Rows.{DepositRow, FileRow, Tables, files_of, with_deposit, deposit_numbered, deposit_by, has_collection, has_class}
 use Rattle.office_tables.specs.Tables.{Becomes, tables_of}
+use Rattle.office_tables.specs.declared.deposits.NewDeposit.{NewDeposit}
 
 abbrev pub shown_deposit : Row → DepositRow
 shown_deposit row = record {
@@ -34,10 +35,23 @@ path_cmp f g = slice_cmp nat_cmp f.path g.path
 abbrev pub files_by_path : ℤ → Tables → List FileRow
 files_by_path n t = sort_by path_cmp (files_of n t)
 
--- a deposit came to the rows of an office: at the end where its number is above all others; its number and its accession were new,
--- and its collection and its class were there
+-- the row of a deposit that is added, which isn't destroyed
+abbrev pub added_row : NewDeposit → DepositRow
+added_row d = record {
+  number = pos d.number;
+  accession = d.accession.now;
+  collection = d.collection.now;
+  class = d.class.now;
+  closed = d.closed;
+  deposited = d.deposited;
+  files = d.files;
+  bytes = d.bytes;
+  gone = None;
+}
+
+-- a deposit came to the rows of an office: its number and its accession were new, and its collection and its class were there
 pub record IsAdded (d : DepositRow) (old new : Database) : Type 0 where
-  pub becomes : DepositsBelow d.number (tables_of old).deposits → Becomes new (with_deposit d (tables_of old))
+  pub becomes : Becomes new (with_deposit d (tables_of old))
   pub new_number : deposit_numbered d.number (tables_of old).deposits ≡ None
   pub new_accession : deposit_by d.accession (tables_of old).deposits ≡ None
   pub its_collection : IsTrue (has_collection d.collection (tables_of old))

@@ -1,7 +1,10 @@
--- The row that a query on holds shows.
+-- The row that a query on holds shows, and what a hold is on.
+use Rattle.std.specs.Prelude.{ℕ, ℤ, pos, List, Option, Some, None}
 use Rattle.sqlite.specs.Order.{Row}
 use Rattle.sql_meaning.specs.Columns.{int_at, bytes_at, maybe_int_at, maybe_bytes_at}
 use Rattle.office_rows.specs.Rows.{HoldRow}
+use Rattle.office_tables.specs.declared.holds.HoldTarget.{HoldTarget}
+use Rattle.office_tables.specs.declared.holds.HoldTarget.TheVariants.{Deposit, Collection}
 
 abbrev pub shown_hold : Row → HoldRow
 shown_hold row = record {
@@ -12,3 +15,11 @@ shown_hold row = record {
   placed = int_at row 4;
   released = maybe_int_at row 5;
 }
+
+abbrev pub held_deposit : HoldTarget → Option ℤ
+held_deposit (Deposit number) = Some (pos number)
+held_deposit (Collection name) = None
+
+abbrev pub held_collection : HoldTarget → Option (List ℕ)
+held_collection (Deposit number) = None
+held_collection (Collection name) = Some name.now

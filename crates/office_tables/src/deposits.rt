@@ -5,10 +5,10 @@ ghost use Rattle.sqlite.specs.State.{HasCleanDisk};
 ghost use Rattle.sqlite.specs.Held.{state};
 ghost use Rattle.sql_meaning.specs.Columns.{int_at};
 ghost use Rattle.office_tables.specs.Faults.{IsFailure};
-ghost use Rattle.office_rows.specs.Rows.{deposit_numbered, deposit_by, has_class, has_collection, last_number, DepositsBelow, with_deposit, with_gone};
+ghost use Rattle.office_rows.specs.Rows.{deposit_numbered, deposit_by, has_class, has_collection, last_number, with_deposit, with_gone};
 ghost use Rattle.office_tables.specs.Tables.{IsOffice};
-ghost use Rattle.office_tables.specs.Calls.{CommitsNothing, Continues, Keeps, Tells, Shows, Leaves, LeavesWhere};
-ghost use Rattle.office_tables.specs.Deposits.{shown_deposit, IsAdded};
+ghost use Rattle.office_tables.specs.Calls.{CommitsNothing, Continues, Keeps, Tells, Shows, Leaves};
+ghost use Rattle.office_tables.specs.Deposits.{shown_deposit, added_row, IsAdded};
 
 use crate::fault::TableFault;
 use crate::run::{ask, change};
@@ -297,44 +297,51 @@ fn add_deposit<S: Alter>(
     )
 }
 
-/// Adds a deposit, which isn't destroyed. Its number is to be above all others. Days are day numbers.
+/// A deposit that is to be added. Days are day numbers, 0 for 1970-01-01.
+#[derive(Clone, Copy, Debug)]
+pub struct NewDeposit<'a> {
+    pub number: u32,
+    pub accession: &'a str,
+    pub collection: &'a str,
+    pub class: &'a str,
+    /// The day when the records were closed.
+    pub closed: i64,
+    /// The day of the deposit.
+    pub deposited: i64,
+    /// How many files the payload has.
+    pub files: i64,
+    /// How many bytes those files have.
+    pub bytes: i64,
+}
+
+/// Adds a deposit, which isn't destroyed, in its place by number.
 ///
 /// Fails with `Store` where there is no such collection or class, or where the accession or the number is taken, and with `Memory`
 /// or `Store`.
 pub fn put_deposit<S: Alter>(
     tx: &mut Transaction<'_, S>,
-    number: u32,
-    accession: &str,
-    collection: &str,
-    class: &str,
-    closed: i64,
-    deposited: i64,
-    files: i64,
-    bytes: i64,
+    deposit: NewDeposit<'_>,
 ) -> Result<(), TableFault>
     ensures same_reference { tx.new.conn.ghost_name ≡ tx.old.conn.ghost_name }
     ensures stays { CommitsNothing S.Store tx.old.conn.now tx.new.conn.now }
     ensures goes_on { Continues S.Store tx.old.conn.now tx.new.conn.now result }
     ensures failure { IfErr result IsFailure }
-    ensures becomes { LeavesWhere S.Store tx.old.conn.now tx.new.conn.now result (λ tables. DepositsBelow (pos number) tables.deposits)
-        (with_deposit (record {
-          number = pos number;
-          accession = accession.now;
-          collection = collection.now;
-          class = class.now;
-          closed = closed;
-          deposited = deposited;
-          files = files;
-          bytes = bytes;
-          gone = None;
-        })) }
-    ensures new_number { Tells S.Store tx.old.conn.now tx.new.conn.now result (λ tables _. deposit_numbered (pos number) tables.deposits ≡ None) }
-    ensures new_accession { Tells S.Store tx.old.conn.now tx.new.conn.now result (λ tables _. deposit_by accession.now tables.deposits ≡ None) }
-    ensures its_collection { Tells S.Store tx.old.conn.now tx.new.conn.now result (λ tables _. IsTrue (has_collection collection.now tables)) }
-    ensures its_class { Tells S.Store tx.old.conn.now tx.new.conn.now result (λ tables _. IsTrue (has_class class.now tables)) }
+    ensures becomes { Leaves S.Store tx.old.conn.now tx.new.conn.now result (with_deposit (added_row deposit.entry)) }
+    ensures new_number { Tells S.Store tx.old.conn.now tx.new.conn.now result (λ tables _. deposit_numbered (pos deposit.entry.number) tables.deposits ≡ None) }
+    ensures new_accession { Tells S.Store tx.old.conn.now tx.new.conn.now result (λ tables _. deposit_by deposit.entry.accession.now tables.deposits ≡ None) }
+    ensures its_collection { Tells S.Store tx.old.conn.now tx.new.conn.now result (λ tables _. IsTrue (has_collection deposit.entry.collection.now tables)) }
+    ensures its_class { Tells S.Store tx.old.conn.now tx.new.conn.now result (λ tables _. IsTrue (has_class deposit.entry.class.now tables)) }
 {
     add_deposit(
-        tx, number, accession, collection, class, closed, deposited, files, bytes,
+        tx,
+        deposit.number,
+        deposit.accession,
+        deposit.collection,
+        deposit.class,
+        deposit.closed,
+        deposit.deposited,
+        deposit.files,
+        deposit.bytes,
     )?;
     Ok(())
 }

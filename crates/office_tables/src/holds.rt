@@ -3,9 +3,9 @@
 ghost use Rattle.std.specs.Prelude.{◌≡◌, ℕ, IfOk, IfErr, OnOk, pos, Some, None, map, filter, ◌++◌, option_map, slice_get};
 ghost use Rattle.sql_meaning.specs.Columns.{int_at};
 ghost use Rattle.office_tables.specs.Faults.{IsFailure};
-ghost use Rattle.office_rows.specs.Rows.{hold_numbered, last_number, with_hold, with_released, live_holds, is_live_on, is_live_within, HoldsBelow};
-ghost use Rattle.office_tables.specs.Calls.{CommitsNothing, Continues, Keeps, Tells, Shows, Leaves, LeavesWhere};
-ghost use Rattle.office_tables.specs.ShownHolds.{shown_hold};
+ghost use Rattle.office_rows.specs.Rows.{hold_numbered, last_number, with_hold, with_released, live_holds, is_live_on, is_live_within};
+ghost use Rattle.office_tables.specs.Calls.{CommitsNothing, Continues, Keeps, Tells, Shows, Leaves};
+ghost use Rattle.office_tables.specs.ShownHolds.{shown_hold, held_deposit, held_collection};
 
 use crate::fault::TableFault;
 use crate::run::{ask, change, number_in};
@@ -147,10 +147,17 @@ pub fn last_hold<S: Alter>(tx: &mut Transaction<'_, S>) -> Result<Option<u32>, T
     }
 }
 
-/// Adds a live hold on the deposit or the collection, placed on that day. Its number is to be above all others.
-///
-/// Fails with `Memory` or `Store`, as where there is a hold of that number.
-pub fn put_hold<S: Alter>(
+/// What a hold is on.
+#[derive(Clone, Copy, Debug, PartialEq, Eq)]
+pub enum HoldTarget<'a> {
+    /// The deposit of that number.
+    Deposit(u32),
+    /// Each deposit of the collection of that name.
+    Collection(&'a str),
+}
+
+/// Adds a live hold.
+fn add_hold<S: Alter>(
     tx: &mut Transaction<'_, S>,
     number: u32,
     deposit: Option<u32>,
@@ -162,15 +169,14 @@ pub fn put_hold<S: Alter>(
     ensures stays { CommitsNothing S.Store tx.old.conn.now tx.new.conn.now }
     ensures goes_on { Continues S.Store tx.old.conn.now tx.new.conn.now result }
     ensures failure { IfErr result IsFailure }
-    ensures becomes { LeavesWhere S.Store tx.old.conn.now tx.new.conn.now result (λ tables. HoldsBelow (pos number) tables.holds)
-        (with_hold (record {
-          number = pos number;
-          deposit = option_map pos deposit;
-          collection = option_map (λ c. c.now) collection.entry;
-          matter = matter.now;
-          placed = placed;
-          released = None;
-        })) }
+    ensures becomes { Leaves S.Store tx.old.conn.now tx.new.conn.now result (with_hold (record {
+      number = pos number;
+      deposit = option_map pos deposit;
+      collection = option_map (λ c. c.now) collection.entry;
+      matter = matter.now;
+      placed = placed;
+      released = None;
+    })) }
     ensures new_number { Tells S.Store tx.old.conn.now tx.new.conn.now result (λ tables _. hold_numbered (pos number) tables.holds ≡ None) }
 {
     change(
@@ -179,6 +185,36 @@ pub fn put_hold<S: Alter>(
         params![number, deposit, collection, matter, placed],
     )?;
     Ok(())
+}
+
+/// Adds a live hold, placed on that day, in its place by number.
+///
+/// Fails with `Memory` or `Store`, as where there is a hold of that number.
+pub fn put_hold<S: Alter>(
+    tx: &mut Transaction<'_, S>,
+    number: u32,
+    target: HoldTarget<'_>,
+    matter: &str,
+    placed: i64,
+) -> Result<(), TableFault>
+    ensures same_reference { tx.new.conn.ghost_name ≡ tx.old.conn.ghost_name }
+    ensures stays { CommitsNothing S.Store tx.old.conn.now tx.new.conn.now }
+    ensures goes_on { Continues S.Store tx.old.conn.now tx.new.conn.now result }
+    ensures failure { IfErr result IsFailure }
+    ensures becomes { Leaves S.Store tx.old.conn.now tx.new.conn.now result (with_hold (record {
+      number = pos number;
+      deposit = held_deposit target.entry;
+      collection = held_collection target.entry;
+      matter = matter.now;
+      placed = placed;
+      released = None;
+    })) }
+    ensures new_number { Tells S.Store tx.old.conn.now tx.new.conn.now result (λ tables _. hold_numbered (pos number) tables.holds ≡ None) }
+{
+    match target {
+        HoldTarget::Deposit(deposit) => add_hold(tx, number, Some(deposit), None, matter, placed),
+        HoldTarget::Collection(name) => add_hold(tx, number, None, Some(name), matter, placed),
+    }
 }
 
 /// Releases the hold of that number on that day; where there is none, nothing changes.

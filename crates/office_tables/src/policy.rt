@@ -3,8 +3,8 @@
 ghost use Rattle.std.specs.Prelude.{◌≡◌, ℕ, IfOk, IfErr, map, option_map, slice_get, string_bytes};
 ghost use Rattle.sql_meaning.specs.Columns.{bytes_at};
 ghost use Rattle.office_tables.specs.Faults.{IsFailure};
-ghost use Rattle.office_rows.specs.Rows.{caller_named, without_callers, without_rules, with_caller, with_rule, with_callers, with_rules, with_policy, RulesBelow, RulesFollow, PlacesRise};
-ghost use Rattle.office_tables.specs.Calls.{CommitsNothing, Continues, ContinuesInTurn, Keeps, Tells, Shows, Leaves, LeavesWhere};
+ghost use Rattle.office_rows.specs.Rows.{caller_named, without_callers, without_rules, with_caller, with_rule, with_callers, with_rules, with_policy};
+ghost use Rattle.office_tables.specs.Calls.{CommitsNothing, Continues, ContinuesInTurn, Keeps, Tells, Shows, Leaves};
 ghost use Rattle.office_tables.specs.ShownPolicy.{shown_rule};
 
 use crate::fault::TableFault;
@@ -213,7 +213,7 @@ fn add_caller<S: Alter>(
     )
 }
 
-/// Adds a rule, whose place is to be above all others.
+/// Adds a rule at its place.
 fn add_rule<S: Alter>(
     tx: &mut Transaction<'_, S>,
     place: i64,
@@ -227,7 +227,7 @@ fn add_rule<S: Alter>(
     ensures stays { CommitsNothing S.Store tx.old.conn.now tx.new.conn.now }
     ensures goes_on { Continues S.Store tx.old.conn.now tx.new.conn.now result }
     ensures failure { IfErr result IsFailure }
-    ensures becomes { LeavesWhere S.Store tx.old.conn.now tx.new.conn.now result (λ tables. RulesBelow place tables.rules)
+    ensures becomes { Leaves S.Store tx.old.conn.now tx.new.conn.now result
         (with_rule (record { place = place; effect = effect; role = role.now; action = action.now; collection = collection.now; class = class.now })) }
 {
     change(
@@ -254,14 +254,13 @@ fn add_callers<S: Alter>(
     Ok(())
 }
 
-/// Adds these rules in turn; the place of each is to be above all that are there when its turn comes.
+/// Adds these rules in turn, each at its place.
 fn add_rules<S: Alter>(tx: &mut Transaction<'_, S>, rules: &[RuleRow]) -> Result<(), TableFault>
     ensures same_reference { tx.new.conn.ghost_name ≡ tx.old.conn.ghost_name }
     ensures stays { CommitsNothing S.Store tx.old.conn.now tx.new.conn.now }
     ensures goes_on { ContinuesInTurn S.Store tx.old.conn.now tx.new.conn.now result }
     ensures failure { IfErr result IsFailure }
-    ensures becomes { LeavesWhere S.Store tx.old.conn.now tx.new.conn.now result (λ tables. RulesFollow rules.now tables)
-        (with_rules rules.now) }
+    ensures becomes { Leaves S.Store tx.old.conn.now tx.new.conn.now result (with_rules rules.now) }
 {
     for rule in rules {
         add_rule(
@@ -277,7 +276,7 @@ fn add_rules<S: Alter>(tx: &mut Transaction<'_, S>, rules: &[RuleRow]) -> Result
     Ok(())
 }
 
-/// Puts these callers and rules in the place of all that were there. The places of the rules are to rise.
+/// Puts these callers and rules instead of all that were there, the rules sorted by their places.
 ///
 /// Fails with `Memory` or `Store`, as where two callers have one name or two rules one place.
 pub fn put_policy<S: Alter>(
@@ -289,8 +288,7 @@ pub fn put_policy<S: Alter>(
     ensures stays { CommitsNothing S.Store tx.old.conn.now tx.new.conn.now }
     ensures goes_on { Continues S.Store tx.old.conn.now tx.new.conn.now result }
     ensures failure { IfErr result IsFailure }
-    ensures becomes { LeavesWhere S.Store tx.old.conn.now tx.new.conn.now result (λ _. PlacesRise rules.now)
-        (with_policy callers.now rules.now) }
+    ensures becomes { Leaves S.Store tx.old.conn.now tx.new.conn.now result (with_policy callers.now rules.now) }
 {
     drop_callers(tx)?;
     drop_rules(tx)?;

@@ -20,7 +20,7 @@ use Rattle.sql_meaning.proofs.Typed.{both}
 use Rattle.sql_meaning.proofs.Keys.{none_pass, not_is}
 
 -- no row has the rowid of this one
-abbrev IsApart : Row → List Row → Type 0
+abbrev pub IsApart : Row → List Row → Type 0
 IsApart new = AllByRecursion (λ r. is_eq (value_cmp (rowid r) (rowid new)) ≡ false)
 
 there_by : (new r : Row) (rows : List Row) (o : Ordering) → value_cmp (rowid r) (rowid new) ≡ o → Has (put_row new rows) new → Has (put_row new (r ∷ rows)) new
@@ -51,7 +51,8 @@ module _ (schema : Schema) (keys : Keys) (db next : Trees) (table : Table) (sour
   abbrev pub put : Row
   put = with_rowid Chosen (db table.tree) (cast_row table source)
 
-  apart : IsApart put (db table.tree)
+  -- no row had its rowid
+  pub apart : IsApart put (db table.tree)
   apart = none_from_any (λ r. is_eq (value_cmp (rowid r) (rowid put))) (db table.tree) (not_is _ (both _ _ applies.fresh).0)
 
   pub was_put : Has (next table.tree) put

@@ -1,8 +1,8 @@
 //! Changes of the rows, as values that a table can hold.
 
-use crate::office::{Deposit, Hold, Rule};
+use crate::office::{Hold, Rule};
 use office_tables::{
-    CallerRow, RuleRow, TableFault, drop_files, end_hold, mark_gone, put_class, put_collection,
+    CallerRow, NewDeposit, RuleRow, TableFault, drop_files, end_hold, mark_gone, put_class, put_collection,
     put_deposit, put_file, put_hold, put_policy,
 };
 use sqlite::{Alter, Connection, Transaction};
@@ -16,7 +16,7 @@ pub enum Change<'a> {
     /// A class and its years.
     Class(&'a str, i64),
     Collection(&'a str),
-    Deposit(Deposit<'a>),
+    Deposit(NewDeposit<'a>),
     /// A file of a deposit, with its path and its content.
     File(u32, &'a str, &'a [u8]),
     /// A deposit is destroyed on that day, and its files are dropped.
@@ -53,32 +53,13 @@ fn make<S: Alter>(
         }
         Change::Class(name, years) => put_class(tx, name, years),
         Change::Collection(name) => put_collection(tx, name),
-        Change::Deposit(it) => put_deposit(
-            tx,
-            it.number,
-            it.accession,
-            it.collection,
-            it.class,
-            it.closed,
-            it.deposited,
-            it.files,
-            it.bytes,
-        ),
+        Change::Deposit(deposit) => put_deposit(tx, deposit),
         Change::File(deposit, path, content) => put_file(tx, deposit, path, content),
         Change::Gone(number, day) => {
             mark_gone(tx, number, day)?;
             drop_files(tx, number)
         }
-        Change::Hold(it) => {
-            put_hold(
-                tx,
-                it.number,
-                it.deposit,
-                it.collection,
-                it.matter,
-                it.placed,
-            )
-        }
+        Change::Hold(it) => put_hold(tx, it.number, it.target, it.matter, it.placed),
         Change::Released(number, day) => end_hold(tx, number, day),
     }
 }

@@ -1,29 +1,15 @@
 //! The worked office, whose rows are in the file `diff/rows.txt`.
 
 use crate::changes::{Change, commit};
-use office_tables::{TableFault, create};
+use office_tables::{HoldTarget, NewDeposit, TableFault, create};
 use sqlite::{Alter, Connection};
 use std::alloc::{AllocError, Global};
-
-/// A deposit, as it is put in. Days are day numbers.
-#[derive(Clone, Copy)]
-pub struct Deposit<'a> {
-    pub number: u32,
-    pub accession: &'a str,
-    pub collection: &'a str,
-    pub class: &'a str,
-    pub closed: i64,
-    pub deposited: i64,
-    pub files: i64,
-    pub bytes: i64,
-}
 
 /// A hold, as it is placed.
 #[derive(Clone, Copy)]
 pub struct Hold<'a> {
     pub number: u32,
-    pub deposit: Option<u32>,
-    pub collection: Option<&'a str>,
+    pub target: HoldTarget<'a>,
     pub matter: &'a str,
     pub placed: i64,
 }
@@ -84,7 +70,7 @@ static DEFINITIONS: [Change<'static>; 10] = [
 /// Deposits, of which the second is destroyed with its files. The third has files with odd paths,
 /// and the last has long ones.
 static DEPOSITS: [Change<'static>; 8] = [
-    Change::Deposit(Deposit {
+    Change::Deposit(NewDeposit {
         number: 1,
         accession: "2026-0001",
         collection: "maps",
@@ -94,7 +80,7 @@ static DEPOSITS: [Change<'static>; 8] = [
         files: 1,
         bytes: 0,
     }),
-    Change::Deposit(Deposit {
+    Change::Deposit(NewDeposit {
         number: 2,
         accession: "2026-0002",
         collection: "tax",
@@ -104,7 +90,7 @@ static DEPOSITS: [Change<'static>; 8] = [
         files: 2,
         bytes: 6,
     }),
-    Change::Deposit(Deposit {
+    Change::Deposit(NewDeposit {
         number: 3,
         accession: "A/3 'quoted'",
         collection: "maps",
@@ -114,7 +100,7 @@ static DEPOSITS: [Change<'static>; 8] = [
         files: 7,
         bytes: 94,
     }),
-    Change::Deposit(Deposit {
+    Change::Deposit(NewDeposit {
         number: 1_000_000,
         accession: "2026-9999",
         collection: "letters",
@@ -144,29 +130,25 @@ static ODD_PATHS: [&str; 7] = [
 static HOLDS: [Change<'static>; 5] = [
     Change::Hold(Hold {
         number: 1,
-        deposit: Some(1),
-        collection: None,
+        target: HoldTarget::Deposit(1),
         matter: "suit 12",
         placed: 20_600,
     }),
     Change::Hold(Hold {
         number: 2,
-        deposit: None,
-        collection: Some("maps"),
+        target: HoldTarget::Collection("maps"),
         matter: "audit",
         placed: 20_601,
     }),
     Change::Hold(Hold {
         number: 3,
-        deposit: None,
-        collection: Some("tax"),
+        target: HoldTarget::Collection("tax"),
         matter: "o'neil",
         placed: 20_601,
     }),
     Change::Hold(Hold {
         number: 500_000,
-        deposit: Some(77),
-        collection: None,
+        target: HoldTarget::Deposit(77),
         matter: "no such deposit",
         placed: -1,
     }),

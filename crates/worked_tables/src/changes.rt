@@ -1,7 +1,7 @@
 //! Changes of the rows, as values that a table can hold.
 
 use office_tables::{
-    CallerRow, RuleRow, TableFault, drop_files, end_hold, mark_gone, put_class, put_collection,
+    CallerRow, HoldTarget, NewDeposit, RuleRow, TableFault, drop_files, end_hold, mark_gone, put_class, put_collection,
     put_deposit, put_file, put_hold, put_policy,
 };
 use sqlite::{Alter, Transaction};
@@ -30,8 +30,8 @@ pub enum Change<'a> {
     File(u32, &'a str, &'a [u8]),
     /// The files of a deposit are dropped.
     DropFiles(u32),
-    /// A hold of day 100, with its deposit, its collection and its matter.
-    Hold(u32, Option<u32>, Option<&'a str>, &'a str),
+    /// A hold of day 100, with what it is on and its matter.
+    Hold(u32, HoldTarget<'a>, &'a str),
     /// A hold ends on that day.
     EndHold(u32, i64),
 }
@@ -49,14 +49,22 @@ pub fn make<S: Alter>(
         Change::Class(name, years) => put_class(tx, name, years),
         Change::Collection(name) => put_collection(tx, name),
         Change::Deposit(number, accession, collection, class) => {
-            put_deposit(tx, number, accession, collection, class, 10, 11, 2, 300)
+            let deposit = NewDeposit {
+                number,
+                accession,
+                collection,
+                class,
+                closed: 10,
+                deposited: 11,
+                files: 2,
+                bytes: 300,
+            };
+            put_deposit(tx, deposit)
         }
         Change::Gone(number, day) => mark_gone(tx, number, day),
         Change::File(number, path, content) => put_file(tx, number, path, content),
         Change::DropFiles(number) => drop_files(tx, number),
-        Change::Hold(number, deposit, collection, matter) => {
-            put_hold(tx, number, deposit, collection, matter, 100)
-        }
+        Change::Hold(number, target, matter) => put_hold(tx, number, target, matter, 100),
         Change::EndHold(number, day) => end_hold(tx, number, day),
     }
 }

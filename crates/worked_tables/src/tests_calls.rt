@@ -4,6 +4,7 @@ use crate::answers::Read;
 use crate::changes::Change;
 use crate::sessions::{Row, take_all};
 use crate::steps::Step;
+use office_tables::HoldTarget;
 use std::test::*;
 
 static MADE: [Row; 2] = [(Step::Open, "NotAnOffice"), (Step::Create, "done")];
@@ -51,11 +52,12 @@ const OLD_POLICY: Change = Change::Policy(
     &[(3, 0, "keeper", "list", "*", "y2")],
 );
 
+/// Its rules come sorted by place.
 const NEW_POLICY: Change = Change::Policy(
     &[("ben", "reader"), ("cy", "reader")],
     &[
-        (1, 0, "keeper", "list", "*", "y2"),
         (7, 1, "*", "list", "*", "y2"),
+        (1, 0, "keeper", "list", "*", "y2"),
     ],
 );
 
@@ -83,14 +85,14 @@ fn a_policy_lasts(rt: HostRuntime) -> Result<(), Fail> {
     take_all(rt.alloc(), &[&INSTALLED, &POLICY])
 }
 
-/// Three deposits, of which the second is gone.
+/// Three deposits, of which the last comes between the others, and is gone.
 static DEPOSITED: [Row; 7] = [
     (Step::Create, "done"),
     (Step::Do(Change::Class("y2", 2)), "done"),
     (Step::Do(Change::Collection("maps")), "done"),
     (Step::Do(Change::Deposit(1, "2026/1", "maps", "y2")), "done"),
-    (Step::Do(Change::Deposit(4, "2026/4", "maps", "y2")), "done"),
     (Step::Do(Change::Deposit(9, "2026/9", "maps", "y2")), "done"),
+    (Step::Do(Change::Deposit(4, "2026/4", "maps", "y2")), "done"),
     (Step::Do(Change::Gone(4, 900)), "done"),
 ];
 
@@ -145,16 +147,16 @@ fn files_last(rt: HostRuntime) -> Result<(), Fail> {
     take_all(rt.alloc(), &[&PUT, &FILES])
 }
 
-/// Four holds, of which the first is released.
+/// Four holds, of which the first is released, and the last comes between two others.
 static PLACED: [Row; 6] = [
     (Step::Create, "done"),
-    (Step::Do(Change::Hold(1, Some(7), None, "tax 1")), "done"),
+    (Step::Do(Change::Hold(1, HoldTarget::Deposit(7), "tax 1")), "done"),
     (
-        Step::Do(Change::Hold(2, None, Some("maps"), "suit")),
+        Step::Do(Change::Hold(2, HoldTarget::Collection("maps"), "suit")),
         "done",
     ),
-    (Step::Do(Change::Hold(3, Some(7), None, "audit")), "done"),
-    (Step::Do(Change::Hold(5, Some(8), None, "audit")), "done"),
+    (Step::Do(Change::Hold(5, HoldTarget::Deposit(8), "audit")), "done"),
+    (Step::Do(Change::Hold(3, HoldTarget::Deposit(7), "audit")), "done"),
     (Step::Do(Change::EndHold(1, 150)), "done"),
 ];
 

@@ -4,6 +4,7 @@ use crate::answers::Read;
 use crate::changes::Change;
 use crate::sessions::{Row, take_all};
 use crate::steps::Step;
+use office_tables::HoldTarget;
 use std::test::*;
 
 /// An office with one deposit, a file of it and a hold.
@@ -13,7 +14,7 @@ static SMALL_OFFICE: [Row; 6] = [
     (Step::Do(Change::Collection("maps")), "done"),
     (Step::Do(Change::Deposit(1, "2026/1", "maps", "y2")), "done"),
     (Step::Do(Change::File(1, "data/a", b"abc")), "done"),
-    (Step::Do(Change::Hold(1, Some(1), None, "suit")), "done"),
+    (Step::Do(Change::Hold(1, HoldTarget::Deposit(1), "suit")), "done"),
 ];
 
 /// What the small office holds.
@@ -78,7 +79,7 @@ static REFUSED_FILE_AND_HOLD: [Row; 4] = [
     (Step::Both(NEW, Change::File(1, "data/a", b"")), "Store"),
     (Step::Held, SMALL),
     (
-        Step::Both(NEW, Change::Hold(1, Some(1), None, "other")),
+        Step::Both(NEW, Change::Hold(1, HoldTarget::Deposit(1), "other")),
         "Store",
     ),
     (Step::Held, SMALL),
@@ -88,15 +89,15 @@ static REFUSED_FILE_AND_HOLD: [Row; 4] = [
 static TAKEN_FILE_AND_HOLDS: [Row; 5] = [
     (Step::Both(NEW, Change::File(77, "data/a", b"")), "done"),
     (
-        Step::Both(NEW, Change::Hold(2, Some(1), None, "other")),
+        Step::Both(NEW, Change::Hold(2, HoldTarget::Deposit(1), "other")),
         "done",
     ),
     (
-        Step::Do(Change::Hold(3, Some(77), None, "no such deposit")),
+        Step::Do(Change::Hold(3, HoldTarget::Deposit(77), "no such deposit")),
         "done",
     ),
     (
-        Step::Do(Change::Hold(4, None, Some("plans"), "no such collection")),
+        Step::Do(Change::Hold(4, HoldTarget::Collection("plans"), "no such collection")),
         "done",
     ),
     (Step::Read(Read::LastHold), "4"),

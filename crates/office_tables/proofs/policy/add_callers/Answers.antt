@@ -1,10 +1,10 @@
-use Rattle.std.proofs.Common.{arith, rules, subst}
+use Rattle.std.proofs.Common.{arith, rules, refl, subst}
 use Rattle.sqlite.specs.State.{HasCleanDisk}
 use Rattle.sqlite.specs.Held.{state}
 use Rattle.sql_meaning.proofs.Inside.{stays_on}
-use Rattle.office_rows.specs.Rows.{CallerRow, with_caller}
+use Rattle.office_rows.specs.Rows.{CallerRow, with_caller, with_callers}
 use Rattle.office_tables.specs.Tables.{Becomes, tables_of}
-use Rattle.office_tables.proofs.PolicyLemmas.{next_caller}
+use Rattle.office_tables.proofs.PolicyLemmas.{next_added}
 use Rattle.office_tables.proofs.policy.add_callers.Goals as goal
 
 pub loop-caller-preserved : goal.loop-caller-preserved
@@ -23,5 +23,5 @@ loop-caller-preserved g c =
           let there = inv.becomes (early clean) office in
           let named = rw (c.deref.ensures, c.deref-in-loop-caller.ensures) at (c.in_ok-add_caller.ensures.becomes clean there.0) in
           let added : Becomes new.now (with_caller x (tables_of now.now)) = subst (λ (y : CallerRow). Becomes new.now (with_caller y (tables_of now.now))) c.caller.view_is named in
-          next_caller c.args.callers.now c.loop-caller.caller-index x c.caller-item.is (search rules) (tables_of old.now) now.now new.now added there.1;
+          next_added with_caller with_callers (λ x xs t. refl) c.args.callers.now c.loop-caller.caller-index x c.caller-item.is (search rules) (tables_of old.now) now.now new.now added there.1;
     }

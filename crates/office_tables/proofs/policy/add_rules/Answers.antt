@@ -1,11 +1,11 @@
-use Rattle.std.proofs.Common.{arith, rules, subst, w64, sym}
+use Rattle.std.proofs.Common.{arith, rules, refl, subst, w64, sym}
 use Rattle.std.proofs.lemmas.Int.{to_z-of_z}
 use Rattle.sqlite.specs.State.{HasCleanDisk}
 use Rattle.sqlite.specs.Held.{state}
 use Rattle.sql_meaning.proofs.Inside.{stays_on}
-use Rattle.office_rows.specs.Rows.{RuleRow, RulesBelow, with_rule}
+use Rattle.office_rows.specs.Rows.{RuleRow, with_rule, with_rules}
 use Rattle.office_tables.specs.Tables.{Becomes, tables_of}
-use Rattle.office_tables.proofs.PolicyLemmas.{next_rule, next_follows}
+use Rattle.office_tables.proofs.PolicyLemmas.{next_added}
 use Rattle.office_tables.proofs.policy.add_rules.Goals as goal
 
 pub loop-rule-preserved : goal.loop-rule-preserved
@@ -23,11 +23,9 @@ loop-rule-preserved g c =
       same_reference = search rules;
       stays = stays_on old now new inv.stays inv.goes_on c.add_rule.ensures.stays;
       goes_on = λ clean. let p = inv.goes_on (early clean) in let q = c.in_ok-add_rule.ensures.goes_on clean in record { is_open = λ _. q.is_open; inside = λ i. q.inside (p.inside i) };
-      becomes = λ clean office follow.
-          let there = inv.becomes (early clean) office follow in
-          let next = next_follows c.args.rules.now c.loop-rule.rule-index x c.rule-item.is (search rules) (tables_of now.now) there.1 in
-          let low = subst (λ (r : RuleRow). RulesBelow r.place (tables_of now.now).rules) (sym c.rule.view_is) next.0 in
+      becomes = λ clean office.
+          let there = inv.becomes (early clean) office in
           let named = rw (place, effect, c.deref.ensures, c.deref-in-loop-rule.ensures, c.deref-in-loop-rule-2.ensures, c.deref-in-loop-rule-3.ensures) at (c.in_ok-add_rule.ensures.becomes clean there.0) in
-          let added : Becomes new.now (with_rule x (tables_of now.now)) = subst (λ (r : RuleRow). Becomes new.now (with_rule r (tables_of now.now))) c.rule.view_is (named low) in
-          next_rule c.args.rules.now c.loop-rule.rule-index x c.rule-item.is (search rules) (tables_of old.now) now.now new.now added next.1 there.2;
+          let added : Becomes new.now (with_rule x (tables_of now.now)) = subst (λ (r : RuleRow). Becomes new.now (with_rule r (tables_of now.now))) c.rule.view_is named in
+          next_added with_rule with_rules (λ x xs t. refl) c.args.rules.now c.loop-rule.rule-index x c.rule-item.is (search rules) (tables_of old.now) now.now new.now added there.1;
     }

@@ -2,7 +2,7 @@ use Rattle.std.proofs.Common.{◌≡◌, drop}
 use Rattle.sqlite.specs.State.{HasCleanDisk}
 use Rattle.sqlite.specs.Held.{state}
 use Rattle.sql_meaning.specs.Inside.{Stays, Stands}
-use Rattle.office_rows.specs.Rows.{with_rules, RulesFollow}
+use Rattle.office_rows.specs.Rows.{with_rules}
 use Rattle.office_tables.specs.Tables.{IsOffice, tables_of}
 use Rattle.office_tables.proofs.policy.add_rules.Given as goal
 
@@ -14,6 +14,5 @@ invariant-loop-rule g l =
       same_reference : l.tx.conn.ghost_name ≡ l.fn.tx.conn.ghost_name;
       stays : Stays old now;
       goes_on : HasCleanDisk now → Stands old now;
-      becomes : HasCleanDisk now → IsOffice old.now → RulesFollow l.rules (tables_of old.now)
-          → IsOffice now.now × RulesFollow (drop l.rule-index l.rules) (tables_of now.now) × (with_rules (drop l.rule-index l.rules) (tables_of now.now) ≡ with_rules l.rules (tables_of old.now));
+      becomes : HasCleanDisk now → IsOffice old.now → IsOffice now.now × (with_rules (drop l.rule-index l.rules) (tables_of now.now) ≡ with_rules l.rules (tables_of old.now));
     }

@@ -6,7 +6,7 @@ use Rattle.office_tables.proofs.PolicyLemmas.{puts_policy}
 use Rattle.office_tables.proofs.policy.put_policy.Goals as goal
 
 pub returns-clause-becomes : goal.returns-clause-becomes
-returns-clause-becomes g c clean office rise =
+returns-clause-becomes g c clean office =
     let old = state g.S.Store c.args.tx.now.conn.now in
     let bare = state g.S.Store c.drop_callers.new.tx.conn.now in
     let empty = state g.S.Store c.drop_rules.new.tx.conn.now in
@@ -18,5 +18,4 @@ returns-clause-becomes g c clean office rise =
     let first = c.in_ok-drop_callers.ensures.becomes clean1 office in
     let second = c.in_ok-drop_rules.ensures.becomes clean2 first.office in
     let third = c.in_ok-add_callers.ensures.becomes clean3 second.office in
-    let it = puts_policy (tables_of old.now) c.args.callers.now c.args.rules.now bare.now empty.now called.now first second third rise in
-    it.1 new.now (c.in_ok-add_rules.ensures.becomes clean third.office it.0)
+    puts_policy (tables_of old.now) c.args.callers.now c.args.rules.now bare.now empty.now called.now new.now first second third (c.in_ok-add_rules.ensures.becomes clean third.office)

@@ -1,7 +1,7 @@
 -- What a deposit that was put tells of the rows before it: its number and its accession are new, and its collection and its class are there.
-use Rattle.std.proofs.Common.{◌≡◌, ℕ, [], ◌∷◌, filter, slice_get, option_map, Bool, true, None, Ok, IsTrue, map, refl, sym, ap, subst, ◌∙◌}
+use Rattle.std.proofs.Common.{◌≡◌, ℕ, ℤ, [], ◌∷◌, filter, slice_get, option_map, Bool, true, None, Ok, IsTrue, map, refl, sym, ap, subst, ◌∙◌}
 use Rattle.std.specs.List.{AllByRecursion, list_any}
-use Rattle.sqlite.specs.declared.types.Value.TheVariants.{Int}
+use Rattle.sqlite.specs.declared.types.Value.TheVariants.{Null, Int, Text}
 use Rattle.sqlite.specs.Order.{Row}
 use Rattle.sqlite.specs.Edit.{Edit, edit_of, edited, with_rowid}
 use Rattle.sqlite.specs.Rowids.TheVariants.{Chosen}
@@ -23,16 +23,23 @@ use Rattle.sql_meaning.proofs.RowidKeys.{has_number, one_numbered}
 use Rattle.sql_meaning.proofs.Edits.{any_mapped, cast_null, cast_int}
 use Rattle.sql_meaning.proofs.Whole.{keeps_rule}
 use Rattle.office_tables.specs.Schema.{office_schema, deposit_table}
-use Rattle.office_rows.specs.Rows.{DepositRow, is_deposit, deposit_numbered, has_accession, deposit_by, is_class, has_class, is_collection, has_collection}
+use Rattle.office_rows.specs.Rows.{DepositRow, put_by, with_deposit, is_deposit, deposit_numbered, has_accession, deposit_by, is_class, has_class, is_collection, has_collection}
 use Rattle.office_tables.specs.Tables.{IsOffice, Becomes, tables_of, deposit_in, class_in, collection_in}
 use Rattle.office_tables.specs.Deposits.{IsAdded}
 use Rattle.office_tables.proofs.Frames.{idle, becomes}
+use Rattle.office_tables.proofs.InOrder.{placed}
 use Rattle.office_tables.proofs.ClassLemmas.{IsClassRow, class_rows}
 use Rattle.office_tables.proofs.CollectionLemmas.{collection_rows}
-use Rattle.office_tables.proofs.DepositLemmas.{params_of, stored_of, accessions, puts_deposit}
+use Rattle.office_tables.proofs.DepositLemmas.{accessions}
 use Rattle.office_tables.proofs.DepositTexts.{put_text, put_terms, put_is, put_plain}
 
-module _ (old new : State) (d : DepositRow) (count : ℕ) (office : IsOffice old.now) (h : Executes put_text (params_of d) old new (Ok count)) where
+abbrev pub params_of : DepositRow → Row
+params_of d = Int d.number ∷ Text d.accession ∷ Text d.collection ∷ Text d.class ∷ Int d.closed ∷ Int d.deposited ∷ Int d.files ∷ Int d.bytes ∷ []
+
+abbrev stored_of : DepositRow → Row
+stored_of d = Null ∷ Text d.accession ∷ Text d.collection ∷ Text d.class ∷ Int d.closed ∷ Int d.deposited ∷ Int d.files ∷ Int d.bytes ∷ Null ∷ []
+
+module _ (old new : State) (d : DepositRow) (kept : d.gone ≡ None) (count : ℕ) (office : IsOffice old.now) (h : Executes put_text (params_of d) old new (Ok count)) where
   abbrev row : Row
   row = Int d.number ∷ stored_of d
 
@@ -42,13 +49,18 @@ module _ (old new : State) (d : DepositRow) (count : ℕ) (office : IsOffice old
   change : Changes office_schema old new edit count edit.news
   change = inserts put_text (params_of d) old new office_schema office.schema_is 5 deposit_table refl idle put_plain put_terms 10 put_is refl refl count h
 
-  after : Becomes new.now (record (tables_of old.now) { deposits = map deposit_in (edited old.now.trees edit) })
-  after = becomes old new edit count edit.news office.shaped change _ refl
+  cast_is : cast_row deposit_table row ≡ row
+  cast_is = rw (cast_null, cast_int d.number, cast_int d.closed, cast_int d.deposited, cast_int d.files, cast_int d.bytes) refl
+
+  after : Becomes new.now (with_deposit d (tables_of old.now))
+  after =
+      let number : DepositRow → ℤ = λ e. e.number in
+      let is_d : deposit_in row ≡ d = ap (λ g. record d { gone = g }) (sym kept) in
+      let at_its_place = placed deposit_in number (λ r. refl) old new deposit_table row (stored_of d) d.number count edit.news office.shaped.1.1.1.1.1.0 cast_is change in
+      becomes old new edit count edit.news office.shaped change _ (ap (λ rows. record (tables_of old.now) { deposits = rows }) (at_its_place ∙ ap (λ x. put_by number x (map deposit_in (old.now.trees 8))) is_d))
 
   row_is : put office_schema Enforced old.now.trees new.now.trees deposit_table row change.applies ≡ row
-  row_is =
-      let cast_is : cast_row deposit_table row ≡ row = rw (cast_null, cast_int d.number, cast_int d.closed, cast_int d.deposited, cast_int d.files, cast_int d.bytes) refl in
-      ap (with_rowid Chosen (old.now.trees 8)) cast_is
+  row_is = ap (with_rowid Chosen (old.now.trees 8)) cast_is
 
   -- no deposit passes a test that two deposits of an office can't both pass, and the new one does
   none_passes : (keep : Row → Bool) → keep row ≡ true → ((x y : Row) → Has (new.now.trees 8) x → Has (new.now.trees 8) y → keep x ≡ true → keep y ≡ true → x ≡ y) → filter keep (old.now.trees 8) ≡ []
@@ -87,9 +99,9 @@ module _ (old new : State) (d : DepositRow) (count : ℕ) (office : IsOffice old
       let named = any_parent 1 4 d.class row (new.now.trees 4) names refl in
       sym (ap (λ t. has_class d.class t) after.are) ∙ any_mapped class_in (has_text 1 d.class) (is_class d.class) (λ r. refl) (new.now.trees 4) ∙ sym named ∙ held.1
 
-  pub is_added : d.gone ≡ None → IsAdded d old.now new.now
-  is_added kept = record {
-    becomes = λ low. puts_deposit old new d count kept office low h;
+  pub is_added : IsAdded d old.now new.now
+  is_added = record {
+    becomes = after;
     new_number = number_was_new;
     new_accession = accession_was_new;
     its_collection = collection_was_there;
