@@ -39,5 +39,5 @@ Shows g old new result is_so =
     HasCleanDisk (state g new) → IsOffice (state g old).now → IfOk result (λ shown. ((state g new).now ≡ (state g old).now) × is_so (tables_of (state g old).now) shown)
 
 -- an office again, whose rows are what this makes of the rows before
-abbrev pub Leaves : {S T E : Type 0} → Ghosts S → Held S → Held S → Result T E → (Tables → Tables) → Type 0
-Leaves g old new result next = HasCleanDisk (state g new) → IsOffice (state g old).now → OnOk result (Becomes (state g new).now (next (tables_of (state g old).now)))
+abbrev pub Writes : {S T E : Type 0} → Ghosts S → Held S → Held S → Result T E → (Tables → Tables) → Type 0
+Writes g old new result next = HasCleanDisk (state g new) → IsOffice (state g old).now → OnOk result (Becomes (state g new).now (next (tables_of (state g old).now)))

@@ -4,7 +4,7 @@ ghost use Rattle.std.specs.Prelude.{◌≡◌, IfErr, option_map, slice_get, if�
 ghost use Rattle.sql_meaning.specs.Columns.{int_at};
 ghost use Rattle.office_tables.specs.Faults.{IsFailure};
 ghost use Rattle.office_rows.specs.Rows.{class_named, has_class, with_class, with_new_class, with_years, has_collection, with_collection, with_new_collection};
-ghost use Rattle.office_tables.specs.Calls.{CommitsNothing, Continues, Keeps, Tells, Shows, Leaves};
+ghost use Rattle.office_tables.specs.Calls.{CommitsNothing, Continues, Keeps, Tells, Shows, Writes};
 
 use crate::fault::TableFault;
 use crate::run::{ask, change, number_in};
@@ -54,7 +54,7 @@ fn revise_class<S: Alter>(
     ensures stays { CommitsNothing S.Store tx.old.conn.now tx.new.conn.now }
     ensures goes_on { Continues S.Store tx.old.conn.now tx.new.conn.now result }
     ensures failure { IfErr result IsFailure }
-    ensures becomes { Leaves S.Store tx.old.conn.now tx.new.conn.now result (with_years name.now years) }
+    ensures becomes { Writes S.Store tx.old.conn.now tx.new.conn.now result (with_years name.now years) }
     ensures counted { Tells S.Store tx.old.conn.now tx.new.conn.now result (λ tables count. count ≡ (if has_class name.now tables then 1 else 0)) }
 {
     change(
@@ -74,7 +74,7 @@ fn add_class<S: Alter>(
     ensures stays { CommitsNothing S.Store tx.old.conn.now tx.new.conn.now }
     ensures goes_on { Continues S.Store tx.old.conn.now tx.new.conn.now result }
     ensures failure { IfErr result IsFailure }
-    ensures becomes { Leaves S.Store tx.old.conn.now tx.new.conn.now result (with_new_class name.now years) }
+    ensures becomes { Writes S.Store tx.old.conn.now tx.new.conn.now result (with_new_class name.now years) }
 {
     change(
         tx,
@@ -95,7 +95,7 @@ pub fn put_class<S: Alter>(
     ensures stays { CommitsNothing S.Store tx.old.conn.now tx.new.conn.now }
     ensures goes_on { Continues S.Store tx.old.conn.now tx.new.conn.now result }
     ensures failure { IfErr result IsFailure }
-    ensures becomes { Leaves S.Store tx.old.conn.now tx.new.conn.now result (with_class name.now years) }
+    ensures becomes { Writes S.Store tx.old.conn.now tx.new.conn.now result (with_class name.now years) }
 {
     if revise_class(tx, name, years)? == 0 {
         add_class(tx, name, years)?;
@@ -129,7 +129,7 @@ fn add_collection<S: Alter>(tx: &mut Transaction<'_, S>, name: &str) -> Result<u
     ensures stays { CommitsNothing S.Store tx.old.conn.now tx.new.conn.now }
     ensures goes_on { Continues S.Store tx.old.conn.now tx.new.conn.now result }
     ensures failure { IfErr result IsFailure }
-    ensures becomes { Leaves S.Store tx.old.conn.now tx.new.conn.now result (with_new_collection name.now) }
+    ensures becomes { Writes S.Store tx.old.conn.now tx.new.conn.now result (with_new_collection name.now) }
 {
     change(
         tx,
@@ -146,7 +146,7 @@ pub fn put_collection<S: Alter>(tx: &mut Transaction<'_, S>, name: &str) -> Resu
     ensures stays { CommitsNothing S.Store tx.old.conn.now tx.new.conn.now }
     ensures goes_on { Continues S.Store tx.old.conn.now tx.new.conn.now result }
     ensures failure { IfErr result IsFailure }
-    ensures becomes { Leaves S.Store tx.old.conn.now tx.new.conn.now result (with_collection name.now) }
+    ensures becomes { Writes S.Store tx.old.conn.now tx.new.conn.now result (with_collection name.now) }
 {
     if !has_collection(tx, name)? {
         add_collection(tx, name)?;

@@ -7,7 +7,7 @@ ghost use Rattle.sql_meaning.specs.Columns.{int_at};
 ghost use Rattle.office_tables.specs.Faults.{IsFailure};
 ghost use Rattle.office_rows.specs.Rows.{deposit_numbered, deposit_by, has_class, has_collection, last_number, with_deposit, with_gone};
 ghost use Rattle.office_tables.specs.Tables.{IsOffice};
-ghost use Rattle.office_tables.specs.Calls.{CommitsNothing, Continues, Keeps, Tells, Shows, Leaves};
+ghost use Rattle.office_tables.specs.Calls.{CommitsNothing, Continues, Keeps, Tells, Shows, Writes};
 ghost use Rattle.office_tables.specs.Deposits.{shown_deposit, added_row, IsAdded};
 
 use crate::fault::TableFault;
@@ -326,7 +326,7 @@ pub fn put_deposit<S: Alter>(
     ensures stays { CommitsNothing S.Store tx.old.conn.now tx.new.conn.now }
     ensures goes_on { Continues S.Store tx.old.conn.now tx.new.conn.now result }
     ensures failure { IfErr result IsFailure }
-    ensures becomes { Leaves S.Store tx.old.conn.now tx.new.conn.now result (with_deposit (added_row deposit.entry)) }
+    ensures becomes { Writes S.Store tx.old.conn.now tx.new.conn.now result (with_deposit (added_row deposit.entry)) }
     ensures new_number { Tells S.Store tx.old.conn.now tx.new.conn.now result (λ tables _. deposit_numbered (pos deposit.entry.number) tables.deposits ≡ None) }
     ensures new_accession { Tells S.Store tx.old.conn.now tx.new.conn.now result (λ tables _. deposit_by deposit.entry.accession.now tables.deposits ≡ None) }
     ensures its_collection { Tells S.Store tx.old.conn.now tx.new.conn.now result (λ tables _. IsTrue (has_collection deposit.entry.collection.now tables)) }
@@ -358,7 +358,7 @@ pub fn mark_gone<S: Alter>(
     ensures stays { CommitsNothing S.Store tx.old.conn.now tx.new.conn.now }
     ensures goes_on { Continues S.Store tx.old.conn.now tx.new.conn.now result }
     ensures failure { IfErr result IsFailure }
-    ensures becomes { Leaves S.Store tx.old.conn.now tx.new.conn.now result (with_gone (pos number) day) }
+    ensures becomes { Writes S.Store tx.old.conn.now tx.new.conn.now result (with_gone (pos number) day) }
 {
     change(
         tx,

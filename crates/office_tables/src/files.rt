@@ -4,7 +4,7 @@ ghost use Rattle.std.specs.Prelude.{◌≡◌, IfOk, IfErr, None, pos, map, opti
 ghost use Rattle.sql_meaning.specs.Columns.{bytes_at};
 ghost use Rattle.office_tables.specs.Faults.{IsFailure};
 ghost use Rattle.office_rows.specs.Rows.{file_at, with_file, without_files};
-ghost use Rattle.office_tables.specs.Calls.{CommitsNothing, Continues, Keeps, Tells, Shows, Leaves};
+ghost use Rattle.office_tables.specs.Calls.{CommitsNothing, Continues, Keeps, Tells, Shows, Writes};
 ghost use Rattle.office_tables.specs.Deposits.{shown_file, files_by_path};
 
 use crate::fault::TableFault;
@@ -48,7 +48,7 @@ pub fn put_file<S: Alter>(
     ensures stays { CommitsNothing S.Store tx.old.conn.now tx.new.conn.now }
     ensures goes_on { Continues S.Store tx.old.conn.now tx.new.conn.now result }
     ensures failure { IfErr result IsFailure }
-    ensures becomes { Leaves S.Store tx.old.conn.now tx.new.conn.now result (with_file (record { deposit = pos number; path = path.now; content = content.now })) }
+    ensures becomes { Writes S.Store tx.old.conn.now tx.new.conn.now result (with_file (record { deposit = pos number; path = path.now; content = content.now })) }
     ensures new_path { Tells S.Store tx.old.conn.now tx.new.conn.now result (λ tables _. file_at (pos number) path.now tables.files ≡ None) }
 {
     change(
@@ -110,7 +110,7 @@ pub fn drop_files<S: Alter>(tx: &mut Transaction<'_, S>, number: u32) -> Result<
     ensures stays { CommitsNothing S.Store tx.old.conn.now tx.new.conn.now }
     ensures goes_on { Continues S.Store tx.old.conn.now tx.new.conn.now result }
     ensures failure { IfErr result IsFailure }
-    ensures becomes { Leaves S.Store tx.old.conn.now tx.new.conn.now result (without_files (pos number)) }
+    ensures becomes { Writes S.Store tx.old.conn.now tx.new.conn.now result (without_files (pos number)) }
 {
     change(tx, "DELETE FROM file WHERE deposit = ?1", params![number])?;
     Ok(())

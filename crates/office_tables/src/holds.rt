@@ -4,7 +4,7 @@ ghost use Rattle.std.specs.Prelude.{◌≡◌, ℕ, IfOk, IfErr, OnOk, pos, Some
 ghost use Rattle.sql_meaning.specs.Columns.{int_at};
 ghost use Rattle.office_tables.specs.Faults.{IsFailure};
 ghost use Rattle.office_rows.specs.Rows.{hold_numbered, last_number, with_hold, with_released, live_holds, is_live_on, is_live_within};
-ghost use Rattle.office_tables.specs.Calls.{CommitsNothing, Continues, Keeps, Tells, Shows, Leaves};
+ghost use Rattle.office_tables.specs.Calls.{CommitsNothing, Continues, Keeps, Tells, Shows, Writes};
 ghost use Rattle.office_tables.specs.ShownHolds.{shown_hold, held_deposit, held_collection};
 
 use crate::fault::TableFault;
@@ -169,7 +169,7 @@ fn add_hold<S: Alter>(
     ensures stays { CommitsNothing S.Store tx.old.conn.now tx.new.conn.now }
     ensures goes_on { Continues S.Store tx.old.conn.now tx.new.conn.now result }
     ensures failure { IfErr result IsFailure }
-    ensures becomes { Leaves S.Store tx.old.conn.now tx.new.conn.now result (with_hold (record {
+    ensures becomes { Writes S.Store tx.old.conn.now tx.new.conn.now result (with_hold (record {
       number = pos number;
       deposit = option_map pos deposit;
       collection = option_map (λ c. c.now) collection.entry;
@@ -201,7 +201,7 @@ pub fn put_hold<S: Alter>(
     ensures stays { CommitsNothing S.Store tx.old.conn.now tx.new.conn.now }
     ensures goes_on { Continues S.Store tx.old.conn.now tx.new.conn.now result }
     ensures failure { IfErr result IsFailure }
-    ensures becomes { Leaves S.Store tx.old.conn.now tx.new.conn.now result (with_hold (record {
+    ensures becomes { Writes S.Store tx.old.conn.now tx.new.conn.now result (with_hold (record {
       number = pos number;
       deposit = held_deposit target.entry;
       collection = held_collection target.entry;
@@ -229,7 +229,7 @@ pub fn end_hold<S: Alter>(
     ensures stays { CommitsNothing S.Store tx.old.conn.now tx.new.conn.now }
     ensures goes_on { Continues S.Store tx.old.conn.now tx.new.conn.now result }
     ensures failure { IfErr result IsFailure }
-    ensures becomes { Leaves S.Store tx.old.conn.now tx.new.conn.now result (with_released (pos number) day) }
+    ensures becomes { Writes S.Store tx.old.conn.now tx.new.conn.now result (with_released (pos number) day) }
 {
     change(
         tx,

@@ -4,7 +4,7 @@ ghost use Rattle.std.specs.Prelude.{◌≡◌, ℕ, IfOk, IfErr, map, option_map
 ghost use Rattle.sql_meaning.specs.Columns.{bytes_at};
 ghost use Rattle.office_tables.specs.Faults.{IsFailure};
 ghost use Rattle.office_rows.specs.Rows.{caller_named, without_callers, without_rules, with_caller, with_rule, with_callers, with_rules, with_policy};
-ghost use Rattle.office_tables.specs.Calls.{CommitsNothing, Continues, ContinuesInTurn, Keeps, Tells, Shows, Leaves};
+ghost use Rattle.office_tables.specs.Calls.{CommitsNothing, Continues, ContinuesInTurn, Keeps, Tells, Shows, Writes};
 ghost use Rattle.office_tables.specs.ShownPolicy.{shown_rule};
 
 use crate::fault::TableFault;
@@ -178,7 +178,7 @@ fn drop_callers<S: Alter>(tx: &mut Transaction<'_, S>) -> Result<usize, TableFau
     ensures stays { CommitsNothing S.Store tx.old.conn.now tx.new.conn.now }
     ensures goes_on { Continues S.Store tx.old.conn.now tx.new.conn.now result }
     ensures failure { IfErr result IsFailure }
-    ensures becomes { Leaves S.Store tx.old.conn.now tx.new.conn.now result without_callers }
+    ensures becomes { Writes S.Store tx.old.conn.now tx.new.conn.now result without_callers }
 {
     change(tx, "DELETE FROM caller", &[])
 }
@@ -189,7 +189,7 @@ fn drop_rules<S: Alter>(tx: &mut Transaction<'_, S>) -> Result<usize, TableFault
     ensures stays { CommitsNothing S.Store tx.old.conn.now tx.new.conn.now }
     ensures goes_on { Continues S.Store tx.old.conn.now tx.new.conn.now result }
     ensures failure { IfErr result IsFailure }
-    ensures becomes { Leaves S.Store tx.old.conn.now tx.new.conn.now result without_rules }
+    ensures becomes { Writes S.Store tx.old.conn.now tx.new.conn.now result without_rules }
 {
     change(tx, "DELETE FROM rule", &[])
 }
@@ -204,7 +204,7 @@ fn add_caller<S: Alter>(
     ensures stays { CommitsNothing S.Store tx.old.conn.now tx.new.conn.now }
     ensures goes_on { Continues S.Store tx.old.conn.now tx.new.conn.now result }
     ensures failure { IfErr result IsFailure }
-    ensures becomes { Leaves S.Store tx.old.conn.now tx.new.conn.now result (with_caller (record { name = name.now; role = role.now })) }
+    ensures becomes { Writes S.Store tx.old.conn.now tx.new.conn.now result (with_caller (record { name = name.now; role = role.now })) }
 {
     change(
         tx,
@@ -227,7 +227,7 @@ fn add_rule<S: Alter>(
     ensures stays { CommitsNothing S.Store tx.old.conn.now tx.new.conn.now }
     ensures goes_on { Continues S.Store tx.old.conn.now tx.new.conn.now result }
     ensures failure { IfErr result IsFailure }
-    ensures becomes { Leaves S.Store tx.old.conn.now tx.new.conn.now result
+    ensures becomes { Writes S.Store tx.old.conn.now tx.new.conn.now result
         (with_rule (record { place = place; effect = effect; role = role.now; action = action.now; collection = collection.now; class = class.now })) }
 {
     change(
@@ -246,7 +246,7 @@ fn add_callers<S: Alter>(
     ensures stays { CommitsNothing S.Store tx.old.conn.now tx.new.conn.now }
     ensures goes_on { ContinuesInTurn S.Store tx.old.conn.now tx.new.conn.now result }
     ensures failure { IfErr result IsFailure }
-    ensures becomes { Leaves S.Store tx.old.conn.now tx.new.conn.now result (with_callers callers.now) }
+    ensures becomes { Writes S.Store tx.old.conn.now tx.new.conn.now result (with_callers callers.now) }
 {
     for caller in callers {
         add_caller(tx, &caller.name, &caller.role)?;
@@ -260,7 +260,7 @@ fn add_rules<S: Alter>(tx: &mut Transaction<'_, S>, rules: &[RuleRow]) -> Result
     ensures stays { CommitsNothing S.Store tx.old.conn.now tx.new.conn.now }
     ensures goes_on { ContinuesInTurn S.Store tx.old.conn.now tx.new.conn.now result }
     ensures failure { IfErr result IsFailure }
-    ensures becomes { Leaves S.Store tx.old.conn.now tx.new.conn.now result (with_rules rules.now) }
+    ensures becomes { Writes S.Store tx.old.conn.now tx.new.conn.now result (with_rules rules.now) }
 {
     for rule in rules {
         add_rule(
@@ -288,7 +288,7 @@ pub fn put_policy<S: Alter>(
     ensures stays { CommitsNothing S.Store tx.old.conn.now tx.new.conn.now }
     ensures goes_on { Continues S.Store tx.old.conn.now tx.new.conn.now result }
     ensures failure { IfErr result IsFailure }
-    ensures becomes { Leaves S.Store tx.old.conn.now tx.new.conn.now result (with_policy callers.now rules.now) }
+    ensures becomes { Writes S.Store tx.old.conn.now tx.new.conn.now result (with_policy callers.now rules.now) }
 {
     drop_callers(tx)?;
     drop_rules(tx)?;
