@@ -6,3 +6,4 @@ pub mod InputLemmas
 pub mod PlainWordLemmas
 pub mod RunLemmas
 pub mod VerdictLemmas
+pub mod WritingLemmas

@@ -23,9 +23,14 @@ judged_something bytes (Ok ending) old new judges = (bytes, judges)
 judged_something bytes (Err e) old new judges = tt
 
 pub answered : (asked : Asked) (bytes : List ℕ) (said : Said) (r : Run) (old new : Option (List ℕ)) → Explains bytes asked said → IfOk r (Ends said old new)
-    → IfOk r (λ ending. (read : List ℕ) × Answers asked read old new ending)
-answered asked bytes said (Ok ending) old new explains ends = (bytes, (said, explains, ends))
+    → IfOk r (Answers asked bytes old new)
+answered asked bytes said (Ok ending) old new explains ends = (said, explains, ends)
 answered asked bytes said (Err e) old new explains ends = tt
+
+pub answered_something : (asked : Asked) (bytes : List ℕ) (r : Run) (old new : Option (List ℕ)) → IfOk r (Answers asked bytes old new)
+    → IfOk r (λ ending. (read : List ℕ) × Answers asked read old new ending)
+answered_something asked bytes (Ok ending) old new answers = (bytes, answers)
+answered_something asked bytes (Err e) old new answers = tt
 
 -- ---- by the bytes of the input, where they are known
 
@@ -33,3 +38,8 @@ pub judged_input : (known : Option (List ℕ)) (bytes : List ℕ) (r : Run) (old
     → IfOk r (Judges bytes old new) → IfSome known (λ given. IfOk r (Judges (take too_many given) old new))
 judged_input None bytes r old new read judges = tt
 judged_input (Some given) bytes r old new read judges = subst (λ (b : List ℕ). IfOk r (Judges b old new)) read judges
+
+pub answered_policy : (asked : Asked) (known : Option (List ℕ)) (bytes : List ℕ) (r : Run) (old new : Option (List ℕ)) → IfSome known (λ given. bytes ≡ given)
+    → IfOk r (Answers asked bytes old new) → IfSome known (λ given. IfOk r (Answers asked given old new))
+answered_policy asked None bytes r old new read answers = tt
+answered_policy asked (Some given) bytes r old new read answers = subst (λ (b : List ℕ). IfOk r (Answers asked b old new)) read answers

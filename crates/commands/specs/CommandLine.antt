@@ -1,5 +1,5 @@
 -- The words that the program takes, and the values that they give.
-use Rattle.std.specs.Prelude.{◌≡◌, ◌⊎◌, ◌==◌, ◌&&◌, ◌∷◌, [], List, Bool, true, false, map, fold, length, is_some}
+use Rattle.std.specs.Prelude.{◌≡◌, ◌⊎◌, ◌==◌, ◌&&◌, ◌∷◌, ◌++◌, [], ℕ, List, Bool, true, false, map, fold, length, is_some}
 use Rattle.std.specs.Prelude.{Option, Some, None, if◌then◌else◌, codes, slice_get, unwrap_or}
 use Rattle.std.specs.Prelude.{option_and_then}
 use Rattle.std.specs.Option.{option_map_or}
@@ -97,6 +97,22 @@ abbrev pub HasValues : List Text → Line → Type 0
 HasValues words (Check file) = (slice_get words 0 ≡ Some (codes "check"))
     × (value_of check_command (codes "FILE") words ≡ Some file.now)
 HasValues words (Explain asked) = (slice_get words 0 ≡ Some (codes "explain")) × AreAsked words asked
+
+-- the words are taken, and ask for a check of what has this name
+pub record AsksToCheck (words : List Text) (name : Text) : Type 0 where
+  pub taken : is_taken words ≡ true
+  pub first : slice_get words 0 ≡ Some (codes "check")
+  pub file : value_of check_command (codes "FILE") words ≡ Some name
+
+-- ---- words that name no subcommand
+
+-- the command that the first word names, where there is one
+abbrev pub command_in : List Text → Option App
+command_in words = option_and_then command_named (slice_get words 0)
+
+-- what is said of them
+abbrev pub uses_text : List ℕ
+uses_text = codes "Usage: depot check FILE" ++ 10 ∷ codes "       depot explain POLICY CALLER ACTION COLLECTION CLASS" ++ 10 ∷ []
 
 -- ---- plain words
 

@@ -1,5 +1,6 @@
 -- How a failure and a fault of use are printed, and what a device's error comes to.
-use Rattle.std.specs.Prelude.{◌≡◌, ℕ, List, codes, string_bytes}
+use Rattle.std.specs.Prelude.{◌≡◌, ◌⊎◌, ◌++◌, ◌∷◌, [], ℕ, List, Option, codes, string_bytes, take}
+use Rattle.std.specs.Io.KnownBytes.{Appends}
 use Rattle.std.specs.declared.io.ErrorKind.{ErrorKind}
 use Rattle.std.specs.declared.io.ErrorKind.TheVariants.{OutOfMemory}
 use Rattle.commands.specs.declared.program.Failure.{Failure}
@@ -7,9 +8,10 @@ use Rattle.commands.specs.declared.program.Failure.TheVariants as failures
 use Rattle.commands.specs.declared.use_fault.UseFault.{UseFault}
 use Rattle.commands.specs.declared.use_fault.UseFault.TheVariants as faults
 
-abbrev pub failure_text : Failure → List ℕ
-failure_text failures.Device = codes "device"
-failure_text failures.Memory = codes "memory"
+-- the line that says so on standard error
+abbrev pub message_of : Failure → List ℕ
+message_of failures.Device = codes "device" ++ 10 ∷ []
+message_of failures.Memory = codes "memory" ++ 10 ∷ []
 
 -- what a failed call on a device comes to
 abbrev pub failure_of : ErrorKind → Failure
@@ -24,3 +26,17 @@ use_fault_text faults.Memory = codes "memory"
 abbrev pub IsExplainedBy : List ℕ → UseFault → Type 0
 IsExplainedBy why (faults.Use text) = string_bytes text ≡ why
 IsExplainedBy why faults.Memory = Unit {0}
+
+-- ---- what a writer has taken
+
+-- the text comes behind what the writer held, where that is known, and more may follow
+abbrev pub BeginsWith : List ℕ → Option (List ℕ) → Option (List ℕ) → Type 0
+BeginsWith text old new = (more : List ℕ) × Appends old new (text ++ more)
+
+-- only a beginning of the text may have come
+abbrev pub IsCutShort : List ℕ → Option (List ℕ) → Option (List ℕ) → Type 0
+IsCutShort text old new = (count : ℕ) × Appends old new (take count text)
+
+-- the text comes, and more may follow, or the writer failed before it had all of it
+abbrev pub Tells : List ℕ → Option (List ℕ) → Option (List ℕ) → Type 0
+Tells text old new = BeginsWith text old new ⊎ IsCutShort text old new

@@ -7,6 +7,10 @@ use Rattle.commands.specs.declared.asking.Asked.{Asked}
 use Rattle.commands.specs.declared.ending.Ending.{Ending}
 use Rattle.commands.specs.declared.ending.Ending.TheVariants.{Failed}
 use Rattle.commands.specs.declared.said.Said.{Said}
+use Rattle.commands.specs.declared.line.Line.{Line}
+use Rattle.commands.specs.declared.line.Line.TheVariants.{Check, Explain}
+use Rattle.commands.specs.CommandLine.{HasValues}
+use Rattle.clap.specs.Words.{Text}
 
 -- the line comes behind what the output held, where that is known, and the program ends as is said
 pub record Ends (said : Said) (old new : Option (List ℕ)) (ending : Ending) : Type 0 where
@@ -24,3 +28,12 @@ Answers asked bytes old new ending = (said : Said) × Explains bytes asked said 
 -- this holds, unless a device or memory failed
 abbrev pub UnlessFailed : Ending → Type 0 → Type 0
 UnlessFailed ending fact = (ending ≡ Failed) ⊎ fact
+
+-- what the line asks for is done: what is said of some bytes is written, and the program ends so
+abbrev pub Does : Line → Option (List ℕ) → Option (List ℕ) → Ending → Type 0
+Does (Check file) old new ending = (bytes : List ℕ) × Judges bytes old new ending
+Does (Explain asked) old new ending = (bytes : List ℕ) × Answers asked bytes old new ending
+
+-- the words spell a line, and what it asks for is done
+abbrev pub DoesWords : List Text → Option (List ℕ) → Option (List ℕ) → Ending → Type 0
+DoesWords words old new ending = (line : Line) × HasValues words line × Does line old new ending

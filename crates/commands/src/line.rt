@@ -1,8 +1,9 @@
 //! The words of a command line: a subcommand's name, and the words that it wants.
 
-ghost use Rattle.std.specs.Prelude.{◌≡◌, ◌⊎◌, IfOk, IfErr, MatchResult, Some, codes, true, false};
+ghost use Rattle.std.specs.Prelude.{◌≡◌, ◌⊎◌, IfOk, IfErr, MatchResult, None, Some, codes, true, false};
 ghost use Rattle.clap.specs.Words.{FailsBy, Text, fault_of};
-ghost use Rattle.commands.specs.CommandLine.{HasValues, IsCheckOf, IsExplainOf, IsPlainQuestion, IsPlainWord, check_command, check_words, explain_words, is_taken, texts, value_of};
+ghost use Rattle.commands.specs.CommandLine.{HasValues, IsCheckOf, IsExplainOf, IsPlainQuestion, IsPlainWord, check_command, check_words, command_in, explain_words, is_taken, texts, uses_text, value_of};
+ghost use Rattle.commands.specs.Failing.{IsExplainedBy};
 ghost use Rattle.commands.specs.declared.asking.Asked.{Asked};
 ghost use Rattle.commands.specs.declared.use_fault.UseFault.TheVariants.{Memory};
 
@@ -43,6 +44,8 @@ pub fn read_line<'a>(alloc: Global, words: &'a [&'a str]) -> Result<Line<'a>, Us
     ensures values { IfOk result (HasValues (texts words.now)) }
     ensures refused { IfErr result (λ fault.
         (fault ≡ Memory) ⊎ (is_taken (texts words.now) ≡ false)) }
+    // Where no subcommand is named, the text says which there are.
+    ensures uses { command_in (texts words.now) ≡ None → IfErr result (IsExplainedBy uses_text) }
     ensures plain { (file : Text) → IsPlainWord file → texts words.now ≡ check_words file
         → MatchResult result (IsCheckOf file) (λ fault. fault ≡ Memory) }
     ensures plain_question { (asked : Asked) → IsPlainQuestion asked

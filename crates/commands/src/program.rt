@@ -1,12 +1,12 @@
 //! The program's whole work, over words, a reader and two writers.
 
 ghost use Rattle.std.specs.Io.KnownBytes.{Appends};
-ghost use Rattle.std.specs.Prelude.{◌≡◌, ◌≢◌, ◌⊎◌, ℕ, List, OnOk, Some, true, false, IfOk, IfSome, codes, take};
+ghost use Rattle.std.specs.Prelude.{◌≡◌, ◌≢◌, ◌⊎◌, ℕ, List, None, OnOk, true, false, IfOk, IfSome, codes, take};
 ghost use Rattle.std.specs.IoError.{error_kind};
 ghost use Rattle.std.specs.declared.io.ErrorKind.TheVariants.{InvalidData};
-ghost use Rattle.commands.specs.CommandLine.{check_words, is_taken, texts};
-ghost use Rattle.commands.specs.Failing.{failure_of, failure_text};
-ghost use Rattle.commands.specs.Running.{Answers, Ends, Judges, UnlessFailed};
+ghost use Rattle.commands.specs.CommandLine.{AsksToCheck, IsCheckOf, command_in, is_taken, texts, uses_text};
+ghost use Rattle.commands.specs.Failing.{BeginsWith, IsCutShort, Tells, failure_of, message_of};
+ghost use Rattle.commands.specs.Running.{Answers, Does, DoesWords, Ends, Judges, UnlessFailed};
 ghost use Rattle.commands.specs.Verdicts.{too_many};
 ghost use Rattle.commands.specs.declared.ending.Ending.TheVariants.{Misused, Failed};
 ghost use Rattle.commands.specs.declared.program.Failure.TheVariants.{Memory};
@@ -21,7 +21,7 @@ use crate::verdict::{MOST_BYTES, line_of};
 use std::alloc::{AllocError, Global};
 use std::io::{Error, ErrorKind, Read, Write};
 use std::rt::Files;
-use std::{fmt, fs, io};
+use std::{fs, io};
 
 /// A failure of what the program stands on.
 #[derive(Clone, Copy, Debug, PartialEq, Eq)]
@@ -32,13 +32,14 @@ pub enum Failure {
     Memory,
 }
 
-impl fmt::Display for Failure {
-    ghost output = { λ failure. Some (failure_text failure) };
-
-    fn fmt<W: fmt::Write>(&self, f: &mut fmt::Formatter<W>) -> fmt::Result {
+impl Failure {
+    /// The line that says so on standard error.
+    pub fn message(self) -> &'static str
+        ensures { result.now ≡ message_of self }
+    {
         match self {
-            Failure::Device => write!(f, "device"),
-            Failure::Memory => write!(f, "memory"),
+            Failure::Device => "device\n",
+            Failure::Memory => "memory\n",
         }
     }
 }
@@ -81,30 +82,28 @@ fn read_all<R: Read>(alloc: Global, input: &mut R) -> Result<Vec<u8>, Failure>
     Ok(bytes)
 }
 
-/// Reads the file, or the input where the file is `-`.
-fn read_named<F: Files, R: Read>(
-    rt: &F,
-    alloc: Global,
-    file: &str,
-    input: &mut R,
-) -> Result<Vec<u8>, Failure>
-    ensures { file.now ≡ codes "-" → IfOk result (λ bytes. IfSome (R.remaining input.old)
-        (λ given. bytes.items ≡ take too_many given)) }
+/// Writes a text, which ends with a line's end. A writer that fails has taken a beginning of it, which
+/// `write_all` doesn't say.
+fn write_text<W: Write>(text: &str, out: &mut W) -> io::Result<()>
+    ensures whole { OnOk result (Appends (W.contents out.old) (W.contents out.new) text.now) }
+    ensures front { IsCutShort text.now (W.contents out.old) (W.contents out.new) }
 {
-    if file == "-" {
-        return read_bytes(alloc, input);
+    let mut rest = text.as_bytes();
+    'writes: for _ in 0..u64::MAX {
+        if rest.is_empty() {
+            return out.flush();
+        }
+        match out.write(rest) {
+            Ok(0) => break,
+            Ok(count) => rest = &rest[count..],
+            Err(error) => {
+                if error.kind() != ErrorKind::Interrupted {
+                    return Err(error);
+                }
+            }
+        }
     }
-    let mut opened = fs::open(rt, file)?;
-    read_bytes(alloc, &mut opened)
-}
-
-/// Writes a text, which ends with a line's end.
-fn write_text<W: Write>(text: &str, out: &mut W) -> Result<(), Failure>
-    ensures { OnOk result (Appends (W.contents out.old) (W.contents out.new) text.now) }
-{
-    out.write_all(text.as_bytes())?;
-    out.flush()?;
-    Ok(())
+    Err(Error::from(ErrorKind::WriteZero))
 }
 
 /// Prints what is said.
@@ -115,7 +114,18 @@ fn say<W: Write>(said: Said, out: &mut W) -> Result<Ending, Failure>
     Ok(said.ending)
 }
 
-/// `check`: judges a bag and prints the line.
+/// Judges the bag whose form the reader gives, and prints the line.
+fn judge<R: Read, O: Write>(alloc: Global, form: &mut R, out: &mut O) -> Result<Ending, Failure>
+    ensures says { IfOk result (λ ending. (bytes : List ℕ)
+        × Judges bytes (O.contents out.old) (O.contents out.new) ending) }
+    ensures form { IfSome (R.remaining form.old) (λ given. IfOk result
+        (Judges (take too_many given) (O.contents out.old) (O.contents out.new))) }
+{
+    let bytes = read_bytes(alloc, form)?;
+    say(line_of(alloc, bytes.as_slice())?, out)
+}
+
+/// `check`: judges the bag in the file, or in the input where the file is `-`.
 fn check<F: Files + AllocGlobal, R: Read, O: Write>(
     rt: &F,
     file: &str,
@@ -126,12 +136,32 @@ fn check<F: Files + AllocGlobal, R: Read, O: Write>(
         × Judges bytes (O.contents out.old) (O.contents out.new) ending) }
     ensures input { file.now ≡ codes "-" → IfSome (R.remaining input.old) (λ given.
         IfOk result (Judges (take too_many given) (O.contents out.old) (O.contents out.new))) }
+    ensures untouched { (file.now ≡ codes "-" → ⊥) → input.new ≡ input.old }
 {
-    let bytes = read_named(rt, rt.alloc(), file, input)?;
-    say(line_of(rt.alloc(), bytes.as_slice())?, out)
+    if file == "-" {
+        return judge(rt.alloc(), input, out);
+    }
+    let mut form = fs::open(rt, file)?;
+    judge(rt.alloc(), &mut form, out)
 }
 
-/// `explain`: says which rule of a policy decides.
+/// Says which rule of the policy that the reader gives decides.
+fn explain_policy<R: Read, O: Write>(
+    alloc: Global,
+    asked: &Asked<'_>,
+    policy: &mut R,
+    out: &mut O,
+) -> Result<Ending, Failure>
+    ensures says { IfOk result (λ ending. (bytes : List ℕ)
+        × Answers asked.now bytes (O.contents out.old) (O.contents out.new) ending) }
+    ensures policy { IfSome (R.remaining policy.old) (λ given.
+        IfOk result (Answers asked.now given (O.contents out.old) (O.contents out.new))) }
+{
+    let bytes = read_all(alloc, policy)?;
+    say(explained(alloc, bytes.as_slice(), asked)?, out)
+}
+
+/// `explain`: says which rule of the policy in the file decides.
 fn explain<F: Files + AllocGlobal, O: Write>(
     rt: &F,
     asked: &Asked<'_>,
@@ -140,35 +170,47 @@ fn explain<F: Files + AllocGlobal, O: Write>(
     ensures { IfOk result (λ ending. (bytes : List ℕ)
         × Answers asked.now bytes (O.contents out.old) (O.contents out.new) ending) }
 {
-    let mut file = fs::open(rt, asked.policy)?;
-    let policy = read_all(rt.alloc(), &mut file)?;
-    say(explained(rt.alloc(), policy.as_slice(), asked)?, out)
+    let mut policy = fs::open(rt, asked.policy)?;
+    explain_policy(rt.alloc(), asked, &mut policy, out)
 }
 
-/// Does what the words ask for.
-fn work<F: Files + AllocGlobal, R: Read, O: Write, E: Write>(
+/// Does what the line asks for.
+fn perform<F: Files + AllocGlobal, R: Read, O: Write>(
     rt: &F,
-    words: &[&str],
+    line: Line<'_>,
     input: &mut R,
     out: &mut O,
-    err: &mut E,
 ) -> Result<Ending, Failure>
-    ensures misused { is_taken (texts words.now) ≡ false
-        → IfOk result (λ ending. ending ≡ Misused) }
-    ensures taken { is_taken (texts words.now) ≡ true → IfOk result (λ ending. ending ≢ Misused) }
-    ensures judged { texts words.now ≡ check_words (codes "-")
-        → IfSome (R.remaining input.old) (λ given.
+    ensures does { IfOk result (Does line.entry (O.contents out.old) (O.contents out.new)) }
+    ensures judged { IsCheckOf (codes "-") line.entry → IfSome (R.remaining input.old) (λ given.
         IfOk result (Judges (take too_many given) (O.contents out.old) (O.contents out.new))) }
+    ensures untouched { (IsCheckOf (codes "-") line.entry → ⊥) → input.new ≡ input.old }
 {
-    match read_line(rt.alloc(), words) {
-        Ok(Line::Check { file }) => check(rt, file, input, out),
-        Ok(Line::Explain(asked)) => explain(rt, &asked, out),
-        Err(UseFault::Use(text)) => {
-            write_text(text.as_str(), err)?;
-            Ok(Ending::Misused)
-        }
-        Err(UseFault::Memory) => Err(Failure::Memory),
+    match line {
+        Line::Check { file } => check(rt, file, input, out),
+        Line::Explain(asked) => explain(rt, &asked, out),
     }
+}
+
+/// Says why the words are no use of the program. Where that can't be said, standard error has failed.
+fn refuse<E: Write>(reason: &str, err: &mut E) -> Ending
+    ensures ends { (result ≡ Misused) ⊎ (result ≡ Failed) }
+    ensures reason { result ≡ Misused
+        → BeginsWith reason.now (E.contents err.old) (E.contents err.new) }
+{
+    match write_text(reason, err) {
+        Ok(()) => Ending::Misused,
+        Err(_) => Ending::Failed,
+    }
+}
+
+/// Says that the program failed. Where that can't be said either, the status alone does.
+fn fail<E: Write>(failure: Failure, err: &mut E) -> Ending
+    ensures ends { result ≡ Failed }
+    ensures message { Tells (message_of failure) (E.contents err.old) (E.contents err.new) }
+{
+    let _ = write_text(failure.message(), err);
+    Ending::Failed
 }
 
 /// The program's whole work on the words after its name. A file `-` is the input.
@@ -183,23 +225,34 @@ pub fn run<F: Files + AllocGlobal, R: Read, O: Write, E: Write>(
     ensures misused { is_taken (texts words.now) ≡ false → (result ≡ Misused) ⊎ (result ≡ Failed) }
     // No others do.
     ensures taken { is_taken (texts words.now) ≡ true → result ≢ Misused }
-    // The bytes of the input are judged, and the line is written, unless a device or memory fails.
-    ensures judged { texts words.now ≡ check_words (codes "-")
+    // They print nothing on standard output.
+    ensures silent { is_taken (texts words.now) ≡ false → out.new ≡ out.old }
+    // Where they name no subcommand, standard error says which there are.
+    ensures uses { command_in (texts words.now) ≡ None → result ≡ Misused
+        → BeginsWith uses_text (E.contents err.old) (E.contents err.new) }
+
+    // What words ask for that are taken is done, unless a device or memory fails.
+    ensures does { is_taken (texts words.now) ≡ true → UnlessFailed result
+        (DoesWords (texts words.now) (O.contents out.old) (O.contents out.new) result) }
+    // Where that is a check of the input, the bytes of the input are those that are judged.
+    ensures judged { AsksToCheck (texts words.now) (codes "-")
         → IfSome (R.remaining input.old) (λ given. UnlessFailed result
         (Judges (take too_many given) (O.contents out.old) (O.contents out.new) result)) }
-{
-    match work(rt, words, input, out, err) {
-        Ok(ending) => ending,
-        Err(failure) => failed(failure, err),
-    }
-}
+    // Nothing else touches the input.
+    ensures untouched { (AsksToCheck (texts words.now) (codes "-") → ⊥) → input.new ≡ input.old }
 
-/// Says that the program failed. Where that can't be said either, the status alone does.
-fn failed<E: Write>(failure: Failure, err: &mut E) -> Ending
-    ensures { result ≡ Failed }
+    // Where a device or memory fails, standard error says so, if it doesn't fail too.
+    ensures failed { is_taken (texts words.now) ≡ true → result ≡ Failed
+        → (failure : Failure) × Tells (message_of failure) (E.contents err.old) (E.contents err.new) }
 {
-    let _ = writeln!(err, "{failure}");
-    Ending::Failed
+    match read_line(rt.alloc(), words) {
+        Ok(line) => match perform(rt, line, input, out) {
+            Ok(ending) => ending,
+            Err(failure) => fail(failure, err),
+        },
+        Err(UseFault::Use(reason)) => refuse(reason.as_str(), err),
+        Err(UseFault::Memory) => fail(Failure::Memory, err),
+    }
 }
 
 /// The ending where the process's words could not be had: one of them is no text, or memory ran
@@ -208,13 +261,16 @@ pub fn words_refused<E: Write>(error: &Error, err: &mut E) -> Ending
     // A word that is no text is a fault of use, and whatever else the words failed for a failure.
     ensures no_text { error_kind error.now ≡ InvalidData → result ≡ Misused }
     ensures failed { error_kind error.now ≢ InvalidData → result ≡ Failed }
+    // Standard error says which, if it doesn't fail too.
+    ensures message { error_kind error.now ≢ InvalidData → Tells
+        (message_of (failure_of (error_kind error.now))) (E.contents err.old) (E.contents err.new) }
 {
     match error.kind() {
         ErrorKind::InvalidData => {
             let _ = writeln!(err, "a word is not UTF-8");
             Ending::Misused
         }
-        ErrorKind::OutOfMemory => failed(Failure::Memory, err),
-        _ => failed(Failure::Device, err),
+        ErrorKind::OutOfMemory => fail(Failure::Memory, err),
+        _ => fail(Failure::Device, err),
     }
 }

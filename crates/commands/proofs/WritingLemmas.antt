@@ -1,0 +1,44 @@
+-- What a writer has taken of a text.
+use Rattle.std.proofs.Common.{◌≡◌, ◌∙◌, ◌++◌, ◌+◌, ℕ, List, Option, Some, None, length, sym, ap, ap₂, subst, take, drop, ◌-◌, arith, length-drop, append_assoc}
+use Rattle.std.proofs.lemmas.List.{drop-drop, drop-take, take-append-drop, take-take}
+use Rattle.std.proofs.Math.Seq.{take-length}
+use Rattle.std.specs.Io.KnownBytes.{Appends, Keeps}
+
+-- a beginning of the text is taken, and the rest is left
+pub record HasTaken (text rest : List ℕ) (old new : Option (List ℕ)) : Type 0 where
+  pub count : ℕ
+  pub left : rest ≡ drop count text
+  pub front : Appends old new (take count text)
+
+appends_both : (old mid new : Option (List ℕ)) (a b : List ℕ) → Appends old mid a → Appends mid new b → Appends old new (a ++ b)
+appends_both None mid new a b first then = tt
+appends_both (Some xs) None new a b first then = absurd first
+appends_both (Some xs) (Some ys) None a b first then = absurd then
+appends_both (Some xs) (Some ys) (Some zs) a b first then = then ∙ ap (λ front. front ++ b) first ∙ append_assoc xs a b
+
+appends_kept : (old mid new : Option (List ℕ)) (a : List ℕ) → Appends old mid a → Keeps mid new → Appends old new a
+appends_kept None mid new a first kept = tt
+appends_kept (Some xs) None new a first kept = absurd first
+appends_kept (Some xs) (Some ys) None a first kept = absurd kept
+appends_kept (Some xs) (Some ys) (Some zs) a first kept = kept ∙ first
+
+take_both : (k n : ℕ) (xs : List ℕ) → take k xs ++ take n (drop k xs) ≡ take (k + n) xs
+take_both k n xs =
+    ap₂ (λ a b. a ++ b) (sym (take-take k (k + n) xs (omega arith))) (sym (drop-take k n xs)) ∙ take-append-drop k (take (k + n) xs)
+
+pub more_taken : (text rest : List ℕ) (old mid new : Option (List ℕ)) (n : ℕ) → HasTaken text rest old mid → Appends mid new (take n rest)
+    → HasTaken text (drop n rest) old new
+more_taken text rest old mid new n is more = record {
+  count = is.count + n;
+  left = ap (drop n) is.left ∙ drop-drop n is.count text;
+  front = subst (Appends old new) (take_both is.count n text)
+      (appends_both old mid new (take is.count text) (take n (drop is.count text)) is.front (subst (λ (r : List ℕ). Appends mid new (take n r)) is.left more));
+}
+
+-- a slice from a place on
+pub slice_from : (k : ℕ) (xs : List ℕ) → take (length xs - k) (drop k xs) ≡ drop k xs
+slice_from k xs = ap (λ (n : ℕ). take n (drop k xs)) (sym (length-drop k xs)) ∙ take-length (drop k xs)
+
+pub no_more_taken : (text rest : List ℕ) (old mid new : Option (List ℕ)) → HasTaken text rest old mid → Keeps mid new → HasTaken text rest old new
+no_more_taken text rest old mid new is kept =
+    record { count = is.count; left = is.left; front = appends_kept old mid new (take is.count text) is.front kept }
