@@ -61,11 +61,11 @@ not_before day date e = not_later day date (by (int_lt (epoch_day day) (epoch_da
     by true e = absurd cc
     by false e = refl
 
-not_gone : (o : Option Date) → refused (deciding.gone o) ≡ None → o ≡ None
+not_gone : (o : Option Date) → refused (deciding.gone_verdict o) ≡ None → o ≡ None
 not_gone None e = refl
 not_gone (Some day) e = absurd cc
 
-not_held : (o : Option ℕ) → refused (deciding.held o) ≡ None → o ≡ None
+not_held : (o : Option ℕ) → refused (deciding.hold_verdict o) ≡ None → o ≡ None
 not_held None e = refl
 not_held (Some k) e = absurd cc
 
@@ -77,7 +77,7 @@ good_bag : (r : Result (List File) (List ℕ)) → bad_as r ≡ None → (bag : 
 good_bag (Ok bag) e = (bag, refl)
 good_bag (Err fault) e = absurd cc
 
-due_has_come : (day : Date) (d : Due) → refused (deciding.not_due day d) ≡ None → (date : Date) × (d ≡ On date) × (epoch_day date ≤ℤ epoch_day day)
+due_has_come : (day : Date) (d : Due) → refused (deciding.due_verdict day d) ≡ None → (date : Date) × (d ≡ On date) × (epoch_day date ≤ℤ epoch_day day)
 due_has_come day (On date) e = (date, refl, not_before day date e)
 due_has_come day Never e = absurd cc
 

@@ -106,7 +106,7 @@ first_is : {A : Type 0} (o : Option A) (os : List (Option A)) (x : A) → first_
 first_is None os x e = inr e
 first_is (Some y) os x e = inl e
 
-denied_is_not_held : (d : Option Decision) (k : ℕ) → refused (deciding.denied d) ≡ Some (Held k) → ⊥
+denied_is_not_held : (d : Option Decision) (k : ℕ) → refused (deciding.denial_verdict d) ≡ Some (Held k) → ⊥
 denied_is_not_held None k e = absurd cc
 denied_is_not_held (Some d) k e = by_effect (allows d.effect) e
   where
@@ -114,11 +114,11 @@ denied_is_not_held (Some d) k e = by_effect (allows d.effect) e
     by_effect true e = absurd cc
     by_effect false e = absurd cc
 
-gone_is_not_held : (o : Option Date) (k : ℕ) → refused (deciding.gone o) ≡ Some (Held k) → ⊥
+gone_is_not_held : (o : Option Date) (k : ℕ) → refused (deciding.gone_verdict o) ≡ Some (Held k) → ⊥
 gone_is_not_held None k e = absurd cc
 gone_is_not_held (Some day) k e = absurd cc
 
-due_is_not_held : (day : Date) (d : Due) (k : ℕ) → refused (deciding.not_due day d) ≡ Some (Held k) → ⊥
+due_is_not_held : (day : Date) (d : Due) (k : ℕ) → refused (deciding.due_verdict day d) ≡ Some (Held k) → ⊥
 due_is_not_held day (On date) k e = by_test (int_lt (epoch_day day) (epoch_day date)) e
   where
     by_test : (t : Bool) → refused (answer_if t (NotDue date)) ≡ Some (Held k) → ⊥
@@ -126,7 +126,7 @@ due_is_not_held day (On date) k e = by_test (int_lt (epoch_day day) (epoch_day d
     by_test false e = absurd cc
 due_is_not_held day Never k e = absurd cc
 
-held_by : (ks : Option ℕ) (k : ℕ) → refused (deciding.held ks) ≡ Some (Held k) → ks ≡ Some k
+held_by : (ks : Option ℕ) (k : ℕ) → refused (deciding.hold_verdict ks) ≡ Some (Held k) → ks ≡ Some k
 held_by None k e = absurd cc
 held_by (Some j) k e = let same : j ≡ k = cc in ap Some same
 

@@ -25,19 +25,19 @@ first_verdict verdicts = refusal_of (unwrap_or (first_some verdicts) Allow)
 
 -- the rules refuse first, then that the deposit is gone
 by_rules : (decision : Option Decision) (day : Option Date) (verdicts : List (Option Verdict)) (refusals : List (Option Refusal)) → first_some refusals ≡ first_verdict verdicts
-    → first_some (refused (deciding.denied decision) ∷ refused (deciding.gone day) ∷ refusals) ≡ first_verdict (deciding.denied decision ∷ deciding.gone day ∷ verdicts)
+    → first_some (refused (deciding.denial_verdict decision) ∷ refused (deciding.gone_verdict day) ∷ refusals) ≡ first_verdict (deciding.denial_verdict decision ∷ deciding.gone_verdict day ∷ verdicts)
 by_rules None day verdicts refusals same = refl
 by_rules (Some decision) day verdicts refusals same = by_effect (allows decision.effect) day
   where
     by_effect : (t : Bool) (day : Option Date)
-        → first_some (refused (if t then None else Some (DeniedByRule decision.rule)) ∷ refused (deciding.gone day) ∷ refusals)
-        ≡ first_verdict ((if t then None else Some (DeniedByRule decision.rule)) ∷ deciding.gone day ∷ verdicts)
+        → first_some (refused (if t then None else Some (DeniedByRule decision.rule)) ∷ refused (deciding.gone_verdict day) ∷ refusals)
+        ≡ first_verdict ((if t then None else Some (DeniedByRule decision.rule)) ∷ deciding.gone_verdict day ∷ verdicts)
     by_effect false day = refl
     by_effect true (Some on) = refl
     by_effect true None = same
 
 -- and of a disposal a hold, and the due day
-by_hold : (hold : Option ℕ) (day : Date) (due : Due) → first_some (refused (deciding.held hold) ∷ refused (deciding.not_due day due) ∷ []) ≡ first_verdict (deciding.held hold ∷ deciding.not_due day due ∷ [])
+by_hold : (hold : Option ℕ) (day : Date) (due : Due) → first_some (refused (deciding.hold_verdict hold) ∷ refused (deciding.due_verdict day due) ∷ []) ≡ first_verdict (deciding.hold_verdict hold ∷ deciding.due_verdict day due ∷ [])
 by_hold (Some k) day due = refl
 by_hold None day Never = refl
 by_hold None day (On date) = by_day (int_lt (epoch_day day) (epoch_day date))
@@ -49,7 +49,7 @@ by_hold None day (On date) = by_day (int_lt (epoch_day day) (epoch_day date))
 pub asked_verdict : (h : History) (day : Date) (caller : List ℕ) (action : Action) (n : ℕ) (deposit : Deposit)
     → first_some (asked_row h day caller action n deposit) ≡ refusal_of (verdict_of (facts_of h caller action n deposit) day)
 asked_verdict h day caller acts.Dispose n deposit =
-    by_rules (decided_at h caller acts.Dispose deposit) (gone h n) (deciding.held (least_hold h n deposit) ∷ deciding.not_due day (due h deposit) ∷ []) (refused (deciding.held (least_hold h n deposit)) ∷ refused (deciding.not_due day (due h deposit)) ∷ [])
+    by_rules (decided_at h caller acts.Dispose deposit) (gone h n) (deciding.hold_verdict (least_hold h n deposit) ∷ deciding.due_verdict day (due h deposit) ∷ []) (refused (deciding.hold_verdict (least_hold h n deposit)) ∷ refused (deciding.due_verdict day (due h deposit)) ∷ [])
     (by_hold (least_hold h n deposit) day (due h deposit))
 asked_verdict h day caller acts.Class n deposit = by_rules (decided_at h caller acts.Class deposit) (gone h n) (None ∷ None ∷ []) [] refl
 asked_verdict h day caller acts.Collection n deposit = by_rules (decided_at h caller acts.Collection deposit) (gone h n) (None ∷ None ∷ []) [] refl

@@ -62,7 +62,7 @@ facts_of h caller action n deposit = record {
 
 -- E2: the first rule that matches denies, or none matches
 abbrev pub denied : History → List ℕ → Action → Option (List ℕ) → Option (List ℕ) → Option Refusal
-denied h caller action collection class = refused (deciding.denied (decided h caller action collection class))
+denied h caller action collection class = refused (deciding.denial_verdict (decided h caller action collection class))
 
 -- asked of a deposit: of its collection and its class
 abbrev pub denied_at : History → List ℕ → Action → Deposit → Option Refusal
@@ -77,7 +77,7 @@ no_such_collection h name = answer_if (not (has_collection h name)) (NoSuch subj
 
 -- E3: the deposit was destroyed
 abbrev pub is_gone : History → ℕ → Option Refusal
-is_gone h n = refused (deciding.gone (gone h n))
+is_gone h n = refused (deciding.gone_verdict (gone h n))
 
 -- E4: a deposit, kept or destroyed, has the accession
 abbrev pub taken : History → List ℕ → Option Refusal
@@ -97,11 +97,11 @@ bad_bag text = bad_as (bag_of text)
 
 -- E7: a live hold covers the deposit; the least number is named
 abbrev pub held : History → ℕ → Deposit → Option Refusal
-held h n deposit = refused (deciding.held (least_hold h n deposit))
+held h n deposit = refused (deciding.hold_verdict (least_hold h n deposit))
 
 -- E8: the day comes before the due day, or there is none
 abbrev pub not_due : History → Date → Deposit → Option Refusal
-not_due h day deposit = refused (deciding.not_due day (due h deposit))
+not_due h day deposit = refused (deciding.due_verdict day (due h deposit))
 
 -- E9: the hold was released
 abbrev pub is_released : History → ℕ → Option Refusal

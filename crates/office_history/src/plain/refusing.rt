@@ -107,7 +107,7 @@ pub fn denied(
     ensures { result ≡ denied office.now caller.now action
         (option_copied collection.entry) (option_copied class.entry) }
 {
-    match office_core::denied(decided(office, caller, action, collection, class)) {
+    match office_core::denial_verdict(decided(office, caller, action, collection, class)) {
         Some(verdict) => refusal_of(verdict),
         None => None,
     }
