@@ -20,31 +20,31 @@ first_or {A = A} x y xs found = by found.0 found.1
 -- what passes is among what a filter keeps, and the other way round
 pub in_filter : {A : Type 0} (p : A → Bool) (x : A) (xs : List A) → p x ≡ true → IsIn x xs → IsIn x (filter p xs)
 in_filter p x [] passes found = absurd (let wrong = found.1 in cc)
-in_filter {A = A} p x (y ∷ ys) passes found = by_test (p y) refl
+in_filter {A = A} p x (y ∷ ys) passes found = by_test (p y) refl (λ rest. in_filter p x ys passes rest)
   where
-    by_test : (t : Bool) → p y ≡ t → IsIn x (cond t (y ∷ filter p ys) (filter p ys))
-    by_test true is =
+    by_test : (t : Bool) → p y ≡ t → (IsIn x ys → IsIn x (filter p ys)) → IsIn x (cond t (y ∷ filter p ys) (filter p ys))
+    by_test true is behind =
         elim (first_or x y ys found) [
           | inl same ↦ (0, ap Some same)
-          | inr rest ↦ further x y (filter p ys) (in_filter p x ys passes rest)
+          | inr rest ↦ further x y (filter p ys) (behind rest)
         ]
-    by_test false is =
+    by_test false is behind =
         elim (first_or x y ys found) [
           | inl same ↦ absurd (true≢false (sym passes ∙ ap p (sym same) ∙ is))
-          | inr rest ↦ in_filter p x ys passes rest
+          | inr rest ↦ behind rest
         ]
 
 pub filter_in : {A : Type 0} (p : A → Bool) (x : A) (xs : List A) → IsIn x (filter p xs) → IsIn x xs × (p x ≡ true)
 filter_in p x [] found = absurd (let wrong = found.1 in cc)
-filter_in {A = A} p x (y ∷ ys) found = by_test (p y) refl found
+filter_in {A = A} p x (y ∷ ys) found = by_test (p y) refl found (λ rest. filter_in p x ys rest)
   where
-    by_test : (t : Bool) → p y ≡ t → IsIn x (cond t (y ∷ filter p ys) (filter p ys)) → IsIn x (y ∷ ys) × (p x ≡ true)
-    by_test true is found =
+    by_test : (t : Bool) → p y ≡ t → IsIn x (cond t (y ∷ filter p ys) (filter p ys)) → (IsIn x (filter p ys) → IsIn x ys × (p x ≡ true)) → IsIn x (y ∷ ys) × (p x ≡ true)
+    by_test true is found behind =
         elim (first_or x y (filter p ys) found) [
           | inl same ↦ ((0, ap Some same), ap p (sym same) ∙ is)
-          | inr rest ↦ (let more = filter_in p x ys rest in (further x y ys more.0, more.1))
+          | inr rest ↦ (let more = behind rest in (further x y ys more.0, more.1))
         ]
-    by_test false is found = let more = filter_in p x ys found in (further x y ys more.0, more.1)
+    by_test false is found behind = let more = behind found in (further x y ys more.0, more.1)
 
 -- the numbers of a row of numbers
 range_in : (start len n : ℕ) → start ≤ n → n < start + len → IsIn n (range_with_len start len)
@@ -90,11 +90,12 @@ weaker x seen (y ∷ ys) all = ((or_false (bytes_eq y x) _ all.0).1, weaker x se
 
 all_new : (seen texts : List (List ℕ)) → AllByRecursion (IsNew seen) (distinct_after seen texts)
 all_new seen [] = tt
-all_new seen (x ∷ xs) = by (list_any (bytes_eq x) seen) refl
+all_new seen (x ∷ xs) = by (list_any (bytes_eq x) seen) refl (all_new seen xs) (all_new (x ∷ seen) xs)
   where
-    by : (t : Bool) → list_any (bytes_eq x) seen ≡ t → AllByRecursion (IsNew seen) (if t then distinct_after seen xs else x ∷ distinct_after (x ∷ seen) xs)
-    by true e = all_new seen xs
-    by false e = (e, weaker x seen (distinct_after (x ∷ seen) xs) (all_new (x ∷ seen) xs))
+    by : (t : Bool) → list_any (bytes_eq x) seen ≡ t → AllByRecursion (IsNew seen) (distinct_after seen xs) → AllByRecursion (IsNew (x ∷ seen)) (distinct_after (x ∷ seen) xs)
+        → AllByRecursion (IsNew seen) (if t then distinct_after seen xs else x ∷ distinct_after (x ∷ seen) xs)
+    by true e behind after_it = behind
+    by false e behind after_it = (e, weaker x seen (distinct_after (x ∷ seen) xs) after_it)
 
 other_way : (x y : List ℕ) → bytes_eq y x ≡ false → bytes_eq x y ≡ false
 other_way x y e = by (bytes_eq x y) refl
@@ -108,12 +109,14 @@ unlike x seen [] all = tt
 unlike x seen (y ∷ ys) all = (other_way x y (or_false (bytes_eq y x) _ all.0).0, unlike x seen ys all.1)
 
 distinct_once : (seen texts : List (List ℕ)) → IsDistinct bytes_eq (distinct_after seen texts)
+unfolding IsDistinct
 distinct_once seen [] = tt
-distinct_once seen (x ∷ xs) = by (list_any (bytes_eq x) seen)
+distinct_once seen (x ∷ xs) = by (list_any (bytes_eq x) seen) (distinct_once seen xs) (distinct_once (x ∷ seen) xs)
   where
-    by : (t : Bool) → IsDistinct bytes_eq (if t then distinct_after seen xs else x ∷ distinct_after (x ∷ seen) xs)
-    by true = distinct_once seen xs
-    by false = (unlike x seen (distinct_after (x ∷ seen) xs) (all_new (x ∷ seen) xs), distinct_once (x ∷ seen) xs)
+    by : (t : Bool) → IsDistinct bytes_eq (distinct_after seen xs) → IsDistinct bytes_eq (distinct_after (x ∷ seen) xs)
+        → IsDistinct bytes_eq (if t then distinct_after seen xs else x ∷ distinct_after (x ∷ seen) xs)
+    by true behind after_it = behind
+    by false behind after_it = (unlike x seen (distinct_after (x ∷ seen) xs) (all_new (x ∷ seen) xs), after_it)
 
 pub first_places_once : (texts : List (List ℕ)) → IsDistinct bytes_eq (in_first_places texts)
 first_places_once texts = distinct_once [] texts
@@ -127,33 +130,36 @@ seen_or x y seen new = by (bytes_eq y x) refl
 
 distinct_in : (y : List ℕ) (seen texts : List (List ℕ)) → IsNew seen y → IsIn y texts → IsIn y (distinct_after seen texts)
 distinct_in y seen [] new found = absurd (let wrong = found.1 in cc)
-distinct_in y seen (x ∷ xs) new found = by (list_any (bytes_eq x) seen) refl
+distinct_in y seen (x ∷ xs) new found =
+    by (list_any (bytes_eq x) seen) refl (λ rest. distinct_in y seen xs new rest) (λ still rest. distinct_in y (x ∷ seen) xs still rest)
   where
-    by : (t : Bool) → list_any (bytes_eq x) seen ≡ t → IsIn y (if t then distinct_after seen xs else x ∷ distinct_after (x ∷ seen) xs)
-    by true e =
+    by : (t : Bool) → list_any (bytes_eq x) seen ≡ t → (IsIn y xs → IsIn y (distinct_after seen xs)) → (IsNew (x ∷ seen) y → IsIn y xs → IsIn y (distinct_after (x ∷ seen) xs))
+        → IsIn y (if t then distinct_after seen xs else x ∷ distinct_after (x ∷ seen) xs)
+    by true e behind after_it =
         elim (first_or y x xs found) [
           | inl same ↦ absurd (true≢false (sym e ∙ ap (λ z. list_any (bytes_eq z) seen) same ∙ new))
-          | inr rest ↦ distinct_in y seen xs new rest
+          | inr rest ↦ behind rest
         ]
-    by false e =
+    by false e behind after_it =
         elim (first_or y x xs found) [
           | inl same ↦ (0, ap Some same)
           | inr rest ↦ elim (seen_or x y seen new) [
             | inl again ↦ (0, ap Some (sym ((bytes_eq-Decides y x).0 again)))
-            | inr still ↦ further y x (distinct_after (x ∷ seen) xs) (distinct_in y (x ∷ seen) xs still rest)
+            | inr still ↦ further y x (distinct_after (x ∷ seen) xs) (after_it still rest)
           ]
         ]
 
 in_distinct : (y : List ℕ) (seen texts : List (List ℕ)) → IsIn y (distinct_after seen texts) → IsIn y texts
 in_distinct y seen [] found = absurd (let wrong = found.1 in cc)
-in_distinct y seen (x ∷ xs) found = by (list_any (bytes_eq x) seen) found
+in_distinct y seen (x ∷ xs) found = by (list_any (bytes_eq x) seen) found (λ rest. in_distinct y seen xs rest) (λ rest. in_distinct y (x ∷ seen) xs rest)
   where
-    by : (t : Bool) → IsIn y (if t then distinct_after seen xs else x ∷ distinct_after (x ∷ seen) xs) → IsIn y (x ∷ xs)
-    by true found = further y x xs (in_distinct y seen xs found)
-    by false found =
+    by : (t : Bool) → IsIn y (if t then distinct_after seen xs else x ∷ distinct_after (x ∷ seen) xs)
+        → (IsIn y (distinct_after seen xs) → IsIn y xs) → (IsIn y (distinct_after (x ∷ seen) xs) → IsIn y xs) → IsIn y (x ∷ xs)
+    by true found behind after_it = further y x xs (behind found)
+    by false found behind after_it =
         elim (first_or y x (distinct_after (x ∷ seen) xs) found) [
           | inl same ↦ (0, ap Some same)
-          | inr rest ↦ further y x xs (in_distinct y (x ∷ seen) xs rest)
+          | inr rest ↦ further y x xs (after_it rest)
         ]
 
 -- a text stands in first places exactly where it stands

@@ -314,7 +314,7 @@ callers_told [] = refl
 callers_told (caller ∷ callers) = ap (λ cs. caller ∷ cs) (callers_told callers)
 
 policy_told : (h : History) → IsLegal h → (version : ℤ) → (map caller_of (picture version h).callers ≡ (policy h).callers) × (map rule_of (picture version h).rules ≡ (policy h).rules)
-policy_told h legal version = (callers_told (policy h).callers, rules_told 1 (policy h).rules (legal_policy h legal))
+policy_told h legal version = (callers_told (policy h).callers, rules_told 1 (policy h).rules (legal_policy h legal).rules_ask_for_names)
 
 same_policy : (h k : History) (version : ℤ) → IsLegal h → IsLegal k → picture version h ≡ picture version k → policy h ≡ policy k
 same_policy h k version legal_h legal_k e =

@@ -1,5 +1,5 @@
 -- The rows of a legal history are in range.
-use Rattle.std.proofs.Common.{◌≡◌, ◌≤◌, ◌≤ℤ◌, ℕ, zero, suc, ◌+◌, ◌<◌, ℤ, pos, Bool, true, false, List, [], ◌∷◌, ◌++◌, length, map, Option, Some, None, IfSome, IsSome, option_map, refl, sym, ap, subst, ◌∙◌, inl, inr, arith, cond, if◌then◌else◌}
+use Rattle.std.proofs.Common.{◌≡◌, ◌≤◌, ◌≤ℤ◌, ℕ, zero, suc, ◌+◌, ◌<◌, ℤ, pos, Bool, true, false, List, [], ◌∷◌, ◌++◌, length, map, Option, Some, None, IfSome, IsSome, option_map, refl, sym, ap, subst, ◌∙◌, inl, inr, ◌⊎◌, arith, cond, if◌then◌else◌}
 use Rattle.std.specs.Prelude.{bytes_eq, codes, neg_ℤ}
 use Rattle.std.specs.List.{AllByRecursion, filter_map, flat_map, list_any, range_with_len, cons_option}
 use Rattle.std.specs.Option.{option_map_or}
@@ -75,11 +75,12 @@ numbered_rows {A = A} {R = R} xs tell number is (suc len) start low high =
 
 all_distinct : (P : List ℕ → Type 0) (seen texts : List (List ℕ)) → AllByRecursion P texts → AllByRecursion P (distinct_after seen texts)
 all_distinct P seen [] all = tt
-all_distinct P seen (text ∷ texts) all = by (list_any (bytes_eq text) seen)
+all_distinct P seen (text ∷ texts) all = by (list_any (bytes_eq text) seen) (all_distinct P seen texts all.1) (all_distinct P (text ∷ seen) texts all.1)
   where
-    by : (there : Bool) → AllByRecursion P (if there then distinct_after seen texts else text ∷ distinct_after (text ∷ seen) texts)
-    by true = all_distinct P seen texts all.1
-    by false = (all.0, all_distinct P (text ∷ seen) texts all.1)
+    by : (there : Bool) → AllByRecursion P (distinct_after seen texts) → AllByRecursion P (distinct_after (text ∷ seen) texts)
+        → AllByRecursion P (if there then distinct_after seen texts else text ∷ distinct_after (text ∷ seen) texts)
+    by true behind after_it = behind
+    by false behind after_it = (all.0, after_it)
 
 -- ---- callers and rules
 

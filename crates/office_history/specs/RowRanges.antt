@@ -16,9 +16,9 @@ AreNumbered number n (row ∷ rows) = (number row ≡ pos n) × AreNumbered numb
 
 -- ---- one row each
 
-pub record IsOfficeRow (version : ℤ) (row : OfficeRow) : Type 0 where
+pub record IsOfficeRow (tables_version : ℤ) (row : OfficeRow) : Type 0 where
   pub id : row.id ≡ pos 1
-  pub version : row.version ≡ version
+  pub version : row.version ≡ tables_version
   pub max_deposits : IsBetween (pos 1) (pos 1000000) row.max_deposits
   pub max_holds : IsBetween (pos 1) (pos 1000000) row.max_holds
 
