@@ -1,9 +1,9 @@
 //! Calls that are timed, over bags of 10 KiB with three files.
 
 use crate::changes::{Change, commit};
-use crate::office::{self, Deposit};
+use crate::office;
 use anyhow::{Result, bail};
-use office_tables::{TableFault, file_of, last_deposit, live_holds};
+use office_tables::{NewDeposit, TableFault, file_of, last_deposit, live_holds};
 use sqlite::{Alter, Connection};
 use std::alloc::Global;
 
@@ -78,7 +78,7 @@ pub fn repeat<S: Alter>(
 /// A bag, with the content of its payload file.
 fn bag<'a>(number: u32, accession: &'a str, record: &'a [u8]) -> [Change<'a>; 4] {
     [
-        Change::Deposit(Deposit {
+        Change::Deposit(NewDeposit {
             number,
             accession,
             collection: "tax",
