@@ -18,18 +18,19 @@ use Rattle.sqlite_rules.proofs.ListLemmas.{all_has, all_from}
 use Rattle.sqlite_rules.proofs.TableLemmas.{int_is}
 use Rattle.sqlite_trees.specs.View.{is_int}
 use Rattle.sql_meaning.specs.Columns.{int_at, bytes_at}
-use Rattle.sql_meaning.proofs.Writing.{inserts, updates}
+use Rattle.sql_meaning.proofs.Writing.{inserts}
 use Rattle.sql_meaning.proofs.Scanning.{scan, as_program, shown_of, scanned, answers_one}
 use Rattle.sql_meaning.proofs.Reading.{reads_same, reads_one, finds_part}
 use Rattle.sql_meaning.proofs.TextKeys.{has_text, by_text, each_passes, few_named}
 use Rattle.sql_meaning.proofs.Typed.{text_at, int_in, all_both}
-use Rattle.sql_meaning.proofs.Edits.{appended, updated, decoded, counted, cast_null, cast_int, map_append, none_revised}
+use Rattle.sql_meaning.proofs.Edits.{appended, decoded, counted, cast_null, cast_int, map_append, none_revised}
 use Rattle.sql_meaning.proofs.Whole.{keeps_rule}
+use Rattle.sql_meaning.proofs.Changing.{revises}
 use Rattle.office_tables.specs.Schema.{office_schema, class_table, needed}
 use Rattle.office_rows.specs.Rows.{Tables, ClassRow, is_class, class_named, with_years, with_new_class, with_class}
 use Rattle.office_tables.specs.Tables.{IsOffice, Becomes, tables_of, class_in}
 use Rattle.office_tables.proofs.Frames.{idle, becomes}
-use Rattle.office_tables.proofs.ClassTexts.{years_text, years_columns, asks_years, revise_text, revised_columns, revise_is, revise_plain, add_class_text, class_terms, add_class_is, add_class_plain}
+use Rattle.office_tables.proofs.ClassTexts.{years_text, years_columns, asks_years, revise_text, revised_columns, revise_means, add_class_text, class_terms, add_class_means}
 
 -- a stored class, as the rules of its table leave it
 abbrev pub IsClassRow : Row → Type 0
@@ -71,7 +72,7 @@ adds_class old new name years count office h =
     let db = old.now.trees in
     let source : Row = Null ∷ Text name ∷ Int years ∷ [] in
     let edit = edit_of db class_table [] Chosen 0 (source ∷ []) in
-    let done = inserts add_class_text params old new office_schema office.schema_is 3 class_table refl idle add_class_plain class_terms 3 add_class_is refl refl count h in
+    let done = inserts add_class_text params old new office_schema office.schema_is 3 class_table refl idle class_terms 3 add_class_means refl refl count h in
     let cast_is : cast_row class_table source ≡ Null ∷ Text name ∷ Int years ∷ [] = rw (cast_null, cast_int years) refl in
     let end = appended db class_table source (Text name ∷ Int years ∷ []) office.shaped.1.1.1.0 cast_is in
     becomes old new edit count edit.news office.shaped done _ (ap (λ rows. record (tables_of old.now) { classes = rows }) (ap (map class_in) end ∙ map_append class_in (db 4) _))
@@ -87,21 +88,17 @@ cast_set years r it whole =
 pub revises_class : (old new : State) (name : List ℕ) (years : ℤ) (count : ℕ) → IsOffice old.now → Executes revise_text (Text name ∷ Int years ∷ []) old new (Ok count)
     → Becomes new.now (with_years name years (tables_of old.now)) × (count ≡ (if list_any (is_class name) (tables_of old.now).classes then 1 else 0))
 revises_class old new name years count office h =
-    let params : Row = Text name ∷ Int years ∷ [] in
     let db = old.now.trees in
-    let done = updates revise_text params old new office_schema office.schema_is 3 class_table refl idle revise_plain (as_program (scan 4 (by_text 1) revised_columns [])) revise_is count h in
-    let answer = done.0 in
-    let edit = edit_of db class_table (ids_of answer) Given 1 answer in
     let shaped = office.shaped.1.1.1.0 in
-    let typed = class_rows old.now office in
     let keep = has_text 1 name in
     let set : Row → Row = λ r. rowid r ∷ Text (bytes_at r 1) ∷ Int years ∷ [] in
-    let found = scanned db params 4 (by_text 1) revised_columns [] answer done.1.answer in
-    let is = answers_one db params 4 (by_text 1) revised_columns [] answer keep found (each_passes 1 name (Int years ∷ []) (db 4) (named old.now office name)) (few old.now office name) in
-    let made = updated db class_table answer keep (shown_of params revised_columns) set shaped (few old.now office name) is
-    (λ r there. (refl, cast_set years r (all_has IsClassRow (db 4) r typed there) (all_has _ (db 4) r shaped.1 there), refl)) in (
-      becomes old new edit count edit.news office.shaped done.2 _ (ap (λ rows. record (tables_of old.now) { classes = rows }) (ap (map class_in) made ∙ decoded class_in keep set (is_class name) (λ c. record c { years = years }) (λ r. refl) (λ r. refl) (db 4))),
-      done.2.counted ∙ counted db class_table answer keep (shown_of params revised_columns) class_in (is_class name) (λ r. refl) (few old.now office name) is,
+    let done = revises revise_text (Text name ∷ Int years ∷ []) old new office_schema office.schema_is 3 class_table refl idle shaped (by_text 1) revised_columns
+    keep (each_passes 1 name (Int years ∷ []) (db 4) (named old.now office name)) revise_means set (few old.now office name)
+    (λ r there. (refl, cast_set years r (all_has IsClassRow (db 4) r (class_rows old.now office) there) (all_has _ (db 4) r shaped.1 there), refl)) count h in
+    let edit = edit_of db class_table (ids_of done.answer) Given 1 done.answer in
+    let set_is = decoded class_in keep set (is_class name) (λ c. record c { years = years }) (λ r. refl) (λ r. refl) (db 4) in (
+      becomes old new edit count edit.news office.shaped done.change _ (ap (λ rows. record (tables_of old.now) { classes = rows }) (ap (map class_in) done.made ∙ set_is)),
+      done.change.counted ∙ counted db class_table done.answer keep (shown_of (Text name ∷ Int years ∷ []) revised_columns) class_in (is_class name) (λ r. refl) (few old.now office name) done.shows,
     )
 
 -- where the UPDATE counted none, the INSERT is left to do; where it counted one, nothing is

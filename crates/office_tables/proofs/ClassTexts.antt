@@ -10,6 +10,7 @@ use Rattle.sqlite_tied.specs.Compute.{everything}
 use Rattle.sql_meaning.proofs.Scanning.{scan, as_program}
 use Rattle.sql_meaning.proofs.Reading.{Asks}
 use Rattle.sql_meaning.proofs.TextKeys.{by_text}
+use Rattle.sql_meaning.proofs.Writing.{Means}
 use Rattle.office_tables.specs.Schema.{office_schema}
 
 abbrev pub years_text : List ℕ
@@ -28,13 +29,9 @@ revise_text = codes "UPDATE class SET years = ?2 WHERE name = ?1"
 abbrev pub revised_columns : List Term
 revised_columns = col 1 0 ∷ col 1 0 ∷ col 1 1 ∷ col 0 1 ∷ []
 
-pub revise_is : command_of (understood office_schema revise_text) ≡ Update 3 (as_program (scan 4 (by_text 1) revised_columns []))
+pub revise_means : Means office_schema revise_text (Update 3 (as_program (scan 4 (by_text 1) revised_columns [])))
 unfolding understood everything
-revise_is = refl
-
-pub revise_plain : IsPlain (understood office_schema revise_text)
-unfolding understood everything
-revise_plain = (refl, refl)
+revise_means = record { is = refl; plain = (refl, refl) }
 
 abbrev pub add_class_text : List ℕ
 add_class_text = codes "INSERT INTO class (name, years) VALUES (?1, ?2)"
@@ -42,13 +39,9 @@ add_class_text = codes "INSERT INTO class (name, years) VALUES (?1, ?2)"
 abbrev pub class_terms : List Term
 class_terms = lit Null ∷ col 0 0 ∷ col 0 1 ∷ []
 
-pub add_class_is : command_of (understood office_schema add_class_text) ≡ Insert 3 (Values class_terms 3)
+pub add_class_means : Means office_schema add_class_text (Insert 3 (Values class_terms 3))
 unfolding understood everything
-add_class_is = refl
-
-pub add_class_plain : IsPlain (understood office_schema add_class_text)
-unfolding understood everything
-add_class_plain = (refl, refl)
+add_class_means = record { is = refl; plain = (refl, refl) }
 
 abbrev pub find_text : List ℕ
 find_text = codes "SELECT name FROM collection WHERE name = ?1"
@@ -66,10 +59,6 @@ add_collection_text = codes "INSERT INTO collection (name) VALUES (?1)"
 abbrev pub collection_terms : List Term
 collection_terms = lit Null ∷ col 0 0 ∷ []
 
-pub add_collection_is : command_of (understood office_schema add_collection_text) ≡ Insert 4 (Values collection_terms 2)
+pub add_collection_means : Means office_schema add_collection_text (Insert 4 (Values collection_terms 2))
 unfolding understood everything
-add_collection_is = refl
-
-pub add_collection_plain : IsPlain (understood office_schema add_collection_text)
-unfolding understood everything
-add_collection_plain = (refl, refl)
+add_collection_means = record { is = refl; plain = (refl, refl) }

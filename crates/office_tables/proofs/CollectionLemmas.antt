@@ -25,7 +25,7 @@ use Rattle.office_tables.specs.Schema.{office_schema, collection_table, needed}
 use Rattle.office_rows.specs.Rows.{has_collection, is_collection, with_new_collection}
 use Rattle.office_tables.specs.Tables.{IsOffice, Becomes, tables_of, collection_in}
 use Rattle.office_tables.proofs.Frames.{idle, becomes}
-use Rattle.office_tables.proofs.ClassTexts.{find_text, name_column, asks_collection, add_collection_text, collection_terms, add_collection_is, add_collection_plain}
+use Rattle.office_tables.proofs.ClassTexts.{find_text, name_column, asks_collection, add_collection_text, collection_terms, add_collection_means}
 
 pub collection_rows : (db : Database) → IsOffice db → AllByRecursion (λ r. column r 1 ≡ Text (bytes_at r 1)) (db.trees 6)
 collection_rows db office = all_both (λ r typed present. text_at office_schema db.trees collection_table r typed present 0 (needed (codes "name") kind.Text) refl refl refl refl refl)
@@ -60,7 +60,7 @@ adds_collection old new name count office h =
     let db = old.now.trees in
     let source : Row = Null ∷ Text name ∷ [] in
     let edit = edit_of db collection_table [] Chosen 0 (source ∷ []) in
-    let done = inserts add_collection_text params old new office_schema office.schema_is 4 collection_table refl idle add_collection_plain collection_terms 2 add_collection_is refl refl count h in
+    let done = inserts add_collection_text params old new office_schema office.schema_is 4 collection_table refl idle collection_terms 2 add_collection_means refl refl count h in
     let cast_is : cast_row collection_table source ≡ Null ∷ Text name ∷ [] = rw cast_null refl in
     let end = appended db collection_table source (Text name ∷ []) office.shaped.1.1.1.1.0 cast_is in
     becomes old new edit count edit.news office.shaped done _ (ap (λ rows. record (tables_of old.now) { collections = rows }) (ap (map collection_in) end ∙ map_append collection_in (db 6) _))

@@ -17,7 +17,7 @@ use Rattle.office_rows.specs.Rows.{OfficeRow, Tables, empty_office}
 use Rattle.office_tables.specs.Opening.{IsMade, IsLeft}
 use Rattle.office_tables.specs.Tables.{Becomes, tables_of, office_in}
 use Rattle.office_tables.proofs.Frames.{idle, becomes}
-use Rattle.office_tables.proofs.CreateTexts.{start_text, start_terms, start_is, start_plain}
+use Rattle.office_tables.proofs.CreateTexts.{start_text, start_terms, start_means}
 
 pub starts_office : (old new : State) (deposits holds : ℤ) (count : ℕ) → IsBlank office_schema old.now → Executes start_text (Int deposits ∷ Int holds ∷ []) old new (Ok count)
     → Becomes new.now (empty_office (pos 1) deposits holds)
@@ -27,7 +27,7 @@ starts_office old new deposits holds count blank h =
     let source : Row = Int (pos 1) ∷ Null ∷ Int (pos 1) ∷ Int deposits ∷ Int holds ∷ [] in
     let columns : Row = Null ∷ Int (pos 1) ∷ Int deposits ∷ Int holds ∷ [] in
     let edit = edit_of db office_table [] Chosen 0 (source ∷ []) in
-    let done = inserts start_text params old new office_schema blank.schema_is 0 office_table refl idle start_plain start_terms 5 start_is refl refl count h in
+    let done = inserts start_text params old new office_schema blank.schema_is 0 office_table refl idle start_terms 5 start_means refl refl count h in
     let cast_is : cast_row office_table source ≡ Int (pos 1) ∷ columns = rw (cast_null, cast_int (pos 1), cast_int deposits, cast_int holds) refl in
     let e = blank.empty in
     let alone : edited db edit ≡ (Int (pos 1) ∷ columns) ∷ [] = inserted db office_table source columns (pos 1) cast_is ∙ ap (put_row (Int (pos 1) ∷ columns)) e.0 in

@@ -1,11 +1,13 @@
 -- What the CREATE texts make, one after another, and what the first INSERT means.
-use Rattle.std.proofs.Common.{◌≡◌, inl, inr, ℕ, pos, List, [], ◌∷◌, codes, Ok, refl}
+use Rattle.std.proofs.Common.{◌≡◌, false, inl, inr, ℕ, pos, List, [], ◌∷◌, codes, Ok, refl}
 use Rattle.std.specs.Fmt.{digits}
 use Rattle.sqlite.specs.declared.types.Value.TheVariants.{Null, Int}
 use Rattle.sqlite.specs.Term.{Term, lit, col}
 use Rattle.sqlite.specs.Compile.{table_defined_by, index_defined_by}
 use Rattle.sqlite.specs.Command.TheVariants.{CreateTable, CreateIndex, Insert}
 use Rattle.sqlite.specs.Source.TheVariants.{Values}
+use Rattle.sqlite.specs.Change.{created}
+use Rattle.sqlite.specs.Does.{lacks_sequence}
 use Rattle.sqlite.specs.Table.{Table}
 use Rattle.sqlite.specs.Schema.{Schema}
 use Rattle.sqlite.specs.Listing.{understood}
@@ -13,11 +15,15 @@ use Rattle.sqlite.proofs.Callers.{IsPlain, command_of, statement_of}
 use Rattle.sqlite_tied.specs.Compute.{everything}
 use Rattle.sqlite_schema.specs.Names.{same_name}
 use Rattle.sql_meaning.specs.Making.{MakesTable, MakesIndex, Builds}
+use Rattle.sql_meaning.proofs.Writing.{Means}
 use Rattle.office_tables.specs.Schema.{office_schema, no_schema, stage, office_table, caller_table, rule_table, class_table, collection_table, deposit_table, file_table, hold_table, plain_index}
 
 -- what the text is, under the schema of the moment
 abbrev Meant : Schema → List ℕ → Table → Type 0
 Meant schema text table = (table_defined_by text ≡ Ok table) × (command_of (understood schema text) ≡ CreateTable) × (statement_of text (understood schema text) ≡ text) × IsPlain (understood schema text)
+
+made : (schema after : Schema) (text : List ℕ) (table : Table) → Meant schema text table → created schema table ≡ after → lacks_sequence after ≡ false → MakesTable schema text after
+made schema after text table meant is uncounted = record { command = meant.1; statement = meant.2; plain = meant.3; table = table; defined = meant.0; is = is; uncounted = uncounted }
 
 abbrev pub office_text : List ℕ
 office_text = codes "CREATE TABLE office (id INTEGER PRIMARY KEY, version INTEGER NOT NULL, max_deposits INTEGER NOT NULL, max_holds INTEGER NOT NULL) STRICT"
@@ -28,7 +34,7 @@ office_meant = (refl, refl, refl, (refl, refl))
 
 office_made : MakesTable (stage 0 0) office_text (stage 1 0)
 unfolding digits same_name
-office_made = record { command = office_meant.1; statement = office_meant.2; plain = office_meant.3; table = record office_table { tree = 0 }; defined = office_meant.0; is = refl; uncounted = refl }
+office_made = made (stage 0 0) (stage 1 0) office_text (record office_table { tree = 0 }) office_meant refl refl
 
 abbrev pub caller_text : List ℕ
 caller_text = codes "CREATE TABLE caller (name TEXT NOT NULL PRIMARY KEY, role TEXT NOT NULL) STRICT"
@@ -39,7 +45,7 @@ caller_meant = (refl, refl, refl, (refl, refl))
 
 caller_made : MakesTable (stage 1 0) caller_text (stage 2 1)
 unfolding digits same_name
-caller_made = record { command = caller_meant.1; statement = caller_meant.2; plain = caller_meant.3; table = record caller_table { tree = 0 }; defined = caller_meant.0; is = refl; uncounted = refl }
+caller_made = made (stage 1 0) (stage 2 1) caller_text (record caller_table { tree = 0 }) caller_meant refl refl
 
 abbrev pub rule_text : List ℕ
 rule_text = codes "CREATE TABLE rule (place INTEGER PRIMARY KEY, effect INTEGER NOT NULL, role TEXT NOT NULL, action TEXT NOT NULL, collection TEXT NOT NULL, class TEXT NOT NULL) STRICT"
@@ -50,7 +56,7 @@ rule_meant = (refl, refl, refl, (refl, refl))
 
 rule_made : MakesTable (stage 2 1) rule_text (stage 3 1)
 unfolding digits same_name
-rule_made = record { command = rule_meant.1; statement = rule_meant.2; plain = rule_meant.3; table = record rule_table { tree = 0 }; defined = rule_meant.0; is = refl; uncounted = refl }
+rule_made = made (stage 2 1) (stage 3 1) rule_text (record rule_table { tree = 0 }) rule_meant refl refl
 
 abbrev pub class_text : List ℕ
 class_text = codes "CREATE TABLE class (name TEXT NOT NULL PRIMARY KEY, years INTEGER NOT NULL) STRICT"
@@ -61,7 +67,7 @@ class_meant = (refl, refl, refl, (refl, refl))
 
 class_made : MakesTable (stage 3 1) class_text (stage 4 2)
 unfolding digits same_name
-class_made = record { command = class_meant.1; statement = class_meant.2; plain = class_meant.3; table = record class_table { tree = 0 }; defined = class_meant.0; is = refl; uncounted = refl }
+class_made = made (stage 3 1) (stage 4 2) class_text (record class_table { tree = 0 }) class_meant refl refl
 
 abbrev pub collection_text : List ℕ
 collection_text = codes "CREATE TABLE collection (name TEXT NOT NULL PRIMARY KEY) STRICT"
@@ -72,7 +78,7 @@ collection_meant = (refl, refl, refl, (refl, refl))
 
 collection_made : MakesTable (stage 4 2) collection_text (stage 5 3)
 unfolding digits same_name
-collection_made = record { command = collection_meant.1; statement = collection_meant.2; plain = collection_meant.3; table = record collection_table { tree = 0 }; defined = collection_meant.0; is = refl; uncounted = refl }
+collection_made = made (stage 4 2) (stage 5 3) collection_text (record collection_table { tree = 0 }) collection_meant refl refl
 
 abbrev pub deposit_text : List ℕ
 deposit_text = codes "CREATE TABLE deposit (number INTEGER PRIMARY KEY, accession TEXT NOT NULL UNIQUE, collection TEXT NOT NULL REFERENCES collection (name), class TEXT NOT NULL REFERENCES class (name), closed INTEGER NOT NULL, deposited INTEGER NOT NULL, files INTEGER NOT NULL, bytes INTEGER NOT NULL, gone INTEGER) STRICT"
@@ -83,7 +89,7 @@ deposit_meant = (refl, refl, refl, (refl, refl))
 
 deposit_made : MakesTable (stage 5 3) deposit_text (stage 6 4)
 unfolding digits same_name
-deposit_made = record { command = deposit_meant.1; statement = deposit_meant.2; plain = deposit_meant.3; table = record deposit_table { tree = 0 }; defined = deposit_meant.0; is = refl; uncounted = refl }
+deposit_made = made (stage 5 3) (stage 6 4) deposit_text (record deposit_table { tree = 0 }) deposit_meant refl refl
 
 abbrev pub file_text : List ℕ
 file_text = codes "CREATE TABLE file (deposit INTEGER NOT NULL, path TEXT NOT NULL, content BLOB NOT NULL, PRIMARY KEY (deposit, path)) STRICT"
@@ -94,7 +100,7 @@ file_meant = (refl, refl, refl, (refl, refl))
 
 file_made : MakesTable (stage 6 4) file_text (stage 7 5)
 unfolding digits same_name
-file_made = record { command = file_meant.1; statement = file_meant.2; plain = file_meant.3; table = record file_table { tree = 0 }; defined = file_meant.0; is = refl; uncounted = refl }
+file_made = made (stage 6 4) (stage 7 5) file_text (record file_table { tree = 0 }) file_meant refl refl
 
 abbrev pub hold_text : List ℕ
 hold_text = codes "CREATE TABLE hold (number INTEGER PRIMARY KEY, deposit INTEGER, collection TEXT, matter TEXT NOT NULL, placed INTEGER NOT NULL, released INTEGER) STRICT"
@@ -105,7 +111,7 @@ hold_meant = (refl, refl, refl, (refl, refl))
 
 hold_made : MakesTable (stage 7 5) hold_text (stage 8 5)
 unfolding digits same_name
-hold_made = record { command = hold_meant.1; statement = hold_meant.2; plain = hold_meant.3; table = record hold_table { tree = 0 }; defined = hold_meant.0; is = refl; uncounted = refl }
+hold_made = made (stage 7 5) (stage 8 5) hold_text (record hold_table { tree = 0 }) hold_meant refl refl
 
 abbrev pub hold_deposit_text : List ℕ
 hold_deposit_text = codes "CREATE INDEX hold_deposit ON hold (deposit)"
@@ -146,10 +152,6 @@ start_text = codes "INSERT INTO office (id, version, max_deposits, max_holds) VA
 abbrev pub start_terms : List Term
 start_terms = lit (Int (pos 1)) ∷ lit Null ∷ lit (Int (pos 1)) ∷ col 0 0 ∷ col 0 1 ∷ []
 
-pub start_is : command_of (understood office_schema start_text) ≡ Insert 0 (Values start_terms 5)
+pub start_means : Means office_schema start_text (Insert 0 (Values start_terms 5))
 unfolding understood everything
-start_is = refl
-
-pub start_plain : IsPlain (understood office_schema start_text)
-unfolding understood everything
-start_plain = (refl, refl)
+start_means = record { is = refl; plain = (refl, refl) }

@@ -31,7 +31,7 @@ use Rattle.office_tables.proofs.InOrder.{placed}
 use Rattle.office_tables.proofs.ClassLemmas.{IsClassRow, class_rows}
 use Rattle.office_tables.proofs.CollectionLemmas.{collection_rows}
 use Rattle.office_tables.proofs.DepositLemmas.{accessions}
-use Rattle.office_tables.proofs.DepositTexts.{put_text, put_terms, put_is, put_plain}
+use Rattle.office_tables.proofs.DepositTexts.{put_text, put_terms, put_means}
 
 abbrev pub params_of : DepositRow → Row
 params_of d = Int d.number ∷ Text d.accession ∷ Text d.collection ∷ Text d.class ∷ Int d.closed ∷ Int d.deposited ∷ Int d.files ∷ Int d.bytes ∷ []
@@ -47,7 +47,7 @@ module _ (old new : State) (d : DepositRow) (kept : d.gone ≡ None) (count : �
   edit = edit_of old.now.trees deposit_table [] Chosen 0 (row ∷ [])
 
   change : Changes office_schema old new edit count edit.news
-  change = inserts put_text (params_of d) old new office_schema office.schema_is 5 deposit_table refl idle put_plain put_terms 10 put_is refl refl count h
+  change = inserts put_text (params_of d) old new office_schema office.schema_is 5 deposit_table refl idle put_terms 10 put_means refl refl count h
 
   cast_is : cast_row deposit_table row ≡ row
   cast_is = rw (cast_null, cast_int d.number, cast_int d.closed, cast_int d.deposited, cast_int d.files, cast_int d.bytes) refl

@@ -19,21 +19,21 @@ use Rattle.sqlite_value.proofs.OrderLemmas.{value_cmp-Int}
 use Rattle.sqlite_keyed.proofs.ListLemmas.{ascending_weaker, map-map}
 use Rattle.sqlite_schema.specs.declared.schema.Constraint.TheVariants.{Datatype, NotNull, Unique}
 use Rattle.sql_meaning.specs.Columns.{int_at, bytes_at}
-use Rattle.sql_meaning.proofs.Writing.{inserts, updates}
 use Rattle.sql_meaning.proofs.Scanning.{scan, as_program, shown_of, scanned, answers_one, finds_one}
 use Rattle.sql_meaning.proofs.Reading.{reads_same, reads_one, reads_rising}
 use Rattle.sql_meaning.proofs.TextKeys.{has_text, by_text, each_passes, few_named}
 use Rattle.sql_meaning.proofs.RowidKeys.{by_number, has_number, each_numbered, few_numbered}
 use Rattle.sql_meaning.proofs.Typed.{text_at, int_in, all_both}
-use Rattle.sql_meaning.proofs.Edits.{kept_all, inserted, put_last, updated, decoded, cast_null, cast_int, map_append}
+use Rattle.sql_meaning.proofs.Edits.{kept_all, decoded, cast_null, cast_int, map_append}
 use Rattle.sql_meaning.proofs.Whole.{keeps_rule}
+use Rattle.sql_meaning.proofs.Changing.{revises}
 use Rattle.office_tables.specs.Schema.{office_schema, deposit_table, needed}
 use Rattle.office_rows.specs.Rows.{DepositRow, is_deposit, deposit_numbered, has_accession, deposit_by, last_number, DepositsBelow, with_deposit, with_gone}
 use Rattle.office_tables.specs.Tables.{IsOffice, Becomes, tables_of, deposit_in}
 use Rattle.office_tables.specs.Deposits.{shown_deposit}
 use Rattle.office_tables.proofs.Frames.{idle, becomes}
 use Rattle.office_tables.proofs.LastRow.{reads_last}
-use Rattle.office_tables.proofs.DepositTexts.{deposit_text, accession_text, deposits_text, last_text, asks_last, deposit_columns, rising, asks_deposit, asks_accession, asks_deposits, put_text, put_terms, put_is, put_plain, gone_text, gone_columns, gone_is, gone_plain}
+use Rattle.office_tables.proofs.DepositTexts.{deposit_text, accession_text, deposits_text, last_text, asks_last, deposit_columns, rising, asks_deposit, asks_accession, asks_deposits, put_text, put_terms, put_means, gone_text, gone_columns, gone_means}
 
 -- a stored deposit, as the rules of its table leave it
 abbrev IsDepositRow : Row → Type 0
@@ -119,17 +119,11 @@ cast_gone n day r it whole =
 pub marks_gone : (old new : State) (n day : ℤ) (count : ℕ) → IsOffice old.now → Executes gone_text (Int n ∷ Int day ∷ []) old new (Ok count)
     → Becomes new.now (with_gone n day (tables_of old.now))
 marks_gone old new n day count office h =
-    let params : Row = Int n ∷ Int day ∷ [] in
     let db = old.now.trees in
-    let done = updates gone_text params old new office_schema office.schema_is 5 deposit_table refl idle gone_plain (as_program (scan 8 by_number gone_columns [])) gone_is count h in
-    let answer = done.0 in
-    let edit = edit_of db deposit_table (ids_of answer) Given 1 answer in
     let shaped = office.shaped.1.1.1.1.1.0 in
-    let typed = deposit_rows old.now office in
-    let keep = has_number n in
-    let set : Row → Row = set_gone day in
-    let found = scanned db params 8 by_number gone_columns [] answer done.1.answer in
-    let is = answers_one db params 8 by_number gone_columns [] answer keep found (each_numbered n (Int day ∷ []) (db 8) shaped) (few_numbered n (db 8) shaped) in
-    let made = updated db deposit_table answer keep (shown_of params gone_columns) set shaped (few_numbered n (db 8) shaped) is
-    (λ r there. (refl, cast_gone n day r (all_has IsDepositRow (db 8) r typed there) (all_has _ (db 8) r shaped.1 there), refl)) in
-    becomes old new edit count edit.news office.shaped done.2 _ (ap (λ rows. record (tables_of old.now) { deposits = rows }) (ap (map deposit_in) made ∙ decoded deposit_in keep set (is_deposit n) (λ d. record d { gone = Some day }) (λ r. refl) (λ r. refl) (db 8)))
+    let done = revises gone_text (Int n ∷ Int day ∷ []) old new office_schema office.schema_is 5 deposit_table refl idle shaped by_number gone_columns
+    (has_number n) (each_numbered n (Int day ∷ []) (db 8) shaped) gone_means (set_gone day) (few_numbered n (db 8) shaped)
+    (λ r there. (refl, cast_gone n day r (all_has IsDepositRow (db 8) r (deposit_rows old.now office) there) (all_has _ (db 8) r shaped.1 there), refl)) count h in
+    let edit = edit_of db deposit_table (ids_of done.answer) Given 1 done.answer in
+    let gone_is = decoded deposit_in (has_number n) (set_gone day) (is_deposit n) (λ d. record d { gone = Some day }) (λ r. refl) (λ r. refl) (db 8) in
+    becomes old new edit count edit.news office.shaped done.change _ (ap (λ rows. record (tables_of old.now) { deposits = rows }) (ap (map deposit_in) done.made ∙ gone_is))

@@ -13,6 +13,7 @@ use Rattle.sql_meaning.proofs.Scanning.{scan, as_program}
 use Rattle.sql_meaning.proofs.Reading.{Asks}
 use Rattle.sql_meaning.proofs.RowidKeys.{by_number}
 use Rattle.sql_meaning.proofs.TextKeys.{by_text}
+use Rattle.sql_meaning.proofs.Writing.{Means}
 use Rattle.office_tables.specs.Schema.{office_schema}
 use Rattle.office_tables.proofs.LastRow.{AsksLast}
 
@@ -56,13 +57,9 @@ put_text = codes "INSERT INTO deposit (number, accession, collection, class, clo
 abbrev pub put_terms : List Term
 put_terms = col 0 0 ∷ lit Null ∷ col 0 1 ∷ col 0 2 ∷ col 0 3 ∷ col 0 4 ∷ col 0 5 ∷ col 0 6 ∷ col 0 7 ∷ lit Null ∷ []
 
-pub put_is : command_of (understood office_schema put_text) ≡ Insert 5 (Values put_terms 10)
+pub put_means : Means office_schema put_text (Insert 5 (Values put_terms 10))
 unfolding understood everything
-put_is = refl
-
-pub put_plain : IsPlain (understood office_schema put_text)
-unfolding understood everything
-put_plain = (refl, refl)
+put_means = record { is = refl; plain = (refl, refl) }
 
 abbrev pub gone_text : List ℕ
 gone_text = codes "UPDATE deposit SET gone = ?2 WHERE number = ?1"
@@ -70,13 +67,9 @@ gone_text = codes "UPDATE deposit SET gone = ?2 WHERE number = ?1"
 abbrev pub gone_columns : List Term
 gone_columns = col 1 0 ∷ col 1 0 ∷ lit Null ∷ col 1 2 ∷ col 1 3 ∷ col 1 4 ∷ col 1 5 ∷ col 1 6 ∷ col 1 7 ∷ col 1 8 ∷ col 0 1 ∷ []
 
-pub gone_is : command_of (understood office_schema gone_text) ≡ Update 5 (as_program (scan 8 by_number gone_columns []))
+pub gone_means : Means office_schema gone_text (Update 5 (as_program (scan 8 by_number gone_columns [])))
 unfolding understood everything
-gone_is = refl
-
-pub gone_plain : IsPlain (understood office_schema gone_text)
-unfolding understood everything
-gone_plain = (refl, refl)
+gone_means = record { is = refl; plain = (refl, refl) }
 
 -- ---- the last number
 

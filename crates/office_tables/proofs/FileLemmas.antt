@@ -12,7 +12,7 @@ use Rattle.std.proofs.lemmas.List.Sorted.{IsPermutation-map, All-permutation}
 use Rattle.std.proofs.lemmas.List.Elements.{recursion_from_All, All-from_recursion}
 use Rattle.sqlite.specs.declared.types.Value.TheVariants.{Null, Int, Text, Blob}
 use Rattle.sqlite.specs.Order.{Row, column, value_cmp}
-use Rattle.sqlite.specs.Edit.{edit_of, with_rowid}
+use Rattle.sqlite.specs.Edit.{Edit, edit_of, with_rowid}
 use Rattle.sqlite.specs.Rowids.TheVariants.{Chosen, Given}
 use Rattle.sqlite.specs.Cast.{cast_row}
 use Rattle.sqlite.specs.Kind.TheVariants as kind
@@ -38,20 +38,21 @@ use Rattle.sqlite_schema.specs.declared.schema.Constraint.TheVariants.{Datatype,
 use Rattle.sqlite_schema.specs.declared.schema.Keys.TheVariants.{Enforced}
 use Rattle.sqlite_schema.specs.Rules.{agree, equal}
 use Rattle.sql_meaning.specs.Columns.{int_at, bytes_at}
-use Rattle.sql_meaning.proofs.Writing.{inserts, deletes}
-use Rattle.sql_meaning.proofs.Scanning.{scan, as_program, passes, shown_of, scanned, answer_sound, answer_complete}
+use Rattle.sql_meaning.proofs.Writing.{Changes, inserts}
+use Rattle.sql_meaning.proofs.Scanning.{scan, passes, shown_of}
 use Rattle.sql_meaning.proofs.Reading.{reads_same, reads_one, reads_scan, finds_part}
 use Rattle.sql_meaning.proofs.Inserts.{none_before}
 use Rattle.sql_meaning.proofs.Keys.{found_by, bytes_itself, int_itself, filter_same, same_key, trailing, same_text, same_int, lone}
 use Rattle.sql_meaning.proofs.Typed.{text_at, int_in, all_both}
-use Rattle.sql_meaning.proofs.Edits.{appended, deleted, cast_null, cast_int, map_append}
-use Rattle.sql_meaning.proofs.Whole.{keeps_rule, whole_after}
+use Rattle.sql_meaning.proofs.Edits.{appended, cast_null, cast_int, map_append}
+use Rattle.sql_meaning.proofs.Whole.{keeps_rule}
+use Rattle.sql_meaning.proofs.Changing.{drops}
 use Rattle.office_tables.specs.Schema.{office_schema, file_table, needed}
 use Rattle.office_rows.specs.Rows.{FileRow, is_file_of, is_file_at, file_at, with_file, without_files}
 use Rattle.office_tables.specs.Tables.{IsOffice, Becomes, tables_of, file_in}
 use Rattle.office_tables.specs.Deposits.{shown_file, path_cmp, files_by_path}
 use Rattle.office_tables.proofs.Frames.{idle, becomes}
-use Rattle.office_tables.proofs.FileTexts.{by_deposit, by_place, by_path, content_text, content_column, asks_content, files_text, file_columns, asks_files, put_text, put_terms, put_is, put_plain, drop_text, rowid_column, drop_is, drop_plain}
+use Rattle.office_tables.proofs.FileTexts.{by_deposit, by_place, by_path, content_text, content_column, asks_content, files_text, file_columns, asks_files, put_text, put_terms, put_means, drop_text, rowid_column, drop_means}
 
 -- a stored file, as the rules of its table leave it
 abbrev IsFileRow : Row → Type 0
@@ -134,50 +135,43 @@ finds_content old new n path rows office h =
 
 -- ---- a new file
 
-pub puts_file : (old new : State) (n : ℤ) (path content : List ℕ) (count : ℕ) → IsOffice old.now → Executes put_text (Int n ∷ Text path ∷ Blob content ∷ []) old new (Ok count)
-    → Becomes new.now (with_file (record { deposit = n; path = path; content = content }) (tables_of old.now))
-puts_file old new n path content count office h =
-    let params : Row = Int n ∷ Text path ∷ Blob content ∷ [] in
-    let db = old.now.trees in
-    let source : Row = Null ∷ Int n ∷ Text path ∷ Blob content ∷ [] in
-    let edit = edit_of db file_table [] Chosen 0 (source ∷ []) in
-    let done = inserts put_text params old new office_schema office.schema_is 6 file_table refl idle put_plain put_terms 4 put_is refl refl count h in
-    let cast_is : cast_row file_table source ≡ Null ∷ Int n ∷ Text path ∷ Blob content ∷ [] = rw (cast_null, cast_int n) refl in
-    let end = appended db file_table source (Int n ∷ Text path ∷ Blob content ∷ []) office.shaped.1.1.1.1.1.1.0 cast_is in
-    becomes old new edit count edit.news office.shaped done _ (ap (λ rows. record (tables_of old.now) { files = rows }) (ap (map file_in) end ∙ map_append file_in (db 10) _))
+module _ (old new : State) (n : ℤ) (path content : List ℕ) (count : ℕ) (office : IsOffice old.now) (h : Executes put_text (Int n ∷ Text path ∷ Blob content ∷ []) old new (Ok count)) where
+  abbrev put_columns : Row
+  put_columns = Int n ∷ Text path ∷ Blob content ∷ []
 
--- so there was no such file
-pub path_was_new : (old new : State) (n : ℤ) (path content : List ℕ) (count : ℕ) → IsOffice old.now → Executes put_text (Int n ∷ Text path ∷ Blob content ∷ []) old new (Ok count)
-    → file_at n path (tables_of old.now).files ≡ None
-path_was_new old new n path content count office h =
-    let params : Row = Int n ∷ Text path ∷ Blob content ∷ [] in
-    let db = old.now.trees in
-    let source : Row = Null ∷ Int n ∷ Text path ∷ Blob content ∷ [] in
-    let edit = edit_of db file_table [] Chosen 0 (source ∷ []) in
-    let done = inserts put_text params old new office_schema office.schema_is 6 file_table refl idle put_plain put_terms 4 put_is refl refl count h in
-    let after : IsOffice new.now = whole_after office_schema old new edit count edit.news done office.shaped in
-    let cast_is : cast_row file_table source ≡ source = rw (cast_null, cast_int n) refl in
-    let places : has_place n path (with_rowid Chosen (db 10) source) ≡ true = ap₂ ◌&&◌ (int_itself n) (bytes_itself path) in
-    let placed : has_place n path (with_rowid Chosen (db 10) (cast_row file_table source)) ≡ true = ap (λ r. has_place n path (with_rowid Chosen (db 10) r)) cast_is ∙ places in
-    let none = none_before office_schema Enforced db new.now.trees file_table source done.applies (has_place n path) placed (one_file new.now after n path) in
-    found_by (is_file_at n path) (has_place n path) file_in (db 10) (all_from _ (db 10) (λ r there. refl)) ∙ ap (λ rs. option_map file_in (slice_get rs 0)) none
+  abbrev put_edit : Edit
+  put_edit = edit_of old.now.trees file_table [] Chosen 0 ((Null ∷ put_columns) ∷ [])
+
+  put_change : Changes office_schema old new put_edit count put_edit.news
+  put_change = inserts put_text put_columns old new office_schema office.schema_is 6 file_table refl idle put_terms 4 put_means refl refl count h
+
+  put_cast : cast_row file_table (Null ∷ put_columns) ≡ Null ∷ put_columns
+  put_cast = rw (cast_null, cast_int n) refl
+
+  pub puts_file : Becomes new.now (with_file (record { deposit = n; path = path; content = content }) (tables_of old.now))
+  puts_file =
+      let end = appended old.now.trees file_table (Null ∷ put_columns) put_columns office.shaped.1.1.1.1.1.1.0 put_cast in
+      becomes old new put_edit count put_edit.news office.shaped put_change _ (ap (λ rows. record (tables_of old.now) { files = rows }) (ap (map file_in) end ∙ map_append file_in (old.now.trees 10) _))
+
+  -- so there was no such file
+  pub path_was_new : file_at n path (tables_of old.now).files ≡ None
+  path_was_new =
+      let stored = old.now.trees 10 in
+      let places : has_place n path (with_rowid Chosen stored (Null ∷ put_columns)) ≡ true = ap₂ ◌&&◌ (int_itself n) (bytes_itself path) in
+      let placed : has_place n path (with_rowid Chosen stored (cast_row file_table (Null ∷ put_columns))) ≡ true = ap (λ r. has_place n path (with_rowid Chosen stored r)) put_cast ∙ places in
+      let none = none_before office_schema Enforced old.now.trees new.now.trees file_table (Null ∷ put_columns) put_change.applies (has_place n path) placed (one_file new.now puts_file.office n path) in
+      found_by (is_file_at n path) (has_place n path) file_in stored (all_from _ stored (λ r there. refl)) ∙ ap (λ rs. option_map file_in (slice_get rs 0)) none
 
 -- ---- the files of a deposit are dropped
 
 pub drops_files : (old new : State) (n : ℤ) (count : ℕ) → IsOffice old.now → Executes drop_text (Int n ∷ []) old new (Ok count)
     → Becomes new.now (without_files n (tables_of old.now))
 drops_files old new n count office h =
-    let params : Row = Int n ∷ [] in
     let db = old.now.trees in
-    let done = deletes drop_text params old new office_schema office.schema_is 6 file_table refl idle drop_plain (as_program (scan 10 by_deposit rowid_column [])) drop_is count h in
-    let answer = done.0 in
-    let edit = edit_of db file_table (ids_of answer) Given 0 [] in
-    let keep = has_deposit n in
-    let each = each_of old.now office n in
-    let found = scanned db params 10 by_deposit rowid_column [] answer done.1.answer in
-    let made = deleted db file_table answer keep (shown_of params rowid_column) office.shaped.1.1.1.1.1.1.0 (λ r. refl)
-    (answer_sound db params 10 by_deposit rowid_column [] answer keep found each) (answer_complete db params 10 by_deposit rowid_column [] answer keep found each) in
-    becomes old new edit count _ office.shaped done.2 _ (ap (λ rows. record (tables_of old.now) { files = rows }) (ap (map file_in) made ∙ sym (filter-map (λ f. not (is_file_of n f)) file_in (db 10))))
+    let done = drops drop_text (Int n ∷ []) old new office_schema office.schema_is 6 file_table refl idle office.shaped.1.1.1.1.1.1.0 by_deposit rowid_column
+    (has_deposit n) (each_of old.now office n) drop_means (λ r. refl) count h in
+    let others_stay = sym (filter-map (λ f. not (is_file_of n f)) file_in (db 10)) in
+    becomes old new (edit_of db file_table (ids_of done.answer) Given 0 []) count _ office.shaped done.change _ (ap (λ rows. record (tables_of old.now) { files = rows }) (ap (map file_in) done.made ∙ others_stay))
 
 -- ---- the files of a deposit, by path
 

@@ -13,6 +13,7 @@ use Rattle.sqlite_sql.specs.declared.ops.CompareOp.TheVariants.{Eq}
 use Rattle.sqlite_value.specs.declared.keys.Key.{Key}
 use Rattle.sql_meaning.proofs.Scanning.{scan, as_program}
 use Rattle.sql_meaning.proofs.Reading.{Asks}
+use Rattle.sql_meaning.proofs.Writing.{Means}
 use Rattle.office_tables.specs.Schema.{office_schema}
 
 -- ---- reads
@@ -56,13 +57,9 @@ put_text = codes "INSERT INTO file (deposit, path, content) VALUES (?1, ?2, ?3)"
 abbrev pub put_terms : List Term
 put_terms = lit Null ∷ col 0 0 ∷ col 0 1 ∷ col 0 2 ∷ []
 
-pub put_is : command_of (understood office_schema put_text) ≡ Insert 6 (Values put_terms 4)
+pub put_means : Means office_schema put_text (Insert 6 (Values put_terms 4))
 unfolding understood everything
-put_is = refl
-
-pub put_plain : IsPlain (understood office_schema put_text)
-unfolding understood everything
-put_plain = (refl, refl)
+put_means = record { is = refl; plain = (refl, refl) }
 
 abbrev pub drop_text : List ℕ
 drop_text = codes "DELETE FROM file WHERE deposit = ?1"
@@ -70,10 +67,6 @@ drop_text = codes "DELETE FROM file WHERE deposit = ?1"
 abbrev pub rowid_column : List Term
 rowid_column = col 1 0 ∷ []
 
-pub drop_is : command_of (understood office_schema drop_text) ≡ Delete 6 (as_program (scan 10 by_deposit rowid_column []))
+pub drop_means : Means office_schema drop_text (Delete 6 (as_program (scan 10 by_deposit rowid_column [])))
 unfolding understood everything
-drop_is = refl
-
-pub drop_plain : IsPlain (understood office_schema drop_text)
-unfolding understood everything
-drop_plain = (refl, refl)
+drop_means = record { is = refl; plain = (refl, refl) }

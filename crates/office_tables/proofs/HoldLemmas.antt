@@ -35,15 +35,16 @@ use Rattle.sqlite_rules.proofs.ListLemmas.{all_has, all_from}
 use Rattle.sqlite_rules.proofs.TableLemmas.{int_is}
 use Rattle.sqlite_trees.specs.View.{is_int}
 use Rattle.sql_meaning.specs.Columns.{int_at, bytes_at, maybe_int, maybe_bytes, maybe_int_at, maybe_bytes_at}
-use Rattle.sql_meaning.proofs.Writing.{Changes, inserts, updates}
+use Rattle.sql_meaning.proofs.Writing.{Changes, inserts}
 use Rattle.sql_meaning.proofs.Inserts.{none_before}
 use Rattle.sqlite_schema.specs.declared.schema.Keys.TheVariants.{Enforced}
 use Rattle.sql_meaning.proofs.Scanning.{scan, as_program, passes, shown_of, scanned, answers_one, finds_one}
 use Rattle.sql_meaning.proofs.Reading.{Asks, reads_same, reads_one, reads_rising}
 use Rattle.sql_meaning.proofs.RowidKeys.{by_number, has_number, each_numbered, few_numbered, one_numbered}
 use Rattle.sql_meaning.proofs.Typed.{text_at, int_in, maybe_int_at as some_int_at, maybe_text_at as some_text_at, all_both}
-use Rattle.sql_meaning.proofs.Edits.{updated, decoded, cast_null, cast_int, map_append}
+use Rattle.sql_meaning.proofs.Edits.{decoded, cast_null, cast_int, map_append}
 use Rattle.sql_meaning.proofs.Whole.{keeps_rule}
+use Rattle.sql_meaning.proofs.Changing.{revises}
 use Rattle.office_tables.specs.Schema.{office_schema, hold_table, needed, optional}
 use Rattle.office_rows.specs.Rows.{HoldRow, put_by, is_hold, hold_numbered, last_number, with_hold, with_released, is_live, holds_deposit, holds_collection, is_live_on, is_live_within, is_live_over, live_holds}
 use Rattle.office_tables.specs.Tables.{IsOffice, Becomes, tables_of, hold_in}
@@ -51,7 +52,7 @@ use Rattle.office_tables.specs.ShownHolds.{shown_hold}
 use Rattle.office_tables.proofs.Frames.{idle, becomes}
 use Rattle.office_tables.proofs.InOrder.{placed}
 use Rattle.office_tables.proofs.LastRow.{reads_last}
-use Rattle.office_tables.proofs.HoldTexts.{hold_text, hold_columns, asks_hold, last_text, asks_last, put_text, hold_terms, put_is, put_plain, end_text, ended_columns, end_is, end_plain, number_column, rising, on_text, on, asks_on, within_text, within, asks_within}
+use Rattle.office_tables.proofs.HoldTexts.{hold_text, hold_columns, asks_hold, last_text, asks_last, put_text, hold_terms, put_means, end_text, ended_columns, end_means, number_column, rising, on_text, on, asks_on, within_text, within, asks_within}
 
 -- ---- reads
 
@@ -113,7 +114,7 @@ module _ (old new : State) (hold : HoldRow) (live : hold.released ≡ None) (cou
   put_edit = edit_of old.now.trees hold_table [] Chosen 0 (put_hold ∷ [])
 
   put_change : Changes office_schema old new put_edit count put_edit.news
-  put_change = inserts put_text (params_of hold) old new office_schema office.schema_is 7 hold_table refl idle put_plain hold_terms 7 put_is refl refl count h
+  put_change = inserts put_text (params_of hold) old new office_schema office.schema_is 7 hold_table refl idle hold_terms 7 put_means refl refl count h
 
   put_cast : cast_row hold_table put_hold ≡ put_hold
   put_cast = rw (cast_null, cast_int hold.number, cast_maybe hold.deposit, cast_text hold.collection, cast_int hold.placed) refl
@@ -168,20 +169,14 @@ cast_ended day r it whole =
 pub ends_hold : (old new : State) (k day : ℤ) (count : ℕ) → IsOffice old.now → Executes end_text (Int k ∷ Int day ∷ []) old new (Ok count)
     → Becomes new.now (with_released k day (tables_of old.now))
 ends_hold old new k day count office h =
-    let params : Row = Int k ∷ Int day ∷ [] in
     let db = old.now.trees in
-    let done = updates end_text params old new office_schema office.schema_is 7 hold_table refl idle end_plain (as_program (scan 12 by_number ended_columns [])) end_is count h in
-    let answer = done.0 in
-    let edit = edit_of db hold_table (ids_of answer) Given 1 answer in
     let shaped = office.shaped.1.1.1.1.1.1.1.0 in
-    let typed = hold_rows old.now office in
-    let keep = has_number k in
-    let few = few_numbered k (db 12) shaped in
-    let found = scanned db params 12 by_number ended_columns [] answer done.1.answer in
-    let is = answers_one db params 12 by_number ended_columns [] answer keep found (each_numbered k (Int day ∷ []) (db 12) shaped) few in
-    let made = updated db hold_table answer keep (shown_of params ended_columns) (ended day) shaped few is
-    (λ r there. (refl, cast_ended day r (all_has IsStoredHold (db 12) r typed there) (all_has _ (db 12) r shaped.1 there), refl)) in
-    becomes old new edit count edit.news office.shaped done.2 _ (ap (λ rows. record (tables_of old.now) { holds = rows }) (ap (map hold_in) made ∙ decoded hold_in keep (ended day) (is_hold k) (λ h. record h { released = Some day }) (λ r. refl) (λ r. refl) (db 12)))
+    let done = revises end_text (Int k ∷ Int day ∷ []) old new office_schema office.schema_is 7 hold_table refl idle shaped by_number ended_columns
+    (has_number k) (each_numbered k (Int day ∷ []) (db 12) shaped) end_means (ended day) (few_numbered k (db 12) shaped)
+    (λ r there. (refl, cast_ended day r (all_has IsStoredHold (db 12) r (hold_rows old.now office) there) (all_has _ (db 12) r shaped.1 there), refl)) count h in
+    let edit = edit_of db hold_table (ids_of done.answer) Given 1 done.answer in
+    let ended_is = decoded hold_in (has_number k) (ended day) (is_hold k) (λ h. record h { released = Some day }) (λ r. refl) (λ r. refl) (db 12) in
+    becomes old new edit count edit.news office.shaped done.change _ (ap (λ rows. record (tables_of old.now) { holds = rows }) (ap (map hold_in) done.made ∙ ended_is))
 
 -- ---- the live holds
 

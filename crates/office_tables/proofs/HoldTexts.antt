@@ -15,6 +15,7 @@ use Rattle.sqlite_value.specs.declared.keys.Key.{Key}
 use Rattle.sql_meaning.proofs.Scanning.{scan, as_program}
 use Rattle.sql_meaning.proofs.Reading.{Asks}
 use Rattle.sql_meaning.proofs.RowidKeys.{by_number}
+use Rattle.sql_meaning.proofs.Writing.{Means}
 use Rattle.office_tables.specs.Schema.{office_schema}
 use Rattle.office_tables.proofs.LastRow.{AsksLast}
 
@@ -46,13 +47,9 @@ put_text = codes "INSERT INTO hold (number, deposit, collection, matter, placed)
 abbrev pub hold_terms : List Term
 hold_terms = col 0 0 ∷ lit Null ∷ col 0 1 ∷ col 0 2 ∷ col 0 3 ∷ col 0 4 ∷ lit Null ∷ []
 
-pub put_is : command_of (understood office_schema put_text) ≡ Insert 7 (Values hold_terms 7)
+pub put_means : Means office_schema put_text (Insert 7 (Values hold_terms 7))
 unfolding understood everything
-put_is = refl
-
-pub put_plain : IsPlain (understood office_schema put_text)
-unfolding understood everything
-put_plain = (refl, refl)
+put_means = record { is = refl; plain = (refl, refl) }
 
 abbrev pub end_text : List ℕ
 end_text = codes "UPDATE hold SET released = ?2 WHERE number = ?1"
@@ -60,13 +57,9 @@ end_text = codes "UPDATE hold SET released = ?2 WHERE number = ?1"
 abbrev pub ended_columns : List Term
 ended_columns = col 1 0 ∷ col 1 0 ∷ lit Null ∷ col 1 2 ∷ col 1 3 ∷ col 1 4 ∷ col 1 5 ∷ col 0 1 ∷ []
 
-pub end_is : command_of (understood office_schema end_text) ≡ Update 7 (as_program (scan 12 by_number ended_columns []))
+pub end_means : Means office_schema end_text (Update 7 (as_program (scan 12 by_number ended_columns [])))
 unfolding understood everything
-end_is = refl
-
-pub end_plain : IsPlain (understood office_schema end_text)
-unfolding understood everything
-end_plain = (refl, refl)
+end_means = record { is = refl; plain = (refl, refl) }
 
 -- ---- the live holds on a deposit, and those on a collection
 

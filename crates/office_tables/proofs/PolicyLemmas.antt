@@ -22,21 +22,22 @@ use Rattle.sqlite_rules.proofs.TableLemmas.{int_is}
 use Rattle.sqlite_trees.specs.View.{is_int}
 use Rattle.sqlite_keyed.proofs.ListLemmas.{ascending_weaker, map-map, all-append}
 use Rattle.sql_meaning.specs.Columns.{int_at, bytes_at}
-use Rattle.sql_meaning.proofs.Writing.{inserts, deletes}
-use Rattle.sql_meaning.proofs.Scanning.{scan, as_program, shown_of, scanned, answer_sound, answer_complete}
+use Rattle.sql_meaning.proofs.Writing.{inserts}
+use Rattle.sql_meaning.proofs.Scanning.{shown_of}
 use Rattle.sql_meaning.proofs.Reading.{reads_same, reads_one, reads_rising, finds_part}
 use Rattle.sql_meaning.proofs.Keys.{none_pass}
 use Rattle.sql_meaning.proofs.TextKeys.{has_text, by_text, each_passes, few_named}
 use Rattle.sql_meaning.proofs.Typed.{text_at, all_both}
-use Rattle.sql_meaning.proofs.Edits.{appended, deleted, kept_all, cast_null, cast_int, map_append}
+use Rattle.sql_meaning.proofs.Edits.{appended, kept_all, cast_null, cast_int, map_append}
 use Rattle.sql_meaning.proofs.Whole.{keeps_rule}
+use Rattle.sql_meaning.proofs.Changing.{drops}
 use Rattle.office_tables.specs.Schema.{office_schema, caller_table, rule_table, needed}
 use Rattle.office_rows.specs.Rows.{Tables, CallerRow, RuleRow, is_caller, caller_named, with_caller, with_rule, with_callers, with_rules, without_callers, without_rules, with_policy}
 use Rattle.office_tables.specs.Tables.{IsOffice, Becomes, tables_of, caller_in, rule_in}
 use Rattle.office_tables.specs.ShownPolicy.{shown_rule}
 use Rattle.office_tables.proofs.Frames.{idle, becomes}
 use Rattle.office_tables.proofs.InOrder.{placed}
-use Rattle.office_tables.proofs.PolicyTexts.{role_text, role_columns, asks_role, rules_text, rule_columns, rising, asks_rules, drop_callers_text, drop_callers_is, drop_callers_plain, drop_rules_text, drop_rules_is, drop_rules_plain, add_caller_text, caller_terms, add_caller_is, add_caller_plain, add_rule_text, rule_terms, add_rule_is, add_rule_plain}
+use Rattle.office_tables.proofs.PolicyTexts.{role_text, role_columns, asks_role, rules_text, rule_columns, rising, asks_rules, drop_callers_text, drop_callers_means, drop_rules_text, drop_rules_means, add_caller_text, caller_terms, add_caller_means, add_rule_text, rule_terms, add_rule_means}
 
 -- what is known of the callers: each name is a text, and at most one caller has it
 module _ (db : Database) (office : IsOffice db) (name : List ℕ) where
@@ -77,26 +78,14 @@ lists_rules old new rows office h =
 pub drops_callers : (old new : State) (count : ℕ) → IsOffice old.now → Executes drop_callers_text [] old new (Ok count) → Becomes new.now (without_callers (tables_of old.now))
 drops_callers old new count office h =
     let db = old.now.trees in
-    let done = deletes drop_callers_text [] old new office_schema office.schema_is 1 caller_table refl idle drop_callers_plain (as_program (scan 1 [] (col 1 0 ∷ []) [])) drop_callers_is count h in
-    let answer = done.0 in
-    let edit = edit_of db caller_table (ids_of answer) Given 0 [] in
-    let each = all_from (λ r. true ≡ true) (db 1) (λ r there. refl) in
-    let found = scanned db [] 1 [] (col 1 0 ∷ []) [] answer done.1.answer in
-    let made = deleted db caller_table answer (λ r. true) (shown_of [] (col 1 0 ∷ [])) office.shaped.1.0 (λ r. refl)
-    (answer_sound db [] 1 [] (col 1 0 ∷ []) [] answer (λ r. true) found each) (answer_complete db [] 1 [] (col 1 0 ∷ []) [] answer (λ r. true) found each) in
-    becomes old new edit count _ office.shaped done.2 _ (ap (λ rows. record (tables_of old.now) { callers = rows }) (ap (map caller_in) (made ∙ none_pass (λ r. false) (db 1) (λ r there. refl))))
+    let done = drops drop_callers_text [] old new office_schema office.schema_is 1 caller_table refl idle office.shaped.1.0 [] (col 1 0 ∷ []) (λ r. true) (all_from (λ r. true ≡ true) (db 1) (λ r there. refl)) drop_callers_means (λ r. refl) count h in
+    becomes old new (edit_of db caller_table (ids_of done.answer) Given 0 []) count _ office.shaped done.change _ (ap (λ rows. record (tables_of old.now) { callers = rows }) (ap (map caller_in) (done.made ∙ none_pass (λ r. false) (db 1) (λ r there. refl))))
 
 pub drops_rules : (old new : State) (count : ℕ) → IsOffice old.now → Executes drop_rules_text [] old new (Ok count) → Becomes new.now (without_rules (tables_of old.now))
 drops_rules old new count office h =
     let db = old.now.trees in
-    let done = deletes drop_rules_text [] old new office_schema office.schema_is 2 rule_table refl idle drop_rules_plain (as_program (scan 3 [] (col 1 0 ∷ []) [])) drop_rules_is count h in
-    let answer = done.0 in
-    let edit = edit_of db rule_table (ids_of answer) Given 0 [] in
-    let each = all_from (λ r. true ≡ true) (db 3) (λ r there. refl) in
-    let found = scanned db [] 3 [] (col 1 0 ∷ []) [] answer done.1.answer in
-    let made = deleted db rule_table answer (λ r. true) (shown_of [] (col 1 0 ∷ [])) office.shaped.1.1.0 (λ r. refl)
-    (answer_sound db [] 3 [] (col 1 0 ∷ []) [] answer (λ r. true) found each) (answer_complete db [] 3 [] (col 1 0 ∷ []) [] answer (λ r. true) found each) in
-    becomes old new edit count _ office.shaped done.2 _ (ap (λ rows. record (tables_of old.now) { rules = rows }) (ap (map rule_in) (made ∙ none_pass (λ r. false) (db 3) (λ r there. refl))))
+    let done = drops drop_rules_text [] old new office_schema office.schema_is 2 rule_table refl idle office.shaped.1.1.0 [] (col 1 0 ∷ []) (λ r. true) (all_from (λ r. true ≡ true) (db 3) (λ r there. refl)) drop_rules_means (λ r. refl) count h in
+    becomes old new (edit_of db rule_table (ids_of done.answer) Given 0 []) count _ office.shaped done.change _ (ap (λ rows. record (tables_of old.now) { rules = rows }) (ap (map rule_in) (done.made ∙ none_pass (λ r. false) (db 3) (λ r there. refl))))
 
 -- ---- the new rows
 
@@ -106,7 +95,7 @@ adds_caller old new caller count office h =
     let db = old.now.trees in
     let source : Row = Null ∷ Text caller.name ∷ Text caller.role ∷ [] in
     let edit = edit_of db caller_table [] Chosen 0 (source ∷ []) in
-    let done = inserts add_caller_text (Text caller.name ∷ Text caller.role ∷ []) old new office_schema office.schema_is 1 caller_table refl idle add_caller_plain caller_terms 3 add_caller_is refl refl count h in
+    let done = inserts add_caller_text (Text caller.name ∷ Text caller.role ∷ []) old new office_schema office.schema_is 1 caller_table refl idle caller_terms 3 add_caller_means refl refl count h in
     let cast_is : cast_row caller_table source ≡ Null ∷ Text caller.name ∷ Text caller.role ∷ [] = rw cast_null refl in
     let end = appended db caller_table source (Text caller.name ∷ Text caller.role ∷ []) office.shaped.1.0 cast_is in
     becomes old new edit count edit.news office.shaped done _ (ap (λ rows. record (tables_of old.now) { callers = rows }) (ap (map caller_in) end ∙ map_append caller_in (db 1) _))
@@ -122,7 +111,7 @@ pub adds_rule : (old new : State) (rule : RuleRow) (count : ℕ) → IsOffice ol
 adds_rule old new rule count office h =
     let row : Row = Int rule.place ∷ stored_of rule in
     let edit = edit_of old.now.trees rule_table [] Chosen 0 (row ∷ []) in
-    let done = inserts add_rule_text (params_of rule) old new office_schema office.schema_is 2 rule_table refl idle add_rule_plain rule_terms 7 add_rule_is refl refl count h in
+    let done = inserts add_rule_text (params_of rule) old new office_schema office.schema_is 2 rule_table refl idle rule_terms 7 add_rule_means refl refl count h in
     let cast_is : cast_row rule_table row ≡ row = rw (cast_null, cast_int rule.place, cast_int rule.effect) refl in
     becomes old new edit count edit.news office.shaped done _ (ap (λ rows. record (tables_of old.now) { rules = rows })
     (placed rule_in (λ (r : RuleRow). r.place) (λ r. refl) old new rule_table row (stored_of rule) rule.place count edit.news office.shaped.1.1.0 cast_is done))

@@ -12,6 +12,7 @@ use Rattle.sqlite_value.specs.declared.keys.Key.{Key}
 use Rattle.sql_meaning.proofs.Scanning.{scan, as_program}
 use Rattle.sql_meaning.proofs.Reading.{Asks}
 use Rattle.sql_meaning.proofs.TextKeys.{by_text}
+use Rattle.sql_meaning.proofs.Writing.{Means}
 use Rattle.office_tables.specs.Schema.{office_schema}
 
 abbrev pub role_text : List ℕ
@@ -46,24 +47,16 @@ asks_rules = record {
 abbrev pub drop_callers_text : List ℕ
 drop_callers_text = codes "DELETE FROM caller"
 
-pub drop_callers_is : command_of (understood office_schema drop_callers_text) ≡ Delete 1 (as_program (scan 1 [] (col 1 0 ∷ []) []))
+pub drop_callers_means : Means office_schema drop_callers_text (Delete 1 (as_program (scan 1 [] (col 1 0 ∷ []) [])))
 unfolding understood everything
-drop_callers_is = refl
-
-pub drop_callers_plain : IsPlain (understood office_schema drop_callers_text)
-unfolding understood everything
-drop_callers_plain = (refl, refl)
+drop_callers_means = record { is = refl; plain = (refl, refl) }
 
 abbrev pub drop_rules_text : List ℕ
 drop_rules_text = codes "DELETE FROM rule"
 
-pub drop_rules_is : command_of (understood office_schema drop_rules_text) ≡ Delete 2 (as_program (scan 3 [] (col 1 0 ∷ []) []))
+pub drop_rules_means : Means office_schema drop_rules_text (Delete 2 (as_program (scan 3 [] (col 1 0 ∷ []) [])))
 unfolding understood everything
-drop_rules_is = refl
-
-pub drop_rules_plain : IsPlain (understood office_schema drop_rules_text)
-unfolding understood everything
-drop_rules_plain = (refl, refl)
+drop_rules_means = record { is = refl; plain = (refl, refl) }
 
 abbrev pub add_caller_text : List ℕ
 add_caller_text = codes "INSERT INTO caller (name, role) VALUES (?1, ?2)"
@@ -71,13 +64,9 @@ add_caller_text = codes "INSERT INTO caller (name, role) VALUES (?1, ?2)"
 abbrev pub caller_terms : List Term
 caller_terms = lit Null ∷ col 0 0 ∷ col 0 1 ∷ []
 
-pub add_caller_is : command_of (understood office_schema add_caller_text) ≡ Insert 1 (Values caller_terms 3)
+pub add_caller_means : Means office_schema add_caller_text (Insert 1 (Values caller_terms 3))
 unfolding understood everything
-add_caller_is = refl
-
-pub add_caller_plain : IsPlain (understood office_schema add_caller_text)
-unfolding understood everything
-add_caller_plain = (refl, refl)
+add_caller_means = record { is = refl; plain = (refl, refl) }
 
 abbrev pub add_rule_text : List ℕ
 add_rule_text = codes "INSERT INTO rule (place, effect, role, action, collection, class) VALUES (?1, ?2, ?3, ?4, ?5, ?6)"
@@ -85,10 +74,6 @@ add_rule_text = codes "INSERT INTO rule (place, effect, role, action, collection
 abbrev pub rule_terms : List Term
 rule_terms = col 0 0 ∷ lit Null ∷ col 0 1 ∷ col 0 2 ∷ col 0 3 ∷ col 0 4 ∷ col 0 5 ∷ []
 
-pub add_rule_is : command_of (understood office_schema add_rule_text) ≡ Insert 2 (Values rule_terms 7)
+pub add_rule_means : Means office_schema add_rule_text (Insert 2 (Values rule_terms 7))
 unfolding understood everything
-add_rule_is = refl
-
-pub add_rule_plain : IsPlain (understood office_schema add_rule_text)
-unfolding understood everything
-add_rule_plain = (refl, refl)
+add_rule_means = record { is = refl; plain = (refl, refl) }

@@ -70,6 +70,9 @@ module _ (sql : List ℕ) (row : Row) (old new : State) where
 pub goes_then : (a b c : State) → GoesOn a b → GoesOn b c → GoesOn a c
 goes_then a b c p q = record { was_open = p.was_open; is_open = q.is_open; inside = λ inside. q.inside (p.inside inside) }
 
+pub stands_then : (a b c : State) → Stands a b → GoesOn b c → Stands a c
+stands_then a b c p q = record { is_open = λ _. q.is_open; inside = λ inside. q.inside (p.inside inside) }
+
 pub keeps_then : (a b c : State) → KeepsCommit a b → KeepsCommit b c → KeepsCommit a c
 keeps_then a b c p q = record { was_open = λ now. p.was_open (q.was_open now); committed = λ now. q.committed now ∙ p.committed (q.was_open now) }
 

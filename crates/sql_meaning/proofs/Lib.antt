@@ -11,3 +11,4 @@ pub mod Reading
 pub mod Results
 pub mod RowidKeys
 pub mod Inserts
+pub mod Changing

@@ -5,6 +5,7 @@ use Rattle.sqlite.specs.Term.{Term}
 use Rattle.sqlite.specs.Table.{Table}
 use Rattle.sqlite.specs.Schema.{Schema}
 use Rattle.sqlite.specs.Source.TheVariants.{Values}
+use Rattle.sqlite.specs.Command.{Command}
 use Rattle.sqlite.specs.Command.TheVariants.{Insert, Update, Delete}
 use Rattle.sqlite.specs.Edit.{Edit, edit_of, taken_by, Applies}
 use Rattle.sqlite.specs.Rowids.TheVariants.{Chosen, Given}
@@ -96,18 +97,27 @@ finished old new schema table params tally edit w count rows applies shown count
       listed = listed;
     }
 
+-- the text is this command, under the schema
+pub record Means (schema : Schema) (text : List ℕ) (command : Command) : Type 0 where
+  pub is : command_of (understood schema text) ≡ command
+  pub plain : IsPlain (understood schema text)
+
 module _ (text : List ℕ) (params : Row) (old new : State) (schema : Schema) (has : old.now.schema ≡ schema) (at : ℕ) (table : Table)
-    (is_table : slice_get schema.tables at ≡ Some table) (idle : IsIdle schema) (plain : IsPlain (understood schema text)) where
-  pub inserts : (terms : List Term) (width : ℕ) → command_of (understood schema text) ≡ Insert at (Values terms width) → table.is_counted ≡ false → table.stamps.terms ≡ []
+    (is_table : slice_get schema.tables at ≡ Some table) (idle : IsIdle schema) where
+  -- the command ran on the rows of that table
+  on_table : (command : Command) (tally : Tally) → AtPlace (λ t. OnRows (task_on old old.now.schema t params) (mode_of old) None command old.now.trees) (slice_get old.now.schema.tables at) (Ok (tally, new.now))
+      → OnRows (task_on old schema table params) (mode_of old) None command old.now.trees (Ok (tally, new.now))
+  on_table command tally h =
+      subst (λ o. AtPlace (λ t. OnRows (task_on old schema t params) (mode_of old) None command old.now.trees) o (Ok (tally, new.now))) is_table
+      (subst (λ s. AtPlace (λ t. OnRows (task_on old s t params) (mode_of old) None command old.now.trees) (slice_get s.tables at) (Ok (tally, new.now))) has h)
+
+  pub inserts : (terms : List Term) (width : ℕ) → Means schema text (Insert at (Values terms width)) → table.is_counted ≡ false → table.stamps.terms ≡ []
       → (count : ℕ) → Executes text params old new (Ok count)
       → Changes schema old new (edit_of old.now.trees table [] Chosen 0 (value_rows params width (length terms / width) terms)) count (edit_of old.now.trees table [] Chosen 0 (value_rows params width (length terms / width) terms)).news
-  inserts terms width is uncounted unstamped count h =
+  inserts terms width means uncounted unstamped count h =
       let command = Insert at (Values terms width) in
-      let w = runs_as text params old new schema has command is plain count h in
-      let on : AtPlace (λ t. OnRows (task_on old schema t params) (mode_of old) None command old.now.trees) (slice_get schema.tables at) (Ok (w.tally, new.now)) =
-      subst (λ s. AtPlace (λ t. OnRows (task_on old s t params) (mode_of old) None command old.now.trees) (slice_get s.tables at) (Ok (w.tally, new.now))) has w.changed in
-      let ran : OnRows (task_on old schema table params) (mode_of old) None command old.now.trees (Ok (w.tally, new.now)) =
-      subst (λ o. AtPlace (λ t. OnRows (task_on old schema t params) (mode_of old) None command old.now.trees) o (Ok (w.tally, new.now))) is_table on in
+      let w = runs_as text params old new schema has command means.is means.plain count h in
+      let ran : OnRows (task_on old schema table params) (mode_of old) None command old.now.trees (Ok (w.tally, new.now)) = on_table command w.tally w.changed in
       let wrote = went ran in
       let made = wrote_by wrote.0 wrote.1 in
       finished old new schema table params w.tally (edit_of old.now.trees table [] Chosen 0 (value_rows params width (length terms / width) terms)) wrote.0 count (edit_of old.now.trees table [] Chosen 0 (value_rows params width (length terms / width) terms)).news made.0 made.1 w.counted w.sound wrote.2
@@ -116,15 +126,12 @@ module _ (text : List ℕ) (params : Row) (old new : State) (schema : Schema) (h
       wrote_by w = wrote old schema table params idle uncounted old.now.trees terms width w unstamped
 
   -- UPDATE: each row that the query answers replaces the row whose rowid it has
-  pub updates : (q : Program) → command_of (understood schema text) ≡ Update at q → (count : ℕ) → Executes text params old new (Ok count)
+  pub updates : (q : Program) → Means schema text (Update at q) → (count : ℕ) → Executes text params old new (Ok count)
       → (rows : List Row) × Answers (record { schema = schema; trees = old.now.trees }) q params rows × Changes schema old new (edit_of old.now.trees table (ids_of rows) Given 1 rows) count ((edit_of old.now.trees table (ids_of rows) Given 1 rows).news)
-  updates q is count h =
+  updates q means count h =
       let command = Update at q in
-      let w = runs_as text params old new schema has command is plain count h in
-      let on : AtPlace (λ t. OnRows (task_on old schema t params) (mode_of old) None command old.now.trees) (slice_get schema.tables at) (Ok (w.tally, new.now)) =
-      subst (λ s. AtPlace (λ t. OnRows (task_on old s t params) (mode_of old) None command old.now.trees) (slice_get s.tables at) (Ok (w.tally, new.now))) has w.changed in
-      let ran : OnRows (task_on old schema table params) (mode_of old) None command old.now.trees (Ok (w.tally, new.now)) =
-      subst (λ o. AtPlace (λ t. OnRows (task_on old schema t params) (mode_of old) None command old.now.trees) o (Ok (w.tally, new.now))) is_table on in
+      let w = runs_as text params old new schema has command means.is means.plain count h in
+      let ran : OnRows (task_on old schema table params) (mode_of old) None command old.now.trees (Ok (w.tally, new.now)) = on_table command w.tally w.changed in
       let wrote = went ran in
       let made = updated_by wrote.0 wrote.1 in
       let rows = made.0 in
@@ -140,15 +147,12 @@ module _ (text : List ℕ) (params : Row) (old new : State) (schema : Schema) (h
           (rows.0, rows.1, subst (λ trees. Applies schema Enforced old.now.trees edit trees) (sym (ap (λ (it : Written). it.trees) (same_value next.2))) step, ap (λ (it : Written). it.rows) (same_value next.2))
 
   -- DELETE: each row that the query answers is taken out
-  pub deletes : (q : Program) → command_of (understood schema text) ≡ Delete at q → (count : ℕ) → Executes text params old new (Ok count)
+  pub deletes : (q : Program) → Means schema text (Delete at q) → (count : ℕ) → Executes text params old new (Ok count)
       → (rows : List Row) × Answers (record { schema = schema; trees = old.now.trees }) q params rows × Changes schema old new (edit_of old.now.trees table (ids_of rows) Given 0 []) count (taken_by old.now.trees (edit_of old.now.trees table (ids_of rows) Given 0 []))
-  deletes q is count h =
+  deletes q means count h =
       let command = Delete at q in
-      let w = runs_as text params old new schema has command is plain count h in
-      let on : AtPlace (λ t. OnRows (task_on old schema t params) (mode_of old) None command old.now.trees) (slice_get schema.tables at) (Ok (w.tally, new.now)) =
-      subst (λ s. AtPlace (λ t. OnRows (task_on old s t params) (mode_of old) None command old.now.trees) (slice_get s.tables at) (Ok (w.tally, new.now))) has w.changed in
-      let ran : OnRows (task_on old schema table params) (mode_of old) None command old.now.trees (Ok (w.tally, new.now)) =
-      subst (λ o. AtPlace (λ t. OnRows (task_on old schema t params) (mode_of old) None command old.now.trees) o (Ok (w.tally, new.now))) is_table on in
+      let w = runs_as text params old new schema has command means.is means.plain count h in
+      let ran : OnRows (task_on old schema table params) (mode_of old) None command old.now.trees (Ok (w.tally, new.now)) = on_table command w.tally w.changed in
       let wrote = went ran in
       let made = deleted_by wrote.0 wrote.1 in
       let rows = made.0 in

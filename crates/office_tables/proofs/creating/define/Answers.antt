@@ -4,7 +4,7 @@ use Rattle.sqlite.specs.State.{HasCleanDisk}
 use Rattle.sqlite.specs.Held.{state}
 use Rattle.sql_meaning.specs.Making.{Builds}
 use Rattle.sql_meaning.proofs.Creating.{makes_next}
-use Rattle.sql_meaning.proofs.Inside.{stays_on}
+use Rattle.sql_meaning.proofs.Inside.{stays_on, stands_then}
 use Rattle.office_tables.proofs.creating.define.Goals as goal
 
 pub loop-text-preserved : goal.loop-text-preserved
@@ -19,7 +19,7 @@ loop-text-preserved g c =
     record {
       same_reference = search rules;
       stays = stays_on old now new inv.stays inv.goes_on c.change.ensures.stays;
-      goes_on = λ clean. let p = inv.goes_on (early clean) in let q = c.in_ok-change.ensures.goes_on clean in record { is_open = λ _. q.is_open; inside = λ i. q.inside (p.inside i) };
+      goes_on = λ clean. stands_then old now new (inv.goes_on (early clean)) (c.in_ok-change.ensures.goes_on clean);
       made = λ clean before after builds blank.
           let there = inv.made (early clean) before after builds blank in
           let one : words (drop c.loop-text.text-index texts) ≡ words (get_or texts c.loop-text.text-index _ ∷ drop (c.loop-text.text-index + 1) texts) = at_drop_more words texts c.loop-text.text-index _ (search rules) in

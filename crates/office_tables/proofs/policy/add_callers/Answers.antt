@@ -1,7 +1,7 @@
 use Rattle.std.proofs.Common.{arith, rules, refl, subst}
 use Rattle.sqlite.specs.State.{HasCleanDisk}
 use Rattle.sqlite.specs.Held.{state}
-use Rattle.sql_meaning.proofs.Inside.{stays_on}
+use Rattle.sql_meaning.proofs.Inside.{stays_on, stands_then}
 use Rattle.office_rows.specs.Rows.{CallerRow, with_caller, with_callers}
 use Rattle.office_tables.specs.Tables.{Becomes, tables_of}
 use Rattle.office_tables.proofs.PolicyLemmas.{next_added}
@@ -18,7 +18,7 @@ loop-caller-preserved g c =
     record {
       same_reference = search rules;
       stays = stays_on old now new inv.stays inv.goes_on c.add_caller.ensures.stays;
-      goes_on = λ clean. let p = inv.goes_on (early clean) in let q = c.in_ok-add_caller.ensures.goes_on clean in record { is_open = λ _. q.is_open; inside = λ i. q.inside (p.inside i) };
+      goes_on = λ clean. stands_then old now new (inv.goes_on (early clean)) (c.in_ok-add_caller.ensures.goes_on clean);
       becomes = λ clean office.
           let there = inv.becomes (early clean) office in
           let named = rw (c.deref.ensures, c.deref-in-loop-caller.ensures) at (c.in_ok-add_caller.ensures.becomes clean there.0) in

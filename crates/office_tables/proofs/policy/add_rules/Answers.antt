@@ -2,7 +2,7 @@ use Rattle.std.proofs.Common.{arith, rules, refl, subst, w64, sym}
 use Rattle.std.proofs.lemmas.Int.{to_z-of_z}
 use Rattle.sqlite.specs.State.{HasCleanDisk}
 use Rattle.sqlite.specs.Held.{state}
-use Rattle.sql_meaning.proofs.Inside.{stays_on}
+use Rattle.sql_meaning.proofs.Inside.{stays_on, stands_then}
 use Rattle.office_rows.specs.Rows.{RuleRow, with_rule, with_rules}
 use Rattle.office_tables.specs.Tables.{Becomes, tables_of}
 use Rattle.office_tables.proofs.PolicyLemmas.{next_added}
@@ -22,7 +22,7 @@ loop-rule-preserved g c =
     record {
       same_reference = search rules;
       stays = stays_on old now new inv.stays inv.goes_on c.add_rule.ensures.stays;
-      goes_on = λ clean. let p = inv.goes_on (early clean) in let q = c.in_ok-add_rule.ensures.goes_on clean in record { is_open = λ _. q.is_open; inside = λ i. q.inside (p.inside i) };
+      goes_on = λ clean. stands_then old now new (inv.goes_on (early clean)) (c.in_ok-add_rule.ensures.goes_on clean);
       becomes = λ clean office.
           let there = inv.becomes (early clean) office in
           let named = rw (place, effect, c.deref.ensures, c.deref-in-loop-rule.ensures, c.deref-in-loop-rule-2.ensures, c.deref-in-loop-rule-3.ensures) at (c.in_ok-add_rule.ensures.becomes clean there.0) in
