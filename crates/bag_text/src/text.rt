@@ -4,6 +4,7 @@ ghost use Rattle.std.specs.Prelude.{◌≡◌, if◌then◌else◌, Some, None, 
 ghost use Rattle.bag_text.specs.Text.{is_blank, has_mark, skip_blanks, drop_last_blanks, trim_blanks};
 ghost use Rattle.std.specs.Str as utf8;
 
+/// Whether a byte is a space or a tab.
 pub fn is_blank_byte(byte: u8) -> bool
     ensures { result ≡ is_blank byte }
 {
