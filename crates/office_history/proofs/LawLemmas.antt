@@ -1,28 +1,29 @@
 -- What holds and classes do over time, and what is served of a deposit.
-use Rattle.std.proofs.Common.{◌≡◌, ◌≢◌, ℕ, true, List, [], ◌∷◌, ◌++◌, Option, Some, None, Result, Ok, Err, refl, sym, ap, ◌∙◌, inl, inr, append_assoc, append-nil}
+use Rattle.std.proofs.Common.{◌≡◌, ◌≢◌, ℕ, ◌+◌, true, List, [], ◌∷◌, ◌++◌, Option, Some, None, Result, Ok, Err, length, refl, sym, ap, subst, ◌∙◌, inl, inr, append_assoc, append-nil}
 use Rattle.std.specs.List.{filter_map}
 use Rattle.std.proofs.lemmas.Slice.Eq.{bytes_eq-Decides}
 use denote.Ref.{Bor}
 use Rattle.jiff.specs.Types.{Date}
-use Rattle.bag_text.specs.TransferForm.{File, set_text}
+use Rattle.bag_text.specs.TransferForm.{File, set_text, content_at}
 use Rattle.bag_text.specs.TransferReading.{set_of}
 use Rattle.bag_text.specs.declared.set_fault.SetFault.{SetFault}
 use Rattle.office_core.specs.RetentionReading.{due_of}
 use Rattle.office_core.specs.declared.answer.Answer.{Answer}
 use Rattle.office_core.specs.declared.answer.Answer.TheVariants as answers
 use Rattle.office_core.specs.declared.refusal.Refusal.{Refusal}
-use Rattle.office_core.specs.declared.request.Request.TheVariants.{Deposit as MakeDeposit, DownloadBag}
+use Rattle.office_core.specs.declared.request.Request.TheVariants.{Deposit as MakeDeposit, DownloadBag, DownloadFile}
+use Rattle.office_history.specs.Lists.{numbered}
 use Rattle.office_history.specs.Histories.{History, Change, DefinedClass, OnCollection, Deposit, grown, deposit_in, deposits, deposit_numbered, accession_of, hold_numbered, released, released_in, covers, years_in, due}
 use Rattle.office_history.specs.Bags.{bag_of, valid_bag, if_valid, report_on}
 use Rattle.office_core.specs.FirstOf.{first_some}
 use Rattle.office_core.specs.declared.action.Action.TheVariants as acts
 use Rattle.bag_check.specs.Validity.{Report}
 use Rattle.office_history.specs.Refusals.{refusal, bad_as, no_such_collection, no_such_class, denied, taken, closed_ahead, bad_bag}
-use Rattle.office_history.specs.Answers.{answer, answer_unless, allowed_answer, told, change, changes_unless, deposit_change, after}
-use Rattle.office_history.specs.Runs.{Item, Step, Run, IsLater}
-use Rattle.office_history.proofs.ListLemmas.{first_said_front, last_said_last}
-use Rattle.office_history.proofs.Accepted.{grown_by_none}
-use Rattle.office_history.proofs.HistoryLemmas.{deposits_grown}
+use Rattle.office_history.specs.Answers.{answer, answer_unless, allowed_answer, told, file_answer, change, changes_unless, deposit_change, after}
+use Rattle.office_history.specs.Runs.{Item, IsFailure, Step, Run, IsLater}
+use Rattle.office_history.proofs.ListLemmas.{first_said_front, last_said_last, numbered_last}
+use Rattle.office_history.proofs.Accepted.{grown_by_none, depositable}
+use Rattle.office_history.proofs.HistoryLemmas.{deposits_grown, deposit_stays}
 
 -- ---- holds
 
@@ -84,9 +85,60 @@ form_of forms text bag e = by_set (set_of text) refl e
     by_set (Err fault) s e = absurd cc
     by_set (Ok files) s e = by_report files (report_on files) s e
 
+-- A deposit that was answered stands in each later history with its bag, whose form is the text that was deposited.
+pub record WasDeposited (next : History) (n : ℕ) (text : List ℕ) : Type 0 where
+  pub found : Date × Deposit
+  pub there : deposit_numbered next n ≡ Some found
+  pub form : text ≡ set_text found.1.bag
+
+pub was_deposited : ((t : List ℕ) (files : List File) → set_of t ≡ Ok files → t ≡ set_text files)
+    → (h next : History) (day : Date) (n : ℕ) (caller collection class accession : List ℕ) (closed : Date) (bag : Bor (List ℕ))
+    → answer h day caller (MakeDeposit collection class accession closed bag) ≡ answers.Deposited n
+    → IsLater (after h day caller (MakeDeposit collection class accession closed bag)) next → WasDeposited next n bag.now
+was_deposited forms h next day n caller collection class accession closed bag e grown =
+    let was = unrefused (refusal h day caller (MakeDeposit collection class accession closed bag)) (answers.Deposited (length (deposits h) + 1)) (answers.Deposited n) e (λ r. λ wrong. absurd cc) in
+    let number : length (deposits h) + 1 ≡ n = (let same = was.1 in cc) in
+    let allowed = depositable h day caller collection class accession closed bag.now was.0 in
+    let made : Date × Deposit = (day, record { collection = collection; class = class; accession = accession; closed = closed; bag = allowed.0 }) in
+    let mid = after h day caller (MakeDeposit collection class accession closed bag) in
+    let there : deposit_numbered mid n ≡ Some made =
+    ap (λ ds. numbered ds n) (deposit_adds h day caller collection class accession closed bag allowed.0 was.0 allowed.1)
+    ∙ ap (λ m. numbered (deposits h ++ made ∷ []) m) (sym number) ∙ numbered_last (deposits h) made in
+    record {
+      found = made;
+      there = ap (λ x. deposit_numbered x n) grown.1 ∙ deposit_stays mid grown.0 n made there;
+      form = form_of forms bag.now allowed.0 allowed.1;
+    }
+
+-- of two items of a run, neither of which failed, the second was answered in a later history than the first made
+pub record BothAnswered (h late : History) (first last : Item) (a b : Answer) : Type 0 where
+  pub first_answer : answer h first.0 first.1.now first.2 ≡ a
+  pub later : IsLater (after h first.0 first.1.now first.2) late
+  pub last_answer : answer late last.0 last.1.now last.2 ≡ b
+
+pub both_answered : (h mid late next : History) (items : List Item) (given : List Answer) (first last : Item) (a b : Answer)
+    → (IsFailure a → ⊥) → (IsFailure b → ⊥) → Step h first a mid → Run mid items given late → Step late last b next → BothAnswered h late first last a b
+both_answered h mid late next items given first last a b a_is b_is (inl failed) run end = absurd (a_is failed.0)
+both_answered h mid late next items given first last a b a_is b_is (inr made) run (inl failed) = absurd (b_is failed.0)
+both_answered h mid late next items given first last a b a_is b_is (inr made) run (inr served) = record {
+  first_answer = sym made.0;
+  later = subst (λ x. IsLater x late) made.1 (run_grows items given mid late run);
+  last_answer = sym served.0;
+}
+
 -- what is served of a deposit is the form of its bag
 pub served_form : (h : History) (day : Date) (caller : List ℕ) (n : ℕ) (found : Date × Deposit) (bytes : List ℕ) → deposit_numbered h n ≡ Some found → answer h day caller (DownloadBag n) ≡ answers.Bag bytes → bytes ≡ set_text found.1.bag
 served_form h day caller n found bytes there e =
     let told_so = unrefused (refusal h day caller (DownloadBag n)) (allowed_answer h day caller (DownloadBag n)) (answers.Bag bytes) e (λ r. λ wrong. absurd cc) in
     let is : answers.Bag (set_text found.1.bag) ≡ answers.Bag bytes = ap (λ (o : Option (Date × Deposit)). told o (λ d. answers.Bag (set_text d.1.bag))) (sym there) ∙ told_so.1 in
     cc
+
+-- a file that is served of a deposit is the content at the path
+pub served_content : (h : History) (day : Date) (caller : List ℕ) (n : ℕ) (path : Bor (List ℕ)) (found : Date × Deposit) (bytes : List ℕ) → deposit_numbered h n ≡ Some found → answer h day caller (DownloadFile n path) ≡ answers.File bytes → content_at found.1.bag path.now ≡ Some bytes
+served_content h day caller n path found bytes there e =
+    let told_so = unrefused (refusal h day caller (DownloadFile n path)) (allowed_answer h day caller (DownloadFile n path)) (answers.File bytes) e (λ r. λ wrong. absurd cc) in
+    by (content_at found.1.bag path.now) (ap (λ (o : Option (Date × Deposit)). told o (λ d. file_answer (content_at d.1.bag path.now))) (sym there) ∙ told_so.1)
+  where
+    by : (o : Option (List ℕ)) → file_answer o ≡ answers.File bytes → o ≡ Some bytes
+    by None is = absurd cc
+    by (Some content) is = let same : content ≡ bytes = cc in ap Some same

@@ -5,7 +5,7 @@ ghost use Rattle.std.specs.List.{IsDistinct};
 ghost use denote.Ref.{Bor};
 ghost use Rattle.jiff.specs.Types.{Date};
 ghost use Rattle.jiff.specs.Words.{epoch_day};
-ghost use Rattle.bag_text.specs.TransferForm.{File, IsBag, set_text};
+ghost use Rattle.bag_text.specs.TransferForm.{File, IsBag, set_text, content_at};
 ghost use Rattle.bag_text.specs.TransferFaults.{FaultIs};
 ghost use Rattle.bag_text.specs.FaultTexts.{set_fault_text};
 ghost use Rattle.bag_text.specs.declared.set_fault.SetFault.{SetFault};
@@ -27,7 +27,7 @@ ghost use Rattle.office_core.specs.declared.answer.LiveHold.{LiveHold};
 ghost use Rattle.office_core.specs.declared.refusal.Refusal.{Refusal};
 ghost use Rattle.office_core.specs.declared.refusal.Refusal.TheVariants.{Held};
 ghost use Rattle.office_core.specs.declared.request.Request.{Request};
-ghost use Rattle.office_core.specs.declared.request.Request.TheVariants.{DefineClass, Deposit as MakeDeposit, DownloadBag, Audit, Holds, HoldCollection, Release, Dispose};
+ghost use Rattle.office_core.specs.declared.request.Request.TheVariants.{DefineClass, Deposit as MakeDeposit, DownloadBag, DownloadFile, Audit, Holds, HoldCollection, Release, Dispose};
 ghost use Rattle.office_history.specs.Bags.{bag_of};
 ghost use Rattle.office_history.specs.Histories.{History, Change, Installed, ReleasedHold, Destroyed, Deposit, Hold, OnCollection, grown, has_class, has_collection, deposit_numbered, hold_numbered, released, covers, live_holds, due};
 ghost use Rattle.office_history.specs.Refusals.{asked_row, facts_of, refusal, refusal_of};
@@ -160,6 +160,31 @@ pub fn served_as_deposited()
         → IsLater (after h day caller (MakeDeposit collection class accession closed bag)) next
         → answer next later other (DownloadBag n) ≡ answers.Bag bytes
         → bytes ≡ bag.now }
+{
+    bag_text::laws::transfer_forms();
+}
+
+/// After a bag was accepted as a deposit, each file of the deposit that is served is the content at
+/// that path of the bag whose form was deposited: in a run of requests, and in any later history.
+pub fn files_are_served_as_deposited()
+    ensures ran { (h mid late next : History) (items : List Item) (given : List Answer)
+        (day later : Date) (n : ℕ) (bytes : List ℕ) (caller other : Bor (List ℕ))
+        (collection class accession : List ℕ) (closed : Date) (bag path : Bor (List ℕ))
+        → Step h (day, caller, MakeDeposit collection class accession closed bag)
+        (answers.Deposited n) mid
+        → Run mid items given late
+        → Step late (later, other, DownloadFile n path) (answers.File bytes) next
+        → (files : List File) × (bag.now ≡ set_text files)
+        × (content_at files path.now ≡ Some bytes) }
+    ensures answered { (h next : History) (day later : Date) (n : ℕ) (bytes : List ℕ)
+        (caller other collection class accession : List ℕ) (closed : Date)
+        (bag path : Bor (List ℕ))
+        → answer h day caller (MakeDeposit collection class accession closed bag)
+        ≡ answers.Deposited n
+        → IsLater (after h day caller (MakeDeposit collection class accession closed bag)) next
+        → answer next later other (DownloadFile n path) ≡ answers.File bytes
+        → (files : List File) × (bag.now ≡ set_text files)
+        × (content_at files path.now ≡ Some bytes) }
 {
     bag_text::laws::transfer_forms();
 }

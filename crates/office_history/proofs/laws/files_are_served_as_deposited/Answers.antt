@@ -1,0 +1,18 @@
+use Rattle.std.proofs.Common.{◌≡◌, ℕ, List}
+use denote.Ref.{Bor}
+use Rattle.jiff.specs.Types.{Date}
+use Rattle.office_core.specs.declared.answer.Answer.{Answer}
+use Rattle.office_core.specs.declared.answer.Answer.TheVariants as answers
+use Rattle.office_core.specs.declared.request.Request.TheVariants.{Deposit as MakeDeposit, DownloadFile}
+use Rattle.office_history.proofs.LawLemmas.{was_deposited, both_answered, served_content}
+use Rattle.office_history.proofs.laws.files_are_served_as_deposited.Goals as goal
+
+pub returns-clause-answered : goal.returns-clause-answered
+returns-clause-answered c = λ h next day later n bytes caller other collection class accession closed bag path e grown served.
+    let made = was_deposited (λ t files is. ((c.transfer_forms.ensures.read t files).0 is).1) h next day n caller collection class accession closed bag e grown in
+    (made.found.1.bag, made.form, served_content next later other n path made.found bytes made.there served)
+
+pub returns-clause-ran : goal.returns-clause-ran
+returns-clause-ran c = λ h mid late next items given day later n bytes caller other collection class accession closed bag path first run last.
+    let both = both_answered h mid late next items given (day, caller, MakeDeposit collection class accession closed bag) (later, other, DownloadFile n path) (answers.Deposited n) (answers.File bytes) (λ x. x) (λ x. x) first run last in
+    returns-clause-answered c h late day later n bytes caller.now other.now collection class accession closed bag path both.first_answer both.later both.last_answer
