@@ -20,7 +20,7 @@ use Rattle.office_core.specs.declared.request.Request.{Request}
 use Rattle.office_core.specs.declared.request.Request.TheVariants.{DefineClass, DefineCollection, Deposit as MakeDeposit, List as ListDeposits, Record, Holds, DownloadBag, DownloadFile, Audit, HoldDeposit, HoldCollection, Release, Dispose, DueList}
 use Rattle.office_history.specs.Histories.{History, Change, Installed, DefinedClass, DefinedCollection, Deposited, PlacedHold, ReleasedHold, Destroyed, Deposit, Hold, grown, has_class, has_collection, deposits, deposit_numbered, accession_of, gone, due, holds, hold_numbered, released, live_holds, least_hold}
 use Rattle.office_history.specs.Bags.{bag_of}
-use Rattle.office_history.specs.Refusals.{refused, refusal, bad_as, of_deposit, of_hold, denied, denied_at, denied_release, is_gone, is_released, held, not_due, no_such_collection, no_such_class, taken, closed_ahead, bad_bag, full_of_deposits, full_of_holds}
+use Rattle.office_history.specs.Refusals.{refused, refusal, bad_as, of_deposit, of_hold, denial, denial_at, release_denial, is_gone, is_released, held, not_due, no_such_collection, no_such_class, taken, closed_ahead, bad_bag, full_of_deposits, full_of_holds}
 use Rattle.office_history.specs.Answers.{change, changes_unless, allowed_change, deposit_change}
 use Rattle.office_history.specs.Acceptance.{IsChange, IsAllowed, IsDeposit, IsHold, IsDepositable, IsPlaceable, IsReleasable, IsDisposable}
 use Rattle.office_history.specs.Runs.{IsLimit, IsLegal, created, new, install, serve}
@@ -84,32 +84,35 @@ due_has_come day Never e = absurd cc
 -- ---- what a request that is allowed finds
 
 pub depositable : (h : History) (day : Date) (caller collection class accession : List ℕ) (closed : Date) (form : List ℕ)
-    → first_some (no_such_collection h collection ∷ no_such_class h class ∷ denied h caller acts.Deposit (Some collection) (Some class) ∷ taken h accession ∷ closed_ahead day closed ∷ bad_bag form ∷ full_of_deposits h ∷ []) ≡ None
+    → first_some (no_such_collection h collection ∷ no_such_class h class ∷ denial h caller acts.Deposit (Some collection) (Some class) ∷ taken h accession ∷ closed_ahead day closed ∷ bad_bag form ∷ full_of_deposits h ∷ []) ≡ None
     → (bag : List File) × (bag_of form ≡ Ok bag) × IsDepositable h day (record { collection = collection; class = class; accession = accession; closed = closed; bag = bag })
 depositable h day caller collection class accession closed form e =
     let a = none_of (no_such_collection h collection) _ e in
     let b = none_of (no_such_class h class) _ a.1 in
-    let c = none_of (denied h caller acts.Deposit (Some collection) (Some class)) _ b.1 in
+    let c = none_of (denial h caller acts.Deposit (Some collection) (Some class)) _ b.1 in
     let d = none_of (taken h accession) _ c.1 in
     let f = none_of (closed_ahead day closed) _ d.1 in
     let g = none_of (bad_bag form) _ f.1 in
     let i = none_of (full_of_deposits h) _ g.1 in
-    let bag = good_bag (bag_of form) g.0 in
-    (bag.0, bag.1, record {
-      collection = is_so (has_collection h collection) _ a.0;
-      class = is_so (has_class h class) _ b.0;
-      new_accession = map_none _ (accession_of h accession) d.0;
-      closed = not_later day closed (not_so _ _ f.0);
-      form = form;
-      read = bag.1;
-      room = below h.max_deposits (length (deposits h)) i.0;
-    })
+    let bag = good_bag (bag_of form) g.0 in (
+      bag.0,
+      bag.1,
+      record {
+        collection = is_so (has_collection h collection) _ a.0;
+        class = is_so (has_class h class) _ b.0;
+        new_accession = map_none _ (accession_of h accession) d.0;
+        closed = not_later day closed (not_so _ _ f.0);
+        form = form;
+        read = bag.1;
+        room = below h.max_deposits (length (deposits h)) i.0;
+      },
+    )
 
 disposable_at : (h : History) (day : Date) (caller : List ℕ) (n : ℕ) (there : Option (Date × Deposit)) → deposit_numbered h n ≡ there
-    → first_some (of_deposit there (λ d. denied_at h caller acts.Dispose d ∷ is_gone h n ∷ held h n d ∷ not_due h day d ∷ [])) ≡ None → IsDisposable h day n
+    → first_some (of_deposit there (λ d. denial_at h caller acts.Dispose d ∷ is_gone h n ∷ held h n d ∷ not_due h day d ∷ [])) ≡ None → IsDisposable h day n
 disposable_at h day caller n None is e = absurd cc
 disposable_at h day caller n (Some found) is e =
-    let allowed = none_of (denied_at h caller acts.Dispose found.1) _ e in
+    let allowed = none_of (denial_at h caller acts.Dispose found.1) _ e in
     let there = none_of (is_gone h n) _ allowed.1 in
     let free = none_of (held h n found.1) _ there.1 in
     let late = none_of (not_due h day found.1) _ free.1 in
@@ -128,19 +131,19 @@ pub disposable : (h : History) (day : Date) (caller : List ℕ) (n : ℕ) → re
 disposable h day caller n e = disposable_at h day caller n (deposit_numbered h n) refl e
 
 holdable_at : (h : History) (caller : List ℕ) (n : ℕ) (there : Option (Date × Deposit)) → deposit_numbered h n ≡ there
-    → first_some (of_deposit there (λ d. denied_at h caller acts.Hold d ∷ is_gone h n ∷ full_of_holds h ∷ [])) ≡ None → IsSome (deposit_numbered h n) × (length (holds h) < h.max_holds)
+    → first_some (of_deposit there (λ d. denial_at h caller acts.Hold d ∷ is_gone h n ∷ full_of_holds h ∷ [])) ≡ None → IsSome (deposit_numbered h n) × (length (holds h) < h.max_holds)
 holdable_at h caller n None is e = absurd cc
 holdable_at h caller n (Some found) is e =
-    let a = none_of (denied_at h caller acts.Hold found.1) _ e in
+    let a = none_of (denial_at h caller acts.Hold found.1) _ e in
     let b = none_of (is_gone h n) _ a.1 in
     let c = none_of (full_of_holds h) _ b.1 in
     (rw is refl, below h.max_holds (length (holds h)) c.0)
 
 releasable_at : (h : History) (caller : List ℕ) (k : ℕ) (there : Option (Date × Hold)) → hold_numbered h k ≡ there
-    → first_some (of_hold there (λ hold. denied_release h caller hold.target ∷ is_released h k ∷ [])) ≡ None → IsReleasable h k
+    → first_some (of_hold there (λ hold. release_denial h caller hold.target ∷ is_released h k ∷ [])) ≡ None → IsReleasable h k
 releasable_at h caller k None is e = absurd cc
 releasable_at h caller k (Some found) is e =
-    let a = none_of (denied_release h caller found.1.target) _ e in
+    let a = none_of (release_denial h caller found.1.target) _ e in
     let b = none_of (is_released h k) _ a.1 in
     record { found = found; there = is; live = map_none _ (released h k) b.0 }
 
@@ -170,7 +173,7 @@ allowed_of h day caller (HoldDeposit n matter) e =
     record { there = found.0; room = found.1 }
 allowed_of h day caller (HoldCollection name matter) e =
     let a = none_of (no_such_collection h name) _ e in
-    let b = none_of (denied h caller acts.Hold (Some name) None) _ a.1 in
+    let b = none_of (denial h caller acts.Hold (Some name) None) _ a.1 in
     let c = none_of (full_of_holds h) _ b.1 in
     record { there = is_so (has_collection h name) _ a.0; room = below h.max_holds (length (holds h)) c.0 }
 allowed_of h day caller (Release k) e = releasable h day caller k e

@@ -28,17 +28,17 @@ use Rattle.office_history.specs.Lists.{numbered, numbers, distinct_after, in_fir
 use Rattle.office_history.specs.Histories.{History, Change, DefinedCollection, Target, OnDeposit, OnCollection, Deposit, Hold, grown, policy, has_collection, collection_in, deposits, deposit_numbered, accession_of, gone, due, reaches, live_holds}
 use Rattle.office_history.specs.Bags.{report_on}
 use Rattle.office_core.specs.Verdicts as deciding
-use Rattle.office_history.specs.Refusals.{refused, denied, denied_at, closed_ahead, bad_bag, held, not_due, full_of_holds, no_file, of_deposit, of_hold, denied_release_of, denied_release, refusal}
+use Rattle.office_history.specs.Refusals.{refused, denial, denial_at, closed_ahead, bad_bag, held, not_due, full_of_holds, no_file, of_deposit, of_hold, release_denial_of, release_denial, refusal}
 use Rattle.office_history.specs.Answers.{record_of, is_asked, listed_record, listed_records, due_list, live_hold, told_holds, audited, told, file_answer, allowed_answer, allowed_change, answer_unless, answer, changes_unless, change, after}
 use Rattle.office_history.proofs.Alike.{Outline, outline, Alike, alike_grown, same_count, same_outline, same_found, same_kept, mapped_of_kept, kept_is_not_gone}
 
 -- ---- what the rules say
 
-same_denied : (h k : History) → Alike h k → (caller : List ℕ) (action : Action) (collection class : Option (List ℕ)) → denied h caller action collection class ≡ denied k caller action collection class
+same_denied : (h k : History) → Alike h k → (caller : List ℕ) (action : Action) (collection class : Option (List ℕ)) → denial h caller action collection class ≡ denial k caller action collection class
 same_denied h k a caller action collection class =
     ap (λ (p : Contents). refused (deciding.denial_verdict (decision_of p.rules (record { role = role_of p caller; action = action; collection = collection; class = class })))) a.same_policy
 
-same_denied_at : (h k : History) → Alike h k → (caller : List ℕ) (action : Action) (deposit : Deposit) → denied_at h caller action deposit ≡ denied_at k caller action deposit
+same_denied_at : (h k : History) → Alike h k → (caller : List ℕ) (action : Action) (deposit : Deposit) → denial_at h caller action deposit ≡ denial_at k caller action deposit
 same_denied_at h k a caller action deposit = same_denied h k a caller action (Some deposit.collection) (Some deposit.class)
 
 -- ---- collections and accessions
@@ -147,17 +147,17 @@ same_row_at h k a caller action n r s more =
 
 -- ---- the refusals of a release
 
-release_of_outline : (h : History) (caller : List ℕ) (x y : Option (Date × Deposit)) → option_map outline x ≡ option_map outline y → denied_release_of h caller x ≡ denied_release_of h caller y
+release_of_outline : (h : History) (caller : List ℕ) (x y : Option (Date × Deposit)) → option_map outline x ≡ option_map outline y → release_denial_of h caller x ≡ release_denial_of h caller y
 release_of_outline h caller None None e = refl
 release_of_outline h caller None (Some y) e = absurd cc
 release_of_outline h caller (Some x) None e = absurd cc
-release_of_outline h caller (Some x) (Some y) e = ap (λ (o : Outline). denied h caller acts.Release (Some o.collection) (Some o.class)) (same_Some (outline x) (outline y) e)
+release_of_outline h caller (Some x) (Some y) e = ap (λ (o : Outline). denial h caller acts.Release (Some o.collection) (Some o.class)) (same_Some (outline x) (outline y) e)
 
-release_by_policy : (h k : History) → Alike h k → (caller : List ℕ) (x : Option (Date × Deposit)) → denied_release_of h caller x ≡ denied_release_of k caller x
+release_by_policy : (h k : History) → Alike h k → (caller : List ℕ) (x : Option (Date × Deposit)) → release_denial_of h caller x ≡ release_denial_of k caller x
 release_by_policy h k a caller None = refl
 release_by_policy h k a caller (Some found) = same_denied_at h k a caller acts.Release found.1
 
-same_release : (h k : History) → Alike h k → (caller : List ℕ) (target : Target) → denied_release h caller target ≡ denied_release k caller target
+same_release : (h k : History) → Alike h k → (caller : List ℕ) (target : Target) → release_denial h caller target ≡ release_denial k caller target
 same_release h k a caller (OnDeposit n) =
     release_of_outline h caller (deposit_numbered h n) (deposit_numbered k n) (same_outline h k a n)
     ∙ release_by_policy h k a caller (deposit_numbered k n)

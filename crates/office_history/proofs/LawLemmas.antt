@@ -18,7 +18,7 @@ use Rattle.office_history.specs.Bags.{bag_of, valid_bag, if_valid, report_on}
 use Rattle.office_core.specs.FirstOf.{first_some}
 use Rattle.office_core.specs.declared.action.Action.TheVariants as acts
 use Rattle.bag_check.specs.Validity.{Report}
-use Rattle.office_history.specs.Refusals.{refusal, bad_as, no_such_collection, no_such_class, denied, taken, closed_ahead, bad_bag}
+use Rattle.office_history.specs.Refusals.{refusal, bad_as, no_such_collection, no_such_class, denial, taken, closed_ahead, bad_bag}
 use Rattle.office_history.specs.Answers.{answer, answer_unless, allowed_answer, told, file_answer, change, changes_unless, deposit_change, after}
 use Rattle.office_history.specs.Runs.{Item, IsFailure, Step, Run, IsLater}
 use Rattle.office_history.proofs.ListLemmas.{first_said_front, last_said_last, numbered_last}

@@ -23,7 +23,7 @@ use Rattle.office_core.specs.declared.request.Request.{Request}
 use Rattle.office_core.specs.declared.request.Request.TheVariants.{DefineClass, DefineCollection, Deposit as MakeDeposit, List as ListDeposits, Record, Holds, DownloadBag, DownloadFile, Audit, HoldDeposit, HoldCollection, Release, Dispose, DueList}
 use Rattle.office_history.specs.Histories.{History, Change, Deposit, grown, deposits}
 use Rattle.office_history.specs.Bags.{bag_of, valid_bag, if_valid, judged}
-use Rattle.office_history.specs.Refusals.{refused, refusal, of_deposit, denied_at, is_gone, held, not_due}
+use Rattle.office_history.specs.Refusals.{refused, refusal, of_deposit, denial_at, is_gone, held, not_due}
 use Rattle.office_history.specs.Answers.{change, changes_unless, allowed_change, deposit_change}
 use Rattle.office_history.specs.Acceptance.{IsChange, IsAllowed}
 use Rattle.office_history.specs.Runs.{Item, IsItem, AreItems, Step, Run, IsLegal, serve, IsSound, as_of}

@@ -23,7 +23,7 @@ use Rattle.office_core.specs.declared.request.Request.TheVariants.{DefineClass, 
 use Rattle.office_history.specs.Lists.{numbered, numbers}
 use Rattle.office_history.specs.Histories.{History, Change, Installed, DefinedCollection, Deposit, has_collection, grown, deposit_in, deposits, deposit_numbered, gone, due, holds, released, is_live, covers, live_holds}
 use Rattle.office_history.specs.Bags.{bag_of}
-use Rattle.office_history.specs.Refusals.{refused, refusal, of_deposit, denied_at, is_gone, held, not_due}
+use Rattle.office_history.specs.Refusals.{refused, refusal, of_deposit, denial_at, is_gone, held, not_due}
 use Rattle.office_history.specs.Answers.{answer, change, changes_unless, deposit_change, allowed_change, after}
 use Rattle.office_history.specs.Runs.{IsLegal}
 use Rattle.office_history.proofs.ListLemmas.{numbered_cases, none_passes}
@@ -134,10 +134,10 @@ held_by (Some j) k e = let same : j ≡ k = cc in ap Some same
 pub refuses_none : (h : History) (day on : Date) (caller : List ℕ) (k n : ℕ) → released h k ≡ Some on → refusal h day caller (Dispose n) ≡ Some (Held k) → ⊥
 refuses_none h day on caller k n dead e = by_deposit (deposit_numbered h n) e
   where
-    by_deposit : (there : Option (Date × Deposit)) → first_some (of_deposit there (λ d. denied_at h caller acts.Dispose d ∷ is_gone h n ∷ held h n d ∷ not_due h day d ∷ [])) ≡ Some (Held k) → ⊥
+    by_deposit : (there : Option (Date × Deposit)) → first_some (of_deposit there (λ d. denial_at h caller acts.Dispose d ∷ is_gone h n ∷ held h n d ∷ not_due h day d ∷ [])) ≡ Some (Held k) → ⊥
     by_deposit None e = absurd cc
     by_deposit (Some found) e =
-        elim (first_is (denied_at h caller acts.Dispose found.1) _ (Held k) e) [
+        elim (first_is (denial_at h caller acts.Dispose found.1) _ (Held k) e) [
           | inl a ↦ denied_is_not_held _ k a
           | inr b ↦ elim (first_is (is_gone h n) _ (Held k) b) [
             | inl a ↦ gone_is_not_held (gone h n) k a

@@ -11,7 +11,7 @@ use Rattle.std.proofs.lemmas.Result.{IfOk-weaker}
 use Rattle.office_core.specs.FirstOf.{first_some}
 use Rattle.office_core.specs.declared.refusal.Refusal.{Refusal}
 use Rattle.office_core.specs.declared.request.Request.TheVariants as requests
-use Rattle.office_history.specs.Refusals.{place_row, bag_row, refusal}
+use Rattle.office_history.specs.Refusals.{place_refusals, bag_refusals, refusal}
 use Rattle.jiff.specs.Types.{Date}
 use Rattle.office_history.specs.Histories.{History, Change, Installed, DefinedClass, DefinedCollection, Deposited, PlacedHold, ReleasedHold, Destroyed, Deposit, Hold, grown, deposit_in, hold_in, deposits, holds, accession_of}
 use Rattle.office_history.specs.Lists.{numbered}
@@ -128,17 +128,17 @@ one_only None = refl
 one_only (Some x) = refl
 
 pub place_stands : (h : History) (day : Date) (caller collection class accession : List ℕ) (closed : Date) (bag : Bor (List ℕ)) (x : Refusal) (first second : List ℕ) (r : Option Refusal)
-    → first ≡ collection → second ≡ class → r ≡ first_some (place_row h caller first second) → r ≡ Some x
+    → first ≡ collection → second ≡ class → r ≡ first_some (place_refusals h caller first second) → r ≡ Some x
     → Some x ≡ refusal h day caller (requests.Deposit collection class accession closed bag)
 place_stands h day caller collection class accession closed bag x first second r a b is e =
-    let same : first_some (place_row h caller first second) ≡ first_some (place_row h caller collection class) = ap (λ (c : List ℕ). first_some (place_row h caller c second)) a ∙ ap (λ (c : List ℕ). first_some (place_row h caller collection c)) b in
-    sym (first_in_front (place_row h caller collection class) (bag_row h day accession closed bag.now) x (sym same ∙ sym is ∙ e))
+    let same : first_some (place_refusals h caller first second) ≡ first_some (place_refusals h caller collection class) = ap (λ (c : List ℕ). first_some (place_refusals h caller c second)) a ∙ ap (λ (c : List ℕ). first_some (place_refusals h caller collection c)) b in
+    sym (first_in_front (place_refusals h caller collection class) (bag_refusals h day accession closed bag.now) x (sym same ∙ sym is ∙ e))
 
 pub place_passes : (h : History) (day : Date) (caller collection class accession : List ℕ) (closed : Date) (bag : Bor (List ℕ)) (first second third : List ℕ) (p : Option Refusal) (r : Result (Option Refusal) AllocError)
-    → first ≡ collection → second ≡ class → third ≡ accession → p ≡ first_some (place_row h caller first second) → p ≡ None
-    → IfOk r (λ found. found ≡ first_some (bag_row h day third closed bag.now))
+    → first ≡ collection → second ≡ class → third ≡ accession → p ≡ first_some (place_refusals h caller first second) → p ≡ None
+    → IfOk r (λ found. found ≡ first_some (bag_refusals h day third closed bag.now))
     → IfOk r (λ found. found ≡ refusal h day caller (requests.Deposit collection class accession closed bag))
 place_passes h day caller collection class accession closed bag first second third p r a b t is e rest =
-    let same : first_some (place_row h caller first second) ≡ first_some (place_row h caller collection class) = ap (λ (c : List ℕ). first_some (place_row h caller c second)) a ∙ ap (λ (c : List ℕ). first_some (place_row h caller collection c)) b in
-    let last : first_some (bag_row h day third closed bag.now) ≡ first_some (bag_row h day accession closed bag.now) = ap (λ (c : List ℕ). first_some (bag_row h day c closed bag.now)) t in
-    IfOk-weaker r _ _ (λ found eq. eq ∙ last ∙ sym (first_behind (place_row h caller collection class) (bag_row h day accession closed bag.now) (sym same ∙ sym is ∙ e))) rest
+    let same : first_some (place_refusals h caller first second) ≡ first_some (place_refusals h caller collection class) = ap (λ (c : List ℕ). first_some (place_refusals h caller c second)) a ∙ ap (λ (c : List ℕ). first_some (place_refusals h caller collection c)) b in
+    let last : first_some (bag_refusals h day third closed bag.now) ≡ first_some (bag_refusals h day accession closed bag.now) = ap (λ (c : List ℕ). first_some (bag_refusals h day c closed bag.now)) t in
+    IfOk-weaker r _ _ (λ found eq. eq ∙ last ∙ sym (first_behind (place_refusals h caller collection class) (bag_refusals h day accession closed bag.now) (sym same ∙ sym is ∙ e))) rest

@@ -102,13 +102,16 @@ effect_ranged Deny = inl refl
 
 ranged_rules : (place : ℕ) (rules : List Rule) → AllByRecursion HasNames rules → AllByRecursion IsRuleRow (rule_rows place rules)
 ranged_rules place [] all = tt
-ranged_rules place (rule ∷ rules) all = (record {
-  effect = effect_ranged rule.effect;
-  role = pattern_ranged rule.role all.0.0;
-  action = action_ranged rule.action;
-  collection = pattern_ranged rule.collection all.0.1;
-  class = pattern_ranged rule.class all.0.2;
-}, ranged_rules (place + 1) rules all.1)
+ranged_rules place (rule ∷ rules) all = (
+  record {
+    effect = effect_ranged rule.effect;
+    role = pattern_ranged rule.role all.0.0;
+    action = action_ranged rule.action;
+    collection = pattern_ranged rule.collection all.0.1;
+    class = pattern_ranged rule.class all.0.2;
+  },
+  ranged_rules (place + 1) rules all.1,
+)
 
 numbered_rules : (place : ℕ) (rules : List Rule) → AreNumbered (λ (row : RuleRow). row.place) place (rule_rows place rules)
 numbered_rules place [] = tt

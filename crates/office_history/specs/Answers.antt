@@ -21,7 +21,7 @@ use Rattle.office_core.specs.declared.request.Request.{Request}
 use Rattle.office_core.specs.declared.request.Request.TheVariants.{DefineClass, DefineCollection, Deposit as MakeDeposit, List as ListDeposits, Record, Holds, DownloadBag, DownloadFile, Audit, HoldDeposit, HoldCollection, Release, Dispose, DueList}
 use Rattle.office_history.specs.Histories.{History, Change, DefinedClass, DefinedCollection, Deposited, PlacedHold, ReleasedHold, Destroyed, Deposit, Hold, Target, OnDeposit, OnCollection, grown, has_collection, deposits, deposit_numbered, kept, due, holds, hold_numbered, live_holds}
 use Rattle.office_history.specs.Bags.{bag_of, report_on}
-use Rattle.office_history.specs.Refusals.{denied_at, refusal}
+use Rattle.office_history.specs.Refusals.{denial_at, refusal}
 
 -- ---- what is told of a deposit
 
@@ -52,7 +52,7 @@ is_asked (Some only) name = bytes_eq only name
 -- a deposit that the caller may list
 abbrev pub is_listed : History → List ℕ → Option (List ℕ) → Option (List ℕ) → Deposit → Bool
 is_listed h caller collection class deposit =
-    is_asked collection deposit.collection && is_asked class deposit.class && is_none (denied_at h caller acts.List deposit)
+    is_asked collection deposit.collection && is_asked class deposit.class && is_none (denial_at h caller acts.List deposit)
 
 abbrev pub listed_record : History → List ℕ → Option (List ℕ) → Option (List ℕ) → ℕ → Option DepositRecord
 listed_record h caller collection class n =

@@ -40,19 +40,19 @@ abbrev pub refused : Option Verdict → Option Refusal
 refused verdict = option_and_then refusal_of verdict
 
 -- the rule that decides, by the policy that was installed last
-abbrev pub decided : History → List ℕ → Action → Option (List ℕ) → Option (List ℕ) → Option Decision
-decided h caller action collection class =
+abbrev pub deciding_rule : History → List ℕ → Action → Option (List ℕ) → Option (List ℕ) → Option Decision
+deciding_rule h caller action collection class =
     decision_of (policy h).rules (record { role = role_of (policy h) caller; action = action; collection = collection; class = class })
 
 -- asked of a deposit: of its collection and its class
-abbrev pub decided_at : History → List ℕ → Action → Deposit → Option Decision
-decided_at h caller action deposit = decided h caller action (Some deposit.collection) (Some deposit.class)
+abbrev pub deciding_rule_at : History → List ℕ → Action → Deposit → Option Decision
+deciding_rule_at h caller action deposit = deciding_rule h caller action (Some deposit.collection) (Some deposit.class)
 
 -- what is known of an action on a deposit
 abbrev pub facts_of : History → List ℕ → Action → ℕ → Deposit → Facts
 facts_of h caller action n deposit = record {
   action = action;
-  decision = decided_at h caller action deposit;
+  decision = deciding_rule_at h caller action deposit;
   gone = gone h n;
   hold = least_hold h n deposit;
   due = due h deposit;
@@ -61,12 +61,12 @@ facts_of h caller action n deposit = record {
 -- ---- the refusals
 
 -- E2: the first rule that matches denies, or none matches
-abbrev pub denied : History → List ℕ → Action → Option (List ℕ) → Option (List ℕ) → Option Refusal
-denied h caller action collection class = refused (deciding.denial_verdict (decided h caller action collection class))
+abbrev pub denial : History → List ℕ → Action → Option (List ℕ) → Option (List ℕ) → Option Refusal
+denial h caller action collection class = refused (deciding.denial_verdict (deciding_rule h caller action collection class))
 
 -- asked of a deposit: of its collection and its class
-abbrev pub denied_at : History → List ℕ → Action → Deposit → Option Refusal
-denied_at h caller action deposit = denied h caller action (Some deposit.collection) (Some deposit.class)
+abbrev pub denial_at : History → List ℕ → Action → Deposit → Option Refusal
+denial_at h caller action deposit = denial h caller action (Some deposit.collection) (Some deposit.class)
 
 -- E1
 abbrev pub no_such_class : History → List ℕ → Option Refusal
@@ -131,73 +131,73 @@ of_hold None these = Some (NoSuch subjects.Hold) ∷ []
 of_hold (Some found) these = these found.1
 
 -- a release is asked of what the hold names
-abbrev pub denied_release_of : History → List ℕ → Option (Date × Deposit) → Option Refusal
-denied_release_of h caller None = Some (NoSuch subjects.Deposit)
-denied_release_of h caller (Some found) = denied_at h caller acts.Release found.1
+abbrev pub release_denial_of : History → List ℕ → Option (Date × Deposit) → Option Refusal
+release_denial_of h caller None = Some (NoSuch subjects.Deposit)
+release_denial_of h caller (Some found) = denial_at h caller acts.Release found.1
 
-abbrev pub denied_release : History → List ℕ → Target → Option Refusal
-denied_release h caller (OnDeposit n) = denied_release_of h caller (deposit_numbered h n)
-denied_release h caller (OnCollection name) = denied h caller acts.Release (Some name) None
+abbrev pub release_denial : History → List ℕ → Target → Option Refusal
+release_denial h caller (OnDeposit n) = release_denial_of h caller (deposit_numbered h n)
+release_denial h caller (OnCollection name) = denial h caller acts.Release (Some name) None
 
 -- what is asked of a deposit that is there: E2 and E3
-abbrev pub kept_row : History → List ℕ → Action → ℕ → Deposit → List (Option Refusal)
-kept_row h caller action n d = denied_at h caller action d ∷ is_gone h n ∷ []
+abbrev pub kept_refusals : History → List ℕ → Action → ℕ → Deposit → List (Option Refusal)
+kept_refusals h caller action n d = denial_at h caller action d ∷ is_gone h n ∷ []
 
 -- its disposal: E2, E3, E7 and E8
-abbrev pub disposal_row : History → Date → List ℕ → ℕ → Deposit → List (Option Refusal)
-disposal_row h day caller n d =
-    denied_at h caller acts.Dispose d ∷ is_gone h n ∷ held h n d ∷ not_due h day d ∷ []
+abbrev pub disposal_refusals : History → Date → List ℕ → ℕ → Deposit → List (Option Refusal)
+disposal_refusals h day caller n d =
+    denial_at h caller acts.Dispose d ∷ is_gone h n ∷ held h n d ∷ not_due h day d ∷ []
 
 -- either of the two, by the action
-abbrev pub asked_row : History → Date → List ℕ → Action → ℕ → Deposit → List (Option Refusal)
-asked_row h day caller action n d = if is_dispose action then disposal_row h day caller n d else kept_row h caller action n d
+abbrev pub asked_refusals : History → Date → List ℕ → Action → ℕ → Deposit → List (Option Refusal)
+asked_refusals h day caller action n d = if is_dispose action then disposal_refusals h day caller n d else kept_refusals h caller action n d
 
 -- a file of its bag: E2, E3 and E13
-abbrev pub file_row : History → List ℕ → ℕ → List ℕ → Deposit → List (Option Refusal)
-file_row h caller n path d = denied_at h caller acts.Download d ∷ is_gone h n ∷ no_file d path ∷ []
+abbrev pub file_refusals : History → List ℕ → ℕ → List ℕ → Deposit → List (Option Refusal)
+file_refusals h caller n path d = denial_at h caller acts.Download d ∷ is_gone h n ∷ no_file d path ∷ []
 
 -- a hold of it: E2, E3 and E10
-abbrev pub hold_row : History → List ℕ → ℕ → Deposit → List (Option Refusal)
-hold_row h caller n d = denied_at h caller acts.Hold d ∷ is_gone h n ∷ full_of_holds h ∷ []
+abbrev pub hold_refusals : History → List ℕ → ℕ → Deposit → List (Option Refusal)
+hold_refusals h caller n d = denial_at h caller acts.Hold d ∷ is_gone h n ∷ full_of_holds h ∷ []
 
 -- a hold of a collection: E1, E2 and E10
-abbrev pub collection_hold_row : History → List ℕ → List ℕ → List (Option Refusal)
-collection_hold_row h caller name =
-    no_such_collection h name ∷ denied h caller acts.Hold (Some name) None ∷ full_of_holds h ∷ []
+abbrev pub collection_hold_refusals : History → List ℕ → List ℕ → List (Option Refusal)
+collection_hold_refusals h caller name =
+    no_such_collection h name ∷ denial h caller acts.Hold (Some name) None ∷ full_of_holds h ∷ []
 
 -- a release: E2 and E9
-abbrev pub release_row : History → List ℕ → ℕ → Hold → List (Option Refusal)
-release_row h caller k hold = denied_release h caller hold.target ∷ is_released h k ∷ []
+abbrev pub release_refusals : History → List ℕ → ℕ → Hold → List (Option Refusal)
+release_refusals h caller k hold = release_denial h caller hold.target ∷ is_released h k ∷ []
 
 -- where a bag is deposited: E1 and E2
-abbrev pub place_row : History → List ℕ → List ℕ → List ℕ → List (Option Refusal)
-place_row h caller collection class =
+abbrev pub place_refusals : History → List ℕ → List ℕ → List ℕ → List (Option Refusal)
+place_refusals h caller collection class =
     no_such_collection h collection
     ∷ no_such_class h class
-    ∷ denied h caller acts.Deposit (Some collection) (Some class)
+    ∷ denial h caller acts.Deposit (Some collection) (Some class)
     ∷ []
 
 -- and what is deposited: E4, E5, E6 and E10
-abbrev pub bag_row : History → Date → List ℕ → Date → List ℕ → List (Option Refusal)
-bag_row h day accession closed bag =
+abbrev pub bag_refusals : History → Date → List ℕ → Date → List ℕ → List (Option Refusal)
+bag_refusals h day accession closed bag =
     taken h accession ∷ closed_ahead day closed ∷ bad_bag bag ∷ full_of_deposits h ∷ []
 
 -- all refusals of a request
 abbrev pub refusals : History → Date → List ℕ → Request → List (Option Refusal)
-refusals h day caller (DefineClass name years) = denied h caller acts.Class None (Some name) ∷ []
-refusals h day caller (DefineCollection name) = denied h caller acts.Collection (Some name) None ∷ []
+refusals h day caller (DefineClass name years) = denial h caller acts.Class None (Some name) ∷ []
+refusals h day caller (DefineCollection name) = denial h caller acts.Collection (Some name) None ∷ []
 refusals h day caller (MakeDeposit collection class accession closed bag) =
-    place_row h caller collection class ++ bag_row h day accession closed bag.now
+    place_refusals h caller collection class ++ bag_refusals h day accession closed bag.now
 refusals h day caller (ListDeposits collection class) = []
-refusals h day caller (Record n) = of_deposit (deposit_numbered h n) (kept_row h caller acts.Record n)
-refusals h day caller (Holds n) = of_deposit (deposit_numbered h n) (kept_row h caller acts.Holds n)
-refusals h day caller (DownloadBag n) = of_deposit (deposit_numbered h n) (kept_row h caller acts.Download n)
-refusals h day caller (DownloadFile n path) = of_deposit (deposit_numbered h n) (file_row h caller n path.now)
-refusals h day caller (Audit n) = of_deposit (deposit_numbered h n) (kept_row h caller acts.Audit n)
-refusals h day caller (HoldDeposit n matter) = of_deposit (deposit_numbered h n) (hold_row h caller n)
-refusals h day caller (HoldCollection name matter) = collection_hold_row h caller name
-refusals h day caller (Release k) = of_hold (hold_numbered h k) (release_row h caller k)
-refusals h day caller (Dispose n) = of_deposit (deposit_numbered h n) (disposal_row h day caller n)
+refusals h day caller (Record n) = of_deposit (deposit_numbered h n) (kept_refusals h caller acts.Record n)
+refusals h day caller (Holds n) = of_deposit (deposit_numbered h n) (kept_refusals h caller acts.Holds n)
+refusals h day caller (DownloadBag n) = of_deposit (deposit_numbered h n) (kept_refusals h caller acts.Download n)
+refusals h day caller (DownloadFile n path) = of_deposit (deposit_numbered h n) (file_refusals h caller n path.now)
+refusals h day caller (Audit n) = of_deposit (deposit_numbered h n) (kept_refusals h caller acts.Audit n)
+refusals h day caller (HoldDeposit n matter) = of_deposit (deposit_numbered h n) (hold_refusals h caller n)
+refusals h day caller (HoldCollection name matter) = collection_hold_refusals h caller name
+refusals h day caller (Release k) = of_hold (hold_numbered h k) (release_refusals h caller k)
+refusals h day caller (Dispose n) = of_deposit (deposit_numbered h n) (disposal_refusals h day caller n)
 refusals h day caller DueList = []
 
 -- the first refusal that stands, or none where the request is allowed

@@ -30,7 +30,7 @@ ghost use Rattle.office_core.specs.declared.request.Request.{Request};
 ghost use Rattle.office_core.specs.declared.request.Request.TheVariants.{DefineClass, Deposit as MakeDeposit, DownloadBag, DownloadFile, Audit, Holds, HoldCollection, Release, Dispose};
 ghost use Rattle.office_history.specs.Bags.{bag_of};
 ghost use Rattle.office_history.specs.Histories.{History, Change, Installed, ReleasedHold, Destroyed, Deposit, Hold, OnCollection, grown, has_class, has_collection, deposit_numbered, hold_numbered, released, covers, live_holds, due};
-ghost use Rattle.office_history.specs.Refusals.{asked_row, facts_of, refusal, refusal_of};
+ghost use Rattle.office_history.specs.Refusals.{asked_refusals, facts_of, refusal, refusal_of};
 ghost use Rattle.office_history.specs.Answers.{answer, due_list, change, after};
 ghost use Rattle.office_history.specs.Pictures.{picture};
 ghost use Rattle.office_history.specs.Lists.{IsIn};
@@ -108,7 +108,7 @@ pub fn closed_by_the_day_of_deposit()
 pub fn verdicts_decide()
     ensures asked { (h : History) (day : Date) (caller : List ℕ)
         (action : Action) (n : ℕ) (deposit : Deposit)
-        → first_some (asked_row h day caller action n deposit)
+        → first_some (asked_refusals h day caller action n deposit)
         ≡ refusal_of (verdict_of (facts_of h caller action n deposit) day) }
     ensures disposal { (h : History) (day : Date) (caller : List ℕ) (n : ℕ) (found : Date × Deposit)
         → deposit_numbered h n ≡ Some found

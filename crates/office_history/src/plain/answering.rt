@@ -15,8 +15,8 @@ use crate::plain::judging::audit;
 use crate::plain::reading::{
     deposit_count, deposit_numbered, due, hold_count, hold_numbered, kept, live_holds,
 };
-use crate::plain::refusing::denied_at;
-use crate::plain::rows::dispose_refusal;
+use crate::plain::refusals::dispose_refusal;
+use crate::plain::refusing::denial_at;
 use office_core::{
     Action, Answer, Day, DepositRecord, LiveHold, Name, OwnedName, Refusal, Request, Scope,
     Sequence, Subject,
@@ -69,7 +69,7 @@ fn is_listed(
 {
     is_asked(collection, &deposit.collection)
         && is_asked(class, &deposit.class)
-        && denied_at(office, caller, Action::List, deposit).is_none()
+        && denial_at(office, caller, Action::List, deposit).is_none()
 }
 
 fn listed_record(

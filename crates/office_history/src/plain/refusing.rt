@@ -3,7 +3,7 @@
 ghost use Rattle.std.specs.Prelude.{◌≡◌, IfOk, option_copied};
 ghost use Rattle.office_core.specs.Policies.{role_of};
 ghost use Rattle.office_history.specs.Histories.{policy};
-ghost use Rattle.office_history.specs.Refusals.{decided, refusal_of, facts_of, denied, denied_at, no_such_class, no_such_collection, taken, closed_ahead, bad_bag, is_released, full_of_deposits, full_of_holds, no_file};
+ghost use Rattle.office_history.specs.Refusals.{deciding_rule, refusal_of, facts_of, denial, denial_at, no_such_class, no_such_collection, taken, closed_ahead, bad_bag, is_released, full_of_deposits, full_of_holds, no_file};
 
 use crate::plain::change::Deposit;
 use crate::plain::history::{Office, limits_of};
@@ -38,14 +38,14 @@ fn rules_of(office: &Office) -> &[Rule]
 }
 
 /// The rule that decides what a caller asks.
-fn decided(
+fn deciding_rule(
     office: &Office,
     caller: &str,
     action: Action,
     collection: Option<&str>,
     class: Option<&str>,
 ) -> Option<Decision>
-    ensures { result ≡ decided office.now caller.now action
+    ensures { result ≡ deciding_rule office.now caller.now action
         (option_copied collection.entry) (option_copied class.entry) }
 {
     let ask = Ask {
@@ -89,7 +89,7 @@ pub fn facts_of(
     let class = deposit.class.as_str();
     Ok(Facts {
         action,
-        decision: decided(office, caller, action, Some(collection), Some(class)),
+        decision: deciding_rule(office, caller, action, Some(collection), Some(class)),
         gone: gone(office, number),
         hold: holds.first().copied(),
         due: due(office, deposit),
@@ -97,32 +97,32 @@ pub fn facts_of(
 }
 
 /// E2
-pub fn denied(
+pub fn denial(
     office: &Office,
     caller: &str,
     action: Action,
     collection: Option<&str>,
     class: Option<&str>,
 ) -> Option<Refusal>
-    ensures { result ≡ denied office.now caller.now action
+    ensures { result ≡ denial office.now caller.now action
         (option_copied collection.entry) (option_copied class.entry) }
 {
-    match office_core::denial_verdict(decided(office, caller, action, collection, class)) {
+    match office_core::denial_verdict(deciding_rule(office, caller, action, collection, class)) {
         Some(verdict) => refusal_of(verdict),
         None => None,
     }
 }
 
 /// E2, asked of a deposit: of its collection and its class.
-pub fn denied_at(
+pub fn denial_at(
     office: &Office,
     caller: &str,
     action: Action,
     deposit: &Deposit,
 ) -> Option<Refusal>
-    ensures { result ≡ denied_at office.now caller.now action deposit.now }
+    ensures { result ≡ denial_at office.now caller.now action deposit.now }
 {
-    denied(
+    denial(
         office,
         caller,
         action,

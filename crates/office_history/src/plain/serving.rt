@@ -14,7 +14,7 @@ use crate::plain::change::{Deposit, Hold, Kind, Target};
 use crate::plain::history::{Office, accept};
 use crate::plain::judging::bag_of;
 use crate::plain::reading::has_collection;
-use crate::plain::rows::refusal;
+use crate::plain::refusals::refusal;
 use office_core::{Accession, Answer, Day, Matter, Name, Refusal, Request};
 use std::alloc::{AllocError, Global};
 

@@ -3,7 +3,7 @@ use Rattle.office_core.specs.Verdicts.{verdict_of}
 use Rattle.office_core.specs.declared.facts.Facts.{Facts}
 use Rattle.office_history.specs.Refusals.{facts_of, refusal_of}
 use Rattle.office_history.proofs.VerdictLemmas.{asked_verdict}
-use Rattle.office_history.proofs.plain.rows.asked_row.Goals as goal
+use Rattle.office_history.proofs.plain.refusals.first_asked_refusal.Goals as goal
 
 pub returns : goal.returns
 returns c =

@@ -4,20 +4,20 @@ ghost use Rattle.std.specs.Prelude.{◌≡◌, IfOk};
 ghost use Rattle.office_core.specs.FirstOf.{first_some};
 ghost use Rattle.office_core.specs.declared.request.Request.TheVariants as requests;
 ghost use Rattle.office_history.specs.Histories.{deposit_numbered, hold_numbered};
-ghost use Rattle.office_history.specs.Refusals.{of_deposit, of_hold, denied_release, asked_row, file_row, hold_row, collection_hold_row, release_row, place_row, bag_row, refusal};
+ghost use Rattle.office_history.specs.Refusals.{of_deposit, of_hold, release_denial, asked_refusals, file_refusals, hold_refusals, collection_hold_refusals, release_refusals, place_refusals, bag_refusals, refusal};
 
 use crate::plain::change::{Deposit, Hold, Target};
 use crate::plain::history::Office;
 use crate::plain::reading::{deposit_numbered, hold_numbered};
 use crate::plain::refusing::{
-    bad_bag, closed_ahead, denied, denied_at, facts_of, full_of_deposits, full_of_holds,
+    bad_bag, closed_ahead, denial, denial_at, facts_of, full_of_deposits, full_of_holds,
     is_released, no_file, no_such_class, no_such_collection, refusal_of, taken,
 };
 use office_core::{Action, Day, Name, Refusal, Request, Subject, verdict};
 use std::alloc::{AllocError, Global};
 
 /// E2 and E3, and of a disposal E7 and E8: the verdict on what is known.
-fn asked_row(
+fn first_asked_refusal(
     alloc: Global,
     office: &Office,
     day: Day,
@@ -27,7 +27,7 @@ fn asked_row(
     deposit: &Deposit,
 ) -> Result<Option<Refusal>, AllocError>
     ensures { IfOk result (λ found. found
-        ≡ first_some (asked_row office.now day caller.now action number deposit.now)) }
+        ≡ first_some (asked_refusals office.now day caller.now action number deposit.now)) }
 {
     let facts = facts_of(alloc, office, caller, action, number, deposit)?;
     Ok(refusal_of(verdict(&facts, day)))
@@ -43,16 +43,18 @@ fn asked(
     number: u32,
 ) -> Result<Option<Refusal>, AllocError>
     ensures { IfOk result (λ found. found ≡ first_some (of_deposit
-        (deposit_numbered office.now number) (asked_row office.now day caller.now action number))) }
+        (deposit_numbered office.now number) (asked_refusals office.now day caller.now action number))) }
 {
     match deposit_numbered(office, number) {
-        Some((_, deposit)) => asked_row(alloc, office, day, caller, action, number, deposit),
+        Some((_, deposit)) => first_asked_refusal(
+            alloc, office, day, caller, action, number, deposit,
+        ),
         None => Ok(Some(Refusal::NoSuch(Subject::Deposit))),
     }
 }
 
 /// E4, E5, E6 and E10.
-fn bag_row(
+fn first_bag_refusal(
     alloc: Global,
     office: &Office,
     day: Day,
@@ -61,7 +63,7 @@ fn bag_row(
     bag: &[u8],
 ) -> Result<Option<Refusal>, AllocError>
     ensures { IfOk result (λ found. found
-        ≡ first_some (bag_row office.now day accession.now closed bag.now)) }
+        ≡ first_some (bag_refusals office.now day accession.now closed bag.now)) }
 {
     if let Some(refusal) = taken(office, accession) {
         return Ok(Some(refusal));
@@ -76,8 +78,13 @@ fn bag_row(
 }
 
 /// E1 and E2.
-fn place_row(office: &Office, caller: &str, collection: &str, class: &str) -> Option<Refusal>
-    ensures { result ≡ first_some (place_row office.now caller.now collection.now class.now) }
+fn first_place_refusal(
+    office: &Office,
+    caller: &str,
+    collection: &str,
+    class: &str,
+) -> Option<Refusal>
+    ensures { result ≡ first_some (place_refusals office.now caller.now collection.now class.now) }
 {
     if let Some(refusal) = no_such_collection(office, collection) {
         return Some(refusal);
@@ -85,7 +92,7 @@ fn place_row(office: &Office, caller: &str, collection: &str, class: &str) -> Op
     if let Some(refusal) = no_such_class(office, class) {
         return Some(refusal);
     }
-    denied(
+    denial(
         office,
         caller,
         Action::Deposit,
@@ -95,7 +102,7 @@ fn place_row(office: &Office, caller: &str, collection: &str, class: &str) -> Op
 }
 
 /// E2, E3 and E13.
-fn file_row(
+fn first_file_refusal(
     alloc: Global,
     office: &Office,
     day: Day,
@@ -105,9 +112,9 @@ fn file_row(
     path: &[u8],
 ) -> Result<Option<Refusal>, AllocError>
     ensures { IfOk result (λ found. found
-        ≡ first_some (file_row office.now caller.now number path.now deposit.now)) }
+        ≡ first_some (file_refusals office.now caller.now number path.now deposit.now)) }
 {
-    match asked_row(
+    match first_asked_refusal(
         alloc,
         office,
         day,
@@ -134,13 +141,13 @@ fn file_refusal(
         ≡ refusal office.now day caller.now (requests.DownloadFile number path.entry)) }
 {
     match deposit_numbered(office, number) {
-        Some((_, deposit)) => file_row(alloc, office, day, caller, number, deposit, path),
+        Some((_, deposit)) => first_file_refusal(alloc, office, day, caller, number, deposit, path),
         None => Ok(Some(Refusal::NoSuch(Subject::Deposit))),
     }
 }
 
 /// E2, E3 and E10.
-fn hold_row(
+fn first_hold_refusal(
     alloc: Global,
     office: &Office,
     day: Day,
@@ -149,9 +156,9 @@ fn hold_row(
     deposit: &Deposit,
 ) -> Result<Option<Refusal>, AllocError>
     ensures { IfOk result (λ found. found
-        ≡ first_some (hold_row office.now caller.now number deposit.now)) }
+        ≡ first_some (hold_refusals office.now caller.now number deposit.now)) }
 {
-    match asked_row(alloc, office, day, caller, Action::Hold, number, deposit)? {
+    match first_asked_refusal(alloc, office, day, caller, Action::Hold, number, deposit)? {
         Some(refusal) => Ok(Some(refusal)),
         None => Ok(full_of_holds(office)),
     }
@@ -166,37 +173,37 @@ fn hold_refusal(
     number: u32,
 ) -> Result<Option<Refusal>, AllocError>
     ensures { IfOk result (λ found. found ≡ first_some (of_deposit
-        (deposit_numbered office.now number) (hold_row office.now caller.now number))) }
+        (deposit_numbered office.now number) (hold_refusals office.now caller.now number))) }
 {
     match deposit_numbered(office, number) {
-        Some((_, deposit)) => hold_row(alloc, office, day, caller, number, deposit),
+        Some((_, deposit)) => first_hold_refusal(alloc, office, day, caller, number, deposit),
         None => Ok(Some(Refusal::NoSuch(Subject::Deposit))),
     }
 }
 
 /// E1, E2 and E10.
 fn collection_hold_refusal(office: &Office, caller: &str, name: &Name<'_>) -> Option<Refusal>
-    ensures { result ≡ first_some (collection_hold_row office.now caller.now name.now) }
+    ensures { result ≡ first_some (collection_hold_refusals office.now caller.now name.now) }
 {
     if let Some(refusal) = no_such_collection(office, name.as_str()) {
         return Some(refusal);
     }
-    if let Some(refusal) = denied(office, caller, Action::Hold, Some(name.as_str()), None) {
+    if let Some(refusal) = denial(office, caller, Action::Hold, Some(name.as_str()), None) {
         return Some(refusal);
     }
     full_of_holds(office)
 }
 
 /// E2: a release is asked of what the hold names.
-fn denied_release(office: &Office, caller: &str, hold: &Hold) -> Option<Refusal>
-    ensures { result ≡ denied_release office.now caller.now hold.now.target }
+fn release_denial(office: &Office, caller: &str, hold: &Hold) -> Option<Refusal>
+    ensures { result ≡ release_denial office.now caller.now hold.now.target }
 {
     match &hold.target {
         Target::Deposit(number) => match deposit_numbered(office, *number) {
-            Some((_, deposit)) => denied_at(office, caller, Action::Release, deposit),
+            Some((_, deposit)) => denial_at(office, caller, Action::Release, deposit),
             None => Some(Refusal::NoSuch(Subject::Deposit)),
         },
-        Target::Collection(name) => denied(
+        Target::Collection(name) => denial(
             office,
             caller,
             Action::Release,
@@ -209,12 +216,12 @@ fn denied_release(office: &Office, caller: &str, hold: &Hold) -> Option<Refusal>
 /// E1, E2 and E9.
 fn release_refusal(office: &Office, caller: &str, number: u32) -> Option<Refusal>
     ensures { result ≡ first_some (of_hold (hold_numbered office.now number)
-        (release_row office.now caller.now number)) }
+        (release_refusals office.now caller.now number)) }
 {
     let Some((_, hold)) = hold_numbered(office, number) else {
         return Some(Refusal::NoSuch(Subject::Hold));
     };
-    if let Some(refusal) = denied_release(office, caller, hold) {
+    if let Some(refusal) = release_denial(office, caller, hold) {
         return Some(refusal);
     }
     is_released(office, number)
@@ -244,14 +251,14 @@ pub fn refusal(
     ensures { IfOk result (λ found. found ≡ refusal office.now day caller.now request.now) }
 {
     match request {
-        Request::DefineClass { name, .. } => Ok(denied(
+        Request::DefineClass { name, .. } => Ok(denial(
             office,
             caller,
             Action::Class,
             None,
             Some(name.as_str()),
         )),
-        Request::DefineCollection { name } => Ok(denied(
+        Request::DefineCollection { name } => Ok(denial(
             office,
             caller,
             Action::Collection,
@@ -264,9 +271,9 @@ pub fn refusal(
             accession,
             closed,
             bag,
-        } => match place_row(office, caller, collection.as_str(), class.as_str()) {
+        } => match first_place_refusal(office, caller, collection.as_str(), class.as_str()) {
             Some(refusal) => Ok(Some(refusal)),
-            None => bag_row(alloc, office, day, accession.as_str(), *closed, *bag),
+            None => first_bag_refusal(alloc, office, day, accession.as_str(), *closed, *bag),
         },
         Request::List { .. } => Ok(None),
         Request::Record { deposit } => asked(alloc, office, day, caller, Action::Record, *deposit),
