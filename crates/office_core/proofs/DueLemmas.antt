@@ -5,6 +5,7 @@ use Rattle.jiff.specs.Types.{Date}
 use Rattle.jiff.proofs.Family.{same_date}
 use Rattle.jiff.specs.Words.{days_in_month}
 use Rattle.jiff_core.proofs.SignedLemmas.{signed_arith}
+use Rattle.office_core.specs.Bounds.{max_years}
 use Rattle.office_core.specs.Days.{IsDay, IsYearsAfter, is_missing}
 use Rattle.office_core.specs.Requests.{IsYears}
 use Rattle.office_core.proofs.DayLemmas.{kept_is}
@@ -40,7 +41,7 @@ due_of_is closing None (On date) h = absurd h
 due_of_is closing None Never h = refl
 
 -- the date that many years after a day of the office
-date_after : (closing : Date) (years : ℕ) → IsDay closing → years ≤ 200 → (date : Date) × IsYearsAfter closing years date
+date_after : (closing : Date) (years : ℕ) → IsDay closing → years ≤ max_years → (date : Date) × IsYearsAfter closing years date
 date_after closing years is few =
     let year = closing.year +ℤ pos years in
     let day = if is_missing year closing.month closing.day then 28 else closing.day in

@@ -1,6 +1,7 @@
 -- Reading a tree step by step gives its first fault, or the policy that it spells.
 use Rattle.std.proofs.Common.{◌≡◌, ℕ, Bool, true, false, ◌||◌, List, [], ◌∷◌, length, Option, Some, None, Ok, Err, nat_lt, option_map, refl, if◌then◌else◌}
 use Rattle.toml.specs.Data.{Members}
+use Rattle.office_core.specs.Bounds.{max_rules, max_callers}
 use Rattle.office_core.specs.FirstOf.{first_some, answer_if}
 use Rattle.office_core.specs.Policies.{Contents, contents_unless, faults, contents_of, callers_of, rules_of, bad_rule, has_bad_version, has_unknown_key, has_bad_caller}
 use Rattle.office_core.specs.PolicyReading.{◌>>=◌, rules_or, contents_within_limits, read_contents}
@@ -16,12 +17,12 @@ last_fault false contents = refl
 -- the steps find the first of the faults
 first_fault : (version unknown bad : Bool) (callers : List Caller) (number : Option ℕ) (rules : List Rule)
     → (if version then Err BadVersion else if unknown then Err UnknownKey else ((if bad then Err BadCaller else Ok callers) >>= λ read. rules_or rules number >>= λ ordered. contents_within_limits read ordered))
-    ≡ contents_unless (record { callers = callers; rules = rules }) (first_some (answer_if version BadVersion ∷ answer_if unknown UnknownKey ∷ answer_if bad BadCaller ∷ option_map BadRule number ∷ answer_if (nat_lt 200 (length rules) || nat_lt 1000 (length callers)) TooMany ∷ []))
+    ≡ contents_unless (record { callers = callers; rules = rules }) (first_some (answer_if version BadVersion ∷ answer_if unknown UnknownKey ∷ answer_if bad BadCaller ∷ option_map BadRule number ∷ answer_if (nat_lt max_rules (length rules) || nat_lt max_callers (length callers)) TooMany ∷ []))
 first_fault true unknown bad callers number rules = refl
 first_fault false true bad callers number rules = refl
 first_fault false false true callers number rules = refl
 first_fault false false false callers (Some number) rules = refl
-first_fault false false false callers None rules = last_fault (nat_lt 200 (length rules) || nat_lt 1000 (length callers)) (record { callers = callers; rules = rules })
+first_fault false false false callers None rules = last_fault (nat_lt max_rules (length rules) || nat_lt max_callers (length callers)) (record { callers = callers; rules = rules })
 
 pub contents_is : (tree : Members) → read_contents tree ≡ contents_unless (contents_of tree) (first_some (faults tree))
 contents_is tree = first_fault (has_bad_version tree) (has_unknown_key tree) (has_bad_caller tree) (callers_of tree) (bad_rule tree) (rules_of tree)

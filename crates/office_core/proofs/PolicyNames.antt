@@ -5,6 +5,7 @@ use Rattle.std.proofs.lemmas.Bool.{and_parts, or_parts, false≢true}
 use Rattle.std.proofs.lemmas.Bool.Decides.{nat_tests}
 use Rattle.std.specs.List.{list_all, filter_map, AllByRecursion}
 use Rattle.toml.specs.Data.{Data, string, integer, float, boolean, datetime, array, table, Members, no_members, member, same_key, get_member, as_str, as_table}
+use Rattle.office_core.specs.Bounds.{max_rules, max_callers}
 use Rattle.office_core.specs.FirstOf.{◌>>=◌, first_some, answer_if}
 use Rattle.office_core.specs.Names.{is_name}
 use Rattle.office_core.specs.Policies.{Contents, contents_of, entries, is_one_of, caller_in, table_entries, caller_entries, callers_among, is_bad_among, callers_of, rule_keys, text_at, effect_at, action_at, pattern_in, pattern_at, rule_of, rule_in, rules_among, bad_rule_among, bad_rule, rule_values, rules_of, has_bad_version, has_unknown_key, has_bad_caller, has_too_many, faults, IsNamed, HasNames, IsNamedCaller, EachCallerOnce, IsPolicy, SpellsPolicy}
@@ -178,7 +179,7 @@ not_too_many tree sound =
 
 tree_policy : (tree : Members) → AllSound tree → first_some (faults tree) ≡ None → IsPolicy (contents_of tree)
 tree_policy tree once sound =
-    let few = or_parts (nat_lt 200 (length (rules_of tree))) (nat_lt 1000 (length (callers_of tree))) (not_too_many tree sound) in
+    let few = or_parts (nat_lt max_rules (length (rules_of tree))) (nat_lt max_callers (length (callers_of tree))) (not_too_many tree sound) in
     record {
       rules_ask_for_names = among_named (rule_values tree);
       callers_are_names = callers_among_named (caller_entries tree);
@@ -208,7 +209,7 @@ rules_read found rules e = by_bad (bad_rule_among found) e
 
 -- what is read of a tree is a policy, where it isn't too much
 pub read_policy_is : (tree : Members) (callers : List Caller) (rules : List Rule) → EachCallerOnce (callers_of tree) → read_callers (caller_entries tree) ≡ Ok callers → read_rules (rule_values tree) ≡ Ok rules
-    → length rules ≤ 200 → length callers ≤ 1000 → IsPolicy (record { callers = callers; rules = rules })
+    → length rules ≤ max_rules → length callers ≤ max_callers → IsPolicy (record { callers = callers; rules = rules })
 read_policy_is tree callers rules once callers_are rules_are few_rules few_callers =
     let same_callers = callers_read (caller_entries tree) callers callers_are in
     let same_rules = rules_read (rule_values tree) rules rules_are in

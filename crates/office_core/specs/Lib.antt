@@ -1,3 +1,4 @@
+pub mod Bounds
 pub mod Days
 pub mod DayReading
 pub mod Retention

@@ -5,6 +5,7 @@ use Rattle.std.specs.Option.{option_map_or}
 use Rattle.std.specs.Ordering.{int_eq}
 use Rattle.toml.specs.Data.{Data, Items, no_items, item, Members, no_members, member, get_member, as_str, as_integer, as_table, as_array}
 use Rattle.toml.specs.Parse.{parse_document}
+use Rattle.office_core.specs.Bounds.{max_rules, max_callers}
 use Rattle.office_core.specs.FirstOf.{◌>>=◌, first_some, answer_if}
 use Rattle.office_core.specs.Names.{is_name, IsName}
 use Rattle.office_core.specs.Actions.{action_of}
@@ -148,7 +149,7 @@ has_bad_caller tree = is_bad_among (caller_entries tree)
 
 -- Y6: more than 200 rules or 1,000 callers
 abbrev pub has_too_many : Members → Bool
-has_too_many tree = nat_lt 200 (length (rules_of tree)) || nat_lt 1000 (length (callers_of tree))
+has_too_many tree = nat_lt max_rules (length (rules_of tree)) || nat_lt max_callers (length (callers_of tree))
 
 -- the faults from Y2 to Y6, each where it stands
 abbrev pub faults : Members → List (Option PolicyFault)
@@ -226,8 +227,8 @@ pub record IsPolicy (policy : Contents) : Type 0 where
   pub rules_ask_for_names : AllByRecursion HasNames policy.rules
   pub callers_are_names : AllByRecursion IsNamedCaller policy.callers
   pub callers_stand_once : EachCallerOnce policy.callers
-  pub few_rules : length policy.rules ≤ 200
-  pub few_callers : length policy.callers ≤ 1000
+  pub few_rules : length policy.rules ≤ max_rules
+  pub few_callers : length policy.callers ≤ max_callers
 
 -- ---- what a call answers, memory aside
 

@@ -1,6 +1,7 @@
 -- What reading a policy gives, step by step.
 use Rattle.std.specs.Prelude.{◌≡◌, ℕ, ◌||◌, List, length, Option, Some, None, Result, Ok, Err, nat_lt, if◌then◌else◌}
 use Rattle.toml.specs.Data.{Data, Members}
+use Rattle.office_core.specs.Bounds.{max_rules, max_callers}
 use Rattle.office_core.specs.Policies.{Contents, callers_among, is_bad_among, caller_entries, rules_among, bad_rule_among, rule_values, has_bad_version, has_unknown_key}
 use Rattle.office_core.specs.declared.policy_fault.PolicyFault.{PolicyFault}
 use Rattle.office_core.specs.declared.policy_fault.PolicyFault.TheVariants.{BadVersion, UnknownKey, BadCaller, BadRule, TooMany}
@@ -26,7 +27,7 @@ read_rules found = rules_or (rules_among found) (bad_rule_among found)
 
 abbrev pub contents_within_limits : List Caller → List Rule → Result Contents PolicyFault
 contents_within_limits callers rules =
-    if nat_lt 200 (length rules) || nat_lt 1000 (length callers) then Err TooMany else Ok (record { callers = callers; rules = rules })
+    if nat_lt max_rules (length rules) || nat_lt max_callers (length callers) then Err TooMany else Ok (record { callers = callers; rules = rules })
 
 -- what reading a tree gives
 abbrev pub read_contents : Members → Result Contents PolicyFault

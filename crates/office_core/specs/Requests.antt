@@ -1,5 +1,6 @@
 -- Which requests there are: a request that is a value of the type asks only for these.
 use Rattle.std.specs.Prelude.{ℕ, ◌≤◌, Option, IfSome}
+use Rattle.office_core.specs.Bounds.{max_years}
 use Rattle.office_core.specs.Days.{IsDay}
 use Rattle.office_core.specs.Names.{IsName, IsAccession, IsMatter}
 use Rattle.office_core.specs.declared.request.Request.{Request}
@@ -7,7 +8,7 @@ use Rattle.office_core.specs.declared.request.Request.TheVariants.{DefineClass, 
 
 -- 0 to 200 years, or for good
 abbrev pub IsYears : Option ℕ → Type 0
-IsYears years = IfSome years (λ count. count ≤ 200)
+IsYears years = IfSome years (λ count. count ≤ max_years)
 
 -- its names are names, its accession an accession and its matter a matter; its years and its closing day are in their ranges
 abbrev pub IsRequest : Request → Type 0

@@ -34,6 +34,7 @@ pub enum Action {
 }
 
 impl Action {
+    /// The word that a policy writes for the action.
     pub fn as_str(self) -> &'static str
         ensures { result.now ≡ action_text self }
     {

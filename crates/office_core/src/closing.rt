@@ -2,6 +2,7 @@
 
 ghost use Rattle.std.specs.Prelude.{◌≡◌, ◌≤◌, ◌≤ℤ◌, ◌+ℤ◌, pos, if◌then◌else◌};
 ghost use Rattle.jiff.specs.Words.{is_leap_year};
+ghost use Rattle.office_core.specs.Bounds.{max_years};
 ghost use Rattle.office_core.specs.Days.{IsDay, is_missing, IsYearsAfter};
 ghost use Rattle.office_core.specs.Retention.{IsDue};
 ghost use Rattle.office_core.specs.RetentionReading.{due_of};
@@ -33,7 +34,7 @@ fn day_in(year: i16, date: civil::Date) -> i8
 
 fn year_after(date: civil::Date, count: u8) -> i16
     requires day { IsDay date }
-    requires count { count ≤ 200 }
+    requires count { count ≤ max_years }
     ensures { result ≡ date.year +ℤ pos count }
 {
     date.year() + count as i16
@@ -42,7 +43,7 @@ fn year_after(date: civil::Date, count: u8) -> i16
 /// The date that many years later.
 fn years_after(date: civil::Date, count: u8) -> civil::Date
     requires day { IsDay date }
-    requires count { count ≤ 200 }
+    requires count { count ≤ max_years }
     ensures { IsYearsAfter date count result }
 {
     let year = year_after(date, count);

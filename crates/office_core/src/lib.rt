@@ -32,13 +32,16 @@ pub use closing::due;
 pub use day::Day;
 pub use deciding::{denial_verdict, verdict};
 pub use facts::{Facts, Verdict};
-pub use limits::Limits;
-pub use names::{Accession, Matter, Name, OwnedAccession, OwnedMatter, OwnedName};
-pub use policy::{Policy, read_policy};
+pub use limits::{Limits, MAX_LIMIT};
+pub use names::{
+    Accession, MAX_ACCESSION, MAX_MATTER, MAX_NAME, Matter, Name, OwnedAccession, OwnedMatter,
+    OwnedName,
+};
+pub use policy::{MAX_CALLERS, MAX_RULES, Policy, read_policy};
 pub use policy_fault::PolicyFault;
 pub use refusal::{Refusal, Subject};
 pub use request::Request;
-pub use retention::{Due, Years};
+pub use retention::{Due, MAX_YEARS, Years};
 pub use rule::{ActionPattern, Ask, Decision, Effect, Pattern, Rule, decide, first_match};
 pub use sequence::Sequence;
 pub use text::FaultText;

@@ -8,6 +8,15 @@ ghost use Rattle.office_core.specs.Names.{is_joiner, is_name_byte, is_accession_
 use std::alloc::{AllocError, Global};
 use std::marker::Model;
 
+/// How many characters a name has at most.
+pub const MAX_NAME: usize = 40;
+
+/// How many characters an accession number has at most.
+pub const MAX_ACCESSION: usize = 64;
+
+/// How many bytes a matter has at most.
+pub const MAX_MATTER: usize = 200;
+
 fn is_joiner(byte: u8) -> bool
     ensures { result ≡ is_joiner byte }
 {
@@ -36,7 +45,7 @@ fn has_name_form(text: &str) -> bool
     ensures { result ≡ is_name text.now }
 {
     let bytes = text.as_bytes();
-    has_length(bytes, 1, 40) && has_name_bytes(bytes)
+    has_length(bytes, 1, MAX_NAME) && has_name_bytes(bytes)
 }
 
 fn is_accession_byte(byte: u8) -> bool
@@ -55,7 +64,7 @@ fn has_accession_form(text: &str) -> bool
     ensures { result ≡ is_accession text.now }
 {
     let bytes = text.as_bytes();
-    has_length(bytes, 1, 64) && has_accession_bytes(bytes)
+    has_length(bytes, 1, MAX_ACCESSION) && has_accession_bytes(bytes)
 }
 
 fn is_matter_byte(byte: u8) -> bool
@@ -74,7 +83,7 @@ fn has_matter_form(text: &str) -> bool
     ensures { result ≡ is_matter text.now }
 {
     let bytes = text.as_bytes();
-    has_length(bytes, 1, 200) && has_matter_bytes(bytes)
+    has_length(bytes, 1, MAX_MATTER) && has_matter_bytes(bytes)
 }
 
 /// A name: 1 to 40 characters of `a` to `z`, `0` to `9`, `-`, `_` and `.`.

@@ -15,6 +15,12 @@ use std::alloc::Global;
 use std::marker::Model;
 use toml::Table;
 
+/// How many rules a policy has at most.
+pub const MAX_RULES: usize = 200;
+
+/// How many callers a policy has at most.
+pub const MAX_CALLERS: usize = 1_000;
+
 /// A policy: callers, each with its role, and rules, of which the first that matches decides.
 /// Callers, roles and what the rules ask for are names, each caller stands once, and there are at
 /// most 200 rules and 1,000 callers.
@@ -87,7 +93,7 @@ fn read_tree(alloc: Global, tree: &Table) -> Result<Policy, PolicyFault>
     }
     let callers = callers_of(alloc, tree)?;
     let rules = rules_of(alloc, tree)?;
-    if rules.len() > 200 || callers.len() > 1000 {
+    if rules.len() > MAX_RULES || callers.len() > MAX_CALLERS {
         return Err(PolicyFault::TooMany);
     }
     Ok(Policy { callers, rules })

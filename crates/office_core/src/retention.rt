@@ -2,9 +2,13 @@
 
 ghost use Rattle.std.specs.Prelude.{◌≡◌, ◌≤◌, Some, None, IfSome};
 ghost use Rattle.std.specs.Option.{SomeIff};
+ghost use Rattle.office_core.specs.Bounds.{max_years};
 
 use jiff::civil;
 use std::marker::Model;
+
+/// How many years a class keeps its deposits at most, if not for good.
+pub const MAX_YEARS: u8 = 200;
 
 /// How long a class keeps its deposits after their closing day: 0 to 200 years, or for good.
 #[derive(Clone, Copy, Debug, PartialEq, Eq)]
@@ -14,6 +18,7 @@ pub struct Years {
 
 impl Model for Years {
     ghost use Rattle.std.specs.Prelude.{ℕ, Option, ◌≤◌, IfSome};
+    ghost use Rattle.office_core.specs.Bounds.{max_years};
 
     ghost Value = { Option ℕ };
 
@@ -21,7 +26,7 @@ impl Model for Years {
 
     ghost inverse = { λ count. record { count = count } };
 
-    ghost invariant = { λ years. IfSome years.count (λ n. n ≤ 200) };
+    ghost invariant = { λ years. IfSome years.count (λ n. n ≤ max_years) };
 }
 
 impl Years {
@@ -34,9 +39,9 @@ impl Years {
 
     /// That many years, where they are at most 200.
     pub fn new(count: u8) -> Option<Years>
-        ensures { SomeIff result (count ≤ 200) (Some count) }
+        ensures { SomeIff result (count ≤ max_years) (Some count) }
     {
-        if count > 200 {
+        if count > MAX_YEARS {
             return None;
         }
         Some(Years { count: Some(count) })
@@ -45,7 +50,7 @@ impl Years {
     /// The number of years, or none where it is for good.
     pub fn count(self) -> Option<u8>
         ensures value { result ≡ self }
-        ensures range { IfSome result (λ n. n ≤ 200) }
+        ensures range { IfSome result (λ n. n ≤ max_years) }
     {
         self.count
     }

@@ -26,6 +26,7 @@ impl<T> Sequence<T> {
         Sequence { items }
     }
 
+    /// The items, lent.
     pub fn as_slice(&self) -> &[T]
         ensures { result.now ≡ self.now }
     {

@@ -19,12 +19,14 @@ impl Model for FaultText {
 }
 
 impl FaultText {
+    /// The text, as that of a fault.
     pub fn of(text: String) -> FaultText
         ensures { result ≡ string_bytes text }
     {
         FaultText { text }
     }
 
+    /// The text, lent.
     pub fn as_str(&self) -> &str
         ensures { result.now ≡ self.now }
     {
