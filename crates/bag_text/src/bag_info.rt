@@ -8,7 +8,7 @@ use std::borrow::CowStr;
 
 /// What `bag-info.txt` says: its labels and values, in order. A label is a slice of the text, and so is a value
 /// that no line continues; another is owned, its lines joined by one LF.
-#[derive(Drop)]
+#[derive(Debug, Drop)]
 pub struct BagInfo<'a> {
     /// Each label with its value, in the order of the text.
     pub pairs: Vec<(&'a str, CowStr<'a, Global>)>,

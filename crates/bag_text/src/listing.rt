@@ -19,7 +19,7 @@ pub struct Listing {
 
 /// What a manifest lists, ascending by path. A path is borrowed from the manifest's text where nothing was
 /// decoded for it.
-#[derive(Drop)]
+#[derive(Debug, Drop)]
 pub struct Manifest<'a> {
     /// Each path that a line lists, with what is said of it.
     pub entries: BTreeMap<CowStr<'a, Global>, Listing>,

@@ -18,7 +18,7 @@ use std::alloc::Global;
 use std::marker::Model;
 
 /// A bag: its files, ascending by path. Paths and contents are slices of the text that was read.
-#[derive(Drop)]
+#[derive(Debug, Drop)]
 pub struct BagSet<'a> {
     files: Vec<(&'a str, &'a [u8])>,
 }
