@@ -6,7 +6,7 @@ use Rattle.sqlite.specs.declared.types.Value.TheVariants.{Null, Int, Text}
 use Rattle.sqlite.specs.Order.{Row, column}
 use Rattle.sqlite.specs.Edit.{id_in, edit_of}
 use Rattle.sqlite.specs.Rowids.TheVariants.{Chosen, Given}
-use Rattle.sqlite.specs.Tree.{Trees, rowid}
+use Rattle.sqlite.specs.Tree.{rowid}
 use Rattle.sqlite.specs.Kind.TheVariants as kind
 use Rattle.sqlite.specs.Cast.{cast, cast_row}
 use Rattle.sqlite.specs.Effect.{Database}
@@ -19,7 +19,7 @@ use Rattle.sqlite_rules.proofs.TableLemmas.{int_is}
 use Rattle.sqlite_trees.specs.View.{is_int}
 use Rattle.sql_meaning.specs.Columns.{int_at, bytes_at}
 use Rattle.sql_meaning.proofs.Writing.{inserts}
-use Rattle.sql_meaning.proofs.Scanning.{scan, as_program, shown_of, scanned, answers_one}
+use Rattle.sql_meaning.proofs.Scanning.{shown_of}
 use Rattle.sql_meaning.proofs.Reading.{reads_same, reads_one, finds_part}
 use Rattle.sql_meaning.proofs.TextKeys.{has_text, by_text, each_passes, few_named}
 use Rattle.sql_meaning.proofs.Typed.{text_at, int_in, all_both}

@@ -1,12 +1,11 @@
 -- What the statements on deposits mean under the schema of an office.
-use Rattle.std.proofs.Common.{◌≡◌, ℕ, List, [], ◌∷◌, codes, false, refl}
+use Rattle.std.proofs.Common.{ℕ, List, [], ◌∷◌, codes, false, refl}
 use Rattle.sqlite.specs.declared.types.Value.TheVariants.{Null}
 use Rattle.sqlite.specs.Collation.TheVariants.{Binary}
 use Rattle.sqlite.specs.Term.{Term, lit, col}
 use Rattle.sqlite.specs.Command.TheVariants.{Insert, Update}
 use Rattle.sqlite.specs.Source.TheVariants.{Values}
 use Rattle.sqlite.specs.Listing.{understood}
-use Rattle.sqlite.proofs.Callers.{IsPlain, command_of}
 use Rattle.sqlite_tied.specs.Compute.{everything}
 use Rattle.sqlite_value.specs.declared.keys.Key.{Key}
 use Rattle.sql_meaning.proofs.Scanning.{scan, as_program}

@@ -18,7 +18,7 @@ use Rattle.sqlite.specs.Cast.{cast_row}
 use Rattle.sqlite.specs.Kind.TheVariants as kind
 use Rattle.sqlite.specs.Ops.{binary, is_true}
 use Rattle.sqlite.specs.Collation.TheVariants.{Binary}
-use Rattle.sqlite.specs.Tree.{Trees, rowid, IsAscending}
+use Rattle.sqlite.specs.Tree.{rowid, IsAscending}
 use Rattle.sqlite.specs.Query.{output, output_cmp}
 use Rattle.sqlite.specs.Effect.{Database}
 use Rattle.sqlite.specs.State.{State, Shown, Executes}

@@ -13,7 +13,7 @@ use Rattle.sqlite.specs.Order.{Row, column, bytes, value_cmp}
 use Rattle.sqlite.specs.Values.{or_null, bound_value}
 use Rattle.sqlite.specs.Edit.{Edit, id_in, edit_of, with_rowid}
 use Rattle.sqlite.specs.Rowids.TheVariants.{Chosen, Given}
-use Rattle.sqlite.specs.Tree.{Trees, rowid, IsAscending}
+use Rattle.sqlite.specs.Tree.{rowid, IsAscending}
 use Rattle.sqlite.specs.Term.{Term}
 use Rattle.sqlite.specs.Effect.{Database}
 use Rattle.sqlite.specs.Kind.TheVariants as kind
@@ -38,7 +38,7 @@ use Rattle.sql_meaning.specs.Columns.{int_at, bytes_at, maybe_int, maybe_bytes, 
 use Rattle.sql_meaning.proofs.Writing.{Changes, inserts}
 use Rattle.sql_meaning.proofs.Inserts.{none_before}
 use Rattle.sqlite_schema.specs.declared.schema.Keys.TheVariants.{Enforced}
-use Rattle.sql_meaning.proofs.Scanning.{scan, as_program, passes, shown_of, scanned, answers_one, finds_one}
+use Rattle.sql_meaning.proofs.Scanning.{passes, shown_of, finds_one}
 use Rattle.sql_meaning.proofs.Reading.{Asks, reads_same, reads_one, reads_rising}
 use Rattle.sql_meaning.proofs.RowidKeys.{by_number, has_number, each_numbered, few_numbered, one_numbered}
 use Rattle.sql_meaning.proofs.Typed.{text_at, int_in, maybe_int_at as some_int_at, maybe_text_at as some_text_at, all_both}

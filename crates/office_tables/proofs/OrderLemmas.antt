@@ -1,17 +1,14 @@
 -- The rows of an office are in order.
-use Rattle.std.proofs.Common.{◌≡◌, ℕ, ℤ, List, [], ◌∷◌, map, None, Some, Less, IsTrue, refl, sym, subst, subst₂, ◌∙◌}
+use Rattle.std.proofs.Common.{◌≡◌, ℕ, ℤ, List, [], ◌∷◌, map, Less, refl, ◌∙◌}
 use Rattle.std.specs.List.{AllByRecursion}
 use Rattle.std.specs.Ordering.{int_cmp}
-use Rattle.std.proofs.lemmas.Cmp.{int_cmp_total}
 use Rattle.sqlite.specs.Order.{Row, value_cmp}
 use Rattle.sqlite.specs.Tree.{rowid, IsAscending}
 use Rattle.sqlite.specs.Effect.{Database}
-use Rattle.sqlite_trees.specs.View.{is_int, IsShaped}
+use Rattle.sqlite_trees.specs.View.{IsShaped}
 use Rattle.sqlite_trees.specs.declared.store.Shape.TheVariants as shape
-use Rattle.sqlite_value.proofs.OrderLemmas.{value_cmp-Int}
-use Rattle.sqlite_rules.proofs.TableLemmas.{int_is}
 use Rattle.sql_meaning.specs.Columns.{int_at}
-use Rattle.office_rows.specs.Rows.{NumbersRise, AreInOrder, last_number, live_holds}
+use Rattle.office_rows.specs.Rows.{NumbersRise, AreInOrder, live_holds}
 use Rattle.office_tables.specs.Tables.{IsOffice, tables_of, deposit_in, hold_in, rule_in}
 use Rattle.office_tables.proofs.InOrder.{IsNumbered, same_order}
 use Rattle.office_tables.proofs.HoldLemmas.{live_rise}

@@ -15,7 +15,8 @@ mod run;
 pub use classes::{class_of, has_collection, put_class, put_collection};
 pub use creating::create;
 pub use deposits::{
-    DepositRow, NewDeposit, by_accession, deposit_row, deposit_rows, last_deposit, mark_gone, put_deposit,
+    DepositRow, NewDeposit, by_accession, deposit_row, deposit_rows, last_deposit, mark_gone,
+    put_deposit,
 };
 pub use fault::TableFault;
 pub use files::{FileRow, drop_files, file_of, files_of, put_file};
