@@ -2,10 +2,10 @@
 
 use crate::outcome::Outcome;
 use office_tables::{
-    CallerRow, HoldTarget, NewDeposit, RuleRow, TableFault, by_accession, class_of, create, deposit_row, deposit_rows,
-    drop_files, end_hold, file_of, files_of, has_collection, hold_row, last_deposit, last_hold,
-    limits, live_holds, mark_gone, open_tables, put_class, put_collection, put_deposit, put_file,
-    put_hold, put_policy, role_of, rules,
+    CallerRow, HoldTarget, NewDeposit, RuleRow, TableFault, by_accession, class_of, create,
+    deposit_row, deposit_rows, drop_files, end_hold, file_of, files_of, has_collection, hold_row,
+    last_deposit, last_hold, limits, live_holds, mark_gone, open_tables, put_class, put_collection,
+    put_deposit, put_file, put_hold, put_policy, role_of, rules,
 };
 use sqlite::{Alter, Connection, Transaction};
 use std::alloc::{AllocError, Global};

@@ -2,8 +2,8 @@
 
 use crate::office::{Hold, Rule};
 use office_tables::{
-    CallerRow, NewDeposit, RuleRow, TableFault, drop_files, end_hold, mark_gone, put_class, put_collection,
-    put_deposit, put_file, put_hold, put_policy,
+    CallerRow, NewDeposit, RuleRow, TableFault, drop_files, end_hold, mark_gone, put_class,
+    put_collection, put_deposit, put_file, put_hold, put_policy,
 };
 use sqlite::{Alter, Connection, Transaction};
 use std::alloc::{AllocError, Global};

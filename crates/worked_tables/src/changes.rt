@@ -1,8 +1,8 @@
 //! Changes of the rows, as values that a table can hold.
 
 use office_tables::{
-    CallerRow, HoldTarget, NewDeposit, RuleRow, TableFault, drop_files, end_hold, mark_gone, put_class, put_collection,
-    put_deposit, put_file, put_hold, put_policy,
+    CallerRow, HoldTarget, NewDeposit, RuleRow, TableFault, drop_files, end_hold, mark_gone,
+    put_class, put_collection, put_deposit, put_file, put_hold, put_policy,
 };
 use sqlite::{Alter, Transaction};
 use std::alloc::{AllocError, Global};

@@ -150,13 +150,22 @@ fn files_last(rt: HostRuntime) -> Result<(), Fail> {
 /// Four holds, of which the first is released, and the last comes between two others.
 static PLACED: [Row; 6] = [
     (Step::Create, "done"),
-    (Step::Do(Change::Hold(1, HoldTarget::Deposit(7), "tax 1")), "done"),
+    (
+        Step::Do(Change::Hold(1, HoldTarget::Deposit(7), "tax 1")),
+        "done",
+    ),
     (
         Step::Do(Change::Hold(2, HoldTarget::Collection("maps"), "suit")),
         "done",
     ),
-    (Step::Do(Change::Hold(5, HoldTarget::Deposit(8), "audit")), "done"),
-    (Step::Do(Change::Hold(3, HoldTarget::Deposit(7), "audit")), "done"),
+    (
+        Step::Do(Change::Hold(5, HoldTarget::Deposit(8), "audit")),
+        "done",
+    ),
+    (
+        Step::Do(Change::Hold(3, HoldTarget::Deposit(7), "audit")),
+        "done",
+    ),
     (Step::Do(Change::EndHold(1, 150)), "done"),
 ];
 

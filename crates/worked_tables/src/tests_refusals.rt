@@ -14,7 +14,10 @@ static SMALL_OFFICE: [Row; 6] = [
     (Step::Do(Change::Collection("maps")), "done"),
     (Step::Do(Change::Deposit(1, "2026/1", "maps", "y2")), "done"),
     (Step::Do(Change::File(1, "data/a", b"abc")), "done"),
-    (Step::Do(Change::Hold(1, HoldTarget::Deposit(1), "suit")), "done"),
+    (
+        Step::Do(Change::Hold(1, HoldTarget::Deposit(1), "suit")),
+        "done",
+    ),
 ];
 
 /// What the small office holds.
