@@ -3,7 +3,7 @@
 use super::*;
 use commands::run;
 use std::alloc::Global;
-use std::io::{Error, ErrorKind, Read};
+use std::io::{Error, ErrorKind, Read, Write};
 use std::test::*;
 use std::{fs, io};
 
@@ -38,17 +38,27 @@ fn longest_form(alloc: Global) -> Result<Vec<u8>, Fail> {
     Ok(form)
 }
 
+/// The longest form and one byte more: how many bytes are read, and the line that is printed.
+static LENGTHS: [(usize, &str); 2] = [
+    (16_777_216, "invalid B5\n"),
+    (16_777_217, "unreadable SIZE\n"),
+];
+
 #[test]
 fn reads_up_to_the_limit(rt: HostRuntime) -> Result<(), Fail> {
-    let form = longest_form(rt.alloc())?;
-    assert_eq!(rt; form.len(), 16_777_216);
-    let mut input = form.as_slice();
-    let (out, _, ending) = printed(&rt, "-", &mut input);
-    assert_eq!(rt; out.as_slice(), b"invalid B5\n".as_slice());
-    assert_eq!(rt; ending, Ending::Refused);
-    let (out, _, ending) = printed(&rt, "-", &mut io::repeat(b'x').take(16_777_217));
-    assert_eq!(rt; out.as_slice(), b"unreadable SIZE\n".as_slice());
-    assert_eq!(rt; ending, Ending::Refused);
+    let mut form = longest_form(rt.alloc())?;
+    for (length, line) in &LENGTHS {
+        assert_eq!(rt; form.len(), *length);
+        let (out, _, ending) = printed(&rt, "-", &mut form.as_slice());
+        assert_eq!(rt; out.as_slice(), line.as_bytes(), "{line}");
+        assert_eq!(rt; ending, Ending::Refused, "{line}");
+        fs::write(&rt, "longest.bagset", form.as_slice())?;
+        let (out, _, ending) = printed(&rt, "longest.bagset", &mut b"".as_slice());
+        assert_eq!(rt; out.as_slice(), line.as_bytes(), "a file: {line}");
+        assert_eq!(rt; ending, Ending::Refused, "a file: {line}");
+        form.extend_from_slice(b"\n")?;
+    }
+    fs::remove_file(&rt, "longest.bagset")?;
     Ok(())
 }
 
@@ -92,6 +102,35 @@ fn a_torn_input_is_a_fault_of_the_device(rt: HostRuntime) {
     assert_eq!(rt; ending, Ending::Failed);
 }
 
+/// A writer that takes all bytes, and fails as it is flushed.
+#[derive(Drop)]
+struct Unflushed;
+
+impl Write for Unflushed {
+    fn write(&mut self, buf: &[u8]) -> io::Result<usize> {
+        Ok(buf.len())
+    }
+
+    fn flush(&mut self) -> io::Result<()> {
+        Err(Error::from(ErrorKind::BrokenPipe))
+    }
+}
+
+#[test]
+fn what_is_not_flushed_is_a_fault_of_the_device(rt: HostRuntime) {
+    let mut err = Vec::new(rt.alloc());
+    let words = ["check", "-"];
+    let ending = run(&rt, words.as_slice(), &mut &*BAG, &mut Unflushed, &mut err);
+    assert_eq!(rt; err.as_slice(), b"device\n".as_slice());
+    assert_eq!(rt; ending, Ending::Failed);
+    // Words that are no use, where standard error fails.
+    let words = ["judge", "-"];
+    let mut out = Vec::new(rt.alloc());
+    let ending = run(&rt, words.as_slice(), &mut &*BAG, &mut out, &mut Unflushed);
+    assert_eq!(rt; out.as_slice(), b"".as_slice());
+    assert_eq!(rt; ending, Ending::Failed);
+}
+
 /// What a run on these words prints on standard output and on standard error, and how it ends.
 fn explained(rt: &HostRuntime, words: &[&str]) -> (Vec<u8>, Vec<u8>, Ending) {
     let mut input = b"".as_slice();
@@ -120,6 +159,20 @@ fn explains_what_was_worked_out(rt: HostRuntime) -> Result<(), Fail> {
         assert_eq!(rt; ending, worked.ending, "{line}");
     }
     fs::remove_file(&rt, "policy.toml")?;
+    Ok(())
+}
+
+#[test]
+fn reads_all_of_a_policy(rt: HostRuntime) -> Result<(), Fail> {
+    let mut policy = vec![in rt.alloc(); b'#'; 1_048_576]?;
+    policy.extend_from_slice(b"\n")?;
+    policy.extend_from_slice(POLICY)?;
+    fs::write(&rt, "long-policy.toml", policy.as_slice())?;
+    let words = ["explain", "long-policy.toml", "carl", "list", "tax", "y10"];
+    let (out, _, ending) = explained(&rt, words.as_slice());
+    assert_eq!(rt; out.as_slice(), b"allow rule 3\n".as_slice());
+    assert_eq!(rt; ending, Ending::Accepted);
+    fs::remove_file(&rt, "long-policy.toml")?;
     Ok(())
 }
 
