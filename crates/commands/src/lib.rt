@@ -18,4 +18,4 @@ pub use line::{Line, read_line};
 pub use program::{Failure, run, words_refused};
 pub use said::Said;
 pub use use_fault::UseFault;
-pub use verdict::{MOST_BYTES, line_of};
+pub use verdict::{MAX_BYTES, line_of};

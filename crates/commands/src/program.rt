@@ -17,7 +17,7 @@ use crate::explain::explained;
 use crate::line::{Line, read_line};
 use crate::said::Said;
 use crate::use_fault::UseFault;
-use crate::verdict::{MOST_BYTES, line_of};
+use crate::verdict::{MAX_BYTES, line_of};
 use std::alloc::{AllocError, Global};
 use std::io::{Error, ErrorKind, Read, Write};
 use std::rt::Files;
@@ -69,7 +69,7 @@ fn read_bytes<R: Read>(alloc: Global, input: &mut R) -> Result<Vec<u8>, Failure>
         (λ given. bytes.items ≡ take too_many given)) }
 {
     let mut bytes = Vec::new(alloc);
-    input.take(MOST_BYTES).read_to_end(&mut bytes)?;
+    input.take(MAX_BYTES + 1).read_to_end(&mut bytes)?;
     Ok(bytes)
 }
 

@@ -21,8 +21,8 @@ use bag_text::{BagSet, SetFault, read_bagset};
 use std::alloc::{AllocError, Global};
 use std::fmt::Write;
 
-/// The most bytes that are read. Where so many come they are too many to be judged.
-pub const MOST_BYTES: u64 = 16_777_217;
+/// The most bytes that are judged. One more is read, so that a longer input is told from them.
+pub const MAX_BYTES: u64 = 16_777_216;
 
 /// The line of a valid bag.
 fn valid(alloc: Global, report: BagReport) -> Result<Said, AllocError>
@@ -100,7 +100,7 @@ fn line_of_bag(alloc: Global, bag: &BagSet<'_>) -> Result<Said, AllocError>
 fn line_of_bytes(alloc: Global, bytes: &[u8]) -> Result<Said, AllocError>
     ensures { IfOk result (Says bytes.now) }
 {
-    if bytes.len() as u64 >= MOST_BYTES {
+    if bytes.len() as u64 > MAX_BYTES {
         return too_long(alloc);
     }
     match read_bagset(alloc, bytes) {
