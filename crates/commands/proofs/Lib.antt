@@ -5,5 +5,5 @@ pub mod ExplainWordLemmas
 pub mod InputLemmas
 pub mod PlainWordLemmas
 pub mod RunLemmas
-pub mod VerdictLemmas
+pub mod CheckLemmas
 pub mod WritingLemmas

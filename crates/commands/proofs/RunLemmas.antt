@@ -2,7 +2,7 @@
 use Rattle.std.proofs.Common.{◌≡◌, ℕ, List, Option, Some, None, Result, Ok, Err, IfOk, IfSome, subst, take}
 use Rattle.commands.specs.Explaining.{Explains}
 use Rattle.commands.specs.Running.{Answers, Ends, Judges}
-use Rattle.commands.specs.Verdicts.{Says, too_many}
+use Rattle.commands.specs.Checking.{Says, too_many}
 use Rattle.commands.specs.declared.asking.Asked.{Asked}
 use Rattle.commands.specs.declared.ending.Ending.{Ending}
 use Rattle.commands.specs.declared.program.Failure.{Failure}

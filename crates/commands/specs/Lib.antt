@@ -3,6 +3,6 @@ pub mod CommandBuilding
 pub mod AskingReading
 pub mod Saying
 pub mod Explaining
-pub mod Verdicts
+pub mod Checking
 pub mod Running
 pub mod Failing

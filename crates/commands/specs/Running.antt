@@ -1,7 +1,7 @@
 -- What a run of the program says of what it reads, and how it ends.
 use Rattle.std.specs.Prelude.{◌≡◌, ◌⊎◌, ℕ, List, Option, string_bytes}
 use Rattle.std.specs.Io.KnownBytes.{Appends}
-use Rattle.commands.specs.Verdicts.{Says}
+use Rattle.commands.specs.Checking.{Says}
 use Rattle.commands.specs.Explaining.{Explains}
 use Rattle.commands.specs.declared.asking.Asked.{Asked}
 use Rattle.commands.specs.declared.ending.Ending.{Ending}

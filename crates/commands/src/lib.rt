@@ -8,7 +8,7 @@ mod line;
 mod program;
 mod said;
 mod use_fault;
-mod verdict;
+mod check;
 mod words;
 
 pub use asking::Asked;
@@ -18,4 +18,4 @@ pub use line::{Line, read_line};
 pub use program::{Failure, run, words_refused};
 pub use said::Said;
 pub use use_fault::UseFault;
-pub use verdict::{MAX_BYTES, line_of};
+pub use check::{MAX_BYTES, line_of};

@@ -7,7 +7,7 @@ ghost use Rattle.std.specs.declared.io.ErrorKind.TheVariants.{InvalidData};
 ghost use Rattle.commands.specs.CommandLine.{AsksToCheck, IsCheckOf, command_in, is_taken, texts, uses_text};
 ghost use Rattle.commands.specs.Failing.{BeginsWith, IsCutShort, Tells, failure_of, message_of};
 ghost use Rattle.commands.specs.Running.{Answers, Does, DoesWords, Ends, Judges, UnlessFailed};
-ghost use Rattle.commands.specs.Verdicts.{too_many};
+ghost use Rattle.commands.specs.Checking.{too_many};
 ghost use Rattle.commands.specs.declared.ending.Ending.TheVariants.{Misused, Failed};
 ghost use Rattle.commands.specs.declared.program.Failure.TheVariants.{Memory};
 
@@ -17,7 +17,7 @@ use crate::explain::explained;
 use crate::line::{Line, read_line};
 use crate::said::Said;
 use crate::use_fault::UseFault;
-use crate::verdict::{MAX_BYTES, line_of};
+use crate::check::{MAX_BYTES, line_of};
 use std::alloc::{AllocError, Global};
 use std::io::{Error, ErrorKind, Read, Write};
 use std::rt::Files;

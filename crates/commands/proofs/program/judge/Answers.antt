@@ -1,5 +1,5 @@
 use Rattle.std.proofs.Common.{◌≡◌, ℕ, List, IfSome, sym, subst, take}
-use Rattle.commands.specs.Verdicts.{too_many}
+use Rattle.commands.specs.Checking.{too_many}
 use Rattle.commands.proofs.RunLemmas.{judged, judged_input, judged_something}
 use Rattle.commands.proofs.program.judge.Goals as goal
 

@@ -1,5 +1,5 @@
-use Rattle.commands.proofs.VerdictLemmas.{too_long_is_said, valid_is_said, invalid_is_said, unreadable_is_said}
-use Rattle.commands.proofs.verdict.line_of.Goals as goal
+use Rattle.commands.proofs.CheckLemmas.{too_long_is_said, valid_is_said, invalid_is_said, unreadable_is_said}
+use Rattle.commands.proofs.check.line_of.Goals as goal
 
 pub returns-clause-valid : goal.returns-clause-valid
 returns-clause-valid c = valid_is_said c.args.bytes.now c.line_of_bytes.result c.line_of_bytes.ensures

@@ -9,7 +9,7 @@ ghost use Rattle.bag_check.specs.Validity.{Valid, report_of};
 ghost use Rattle.bag_check.specs.Faults.{Fault, FirstFault};
 ghost use Rattle.bag_check.specs.Answers.{report_seen, named_fault};
 ghost use Rattle.commands.specs.Saying.{Prints};
-ghost use Rattle.commands.specs.Verdicts.{too_many, valid_line, invalid_line, unreadable_line, too_long_line, IsFormOf, SaysOfBag, Says};
+ghost use Rattle.commands.specs.Checking.{too_many, valid_line, invalid_line, unreadable_line, too_long_line, IsFormOf, SaysOfBag, Says};
 ghost use Rattle.bag_check.specs.declared.fault.BagFault.TheVariants.{Memory};
 ghost use Rattle.bag_text.specs.declared.set_fault.SetFault.TheVariants as sets;
 ghost use Rattle.commands.specs.declared.ending.Ending.TheVariants.{Accepted, Refused};

@@ -23,7 +23,7 @@ use Rattle.commands.specs.declared.ending.Ending.{Ending}
 use Rattle.commands.specs.declared.ending.Ending.TheVariants.{Accepted, Refused}
 use Rattle.commands.specs.declared.said.Said.{Said}
 use Rattle.commands.specs.Saying.{Prints}
-use Rattle.commands.specs.Verdicts.{too_many, valid_line, invalid_line, unreadable_line, too_long_line, IsFormOf, SaysOfBag, valid, invalid, Says, too_long, unreadable, of_bag}
+use Rattle.commands.specs.Checking.{too_many, valid_line, invalid_line, unreadable_line, too_long_line, IsFormOf, SaysOfBag, valid, invalid, Says, too_long, unreadable, of_bag}
 
 abbrev Answer : Type 0
 Answer = Result Said AllocError

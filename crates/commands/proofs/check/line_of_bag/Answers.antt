@@ -1,5 +1,5 @@
-use Rattle.commands.proofs.VerdictLemmas.{says_valid, says_invalid}
-use Rattle.commands.proofs.verdict.line_of_bag.Goals as goal
+use Rattle.commands.proofs.CheckLemmas.{says_valid, says_invalid}
+use Rattle.commands.proofs.check.line_of_bag.Goals as goal
 
 pub returns-in-Ok : goal.returns-in-Ok
 returns-in-Ok c = says_valid c.args.bag.now c.in-Ok.report c.valid.result c.in-Ok.ensures.valid.0 c.in-Ok.ensures.valid.1 c.valid.ensures
