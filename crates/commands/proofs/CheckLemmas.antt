@@ -21,62 +21,62 @@ use Rattle.bag_check.proofs.ValidLemmas.{none_stands}
 use Rattle.bag_check.proofs.JudgeLaws.{valid_judged}
 use Rattle.commands.specs.declared.ending.Ending.{Ending}
 use Rattle.commands.specs.declared.ending.Ending.TheVariants.{Accepted, Refused}
-use Rattle.commands.specs.declared.said.Said.{Said}
-use Rattle.commands.specs.Saying.{Prints}
-use Rattle.commands.specs.Checking.{too_many, valid_line, invalid_line, unreadable_line, too_long_line, IsFormOf, SaysOfBag, valid, invalid, Says, too_long, unreadable, of_bag}
+use Rattle.commands.specs.declared.outcome.Outcome.{Outcome}
+use Rattle.commands.specs.Printing.{Prints}
+use Rattle.commands.specs.Checking.{too_many, valid_text, invalid_text, unreadable_text, too_long_text, IsFormOf, SaysOfBag, valid, invalid, Says, too_long, unreadable, of_bag}
 
 abbrev Answer : Type 0
-Answer = Result Said AllocError
+Answer = Result Outcome AllocError
 
 -- ---- what the steps say
 
 pub says_valid : (files : List File) (report : BagReport) (r : Answer) → Valid files report.version → report_seen report ≡ report_of report.version files
-    → IfOk r (λ said. Prints said (valid_line (report_seen report)) Accepted) → IfOk r (SaysOfBag files)
+    → IfOk r (λ outcome. Prints outcome (valid_text (report_seen report)) Accepted) → IfOk r (SaysOfBag files)
 says_valid files report (Err e) is counts prints = tt
-says_valid files report (Ok said) is counts prints =
-    valid report.version is (subst (λ (counted : Report). Prints said (valid_line counted) Accepted) counts prints)
+says_valid files report (Ok outcome) is counts prints =
+    valid report.version is (subst (λ (counted : Report). Prints outcome (valid_text counted) Accepted) counts prints)
 
 pub says_invalid : (files : List File) (fault : BagFault) (r : Answer) → (fault ≡ faults.Memory) ⊎ NamesFirst files fault
-    → (fault ≡ faults.Memory → IsErr r) → IfOk r (λ said. (first : Fault) → named_fault fault ≡ Some first → Prints said (invalid_line first) Refused)
+    → (fault ≡ faults.Memory → IsErr r) → IfOk r (λ outcome. (first : Fault) → named_fault fault ≡ Some first → Prints outcome (invalid_text first) Refused)
     → IfOk r (SaysOfBag files)
 says_invalid files fault (Err e) named memory prints = tt
-says_invalid files fault (Ok said) (inl is) memory prints = let refused = memory is in absurd cc
-says_invalid files fault (Ok said) (inr (first, is, comes)) memory prints = invalid first comes (prints first is)
+says_invalid files fault (Ok outcome) (inl is) memory prints = let refused = memory is in absurd cc
+says_invalid files fault (Ok outcome) (inr (first, is, comes)) memory prints = invalid first comes (prints first is)
 
 pub says_of_bag : (bytes : List ℕ) (files : List File) (r : Answer) → length bytes < too_many → IsBag files → bytes ≡ set_text files
     → IfOk r (SaysOfBag files) → IfOk r (Says bytes)
 says_of_bag bytes files (Err e) few is form says = tt
-says_of_bag bytes files (Ok said) few is form says = of_bag files (record { short = few; bag = is; form = form }) says
+says_of_bag bytes files (Ok outcome) few is form says = of_bag files (record { short = few; bag = is; form = form }) says
 
 pub says_unreadable : (bytes : List ℕ) (fault : SetFault) (r : Answer) → length bytes < too_many → (fault ≢ sets.Memory → FaultIs bytes fault)
-    → (fault ≡ sets.Memory → IsErr r) → IfOk r (λ said. Prints said (unreadable_line fault) Refused) → IfOk r (Says bytes)
+    → (fault ≡ sets.Memory → IsErr r) → IfOk r (λ outcome. Prints outcome (unreadable_text fault) Refused) → IfOk r (Says bytes)
 says_unreadable bytes fault (Err e) few is memory prints = tt
-says_unreadable bytes fault (Ok said) few is memory prints =
+says_unreadable bytes fault (Ok outcome) few is memory prints =
     unreadable fault few (is (λ out. let refused = memory out in absurd cc)) prints
 
 -- ---- only one thing is said
 
 -- one line is said, and one ending
 abbrev Goes : Answer → List ℕ → Ending → Type 0
-Goes r line end = IfOk r (λ said. Prints said line end)
+Goes r line end = IfOk r (λ outcome. Prints outcome line end)
 
 -- judging gives one report
 one_report : (a b : Report) (judged : Result Report Fault) → judged ≡ Ok a → judged ≡ Ok b → a ≡ b
 one_report a b (Ok c) e f = let one : c ≡ a = cc in let two : c ≡ b = cc in sym one ∙ two
 one_report a b (Err g) e f = absurd cc
 
-valid_here : (files : List File) (v : Version) (said : Said) → IsBag files → Valid files v → SaysOfBag files said
-    → Prints said (valid_line (report_of v files)) Accepted
-valid_here files v said is ok (valid w ok_too prints) =
+valid_here : (files : List File) (v : Version) (outcome : Outcome) → IsBag files → Valid files v → SaysOfBag files outcome
+    → Prints outcome (valid_text (report_of v files)) Accepted
+valid_here files v outcome is ok (valid w ok_too prints) =
     let report = one_report (report_of w files) (report_of v files) (judge files) (valid_judged files is w ok_too) (valid_judged files is v ok) in
-    subst (λ (counted : Report). Prints said (valid_line counted) Accepted) report prints
-valid_here files v said is ok (invalid fault first prints) = absurd (none_stands files is v ok fault first.0)
+    subst (λ (counted : Report). Prints outcome (valid_text counted) Accepted) report prints
+valid_here files v outcome is ok (invalid fault first prints) = absurd (none_stands files is v ok fault first.0)
 
-invalid_here : (files : List File) (fault : Fault) (said : Said) → IsBag files → FirstFault files fault → SaysOfBag files said
-    → Prints said (invalid_line fault) Refused
-invalid_here files fault said is first (valid w ok prints) = absurd (none_stands files is w ok fault first.0)
-invalid_here files fault said is first (invalid other first_too prints) =
-    subst (λ (f : Fault). Prints said (invalid_line f) Refused) (one_first_fault files is other fault first_too first) prints
+invalid_here : (files : List File) (fault : Fault) (outcome : Outcome) → IsBag files → FirstFault files fault → SaysOfBag files outcome
+    → Prints outcome (invalid_text fault) Refused
+invalid_here files fault outcome is first (valid w ok prints) = absurd (none_stands files is w ok fault first.0)
+invalid_here files fault outcome is first (invalid other first_too prints) =
+    subst (λ (f : Fault). Prints outcome (invalid_text f) Refused) (one_first_fault files is other fault first_too first) prints
 
 -- bytes are the form of one bag
 one_bag : (bytes : List ℕ) (a b : List File) → IsFormOf bytes a → IsFormOf bytes b → a ≡ b
@@ -86,34 +86,34 @@ never_both : (bytes : List ℕ) (files : List File) (fault : SetFault) → IsFor
 never_both bytes files fault of is = form_has_none files fault of.bag (subst (λ (t : List ℕ). FaultIs t fault) of.form is)
 
 pub valid_is_said : (bytes : List ℕ) (r : Answer) → IfOk r (Says bytes) → (files : List File) (v : Version) → IsFormOf bytes files → Valid files v
-    → Goes r (valid_line (report_of v files)) Accepted
+    → Goes r (valid_text (report_of v files)) Accepted
 valid_is_said bytes (Err e) says files v of ok = tt
-valid_is_said bytes (Ok said) (too_long long prints) files v of ok = let short = of.short in absurd (omega arith)
-valid_is_said bytes (Ok said) (unreadable fault few is prints) files v of ok = absurd (never_both bytes files fault of is)
-valid_is_said bytes (Ok said) (of_bag found found_of says) files v of ok =
-    valid_here files v said of.bag ok (subst (λ (bag : List File). SaysOfBag bag said) (one_bag bytes found files found_of of) says)
+valid_is_said bytes (Ok outcome) (too_long long prints) files v of ok = let short = of.short in absurd (omega arith)
+valid_is_said bytes (Ok outcome) (unreadable fault few is prints) files v of ok = absurd (never_both bytes files fault of is)
+valid_is_said bytes (Ok outcome) (of_bag found found_of says) files v of ok =
+    valid_here files v outcome of.bag ok (subst (λ (bag : List File). SaysOfBag bag outcome) (one_bag bytes found files found_of of) says)
 
 pub invalid_is_said : (bytes : List ℕ) (r : Answer) → IfOk r (Says bytes) → (files : List File) (fault : Fault) → IsFormOf bytes files → FirstFault files fault
-    → Goes r (invalid_line fault) Refused
+    → Goes r (invalid_text fault) Refused
 invalid_is_said bytes (Err e) says files fault of first = tt
-invalid_is_said bytes (Ok said) (too_long long prints) files fault of first = let short = of.short in absurd (omega arith)
-invalid_is_said bytes (Ok said) (unreadable other few is prints) files fault of first = absurd (never_both bytes files other of is)
-invalid_is_said bytes (Ok said) (of_bag found found_of says) files fault of first =
-    invalid_here files fault said of.bag first (subst (λ (bag : List File). SaysOfBag bag said) (one_bag bytes found files found_of of) says)
+invalid_is_said bytes (Ok outcome) (too_long long prints) files fault of first = let short = of.short in absurd (omega arith)
+invalid_is_said bytes (Ok outcome) (unreadable other few is prints) files fault of first = absurd (never_both bytes files other of is)
+invalid_is_said bytes (Ok outcome) (of_bag found found_of says) files fault of first =
+    invalid_here files fault outcome of.bag first (subst (λ (bag : List File). SaysOfBag bag outcome) (one_bag bytes found files found_of of) says)
 
 pub unreadable_is_said : (bytes : List ℕ) (r : Answer) → IfOk r (Says bytes) → (fault : SetFault) → length bytes < too_many → FaultIs bytes fault
-    → Goes r (unreadable_line fault) Refused
+    → Goes r (unreadable_text fault) Refused
 unreadable_is_said bytes (Err e) says fault few is = tt
-unreadable_is_said bytes (Ok said) (too_long long prints) fault few is = absurd (omega arith)
-unreadable_is_said bytes (Ok said) (unreadable other less is_too prints) fault few is =
-    subst (λ (f : SetFault). Prints said (unreadable_line f) Refused) (one_fault_stands bytes other fault is_too is) prints
-unreadable_is_said bytes (Ok said) (of_bag files of says) fault few is = absurd (never_both bytes files fault of is)
+unreadable_is_said bytes (Ok outcome) (too_long long prints) fault few is = absurd (omega arith)
+unreadable_is_said bytes (Ok outcome) (unreadable other less is_too prints) fault few is =
+    subst (λ (f : SetFault). Prints outcome (unreadable_text f) Refused) (one_fault_stands bytes other fault is_too is) prints
+unreadable_is_said bytes (Ok outcome) (of_bag files of says) fault few is = absurd (never_both bytes files fault of is)
 
-pub too_long_is_said : (bytes : List ℕ) (r : Answer) → IfOk r (Says bytes) → too_many ≤ length bytes → Goes r too_long_line Refused
+pub too_long_is_said : (bytes : List ℕ) (r : Answer) → IfOk r (Says bytes) → too_many ≤ length bytes → Goes r too_long_text Refused
 too_long_is_said bytes (Err e) says long = tt
-too_long_is_said bytes (Ok said) (too_long again prints) long = prints
-too_long_is_said bytes (Ok said) (unreadable fault few is prints) long = absurd (omega arith)
-too_long_is_said bytes (Ok said) (of_bag files of says) long = let short = of.short in absurd (omega arith)
+too_long_is_said bytes (Ok outcome) (too_long again prints) long = prints
+too_long_is_said bytes (Ok outcome) (unreadable fault few is prints) long = absurd (omega arith)
+too_long_is_said bytes (Ok outcome) (of_bag files of says) long = let short = of.short in absurd (omega arith)
 
 -- ---- a line written piece by piece
 

@@ -6,26 +6,26 @@ use Rattle.commands.specs.Checking.{Says, too_many}
 use Rattle.commands.specs.declared.asking.Asked.{Asked}
 use Rattle.commands.specs.declared.ending.Ending.{Ending}
 use Rattle.commands.specs.declared.program.Failure.{Failure}
-use Rattle.commands.specs.declared.said.Said.{Said}
+use Rattle.commands.specs.declared.outcome.Outcome.{Outcome}
 
 abbrev Run : Type 0
 Run = Result Ending Failure
 
 -- ---- what is said is written
 
-pub judged : (bytes : List ℕ) (said : Said) (r : Run) (old new : Option (List ℕ)) → Says bytes said → IfOk r (Ends said old new) → IfOk r (Judges bytes old new)
-judged bytes said (Ok ending) old new says ends = (said, says, ends)
-judged bytes said (Err e) old new says ends = tt
+pub judged : (bytes : List ℕ) (outcome : Outcome) (r : Run) (old new : Option (List ℕ)) → Says bytes outcome → IfOk r (Ends outcome old new) → IfOk r (Judges bytes old new)
+judged bytes outcome (Ok ending) old new says ends = (outcome, says, ends)
+judged bytes outcome (Err e) old new says ends = tt
 
 pub judged_something : (bytes : List ℕ) (r : Run) (old new : Option (List ℕ)) → IfOk r (Judges bytes old new)
     → IfOk r (λ ending. (read : List ℕ) × Judges read old new ending)
 judged_something bytes (Ok ending) old new judges = (bytes, judges)
 judged_something bytes (Err e) old new judges = tt
 
-pub answered : (asked : Asked) (bytes : List ℕ) (said : Said) (r : Run) (old new : Option (List ℕ)) → Explains bytes asked said → IfOk r (Ends said old new)
+pub answered : (asked : Asked) (bytes : List ℕ) (outcome : Outcome) (r : Run) (old new : Option (List ℕ)) → Explains bytes asked outcome → IfOk r (Ends outcome old new)
     → IfOk r (Answers asked bytes old new)
-answered asked bytes said (Ok ending) old new explains ends = (said, explains, ends)
-answered asked bytes said (Err e) old new explains ends = tt
+answered asked bytes outcome (Ok ending) old new explains ends = (outcome, explains, ends)
+answered asked bytes outcome (Err e) old new explains ends = tt
 
 pub answered_something : (asked : Asked) (bytes : List ℕ) (r : Run) (old new : Option (List ℕ)) → IfOk r (Answers asked bytes old new)
     → IfOk r (λ ending. (read : List ℕ) × Answers asked read old new ending)

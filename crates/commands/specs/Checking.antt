@@ -10,28 +10,28 @@ use Rattle.bag_check.specs.Validity.{Report, Valid, report_of}
 use Rattle.bag_check.specs.Faults.{Fault, FirstFault}
 use Rattle.bag_check.specs.FaultTexts.{fault_text}
 use Rattle.commands.specs.declared.ending.Ending.TheVariants.{Accepted, Refused}
-use Rattle.commands.specs.declared.said.Said.{Said}
-use Rattle.commands.specs.Saying.{Prints}
+use Rattle.commands.specs.declared.outcome.Outcome.{Outcome}
+use Rattle.commands.specs.Printing.{Prints}
 
 -- so many bytes are too many to be judged
 abbrev pub too_many : ℕ
 too_many = 16777217
 
--- ---- the lines, each with its end
+-- ---- the texts, each a line with its end
 
-abbrev pub valid_line : Report → List ℕ
-valid_line report =
+abbrev pub valid_text : Report → List ℕ
+valid_text report =
     codes "valid " ++ version_text report.version ++ codes " files " ++ decimal report.files ++ codes " bytes " ++ decimal report.bytes
     ++ codes " manifests " ++ decimal report.manifests ++ 10 ∷ []
 
-abbrev pub invalid_line : Fault → List ℕ
-invalid_line fault = codes "invalid " ++ fault_text fault ++ 10 ∷ []
+abbrev pub invalid_text : Fault → List ℕ
+invalid_text fault = codes "invalid " ++ fault_text fault ++ 10 ∷ []
 
-abbrev pub unreadable_line : SetFault → List ℕ
-unreadable_line fault = codes "unreadable " ++ set_fault_text fault ++ 10 ∷ []
+abbrev pub unreadable_text : SetFault → List ℕ
+unreadable_text fault = codes "unreadable " ++ set_fault_text fault ++ 10 ∷ []
 
-abbrev pub too_long_line : List ℕ
-too_long_line = codes "unreadable SIZE" ++ 10 ∷ []
+abbrev pub too_long_text : List ℕ
+too_long_text = codes "unreadable SIZE" ++ 10 ∷ []
 
 -- ---- which is printed
 
@@ -42,12 +42,12 @@ pub record IsFormOf (bytes : List ℕ) (files : List File) : Type 0 where
   pub form : bytes ≡ set_text files
 
 -- What is said of a bag: that it is valid, or its first fault.
-pub data SaysOfBag (files : List File) (said : Said) : Type 0 where
-  valid : (v : Version) → Valid files v → Prints said (valid_line (report_of v files)) Accepted → SaysOfBag files said
-  invalid : (fault : Fault) → FirstFault files fault → Prints said (invalid_line fault) Refused → SaysOfBag files said
+pub data SaysOfBag (files : List File) (outcome : Outcome) : Type 0 where
+  valid : (v : Version) → Valid files v → Prints outcome (valid_text (report_of v files)) Accepted → SaysOfBag files outcome
+  invalid : (fault : Fault) → FirstFault files fault → Prints outcome (invalid_text fault) Refused → SaysOfBag files outcome
 
 -- What is said of bytes: that they are too many, that they are no form and why, or what is said of the bag.
-pub data Says (bytes : List ℕ) (said : Said) : Type 0 where
-  too_long : too_many ≤ length bytes → Prints said too_long_line Refused → Says bytes said
-  unreadable : (fault : SetFault) → length bytes < too_many → FaultIs bytes fault → Prints said (unreadable_line fault) Refused → Says bytes said
-  of_bag : (files : List File) → IsFormOf bytes files → SaysOfBag files said → Says bytes said
+pub data Says (bytes : List ℕ) (outcome : Outcome) : Type 0 where
+  too_long : too_many ≤ length bytes → Prints outcome too_long_text Refused → Says bytes outcome
+  unreadable : (fault : SetFault) → length bytes < too_many → FaultIs bytes fault → Prints outcome (unreadable_text fault) Refused → Says bytes outcome
+  of_bag : (files : List File) → IsFormOf bytes files → SaysOfBag files outcome → Says bytes outcome

@@ -8,24 +8,24 @@ use Rattle.office_core.specs.declared.policy_fault.PolicyFault.TheVariants.{NotT
 use Rattle.office_core.specs.declared.rule.Decision.{Decision}
 use Rattle.office_core.specs.declared.rule.Effect.{Effect}
 use Rattle.office_core.specs.declared.rule.Effect.TheVariants.{Allow, Deny}
-use Rattle.commands.specs.Saying.{Prints}
+use Rattle.commands.specs.Printing.{Prints}
 use Rattle.commands.specs.declared.asking.Asked.{Asked}
 use Rattle.commands.specs.declared.ending.Ending.TheVariants.{Accepted, Refused}
-use Rattle.commands.specs.declared.said.Said.{Said}
+use Rattle.commands.specs.declared.outcome.Outcome.{Outcome}
 
--- ---- the lines, each with its end
+-- ---- the texts, each a line with its end
 
-abbrev pub allow_line : ℕ → List ℕ
-allow_line rule = codes "allow rule " ++ decimal rule ++ 10 ∷ []
+abbrev pub allow_text : ℕ → List ℕ
+allow_text rule = codes "allow rule " ++ decimal rule ++ 10 ∷ []
 
-abbrev pub deny_line : ℕ → List ℕ
-deny_line rule = codes "deny rule " ++ decimal rule ++ 10 ∷ []
+abbrev pub deny_text : ℕ → List ℕ
+deny_text rule = codes "deny rule " ++ decimal rule ++ 10 ∷ []
 
-abbrev pub default_line : List ℕ
-default_line = codes "deny default" ++ 10 ∷ []
+abbrev pub default_text : List ℕ
+default_text = codes "deny default" ++ 10 ∷ []
 
-abbrev pub fault_line : PolicyFault → List ℕ
-fault_line fault = codes "policy " ++ policy_fault_text fault ++ 10 ∷ []
+abbrev pub bad_policy_text : PolicyFault → List ℕ
+bad_policy_text fault = codes "policy " ++ policy_fault_text fault ++ 10 ∷ []
 
 -- ---- the file
 
@@ -63,18 +63,18 @@ IsUndecided policy asked = decision_on policy asked ≡ None
 -- ---- what is said
 
 -- what is said where a rule with this number decides by this effect
-abbrev pub SaysRule : ℕ → Effect → Said → Type 0
-SaysRule rule Allow said = Prints said (allow_line rule) Accepted
-SaysRule rule Deny said = Prints said (deny_line rule) Refused
+abbrev pub SaysRule : ℕ → Effect → Outcome → Type 0
+SaysRule rule Allow outcome = Prints outcome (allow_text rule) Accepted
+SaysRule rule Deny outcome = Prints outcome (deny_text rule) Refused
 
 -- what is said where this rule decides, or none
-abbrev pub Says : Option Decision → Said → Type 0
-Says None said = Prints said default_line Refused
-Says (Some decision) said = SaysRule decision.rule decision.effect said
+abbrev pub SaysDecision : Option Decision → Outcome → Type 0
+SaysDecision None outcome = Prints outcome default_text Refused
+SaysDecision (Some decision) outcome = SaysRule decision.rule decision.effect outcome
 
 -- What is said of a file: the rule that decides, that none does, or the file's fault.
-pub data Explains (bytes : List ℕ) (asked : Asked) (said : Said) : Type 0 where
-  allowed : (policy : Contents) (rule : ℕ) → Spells bytes policy → IsAllowedBy policy asked rule → Prints said (allow_line rule) Accepted → Explains bytes asked said
-  denied : (policy : Contents) (rule : ℕ) → Spells bytes policy → IsDeniedBy policy asked rule → Prints said (deny_line rule) Refused → Explains bytes asked said
-  by_default : (policy : Contents) → Spells bytes policy → IsUndecided policy asked → Prints said default_line Refused → Explains bytes asked said
-  refused : (fault : PolicyFault) → HasFault bytes fault → Prints said (fault_line fault) Refused → Explains bytes asked said
+pub data Explains (bytes : List ℕ) (asked : Asked) (outcome : Outcome) : Type 0 where
+  allowed : (policy : Contents) (rule : ℕ) → Spells bytes policy → IsAllowedBy policy asked rule → Prints outcome (allow_text rule) Accepted → Explains bytes asked outcome
+  denied : (policy : Contents) (rule : ℕ) → Spells bytes policy → IsDeniedBy policy asked rule → Prints outcome (deny_text rule) Refused → Explains bytes asked outcome
+  by_default : (policy : Contents) → Spells bytes policy → IsUndecided policy asked → Prints outcome default_text Refused → Explains bytes asked outcome
+  refused : (fault : PolicyFault) → HasFault bytes fault → Prints outcome (bad_policy_text fault) Refused → Explains bytes asked outcome

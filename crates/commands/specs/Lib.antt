@@ -1,7 +1,7 @@
 pub mod CommandLine
 pub mod CommandBuilding
 pub mod AskingReading
-pub mod Saying
+pub mod Printing
 pub mod Explaining
 pub mod Checking
 pub mod Running

@@ -6,24 +6,24 @@ use Rattle.commands.specs.Explaining.{Explains}
 use Rattle.commands.specs.declared.asking.Asked.{Asked}
 use Rattle.commands.specs.declared.ending.Ending.{Ending}
 use Rattle.commands.specs.declared.ending.Ending.TheVariants.{Failed}
-use Rattle.commands.specs.declared.said.Said.{Said}
+use Rattle.commands.specs.declared.outcome.Outcome.{Outcome}
 use Rattle.commands.specs.declared.line.Line.{Line}
 use Rattle.commands.specs.declared.line.Line.TheVariants.{Check, Explain}
 use Rattle.commands.specs.CommandLine.{HasValues}
 use Rattle.clap.specs.Words.{Text}
 
--- the line comes behind what the output held, where that is known, and the program ends as is said
-pub record Ends (said : Said) (old new : Option (List ℕ)) (ending : Ending) : Type 0 where
-  pub line : Appends old new (string_bytes said.line)
-  pub end : ending ≡ said.ending
+-- the text comes behind what the output held, where that is known, and the program ends as is said
+pub record Ends (outcome : Outcome) (old new : Option (List ℕ)) (ending : Ending) : Type 0 where
+  pub text : Appends old new (string_bytes outcome.text)
+  pub end : ending ≡ outcome.ending
 
 -- what `check` says of these bytes is written, and the program ends so
 abbrev pub Judges : List ℕ → Option (List ℕ) → Option (List ℕ) → Ending → Type 0
-Judges bytes old new ending = (said : Said) × Says bytes said × Ends said old new ending
+Judges bytes old new ending = (outcome : Outcome) × Says bytes outcome × Ends outcome old new ending
 
 -- what `explain` says of this question and these bytes of a policy file is written, and the program ends so
 abbrev pub Answers : Asked → List ℕ → Option (List ℕ) → Option (List ℕ) → Ending → Type 0
-Answers asked bytes old new ending = (said : Said) × Explains bytes asked said × Ends said old new ending
+Answers asked bytes old new ending = (outcome : Outcome) × Explains bytes asked outcome × Ends outcome old new ending
 
 -- this holds, unless a device or memory failed
 abbrev pub UnlessFailed : Ending → Type 0 → Type 0

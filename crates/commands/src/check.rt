@@ -8,14 +8,14 @@ ghost use Rattle.bag_text.specs.declared.set_fault.SetFault.{SetFault};
 ghost use Rattle.bag_check.specs.Validity.{Valid, report_of};
 ghost use Rattle.bag_check.specs.Faults.{Fault, FirstFault};
 ghost use Rattle.bag_check.specs.Answers.{report_seen, named_fault};
-ghost use Rattle.commands.specs.Saying.{Prints};
-ghost use Rattle.commands.specs.Checking.{too_many, valid_line, invalid_line, unreadable_line, too_long_line, IsFormOf, SaysOfBag, Says};
+ghost use Rattle.commands.specs.Printing.{Prints};
+ghost use Rattle.commands.specs.Checking.{too_many, valid_text, invalid_text, unreadable_text, too_long_text, IsFormOf, SaysOfBag, Says};
 ghost use Rattle.bag_check.specs.declared.fault.BagFault.TheVariants.{Memory};
 ghost use Rattle.bag_text.specs.declared.set_fault.SetFault.TheVariants as sets;
 ghost use Rattle.commands.specs.declared.ending.Ending.TheVariants.{Accepted, Refused};
 
 use crate::ending::Ending;
-use crate::said::Said;
+use crate::outcome::Outcome;
 use bag_check::{BagFault, BagReport, check_bag};
 use bag_text::{BagSet, SetFault, read_bagset};
 use std::alloc::{AllocError, Global};
@@ -25,8 +25,8 @@ use std::fmt::Write;
 pub const MAX_BYTES: u64 = 16_777_216;
 
 /// The line of a valid bag.
-fn valid(alloc: Global, report: BagReport) -> Result<Said, AllocError>
-    ensures { IfOk result (λ said. Prints said (valid_line (report_seen report)) Accepted) }
+fn valid(alloc: Global, report: BagReport) -> Result<Outcome, AllocError>
+    ensures { IfOk result (λ outcome. Prints outcome (valid_text (report_seen report)) Accepted) }
 {
     let BagReport {
         version,
@@ -34,60 +34,60 @@ fn valid(alloc: Global, report: BagReport) -> Result<Said, AllocError>
         bytes,
         manifests,
     } = report;
-    let mut line = format!(in alloc; "valid {version}")?;
-    write!(line, " files {files}")?;
-    write!(line, " bytes {bytes}")?;
-    write!(line, " manifests {manifests}\n")?;
-    Ok(Said {
-        line,
+    let mut text = format!(in alloc; "valid {version}")?;
+    write!(text, " files {files}")?;
+    write!(text, " bytes {bytes}")?;
+    write!(text, " manifests {manifests}\n")?;
+    Ok(Outcome {
+        text,
         ending: Ending::Accepted,
     })
 }
 
 /// The line of a bag that isn't valid.
-fn invalid(alloc: Global, fault: &BagFault<'_>) -> Result<Said, AllocError>
+fn invalid(alloc: Global, fault: &BagFault<'_>) -> Result<Outcome, AllocError>
     ensures memory { fault.now ≡ Memory → IsErr result }
-    ensures line { IfOk result (λ said. (first : Fault) → named_fault fault.now ≡ Some first
-        → Prints said (invalid_line first) Refused) }
+    ensures text { IfOk result (λ outcome. (first : Fault) → named_fault fault.now ≡ Some first
+        → Prints outcome (invalid_text first) Refused) }
 {
     if matches!(fault, BagFault::Memory) {
         return Err(AllocError);
     }
-    let line = format!(in alloc; "invalid {fault}\n")?;
-    Ok(Said {
-        line,
+    let text = format!(in alloc; "invalid {fault}\n")?;
+    Ok(Outcome {
+        text,
         ending: Ending::Refused,
     })
 }
 
 /// The line of bytes that are no form.
-fn unreadable(alloc: Global, fault: SetFault) -> Result<Said, AllocError>
+fn unreadable(alloc: Global, fault: SetFault) -> Result<Outcome, AllocError>
     ensures memory { fault ≡ sets.Memory → IsErr result }
-    ensures line { IfOk result (λ said. Prints said (unreadable_line fault) Refused) }
+    ensures text { IfOk result (λ outcome. Prints outcome (unreadable_text fault) Refused) }
 {
     if fault == SetFault::Memory {
         return Err(AllocError);
     }
-    let line = format!(in alloc; "unreadable {fault}\n")?;
-    Ok(Said {
-        line,
+    let text = format!(in alloc; "unreadable {fault}\n")?;
+    Ok(Outcome {
+        text,
         ending: Ending::Refused,
     })
 }
 
 /// The line of too many bytes.
-fn too_long(alloc: Global) -> Result<Said, AllocError>
-    ensures { IfOk result (λ said. Prints said too_long_line Refused) }
+fn too_long(alloc: Global) -> Result<Outcome, AllocError>
+    ensures { IfOk result (λ outcome. Prints outcome too_long_text Refused) }
 {
-    let line = String::from_str(alloc, "unreadable SIZE\n")?;
-    Ok(Said {
-        line,
+    let text = String::from_str(alloc, "unreadable SIZE\n")?;
+    Ok(Outcome {
+        text,
         ending: Ending::Refused,
     })
 }
 
 /// What is said of a bag.
-fn line_of_bag(alloc: Global, bag: &BagSet<'_>) -> Result<Said, AllocError>
+fn line_of_bag(alloc: Global, bag: &BagSet<'_>) -> Result<Outcome, AllocError>
     ensures { IfOk result (SaysOfBag bag.now) }
 {
     match check_bag(alloc, bag) {
@@ -97,7 +97,7 @@ fn line_of_bag(alloc: Global, bag: &BagSet<'_>) -> Result<Said, AllocError>
 }
 
 /// What is said of the bytes.
-fn line_of_bytes(alloc: Global, bytes: &[u8]) -> Result<Said, AllocError>
+fn line_of_bytes(alloc: Global, bytes: &[u8]) -> Result<Outcome, AllocError>
     ensures { IfOk result (Says bytes.now) }
 {
     if bytes.len() as u64 > MAX_BYTES {
@@ -110,25 +110,25 @@ fn line_of_bytes(alloc: Global, bytes: &[u8]) -> Result<Said, AllocError>
 }
 
 /// Judges the bytes that were read: the line that `check` prints, and how it ends.
-pub fn line_of(alloc: Global, bytes: &[u8]) -> Result<Said, AllocError>
+pub fn line_of(alloc: Global, bytes: &[u8]) -> Result<Outcome, AllocError>
     // What is said is so.
     ensures says { IfOk result (Says bytes.now) }
 
     // Too many bytes are refused as such.
     ensures too_long { too_many ≤ length bytes.now
-        → IfOk result (λ said. Prints said too_long_line Refused) }
+        → IfOk result (λ outcome. Prints outcome too_long_text Refused) }
 
     // The form of a valid bag is accepted, unless memory runs out; that nothing else is follows from
     // what is said.
     ensures valid { (files : List File) (v : Version) → IsFormOf bytes.now files → Valid files v
-        → IfOk result (λ said. Prints said (valid_line (report_of v files)) Accepted) }
+        → IfOk result (λ outcome. Prints outcome (valid_text (report_of v files)) Accepted) }
     // A bag that isn't valid is refused with its first fault.
     ensures invalid { (files : List File) (fault : Fault)
         → IsFormOf bytes.now files → FirstFault files fault
-        → IfOk result (λ said. Prints said (invalid_line fault) Refused) }
+        → IfOk result (λ outcome. Prints outcome (invalid_text fault) Refused) }
     // Bytes that are no form are refused with their fault.
     ensures unreadable { (fault : SetFault) → length bytes.now < too_many → FaultIs bytes.now fault
-        → IfOk result (λ said. Prints said (unreadable_line fault) Refused) }
+        → IfOk result (λ outcome. Prints outcome (unreadable_text fault) Refused) }
 {
     line_of_bytes(alloc, bytes)
 }

@@ -5,13 +5,13 @@ ghost use Rattle.office_core.specs.Policies.{Contents, policy_of};
 ghost use Rattle.office_core.specs.Rules.{decision_of, question_of};
 ghost use Rattle.office_core.specs.declared.policy_fault.PolicyFault.{PolicyFault};
 ghost use Rattle.office_core.specs.declared.policy_fault.PolicyFault.TheVariants.{Memory};
-ghost use Rattle.commands.specs.Saying.{Prints};
-ghost use Rattle.commands.specs.Explaining.{Explains, HasFault, IsAllowedBy, IsDeniedBy, IsUndecided, Says, Spells, allow_line, deny_line, default_line, fault_line, asked_of};
+ghost use Rattle.commands.specs.Printing.{Prints};
+ghost use Rattle.commands.specs.Explaining.{Explains, HasFault, IsAllowedBy, IsDeniedBy, IsUndecided, SaysDecision, Spells, allow_text, deny_text, default_text, bad_policy_text, asked_of};
 ghost use Rattle.commands.specs.declared.ending.Ending.TheVariants.{Accepted, Refused};
 
 use crate::asking::Asked;
 use crate::ending::Ending;
-use crate::said::Said;
+use crate::outcome::Outcome;
 use office_core::{Ask, Decision, Effect, Name, Policy, PolicyFault, decide, read_policy};
 use std::alloc::{AllocError, Global};
 
@@ -26,28 +26,28 @@ fn text_of<'a>(name: &Option<Name<'a>>) -> Option<&'a str>
 }
 
 /// What is said where this rule decides, or none.
-fn of_decision(alloc: Global, decision: Option<Decision>) -> Result<Said, AllocError>
-    ensures { IfOk result (Says decision) }
+fn of_decision(alloc: Global, decision: Option<Decision>) -> Result<Outcome, AllocError>
+    ensures { IfOk result (SaysDecision decision) }
 {
     let Some(Decision { rule, effect }) = decision else {
-        let line = String::from_str(alloc, "deny default\n")?;
-        return Ok(Said {
-            line,
+        let text = String::from_str(alloc, "deny default\n")?;
+        return Ok(Outcome {
+            text,
             ending: Ending::Refused,
         });
     };
     match effect {
         Effect::Allow => {
-            let line = format!(in alloc; "allow rule {rule}\n")?;
-            Ok(Said {
-                line,
+            let text = format!(in alloc; "allow rule {rule}\n")?;
+            Ok(Outcome {
+                text,
                 ending: Ending::Accepted,
             })
         }
         Effect::Deny => {
-            let line = format!(in alloc; "deny rule {rule}\n")?;
-            Ok(Said {
-                line,
+            let text = format!(in alloc; "deny rule {rule}\n")?;
+            Ok(Outcome {
+                text,
                 ending: Ending::Refused,
             })
         }
@@ -55,8 +55,8 @@ fn of_decision(alloc: Global, decision: Option<Decision>) -> Result<Said, AllocE
 }
 
 /// What is said of a policy.
-fn of_policy(alloc: Global, policy: &Policy, asked: &Asked<'_>) -> Result<Said, AllocError>
-    ensures { IfOk result (Says (decision_of policy.now.rules (asked_of policy.now asked.now))) }
+fn of_policy(alloc: Global, policy: &Policy, asked: &Asked<'_>) -> Result<Outcome, AllocError>
+    ensures { IfOk result (SaysDecision (decision_of policy.now.rules (asked_of policy.now asked.now))) }
 {
     let ask = Ask {
         role: policy.role_of(asked.caller),
@@ -68,26 +68,26 @@ fn of_policy(alloc: Global, policy: &Policy, asked: &Asked<'_>) -> Result<Said, 
 }
 
 /// What is said of a file that is no policy.
-fn of_fault(alloc: Global, fault: PolicyFault) -> Result<Said, AllocError>
+fn of_fault(alloc: Global, fault: PolicyFault) -> Result<Outcome, AllocError>
     ensures memory { fault ≡ Memory → IsErr result }
-    ensures line { IfOk result (λ said. Prints said (fault_line fault) Refused) }
+    ensures text { IfOk result (λ outcome. Prints outcome (bad_policy_text fault) Refused) }
 {
     if fault == PolicyFault::Memory {
         return Err(AllocError);
     }
-    let line = format!(in alloc; "policy {fault}\n")?;
-    Ok(Said {
-        line,
+    let text = format!(in alloc; "policy {fault}\n")?;
+    Ok(Outcome {
+        text,
         ending: Ending::Refused,
     })
 }
 
 /// What is said of the text of a policy file.
-fn of_text(alloc: Global, text: &str, asked: &Asked<'_>) -> Result<Said, AllocError>
+fn of_text(alloc: Global, text: &str, asked: &Asked<'_>) -> Result<Outcome, AllocError>
     ensures policy { (policy : Contents) → policy_of text.now ≡ Ok policy
-        → IfOk result (Says (decision_of policy.rules (asked_of policy asked.now))) }
+        → IfOk result (SaysDecision (decision_of policy.rules (asked_of policy asked.now))) }
     ensures fault { (fault : PolicyFault) → policy_of text.now ≡ Err fault
-        → IfOk result (λ said. Prints said (fault_line fault) Refused) }
+        → IfOk result (λ outcome. Prints outcome (bad_policy_text fault) Refused) }
 {
     match read_policy(alloc, text) {
         Ok(policy) => of_policy(alloc, &policy, asked),
@@ -96,7 +96,7 @@ fn of_text(alloc: Global, text: &str, asked: &Asked<'_>) -> Result<Said, AllocEr
 }
 
 /// What is said of the bytes.
-fn of_bytes(alloc: Global, bytes: &[u8], asked: &Asked<'_>) -> Result<Said, AllocError>
+fn of_bytes(alloc: Global, bytes: &[u8], asked: &Asked<'_>) -> Result<Outcome, AllocError>
     ensures { IfOk result (Explains bytes.now asked.now) }
 {
     match str::from_utf8(bytes) {
@@ -107,25 +107,25 @@ fn of_bytes(alloc: Global, bytes: &[u8], asked: &Asked<'_>) -> Result<Said, Allo
 
 /// Says which rule of the policy decides: the line that `explain` prints of the bytes of the policy
 /// file, and how it ends.
-pub fn explained(alloc: Global, bytes: &[u8], asked: &Asked<'_>) -> Result<Said, AllocError>
+pub fn explained(alloc: Global, bytes: &[u8], asked: &Asked<'_>) -> Result<Outcome, AllocError>
     // What is said is so.
     ensures says { IfOk result (Explains bytes.now asked.now) }
 
     // Where the first rule that matches allows, its number is said, from 1.
     ensures allowed { (policy : Contents) (rule : ℕ)
         → Spells bytes.now policy → IsAllowedBy policy asked.now rule
-        → IfOk result (λ said. Prints said (allow_line rule) Accepted) }
+        → IfOk result (λ outcome. Prints outcome (allow_text rule) Accepted) }
     // And likewise where it denies.
     ensures denied { (policy : Contents) (rule : ℕ)
         → Spells bytes.now policy → IsDeniedBy policy asked.now rule
-        → IfOk result (λ said. Prints said (deny_line rule) Refused) }
+        → IfOk result (λ outcome. Prints outcome (deny_text rule) Refused) }
     // Where no rule matches, it is denied by default.
     ensures by_default { (policy : Contents)
         → Spells bytes.now policy → IsUndecided policy asked.now
-        → IfOk result (λ said. Prints said default_line Refused) }
+        → IfOk result (λ outcome. Prints outcome default_text Refused) }
     // A file that is no policy is refused with its first fault.
     ensures refused { (fault : PolicyFault) → HasFault bytes.now fault
-        → IfOk result (λ said. Prints said (fault_line fault) Refused) }
+        → IfOk result (λ outcome. Prints outcome (bad_policy_text fault) Refused) }
 {
     of_bytes(alloc, bytes, asked)
 }

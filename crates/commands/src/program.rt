@@ -15,7 +15,7 @@ use crate::asking::Asked;
 use crate::ending::Ending;
 use crate::explain::explained;
 use crate::line::{Line, read_line};
-use crate::said::Said;
+use crate::outcome::Outcome;
 use crate::use_fault::UseFault;
 use crate::check::{MAX_BYTES, line_of};
 use std::alloc::{AllocError, Global};
@@ -107,11 +107,11 @@ fn write_text<W: Write>(text: &str, out: &mut W) -> io::Result<()>
 }
 
 /// Prints what is said.
-fn say<W: Write>(said: Said, out: &mut W) -> Result<Ending, Failure>
-    ensures { IfOk result (Ends said (W.contents out.old) (W.contents out.new)) }
+fn say<W: Write>(outcome: Outcome, out: &mut W) -> Result<Ending, Failure>
+    ensures { IfOk result (Ends outcome (W.contents out.old) (W.contents out.new)) }
 {
-    write_text(said.line.as_str(), out)?;
-    Ok(said.ending)
+    write_text(outcome.text.as_str(), out)?;
+    Ok(outcome.ending)
 }
 
 /// Judges the bag whose form the reader gives, and prints the line.

@@ -57,9 +57,9 @@ fn says<R: AllocGlobal + Abort>(
     line: &str,
     ending: Ending,
 ) -> Result<(), Fail> {
-    let said = line_of(rt.alloc(), bytes)?;
-    assert_eq!(rt; said.line.as_str(), line);
-    assert_eq!(rt; said.ending, ending, "{line}");
+    let outcome = line_of(rt.alloc(), bytes)?;
+    assert_eq!(rt; outcome.text.as_str(), line);
+    assert_eq!(rt; outcome.ending, ending, "{line}");
     Ok(())
 }
 

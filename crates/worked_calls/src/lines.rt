@@ -128,15 +128,15 @@ fn a_decision_in_words(rt: HostRuntime) -> Result<(), Fail> {
     };
     let rule =
         b"version = 1\n[[rule]]\neffect = \"allow\"\nrole = \"stranger\"\naction = \"*\"\ncollection = \"*\"\nclass = \"y1\"\n";
-    let said = explained(rt.alloc(), rule.as_slice(), &asked)?;
-    assert_eq!(rt; said.line.as_str(), "allow rule 1\n");
-    assert_eq!(rt; said.ending, Ending::Accepted);
-    let said = explained(rt.alloc(), b"version = 1".as_slice(), &asked)?;
-    assert_eq!(rt; said.line.as_str(), "deny default\n");
-    assert_eq!(rt; said.ending, Ending::Refused);
-    let said = explained(rt.alloc(), b"version = 1 # \xff".as_slice(), &asked)?;
-    assert_eq!(rt; said.line.as_str(), "policy Y1\n");
-    assert_eq!(rt; said.ending, Ending::Refused);
+    let outcome = explained(rt.alloc(), rule.as_slice(), &asked)?;
+    assert_eq!(rt; outcome.text.as_str(), "allow rule 1\n");
+    assert_eq!(rt; outcome.ending, Ending::Accepted);
+    let outcome = explained(rt.alloc(), b"version = 1".as_slice(), &asked)?;
+    assert_eq!(rt; outcome.text.as_str(), "deny default\n");
+    assert_eq!(rt; outcome.ending, Ending::Refused);
+    let outcome = explained(rt.alloc(), b"version = 1 # \xff".as_slice(), &asked)?;
+    assert_eq!(rt; outcome.text.as_str(), "policy Y1\n");
+    assert_eq!(rt; outcome.ending, Ending::Refused);
     Ok(())
 }
 

@@ -6,4 +6,4 @@ pub returns-in-Ok : goal.returns-in-Ok
 returns-in-Ok c = says_of_bag c.args.bytes.now c.in-Ok.bag c.line_of_bag.result (omega (arith, c.if-bytes-gt-MAX_BYTES.false)) c.in-Ok.ensures.found.0 c.in-Ok.ensures.found.1 c.line_of_bag.ensures
 
 pub returns-in-Err : goal.returns-in-Err
-returns-in-Err c = says_unreadable c.args.bytes.now c.in-Err.fault c.unreadable.result (omega (arith, c.if-bytes-gt-MAX_BYTES.false)) c.in-Err.ensures.fault c.unreadable.ensures.memory c.unreadable.ensures.line
+returns-in-Err c = says_unreadable c.args.bytes.now c.in-Err.fault c.unreadable.result (omega (arith, c.if-bytes-gt-MAX_BYTES.false)) c.in-Err.ensures.fault c.unreadable.ensures.memory c.unreadable.ensures.text

@@ -7,4 +7,4 @@ returns-in-Ok c =
     c.of_text.ensures.policy c.of_text.ensures.fault
 
 pub returns-in-Err : goal.returns-in-Err
-returns-in-Err c = no_text_is_explained c.args.bytes.now c.args.asked.now c.of_fault.result c.in-Err.ensures.cases.0 c.of_fault.ensures.line
+returns-in-Err c = no_text_is_explained c.args.bytes.now c.args.asked.now c.of_fault.result c.in-Err.ensures.cases.0 c.of_fault.ensures.text
