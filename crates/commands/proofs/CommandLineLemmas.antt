@@ -11,7 +11,7 @@ use Rattle.office_core.specs.Actions.{action_of, action_text}
 use Rattle.office_core.specs.declared.action.Action.{Action}
 use Rattle.office_core.specs.declared.action.Action.TheVariants.{Class, Collection, Deposit, List as Listing, Record, Holds, Download, Audit, Hold, Release, Dispose}
 use Rattle.commands.specs.AskingReading.{AreGiven, Reads, are_good}
-use Rattle.commands.specs.CommandLine.{AreAsked, IsPlainQuestion, IsPlainWord, IsWritable, SameQuestion, action_in, are_explain_words, check_command, check_words, explain_command, explain_words, is_taken, name_in, name_or_none, texts, written}
+use Rattle.commands.specs.CommandLine.{AreAsked, IsPlainQuestion, IsPlainWord, IsWritable, SameQuestion, action_in, are_explain_words, check_command, check_words, explain_command, explain_words, is_taken, name_in, name_or_none, texts, name_word}
 use Rattle.commands.specs.declared.asking.Asked.{Asked}
 use Rattle.commands.specs.declared.asking.Given.{Given}
 use Rattle.commands.proofs.ExplainWordLemmas.{Found, five_words_found, five_words_pass}
@@ -143,7 +143,7 @@ action_is_plain Hold = starts_otherwise _ _ refl
 action_is_plain Release = starts_otherwise _ _ refl
 action_is_plain Dispose = starts_otherwise _ _ refl
 
-name_is_read : (name : Option Text) → IsWritable name → name_or_none (written name) ≡ Some name
+name_is_read : (name : Option Text) → IsWritable name → name_or_none (name_word name) ≡ Some name
 name_is_read None is = refl
 name_is_read (Some name) is = rw (differ name (codes "-") is.1, is.0) refl
 
@@ -151,14 +151,14 @@ name_is_read (Some name) is = rw (differ name (codes "-") is.1, is.0) refl
 pub question_passes : (words : List Text) (asked : Asked) → IsPlainQuestion asked → words ≡ explain_words asked → fault_of explain_command words ≡ []
 question_passes words asked plain are =
     ap (fault_of explain_command) are
-    ∙ five_words_pass asked.policy.now asked.caller.now (action_text asked.action) (written asked.collection) (written asked.class)
+    ∙ five_words_pass asked.policy.now asked.caller.now (action_text asked.action) (name_word asked.collection) (name_word asked.class)
     plain.policy plain.caller (action_is_plain asked.action) plain.collection.0 plain.class.0
 
 question_found : (words : List Text) (asked : Asked) → IsPlainQuestion asked → words ≡ explain_words asked
-    → Found asked.policy.now asked.caller.now (action_text asked.action) (written asked.collection) (written asked.class) words
+    → Found asked.policy.now asked.caller.now (action_text asked.action) (name_word asked.collection) (name_word asked.class) words
 question_found words asked plain are =
-    subst (λ (ws : List Text). Found asked.policy.now asked.caller.now (action_text asked.action) (written asked.collection) (written asked.class) ws) (sym are)
-    (five_words_found asked.policy.now asked.caller.now (action_text asked.action) (written asked.collection) (written asked.class)
+    subst (λ (ws : List Text). Found asked.policy.now asked.caller.now (action_text asked.action) (name_word asked.collection) (name_word asked.class) ws) (sym are)
+    (five_words_found asked.policy.now asked.caller.now (action_text asked.action) (name_word asked.collection) (name_word asked.class)
     plain.policy plain.caller (action_is_plain asked.action) plain.collection.0 plain.class.0)
 
 -- two answers to one question

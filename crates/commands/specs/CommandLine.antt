@@ -130,8 +130,8 @@ IsCheckOf file (Check named) = named.now ≡ file
 IsCheckOf file (Explain asked) = ⊥
 
 -- how a name or none is written
-abbrev pub written : Option Text → Text
-written name = unwrap_or name (codes "-")
+abbrev pub name_word : Option Text → Text
+name_word name = unwrap_or name (codes "-")
 
 -- none, or a name that isn't taken for none
 abbrev pub IsWritable : Option Text → Type 0
@@ -141,14 +141,14 @@ IsWritable (Some name) = IsName name × (name ≡ codes "-" → ⊥)
 -- the words of `explain` for this question
 abbrev pub explain_words : Asked → List Text
 explain_words asked =
-    codes "explain" ∷ asked.policy.now ∷ asked.caller.now ∷ action_text asked.action ∷ written asked.collection ∷ written asked.class ∷ []
+    codes "explain" ∷ asked.policy.now ∷ asked.caller.now ∷ action_text asked.action ∷ name_word asked.collection ∷ name_word asked.class ∷ []
 
 -- the question can be written in plain words
 pub record IsPlainQuestion (asked : Asked) : Type 0 where
   pub policy : IsPlainWord asked.policy.now
   pub caller : IsPlainWord asked.caller.now
-  pub collection : IsPlainWord (written asked.collection) × IsWritable asked.collection
-  pub class : IsPlainWord (written asked.class) × IsWritable asked.class
+  pub collection : IsPlainWord (name_word asked.collection) × IsWritable asked.collection
+  pub class : IsPlainWord (name_word asked.class) × IsWritable asked.class
 
 pub record SameQuestion (asked other : Asked) : Type 0 where
   pub policy : other.policy.now ≡ asked.policy.now

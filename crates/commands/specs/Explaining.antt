@@ -41,12 +41,12 @@ HasFault bytes fault = (¬ (IsUtf8 bytes) × (fault ≡ NotToml)) ⊎ (IsUtf8 by
 -- ---- which rule decides
 
 -- what the rules are asked: the role is the one that the policy gives the caller
-abbrev pub asked_of : Contents → Asked → Question
-asked_of policy asked =
+abbrev pub question_on : Contents → Asked → Question
+question_on policy asked =
     record { role = role_of policy asked.caller.now; action = asked.action; collection = asked.collection; class = asked.class }
 
 abbrev pub decision_on : Contents → Asked → Option Decision
-decision_on policy asked = decision_of policy.rules (asked_of policy asked)
+decision_on policy asked = decision_of policy.rules (question_on policy asked)
 
 -- the first rule that matches has this number, from 1, and allows
 abbrev pub IsAllowedBy : Contents → Asked → ℕ → Type 0

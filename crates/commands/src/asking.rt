@@ -6,7 +6,7 @@ ghost use Rattle.commands.specs.CommandLine.{explain_command, name_or_none, text
 ghost use Rattle.commands.specs.AskingReading.{AreGiven, Reads, are_good};
 ghost use Rattle.commands.specs.declared.use_fault.UseFault.TheVariants.{Memory};
 
-use crate::use_fault::{UseFault, explained_by};
+use crate::use_fault::{UseFault, fault_of_use};
 use crate::words::{matches_of, word_at};
 use clap::Error;
 use office_core::{Action, Name};
@@ -76,18 +76,18 @@ fn name_or_none<'a>(text: &'a str) -> Option<Option<Name<'a>>>
 }
 
 /// What the words of `explain` ask.
-pub fn asked_by<'a>(alloc: Global, given: Given<'a>) -> Result<Asked<'a>, UseFault>
+pub fn question_of<'a>(alloc: Global, given: Given<'a>) -> Result<Asked<'a>, UseFault>
     ensures reads { IfOk result (Reads given.entry) }
     ensures refused { IfErr result (λ fault. (fault ≡ Memory) ⊎ (are_good given.entry ≡ false)) }
 {
     let Some(action) = Action::read(given.action) else {
-        return Err(explained_by(alloc, ACTION));
+        return Err(fault_of_use(alloc, ACTION));
     };
     let Some(collection) = name_or_none(given.collection) else {
-        return Err(explained_by(alloc, COLLECTION));
+        return Err(fault_of_use(alloc, COLLECTION));
     };
     let Some(class) = name_or_none(given.class) else {
-        return Err(explained_by(alloc, CLASS));
+        return Err(fault_of_use(alloc, CLASS));
     };
     Ok(Asked {
         policy: given.policy,

@@ -25,7 +25,7 @@ use std::fmt::Write;
 pub const MAX_BYTES: u64 = 16_777_216;
 
 /// The line of a valid bag.
-fn valid(alloc: Global, report: BagReport) -> Result<Outcome, AllocError>
+fn valid_outcome(alloc: Global, report: BagReport) -> Result<Outcome, AllocError>
     ensures { IfOk result (λ outcome. Prints outcome (valid_text (report_seen report)) Accepted) }
 {
     let BagReport {
@@ -45,7 +45,7 @@ fn valid(alloc: Global, report: BagReport) -> Result<Outcome, AllocError>
 }
 
 /// The line of a bag that isn't valid.
-fn invalid(alloc: Global, fault: &BagFault<'_>) -> Result<Outcome, AllocError>
+fn invalid_outcome(alloc: Global, fault: &BagFault<'_>) -> Result<Outcome, AllocError>
     ensures memory { fault.now ≡ Memory → IsErr result }
     ensures text { IfOk result (λ outcome. (first : Fault) → named_fault fault.now ≡ Some first
         → Prints outcome (invalid_text first) Refused) }
@@ -61,7 +61,7 @@ fn invalid(alloc: Global, fault: &BagFault<'_>) -> Result<Outcome, AllocError>
 }
 
 /// The line of bytes that are no form.
-fn unreadable(alloc: Global, fault: SetFault) -> Result<Outcome, AllocError>
+fn unreadable_outcome(alloc: Global, fault: SetFault) -> Result<Outcome, AllocError>
     ensures memory { fault ≡ sets.Memory → IsErr result }
     ensures text { IfOk result (λ outcome. Prints outcome (unreadable_text fault) Refused) }
 {
@@ -76,7 +76,7 @@ fn unreadable(alloc: Global, fault: SetFault) -> Result<Outcome, AllocError>
 }
 
 /// The line of too many bytes.
-fn too_long(alloc: Global) -> Result<Outcome, AllocError>
+fn too_long_outcome(alloc: Global) -> Result<Outcome, AllocError>
     ensures { IfOk result (λ outcome. Prints outcome too_long_text Refused) }
 {
     let text = String::from_str(alloc, "unreadable SIZE\n")?;
@@ -87,30 +87,30 @@ fn too_long(alloc: Global) -> Result<Outcome, AllocError>
 }
 
 /// What is said of a bag.
-fn line_of_bag(alloc: Global, bag: &BagSet<'_>) -> Result<Outcome, AllocError>
+fn bag_outcome(alloc: Global, bag: &BagSet<'_>) -> Result<Outcome, AllocError>
     ensures { IfOk result (SaysOfBag bag.now) }
 {
     match check_bag(alloc, bag) {
-        Ok(report) => valid(alloc, report),
-        Err(fault) => invalid(alloc, &fault),
+        Ok(report) => valid_outcome(alloc, report),
+        Err(fault) => invalid_outcome(alloc, &fault),
     }
 }
 
 /// What is said of the bytes.
-fn line_of_bytes(alloc: Global, bytes: &[u8]) -> Result<Outcome, AllocError>
+fn bytes_outcome(alloc: Global, bytes: &[u8]) -> Result<Outcome, AllocError>
     ensures { IfOk result (Says bytes.now) }
 {
     if bytes.len() as u64 > MAX_BYTES {
-        return too_long(alloc);
+        return too_long_outcome(alloc);
     }
     match read_bagset(alloc, bytes) {
-        Ok(bag) => line_of_bag(alloc, &bag),
-        Err(fault) => unreadable(alloc, fault),
+        Ok(bag) => bag_outcome(alloc, &bag),
+        Err(fault) => unreadable_outcome(alloc, fault),
     }
 }
 
 /// Judges the bytes that were read: the line that `check` prints, and how it ends.
-pub fn line_of(alloc: Global, bytes: &[u8]) -> Result<Outcome, AllocError>
+pub fn check_outcome(alloc: Global, bytes: &[u8]) -> Result<Outcome, AllocError>
     // What is said is so.
     ensures says { IfOk result (Says bytes.now) }
 
@@ -130,5 +130,5 @@ pub fn line_of(alloc: Global, bytes: &[u8]) -> Result<Outcome, AllocError>
     ensures unreadable { (fault : SetFault) → length bytes.now < too_many → FaultIs bytes.now fault
         → IfOk result (λ outcome. Prints outcome (unreadable_text fault) Refused) }
 {
-    line_of_bytes(alloc, bytes)
+    bytes_outcome(alloc, bytes)
 }

@@ -6,7 +6,7 @@ ghost use Rattle.office_core.specs.Rules.{decision_of, question_of};
 ghost use Rattle.office_core.specs.declared.policy_fault.PolicyFault.{PolicyFault};
 ghost use Rattle.office_core.specs.declared.policy_fault.PolicyFault.TheVariants.{Memory};
 ghost use Rattle.commands.specs.Printing.{Prints};
-ghost use Rattle.commands.specs.Explaining.{Explains, HasFault, IsAllowedBy, IsDeniedBy, IsUndecided, SaysDecision, Spells, allow_text, deny_text, default_text, bad_policy_text, asked_of};
+ghost use Rattle.commands.specs.Explaining.{Explains, HasFault, IsAllowedBy, IsDeniedBy, IsUndecided, SaysDecision, Spells, allow_text, deny_text, default_text, bad_policy_text, question_on};
 ghost use Rattle.commands.specs.declared.ending.Ending.TheVariants.{Accepted, Refused};
 
 use crate::asking::Asked;
@@ -26,7 +26,7 @@ fn text_of<'a>(name: &Option<Name<'a>>) -> Option<&'a str>
 }
 
 /// What is said where this rule decides, or none.
-fn of_decision(alloc: Global, decision: Option<Decision>) -> Result<Outcome, AllocError>
+fn decision_outcome(alloc: Global, decision: Option<Decision>) -> Result<Outcome, AllocError>
     ensures { IfOk result (SaysDecision decision) }
 {
     let Some(Decision { rule, effect }) = decision else {
@@ -55,8 +55,8 @@ fn of_decision(alloc: Global, decision: Option<Decision>) -> Result<Outcome, All
 }
 
 /// What is said of a policy.
-fn of_policy(alloc: Global, policy: &Policy, asked: &Asked<'_>) -> Result<Outcome, AllocError>
-    ensures { IfOk result (SaysDecision (decision_of policy.now.rules (asked_of policy.now asked.now))) }
+fn policy_outcome(alloc: Global, policy: &Policy, asked: &Asked<'_>) -> Result<Outcome, AllocError>
+    ensures { IfOk result (SaysDecision (decision_of policy.now.rules (question_on policy.now asked.now))) }
 {
     let ask = Ask {
         role: policy.role_of(asked.caller),
@@ -64,11 +64,11 @@ fn of_policy(alloc: Global, policy: &Policy, asked: &Asked<'_>) -> Result<Outcom
         collection: text_of(&asked.collection),
         class: text_of(&asked.class),
     };
-    of_decision(alloc, decide(policy.rules(), &ask))
+    decision_outcome(alloc, decide(policy.rules(), &ask))
 }
 
 /// What is said of a file that is no policy.
-fn of_fault(alloc: Global, fault: PolicyFault) -> Result<Outcome, AllocError>
+fn fault_outcome(alloc: Global, fault: PolicyFault) -> Result<Outcome, AllocError>
     ensures memory { fault ≡ Memory → IsErr result }
     ensures text { IfOk result (λ outcome. Prints outcome (bad_policy_text fault) Refused) }
 {
@@ -83,31 +83,31 @@ fn of_fault(alloc: Global, fault: PolicyFault) -> Result<Outcome, AllocError>
 }
 
 /// What is said of the text of a policy file.
-fn of_text(alloc: Global, text: &str, asked: &Asked<'_>) -> Result<Outcome, AllocError>
+fn text_outcome(alloc: Global, text: &str, asked: &Asked<'_>) -> Result<Outcome, AllocError>
     ensures policy { (policy : Contents) → policy_of text.now ≡ Ok policy
-        → IfOk result (SaysDecision (decision_of policy.rules (asked_of policy asked.now))) }
+        → IfOk result (SaysDecision (decision_of policy.rules (question_on policy asked.now))) }
     ensures fault { (fault : PolicyFault) → policy_of text.now ≡ Err fault
         → IfOk result (λ outcome. Prints outcome (bad_policy_text fault) Refused) }
 {
     match read_policy(alloc, text) {
-        Ok(policy) => of_policy(alloc, &policy, asked),
-        Err(fault) => of_fault(alloc, fault),
+        Ok(policy) => policy_outcome(alloc, &policy, asked),
+        Err(fault) => fault_outcome(alloc, fault),
     }
 }
 
 /// What is said of the bytes.
-fn of_bytes(alloc: Global, bytes: &[u8], asked: &Asked<'_>) -> Result<Outcome, AllocError>
+fn bytes_outcome(alloc: Global, bytes: &[u8], asked: &Asked<'_>) -> Result<Outcome, AllocError>
     ensures { IfOk result (Explains bytes.now asked.now) }
 {
     match str::from_utf8(bytes) {
-        Ok(text) => of_text(alloc, text, asked),
-        Err(_) => of_fault(alloc, PolicyFault::NotToml),
+        Ok(text) => text_outcome(alloc, text, asked),
+        Err(_) => fault_outcome(alloc, PolicyFault::NotToml),
     }
 }
 
 /// Says which rule of the policy decides: the line that `explain` prints of the bytes of the policy
 /// file, and how it ends.
-pub fn explained(alloc: Global, bytes: &[u8], asked: &Asked<'_>) -> Result<Outcome, AllocError>
+pub fn explain_outcome(alloc: Global, bytes: &[u8], asked: &Asked<'_>) -> Result<Outcome, AllocError>
     // What is said is so.
     ensures says { IfOk result (Explains bytes.now asked.now) }
 
@@ -127,5 +127,5 @@ pub fn explained(alloc: Global, bytes: &[u8], asked: &Asked<'_>) -> Result<Outco
     ensures refused { (fault : PolicyFault) → HasFault bytes.now fault
         → IfOk result (λ outcome. Prints outcome (bad_policy_text fault) Refused) }
 {
-    of_bytes(alloc, bytes, asked)
+    bytes_outcome(alloc, bytes, asked)
 }

@@ -13,9 +13,9 @@ mod words;
 
 pub use asking::Asked;
 pub use ending::Ending;
-pub use explain::explained;
+pub use explain::explain_outcome;
 pub use line::{Line, read_line};
-pub use program::{Failure, run, words_refused};
+pub use program::{Failure, run, refuse_words};
 pub use outcome::Outcome;
 pub use use_fault::UseFault;
-pub use check::{MAX_BYTES, line_of};
+pub use check::{MAX_BYTES, check_outcome};

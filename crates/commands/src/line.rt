@@ -7,8 +7,8 @@ ghost use Rattle.commands.specs.Failing.{IsExplainedBy};
 ghost use Rattle.commands.specs.declared.asking.Asked.{Asked};
 ghost use Rattle.commands.specs.declared.use_fault.UseFault.TheVariants.{Memory};
 
-use crate::asking::{Asked, asked_by, given_words};
-use crate::use_fault::{UseFault, by_clap, explained_by};
+use crate::asking::{Asked, question_of, given_words};
+use crate::use_fault::{UseFault, clap_fault, fault_of_use};
 use crate::words::{matches_of, word_at};
 use clap::Error;
 use std::alloc::Global;
@@ -53,17 +53,17 @@ pub fn read_line<'a>(alloc: Global, words: &'a [&'a str]) -> Result<Line<'a>, Us
         → MatchResult result (IsExplainOf asked) (λ fault. fault ≡ Memory) }
 {
     let Some(name) = words.first() else {
-        return Err(explained_by(alloc, USES));
+        return Err(fault_of_use(alloc, USES));
     };
     match *name {
         "check" => match checked_file(alloc, words) {
             Ok(file) => Ok(Line::Check { file }),
-            Err(error) => Err(by_clap(alloc, &error)),
+            Err(error) => Err(clap_fault(alloc, &error)),
         },
         "explain" => match given_words(alloc, words) {
-            Ok(given) => Ok(Line::Explain(asked_by(alloc, given)?)),
-            Err(error) => Err(by_clap(alloc, &error)),
+            Ok(given) => Ok(Line::Explain(question_of(alloc, given)?)),
+            Err(error) => Err(clap_fault(alloc, &error)),
         },
-        _ => Err(explained_by(alloc, USES)),
+        _ => Err(fault_of_use(alloc, USES)),
     }
 }

@@ -13,11 +13,11 @@ ghost use Rattle.commands.specs.declared.program.Failure.TheVariants.{Memory};
 
 use crate::asking::Asked;
 use crate::ending::Ending;
-use crate::explain::explained;
+use crate::explain::explain_outcome;
 use crate::line::{Line, read_line};
 use crate::outcome::Outcome;
 use crate::use_fault::UseFault;
-use crate::check::{MAX_BYTES, line_of};
+use crate::check::{MAX_BYTES, check_outcome};
 use std::alloc::{AllocError, Global};
 use std::io::{Error, ErrorKind, Read, Write};
 use std::rt::Files;
@@ -122,7 +122,7 @@ fn judge<R: Read, O: Write>(alloc: Global, form: &mut R, out: &mut O) -> Result<
         (Judges (take too_many given) (O.contents out.old) (O.contents out.new))) }
 {
     let bytes = read_bytes(alloc, form)?;
-    say(line_of(alloc, bytes.as_slice())?, out)
+    say(check_outcome(alloc, bytes.as_slice())?, out)
 }
 
 /// `check`: judges the bag in the file, or in the input where the file is `-`.
@@ -158,7 +158,7 @@ fn explain_policy<R: Read, O: Write>(
         IfOk result (Answers asked.now given (O.contents out.old) (O.contents out.new))) }
 {
     let bytes = read_all(alloc, policy)?;
-    say(explained(alloc, bytes.as_slice(), asked)?, out)
+    say(explain_outcome(alloc, bytes.as_slice(), asked)?, out)
 }
 
 /// `explain`: says which rule of the policy in the file decides.
@@ -257,7 +257,7 @@ pub fn run<F: Files + AllocGlobal, R: Read, O: Write, E: Write>(
 
 /// The ending where the process's words could not be had: one of them is no text, or memory ran
 /// out.
-pub fn words_refused<E: Write>(error: &Error, err: &mut E) -> Ending
+pub fn refuse_words<E: Write>(error: &Error, err: &mut E) -> Ending
     // A word that is no text is a fault of use, and whatever else the words failed for a failure.
     ensures no_text { error_kind error.now ≡ InvalidData → result ≡ Misused }
     ensures failed { error_kind error.now ≢ InvalidData → result ≡ Failed }

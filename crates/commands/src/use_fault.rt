@@ -42,7 +42,7 @@ impl From<AllocError> for UseFault {
 }
 
 /// What a refusal of clap's comes to.
-pub fn by_clap(alloc: Global, error: &Error) -> UseFault
+pub fn clap_fault(alloc: Global, error: &Error) -> UseFault
     ensures memory { kind_of error.now ≡ OutOfMemory → result ≡ Memory }
 {
     if error.kind() == ErrorKind::OutOfMemory {
@@ -55,7 +55,7 @@ pub fn by_clap(alloc: Global, error: &Error) -> UseFault
 }
 
 /// A fault of use that this text explains.
-pub fn explained_by(alloc: Global, why: &str) -> UseFault
+pub fn fault_of_use(alloc: Global, why: &str) -> UseFault
     ensures { IsExplainedBy why.now result }
 {
     match String::from_str(alloc, why) {

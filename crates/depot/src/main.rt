@@ -1,7 +1,7 @@
 //! Judges BagIt bags (RFC 8493), and says which rule of a policy decides, from the command line.
 #![tactic(auto)]
 
-use commands::{Ending, run, words_refused};
+use commands::{Ending, run, refuse_words};
 use std::io;
 use std::process::ExitCode;
 
@@ -27,7 +27,7 @@ fn run_on_process(rt: &HostRuntime) -> io::Result<Ending> {
 fn main(rt: HostRuntime) -> ExitCode {
     let ending = match run_on_process(&rt) {
         Ok(ending) => ending,
-        Err(error) => words_refused(&error, &mut rt.stderr()),
+        Err(error) => refuse_words(&error, &mut rt.stderr()),
     };
     ExitCode::from(ending.status())
 }

@@ -8,7 +8,7 @@ use crate::strange_names::{
     LISTED_NAME, LISTED_NAME_0_97, MISSING_NAME, SPOILED_NAME, UNLISTED_NAME,
 };
 use crate::tool_bag::{SPOILED_TOOL_BAG, TOOL_BAG};
-use commands::{Ending, line_of};
+use commands::{Ending, check_outcome};
 use std::alloc::Global;
 use std::process::Abort;
 use std::test::*;
@@ -57,7 +57,7 @@ fn says<R: AllocGlobal + Abort>(
     line: &str,
     ending: Ending,
 ) -> Result<(), Fail> {
-    let outcome = line_of(rt.alloc(), bytes)?;
+    let outcome = check_outcome(rt.alloc(), bytes)?;
     assert_eq!(rt; outcome.text.as_str(), line);
     assert_eq!(rt; outcome.ending, ending, "{line}");
     Ok(())

@@ -1,6 +1,6 @@
 //! The calls of `commands`: the texts that are printed, and that calls succeed.
 
-use commands::{Asked, Ending, Line, UseFault, explained, read_line, run, words_refused};
+use commands::{Asked, Ending, Line, UseFault, explain_outcome, read_line, run, refuse_words};
 use office_core::{Action, Name};
 use std::io;
 use std::io::{Error, ErrorKind, Read, Write};
@@ -128,13 +128,13 @@ fn a_decision_in_words(rt: HostRuntime) -> Result<(), Fail> {
     };
     let rule =
         b"version = 1\n[[rule]]\neffect = \"allow\"\nrole = \"stranger\"\naction = \"*\"\ncollection = \"*\"\nclass = \"y1\"\n";
-    let outcome = explained(rt.alloc(), rule.as_slice(), &asked)?;
+    let outcome = explain_outcome(rt.alloc(), rule.as_slice(), &asked)?;
     assert_eq!(rt; outcome.text.as_str(), "allow rule 1\n");
     assert_eq!(rt; outcome.ending, Ending::Accepted);
-    let outcome = explained(rt.alloc(), b"version = 1".as_slice(), &asked)?;
+    let outcome = explain_outcome(rt.alloc(), b"version = 1".as_slice(), &asked)?;
     assert_eq!(rt; outcome.text.as_str(), "deny default\n");
     assert_eq!(rt; outcome.ending, Ending::Refused);
-    let outcome = explained(rt.alloc(), b"version = 1 # \xff".as_slice(), &asked)?;
+    let outcome = explain_outcome(rt.alloc(), b"version = 1 # \xff".as_slice(), &asked)?;
     assert_eq!(rt; outcome.text.as_str(), "policy Y1\n");
     assert_eq!(rt; outcome.ending, Ending::Refused);
     Ok(())
@@ -247,7 +247,7 @@ fn faults_of_use(rt: HostRuntime) -> Result<(), Fail> {
 #[test]
 fn words_that_are_no_text(rt: HostRuntime) {
     let mut err = Vec::new(rt.alloc());
-    let ending = words_refused(&Error::from(ErrorKind::InvalidData), &mut err);
+    let ending = refuse_words(&Error::from(ErrorKind::InvalidData), &mut err);
     assert_eq!(rt; err.as_slice(), b"a word is not UTF-8\n".as_slice());
     assert_eq!(rt; ending, Ending::Misused);
 }

@@ -25,30 +25,30 @@ returns-in-Ok-clause-plain c = λ file plain are.
 pub returns-in-Err-clause-plain : goal.returns-in-Err-clause-plain
 returns-in-Err-clause-plain c = λ file plain are.
     let none : fault_of check_command (texts c.args.words.now) ≡ [] = ap (fault_of check_command) are ∙ plain_passes file plain in
-    c.by_clap.ensures.memory (elim (only_memory _ c.in-Err.error none c.in-Err.ensures.faults) [
+    c.clap_fault.ensures.memory (elim (only_memory _ c.in-Err.error none c.in-Err.ensures.faults) [
       | inl memory ↦ memory
       | inr other ↦ absurd other
     ])
 
-pub returns-in_err-asked_by-in-Ok-given_words-clause-plain_question :
-    goal.returns-in_err-asked_by-in-Ok-given_words-clause-plain_question
-returns-in_err-asked_by-in-Ok-given_words-clause-plain_question c = λ asked plain are.
-    fails_for_memory c.from_residual.result _ c.in_err-asked_by-in-Ok-given_words.field-0.0 c.from_residual.ensures.1
-    (elim c.in_err-asked_by-in-Ok-given_words.ensures.refused [
+pub returns-in_err-question_of-in-Ok-given_words-clause-plain_question :
+    goal.returns-in_err-question_of-in-Ok-given_words-clause-plain_question
+returns-in_err-question_of-in-Ok-given_words-clause-plain_question c = λ asked plain are.
+    fails_for_memory c.from_residual.result _ c.in_err-question_of-in-Ok-given_words.field-0.0 c.from_residual.ensures.1
+    (elim c.in_err-question_of-in-Ok-given_words.ensures.refused [
       | inl memory ↦ memory
       | inr bad ↦ absurd (false≢true (sym bad ∙ question_is_good (texts c.args.words.now) asked c.in-Ok-given_words.given plain are c.in-Ok-given_words.ensures.values))
     ])
 
-pub returns-in_ok-asked_by-in-Ok-given_words-clause-plain_question :
-    goal.returns-in_ok-asked_by-in-Ok-given_words-clause-plain_question
-returns-in_ok-asked_by-in-Ok-given_words-clause-plain_question c = λ asked plain are.
-    question_is_read (texts c.args.words.now) asked c.in_ok-asked_by-in-Ok-given_words.field-0 c.in-Ok-given_words.given plain are c.in-Ok-given_words.ensures.values
-    c.in_ok-asked_by-in-Ok-given_words.ensures.reads
+pub returns-in_ok-question_of-in-Ok-given_words-clause-plain_question :
+    goal.returns-in_ok-question_of-in-Ok-given_words-clause-plain_question
+returns-in_ok-question_of-in-Ok-given_words-clause-plain_question c = λ asked plain are.
+    question_is_read (texts c.args.words.now) asked c.in_ok-question_of-in-Ok-given_words.field-0 c.in-Ok-given_words.given plain are c.in-Ok-given_words.ensures.values
+    c.in_ok-question_of-in-Ok-given_words.ensures.reads
 
 pub returns-in-Err-given_words-clause-plain_question : goal.returns-in-Err-given_words-clause-plain_question
 returns-in-Err-given_words-clause-plain_question c = λ asked plain are.
     let none : fault_of explain_command (texts c.args.words.now) ≡ [] = question_passes (texts c.args.words.now) asked plain are in
-    c.by_clap-in-Err-given_words.ensures.memory (elim (only_memory _ c.in-Err-given_words.error none c.in-Err-given_words.ensures.faults) [
+    c.clap_fault-in-Err-given_words.ensures.memory (elim (only_memory _ c.in-Err-given_words.error none c.in-Err-given_words.ensures.faults) [
       | inl memory ↦ memory
       | inr other ↦ absurd other
     ])

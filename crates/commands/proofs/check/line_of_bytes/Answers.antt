@@ -1,9 +1,0 @@
-use Rattle.std.proofs.Common.{arith}
-use Rattle.commands.proofs.CheckLemmas.{says_of_bag, says_unreadable}
-use Rattle.commands.proofs.check.line_of_bytes.Goals as goal
-
-pub returns-in-Ok : goal.returns-in-Ok
-returns-in-Ok c = says_of_bag c.args.bytes.now c.in-Ok.bag c.line_of_bag.result (omega (arith, c.if-bytes-gt-MAX_BYTES.false)) c.in-Ok.ensures.found.0 c.in-Ok.ensures.found.1 c.line_of_bag.ensures
-
-pub returns-in-Err : goal.returns-in-Err
-returns-in-Err c = says_unreadable c.args.bytes.now c.in-Err.fault c.unreadable.result (omega (arith, c.if-bytes-gt-MAX_BYTES.false)) c.in-Err.ensures.fault c.unreadable.ensures.memory c.unreadable.ensures.text
