@@ -107,7 +107,11 @@ fn bytes_outcome(alloc: Global, bytes: &[u8], asked: &Asked<'_>) -> Result<Outco
 
 /// Says which rule of the policy decides: the line that `explain` prints of the bytes of the policy
 /// file, and how it ends.
-pub fn explain_outcome(alloc: Global, bytes: &[u8], asked: &Asked<'_>) -> Result<Outcome, AllocError>
+pub fn explain_outcome(
+    alloc: Global,
+    bytes: &[u8],
+    asked: &Asked<'_>,
+) -> Result<Outcome, AllocError>
     // What is said is so.
     ensures says { IfOk result (Explains bytes.now asked.now) }
 

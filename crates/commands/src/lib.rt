@@ -2,20 +2,20 @@
 #![tactic(auto)]
 
 mod asking;
+mod check;
 mod ending;
 mod explain;
 mod line;
-mod program;
 mod outcome;
+mod program;
 mod use_fault;
-mod check;
 mod words;
 
 pub use asking::Asked;
+pub use check::{MAX_BYTES, check_outcome};
 pub use ending::Ending;
 pub use explain::explain_outcome;
 pub use line::{Line, read_line};
-pub use program::{Failure, run, refuse_words};
 pub use outcome::Outcome;
+pub use program::{Failure, refuse_words, run};
 pub use use_fault::UseFault;
-pub use check::{MAX_BYTES, check_outcome};

@@ -7,7 +7,7 @@ ghost use Rattle.commands.specs.Failing.{IsExplainedBy};
 ghost use Rattle.commands.specs.declared.asking.Asked.{Asked};
 ghost use Rattle.commands.specs.declared.use_fault.UseFault.TheVariants.{Memory};
 
-use crate::asking::{Asked, question_of, given_words};
+use crate::asking::{Asked, given_words, question_of};
 use crate::use_fault::{UseFault, clap_fault, fault_of_use};
 use crate::words::{matches_of, word_at};
 use clap::Error;

@@ -12,12 +12,12 @@ ghost use Rattle.commands.specs.declared.ending.Ending.TheVariants.{Misused, Fai
 ghost use Rattle.commands.specs.declared.program.Failure.TheVariants.{Memory};
 
 use crate::asking::Asked;
+use crate::check::{MAX_BYTES, check_outcome};
 use crate::ending::Ending;
 use crate::explain::explain_outcome;
 use crate::line::{Line, read_line};
 use crate::outcome::Outcome;
 use crate::use_fault::UseFault;
-use crate::check::{MAX_BYTES, check_outcome};
 use std::alloc::{AllocError, Global};
 use std::io::{Error, ErrorKind, Read, Write};
 use std::rt::Files;

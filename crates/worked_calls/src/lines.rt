@@ -1,6 +1,6 @@
 //! The calls of `commands`: the texts that are printed, and that calls succeed.
 
-use commands::{Asked, Ending, Line, UseFault, explain_outcome, read_line, run, refuse_words};
+use commands::{Asked, Ending, Line, UseFault, explain_outcome, read_line, refuse_words, run};
 use office_core::{Action, Name};
 use std::io;
 use std::io::{Error, ErrorKind, Read, Write};
