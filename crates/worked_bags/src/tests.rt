@@ -8,7 +8,7 @@ use std::test::*;
 use std::{fs, io};
 
 /// What a run on the input prints on standard output and on standard error, and how it ends.
-fn printed<R: Read>(rt: &HostRuntime, file: &str, input: &mut R) -> (Vec<u8>, Vec<u8>, Ending) {
+fn run_check<R: Read>(rt: &HostRuntime, file: &str, input: &mut R) -> (Vec<u8>, Vec<u8>, Ending) {
     let mut out = Vec::new(rt.alloc());
     let mut err = Vec::new(rt.alloc());
     let ending = run(rt, ["check", file].as_slice(), input, &mut out, &mut err);
@@ -19,7 +19,7 @@ fn printed<R: Read>(rt: &HostRuntime, file: &str, input: &mut R) -> (Vec<u8>, Ve
 fn says_what_was_worked_out(rt: HostRuntime) {
     for (form, line, ending) in &WORKED_BAGS {
         let mut input = *form;
-        let (out, err, found) = printed(&rt, "-", &mut input);
+        let (out, err, found) = run_check(&rt, "-", &mut input);
         assert_eq!(rt; out.as_slice(), line.as_bytes(), "{line}");
         assert_eq!(rt; err.as_slice(), b"".as_slice(), "{line}");
         assert_eq!(rt; found, *ending, "{line}");
@@ -49,11 +49,11 @@ fn reads_up_to_the_limit(rt: HostRuntime) -> Result<(), Fail> {
     let mut form = longest_form(rt.alloc())?;
     for (length, line) in &LENGTHS {
         assert_eq!(rt; form.len(), *length);
-        let (out, _, ending) = printed(&rt, "-", &mut form.as_slice());
+        let (out, _, ending) = run_check(&rt, "-", &mut form.as_slice());
         assert_eq!(rt; out.as_slice(), line.as_bytes(), "{line}");
         assert_eq!(rt; ending, Ending::Refused, "{line}");
         fs::write(&rt, "longest.bagset", form.as_slice())?;
-        let (out, _, ending) = printed(&rt, "longest.bagset", &mut b"".as_slice());
+        let (out, _, ending) = run_check(&rt, "longest.bagset", &mut b"".as_slice());
         assert_eq!(rt; out.as_slice(), line.as_bytes(), "a file: {line}");
         assert_eq!(rt; ending, Ending::Refused, "a file: {line}");
         form.extend_from_slice(b"\n")?;
@@ -66,7 +66,7 @@ fn reads_up_to_the_limit(rt: HostRuntime) -> Result<(), Fail> {
 fn reads_a_file(rt: HostRuntime) -> Result<(), Fail> {
     fs::write(&rt, "bag-a.bagset", BAG)?;
     let mut input = b"".as_slice();
-    let (out, err, ending) = printed(&rt, "bag-a.bagset", &mut input);
+    let (out, err, ending) = run_check(&rt, "bag-a.bagset", &mut input);
     assert_eq!(rt;
         out.as_slice(),
         b"valid 1.0 files 1 bytes 3 manifests 1\n".as_slice()
@@ -96,7 +96,7 @@ impl Read for Torn {
 
 #[test]
 fn a_torn_input_is_a_fault_of_the_device(rt: HostRuntime) {
-    let (out, err, ending) = printed(&rt, "-", &mut Torn { given: false });
+    let (out, err, ending) = run_check(&rt, "-", &mut Torn { given: false });
     assert_eq!(rt; out.as_slice(), b"".as_slice());
     assert_eq!(rt; err.as_slice(), b"device\n".as_slice());
     assert_eq!(rt; ending, Ending::Failed);
@@ -132,7 +132,7 @@ fn what_is_not_flushed_is_a_fault_of_the_device(rt: HostRuntime) {
 }
 
 /// What a run on these words prints on standard output and on standard error, and how it ends.
-fn explained(rt: &HostRuntime, words: &[&str]) -> (Vec<u8>, Vec<u8>, Ending) {
+fn run_words(rt: &HostRuntime, words: &[&str]) -> (Vec<u8>, Vec<u8>, Ending) {
     let mut input = b"".as_slice();
     let mut out = Vec::new(rt.alloc());
     let mut err = Vec::new(rt.alloc());
@@ -152,7 +152,7 @@ fn explains_what_was_worked_out(rt: HostRuntime) -> Result<(), Fail> {
             worked.collection,
             worked.class,
         ];
-        let (out, err, ending) = explained(&rt, words.as_slice());
+        let (out, err, ending) = run_words(&rt, words.as_slice());
         let line = worked.line;
         assert_eq!(rt; out.as_slice(), line.as_bytes(), "{line}");
         assert_eq!(rt; err.as_slice(), b"".as_slice(), "{line}");
@@ -169,7 +169,7 @@ fn reads_all_of_a_policy(rt: HostRuntime) -> Result<(), Fail> {
     policy.extend_from_slice(POLICY)?;
     fs::write(&rt, "long-policy.toml", policy.as_slice())?;
     let words = ["explain", "long-policy.toml", "carl", "list", "tax", "y10"];
-    let (out, _, ending) = explained(&rt, words.as_slice());
+    let (out, _, ending) = run_words(&rt, words.as_slice());
     assert_eq!(rt; out.as_slice(), b"allow rule 3\n".as_slice());
     assert_eq!(rt; ending, Ending::Accepted);
     fs::remove_file(&rt, "long-policy.toml")?;
@@ -180,7 +180,7 @@ fn reads_all_of_a_policy(rt: HostRuntime) -> Result<(), Fail> {
 fn a_dash_is_a_file_here(rt: HostRuntime) -> Result<(), Fail> {
     fs::write(&rt, "-", POLICY)?;
     let words = ["explain", "-", "carl", "list", "tax", "y10"];
-    let (out, _, ending) = explained(&rt, words.as_slice());
+    let (out, _, ending) = run_words(&rt, words.as_slice());
     assert_eq!(rt; out.as_slice(), b"allow rule 3\n".as_slice());
     assert_eq!(rt; ending, Ending::Accepted);
     fs::remove_file(&rt, "-")?;
@@ -190,13 +190,13 @@ fn a_dash_is_a_file_here(rt: HostRuntime) -> Result<(), Fail> {
 #[test]
 fn a_missing_policy_is_a_fault_of_the_device(rt: HostRuntime) {
     let words = ["explain", "no-policy.toml", "anna", "list", "maps", "y1"];
-    let (out, err, ending) = explained(&rt, words.as_slice());
+    let (out, err, ending) = run_words(&rt, words.as_slice());
     assert_eq!(rt; out.as_slice(), b"".as_slice());
     assert_eq!(rt; err.as_slice(), b"device\n".as_slice());
     assert_eq!(rt; ending, Ending::Failed);
     // The words come first.
     let words = ["explain", "no-policy.toml", "anna", "*", "maps", "y1"];
-    let (_, err, ending) = explained(&rt, words.as_slice());
+    let (_, err, ending) = run_words(&rt, words.as_slice());
     assert!(rt; err.as_slice().starts_with(b"ACTION is one of "));
     assert_eq!(rt; ending, Ending::Misused);
 }
