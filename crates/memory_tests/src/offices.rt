@@ -5,7 +5,7 @@ use office_core::{
     Accession, Answer, Day, Limits, Matter, Name, PolicyFault, Refusal, Request, Years, read_policy,
 };
 use office_history::Stock;
-use office_history::plain::{Office, create, install, run, step, stock};
+use office_history::plain::Office;
 use std::alloc::{AllocError, Global};
 use worked_bags::{BAG, POLICY};
 
@@ -76,7 +76,7 @@ pub const NOTHING: Stock = Stock {
 /// A new office.
 pub fn made(alloc: Global) -> Option<Office> {
     let limits = Limits::new(10, 10)?;
-    Some(create(alloc, limits))
+    Some(Office::create(alloc, limits))
 }
 
 /// Reads the policy and installs it.
@@ -85,7 +85,7 @@ fn install_policy(alloc: Global, office: &mut Office) -> Outcome {
         return Outcome::Wrong;
     };
     match read_policy(alloc, text) {
-        Ok(policy) => match install(office, policy) {
+        Ok(policy) => match office.install(policy) {
             Ok(()) => Outcome::Expected,
             Err(_) => Outcome::Memory,
         },
@@ -185,9 +185,9 @@ pub fn come_out(alloc: Global, office: &mut Office, day: &str, part: Part) -> Ou
     let (Some(day), Some(request)) = (Day::read(day), request(part)) else {
         return Outcome::Wrong;
     };
-    match step(alloc, office, day, "anna", &request) {
+    match office.step(alloc, day, "anna", &request) {
         Answer::Refused(Refusal::Memory) => {
-            Outcome::memory(fits(part, &step(alloc, office, day, "anna", &request)))
+            Outcome::memory(fits(part, &office.step(alloc, day, "anna", &request)))
         }
         answer => Outcome::expected(fits(part, &answer)),
     }
@@ -215,7 +215,7 @@ fn items(alloc: Global) -> Result<Vec<(Day, &'static str, Request<'static>)>, Al
 /// Asks all of them in one run.
 fn run_together(alloc: Global, office: &mut Office) -> Result<Outcome, AllocError> {
     let items = items(alloc)?;
-    let answers = run(alloc, office, items.as_slice())?;
+    let answers = office.run(alloc, items.as_slice())?;
     let mut outcome = Outcome::expected(answers.len() == TOGETHER.len());
     for (part, answer) in TOGETHER.iter().zip(answers.iter()) {
         outcome = outcome.and(answered(*part, answer));
@@ -237,7 +237,7 @@ pub fn together(alloc: Global, office: &mut Office) -> Outcome {
 
 /// Counts the contents of the office.
 pub fn count(alloc: Global, office: &Office, kept: Stock) -> Outcome {
-    match stock(alloc, office) {
+    match office.stock(alloc) {
         Ok(found) => Outcome::expected(found == kept),
         Err(_) => Outcome::Memory,
     }

@@ -57,7 +57,7 @@ pub record Alike (h k : History) : Type 0 where
 
 -- ---- what is said in longer lists
 
-or_none : {A : Type 0} (o : Option A) → option_or o None ≡ o
+pub or_none : {A : Type 0} (o : Option A) → option_or o None ≡ o
 or_none None = refl
 or_none (Some x) = refl
 
@@ -78,7 +78,7 @@ first_said-append says [] ys = refl
 first_said-append says (x ∷ xs) ys = ap (option_or (says x)) (first_said-append says xs ys) ∙ sym (or_assoc (says x) (first_said says xs) (first_said says ys))
 
 -- what is kept of each text once depends, with more texts, on what was kept alone
-distinct_after-append : (seen xs ys : List (List ℕ)) → distinct_after seen (xs ++ ys) ≡ distinct_after seen (distinct_after seen xs ++ ys)
+pub distinct_after-append : (seen xs ys : List (List ℕ)) → distinct_after seen (xs ++ ys) ≡ distinct_after seen (distinct_after seen xs ++ ys)
 distinct_after-append seen [] ys = refl
 distinct_after-append seen (x ∷ xs) ys = by (list_any (bytes_eq x) seen) refl (distinct_after-append seen xs ys) (distinct_after-append (x ∷ seen) xs ys)
   where
@@ -105,13 +105,13 @@ policy_grown h more =
     ap (λ o. unwrap_or o no_policy) (last_said-append installed_in h.changes more)
     ∙ unwrap_or_or (last_said installed_in more) (last_said installed_in h.changes) no_policy
 
-texts_grown : (says : Change → Option (List ℕ)) (h : History) (more : List Change)
+pub texts_grown : (says : Change → Option (List ℕ)) (h : History) (more : List Change)
     → in_first_places (filter_map says (grown h more).changes) ≡ in_first_places (in_first_places (filter_map says h.changes) ++ filter_map says more)
 texts_grown says h more =
     ap in_first_places (filter_map-append says h.changes more) ∙ distinct_after-append [] (filter_map says h.changes) (filter_map says more)
 
 -- a deposit that is not gone in the longer history was not gone before
-not_gone_before : (a b : Option Date) → option_or a b ≡ None → a ≡ None
+pub not_gone_before : (a b : Option Date) → option_or a b ≡ None → a ≡ None
 not_gone_before None b e = refl
 not_gone_before (Some day) b e = absurd cc
 
@@ -159,7 +159,7 @@ alike_grown h k a more = record {
 
 -- ---- what is read alike
 
-numbered-map : {A B : Type 0} (f : A → B) (xs : List A) (n : ℕ) → numbered (map f xs) n ≡ option_map f (numbered xs n)
+pub numbered-map : {A B : Type 0} (f : A → B) (xs : List A) (n : ℕ) → numbered (map f xs) n ≡ option_map f (numbered xs n)
 numbered-map f xs zero = refl
 numbered-map f xs (suc place) = slice_get-map f xs place
 

@@ -2,7 +2,7 @@
 use Rattle.std.proofs.Common.{◌≡◌, ℕ, zero, suc, ◌+◌, ◌<◌, ◌≤◌, ◌||◌, Bool, true, false, List, [], ◌∷◌, ◌++◌, length, map, filter, Option, Some, None, slice_get, refl, sym, ap, subst, ◌∙◌, inl, inr, ◌⊎◌, arith, cond, true≢false, if◌then◌else◌}
 use Rattle.std.specs.Prelude.{bytes_eq}
 use Rattle.std.specs.List.{AllByRecursion, IsDistinct, flat_map, list_any, range_with_len}
-use Rattle.std.proofs.lemmas.Option.{same_Some}
+use Rattle.std.proofs.lemmas.Option.{same_Some, slice_get_within}
 use Rattle.std.proofs.lemmas.Slice.Eq.{bytes_eq-Decides}
 use Rattle.office_history.specs.Lists.{IsIn, numbered, numbers, distinct_after, in_first_places}
 
@@ -65,15 +65,10 @@ range_in start (suc len) n low high =
           | inr above ↦ inr (omega arith)
         ]
 
-slice_get_below : {A : Type 0} (xs : List A) (i : ℕ) (x : A) → slice_get xs i ≡ Some x → i < length xs
-slice_get_below [] i x e = absurd cc
-slice_get_below (y ∷ xs) zero x e = omega arith
-slice_get_below (y ∷ xs) (suc i) x e = let rest = slice_get_below xs i x e in omega arith
-
 -- the number of an item is one of the numbers
 pub numbered_in : {A : Type 0} (xs : List A) (n : ℕ) (x : A) → numbered xs n ≡ Some x → IsIn n (numbers (length xs))
 numbered_in xs zero x e = absurd cc
-numbered_in xs (suc i) x e = let low = slice_get_below xs i x e in range_in 1 (length xs) (suc i) (omega arith) (omega arith)
+numbered_in xs (suc i) x e = let low = slice_get_within xs i x e in range_in 1 (length xs) (suc i) (omega arith) (omega arith)
 
 -- ---- each once
 
@@ -97,7 +92,7 @@ all_new seen (x ∷ xs) = by (list_any (bytes_eq x) seen) refl (all_new seen xs)
     by true e behind after_it = behind
     by false e behind after_it = (e, weaker x seen (distinct_after (x ∷ seen) xs) after_it)
 
-other_way : (x y : List ℕ) → bytes_eq y x ≡ false → bytes_eq x y ≡ false
+pub other_way : (x y : List ℕ) → bytes_eq y x ≡ false → bytes_eq x y ≡ false
 other_way x y e = by (bytes_eq x y) refl
   where
     by : (t : Bool) → bytes_eq x y ≡ t → bytes_eq x y ≡ false

@@ -27,6 +27,7 @@ use Rattle.office_history.specs.Refusals.{refused, refusal, of_deposit, denial_a
 use Rattle.office_history.specs.Answers.{answer, change, changes_unless, deposit_change, allowed_change, after}
 use Rattle.office_history.specs.Runs.{IsLegal}
 use Rattle.office_history.proofs.ListLemmas.{numbered_cases, none_passes}
+use Rattle.office_history.proofs.MemberLemmas.{filter_in}
 use Rattle.office_history.proofs.HistoryLemmas.{deposits_grown}
 use Rattle.office_history.proofs.Accepted.{IsAccepted, legal_by, deposits_by, map_none}
 use Rattle.office_history.proofs.LawLemmas.{unrefused}
@@ -80,23 +81,10 @@ accessions_apart h legal = legal_by (λ x. AreApart (deposits x)) (λ a b a_in b
 
 -- ---- released holds
 
--- an item that a filter keeps passes its test
-kept_passes : (p : ℕ → Bool) (ks : List ℕ) (i k : ℕ) → slice_get (filter p ks) i ≡ Some k → p k ≡ true
-kept_passes p [] i k e = absurd cc
-kept_passes p (x ∷ ks) i k e = by_test (p x) refl i e (λ j found. kept_passes p ks j k found)
-  where
-    at : (j : ℕ) → p x ≡ true → slice_get (x ∷ filter p ks) j ≡ Some k → ((l : ℕ) → slice_get (filter p ks) l ≡ Some k → p k ≡ true) → p k ≡ true
-    at zero is e later = subst (λ y. p y ≡ true) (same_Some _ _ e) is
-    at (suc l) is e later = later l e
-
-    by_test : (t : Bool) → p x ≡ t → (j : ℕ) → slice_get (cond t (x ∷ filter p ks) (filter p ks)) j ≡ Some k → ((l : ℕ) → slice_get (filter p ks) l ≡ Some k → p k ≡ true) → p k ≡ true
-    by_test true is j e later = at j is e later
-    by_test false is j e later = later j e
-
 -- a hold that was released is none of the live ones
 pub not_among_live : (h : History) (k i n : ℕ) (day : Date) (deposit : Deposit) → released h k ≡ Some day → slice_get (live_holds h n deposit) i ≡ Some k → ⊥
 not_among_live h k i n day deposit e at =
-    let passes : (is_live h k && covers h k n deposit) ≡ true = kept_passes (λ j. is_live h j && covers h j n deposit) (numbers (length (holds h))) i k at in
+    let passes : (is_live h k && covers h k n deposit) ≡ true = (filter_in (λ j. is_live h j && covers h j n deposit) k (numbers (length (holds h))) (i, at)).1 in
     let alive : is_live h k ≡ true = (and_parts _ _ passes).0 in
     let dead : is_live h k ≡ false = rw e refl in
     true≢false (sym alive ∙ dead)

@@ -32,13 +32,14 @@ use Rattle.office_history.specs.Pictures.{effect_number, pattern_text, action_pa
 use Rattle.office_history.specs.Stocks.{files_of}
 use Rattle.office_core.specs.Policies.{IsNamed, HasNames}
 use Rattle.office_history.specs.Runs.{IsLegal}
+use Rattle.office_history.proofs.MemberLemmas.{other_way}
 use Rattle.office_history.proofs.Alike.{outline, Alike}
 use Rattle.office_history.proofs.AlikeAnswers.{among_first_places}
 use Rattle.office_history.proofs.LegalReadings.{legal_policy, none_gone, none_released}
 
 -- ---- lists by their places
 
-same_list : {A : Type 0} (xs ys : List A) → ((i : ℕ) → slice_get xs i ≡ slice_get ys i) → xs ≡ ys
+pub same_list : {A : Type 0} (xs ys : List A) → ((i : ℕ) → slice_get xs i ≡ slice_get ys i) → xs ≡ ys
 same_list [] [] e = refl
 same_list [] (y ∷ ys) e = let wrong = e 0 in absurd cc
 same_list (x ∷ xs) [] e = let wrong = e 0 in absurd cc
@@ -76,7 +77,7 @@ row_at f (suc len) start there past j =
     at (suc i) rest = rest i ∙ ap f (shifted i)
 
 -- the row of a number is what is said of the item of that number
-told_at : {A R : Type 0} (xs : List A) (tell : ℕ → A → R) (n : ℕ) → numbered (filter_map (λ m. option_map (tell m) (numbered xs m)) (numbers (length xs))) n ≡ option_map (tell n) (numbered xs n)
+pub told_at : {A R : Type 0} (xs : List A) (tell : ℕ → A → R) (n : ℕ) → numbered (filter_map (λ m. option_map (tell m) (numbered xs m)) (numbers (length xs))) n ≡ option_map (tell n) (numbered xs n)
 told_at {A} {R} xs tell zero = refl
 told_at {A} {R} xs tell (suc j) = row_at (λ m. option_map (tell m) (numbered xs m)) (length xs) 1 there past j ∙ ap (λ m. option_map (tell m) (numbered xs m)) (one j)
   where
@@ -91,10 +92,10 @@ told_at {A} {R} xs tell (suc j) = row_at (λ m. option_map (tell m) (numbered xs
 
 -- ---- days
 
-same_day : (a b : Date) → epoch_day a ≡ epoch_day b → a ≡ b
+pub same_day : (a b : Date) → epoch_day a ≡ epoch_day b → a ≡ b
 same_day a b e = let parts = epoch_day_injective a b e in same_date a b parts.0 parts.1 parts.2
 
-same_days : (a b : Option Date) → option_map epoch_day a ≡ option_map epoch_day b → a ≡ b
+pub same_days : (a b : Option Date) → option_map epoch_day a ≡ option_map epoch_day b → a ≡ b
 same_days None None e = refl
 same_days None (Some b) e = absurd cc
 same_days (Some a) None e = absurd cc
@@ -326,7 +327,7 @@ same_policy h k version legal_h legal_k e =
 
 -- ---- classes
 
-abbrev years_back : ℤ → Option ℕ
+abbrev pub years_back : ℤ → Option ℕ
 years_back (pos n) = Some n
 years_back (negsuc n) = None
 
@@ -335,18 +336,11 @@ years_told None = refl
 years_told (Some n) = refl
 
 -- the years that a row gives the class of that name
-abbrev row_years : List ℕ → ClassRow → Option (Option ℕ)
+abbrev pub row_years : List ℕ → ClassRow → Option (Option ℕ)
 row_years name r = if bytes_eq r.name name then Some (years_back r.years) else None
 
-abbrev rows_by : (List ℕ → Option (Option ℕ)) → List (List ℕ) → List ClassRow
+abbrev pub rows_by : (List ℕ → Option (Option ℕ)) → List (List ℕ) → List ClassRow
 rows_by years names = filter_map (λ name. option_map (class_row name) (years name)) names
-
-not_named : (a b : List ℕ) → bytes_eq b a ≡ false → bytes_eq a b ≡ false
-not_named a b e = by (bytes_eq a b) refl
-  where
-    by : (t : Bool) → bytes_eq a b ≡ t → bytes_eq a b ≡ false
-    by true is = absurd (true≢false (sym ((bytes_eq-Decides b a).1 (sym ((bytes_eq-Decides a b).0 is))) ∙ e))
-    by false is = is
 
 -- a row of another name says nothing of the class
 skip : (years : List ℕ → Option (Option ℕ)) (name other : List ℕ) (rest : List ClassRow) → bytes_eq other name ≡ false → (o : Option (Option ℕ))
@@ -376,7 +370,7 @@ some_told years name y (other ∷ names) is among = by (bytes_eq other name) ref
         ∙ (λ i. option_or (if e i then Some (years_told y i) else None) (first_said (row_years name) (rows_by years names)))
     by false e rest =
         skip years name other (rows_by years names) e (years other)
-        ∙ rest (sym (ap (λ b. b || list_any (bytes_eq name) names) (not_named name other e)) ∙ among)
+        ∙ rest (sym (ap (λ b. b || list_any (bytes_eq name) names) (other_way name other e)) ∙ among)
 
 or_true : (b : Bool) → (b || true) ≡ true
 or_true true = refl
@@ -403,7 +397,7 @@ was_defined name y (PlacedHold day hold ∷ changes) e = was_defined name y chan
 was_defined name y (ReleasedHold day j ∷ changes) e = was_defined name y changes (sym (or_none _) ∙ e)
 was_defined name y (Destroyed day n ∷ changes) e = was_defined name y changes (sym (or_none _) ∙ e)
 
-years_read : (h : History) (name : List ℕ) → first_said (row_years name) (class_rows h) ≡ years_of h name
+pub years_read : (h : History) (name : List ℕ) → first_said (row_years name) (class_rows h) ≡ years_of h name
 years_read h name = by (years_of h name) refl
   where
     by : (o : Option (Option ℕ)) → years_of h name ≡ o → first_said (row_years name) (class_rows h) ≡ years_of h name
@@ -419,7 +413,7 @@ all_weaker : (P Q : List ℕ → Type 0) (xs : List (List ℕ)) → ((x : List �
 all_weaker P Q [] f a = tt
 all_weaker P Q (x ∷ xs) f a = (f x a.0, all_weaker P Q xs f a.1)
 
-all_distinct : (P : List ℕ → Type 0) (seen xs : List (List ℕ)) → AllByRecursion P xs → AllByRecursion P (distinct_after seen xs)
+pub all_distinct : (P : List ℕ → Type 0) (seen xs : List (List ℕ)) → AllByRecursion P xs → AllByRecursion P (distinct_after seen xs)
 all_distinct P seen [] a = tt
 all_distinct P seen (x ∷ xs) a = by (list_any (bytes_eq x) seen) (all_distinct P seen xs a.1) (all_distinct P (x ∷ seen) xs a.1)
   where
@@ -427,7 +421,7 @@ all_distinct P seen (x ∷ xs) a = by (list_any (bytes_eq x) seen) (all_distinct
     by true within behind = within
     by false within behind = (a.0, behind)
 
-abbrev HasYears : List Change → List ℕ → Type 0
+abbrev pub HasYears : List Change → List ℕ → Type 0
 HasYears changes name = is_some (last_said (years_in name) changes) ≡ true
 
 still_some : {A : Type 0} (a b : Option A) → is_some a ≡ true → is_some (option_or a b) ≡ true
@@ -439,7 +433,7 @@ some_behind None b e = e
 some_behind (Some x) b e = refl
 
 -- each class that was defined has years
-all_have_years : (changes : List Change) → AllByRecursion (HasYears changes) (filter_map class_in changes)
+pub all_have_years : (changes : List Change) → AllByRecursion (HasYears changes) (filter_map class_in changes)
 all_have_years [] = tt
 all_have_years (c ∷ changes) = by c (all_weaker (HasYears changes) (HasYears (c ∷ changes)) (filter_map class_in changes) (λ name. still_some (last_said (years_in name) changes) (years_in name c)) (all_have_years changes))
   where

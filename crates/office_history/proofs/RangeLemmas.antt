@@ -5,6 +5,7 @@ use Rattle.std.specs.List.{AllByRecursion, filter_map, flat_map, list_any, range
 use Rattle.std.specs.Option.{option_or}
 use Rattle.std.proofs.lemmas.List.Elements.{filter_map-append}
 use Rattle.std.proofs.lemmas.List.Folds.{list_any-append}
+use Rattle.std.proofs.lemmas.Option.{same_Some}
 use Rattle.std.proofs.lemmas.Slice.Eq.{bytes_eq-Decides}
 use Rattle.jiff.specs.Types.{Date}
 use Rattle.jiff.specs.Words.{epoch_day}
@@ -108,11 +109,8 @@ class_years name (PlacedHold day hold) ranged b e = absurd cc
 class_years name (ReleasedHold day k) ranged b e = absurd cc
 class_years name (Destroyed day n) ranged b e = absurd cc
 
-same_some : {A : Type 0} (x y : A) → Some x ≡ Some y → x ≡ y
-same_some x y e = cc
-
 collection_name : Says collection_in IsName
-collection_name (DefinedCollection day name) ranged b e = subst IsName (same_some name b e) ranged.1
+collection_name (DefinedCollection day name) ranged b e = subst IsName (same_Some _ _ e) ranged.1
 collection_name (Installed policy) ranged b e = absurd cc
 collection_name (DefinedClass day name years) ranged b e = absurd cc
 collection_name (Deposited day deposit) ranged b e = absurd cc
@@ -124,7 +122,7 @@ abbrev pub IsDeposited : Date × Deposit → Type 0
 IsDeposited found = IsDay found.0 × IsDeposit found.1
 
 deposited_so : Says deposit_in IsDeposited
-deposited_so (Deposited day deposit) ranged b e = subst IsDeposited (same_some (day, deposit) b e) ranged
+deposited_so (Deposited day deposit) ranged b e = subst IsDeposited (same_Some _ _ e) ranged
 deposited_so (Installed policy) ranged b e = absurd cc
 deposited_so (DefinedClass day name years) ranged b e = absurd cc
 deposited_so (DefinedCollection day name) ranged b e = absurd cc
@@ -136,7 +134,7 @@ abbrev pub IsPlaced : Date × Hold → Type 0
 IsPlaced found = IsDay found.0 × IsHold found.1
 
 placed_so : Says hold_in IsPlaced
-placed_so (PlacedHold day hold) ranged b e = subst IsPlaced (same_some (day, hold) b e) ranged
+placed_so (PlacedHold day hold) ranged b e = subst IsPlaced (same_Some _ _ e) ranged
 placed_so (Installed policy) ranged b e = absurd cc
 placed_so (DefinedClass day name years) ranged b e = absurd cc
 placed_so (DefinedCollection day name) ranged b e = absurd cc

@@ -31,7 +31,7 @@ use Rattle.office_history.specs.Stocks.{files_of}
 use Rattle.office_history.proofs.ListLemmas.{all_append, all_numbered}
 use Rattle.office_history.proofs.LegalLemmas.{Reads, Judges, HasSoundBag, sound_deposits}
 use Rattle.office_history.proofs.LegalReadings.{legal_policy}
-use Rattle.office_history.proofs.Pictured.{there_is}
+use Rattle.office_history.proofs.Pictured.{there_is, all_distinct}
 use Rattle.office_history.proofs.RangeLemmas.{limits_hold, WasClosed, closed_deposits, gone_days, released_days, named_classes, named_collections, IsDeposited, ranged_deposits, IsPlaced, ranged_holds, HasTarget, placed_holds}
 
 -- ---- lists
@@ -72,15 +72,6 @@ numbered_rows {A = A} {R = R} xs tell number is (suc len) start low high =
     subst (λ (o : Option A). AreNumbered number start (cons_option (option_map (tell start) o) (filter_map (λ m. option_map (tell m) (numbered xs m)) (range_with_len (start + 1) len))))
     (sym here.1)
     (is start here.0, numbered_rows xs tell number is len (start + 1) (omega arith) (omega (arith, high)))
-
-all_distinct : (P : List ℕ → Type 0) (seen texts : List (List ℕ)) → AllByRecursion P texts → AllByRecursion P (distinct_after seen texts)
-all_distinct P seen [] all = tt
-all_distinct P seen (text ∷ texts) all = by (list_any (bytes_eq text) seen) (all_distinct P seen texts all.1) (all_distinct P (text ∷ seen) texts all.1)
-  where
-    by : (there : Bool) → AllByRecursion P (distinct_after seen texts) → AllByRecursion P (distinct_after (text ∷ seen) texts)
-        → AllByRecursion P (if there then distinct_after seen texts else text ∷ distinct_after (text ∷ seen) texts)
-    by true behind after_it = behind
-    by false behind after_it = (all.0, after_it)
 
 -- ---- callers and rules
 

@@ -4,7 +4,7 @@ use crate::asked::Asked;
 use crate::words::words;
 use office_core::{Day, Limits, read_policy};
 use office_history::Stock;
-use office_history::plain::{Office, create, install, run, step, stock};
+use office_history::plain::Office;
 use std::alloc::Global;
 use std::test::*;
 
@@ -36,7 +36,7 @@ fn said(
 ) -> Result<String, Fail> {
     let day = Day::read(day).ok_or("day")?;
     let request = asked.request().ok_or("request")?;
-    let answer = step(alloc, office, day, caller, &request);
+    let answer = office.step(alloc, day, caller, &request);
     words(alloc, &answer)
 }
 
@@ -48,8 +48,8 @@ pub fn opened(alloc: Global) -> Result<Office, Fail> {
 /// The same, with room for this many deposits and as many holds.
 pub fn opened_for(alloc: Global, most: u32) -> Result<Office, Fail> {
     let limits = Limits::new(most, most).ok_or("limits")?;
-    let mut office = create(alloc, limits);
-    install(&mut office, read_policy(alloc, POLICY)?)?;
+    let mut office = Office::create(alloc, limits);
+    office.install(read_policy(alloc, POLICY)?)?;
     for asked in [
         Asked::Class("y1", 1),
         Asked::Class("y10", 10),
@@ -86,7 +86,7 @@ pub fn run_words(alloc: Global, office: &mut Office, rows: &[Row]) -> Result<Vec
         items.push((day, *caller, asked.request().ok_or("request")?))?;
     }
     let mut told = Vec::new(alloc);
-    for answer in run(alloc, office, items.as_slice())?.iter() {
+    for answer in office.run(alloc, items.as_slice())?.iter() {
         told.push(words(alloc, answer)?)?;
     }
     Ok(told)
@@ -99,5 +99,5 @@ pub fn has_stock(
     contents: usize,
     bytes: usize,
 ) -> Result<bool, Fail> {
-    Ok(stock(alloc, office)? == Stock { contents, bytes })
+    Ok(office.stock(alloc)? == Stock { contents, bytes })
 }

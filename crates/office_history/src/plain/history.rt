@@ -30,14 +30,28 @@ impl Model for Office {
     ghost invariant = { λ office. IsWithin (record { max_deposits = office.limits.deposits; max_holds = office.limits.holds; changes = office.changes.items }) };
 }
 
-/// A new office.
-pub fn create(alloc: Global, limits: Limits) -> Office
-    ensures created { result ≡ created limits.deposits limits.holds }
-    ensures legal { IsLegal result }
-{
-    Office {
-        limits,
-        changes: Vec::new(alloc),
+impl Office {
+    /// A new office.
+    pub fn create(alloc: Global, limits: Limits) -> Office
+        ensures created { result ≡ created limits.deposits limits.holds }
+        ensures legal { IsLegal result }
+    {
+        Office {
+            limits,
+            changes: Vec::new(alloc),
+        }
+    }
+
+    /// Installs a policy in the place of the one before. An `Err` leaves the office as it was. A
+    /// legal history stays legal.
+    pub fn install(&mut self, policy: Policy) -> Result<(), AllocError>
+        ensures installed { OnOk result (self.new ≡ grown self.old (Installed policy ∷ [])) }
+        ensures failed { OnErr result (self.new ≡ self.old) }
+        ensures legal { IsLegal self.old → IsLegal self.new }
+    {
+        // Each policy's rules ask for names: what `rules` says of it.
+        let _rules = policy.rules();
+        accept(self, Kind::Installed(policy))
     }
 }
 
@@ -65,16 +79,4 @@ pub fn accept(office: &mut Office, kind: Kind) -> Result<(), AllocError>
 {
     office.changes.push(Change { kind })?;
     Ok(())
-}
-
-/// Installs a policy in the place of the one before. An `Err` leaves the office as it was. A legal
-/// history stays legal.
-pub fn install(office: &mut Office, policy: Policy) -> Result<(), AllocError>
-    ensures installed { OnOk result (office.new ≡ grown office.old (Installed policy ∷ [])) }
-    ensures failed { OnErr result (office.new ≡ office.old) }
-    ensures legal { IsLegal office.old → IsLegal office.new }
-{
-    // Each policy's rules ask for names: what `rules` says of it.
-    let _rules = policy.rules();
-    accept(office, Kind::Installed(policy))
 }

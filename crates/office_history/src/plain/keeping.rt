@@ -100,17 +100,20 @@ fn total(contents: &[&[u8]]) -> Option<usize>
     Some(bytes)
 }
 
-/// How many different contents the files of the kept bags have, and how many bytes they have together.
-pub fn stock(alloc: Global, office: &Office) -> Result<Stock, AllocError>
-    ensures { IfOk result (λ found. stock_seen found ≡ stock office.now) }
-{
-    let all = all_contents(alloc, office)?;
-    let contents = in_first_places(alloc, all.as_slice())?;
-    match total(contents.as_slice()) {
-        Some(bytes) => Ok(Stock {
-            contents: contents.len(),
-            bytes,
-        }),
-        None => Err(AllocError),
+impl Office {
+    /// How many different contents the files of the kept bags have, and how many bytes they have
+    /// together.
+    pub fn stock(&self, alloc: Global) -> Result<Stock, AllocError>
+        ensures { IfOk result (λ found. stock_seen found ≡ stock self.now) }
+    {
+        let all = all_contents(alloc, self)?;
+        let contents = in_first_places(alloc, all.as_slice())?;
+        match total(contents.as_slice()) {
+            Some(bytes) => Ok(Stock {
+                contents: contents.len(),
+                bytes,
+            }),
+            None => Err(AllocError),
+        }
     }
 }

@@ -13,7 +13,4 @@ mod running;
 mod serving;
 mod stored;
 
-pub use history::{Office, create, install};
-pub use keeping::stock;
-pub use running::run;
-pub use serving::step;
+pub use history::Office;

@@ -6,12 +6,13 @@ ghost use Rattle.office_core.specs.declared.request.Request.TheVariants as reque
 ghost use Rattle.office_history.specs.Histories.{deposit_numbered, hold_numbered};
 ghost use Rattle.office_history.specs.Refusals.{of_deposit, of_hold, release_denial, asked_refusals, file_refusals, hold_refusals, collection_hold_refusals, release_refusals, place_refusals, bag_refusals, refusal};
 
+use crate::judging::refusal_of;
 use crate::plain::change::{Deposit, Hold, Target};
 use crate::plain::history::Office;
 use crate::plain::reading::{deposit_numbered, hold_numbered};
 use crate::plain::refusing::{
     bad_bag, closed_ahead, denial, denial_at, facts_of, full_of_deposits, full_of_holds,
-    is_released, no_file, no_such_class, no_such_collection, refusal_of, taken,
+    is_released, no_file, no_such_class, no_such_collection, taken,
 };
 use office_core::{Action, Day, Name, Refusal, Request, Subject, verdict};
 use std::alloc::{AllocError, Global};

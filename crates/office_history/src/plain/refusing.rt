@@ -3,8 +3,9 @@
 ghost use Rattle.std.specs.Prelude.{◌≡◌, IfOk, option_copied};
 ghost use Rattle.office_core.specs.Policies.{role_of};
 ghost use Rattle.office_history.specs.Histories.{policy};
-ghost use Rattle.office_history.specs.Refusals.{deciding_rule, refusal_of, facts_of, denial, denial_at, no_such_class, no_such_collection, taken, closed_ahead, bad_bag, is_released, full_of_deposits, full_of_holds, no_file};
+ghost use Rattle.office_history.specs.Refusals.{deciding_rule, facts_of, denial, denial_at, no_such_class, no_such_collection, taken, closed_ahead, bad_bag, is_released, full_of_deposits, full_of_holds, no_file};
 
+use crate::judging::refusal_of;
 use crate::plain::change::Deposit;
 use crate::plain::history::{Office, limits_of};
 use crate::plain::judging::bag_of;
@@ -12,9 +13,7 @@ use crate::plain::reading::{
     accession_of, deposit_count, due, gone, has_class, has_collection, hold_count, installed,
     live_holds, released,
 };
-use office_core::{
-    Action, Ask, Day, Decision, Due, Facts, Refusal, Rule, Subject, Verdict, decide,
-};
+use office_core::{Action, Ask, Day, Decision, Facts, Refusal, Rule, Subject, decide};
 use std::alloc::{AllocError, Global};
 
 /// The role of a caller by the policy that was installed last.
@@ -55,21 +54,6 @@ fn deciding_rule(
         class,
     };
     decide(rules_of(office), &ask)
-}
-
-/// The refusal that a verdict is.
-pub fn refusal_of(verdict: Verdict) -> Option<Refusal>
-    ensures { result ≡ refusal_of verdict }
-{
-    match verdict {
-        Verdict::DeniedByRule(rule) => Some(Refusal::DeniedByRule(rule)),
-        Verdict::DeniedByDefault => Some(Refusal::DeniedByDefault),
-        Verdict::Gone(day) => Some(Refusal::Gone(day)),
-        Verdict::Held(hold) => Some(Refusal::Held(hold)),
-        Verdict::NotDue(date) => Some(Refusal::NotDue(Due::On(date))),
-        Verdict::Permanent => Some(Refusal::NotDue(Due::Never)),
-        Verdict::Allow => None,
-    }
 }
 
 /// What is known of an action on a deposit.

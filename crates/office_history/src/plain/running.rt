@@ -5,28 +5,29 @@ ghost use Rattle.office_history.specs.Runs.{IsLegal, Run};
 ghost use Rattle.office_history.specs.PlainOffices.{ServesAll};
 
 use crate::plain::history::Office;
-use crate::plain::serving::step;
 use office_core::{Answer, Day, Request};
 use std::alloc::{AllocError, Global};
 
-/// Answers requests one after the other, each with its day and its caller: each as `step` does, so
-/// memory alone may fail. The room for the answers is taken first: an `Err` has done nothing. A
-/// legal history stays legal.
-pub fn run(
-    alloc: Global,
-    office: &mut Office,
-    items: &[(Day, &str, Request<'_>)],
-) -> Result<Vec<Answer>, AllocError>
-    ensures served { IfOk result (λ answers.
-        ServesAll office.old items.now answers.items office.new) }
-    ensures ran { IfOk result (λ answers. Run office.old items.now answers.items office.new) }
-    ensures failed { OnErr result (office.new ≡ office.old) }
-    ensures legal { IsLegal office.old → IsLegal office.new }
-{
-    let mut answers = Vec::with_capacity(alloc, items.len())?;
-    for item in items {
-        let answer = step(alloc, office, item.0, item.1, &item.2);
-        answers.push(answer)?;
+impl Office {
+    /// Answers requests one after the other, each with its day and its caller: each as `step` does,
+    /// so memory alone may fail. The room for the answers is taken first: an `Err` has done
+    /// nothing. A legal history stays legal.
+    pub fn run(
+        &mut self,
+        alloc: Global,
+        items: &[(Day, &str, Request<'_>)],
+    ) -> Result<Vec<Answer>, AllocError>
+        ensures served { IfOk result (λ answers.
+            ServesAll self.old items.now answers.items self.new) }
+        ensures ran { IfOk result (λ answers. Run self.old items.now answers.items self.new) }
+        ensures failed { OnErr result (self.new ≡ self.old) }
+        ensures legal { IsLegal self.old → IsLegal self.new }
+    {
+        let mut answers = Vec::with_capacity(alloc, items.len())?;
+        for item in items {
+            let answer = self.step(alloc, item.0, item.1, &item.2);
+            answers.push(answer)?;
+        }
+        Ok(answers)
     }
-    Ok(answers)
 }

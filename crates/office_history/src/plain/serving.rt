@@ -118,23 +118,19 @@ fn serve(
     Ok(answer)
 }
 
-/// Answers a caller's request on that day. Where memory runs out the office is as it was, as after
-/// every refusal. A legal history stays legal.
-pub fn step(
-    alloc: Global,
-    office: &mut Office,
-    day: Day,
-    caller: &str,
-    request: &Request<'_>,
-) -> Answer
-    ensures served { Serves office.old day caller.now request.now result office.new }
-    ensures legal { IsLegal office.old → IsLegal office.new }
-{
-    // What the types of a day and of a request say of their values.
-    let _date = day.date();
-    request.prove_in_range();
-    match serve(alloc, office, day, caller, request) {
-        Ok(answer) => answer,
-        Err(_) => Answer::Refused(Refusal::Memory),
+impl Office {
+    /// Answers a caller's request on that day. Where memory runs out the office is as it was, as
+    /// after every refusal. A legal history stays legal.
+    pub fn step(&mut self, alloc: Global, day: Day, caller: &str, request: &Request<'_>) -> Answer
+        ensures served { Serves self.old day caller.now request.now result self.new }
+        ensures legal { IsLegal self.old → IsLegal self.new }
+    {
+        // What the types of a day and of a request say of their values.
+        let _date = day.date();
+        request.prove_in_range();
+        match serve(alloc, self, day, caller, request) {
+            Ok(answer) => answer,
+            Err(_) => Answer::Refused(Refusal::Memory),
+        }
     }
 }

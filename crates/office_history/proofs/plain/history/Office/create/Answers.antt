@@ -1,5 +1,5 @@
 use Rattle.office_history.specs.Runs.{new}
-use Rattle.office_history.proofs.plain.history.create.Goals as goal
+use Rattle.office_history.proofs.plain.history.Office.create.Goals as goal
 
 pub returns-clause-legal : goal.returns-clause-legal
 returns-clause-legal c =

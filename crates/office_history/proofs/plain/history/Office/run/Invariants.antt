@@ -3,12 +3,12 @@ use Rattle.office_core.specs.declared.answer.Answer.{Answer}
 use Rattle.office_history.specs.Histories.{History}
 use Rattle.office_history.specs.PlainOffices.{ServesAll}
 use Rattle.office_history.specs.Runs.{IsLegal}
-use Rattle.office_history.proofs.plain.running.run.Given as goal
+use Rattle.office_history.proofs.plain.history.Office.run.Given as goal
 
 abbrev pub invariant-loop-item : goal.invariant-loop-item
 invariant-loop-item l = record {
   count : vec_len l.answers ≡ l.item-index;
   room : length l.items ≤ vec_capacity l.answers;
-  legal : IsLegal l.fn.office → IsLegal l.office;
-  served : (more : List Answer) (last : History) → ServesAll l.office (drop l.item-index l.items) more last → ServesAll l.fn.office l.items (l.answers.items ++ more) last;
+  legal : IsLegal l.fn.self → IsLegal l.self;
+  served : (more : List Answer) (last : History) → ServesAll l.self (drop l.item-index l.items) more last → ServesAll l.fn.self l.items (l.answers.items ++ more) last;
 }

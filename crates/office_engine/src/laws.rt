@@ -1,0 +1,43 @@
+//! Laws of the office: those of its histories, and what its tables tell of them.
+
+ghost use Rattle.std.specs.Prelude.{◌≡◌, ◌↔◌, ℕ, List, pos};
+ghost use Rattle.jiff.specs.Types.{Date};
+ghost use Rattle.sqlite.specs.Effect.{Database};
+ghost use Rattle.office_core.specs.declared.request.Request.{Request};
+ghost use Rattle.office_rows.specs.Rows.{empty_office, this_version};
+ghost use Rattle.office_tables.specs.Tables.{Becomes, tables_of};
+ghost use Rattle.office_history.specs.Histories.{History};
+ghost use Rattle.office_history.specs.Answers.{answer};
+ghost use Rattle.office_history.specs.RowRanges.{AreInRange};
+ghost use Rattle.office_history.specs.Runs.{IsLegal, created};
+ghost use Rattle.office_engine.specs.Pictures.{Pictures};
+
+pub use office_history::laws::*;
+
+/// What `create` of the tables leaves pictures the history of a new office with those limits, and
+/// nothing else does.
+pub fn new_offices_are_pictured()
+    ensures { (db : Database) (max_deposits max_holds : ℕ)
+        → Becomes db (empty_office this_version (pos max_deposits) (pos max_holds))
+        ↔ Pictures (created max_deposits max_holds) db }
+{}
+
+/// Tables that picture two legal histories answer each request alike, whichever of the two is
+/// asked: the rows of an office tell all that it answers by.
+pub fn tables_tell_the_answer()
+    ensures { (db : Database) (h k : History) → IsLegal h → IsLegal k
+        → Pictures h db → Pictures k db
+        → (day : Date) (caller : List ℕ) (request : Request)
+        → answer h day caller request ≡ answer k day caller request }
+{
+    one_picture();
+}
+
+/// Tables that picture a legal history have only rows in range: a row out of its range is one that
+/// no accepted change wrote.
+pub fn tables_are_in_range()
+    ensures { (db : Database) (h : History) → IsLegal h → Pictures h db
+        → AreInRange this_version (tables_of db) }
+{
+    pictures_are_in_range();
+}

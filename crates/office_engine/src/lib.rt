@@ -1,0 +1,4 @@
+//! The office over its tables.
+#![tactic(auto)]
+
+pub mod laws;

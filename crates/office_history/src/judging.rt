@@ -1,0 +1,99 @@
+//! What every office judges by: bags that are deposited, bags that are checked again, and the
+//! refusals that verdicts are.
+
+ghost use Rattle.std.specs.Prelude.{◌≡◌, Ok, IfOk, is_none};
+ghost use Rattle.bag_text.specs.FaultTexts.{set_fault_text};
+ghost use Rattle.bag_text.specs.TransferForm.{IsBag, set_text};
+ghost use Rattle.bag_text.specs.TransferReading.{set_of};
+ghost use Rattle.bag_check.specs.Answers.{named_fault, printed_fault};
+ghost use Rattle.office_history.specs.Answers.{audited};
+ghost use Rattle.office_history.specs.Bags as bags;
+ghost use Rattle.office_history.specs.Bags.{bag_of};
+ghost use Rattle.office_history.specs.PlainBags.{Judged};
+ghost use Rattle.office_history.specs.Refusals.{refusal_of};
+
+use bag_check::{BagFault, BagReport, check_bag};
+use bag_text::{BagSet, SetFault, read_bagset};
+use office_core::{AuditReport, Due, FaultText, Refusal, Verdict};
+use std::alloc::{AllocError, Global};
+
+fn set_fault_text(alloc: Global, fault: SetFault) -> Result<FaultText, AllocError>
+    ensures { IfOk result (λ text. text ≡ set_fault_text fault) }
+{
+    let text = format!(in alloc; "{fault}")?;
+    Ok(FaultText::of(text))
+}
+
+fn fault_text(alloc: Global, fault: &BagFault<'_>) -> Result<FaultText, AllocError>
+    ensures { IfOk result (λ text. text ≡ printed_fault fault.now) }
+{
+    let text = format!(in alloc; "{fault}")?;
+    Ok(FaultText::of(text))
+}
+
+fn is_memory(fault: &BagFault<'_>) -> bool
+    ensures { result ≡ is_none (named_fault fault.now) }
+{
+    matches!(fault, BagFault::Memory)
+}
+
+/// What is counted in a valid bag, or the text of the first fault of another.
+pub fn report_on(
+    alloc: Global,
+    bag: &BagSet<'_>,
+) -> Result<Result<BagReport, FaultText>, AllocError>
+    ensures { IfOk result (λ judged. Judged judged (bags.report_on bag.now)) }
+{
+    match check_bag(alloc, bag) {
+        Ok(report) => Ok(Ok(report)),
+        Err(fault) => {
+            if is_memory(&fault) {
+                return Err(AllocError);
+            }
+            Ok(Err(fault_text(alloc, &fault)?))
+        }
+    }
+}
+
+/// What an audit says of a bag.
+pub fn audit(alloc: Global, bag: &BagSet<'_>) -> Result<AuditReport, AllocError>
+    ensures { IfOk result (λ report. report ≡ audited (bags.report_on bag.now)) }
+{
+    match report_on(alloc, bag)? {
+        Ok(report) => Ok(AuditReport::Valid(report)),
+        Err(fault) => Ok(AuditReport::Invalid(fault)),
+    }
+}
+
+/// The bag whose transfer form the text is, as slices of it, if it is that of a valid bag, or the
+/// text of the first fault.
+pub fn valid_bag(alloc: Global, text: &[u8]) -> Result<Result<BagSet<'_>, FaultText>, AllocError>
+    ensures valid { IfOk result (λ found. found ≡ bag_of text.now) }
+    ensures read { IfOk result (λ found. IfOk found (λ bag. set_of text.now ≡ Ok bag)) }
+    ensures form { IfOk result (λ found. IfOk found (λ bag. text.now ≡ set_text bag)) }
+    ensures is_bag { IfOk result (λ found. IfOk found (λ bag. IsBag bag)) }
+{
+    match read_bagset(alloc, text) {
+        Err(SetFault::Memory) => Err(AllocError),
+        Err(fault) => Ok(Err(set_fault_text(alloc, fault)?)),
+        Ok(bag) => match report_on(alloc, &bag)? {
+            Ok(_) => Ok(Ok(bag)),
+            Err(fault) => Ok(Err(fault)),
+        },
+    }
+}
+
+/// The refusal that a verdict is; none where it allows.
+pub fn refusal_of(verdict: Verdict) -> Option<Refusal>
+    ensures { result ≡ refusal_of verdict }
+{
+    match verdict {
+        Verdict::DeniedByRule(rule) => Some(Refusal::DeniedByRule(rule)),
+        Verdict::DeniedByDefault => Some(Refusal::DeniedByDefault),
+        Verdict::Gone(day) => Some(Refusal::Gone(day)),
+        Verdict::Held(hold) => Some(Refusal::Held(hold)),
+        Verdict::NotDue(date) => Some(Refusal::NotDue(Due::On(date))),
+        Verdict::Permanent => Some(Refusal::NotDue(Due::Never)),
+        Verdict::Allow => None,
+    }
+}
