@@ -12,7 +12,14 @@ ghost use Rattle.office_history.specs.RowRanges.{AreInRange};
 ghost use Rattle.office_history.specs.Runs.{IsLegal, created};
 ghost use Rattle.office_engine.specs.Pictures.{Pictures};
 
-pub use office_history::laws::*;
+pub use office_history::laws::{
+    accessions_are_used_once, audits_are_valid, changes_stand, closed_by_the_day_of_deposit,
+    contents_are_kept_once, deposited_bags, disposals_stand, due_lists_are_disposals,
+    files_are_served_as_deposited, later_deposits_are_covered, limits_hold, numbers_are_given_once,
+    one_picture, pictures_are_in_range, refused_changes_nothing, released_holds_are_not_live,
+    revised_classes_move_due_days, runs_only_add, runs_stay_legal, served_as_deposited, sound_bags,
+    verdicts_decide, what_is_named_is_there,
+};
 
 /// What `create` of the tables leaves pictures the history of a new office with those limits, and
 /// nothing else does.
