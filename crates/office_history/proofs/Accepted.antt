@@ -1,5 +1,5 @@
 -- Where a request is allowed its change is one that the history allows; so what each such change keeps, each legal history has.
-use Rattle.std.proofs.Common.{◌≡◌, ◌≤ℤ◌, ℕ, ◌<◌, Bool, true, false, not, List, [], ◌∷◌, ◌++◌, length, Option, Some, None, Result, Ok, Err, IsSome, option_map, slice_get, int_lt, refl, sym, ap, subst, ◌∙◌, inl, inr, append-nil, arith, rules, if◌then◌else◌}
+use Rattle.std.proofs.Common.{◌≡◌, ◌≤ℤ◌, ℕ, ◌<◌, Bool, true, false, not, List, [], ◌∷◌, ◌++◌, length, Option, Some, None, Result, Ok, Err, IsSome, option_map, slice_get, int_lt, refl, sym, ap, subst, ◌∙◌, append-nil, arith, rules, if◌then◌else◌}
 use Rattle.std.specs.Prelude.{nat_le}
 use Rattle.std.proofs.lemmas.Bool.Decides.{nat_tests}
 use Rattle.std.proofs.lemmas.Int.{by_lt_z}
@@ -21,7 +21,7 @@ use Rattle.office_core.specs.declared.request.Request.TheVariants.{DefineClass, 
 use Rattle.office_history.specs.Histories.{History, Change, Installed, DefinedClass, DefinedCollection, Deposited, PlacedHold, ReleasedHold, Destroyed, Deposit, Hold, grown, has_class, has_collection, deposits, deposit_numbered, accession_of, gone, due, holds, hold_numbered, released, live_holds, least_hold}
 use Rattle.office_history.specs.Bags.{bag_of}
 use Rattle.office_history.specs.Refusals.{refused, refusal, bad_as, of_deposit, of_hold, denial, denial_at, release_denial, is_gone, is_released, held, not_due, no_such_collection, no_such_class, taken, closed_ahead, bad_bag, full_of_deposits, full_of_holds}
-use Rattle.office_history.specs.Answers.{change, changes_unless, allowed_change, deposit_change}
+use Rattle.office_history.specs.Answers.{changes_unless, allowed_change, deposit_change}
 use Rattle.office_history.specs.Acceptance.{IsChange, IsAllowed, IsDeposit, IsHold, IsDepositable, IsPlaceable, IsReleasable, IsDisposable}
 use Rattle.office_history.specs.Runs.{IsLimit, IsLegal, created, new, install, serve}
 use Rattle.office_history.proofs.HistoryLemmas.{deposits_grown, holds_grown}

@@ -6,7 +6,6 @@ use Rattle.std.proofs.lemmas.Bool.Decides.{Decides-eqb}
 use Rattle.std.proofs.lemmas.Option.{same_Some}
 use Rattle.jiff.specs.Types.{Date}
 use Rattle.bag_text.specs.TransferForm.{set_text, content_at}
-use Rattle.office_core.specs.FirstOf.{first_some}
 use Rattle.office_core.specs.declared.answer.Answer.{Answer}
 use Rattle.office_core.specs.declared.answer.Answer.TheVariants as answers
 use Rattle.office_core.specs.declared.answer.LiveHold.{LiveHold}
@@ -16,7 +15,7 @@ use Rattle.office_core.specs.declared.request.Request.TheVariants.{DefineClass, 
 use Rattle.office_history.specs.Lists.{first_said, numbered}
 use Rattle.office_history.specs.Histories.{History, Change, PlacedHold, ReleasedHold, Deposit, Hold, OnDeposit, OnCollection, grown, deposit_numbered, hold_in, holds, hold_numbered, released, released_in, live_holds}
 use Rattle.office_history.specs.Bags.{report_on}
-use Rattle.office_history.specs.Refusals.{refusal, of_hold, release_denial, is_released}
+use Rattle.office_history.specs.Refusals.{refusal}
 use Rattle.office_history.specs.Answers.{answer, answer_unless, allowed_answer, told, file_answer, record_of, told_hold, told_holds, live_hold, audited, change, changes_unless, allowed_change, after}
 use Rattle.office_history.proofs.ListLemmas.{numbered_last}
 use Rattle.office_history.proofs.HistoryLemmas.{holds_grown}

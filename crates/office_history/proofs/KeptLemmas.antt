@@ -1,5 +1,5 @@
 -- Due lists and what is kept, by what stands in the lists; audits of legal histories.
-use Rattle.std.proofs.Common.{◌≡◌, ℕ, Bool, true, false, List, [], ◌∷◌, length, map, filter, Option, Some, None, Result, Ok, Err, is_none, refl, sym, ap, subst, ◌∙◌}
+use Rattle.std.proofs.Common.{◌≡◌, ℕ, true, List, [], ◌∷◌, length, map, Option, Some, None, Result, Ok, Err, is_none, refl, sym, ap, subst, ◌∙◌}
 use Rattle.std.specs.List.{AllByRecursion, flat_map}
 use Rattle.std.specs.Option.{option_map_or}
 use Rattle.jiff.specs.Types.{Date}
@@ -13,8 +13,8 @@ use Rattle.office_core.specs.declared.answer.AuditReport.{AuditReport}
 use Rattle.office_core.specs.declared.answer.AuditReport.TheVariants.{Valid}
 use Rattle.office_core.specs.declared.refusal.Refusal.{Refusal}
 use Rattle.office_core.specs.declared.request.Request.TheVariants.{Audit, Dispose}
-use Rattle.office_history.specs.Lists.{IsIn, numbers, in_first_places}
-use Rattle.office_history.specs.Histories.{History, Change, Deposit, grown, deposits, deposit_numbered, gone, kept}
+use Rattle.office_history.specs.Lists.{IsIn, numbers}
+use Rattle.office_history.specs.Histories.{History, Deposit, deposits, deposit_numbered, gone, kept}
 use Rattle.office_history.specs.Bags.{bag_of, valid_bag, if_valid, report_on}
 use Rattle.office_history.specs.Refusals.{refusal}
 use Rattle.office_history.specs.Answers.{answer, answer_unless, allowed_answer, told, audited, due_list}
@@ -22,7 +22,7 @@ use Rattle.office_history.specs.Runs.{IsLegal}
 use Rattle.office_history.specs.Stocks.{files_of, contents, IsKept}
 use Rattle.office_history.proofs.ListLemmas.{all_append, all_numbered}
 use Rattle.office_history.proofs.MemberLemmas.{in_filter, filter_in, numbered_in, in_map, map_in, in_gathered, gathered_in, first_places_in, in_places}
-use Rattle.office_history.proofs.Accepted.{IsAccepted, legal_by, deposits_by, disposable}
+use Rattle.office_history.proofs.Accepted.{legal_by, deposits_by, disposable}
 use Rattle.office_history.proofs.LawLemmas.{unrefused}
 
 is_nothing : {A : Type 0} (o : Option A) → is_none o ≡ true → o ≡ None

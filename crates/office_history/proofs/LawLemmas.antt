@@ -1,5 +1,5 @@
 -- What holds and classes do over time, and what is served of a deposit.
-use Rattle.std.proofs.Common.{◌≡◌, ◌≢◌, ℕ, ◌+◌, true, List, [], ◌∷◌, ◌++◌, Option, Some, None, Result, Ok, Err, length, refl, sym, ap, subst, ◌∙◌, inl, inr, append_assoc, append-nil}
+use Rattle.std.proofs.Common.{◌≡◌, ◌≢◌, ℕ, ◌+◌, true, List, [], ◌∷◌, ◌++◌, Option, Some, None, Result, Ok, Err, length, refl, sym, ap, subst, ◌∙◌, inl, inr, append_assoc}
 use Rattle.std.specs.List.{filter_map}
 use Rattle.std.proofs.lemmas.Slice.Eq.{bytes_eq-Decides}
 use denote.Ref.{Bor}
@@ -13,12 +13,10 @@ use Rattle.office_core.specs.declared.answer.Answer.TheVariants as answers
 use Rattle.office_core.specs.declared.refusal.Refusal.{Refusal}
 use Rattle.office_core.specs.declared.request.Request.TheVariants.{Deposit as MakeDeposit, DownloadBag, DownloadFile}
 use Rattle.office_history.specs.Lists.{numbered}
-use Rattle.office_history.specs.Histories.{History, Change, DefinedClass, OnCollection, Deposit, grown, deposit_in, deposits, deposit_numbered, accession_of, hold_numbered, released, released_in, covers, years_in, due}
+use Rattle.office_history.specs.Histories.{History, Change, DefinedClass, OnCollection, Deposit, grown, deposit_in, deposits, deposit_numbered, hold_numbered, released, released_in, covers, years_in, due}
 use Rattle.office_history.specs.Bags.{bag_of, valid_bag, if_valid, report_on}
-use Rattle.office_core.specs.FirstOf.{first_some}
-use Rattle.office_core.specs.declared.action.Action.TheVariants as acts
 use Rattle.bag_check.specs.Validity.{Report}
-use Rattle.office_history.specs.Refusals.{refusal, bad_as, no_such_collection, no_such_class, denial, taken, closed_ahead, bad_bag}
+use Rattle.office_history.specs.Refusals.{refusal}
 use Rattle.office_history.specs.Answers.{answer, answer_unless, allowed_answer, told, file_answer, change, changes_unless, deposit_change, after}
 use Rattle.office_history.specs.Runs.{Item, IsFailure, Step, Run, IsLater}
 use Rattle.office_history.proofs.ListLemmas.{first_said_front, last_said_last, numbered_last}

@@ -1,9 +1,7 @@
 -- What legal histories have: sound bags, and changes that were allowed at their places. Runs of items in range stay legal.
-use Rattle.std.proofs.Common.{◌≡◌, ◌≤ℤ◌, ℕ, Bool, true, false, List, [], ◌∷◌, ◌++◌, Option, Some, None, Result, Ok, Err, option_map, slice_get, int_lt, refl, sym, ap, subst, ◌∙◌, inl, inr, append-nil, rules, if◌then◌else◌}
-use Rattle.std.specs.List.{AllByRecursion, filter_map}
-use Rattle.std.proofs.lemmas.Int.{by_lt_z}
+use Rattle.std.proofs.Common.{◌≡◌, ℕ, List, [], ◌∷◌, ◌++◌, Result, Ok, Err, refl, sym, ap, subst, ◌∙◌, inl, inr, append-nil}
+use Rattle.std.specs.List.{AllByRecursion}
 use Rattle.jiff.specs.Types.{Date}
-use Rattle.jiff.specs.Words.{epoch_day}
 use Rattle.bag_text.specs.TransferForm.{File, IsBag}
 use Rattle.bag_text.specs.TransferReading.{set_of}
 use Rattle.bag_text.specs.declared.set_fault.SetFault.{SetFault}
@@ -11,20 +9,9 @@ use Rattle.bag_text.specs.declared.declaration.Version.{Version}
 use Rattle.bag_check.specs.Validity.{Report, Valid}
 use Rattle.bag_check.specs.Faults.{Fault}
 use Rattle.bag_check.specs.Judging.{judge}
-use Rattle.office_core.specs.FirstOf.{first_some, answer_if}
-use Rattle.office_core.specs.declared.retention.Due.{Due}
-use Rattle.office_core.specs.declared.retention.Due.TheVariants.{On, Never}
-use Rattle.office_core.specs.declared.action.Action.TheVariants as acts
 use Rattle.office_core.specs.declared.answer.Answer.{Answer}
-use Rattle.office_core.specs.declared.refusal.Refusal.{Refusal}
-use Rattle.office_core.specs.declared.facts.Verdict.TheVariants.{NotDue}
-use Rattle.office_core.specs.Verdicts as deciding
-use Rattle.office_core.specs.declared.request.Request.{Request}
-use Rattle.office_core.specs.declared.request.Request.TheVariants.{DefineClass, DefineCollection, Deposit as MakeDeposit, List as ListDeposits, Record, Holds, DownloadBag, DownloadFile, Audit, HoldDeposit, HoldCollection, Release, Dispose, DueList}
 use Rattle.office_history.specs.Histories.{History, Change, Deposit, grown, deposits}
 use Rattle.office_history.specs.Bags.{bag_of, valid_bag, if_valid, judged}
-use Rattle.office_history.specs.Refusals.{refused, refusal, of_deposit, denial_at, is_gone, held, not_due}
-use Rattle.office_history.specs.Answers.{change, changes_unless, allowed_change, deposit_change}
 use Rattle.office_history.specs.Acceptance.{IsChange, IsAllowed}
 use Rattle.office_history.specs.Runs.{Item, IsItem, AreItems, Step, Run, IsLegal, serve, IsSound, as_of}
 use Rattle.office_history.proofs.ListLemmas.{all_append, split_two}

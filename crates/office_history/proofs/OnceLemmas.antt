@@ -1,8 +1,7 @@
 -- Numbers and accessions are given once, and released holds are not live.
-use Rattle.std.proofs.Common.{◌≡◌, ◌≤◌, ℕ, zero, suc, ◌+◌, Bool, true, false, ◌&&◌, List, [], ◌∷◌, ◌++◌, length, Option, Some, None, slice_get, position, bytes_eq, refl, sym, ap, subst, ◌∙◌, inl, inr, ◌⊎◌, append-nil, length-append, arith, if◌then◌else◌, filter, cond, int_lt}
+use Rattle.std.proofs.Common.{◌≡◌, ◌≤◌, ℕ, zero, suc, ◌+◌, Bool, true, false, ◌&&◌, List, [], ◌∷◌, ◌++◌, length, Option, Some, None, slice_get, position, bytes_eq, refl, sym, ap, ◌∙◌, inl, inr, ◌⊎◌, length-append, arith, if◌then◌else◌, int_lt}
 use Rattle.std.specs.List.{filter_map}
 use Rattle.std.proofs.lemmas.Bool.{and_parts, true≢false}
-use Rattle.std.proofs.lemmas.Option.{same_Some}
 use Rattle.std.proofs.lemmas.Slice.Eq.{bytes_eq-Decides}
 use denote.Ref.{Bor}
 use Rattle.jiff.specs.Types.{Date}
@@ -14,17 +13,14 @@ use Rattle.office_core.specs.declared.answer.Answer.TheVariants as answers
 use Rattle.office_core.specs.declared.rule.Decision.{Decision}
 use Rattle.office_core.specs.declared.retention.Due.{Due}
 use Rattle.office_core.specs.declared.retention.Due.TheVariants.{On, Never}
-use Rattle.office_core.specs.declared.refusal.Refusal.{Refusal}
 use Rattle.office_core.specs.declared.refusal.Refusal.TheVariants.{Held}
 use Rattle.office_core.specs.declared.facts.Verdict.TheVariants.{NotDue, DeniedByRule}
 use Rattle.office_core.specs.Verdicts as deciding
-use Rattle.office_core.specs.declared.request.Request.{Request}
-use Rattle.office_core.specs.declared.request.Request.TheVariants.{DefineClass, DefineCollection, Deposit as MakeDeposit, List as ListDeposits, Record, Holds, DownloadBag, DownloadFile, Audit, HoldDeposit, HoldCollection, Release, Dispose, DueList}
+use Rattle.office_core.specs.declared.request.Request.TheVariants.{Deposit as MakeDeposit, Dispose}
 use Rattle.office_history.specs.Lists.{numbered, numbers}
-use Rattle.office_history.specs.Histories.{History, Change, Installed, DefinedCollection, Deposit, has_collection, grown, deposit_in, deposits, deposit_numbered, gone, due, holds, released, is_live, covers, live_holds}
-use Rattle.office_history.specs.Bags.{bag_of}
+use Rattle.office_history.specs.Histories.{History, Change, Deposit, grown, deposit_in, deposits, deposit_numbered, gone, due, holds, released, is_live, covers, live_holds}
 use Rattle.office_history.specs.Refusals.{refused, refusal, of_deposit, denial_at, is_gone, held, not_due}
-use Rattle.office_history.specs.Answers.{answer, change, changes_unless, deposit_change, allowed_change, after}
+use Rattle.office_history.specs.Answers.{answer}
 use Rattle.office_history.specs.Runs.{IsLegal}
 use Rattle.office_history.proofs.ListLemmas.{numbered_cases, none_passes}
 use Rattle.office_history.proofs.MemberLemmas.{filter_in}

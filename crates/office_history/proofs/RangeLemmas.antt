@@ -1,7 +1,7 @@
 -- Each legal history: its limits hold, what is named is there, and its rows are in range.
-use Rattle.std.proofs.Common.{◌≡◌, ◌≤◌, ◌≤ℤ◌, ℕ, zero, suc, ◌+◌, ◌<◌, ◌||◌, ℤ, pos, Bool, true, false, List, [], ◌∷◌, ◌++◌, length, map, filter, Option, Some, None, IfSome, IsSome, is_some, option_map, refl, sym, ap, subst, ◌∙◌, inl, inr, append-nil, arith, cond, if◌then◌else◌}
-use Rattle.std.specs.Prelude.{bytes_eq, codes}
-use Rattle.std.specs.List.{AllByRecursion, filter_map, flat_map, list_any, range_with_len, cons_option}
+use Rattle.std.proofs.Common.{◌≡◌, ◌≤ℤ◌, ℕ, ◌||◌, Bool, true, false, List, [], ◌∷◌, Option, Some, None, IsSome, is_some, refl, sym, ap, subst, ◌∙◌, arith, if◌then◌else◌}
+use Rattle.std.specs.Prelude.{bytes_eq}
+use Rattle.std.specs.List.{AllByRecursion, filter_map, list_any, cons_option}
 use Rattle.std.specs.Option.{option_or}
 use Rattle.std.proofs.lemmas.List.Elements.{filter_map-append}
 use Rattle.std.proofs.lemmas.List.Folds.{list_any-append}
@@ -9,13 +9,11 @@ use Rattle.std.proofs.lemmas.Option.{same_Some}
 use Rattle.std.proofs.lemmas.Slice.Eq.{bytes_eq-Decides}
 use Rattle.jiff.specs.Types.{Date}
 use Rattle.jiff.specs.Words.{epoch_day}
-use Rattle.bag_text.specs.TransferForm.{File, Fits}
-use Rattle.office_core.proofs.DayLemmas.{day_number}
-use Rattle.office_core.specs.Days.{IsDay, IsDayNumber}
+use Rattle.office_core.specs.Days.{IsDay}
 use Rattle.office_core.specs.Names.{IsName}
 use Rattle.office_core.specs.Requests.{IsYears}
-use Rattle.office_history.specs.Lists.{first_said, last_said, numbered, numbers, distinct_after, in_first_places}
-use Rattle.office_history.specs.Histories.{History, Change, Installed, DefinedClass, DefinedCollection, Deposited, PlacedHold, ReleasedHold, Destroyed, Target, OnDeposit, OnCollection, Deposit, Hold, grown, years_in, years_of, has_class, collection_in, has_collection, deposit_in, deposits, deposit_numbered, destroyed_in, gone, hold_in, holds, hold_numbered, released_in, released}
+use Rattle.office_history.specs.Lists.{first_said, last_said}
+use Rattle.office_history.specs.Histories.{History, Change, Installed, DefinedClass, DefinedCollection, Deposited, PlacedHold, ReleasedHold, Destroyed, Target, OnDeposit, OnCollection, Deposit, Hold, grown, years_in, years_of, has_class, collection_in, has_collection, deposit_in, deposits, deposit_numbered, destroyed_in, gone, hold_in, holds, released_in, released}
 use Rattle.office_history.specs.Acceptance.{IsChange, IsDeposit, IsHold, IsThere}
 use Rattle.office_history.specs.Runs.{IsLegal, IsWithin}
 use Rattle.office_history.proofs.ListLemmas.{all_append}

@@ -1,7 +1,7 @@
 -- The rows of a legal history are in range.
-use Rattle.std.proofs.Common.{◌≡◌, ◌≤◌, ◌≤ℤ◌, ℕ, zero, suc, ◌+◌, ◌<◌, ℤ, pos, Bool, true, false, List, [], ◌∷◌, ◌++◌, length, map, Option, Some, None, IfSome, IsSome, option_map, refl, sym, ap, subst, ◌∙◌, inl, inr, ◌⊎◌, arith, cond, if◌then◌else◌}
-use Rattle.std.specs.Prelude.{bytes_eq, codes, neg_ℤ}
-use Rattle.std.specs.List.{AllByRecursion, filter_map, flat_map, list_any, range_with_len, cons_option}
+use Rattle.std.proofs.Common.{◌≡◌, ◌≤◌, ℕ, zero, suc, ◌+◌, ℤ, pos, List, [], ◌∷◌, length, map, Option, Some, None, IfSome, option_map, refl, sym, subst, inl, inr, ◌⊎◌, arith}
+use Rattle.std.specs.Prelude.{neg_ℤ}
+use Rattle.std.specs.List.{AllByRecursion, filter_map, flat_map, range_with_len, cons_option}
 use Rattle.std.specs.Option.{option_map_or}
 use Rattle.jiff_core.proofs.SignedLemmas.{signed_arith}
 use Rattle.jiff.specs.Types.{Date}
@@ -11,7 +11,7 @@ use Rattle.office_core.proofs.DayLemmas.{day_number}
 use Rattle.office_core.specs.Days.{IsDay, IsDayNumber}
 use Rattle.office_core.specs.Names.{IsName}
 use Rattle.office_core.specs.Requests.{IsYears}
-use Rattle.office_core.specs.Policies.{IsPolicy, IsNamed, HasNames, IsNamedCaller}
+use Rattle.office_core.specs.Policies.{IsNamed, HasNames, IsNamedCaller}
 use Rattle.office_core.specs.declared.caller.Caller.{Caller}
 use Rattle.office_core.specs.declared.rule.ActionPattern.{ActionPattern}
 use Rattle.office_core.specs.declared.rule.ActionPattern.TheVariants as action_patterns
@@ -20,13 +20,13 @@ use Rattle.office_core.specs.declared.rule.Effect.TheVariants.{Allow, Deny}
 use Rattle.office_core.specs.declared.rule.Pattern.{Pattern}
 use Rattle.office_core.specs.declared.rule.Pattern.TheVariants as patterns
 use Rattle.office_core.specs.declared.rule.Rule.{Rule}
-use Rattle.office_rows.specs.Rows.{CallerRow, RuleRow, ClassRow, DepositRow, FileRow, HoldRow, Tables}
-use Rattle.office_history.specs.Lists.{numbered, numbers, distinct_after, in_first_places}
-use Rattle.office_history.specs.Histories.{History, Target, OnDeposit, OnCollection, Deposit, Hold, policy, years_of, collection_in, deposits, deposit_numbered, gone, kept, holds, hold_numbered, released}
+use Rattle.office_rows.specs.Rows.{RuleRow, ClassRow, DepositRow, HoldRow}
+use Rattle.office_history.specs.Lists.{numbered, numbers, in_first_places}
+use Rattle.office_history.specs.Histories.{History, Target, OnDeposit, OnCollection, Deposit, policy, years_of, collection_in, deposits, deposit_numbered, gone, kept, holds, hold_numbered, released}
 use Rattle.office_history.specs.Acceptance.{IsThere, IsTarget}
-use Rattle.office_history.specs.Pictures.{effect_number, pattern_text, action_pattern_text, caller_row, rule_row, rule_rows, years_number, class_row, class_in, row_of_class, deposit_row, row_of_deposit, file_row, file_rows, held_deposit, held_collection, hold_row, row_of_hold, picture}
+use Rattle.office_history.specs.Pictures.{effect_number, pattern_text, action_pattern_text, caller_row, rule_rows, years_number, class_row, class_in, row_of_class, deposit_row, row_of_deposit, file_row, held_deposit, held_collection, hold_row, row_of_hold, picture}
 use Rattle.office_history.specs.RowRanges.{AreNumbered, IsPatternText, IsActionText, IsOneTarget, IsCallerRow, IsRuleRow, IsClassRow, IsDepositRow, IsFileRow, IsHoldRow, AreInRange}
-use Rattle.office_history.specs.Runs.{IsLegal, IsSound}
+use Rattle.office_history.specs.Runs.{IsLegal}
 use Rattle.office_history.specs.Stocks.{files_of}
 use Rattle.office_history.proofs.ListLemmas.{all_append, all_numbered}
 use Rattle.office_history.proofs.LegalLemmas.{Reads, Judges, HasSoundBag, sound_deposits}

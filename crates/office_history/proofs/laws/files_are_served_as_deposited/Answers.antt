@@ -1,7 +1,3 @@
-use Rattle.std.proofs.Common.{◌≡◌, ℕ, List}
-use denote.Ref.{Bor}
-use Rattle.jiff.specs.Types.{Date}
-use Rattle.office_core.specs.declared.answer.Answer.{Answer}
 use Rattle.office_core.specs.declared.answer.Answer.TheVariants as answers
 use Rattle.office_core.specs.declared.request.Request.TheVariants.{Deposit as MakeDeposit, DownloadFile}
 use Rattle.office_history.proofs.LawLemmas.{was_deposited, both_answered, served_content}
