@@ -2,7 +2,7 @@
 
 use office_core::{
     Accession, Action, Ask, Day, Decision, Due, Effect, Facts, Limits, Matter, Name, Policy,
-    PolicyFault, Verdict, Years, decide, due, first_match, read_policy, verdict,
+    PolicyFault, Verdict, Years, decide, denial_verdict, due, first_match, read_policy, verdict,
 };
 use std::alloc::Global;
 use std::test::*;
@@ -97,11 +97,11 @@ fn names(rt: HostRuntime) {
 fn names_of_their_own(rt: HostRuntime) -> Result<(), Fail> {
     let alloc = rt.alloc();
     let name = Name::read("y-1_0.a").ok_or("name")?;
-    assert_eq!(rt; name.to_owned(alloc)?.as_str(), "y-1_0.a");
+    assert_eq!(rt; name.to_owned(alloc)?.lend().as_str(), "y-1_0.a");
     let accession = Accession::read("A-1").ok_or("accession")?;
-    assert_eq!(rt; accession.to_owned(alloc)?.as_str(), "A-1");
+    assert_eq!(rt; accession.to_owned(alloc)?.lend().as_str(), "A-1");
     let matter = Matter::read("Case 7").ok_or("matter")?;
-    assert_eq!(rt; matter.to_owned(alloc)?.as_str(), "Case 7");
+    assert_eq!(rt; matter.to_owned(alloc)?.lend().as_str(), "Case 7");
     Ok(())
 }
 
@@ -164,9 +164,13 @@ fn fault(alloc: Global, text: &str) -> Option<PolicyFault> {
 }
 
 /// Texts, and the fault of each as a policy.
-static FAULTS: [(&str, Option<PolicyFault>); 9] = [
+static FAULTS: [(&str, Option<PolicyFault>); 10] = [
     ("version = 1\n", None),
     ("version = \n", Some(PolicyFault::NotToml)),
+    (
+        "version = 1\n[callers]\nanna = \"clerk\"\n\"anna\" = \"clerk\"\n",
+        Some(PolicyFault::NotToml),
+    ),
     ("version = 3\n", Some(PolicyFault::BadVersion)),
     ("", Some(PolicyFault::BadVersion)),
     (
@@ -249,6 +253,7 @@ fn verdicts(rt: HostRuntime) -> Result<(), Fail> {
         ..gone
     };
     assert_eq!(rt; verdict(&denied, before), Verdict::DeniedByDefault);
+    assert_eq!(rt; denial_verdict(None), Some(Verdict::DeniedByDefault));
     let permanent = Facts {
         due: Due::Never,
         ..ready
