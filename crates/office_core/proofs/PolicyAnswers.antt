@@ -4,7 +4,8 @@ use Rattle.std.specs.Prelude.{IfErr, MatchResult}
 use Rattle.toml.specs.Data.{Members}
 use Rattle.toml.specs.Parse.{parse_document}
 use Rattle.office_core.specs.FirstOf.{first_some}
-use Rattle.office_core.specs.Policies.{Answers, Contents, FailsAs, HasFirstFault, SpellsPolicy, contents_of, faults, policy_of, read_tree, contents_unless}
+use Rattle.bag_text.specs.Answers.{Answers, FailsAs}
+use Rattle.office_core.specs.Policies.{Contents, HasFirstFault, SpellsPolicy, contents_of, faults, named_policy_fault, policy_of, read_tree, contents_unless}
 use Rattle.office_core.specs.declared.policy_fault.PolicyFault.{PolicyFault}
 use Rattle.office_core.specs.declared.policy_fault.PolicyFault.TheVariants.{NotToml, BadVersion, UnknownKey, BadCaller, BadRule, TooMany, Memory}
 
@@ -48,7 +49,7 @@ of_fault text fault (inr (tree, parsed, first)) = ap read_tree parsed ∙ ap (co
 -- ---- what an answer says
 
 -- a refusal is want of memory, or the one that reading gives
-refusal_is : (fault : PolicyFault) (read : Read) → FailsAs fault read → (fault ≡ Memory) ⊎ (read ≡ Err fault)
+refusal_is : (fault : PolicyFault) (read : Read) → FailsAs (named_policy_fault fault) read → (fault ≡ Memory) ⊎ (read ≡ Err fault)
 refusal_is NotToml read e = inr e
 refusal_is BadVersion read e = inr e
 refusal_is UnknownKey read e = inr e
@@ -57,11 +58,11 @@ refusal_is (BadRule number) read e = inr e
 refusal_is TooMany read e = inr e
 refusal_is Memory read e = inl refl
 
-pub read_is_spelled : (text : List ℕ) (result : Read) → Answers result (policy_of text) → IfOk result (SpellsPolicy text)
+pub read_is_spelled : (text : List ℕ) (result : Read) → Answers named_policy_fault result (policy_of text) → IfOk result (SpellsPolicy text)
 read_is_spelled text (Ok policy) answers = policy_is text policy answers
 read_is_spelled text (Err fault) answers = tt
 
-pub refused_is_first : (text : List ℕ) (result : Read) → Answers result (policy_of text)
+pub refused_is_first : (text : List ℕ) (result : Read) → Answers named_policy_fault result (policy_of text)
     → IfErr result (λ fault. (fault ≡ Memory) ⊎ HasFirstFault text fault)
 refused_is_first text (Ok policy) answers = tt
 refused_is_first text (Err fault) answers = elim (refusal_is fault (policy_of text) answers) [
@@ -69,7 +70,7 @@ refused_is_first text (Err fault) answers = elim (refusal_is fault (policy_of te
   | inr first ↦ inr (fault_is text fault first)
 ]
 
-pub spelled_is_read : (text : List ℕ) (result : Read) → Answers result (policy_of text) → (policy : Contents) → SpellsPolicy text policy
+pub spelled_is_read : (text : List ℕ) (result : Read) → Answers named_policy_fault result (policy_of text) → (policy : Contents) → SpellsPolicy text policy
     → MatchResult result (λ read. read ≡ policy) (λ fault. fault ≡ Memory)
 spelled_is_read text (Ok read) answers policy spells = let same : Ok policy ≡ Ok read = sym (of_policy text policy spells) ∙ answers in cc
 spelled_is_read text (Err fault) answers policy spells = elim (refusal_is fault (policy_of text) answers) [
@@ -77,7 +78,7 @@ spelled_is_read text (Err fault) answers policy spells = elim (refusal_is fault 
   | inr first ↦ let both : Ok policy ≡ Err fault = sym (of_policy text policy spells) ∙ first in absurd cc
 ]
 
-pub first_is_refused : (text : List ℕ) (result : Read) → Answers result (policy_of text) → (fault : PolicyFault) → HasFirstFault text fault
+pub first_is_refused : (text : List ℕ) (result : Read) → Answers named_policy_fault result (policy_of text) → (fault : PolicyFault) → HasFirstFault text fault
     → (result ≡ Err fault) ⊎ (result ≡ Err Memory)
 first_is_refused text (Ok read) answers fault has = let both : Err fault ≡ Ok read = sym (of_fault text fault has) ∙ answers in absurd cc
 first_is_refused text (Err named) answers fault has = elim (refusal_is named (policy_of text) answers) [

@@ -231,18 +231,10 @@ pub record IsPolicy (policy : Contents) : Type 0 where
   pub few_callers : length policy.callers ≤ max_callers
 
 -- ---- what a call answers, memory aside
-
-abbrev pub FailsAs : {Y : Type 0} → PolicyFault → Result Y PolicyFault → Type 0
-FailsAs Memory read = Unit {0}
-FailsAs fault read = read ≡ Err fault
-
-abbrev pub Gives : {X Y : Type 0} → (X → Y) → Result X PolicyFault → Result Y PolicyFault → Type 0
-Gives view (Ok x) read = read ≡ Ok (view x)
-Gives view (Err e) read = FailsAs e read
-
--- a call answers this, unless memory ran out
-abbrev pub Answers : {Y : Type 0} → Result Y PolicyFault → Result Y PolicyFault → Type 0
-Answers result wanted = Gives (λ found. found) result wanted
+-- The fault that an answer names: none for want of memory, which says nothing of the text.
+abbrev pub named_policy_fault : PolicyFault → Option PolicyFault
+named_policy_fault Memory = None
+named_policy_fault fault = Some fault
 
 -- the role that a policy gives a caller, else `stranger`
 abbrev pub role_or_stranger : Option Caller → List ℕ

@@ -2,7 +2,8 @@
 
 ghost use Rattle.std.specs.Prelude.{◌≡◌, ◌⊎◌, Err, IfErr, IfOk, MatchResult, option_copied, find, bytes_eq};
 ghost use Rattle.toml.specs.View.{table_view};
-ghost use Rattle.office_core.specs.Policies.{Answers, Contents, EachCallerOnce, HasFirstFault, IsPolicy, SpellsPolicy, callers_of, policy_of, role_of, role_or_stranger};
+ghost use Rattle.bag_text.specs.Answers.{Answers};
+ghost use Rattle.office_core.specs.Policies.{Contents, EachCallerOnce, HasFirstFault, IsPolicy, SpellsPolicy, callers_of, policy_of, role_of, role_or_stranger, named_policy_fault};
 ghost use Rattle.office_core.specs.PolicyReading.{read_contents};
 ghost use Rattle.office_core.specs.declared.policy_fault.PolicyFault.{PolicyFault};
 ghost use Rattle.office_core.specs.declared.policy_fault.PolicyFault.TheVariants.{Memory};
@@ -31,7 +32,7 @@ pub struct Policy {
 }
 
 impl Model for Policy {
-    ghost use Rattle.office_core.specs.Policies.{Contents, IsPolicy};
+    ghost use Rattle.office_core.specs.Policies.{Contents, IsPolicy, named_policy_fault};
 
     ghost Value = { Contents };
 
@@ -83,7 +84,7 @@ fn role_in<'a>(callers: &'a [Caller], name: &str) -> &'a str
 
 fn read_tree(alloc: Global, tree: &Table) -> Result<Policy, PolicyFault>
     requires { EachCallerOnce (callers_of (table_view tree.now)) }
-    ensures { Answers result (read_contents (table_view tree.now)) }
+    ensures { Answers named_policy_fault result (read_contents (table_view tree.now)) }
 {
     if !has_version_1(tree) {
         return Err(PolicyFault::BadVersion);
@@ -100,7 +101,7 @@ fn read_tree(alloc: Global, tree: &Table) -> Result<Policy, PolicyFault>
 }
 
 fn read_text(alloc: Global, text: &str) -> Result<Policy, PolicyFault>
-    ensures { Answers result (policy_of text.now) }
+    ensures { Answers named_policy_fault result (policy_of text.now) }
 {
     match toml::table_from_str(alloc, text) {
         Ok(tree) => read_tree(alloc, &tree),
@@ -128,7 +129,7 @@ pub fn read_policy(alloc: Global, text: &str) -> Result<Policy, PolicyFault>
         → (result ≡ Err fault) ⊎ (result ≡ Err Memory) }
 
     // The same by computing.
-    ensures exact { Answers result (policy_of text.now) }
+    ensures exact { Answers named_policy_fault result (policy_of text.now) }
 {
     read_text(alloc, text)
 }

@@ -3,7 +3,8 @@
 ghost use Rattle.std.specs.Prelude.{◌≡◌, Some, Ok, Err, ok_or, not, if◌then◌else◌};
 ghost use Rattle.std.specs.List.{list_all};
 ghost use Rattle.toml.specs.View.{view, table_view, array_view};
-ghost use Rattle.office_core.specs.Policies.{caller_in, caller_entries, rule_values, entries, elements, is_one_of, top_keys, has_bad_version, Gives};
+ghost use Rattle.bag_text.specs.Answers.{Gives};
+ghost use Rattle.office_core.specs.Policies.{caller_in, caller_entries, rule_values, entries, elements, is_one_of, top_keys, has_bad_version, named_policy_fault};
 ghost use Rattle.office_core.specs.Names.{is_name};
 ghost use Rattle.office_core.specs.PolicyReading.{read_callers, read_rules};
 ghost use Rattle.office_core.specs.declared.policy_fault.PolicyFault.TheVariants.{BadCaller};
@@ -47,7 +48,7 @@ pub fn has_top_keys(tree: &Table) -> bool
 }
 
 fn read_name(alloc: Global, text: &str) -> Result<OwnedName, PolicyFault>
-    ensures { Gives (λ name. name) result
+    ensures { Gives named_policy_fault (λ name. name) result
         (if is_name text.now then Ok text.now else Err BadCaller) }
 {
     match Name::read(text) {
@@ -57,7 +58,7 @@ fn read_name(alloc: Global, text: &str) -> Result<OwnedName, PolicyFault>
 }
 
 fn read_caller(alloc: Global, name: &str, value: &Value) -> Result<Caller, PolicyFault>
-    ensures { Gives (λ caller. caller) result
+    ensures { Gives named_policy_fault (λ caller. caller) result
         (ok_or (caller_in (name.now, view value.now)) BadCaller) }
 {
     let role = value.as_str().ok_or(PolicyFault::BadCaller)?;
@@ -68,7 +69,7 @@ fn read_caller(alloc: Global, name: &str, value: &Value) -> Result<Caller, Polic
 }
 
 fn callers_in(alloc: Global, table: &Table) -> Result<Vec<Caller>, PolicyFault>
-    ensures { Gives (λ v. v.items) result (read_callers (Some (entries (table_view table.now)))) }
+    ensures { Gives named_policy_fault (λ v. v.items) result (read_callers (Some (entries (table_view table.now)))) }
 {
     let mut callers = Vec::new(alloc);
     for (key, value) in table.iter() {
@@ -78,7 +79,7 @@ fn callers_in(alloc: Global, table: &Table) -> Result<Vec<Caller>, PolicyFault>
 }
 
 pub fn callers_of(alloc: Global, tree: &Table) -> Result<Vec<Caller>, PolicyFault>
-    ensures { Gives (λ v. v.items) result (read_callers (caller_entries (table_view tree.now))) }
+    ensures { Gives named_policy_fault (λ v. v.items) result (read_callers (caller_entries (table_view tree.now))) }
 {
     match value_at(tree, "callers") {
         Some(value) => match value.as_table() {
@@ -90,7 +91,7 @@ pub fn callers_of(alloc: Global, tree: &Table) -> Result<Vec<Caller>, PolicyFaul
 }
 
 fn rules_in(alloc: Global, values: &Array) -> Result<Vec<Rule>, PolicyFault>
-    ensures { Gives (λ v. v.items) result (read_rules (Some (elements (array_view values.now)))) }
+    ensures { Gives named_policy_fault (λ v. v.items) result (read_rules (Some (elements (array_view values.now)))) }
 {
     let mut rules = Vec::new(alloc);
     for value in values {
@@ -104,7 +105,7 @@ fn rules_in(alloc: Global, values: &Array) -> Result<Vec<Rule>, PolicyFault>
 }
 
 pub fn rules_of(alloc: Global, tree: &Table) -> Result<Vec<Rule>, PolicyFault>
-    ensures { Gives (λ v. v.items) result (read_rules (rule_values (table_view tree.now))) }
+    ensures { Gives named_policy_fault (λ v. v.items) result (read_rules (rule_values (table_view tree.now))) }
 {
     match value_at(tree, "rule") {
         Some(value) => match value.as_array() {

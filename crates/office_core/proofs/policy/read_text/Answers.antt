@@ -1,13 +1,14 @@
 use Rattle.std.proofs.Common.{◌∙◌, ap, sym, subst}
 use Rattle.toml.specs.View.{table_view}
-use Rattle.office_core.specs.Policies.{Answers, read_tree}
+use Rattle.bag_text.specs.Answers.{Answers}
+use Rattle.office_core.specs.Policies.{named_policy_fault, read_tree}
 use Rattle.office_core.proofs.PolicyLemmas.{contents_is}
 use Rattle.office_core.proofs.PolicyNames.{callers_once}
 use Rattle.office_core.proofs.TomlKeys.{parsed_sound}
 use Rattle.office_core.proofs.policy.read_text.Goals as goal
 
 pub returns-in-Ok : goal.returns-in-Ok
-returns-in-Ok c = subst (λ read. Answers c.read_tree.result read) (contents_is (table_view c.in-Ok.tree) ∙ ap read_tree (sym c.in-Ok.ensures.ok)) c.read_tree.ensures
+returns-in-Ok c = subst (λ read. Answers named_policy_fault c.read_tree.result read) (contents_is (table_view c.in-Ok.tree) ∙ ap read_tree (sym c.in-Ok.ensures.ok)) c.read_tree.ensures
 
 pub read_tree-requires : goal.read_tree-requires
 read_tree-requires c = callers_once (table_view c.in-Ok.tree) (parsed_sound c.args.text.now (table_view c.in-Ok.tree) c.in-Ok.ensures.ok)
