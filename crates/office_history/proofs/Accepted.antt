@@ -18,12 +18,12 @@ use Rattle.office_core.specs.declared.facts.Verdict.TheVariants.{NotDue}
 use Rattle.office_core.specs.Verdicts as deciding
 use Rattle.office_core.specs.declared.request.Request.{Request}
 use Rattle.office_core.specs.declared.request.Request.TheVariants.{DefineClass, DefineCollection, Deposit as MakeDeposit, List as ListDeposits, Record, Holds, DownloadBag, DownloadFile, Audit, HoldDeposit, HoldCollection, Release, Dispose, DueList}
-use Rattle.office_history.specs.Histories.{History, Change, Installed, DefinedClass, DefinedCollection, Deposited, PlacedHold, ReleasedHold, Destroyed, Deposit, Hold, grown, has_class, has_collection, deposits, deposit_numbered, accession_of, gone, due, holds, hold_numbered, released, live_holds, least_hold}
+use Rattle.office_history.specs.Histories.{History, Change, Installed, DefinedClass, DefinedCollection, Deposited, PlacedHold, ReleasedHold, Destroyed, Deposit, Hold, with_changes, has_class, has_collection, deposits, deposit_numbered, accession_of, destruction_day, due, holds, hold_numbered, release_day, live_holds, least_hold}
 use Rattle.office_history.specs.Bags.{bag_of}
-use Rattle.office_history.specs.Refusals.{refused, refusal, bad_as, of_deposit, of_hold, denial, denial_at, release_denial, is_gone, is_released, held, not_due, no_such_collection, no_such_class, taken, closed_ahead, bad_bag, full_of_deposits, full_of_holds}
+use Rattle.office_history.specs.Refusals.{refusal_in, refusal, bad_as, of_deposit, of_hold, denial, denial_at, release_denial, gone_refusal, released_refusal, held_refusal, not_due_refusal, no_such_collection, no_such_class, taken_refusal, closed_ahead_refusal, bad_bag, full_of_deposits, full_of_holds}
 use Rattle.office_history.specs.Answers.{changes_unless, allowed_change, deposit_change}
 use Rattle.office_history.specs.Acceptance.{IsChange, IsAllowed, IsDeposit, IsHold, IsDepositable, IsPlaceable, IsReleasable, IsDisposable}
-use Rattle.office_history.specs.Runs.{IsLimit, IsLegal, created, new, install, serve}
+use Rattle.office_history.specs.Runs.{IsLimit, IsLegal, new_history, new, install, serve}
 use Rattle.office_history.proofs.HistoryLemmas.{deposits_grown, holds_grown}
 
 -- ---- where no refusal stands
@@ -54,18 +54,18 @@ not_later day date passed =
     (λ lt. let before : int_lt (epoch_day day) (epoch_day date) ≡ true = search (rules, lt) in absurd (let wrong : true ≡ false = sym before ∙ passed in cc))
     (λ ge. ge)
 
-not_before : (day date : Date) → refused (answer_if (int_lt (epoch_day day) (epoch_day date)) (NotDue date)) ≡ None → epoch_day date ≤ℤ epoch_day day
+not_before : (day date : Date) → refusal_in (answer_if (int_lt (epoch_day day) (epoch_day date)) (NotDue date)) ≡ None → epoch_day date ≤ℤ epoch_day day
 not_before day date e = not_later day date (by (int_lt (epoch_day day) (epoch_day date)) e)
   where
-    by : (test : Bool) → refused (answer_if test (NotDue date)) ≡ None → test ≡ false
+    by : (test : Bool) → refusal_in (answer_if test (NotDue date)) ≡ None → test ≡ false
     by true e = absurd cc
     by false e = refl
 
-not_gone : (o : Option Date) → refused (deciding.gone_verdict o) ≡ None → o ≡ None
+not_gone : (o : Option Date) → refusal_in (deciding.gone_verdict o) ≡ None → o ≡ None
 not_gone None e = refl
 not_gone (Some day) e = absurd cc
 
-not_held : (o : Option ℕ) → refused (deciding.hold_verdict o) ≡ None → o ≡ None
+not_held : (o : Option ℕ) → refusal_in (deciding.hold_verdict o) ≡ None → o ≡ None
 not_held None e = refl
 not_held (Some k) e = absurd cc
 
@@ -77,21 +77,21 @@ good_bag : (r : Result (List File) (List ℕ)) → bad_as r ≡ None → (bag : 
 good_bag (Ok bag) e = (bag, refl)
 good_bag (Err fault) e = absurd cc
 
-due_has_come : (day : Date) (d : Due) → refused (deciding.due_verdict day d) ≡ None → (date : Date) × (d ≡ On date) × (epoch_day date ≤ℤ epoch_day day)
+due_has_come : (day : Date) (d : Due) → refusal_in (deciding.due_verdict day d) ≡ None → (date : Date) × (d ≡ On date) × (epoch_day date ≤ℤ epoch_day day)
 due_has_come day (On date) e = (date, refl, not_before day date e)
 due_has_come day Never e = absurd cc
 
 -- ---- what a request that is allowed finds
 
 pub depositable : (h : History) (day : Date) (caller collection class accession : List ℕ) (closed : Date) (form : List ℕ)
-    → first_some (no_such_collection h collection ∷ no_such_class h class ∷ denial h caller acts.Deposit (Some collection) (Some class) ∷ taken h accession ∷ closed_ahead day closed ∷ bad_bag form ∷ full_of_deposits h ∷ []) ≡ None
+    → first_some (no_such_collection h collection ∷ no_such_class h class ∷ denial h caller acts.Deposit (Some collection) (Some class) ∷ taken_refusal h accession ∷ closed_ahead_refusal day closed ∷ bad_bag form ∷ full_of_deposits h ∷ []) ≡ None
     → (bag : List File) × (bag_of form ≡ Ok bag) × IsDepositable h day (record { collection = collection; class = class; accession = accession; closed = closed; bag = bag })
 depositable h day caller collection class accession closed form e =
     let a = none_of (no_such_collection h collection) _ e in
     let b = none_of (no_such_class h class) _ a.1 in
     let c = none_of (denial h caller acts.Deposit (Some collection) (Some class)) _ b.1 in
-    let d = none_of (taken h accession) _ c.1 in
-    let f = none_of (closed_ahead day closed) _ d.1 in
+    let d = none_of (taken_refusal h accession) _ c.1 in
+    let f = none_of (closed_ahead_refusal day closed) _ d.1 in
     let g = none_of (bad_bag form) _ f.1 in
     let i = none_of (full_of_deposits h) _ g.1 in
     let bag = good_bag (bag_of form) g.0 in (
@@ -109,19 +109,19 @@ depositable h day caller collection class accession closed form e =
     )
 
 disposable_at : (h : History) (day : Date) (caller : List ℕ) (n : ℕ) (there : Option (Date × Deposit)) → deposit_numbered h n ≡ there
-    → first_some (of_deposit there (λ d. denial_at h caller acts.Dispose d ∷ is_gone h n ∷ held h n d ∷ not_due h day d ∷ [])) ≡ None → IsDisposable h day n
+    → first_some (of_deposit there (λ d. denial_at h caller acts.Dispose d ∷ gone_refusal h n ∷ held_refusal h n d ∷ not_due_refusal h day d ∷ [])) ≡ None → IsDisposable h day n
 disposable_at h day caller n None is e = absurd cc
 disposable_at h day caller n (Some found) is e =
     let allowed = none_of (denial_at h caller acts.Dispose found.1) _ e in
-    let there = none_of (is_gone h n) _ allowed.1 in
-    let free = none_of (held h n found.1) _ there.1 in
-    let late = none_of (not_due h day found.1) _ free.1 in
+    let there = none_of (gone_refusal h n) _ allowed.1 in
+    let free = none_of (held_refusal h n found.1) _ there.1 in
+    let late = none_of (not_due_refusal h day found.1) _ free.1 in
     let come = due_has_come day (due h found.1) late.0 in
     record {
       found = found;
       date = come.0;
       there = is;
-      kept = not_gone (gone h n) there.0;
+      kept = not_gone (destruction_day h n) there.0;
       unheld = none_first (live_holds h n found.1) (not_held (least_hold h n found.1) free.0);
       due = come.1;
       has_come = come.2;
@@ -131,21 +131,21 @@ pub disposable : (h : History) (day : Date) (caller : List ℕ) (n : ℕ) → re
 disposable h day caller n e = disposable_at h day caller n (deposit_numbered h n) refl e
 
 holdable_at : (h : History) (caller : List ℕ) (n : ℕ) (there : Option (Date × Deposit)) → deposit_numbered h n ≡ there
-    → first_some (of_deposit there (λ d. denial_at h caller acts.Hold d ∷ is_gone h n ∷ full_of_holds h ∷ [])) ≡ None → IsSome (deposit_numbered h n) × (length (holds h) < h.max_holds)
+    → first_some (of_deposit there (λ d. denial_at h caller acts.Hold d ∷ gone_refusal h n ∷ full_of_holds h ∷ [])) ≡ None → IsSome (deposit_numbered h n) × (length (holds h) < h.max_holds)
 holdable_at h caller n None is e = absurd cc
 holdable_at h caller n (Some found) is e =
     let a = none_of (denial_at h caller acts.Hold found.1) _ e in
-    let b = none_of (is_gone h n) _ a.1 in
+    let b = none_of (gone_refusal h n) _ a.1 in
     let c = none_of (full_of_holds h) _ b.1 in
     (rw is refl, below h.max_holds (length (holds h)) c.0)
 
 releasable_at : (h : History) (caller : List ℕ) (k : ℕ) (there : Option (Date × Hold)) → hold_numbered h k ≡ there
-    → first_some (of_hold there (λ hold. release_denial h caller hold.target ∷ is_released h k ∷ [])) ≡ None → IsReleasable h k
+    → first_some (of_hold there (λ hold. release_denial h caller hold.target ∷ released_refusal h k ∷ [])) ≡ None → IsReleasable h k
 releasable_at h caller k None is e = absurd cc
 releasable_at h caller k (Some found) is e =
     let a = none_of (release_denial h caller found.1.target) _ e in
-    let b = none_of (is_released h k) _ a.1 in
-    record { found = found; there = is; live = map_none _ (released h k) b.0 }
+    let b = none_of (released_refusal h k) _ a.1 in
+    record { found = found; there = is; live = map_none _ (release_day h k) b.0 }
 
 pub releasable : (h : History) (day : Date) (caller : List ℕ) (k : ℕ) → refusal h day caller (Release k) ≡ None → IsReleasable h k
 releasable h day caller k e = releasable_at h caller k (hold_numbered h k) refl e
@@ -213,7 +213,7 @@ ranged_of h day DueList in_day asked = tt
 
 -- ---- what each change keeps, each legal history has
 
-pub grown_by_none : (h : History) → h ≡ grown h []
+pub grown_by_none : (h : History) → h ≡ with_changes h []
 grown_by_none h = ap (λ (changes : List Change). record h { changes = changes }) (sym (append-nil h.changes))
 
 -- a change that is in range, and that the history allows
@@ -221,20 +221,20 @@ abbrev pub IsAccepted : History → Change → Type 0
 IsAccepted h c = IsChange c × IsAllowed h c
 
 after_change : (P : History → Type 0) (h : History) (day : Date) (caller : List ℕ) (request : Request)
-    → IsDay day → IsRequest request → ((c : Change) → IsAccepted h c → P (grown h (c ∷ []))) → P h
-    → (why : Option Refusal) → refusal h day caller request ≡ why → P (grown h (changes_unless why (allowed_change h day request)))
+    → IsDay day → IsRequest request → ((c : Change) → IsAccepted h c → P (with_changes h (c ∷ []))) → P h
+    → (why : Option Refusal) → refusal h day caller request ≡ why → P (with_changes h (changes_unless why (allowed_change h day request)))
 after_change P h day caller request in_day asked more here (Some why) is = subst P (grown_by_none h) here
 after_change P h day caller request in_day asked more here None is =
     by (allowed_change h day request) (ranged_of h day request in_day asked) (allowed_of h day caller request is)
   where
-    by : (changes : List Change) → AtMostOne IsChange changes → AtMostOne (IsAllowed h) changes → P (grown h changes)
+    by : (changes : List Change) → AtMostOne IsChange changes → AtMostOne (IsAllowed h) changes → P (with_changes h changes)
     by [] ranged allowed = subst P (grown_by_none h) here
     by (c ∷ []) ranged allowed = more c (ranged, allowed)
     by (c ∷ d ∷ rest) ranged allowed = absurd ranged
 
 pub legal_by : (P : History → Type 0)
-    → ((max_deposits max_holds : ℕ) → IsLimit max_deposits → IsLimit max_holds → P (created max_deposits max_holds))
-    → ((h : History) (c : Change) → IsLegal h → IsAccepted h c → P h → P (grown h (c ∷ [])))
+    → ((max_deposits max_holds : ℕ) → IsLimit max_deposits → IsLimit max_holds → P (new_history max_deposits max_holds))
+    → ((h : History) (c : Change) → IsLegal h → IsAccepted h c → P h → P (with_changes h (c ∷ [])))
     → (h : History) → IsLegal h → P h
 legal_by P begun more h (new a b a_in b_in) = begun a b a_in b_in
 legal_by P begun more h (install before policy is legal) = more before (Installed policy) legal (is, tt) (legal_by P begun more before legal)
@@ -244,7 +244,7 @@ legal_by P begun more h (serve before day caller request in_day asked legal) =
 -- the deposits after a change: those before, or one more
 pub deposits_by : (P : List (Date × Deposit) → Type 0) (x : History) (c : Change) → IsAccepted x c → P (deposits x)
     → ((day : Date) (deposit : Deposit) → IsDay day × IsDeposit deposit → IsDepositable x day deposit → P (deposits x ++ (day, deposit) ∷ []))
-    → P (deposits (grown x (c ∷ [])))
+    → P (deposits (with_changes x (c ∷ [])))
 deposits_by P x (Deposited day deposit) ok here made = subst P (sym (deposits_grown x (Deposited day deposit ∷ []))) (made day deposit ok.0 ok.1)
 deposits_by P x (Installed policy) ok here made = subst P (sym (deposits_grown x (Installed policy ∷ []) ∙ append-nil (deposits x))) here
 deposits_by P x (DefinedClass day name years) ok here made = subst P (sym (deposits_grown x (DefinedClass day name years ∷ []) ∙ append-nil (deposits x))) here
@@ -256,7 +256,7 @@ deposits_by P x (Destroyed day n) ok here made = subst P (sym (deposits_grown x 
 -- the holds after a change, likewise
 pub holds_by : (P : List (Date × Hold) → Type 0) (x : History) (c : Change) → IsAccepted x c → P (holds x)
     → ((day : Date) (hold : Hold) → IsDay day × IsHold hold → IsPlaceable x hold → P (holds x ++ (day, hold) ∷ []))
-    → P (holds (grown x (c ∷ [])))
+    → P (holds (with_changes x (c ∷ [])))
 holds_by P x (PlacedHold day hold) ok here made = subst P (sym (holds_grown x (PlacedHold day hold ∷ []))) (made day hold ok.0 ok.1)
 holds_by P x (Installed policy) ok here made = subst P (sym (holds_grown x (Installed policy ∷ []) ∙ append-nil (holds x))) here
 holds_by P x (DefinedClass day name years) ok here made = subst P (sym (holds_grown x (DefinedClass day name years ∷ []) ∙ append-nil (holds x))) here

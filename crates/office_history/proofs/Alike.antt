@@ -11,8 +11,8 @@ use Rattle.jiff.specs.Words.{epoch_day}
 use Rattle.bag_text.specs.TransferForm.{File}
 use Rattle.bag_check.specs.Validity.{payload_files, payload_bytes}
 use Rattle.office_rows.specs.Rows.{DepositRow, HoldRow}
-use Rattle.office_history.specs.Lists.{first_said, last_said, numbered, numbers, distinct_after, in_first_places}
-use Rattle.office_history.specs.Histories.{History, Change, Deposit, Hold, grown, installed_in, no_policy, policy, years_in, years_of, collection_in, deposit_in, deposits, deposit_numbered, destroyed_in, gone, kept, hold_in, holds, released_in, released}
+use Rattle.office_history.specs.Lists.{first_said, last_said, item_numbered, numbers, distinct_after, in_first_places}
+use Rattle.office_history.specs.Histories.{History, Change, Deposit, Hold, with_changes, installed_in, no_policy, policy, years_in, years_of, collection_in, deposit_in, deposits, deposit_numbered, destroyed_in, destruction_day, kept_numbers, hold_in, holds, released_in, release_day}
 use Rattle.office_history.specs.Stocks.{files_of, Stock, stock}
 use Rattle.office_history.specs.Pictures.{class_in, class_row, caller_row, rule_rows, file_row, file_rows, held_deposit, held_collection, deposit_row, row_of_deposit, picture}
 use Rattle.office_history.proofs.HistoryLemmas.{deposits_grown, holds_grown}
@@ -50,10 +50,10 @@ pub record Alike (h k : History) : Type 0 where
   pub same_classes : in_first_places (filter_map class_in h.changes) ≡ in_first_places (filter_map class_in k.changes)
   pub same_collections : in_first_places (filter_map collection_in h.changes) ≡ in_first_places (filter_map collection_in k.changes)
   pub same_deposits : map outline (deposits h) ≡ map outline (deposits k)
-  pub same_gone : (n : ℕ) → gone h n ≡ gone k n
-  pub same_bags : (n : ℕ) → gone h n ≡ None → files_of h n ≡ files_of k n
+  pub same_gone : (n : ℕ) → destruction_day h n ≡ destruction_day k n
+  pub same_bags : (n : ℕ) → destruction_day h n ≡ None → files_of h n ≡ files_of k n
   pub same_holds : holds h ≡ holds k
-  pub same_released : (n : ℕ) → released h n ≡ released k n
+  pub same_released : (n : ℕ) → release_day h n ≡ release_day k n
 
 -- ---- what is said in longer lists
 
@@ -94,19 +94,19 @@ distinct_after-append seen (x ∷ xs) ys = by (list_any (bytes_eq x) seen) refl 
 
 -- ---- longer histories
 
-pub gone_grown : (h : History) (more : List Change) (n : ℕ) → gone (grown h more) n ≡ option_or (gone h n) (first_said (destroyed_in n) more)
+pub gone_grown : (h : History) (more : List Change) (n : ℕ) → destruction_day (with_changes h more) n ≡ option_or (destruction_day h n) (first_said (destroyed_in n) more)
 gone_grown h more n = first_said-append (destroyed_in n) h.changes more
 
-pub released_grown : (h : History) (more : List Change) (n : ℕ) → released (grown h more) n ≡ option_or (released h n) (first_said (released_in n) more)
+pub released_grown : (h : History) (more : List Change) (n : ℕ) → release_day (with_changes h more) n ≡ option_or (release_day h n) (first_said (released_in n) more)
 released_grown h more n = first_said-append (released_in n) h.changes more
 
-pub policy_grown : (h : History) (more : List Change) → policy (grown h more) ≡ unwrap_or (last_said installed_in more) (policy h)
+pub policy_grown : (h : History) (more : List Change) → policy (with_changes h more) ≡ unwrap_or (last_said installed_in more) (policy h)
 policy_grown h more =
     ap (λ o. unwrap_or o no_policy) (last_said-append installed_in h.changes more)
     ∙ unwrap_or_or (last_said installed_in more) (last_said installed_in h.changes) no_policy
 
 pub texts_grown : (says : Change → Option (List ℕ)) (h : History) (more : List Change)
-    → in_first_places (filter_map says (grown h more).changes) ≡ in_first_places (in_first_places (filter_map says h.changes) ++ filter_map says more)
+    → in_first_places (filter_map says (with_changes h more).changes) ≡ in_first_places (in_first_places (filter_map says h.changes) ++ filter_map says more)
 texts_grown says h more =
     ap in_first_places (filter_map-append says h.changes more) ∙ distinct_after-append [] (filter_map says h.changes) (filter_map says more)
 
@@ -123,8 +123,8 @@ same_bag_at (x ∷ xs) [] more i len e = absurd (omega (arith, len))
 same_bag_at (x ∷ xs) (y ∷ ys) more zero len e = e
 same_bag_at (x ∷ xs) (y ∷ ys) more (suc i) len e = same_bag_at xs ys more i (omega (arith, len)) e
 
-same_bag_numbered : (xs ys more : List (Date × Deposit)) (n : ℕ) → length xs ≡ length ys → bag_in (numbered xs n) ≡ bag_in (numbered ys n)
-    → bag_in (numbered (xs ++ more) n) ≡ bag_in (numbered (ys ++ more) n)
+same_bag_numbered : (xs ys more : List (Date × Deposit)) (n : ℕ) → length xs ≡ length ys → bag_in (item_numbered xs n) ≡ bag_in (item_numbered ys n)
+    → bag_in (item_numbered (xs ++ more) n) ≡ bag_in (item_numbered (ys ++ more) n)
 same_bag_numbered xs ys more zero len e = refl
 same_bag_numbered xs ys more (suc place) len e = same_bag_at xs ys more place len e
 
@@ -132,7 +132,7 @@ pub same_count : (h k : History) → Alike h k → length (deposits h) ≡ lengt
 same_count h k a = sym (length-map (deposits h) outline) ∙ ap length a.same_deposits ∙ length-map (deposits k) outline
 
 -- histories that agree still do after the same changes
-pub alike_grown : (h k : History) → Alike h k → (more : List Change) → Alike (grown h more) (grown k more)
+pub alike_grown : (h k : History) → Alike h k → (more : List Change) → Alike (with_changes h more) (with_changes k more)
 alike_grown h k a more = record {
   same_max_deposits = a.same_max_deposits;
   same_max_holds = a.same_max_holds;
@@ -146,25 +146,25 @@ alike_grown h k a more = record {
       outlines h ∙ ap (λ os. os ++ map outline (filter_map deposit_in more)) a.same_deposits ∙ sym (outlines k);
   same_gone = λ n. gone_grown h more n ∙ ap (λ o. option_or o (first_said (destroyed_in n) more)) (a.same_gone n) ∙ sym (gone_grown k more n);
   same_bags = λ n e.
-      ap (λ ds. bag_in (numbered ds n)) (deposits_grown h more)
+      ap (λ ds. bag_in (item_numbered ds n)) (deposits_grown h more)
       ∙ same_bag_numbered (deposits h) (deposits k) (filter_map deposit_in more) n (same_count h k a)
-      (a.same_bags n (not_gone_before (gone h n) (first_said (destroyed_in n) more) (sym (gone_grown h more n) ∙ e)))
-      ∙ sym (ap (λ ds. bag_in (numbered ds n)) (deposits_grown k more));
+      (a.same_bags n (not_gone_before (destruction_day h n) (first_said (destroyed_in n) more) (sym (gone_grown h more n) ∙ e)))
+      ∙ sym (ap (λ ds. bag_in (item_numbered ds n)) (deposits_grown k more));
   same_holds = holds_grown h more ∙ ap (λ hs. hs ++ filter_map hold_in more) a.same_holds ∙ sym (holds_grown k more);
   same_released = λ n. released_grown h more n ∙ ap (λ o. option_or o (first_said (released_in n) more)) (a.same_released n) ∙ sym (released_grown k more n);
 }
   where
-    outlines : (x : History) → map outline (deposits (grown x more)) ≡ map outline (deposits x) ++ map outline (filter_map deposit_in more)
+    outlines : (x : History) → map outline (deposits (with_changes x more)) ≡ map outline (deposits x) ++ map outline (filter_map deposit_in more)
     outlines x = ap (map outline) (deposits_grown x more) ∙ map-append outline (deposits x) (filter_map deposit_in more)
 
 -- ---- what is read alike
 
-pub numbered-map : {A B : Type 0} (f : A → B) (xs : List A) (n : ℕ) → numbered (map f xs) n ≡ option_map f (numbered xs n)
+pub numbered-map : {A B : Type 0} (f : A → B) (xs : List A) (n : ℕ) → item_numbered (map f xs) n ≡ option_map f (item_numbered xs n)
 numbered-map f xs zero = refl
 numbered-map f xs (suc place) = slice_get-map f xs place
 
 pub same_outline : (h k : History) → Alike h k → (n : ℕ) → option_map outline (deposit_numbered h n) ≡ option_map outline (deposit_numbered k n)
-same_outline h k a n = sym (numbered-map outline (deposits h) n) ∙ ap (λ os. numbered os n) a.same_deposits ∙ numbered-map outline (deposits k) n
+same_outline h k a n = sym (numbered-map outline (deposits h) n) ∙ ap (λ os. item_numbered os n) a.same_deposits ∙ numbered-map outline (deposits k) n
 
 -- a deposit is its outline and its bag
 whole : (x y : Option (Date × Deposit)) → option_map outline x ≡ option_map outline y → bag_in x ≡ bag_in y → x ≡ y
@@ -176,10 +176,10 @@ whole (Some x) (Some y) e bags =
     let d : x.1 ≡ y.1 = λ i. record { collection = (s i).collection; class = (s i).class; accession = (s i).accession; closed = (s i).closed; bag = bags i } in
     λ i. Some ((s i).day, d i)
 
-pub same_found : (h k : History) → Alike h k → (n : ℕ) → gone h n ≡ None → deposit_numbered h n ≡ deposit_numbered k n
+pub same_found : (h k : History) → Alike h k → (n : ℕ) → destruction_day h n ≡ None → deposit_numbered h n ≡ deposit_numbered k n
 same_found h k a n e = whole (deposit_numbered h n) (deposit_numbered k n) (same_outline h k a n) (a.same_bags n e)
 
-pub same_kept : (h k : History) → Alike h k → kept h ≡ kept k
+pub same_kept : (h k : History) → Alike h k → kept_numbers h ≡ kept_numbers k
 same_kept h k a = λ i. filter (λ n. is_none (a.same_gone n i)) (numbers (same_count h k a i))
 
 -- ---- and so all rows
@@ -215,7 +215,7 @@ row_from n day o = record {
 }
 
 -- a row is made of the outline
-pub row_of_outline : (h : History) (n : ℕ) (found : Option (Date × Deposit)) → option_map (deposit_row h n) found ≡ option_map (row_from n (gone h n)) (option_map outline found)
+pub row_of_outline : (h : History) (n : ℕ) (found : Option (Date × Deposit)) → option_map (deposit_row h n) found ≡ option_map (row_from n (destruction_day h n)) (option_map outline found)
 row_of_outline h n None = refl
 row_of_outline h n (Some found) = refl
 
@@ -231,8 +231,8 @@ kept_is_not_gone (Some day) e = absurd (true≢false (sym e))
 
 pub same_file_rows : (h k : History) → Alike h k → file_rows h ≡ file_rows k
 same_file_rows h k a =
-    gathered_of_kept (λ n. is_none (gone h n)) (λ n. map (file_row n) (files_of h n)) (λ n. map (file_row n) (files_of k n)) (numbers (length (deposits h)))
-    (λ n e. ap (map (file_row n)) (a.same_bags n (kept_is_not_gone (gone h n) e)))
+    gathered_of_kept (λ n. is_none (destruction_day h n)) (λ n. map (file_row n) (files_of h n)) (λ n. map (file_row n) (files_of k n)) (numbers (length (deposits h)))
+    (λ n e. ap (map (file_row n)) (a.same_bags n (kept_is_not_gone (destruction_day h n) e)))
     ∙ ap (flat_map (λ n. map (file_row n) (files_of k n))) (same_kept h k a)
 
 -- histories that agree have one picture
@@ -245,25 +245,25 @@ same_picture h k a version = λ i. record {
   collections = a.same_collections i;
   deposits = filter_map (λ n. same_row h k a n i) (numbers (same_count h k a i));
   files = same_file_rows h k a i;
-  holds = filter_map (λ n. option_map (λ found. hold_from n (a.same_released n i) found) (numbered (a.same_holds i) n)) (numbers (length (a.same_holds i)));
+  holds = filter_map (λ n. option_map (λ found. hold_from n (a.same_released n i) found) (item_numbered (a.same_holds i) n)) (numbers (length (a.same_holds i)));
 }
   where
     hold_from : ℕ → Option Date → Date × Hold → HoldRow
-    hold_from n released found = record {
+    hold_from n release_day found = record {
       number = pos n;
       deposit = held_deposit found.1.target;
       collection = held_collection found.1.target;
       matter = found.1.matter;
       placed = epoch_day found.0;
-      released = option_map epoch_day released;
+      released = option_map epoch_day release_day;
     }
 
 -- ---- and the stock
 
-kept_files : (h k : History) → Alike h k → flat_map (files_of h) (kept h) ≡ flat_map (files_of k) (kept k)
+kept_files : (h k : History) → Alike h k → flat_map (files_of h) (kept_numbers h) ≡ flat_map (files_of k) (kept_numbers k)
 kept_files h k a =
-    gathered_of_kept (λ n. is_none (gone h n)) (files_of h) (files_of k) (numbers (length (deposits h)))
-    (λ n e. a.same_bags n (kept_is_not_gone (gone h n) e))
+    gathered_of_kept (λ n. is_none (destruction_day h n)) (files_of h) (files_of k) (numbers (length (deposits h)))
+    (λ n e. a.same_bags n (kept_is_not_gone (destruction_day h n) e))
     ∙ ap (flat_map (files_of k)) (same_kept h k a)
 
 -- the stock of these files

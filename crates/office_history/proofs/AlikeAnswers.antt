@@ -24,19 +24,19 @@ use Rattle.office_core.specs.declared.refusal.Refusal.TheVariants.{NoSuch, Gone,
 use Rattle.office_core.specs.declared.refusal.Subject.TheVariants as subjects
 use Rattle.office_core.specs.declared.request.Request.{Request}
 use Rattle.office_core.specs.declared.request.Request.TheVariants.{DefineClass, DefineCollection, Deposit as MakeDeposit, List as ListDeposits, Record, Holds, DownloadBag, DownloadFile, Audit, HoldDeposit, HoldCollection, Release, Dispose, DueList}
-use Rattle.office_history.specs.Lists.{numbered, numbers, distinct_after, in_first_places}
-use Rattle.office_history.specs.Histories.{History, Change, DefinedCollection, Target, OnDeposit, OnCollection, Deposit, Hold, grown, policy, has_collection, collection_in, deposits, deposit_numbered, accession_of, gone, due, reaches, live_holds}
+use Rattle.office_history.specs.Lists.{item_numbered, numbers, distinct_after, in_first_places}
+use Rattle.office_history.specs.Histories.{History, Change, DefinedCollection, Target, OnDeposit, OnCollection, Deposit, Hold, with_changes, policy, has_collection, collection_in, deposits, deposit_numbered, accession_of, destruction_day, due, reaches, live_holds}
 use Rattle.office_history.specs.Bags.{report_on}
 use Rattle.office_core.specs.Verdicts as deciding
-use Rattle.office_history.specs.Refusals.{refused, denial, denial_at, closed_ahead, bad_bag, held, not_due, full_of_holds, no_file, of_deposit, of_hold, release_denial_of, release_denial, refusal}
-use Rattle.office_history.specs.Answers.{record_of, is_asked, listed_record, listed_records, due_list, live_hold, told_holds, audited, told, file_answer, allowed_answer, allowed_change, answer_unless, answer, changes_unless, change, after}
+use Rattle.office_history.specs.Refusals.{refusal_in, denial, denial_at, closed_ahead_refusal, bad_bag, held_refusal, not_due_refusal, full_of_holds, no_file, of_deposit, of_hold, release_denial_of, release_denial, refusal}
+use Rattle.office_history.specs.Answers.{record_of, is_asked, listed_record, listed_records, due_list, live_hold, told_holds, audit_report, told_of, file_answer, allowed_answer, allowed_change, answer_unless, answer, changes_unless, change, after}
 use Rattle.office_history.proofs.Alike.{Outline, outline, Alike, alike_grown, same_count, same_outline, same_found, same_kept, mapped_of_kept, kept_is_not_gone}
 
 -- ---- what the rules say
 
 same_denied : (h k : History) → Alike h k → (caller : List ℕ) (action : Action) (collection class : Option (List ℕ)) → denial h caller action collection class ≡ denial k caller action collection class
 same_denied h k a caller action collection class =
-    ap (λ (p : Contents). refused (deciding.denial_verdict (decision_of p.rules (record { role = role_of p caller; action = action; collection = collection; class = class })))) a.same_policy
+    ap (λ (p : Contents). refusal_in (deciding.denial_verdict (decision_of p.rules (record { role = role_of p caller; action = action; collection = collection; class = class })))) a.same_policy
 
 same_denied_at : (h k : History) → Alike h k → (caller : List ℕ) (action : Action) (deposit : Deposit) → denial_at h caller action deposit ≡ denial_at k caller action deposit
 same_denied_at h k a caller action deposit = same_denied h k a caller action (Some deposit.collection) (Some deposit.class)
@@ -101,7 +101,7 @@ same_accession h k a accession =
 
 same_live : (h k : History) → Alike h k → (n : ℕ) (deposit : Deposit) → live_holds h n deposit ≡ live_holds k n deposit
 same_live h k a n deposit = λ i.
-    filter (λ j. is_none (a.same_released j i) && option_map_or (λ (hold : Date × Hold). reaches hold.1.target n deposit) (numbered (a.same_holds i) j) false)
+    filter (λ j. is_none (a.same_released j i) && option_map_or (λ (hold : Date × Hold). reaches hold.1.target n deposit) (item_numbered (a.same_holds i) j) false)
     (numbers (length (a.same_holds i)))
 
 same_due : (h k : History) → Alike h k → (deposit : Deposit) → due h deposit ≡ due k deposit
@@ -113,13 +113,13 @@ same_full_of_holds h k a = λ i. answer_if (nat_le (a.same_max_holds i) (length 
 -- ---- the refusals of a request that names a deposit: whether it is denied, whether it is gone, and the rest
 
 abbrev denied_outline : Contents → List ℕ → Action → Outline → Option Refusal
-denied_outline p caller action o = refused (deciding.denial_verdict (decision_of p.rules (record { role = role_of p caller; action = action; collection = Some o.collection; class = Some o.class })))
+denied_outline p caller action o = refusal_in (deciding.denial_verdict (decision_of p.rules (record { role = role_of p caller; action = action; collection = Some o.collection; class = Some o.class })))
 
 abbrev row : Contents → List ℕ → Action → Option Date → Option (Date × Deposit) → (Deposit → List (Option Refusal)) → Option Refusal
 row p caller action day there rest =
     first_some (of_deposit there (λ d.
-    refused (deciding.denial_verdict (decision_of p.rules (record { role = role_of p caller; action = action; collection = Some d.collection; class = Some d.class })))
-    ∷ refused (deciding.gone_verdict day)
+    refusal_in (deciding.denial_verdict (decision_of p.rules (record { role = role_of p caller; action = action; collection = Some d.collection; class = Some d.class })))
+    ∷ refusal_in (deciding.gone_verdict day)
     ∷ rest d))
 
 -- what stands behind a refusal is of no matter
@@ -139,10 +139,10 @@ same_row_of p caller action (Some day) (Some x) (Some y) r s e same more =
     ∙ ap (λ (o : Outline). first_some (denied_outline p caller action o ∷ Some (Gone day) ∷ s y.1)) (same_Some (outline x) (outline y) e)
 
 same_row_at : (h k : History) → Alike h k → (caller : List ℕ) (action : Action) (n : ℕ) (r s : Deposit → List (Option Refusal))
-    → (gone h n ≡ None → (d : Deposit) → r d ≡ s d)
-    → row (policy h) caller action (gone h n) (deposit_numbered h n) r ≡ row (policy k) caller action (gone k n) (deposit_numbered k n) s
+    → (destruction_day h n ≡ None → (d : Deposit) → r d ≡ s d)
+    → row (policy h) caller action (destruction_day h n) (deposit_numbered h n) r ≡ row (policy k) caller action (destruction_day k n) (deposit_numbered k n) s
 same_row_at h k a caller action n r s more =
-    same_row_of (policy h) caller action (gone h n) (deposit_numbered h n) (deposit_numbered k n) r s (same_outline h k a n) (same_found h k a n) more
+    same_row_of (policy h) caller action (destruction_day h n) (deposit_numbered h n) (deposit_numbered k n) r s (same_outline h k a n) (same_found h k a n) more
     ∙ (λ i. row (a.same_policy i) caller action (a.same_gone n i) (deposit_numbered k n) s)
 
 -- ---- the refusals of a release
@@ -174,7 +174,7 @@ same_refusal h k a day caller (MakeDeposit collection class accession closed bag
     ∷ answer_if (not (is_some (a.same_years class i))) (NoSuch subjects.Class)
     ∷ same_denied h k a caller acts.Deposit (Some collection) (Some class) i
     ∷ option_map Taken (same_accession h k a accession i)
-    ∷ closed_ahead day closed
+    ∷ closed_ahead_refusal day closed
     ∷ bad_bag bag.now
     ∷ answer_if (nat_le (a.same_max_deposits i) (same_count h k a i)) Full
     ∷ [])
@@ -193,10 +193,10 @@ same_refusal h k a day caller (HoldCollection name matter) = λ i.
     ∷ same_full_of_holds h k a i
     ∷ [])
 same_refusal h k a day caller (Release j) = λ i.
-    first_some (of_hold (numbered (a.same_holds i) j) (λ hold. same_release h k a caller hold.target i ∷ option_map Released (a.same_released j i) ∷ []))
+    first_some (of_hold (item_numbered (a.same_holds i) j) (λ hold. same_release h k a caller hold.target i ∷ option_map Released (a.same_released j i) ∷ []))
 same_refusal h k a day caller (Dispose n) =
-    same_row_at h k a caller acts.Dispose n (λ d. held h n d ∷ not_due h day d ∷ []) (λ d. held k n d ∷ not_due k day d ∷ [])
-    (λ e d i. refused (deciding.hold_verdict (slice_get (same_live h k a n d i) 0)) ∷ refused (deciding.due_verdict day (same_due h k a d i)) ∷ [])
+    same_row_at h k a caller acts.Dispose n (λ d. held_refusal h n d ∷ not_due_refusal h day d ∷ []) (λ d. held_refusal k n d ∷ not_due_refusal k day d ∷ [])
+    (λ e d i. refusal_in (deciding.hold_verdict (slice_get (same_live h k a n d i) 0)) ∷ refusal_in (deciding.due_verdict day (same_due h k a d i)) ∷ [])
 same_refusal h k a day caller DueList = refl
 
 -- ---- answers
@@ -217,9 +217,9 @@ same_record h k a n found =
 
 same_told_holds : (h k : History) → Alike h k → (n : ℕ) (deposit : Deposit) → told_holds h n deposit ≡ told_holds k n deposit
 same_told_holds h k a n deposit = λ i.
-    filter_map (λ j. option_map_or (λ found. Some (live_hold j found)) (numbered (a.same_holds i) j) None) (same_live h k a n deposit i)
+    filter_map (λ j. option_map_or (λ found. Some (live_hold j found)) (item_numbered (a.same_holds i) j) None) (same_live h k a n deposit i)
 
-same_listed : (h k : History) → Alike h k → (caller : List ℕ) (collection class : Option (List ℕ)) (n : ℕ) → gone h n ≡ None → listed_record h caller collection class n ≡ listed_record k caller collection class n
+same_listed : (h k : History) → Alike h k → (caller : List ℕ) (collection class : Option (List ℕ)) (n : ℕ) → destruction_day h n ≡ None → listed_record h caller collection class n ≡ listed_record k caller collection class n
 same_listed h k a caller collection class n e = λ i.
     option_map_or (λ (found : Date × Deposit).
     if is_asked collection found.1.collection && is_asked class found.1.class && is_none (same_denied_at h k a caller acts.List found.1 i)
@@ -228,8 +228,8 @@ same_listed h k a caller collection class n e = λ i.
 
 same_list : (h k : History) → Alike h k → (caller : List ℕ) (collection class : Option (List ℕ)) → listed_records h caller collection class ≡ listed_records k caller collection class
 same_list h k a caller collection class =
-    mapped_of_kept (λ n. is_none (gone h n)) (listed_record h caller collection class) (listed_record k caller collection class) (numbers (length (deposits h)))
-    (λ n e. same_listed h k a caller collection class n (kept_is_not_gone (gone h n) e))
+    mapped_of_kept (λ n. is_none (destruction_day h n)) (listed_record h caller collection class) (listed_record k caller collection class) (numbers (length (deposits h)))
+    (λ n e. same_listed h k a caller collection class n (kept_is_not_gone (destruction_day h n) e))
     ∙ ap (filter_map (listed_record k caller collection class)) (same_kept h k a)
 
 same_due_list : (h k : History) → Alike h k → (day : Date) (caller : List ℕ) → due_list h day caller ≡ due_list k day caller
@@ -250,10 +250,10 @@ unless_gone : (p : Contents) (caller : List ℕ) (action : Action) (day : Option
 unless_gone p caller action None there r x y same = ap (answer_unless (row p caller action None there r)) (same refl)
 unless_gone p caller action (Some day) there r x y same = row_stops p caller action day there r x y
 
-answer_at : (h k : History) → Alike h k → (caller : List ℕ) (action : Action) (n : ℕ) (r : Deposit → List (Option Refusal)) (x y : Answer) → (gone h n ≡ None → x ≡ y)
-    → answer_unless (row (policy h) caller action (gone h n) (deposit_numbered h n) r) x ≡ answer_unless (row (policy k) caller action (gone k n) (deposit_numbered k n) r) y
+answer_at : (h k : History) → Alike h k → (caller : List ℕ) (action : Action) (n : ℕ) (r : Deposit → List (Option Refusal)) (x y : Answer) → (destruction_day h n ≡ None → x ≡ y)
+    → answer_unless (row (policy h) caller action (destruction_day h n) (deposit_numbered h n) r) x ≡ answer_unless (row (policy k) caller action (destruction_day k n) (deposit_numbered k n) r) y
 answer_at h k a caller action n r x y same =
-    unless_gone (policy h) caller action (gone h n) (deposit_numbered h n) r x y same
+    unless_gone (policy h) caller action (destruction_day h n) (deposit_numbered h n) r x y same
     ∙ ap (λ why. answer_unless why y) (same_row_at h k a caller action n r r (λ e d. refl))
 
 pub same_answer : (h k : History) → Alike h k → (day : Date) (caller : List ℕ) (request : Request) → answer h day caller request ≡ answer k day caller request
@@ -264,19 +264,19 @@ same_answer h k a day caller (MakeDeposit collection class accession closed bag)
 same_answer h k a day caller (ListDeposits collection class) = ap answers.List (same_list h k a caller collection class)
 same_answer h k a day caller (Record n) =
     answer_at h k a caller acts.Record n (λ d. []) (allowed_answer h day caller (Record n)) (allowed_answer k day caller (Record n))
-    (λ e i. told (same_found h k a n e i) (λ found. answers.Record (same_record h k a n found i)))
+    (λ e i. told_of (same_found h k a n e i) (λ found. answers.Record (same_record h k a n found i)))
 same_answer h k a day caller (Holds n) =
     answer_at h k a caller acts.Holds n (λ d. []) (allowed_answer h day caller (Holds n)) (allowed_answer k day caller (Holds n))
-    (λ e i. told (same_found h k a n e i) (λ found. answers.Holds (same_told_holds h k a n found.1 i)))
+    (λ e i. told_of (same_found h k a n e i) (λ found. answers.Holds (same_told_holds h k a n found.1 i)))
 same_answer h k a day caller (DownloadBag n) =
     answer_at h k a caller acts.Download n (λ d. []) (allowed_answer h day caller (DownloadBag n)) (allowed_answer k day caller (DownloadBag n))
-    (λ e i. told (same_found h k a n e i) (λ found. answers.Bag (set_text found.1.bag)))
+    (λ e i. told_of (same_found h k a n e i) (λ found. answers.Bag (set_text found.1.bag)))
 same_answer h k a day caller (DownloadFile n path) =
     answer_at h k a caller acts.Download n (λ d. no_file d path.now ∷ []) (allowed_answer h day caller (DownloadFile n path)) (allowed_answer k day caller (DownloadFile n path))
-    (λ e i. told (same_found h k a n e i) (λ found. file_answer (content_at found.1.bag path.now)))
+    (λ e i. told_of (same_found h k a n e i) (λ found. file_answer (content_at found.1.bag path.now)))
 same_answer h k a day caller (Audit n) =
     answer_at h k a caller acts.Audit n (λ d. []) (allowed_answer h day caller (Audit n)) (allowed_answer k day caller (Audit n))
-    (λ e i. told (same_found h k a n e i) (λ found. answers.Audit n (audited (report_on found.1.bag))))
+    (λ e i. told_of (same_found h k a n e i) (λ found. answers.Audit n (audit_report (report_on found.1.bag))))
 same_answer h k a day caller (HoldDeposit n matter) = λ i. answer_unless (same_refusal h k a day caller (HoldDeposit n matter) i) (answers.HoldPlaced (length (a.same_holds i) + 1))
 same_answer h k a day caller (HoldCollection name matter) = λ i. answer_unless (same_refusal h k a day caller (HoldCollection name matter) i) (answers.HoldPlaced (length (a.same_holds i) + 1))
 same_answer h k a day caller (Release j) = ap (λ why. answer_unless why (answers.HoldReleased j day)) (same_refusal h k a day caller (Release j))
@@ -306,4 +306,4 @@ same_change h k a day caller request = λ i. changes_unless (same_refusal h k a 
 
 pub alike_after : (h k : History) → Alike h k → (day : Date) (caller : List ℕ) (request : Request) → Alike (after h day caller request) (after k day caller request)
 alike_after h k a day caller request =
-    subst (λ (more : List Change). Alike (after h day caller request) (grown k more)) (same_change h k a day caller request) (alike_grown h k a (change h day caller request))
+    subst (λ (more : List Change). Alike (after h day caller request) (with_changes k more)) (same_change h k a day caller request) (alike_grown h k a (change h day caller request))

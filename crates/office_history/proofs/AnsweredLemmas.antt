@@ -12,11 +12,11 @@ use Rattle.office_core.specs.declared.answer.LiveHold.{LiveHold}
 use Rattle.office_core.specs.declared.refusal.Refusal.{Refusal}
 use Rattle.office_core.specs.declared.request.Request.{Request}
 use Rattle.office_core.specs.declared.request.Request.TheVariants.{DefineClass, DefineCollection, Deposit as MakeDeposit, List as ListDeposits, Record, Holds, DownloadBag, DownloadFile, Audit, HoldDeposit, HoldCollection, Release, Dispose, DueList}
-use Rattle.office_history.specs.Lists.{first_said, numbered}
-use Rattle.office_history.specs.Histories.{History, Change, PlacedHold, ReleasedHold, Deposit, Hold, OnDeposit, OnCollection, grown, deposit_numbered, hold_in, holds, hold_numbered, released, released_in, live_holds}
+use Rattle.office_history.specs.Lists.{first_said, item_numbered}
+use Rattle.office_history.specs.Histories.{History, Change, PlacedHold, ReleasedHold, Deposit, Hold, OnDeposit, OnCollection, with_changes, deposit_numbered, hold_in, holds, hold_numbered, release_day, released_in, live_holds}
 use Rattle.office_history.specs.Bags.{report_on}
 use Rattle.office_history.specs.Refusals.{refusal}
-use Rattle.office_history.specs.Answers.{answer, answer_unless, allowed_answer, told, file_answer, record_of, told_hold, told_holds, live_hold, audited, change, changes_unless, allowed_change, after}
+use Rattle.office_history.specs.Answers.{answer, answer_unless, allowed_answer, told_of, file_answer, record_of, told_hold, told_holds, live_hold, audit_report, change, changes_unless, allowed_change, after}
 use Rattle.office_history.proofs.ListLemmas.{numbered_last}
 use Rattle.office_history.proofs.HistoryLemmas.{holds_grown}
 use Rattle.office_history.proofs.Accepted.{releasable}
@@ -32,7 +32,7 @@ pub record WasPlaced (h : History) (day : Date) (changes : List Change) (k : ℕ
   pub placed : changes ≡ PlacedHold day hold ∷ []
 
 -- what is told of a deposit is the number of no hold
-told_no_number : (found : Option (Date × Deposit)) (tell : Date × Deposit → Answer) (k : ℕ) → ((d : Date × Deposit) → tell d ≡ answers.HoldPlaced k → ⊥) → told found tell ≡ answers.HoldPlaced k → ⊥
+told_no_number : (found : Option (Date × Deposit)) (tell : Date × Deposit → Answer) (k : ℕ) → ((d : Date × Deposit) → tell d ≡ answers.HoldPlaced k → ⊥) → told_of found tell ≡ answers.HoldPlaced k → ⊥
 told_no_number None tell k other e = absurd cc
 told_no_number (Some d) tell k other e = other d e
 
@@ -51,7 +51,7 @@ allowed_hold h day caller (Record n) k e = absurd (told_no_number (deposit_numbe
 allowed_hold h day caller (Holds n) k e = absurd (told_no_number (deposit_numbered h n) (λ d. answers.Holds (told_holds h n d.1)) k (λ d. λ wrong. absurd cc) e)
 allowed_hold h day caller (DownloadBag n) k e = absurd (told_no_number (deposit_numbered h n) (λ d. answers.Bag (set_text d.1.bag)) k (λ d. λ wrong. absurd cc) e)
 allowed_hold h day caller (DownloadFile n path) k e = absurd (told_no_number (deposit_numbered h n) (λ d. file_answer (content_at d.1.bag path.now)) k (λ d. file_no_number (content_at d.1.bag path.now) k) e)
-allowed_hold h day caller (Audit n) k e = absurd (told_no_number (deposit_numbered h n) (λ d. answers.Audit n (audited (report_on d.1.bag))) k (λ d. λ wrong. absurd cc) e)
+allowed_hold h day caller (Audit n) k e = absurd (told_no_number (deposit_numbered h n) (λ d. answers.Audit n (audit_report (report_on d.1.bag))) k (λ d. λ wrong. absurd cc) e)
 allowed_hold h day caller (Release j) k e = absurd cc
 allowed_hold h day caller (Dispose n) k e = absurd cc
 allowed_hold h day caller DueList k e = absurd cc
@@ -63,10 +63,10 @@ was_placed h day caller request k e =
     record { next_number = made.next_number; hold = made.hold; placed = ap (λ why. changes_unless why (allowed_change h day request)) r.0 ∙ made.placed }
 
 -- the holds after a hold was placed
-pub holds_after : (h : History) (day : Date) (changes : List Change) (hold : Hold) → changes ≡ PlacedHold day hold ∷ [] → holds (grown h changes) ≡ holds h ++ (day, hold) ∷ []
-holds_after h day changes hold e = ap (λ (c : List Change). holds (grown h c)) e ∙ holds_grown h (PlacedHold day hold ∷ [])
+pub holds_after : (h : History) (day : Date) (changes : List Change) (hold : Hold) → changes ≡ PlacedHold day hold ∷ [] → holds (with_changes h changes) ≡ holds h ++ (day, hold) ∷ []
+holds_after h day changes hold e = ap (λ (c : List Change). holds (with_changes h c)) e ∙ holds_grown h (PlacedHold day hold ∷ [])
 
-pub more_holds : (h : History) (more : List Change) → length (holds h) ≤ length (holds (grown h more))
+pub more_holds : (h : History) (more : List Change) → length (holds h) ≤ length (holds (with_changes h more))
 more_holds h more = rw (holds_grown h more, length-append (holds h) (filter_map hold_in more)) (omega arith)
 
 -- the hold of a collection that was answered with a number has that number
@@ -77,8 +77,8 @@ collection_hold h day caller name matter k e =
     let next : length (holds h) + 1 ≡ k = (let same = r.1 in cc) in
     let hold : Hold = record { target = OnCollection name; matter = matter } in
     let made : change h day caller (HoldCollection name matter) ≡ PlacedHold day hold ∷ [] = ap (λ why. changes_unless why (PlacedHold day hold ∷ [])) r.0 in
-    ap (λ ds. numbered ds k) (holds_after h day (change h day caller (HoldCollection name matter)) hold made)
-    ∙ ap (λ m. numbered (holds h ++ (day, hold) ∷ []) m) (sym next) ∙ numbered_last (holds h) (day, hold)
+    ap (λ ds. item_numbered ds k) (holds_after h day (change h day caller (HoldCollection name matter)) hold made)
+    ∙ ap (λ m. item_numbered (holds h ++ (day, hold) ∷ []) m) (sym next) ∙ numbered_last (holds h) (day, hold)
 
 -- ---- holds that were released
 
@@ -93,11 +93,11 @@ first_said_last says (x ∷ xs) y b none e =
     ap (λ o. option_or o (first_said says (xs ++ y ∷ []))) two.0 ∙ first_said_last says xs y b two.1 e
 
 -- a hold whose release was answered is released from that day
-pub was_released : (h : History) (day on : Date) (caller : List ℕ) (k number : ℕ) → answer h day caller (Release k) ≡ answers.HoldReleased number on → released (after h day caller (Release k)) k ≡ Some day
+pub was_released : (h : History) (day on : Date) (caller : List ℕ) (k number : ℕ) → answer h day caller (Release k) ≡ answers.HoldReleased number on → release_day (after h day caller (Release k)) k ≡ Some day
 was_released h day on caller k number e =
     let r = unrefused (refusal h day caller (Release k)) (answers.HoldReleased k day) (answers.HoldReleased number on) e (λ r. λ wrong. absurd cc) in
     let says : released_in k (ReleasedHold day k) ≡ Some day = rw ((Decides-eqb k k).1 refl) refl in
-    ap (λ why. released (grown h (changes_unless why (ReleasedHold day k ∷ []))) k) r.0
+    ap (λ why. release_day (with_changes h (changes_unless why (ReleasedHold day k ∷ []))) k) r.0
     ∙ first_said_last (released_in k) h.changes (ReleasedHold day k) day (releasable h day caller k r.0).live says
 
 -- what is told comes from an item of the list
@@ -121,12 +121,12 @@ told_number h k hold e = by_hold (hold_numbered h k) e
 
 -- a hold that was released is in no list of holds that is answered
 pub not_told : (h : History) (day on : Date) (caller : List ℕ) (k n place : ℕ) (given : List LiveHold) (hold : LiveHold)
-    → released h k ≡ Some on → answer h day caller (Holds n) ≡ answers.Holds given → slice_get given place ≡ Some hold → hold.number ≡ k → ⊥
+    → release_day h k ≡ Some on → answer h day caller (Holds n) ≡ answers.Holds given → slice_get given place ≡ Some hold → hold.number ≡ k → ⊥
 not_told h day on caller k n place given hold dead e at same =
     let r = unrefused (refusal h day caller (Holds n)) (allowed_answer h day caller (Holds n)) (answers.Holds given) e (λ r. λ wrong. absurd cc) in
     by_deposit (deposit_numbered h n) r.1
   where
-    by_deposit : (there : Option (Date × Deposit)) → told there (λ found. answers.Holds (told_holds h n found.1)) ≡ answers.Holds given → ⊥
+    by_deposit : (there : Option (Date × Deposit)) → told_of there (λ found. answers.Holds (told_holds h n found.1)) ≡ answers.Holds given → ⊥
     by_deposit None e = absurd cc
     by_deposit (Some found) e =
         let is : told_holds h n found.1 ≡ given = cc in

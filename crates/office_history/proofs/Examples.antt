@@ -11,8 +11,8 @@ use Rattle.office_core.specs.declared.action.Action.TheVariants as acts
 use Rattle.office_core.specs.declared.rule.ActionPattern.TheVariants as asked
 use Rattle.office_core.specs.declared.rule.Effect.TheVariants.{Allow, Deny}
 use Rattle.office_core.specs.declared.rule.Pattern.TheVariants.{Any, Named}
-use Rattle.office_history.specs.Histories.{History, Installed, DefinedClass, DefinedCollection, Deposited, PlacedHold, ReleasedHold, Destroyed, Deposit, OnDeposit, OnCollection, gone, kept, due, live_holds}
-use Rattle.office_history.specs.Refusals.{refusal, taken}
+use Rattle.office_history.specs.Histories.{History, Installed, DefinedClass, DefinedCollection, Deposited, PlacedHold, ReleasedHold, Destroyed, Deposit, OnDeposit, OnCollection, destruction_day, kept_numbers, due, live_holds}
+use Rattle.office_history.specs.Refusals.{refusal, taken_refusal}
 use Rattle.office_history.specs.Lists.{in_first_places}
 use Rattle.office_history.specs.Pictures.{picture}
 
@@ -67,15 +67,15 @@ unfolding deposited later
 released_covers_none day = refl
 
 -- a destroyed deposit is gone, and keeps its number and its accession
-destroyed_is_gone : (day : Date) → gone (later day) 1 ≡ Some day
+destroyed_is_gone : (day : Date) → destruction_day (later day) 1 ≡ Some day
 unfolding deposited later
 destroyed_is_gone day = refl
 
-others_are_kept : (day : Date) → kept (later day) ≡ 2 ∷ []
+others_are_kept : (day : Date) → kept_numbers (later day) ≡ 2 ∷ []
 unfolding deposited later
 others_are_kept day = refl
 
-accession_stays : (day : Date) → taken (later day) (codes "A-1") ≡ Some (Taken 1)
+accession_stays : (day : Date) → taken_refusal (later day) (codes "A-1") ≡ Some (Taken 1)
 unfolding deposited later
 accession_stays day = refl
 

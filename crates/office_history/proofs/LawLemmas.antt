@@ -12,12 +12,12 @@ use Rattle.office_core.specs.declared.answer.Answer.{Answer}
 use Rattle.office_core.specs.declared.answer.Answer.TheVariants as answers
 use Rattle.office_core.specs.declared.refusal.Refusal.{Refusal}
 use Rattle.office_core.specs.declared.request.Request.TheVariants.{Deposit as MakeDeposit, DownloadBag, DownloadFile}
-use Rattle.office_history.specs.Lists.{numbered}
-use Rattle.office_history.specs.Histories.{History, Change, DefinedClass, OnCollection, Deposit, grown, deposit_in, deposits, deposit_numbered, hold_numbered, released, released_in, covers, years_in, due}
+use Rattle.office_history.specs.Lists.{item_numbered}
+use Rattle.office_history.specs.Histories.{History, Change, DefinedClass, OnCollection, Deposit, with_changes, deposit_in, deposits, deposit_numbered, hold_numbered, release_day, released_in, covers, years_in, due}
 use Rattle.office_history.specs.Bags.{bag_of, valid_bag, if_valid, report_on}
 use Rattle.bag_check.specs.Validity.{Report}
 use Rattle.office_history.specs.Refusals.{refusal}
-use Rattle.office_history.specs.Answers.{answer, answer_unless, allowed_answer, told, file_answer, change, changes_unless, deposit_change, after}
+use Rattle.office_history.specs.Answers.{answer, answer_unless, allowed_answer, told_of, file_answer, change, changes_unless, deposit_change, after}
 use Rattle.office_history.specs.Runs.{Item, IsFailure, Step, Run, IsLater}
 use Rattle.office_history.proofs.ListLemmas.{first_said_front, last_said_last, numbered_last}
 use Rattle.office_history.proofs.Accepted.{grown_by_none, depositable}
@@ -30,13 +30,13 @@ pub covers_collection : (h : History) (k n : ℕ) (day : Date) (name matter : Li
 covers_collection h k n day name matter deposit e same = rw (e, same) ((bytes_eq-Decides name name).1 refl)
 
 -- a hold that was released stays so
-pub released_stays : (h : History) (more : List Change) (k : ℕ) (day : Date) → released h k ≡ Some day → released (grown h more) k ≡ Some day
+pub released_stays : (h : History) (more : List Change) (k : ℕ) (day : Date) → release_day h k ≡ Some day → release_day (with_changes h more) k ≡ Some day
 released_stays h more k day e = first_said_front (released_in k) h.changes more day e
 
 -- ---- classes
 
 -- what the class was given last counts for each deposit of it, whenever that came
-pub revised_due : (h : History) (day : Date) (name : List ℕ) (years : Option ℕ) (deposit : Deposit) → deposit.class ≡ name → due (grown h (DefinedClass day name years ∷ [])) deposit ≡ due_of deposit.closed years
+pub revised_due : (h : History) (day : Date) (name : List ℕ) (years : Option ℕ) (deposit : Deposit) → deposit.class ≡ name → due (with_changes h (DefinedClass day name years ∷ [])) deposit ≡ due_of deposit.closed years
 revised_due h day name years deposit same =
     let says : years_in deposit.class (DefinedClass day name years) ≡ Some years = rw (same, (bytes_eq-Decides name name).1 refl) refl in
     rw (last_said_last (years_in deposit.class) h.changes (DefinedClass day name years) years says) refl
@@ -49,7 +49,7 @@ one_item h next item given (inr served) = (change h item.0 item.1.now item.2, se
 
 pub later_still : (h mid next : History) → IsLater h mid → IsLater mid next → IsLater h next
 later_still h mid next one rest =
-    (one.0 ++ rest.0, rest.1 ∙ ap (λ (x : History). grown x rest.0) one.1 ∙ ap (λ (changes : List Change). record h { changes = changes }) (append_assoc h.changes one.0 rest.0))
+    (one.0 ++ rest.0, rest.1 ∙ ap (λ (x : History). with_changes x rest.0) one.1 ∙ ap (λ (changes : List Change). record h { changes = changes }) (append_assoc h.changes one.0 rest.0))
 
 pub run_grows : (items : List Item) (given : List Answer) (h next : History) → Run h items given next → IsLater h next
 run_grows [] [] h next r = ([], r ∙ grown_by_none h)
@@ -93,18 +93,18 @@ pub was_deposited : ((t : List ℕ) (files : List File) → set_of t ≡ Ok file
     → (h next : History) (day : Date) (n : ℕ) (caller collection class accession : List ℕ) (closed : Date) (bag : Bor (List ℕ))
     → answer h day caller (MakeDeposit collection class accession closed bag) ≡ answers.Deposited n
     → IsLater (after h day caller (MakeDeposit collection class accession closed bag)) next → WasDeposited next n bag.now
-was_deposited forms h next day n caller collection class accession closed bag e grown =
+was_deposited forms h next day n caller collection class accession closed bag e after_it =
     let was = unrefused (refusal h day caller (MakeDeposit collection class accession closed bag)) (answers.Deposited (length (deposits h) + 1)) (answers.Deposited n) e (λ r. λ wrong. absurd cc) in
     let number : length (deposits h) + 1 ≡ n = (let same = was.1 in cc) in
     let allowed = depositable h day caller collection class accession closed bag.now was.0 in
     let made : Date × Deposit = (day, record { collection = collection; class = class; accession = accession; closed = closed; bag = allowed.0 }) in
     let mid = after h day caller (MakeDeposit collection class accession closed bag) in
     let there : deposit_numbered mid n ≡ Some made =
-    ap (λ ds. numbered ds n) (deposit_adds h day caller collection class accession closed bag allowed.0 was.0 allowed.1)
-    ∙ ap (λ m. numbered (deposits h ++ made ∷ []) m) (sym number) ∙ numbered_last (deposits h) made in
+    ap (λ ds. item_numbered ds n) (deposit_adds h day caller collection class accession closed bag allowed.0 was.0 allowed.1)
+    ∙ ap (λ m. item_numbered (deposits h ++ made ∷ []) m) (sym number) ∙ numbered_last (deposits h) made in
     record {
       found = made;
-      there = ap (λ x. deposit_numbered x n) grown.1 ∙ deposit_stays mid grown.0 n made there;
+      there = ap (λ x. deposit_numbered x n) after_it.1 ∙ deposit_stays mid after_it.0 n made there;
       form = form_of forms bag.now allowed.0 allowed.1;
     }
 
@@ -128,14 +128,14 @@ both_answered h mid late next items given first last a b a_is b_is (inr made) ru
 pub served_form : (h : History) (day : Date) (caller : List ℕ) (n : ℕ) (found : Date × Deposit) (bytes : List ℕ) → deposit_numbered h n ≡ Some found → answer h day caller (DownloadBag n) ≡ answers.Bag bytes → bytes ≡ set_text found.1.bag
 served_form h day caller n found bytes there e =
     let told_so = unrefused (refusal h day caller (DownloadBag n)) (allowed_answer h day caller (DownloadBag n)) (answers.Bag bytes) e (λ r. λ wrong. absurd cc) in
-    let is : answers.Bag (set_text found.1.bag) ≡ answers.Bag bytes = ap (λ (o : Option (Date × Deposit)). told o (λ d. answers.Bag (set_text d.1.bag))) (sym there) ∙ told_so.1 in
+    let is : answers.Bag (set_text found.1.bag) ≡ answers.Bag bytes = ap (λ (o : Option (Date × Deposit)). told_of o (λ d. answers.Bag (set_text d.1.bag))) (sym there) ∙ told_so.1 in
     cc
 
 -- a file that is served of a deposit is the content at the path
 pub served_content : (h : History) (day : Date) (caller : List ℕ) (n : ℕ) (path : Bor (List ℕ)) (found : Date × Deposit) (bytes : List ℕ) → deposit_numbered h n ≡ Some found → answer h day caller (DownloadFile n path) ≡ answers.File bytes → content_at found.1.bag path.now ≡ Some bytes
 served_content h day caller n path found bytes there e =
     let told_so = unrefused (refusal h day caller (DownloadFile n path)) (allowed_answer h day caller (DownloadFile n path)) (answers.File bytes) e (λ r. λ wrong. absurd cc) in
-    by (content_at found.1.bag path.now) (ap (λ (o : Option (Date × Deposit)). told o (λ d. file_answer (content_at d.1.bag path.now))) (sym there) ∙ told_so.1)
+    by (content_at found.1.bag path.now) (ap (λ (o : Option (Date × Deposit)). told_of o (λ d. file_answer (content_at d.1.bag path.now))) (sym there) ∙ told_so.1)
   where
     by : (o : Option (List ℕ)) → file_answer o ≡ answers.File bytes → o ≡ Some bytes
     by None is = absurd cc

@@ -10,8 +10,8 @@ use Rattle.bag_check.specs.Validity.{Report, Valid}
 use Rattle.bag_check.specs.Faults.{Fault}
 use Rattle.bag_check.specs.Judging.{judge}
 use Rattle.office_core.specs.declared.answer.Answer.{Answer}
-use Rattle.office_history.specs.Histories.{History, Change, Deposit, grown, deposits}
-use Rattle.office_history.specs.Bags.{bag_of, valid_bag, if_valid, judged}
+use Rattle.office_history.specs.Histories.{History, Change, Deposit, with_changes, deposits}
+use Rattle.office_history.specs.Bags.{bag_of, valid_bag, if_valid, report_or_text}
 use Rattle.office_history.specs.Acceptance.{IsChange, IsAllowed}
 use Rattle.office_history.specs.Runs.{Item, IsItem, AreItems, Step, Run, IsLegal, serve, IsSound, as_of}
 use Rattle.office_history.proofs.ListLemmas.{all_append, split_two}
@@ -26,7 +26,7 @@ Reads = (t : List ℕ) (files : List File) → set_of t ≡ Ok files → IsBag f
 abbrev pub Judges : Type 0
 Judges = (files : List File) (report : Report) → IsBag files → judge files ≡ Ok report → (v : Version) × Valid files v
 
-sound_judged : Judges → (files bag : List File) (r : Result Report Fault) → IsBag files → judge files ≡ r → if_valid files (judged r) ≡ Ok bag → IsSound bag
+sound_judged : Judges → (files bag : List File) (r : Result Report Fault) → IsBag files → judge files ≡ r → if_valid files (report_or_text r) ≡ Ok bag → IsSound bag
 sound_judged judges files bag (Err fault) is j e = absurd cc
 sound_judged judges files bag (Ok report) is j e =
     let same : files ≡ bag = cc in
@@ -46,7 +46,7 @@ HasSoundBag found = IsSound found.1.bag
 pub sound_deposits : Reads → Judges → (h : History) → IsLegal h → AllByRecursion HasSoundBag (deposits h)
 sound_deposits reads judges h legal = legal_by (λ x. AllByRecursion HasSoundBag (deposits x)) (λ a b a_in b_in. tt) more h legal
   where
-    more : (x : History) (c : Change) → IsLegal x → IsAccepted x c → AllByRecursion HasSoundBag (deposits x) → AllByRecursion HasSoundBag (deposits (grown x (c ∷ [])))
+    more : (x : History) (c : Change) → IsLegal x → IsAccepted x c → AllByRecursion HasSoundBag (deposits x) → AllByRecursion HasSoundBag (deposits (with_changes x (c ∷ [])))
     more x c was ok all =
         deposits_by (AllByRecursion HasSoundBag) x c ok all
         (λ day deposit ranged allowed. all_append HasSoundBag (deposits x) ((day, deposit) ∷ []) all (sound_bag reads judges allowed.form deposit.bag allowed.read, tt))
@@ -70,7 +70,7 @@ ChangesStand h = (before rest : List Change) (c : Change) → h.changes ≡ befo
 pub changes_stand : (h : History) → IsLegal h → ChangesStand h
 changes_stand h legal = legal_by ChangesStand (λ a b a_in b_in before rest c e. absurd (none_last c before rest e)) more h legal
   where
-    more : (x : History) (made : Change) → IsLegal x → IsAccepted x made → ChangesStand x → ChangesStand (grown x (made ∷ []))
+    more : (x : History) (made : Change) → IsLegal x → IsAccepted x made → ChangesStand x → ChangesStand (with_changes x (made ∷ []))
     more x made was ok stand before rest c e =
         elim (split_two x.changes (made ∷ []) before c rest e) [
           | inl found ↦ stand before found.0 c found.1

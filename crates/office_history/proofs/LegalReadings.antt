@@ -4,7 +4,7 @@ use Rattle.std.specs.Option.{option_or}
 use Rattle.std.proofs.lemmas.Bool.Decides.{Decides-eqb}
 use Rattle.jiff.specs.Types.{Date}
 use Rattle.office_history.specs.Lists.{first_said, last_said}
-use Rattle.office_history.specs.Histories.{History, Change, Installed, DefinedClass, DefinedCollection, Deposited, PlacedHold, ReleasedHold, Destroyed, Deposit, Hold, grown, installed_in, policy, deposit_numbered, destroyed_in, gone, hold_numbered, released_in, released}
+use Rattle.office_history.specs.Histories.{History, Change, Installed, DefinedClass, DefinedCollection, Deposited, PlacedHold, ReleasedHold, Destroyed, Deposit, Hold, with_changes, installed_in, policy, deposit_numbered, destroyed_in, destruction_day, hold_numbered, released_in, release_day}
 use Rattle.office_core.proofs.PolicyNames.{no_policy_is_policy}
 use Rattle.office_core.specs.Policies.{Contents, IsPolicy}
 use Rattle.office_history.specs.Acceptance.{IsChange, IsAllowed}
@@ -21,14 +21,14 @@ not_that a b x other = by (a == b) refl
     by false e = refl
 
 -- what isn't there now was not there before
-no_deposit_before : (h : History) (more : List Change) (n : ℕ) → deposit_numbered (grown h more) n ≡ None → deposit_numbered h n ≡ None
+no_deposit_before : (h : History) (more : List Change) (n : ℕ) → deposit_numbered (with_changes h more) n ≡ None → deposit_numbered h n ≡ None
 no_deposit_before h more n e = by (deposit_numbered h n) refl
   where
     by : (o : Option (Date × Deposit)) → deposit_numbered h n ≡ o → deposit_numbered h n ≡ None
     by None is = is
     by (Some found) is = let wrong : Some found ≡ None = sym (deposit_stays h more n found is) ∙ e in absurd cc
 
-no_hold_before : (h : History) (more : List Change) (j : ℕ) → hold_numbered (grown h more) j ≡ None → hold_numbered h j ≡ None
+no_hold_before : (h : History) (more : List Change) (j : ℕ) → hold_numbered (with_changes h more) j ≡ None → hold_numbered h j ≡ None
 no_hold_before h more j e = by (hold_numbered h j) refl
   where
     by : (o : Option (Date × Hold)) → hold_numbered h j ≡ o → hold_numbered h j ≡ None
@@ -58,23 +58,23 @@ not_released x k (Destroyed day n) none allowed = refl
 
 -- no hold, and no deposit, has the number 0
 abbrev pub NoneGone : History → Type 0
-NoneGone h = (n : ℕ) → deposit_numbered h n ≡ None → gone h n ≡ None
+NoneGone h = (n : ℕ) → deposit_numbered h n ≡ None → destruction_day h n ≡ None
 
 pub none_gone : (h : History) → IsLegal h → NoneGone h
 none_gone h legal = legal_by NoneGone (λ a b a_in b_in n e. refl) more h legal
   where
-    more : (x : History) (c : Change) → IsLegal x → IsAccepted x c → NoneGone x → NoneGone (grown x (c ∷ []))
+    more : (x : History) (c : Change) → IsLegal x → IsAccepted x c → NoneGone x → NoneGone (with_changes x (c ∷ []))
     more x c was ok so n e =
         let earlier = no_deposit_before x (c ∷ []) n e in
         gone_grown x (c ∷ []) n ∙ (λ i. option_or (so n earlier i) (not_destroyed x n c earlier ok.1 i))
 
 abbrev pub NoneReleased : History → Type 0
-NoneReleased h = (k : ℕ) → hold_numbered h k ≡ None → released h k ≡ None
+NoneReleased h = (k : ℕ) → hold_numbered h k ≡ None → release_day h k ≡ None
 
 pub none_released : (h : History) → IsLegal h → NoneReleased h
 none_released h legal = legal_by NoneReleased (λ a b a_in b_in k e. refl) more h legal
   where
-    more : (x : History) (c : Change) → IsLegal x → IsAccepted x c → NoneReleased x → NoneReleased (grown x (c ∷ []))
+    more : (x : History) (c : Change) → IsLegal x → IsAccepted x c → NoneReleased x → NoneReleased (with_changes x (c ∷ []))
     more x c was ok so k e =
         let earlier = no_hold_before x (c ∷ []) k e in
         released_grown x (c ∷ []) k ∙ (λ i. option_or (so k earlier i) (not_released x k c earlier ok.1 i))
@@ -91,5 +91,5 @@ installed_policy before (Destroyed day n) ranged is = is
 pub legal_policy : (h : History) → IsLegal h → IsPolicy (policy h)
 legal_policy h legal = legal_by (λ x. IsPolicy (policy x)) (λ a b a_in b_in. no_policy_is_policy) more h legal
   where
-    more : (x : History) (c : Change) → IsLegal x → IsAccepted x c → IsPolicy (policy x) → IsPolicy (policy (grown x (c ∷ [])))
+    more : (x : History) (c : Change) → IsLegal x → IsAccepted x c → IsPolicy (policy x) → IsPolicy (policy (with_changes x (c ∷ [])))
     more x c was ok is = subst IsPolicy (sym (policy_grown x (c ∷ []))) (installed_policy (policy x) c ok.0 is)

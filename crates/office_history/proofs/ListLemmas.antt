@@ -5,7 +5,7 @@ use Rattle.std.proofs.lemmas.Bool.{cases_Bool}
 use Rattle.std.proofs.lemmas.Bool.Decides.{nat_tests}
 use Rattle.std.specs.Option.{option_or}
 use Rattle.std.proofs.lemmas.Option.{same_Some}
-use Rattle.office_history.specs.Lists.{first_said, last_said, numbered}
+use Rattle.office_history.specs.Lists.{first_said, last_said, item_numbered}
 
 pub slice_get_front : {A : Type 0} (xs ys : List A) (i : ℕ) (x : A) → slice_get xs i ≡ Some x → slice_get (xs ++ ys) i ≡ Some x
 slice_get_front [] ys i x e = absurd cc
@@ -13,7 +13,7 @@ slice_get_front (y ∷ xs) ys zero x e = e
 slice_get_front (y ∷ xs) ys (suc i) x e = slice_get_front xs ys i x e
 
 -- an item keeps its number in a longer list
-pub numbered_front : {A : Type 0} (xs ys : List A) (n : ℕ) (x : A) → numbered xs n ≡ Some x → numbered (xs ++ ys) n ≡ Some x
+pub numbered_front : {A : Type 0} (xs ys : List A) (n : ℕ) (x : A) → item_numbered xs n ≡ Some x → item_numbered (xs ++ ys) n ≡ Some x
 numbered_front xs ys zero x e = e
 numbered_front xs ys (suc place) x e = slice_get_front xs ys place x e
 
@@ -26,7 +26,7 @@ all_at P [] i x a e = absurd cc
 all_at P (y ∷ xs) zero x a e = subst P (same_Some _ _ e) a.0
 all_at P (y ∷ xs) (suc i) x a e = all_at P xs i x a.1 e
 
-pub all_numbered : {A : Type 0} (P : A → Type 0) (xs : List A) (n : ℕ) (x : A) → AllByRecursion P xs → numbered xs n ≡ Some x → P x
+pub all_numbered : {A : Type 0} (P : A → Type 0) (xs : List A) (n : ℕ) (x : A) → AllByRecursion P xs → item_numbered xs n ≡ Some x → P x
 all_numbered P xs zero x a e = absurd cc
 all_numbered P xs (suc place) x a e = all_at P xs place x a e
 
@@ -67,7 +67,7 @@ slice_get_last [] y = refl
 slice_get_last (x ∷ xs) y = slice_get_last xs y
 
 -- the item that was added has the next number
-pub numbered_last : {A : Type 0} (xs : List A) (y : A) → numbered (xs ++ y ∷ []) (length xs + 1) ≡ Some y
+pub numbered_last : {A : Type 0} (xs : List A) (y : A) → item_numbered (xs ++ y ∷ []) (length xs + 1) ≡ Some y
 numbered_last xs y = let next : length xs + 1 ≡ suc (length xs) = omega arith in rw next (slice_get_last xs y)
 
 slice_get_cases : {A : Type 0} (xs : List A) (y : A) (i : ℕ) (x : A) → slice_get (xs ++ y ∷ []) i ≡ Some x → (slice_get xs i ≡ Some x) ⊎ ((i ≡ length xs) × (y ≡ x))
@@ -81,7 +81,7 @@ slice_get_cases (z ∷ xs) y (suc i) x e =
     ]
 
 -- an item of a list with one more is one of the list, or the last
-pub numbered_cases : {A : Type 0} (xs : List A) (y : A) (n : ℕ) (x : A) → numbered (xs ++ y ∷ []) n ≡ Some x → (numbered xs n ≡ Some x) ⊎ ((n ≡ suc (length xs)) × (y ≡ x))
+pub numbered_cases : {A : Type 0} (xs : List A) (y : A) (n : ℕ) (x : A) → item_numbered (xs ++ y ∷ []) n ≡ Some x → (item_numbered xs n ≡ Some x) ⊎ ((n ≡ suc (length xs)) × (y ≡ x))
 numbered_cases xs y zero x e = absurd cc
 numbered_cases xs y (suc place) x e =
     elim (slice_get_cases xs y place x e) [

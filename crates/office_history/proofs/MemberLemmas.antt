@@ -4,7 +4,7 @@ use Rattle.std.specs.Prelude.{bytes_eq}
 use Rattle.std.specs.List.{AllByRecursion, IsDistinct, flat_map, list_any, range_with_len}
 use Rattle.std.proofs.lemmas.Option.{same_Some, slice_get_within}
 use Rattle.std.proofs.lemmas.Slice.Eq.{bytes_eq-Decides}
-use Rattle.office_history.specs.Lists.{IsIn, numbered, numbers, distinct_after, in_first_places}
+use Rattle.office_history.specs.Lists.{IsIn, item_numbered, numbers, distinct_after, in_first_places}
 
 pub further : {A : Type 0} (x y : A) (xs : List A) → IsIn x xs → IsIn x (y ∷ xs)
 further x y xs found = (suc found.0, found.1)
@@ -66,7 +66,7 @@ range_in start (suc len) n low high =
         ]
 
 -- the number of an item is one of the numbers
-pub numbered_in : {A : Type 0} (xs : List A) (n : ℕ) (x : A) → numbered xs n ≡ Some x → IsIn n (numbers (length xs))
+pub numbered_in : {A : Type 0} (xs : List A) (n : ℕ) (x : A) → item_numbered xs n ≡ Some x → IsIn n (numbers (length xs))
 numbered_in xs zero x e = absurd cc
 numbered_in xs (suc i) x e = let low = slice_get_within xs i x e in range_in 1 (length xs) (suc i) (omega arith) (omega arith)
 

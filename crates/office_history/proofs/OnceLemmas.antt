@@ -17,9 +17,9 @@ use Rattle.office_core.specs.declared.refusal.Refusal.TheVariants.{Held}
 use Rattle.office_core.specs.declared.facts.Verdict.TheVariants.{NotDue, DeniedByRule}
 use Rattle.office_core.specs.Verdicts as deciding
 use Rattle.office_core.specs.declared.request.Request.TheVariants.{Deposit as MakeDeposit, Dispose}
-use Rattle.office_history.specs.Lists.{numbered, numbers}
-use Rattle.office_history.specs.Histories.{History, Change, Deposit, grown, deposit_in, deposits, deposit_numbered, gone, due, holds, released, is_live, covers, live_holds}
-use Rattle.office_history.specs.Refusals.{refused, refusal, of_deposit, denial_at, is_gone, held, not_due}
+use Rattle.office_history.specs.Lists.{item_numbered, numbers}
+use Rattle.office_history.specs.Histories.{History, Change, Deposit, with_changes, deposit_in, deposits, deposit_numbered, destruction_day, due, holds, release_day, is_live, covers, live_holds}
+use Rattle.office_history.specs.Refusals.{refusal_in, refusal, of_deposit, denial_at, gone_refusal, held_refusal, not_due_refusal}
 use Rattle.office_history.specs.Answers.{answer}
 use Rattle.office_history.specs.Runs.{IsLegal}
 use Rattle.office_history.proofs.ListLemmas.{numbered_cases, none_passes}
@@ -32,10 +32,10 @@ use Rattle.office_history.proofs.LawLemmas.{unrefused}
 
 -- two deposits of a list with one accession are one
 abbrev pub AreApart : List (Date × Deposit) → Type 0
-AreApart ds = (n m : ℕ) (a b : Date × Deposit) → numbered ds n ≡ Some a → numbered ds m ≡ Some b → a.1.accession ≡ b.1.accession → n ≡ m
+AreApart ds = (n m : ℕ) (a b : Date × Deposit) → item_numbered ds n ≡ Some a → item_numbered ds m ≡ Some b → a.1.accession ≡ b.1.accession → n ≡ m
 
 -- no deposit of the list has the accession
-unused : (ds : List (Date × Deposit)) (accession : List ℕ) (n : ℕ) (a : Date × Deposit) → position (λ (d : Date × Deposit). bytes_eq d.1.accession accession) ds ≡ None → numbered ds n ≡ Some a → a.1.accession ≡ accession → ⊥
+unused : (ds : List (Date × Deposit)) (accession : List ℕ) (n : ℕ) (a : Date × Deposit) → position (λ (d : Date × Deposit). bytes_eq d.1.accession accession) ds ≡ None → item_numbered ds n ≡ Some a → a.1.accession ≡ accession → ⊥
 unused ds accession zero a none at same = absurd cc
 unused ds accession (suc place) a none at same =
     true≢false (sym ((bytes_eq-Decides a.1.accession accession).1 same) ∙ none_passes (λ (d : Date × Deposit). bytes_eq d.1.accession accession) ds place a none at)
@@ -61,7 +61,7 @@ was_allowed h day caller collection class accession closed text n e =
     let r = unrefused (refusal h day caller (MakeDeposit collection class accession closed text)) (answers.Deposited (length (deposits h) + 1)) (answers.Deposited n) e (λ r. λ wrong. absurd cc) in
     (r.0, (let same = r.1 in cc))
 
-pub more_deposits : (h : History) (more : List Change) → length (deposits h) ≤ length (deposits (grown h more))
+pub more_deposits : (h : History) (more : List Change) → length (deposits h) ≤ length (deposits (with_changes h more))
 more_deposits h more = rw (deposits_grown h more, length-append (deposits h) (filter_map deposit_in more)) (omega arith)
 
 none_apart : AreApart []
@@ -71,14 +71,14 @@ none_apart (suc n) m a b at_n at_m same = absurd cc
 pub accessions_apart : (h : History) → IsLegal h → AreApart (deposits h)
 accessions_apart h legal = legal_by (λ x. AreApart (deposits x)) (λ a b a_in b_in. none_apart) more h legal
   where
-    more : (x : History) (c : Change) → IsLegal x → IsAccepted x c → AreApart (deposits x) → AreApart (deposits (grown x (c ∷ [])))
+    more : (x : History) (c : Change) → IsLegal x → IsAccepted x c → AreApart (deposits x) → AreApart (deposits (with_changes x (c ∷ [])))
     more x c was ok apart =
         deposits_by AreApart x c ok apart (λ day deposit ranged allowed. apart_added (deposits x) (day, deposit) apart (map_none _ _ allowed.new_accession))
 
 -- ---- released holds
 
 -- a hold that was released is none of the live ones
-pub not_among_live : (h : History) (k i n : ℕ) (day : Date) (deposit : Deposit) → released h k ≡ Some day → slice_get (live_holds h n deposit) i ≡ Some k → ⊥
+pub not_among_live : (h : History) (k i n : ℕ) (day : Date) (deposit : Deposit) → release_day h k ≡ Some day → slice_get (live_holds h n deposit) i ≡ Some k → ⊥
 not_among_live h k i n day deposit e at =
     let passes : (is_live h k && covers h k n deposit) ≡ true = (filter_in (λ j. is_live h j && covers h j n deposit) k (numbers (length (holds h))) (i, at)).1 in
     let alive : is_live h k ≡ true = (and_parts _ _ passes).0 in
@@ -90,44 +90,44 @@ first_is : {A : Type 0} (o : Option A) (os : List (Option A)) (x : A) → first_
 first_is None os x e = inr e
 first_is (Some y) os x e = inl e
 
-denied_is_not_held : (d : Option Decision) (k : ℕ) → refused (deciding.denial_verdict d) ≡ Some (Held k) → ⊥
+denied_is_not_held : (d : Option Decision) (k : ℕ) → refusal_in (deciding.denial_verdict d) ≡ Some (Held k) → ⊥
 denied_is_not_held None k e = absurd cc
 denied_is_not_held (Some d) k e = by_effect (allows d.effect) e
   where
-    by_effect : (t : Bool) → refused (if t then None else Some (DeniedByRule d.rule)) ≡ Some (Held k) → ⊥
+    by_effect : (t : Bool) → refusal_in (if t then None else Some (DeniedByRule d.rule)) ≡ Some (Held k) → ⊥
     by_effect true e = absurd cc
     by_effect false e = absurd cc
 
-gone_is_not_held : (o : Option Date) (k : ℕ) → refused (deciding.gone_verdict o) ≡ Some (Held k) → ⊥
+gone_is_not_held : (o : Option Date) (k : ℕ) → refusal_in (deciding.gone_verdict o) ≡ Some (Held k) → ⊥
 gone_is_not_held None k e = absurd cc
 gone_is_not_held (Some day) k e = absurd cc
 
-due_is_not_held : (day : Date) (d : Due) (k : ℕ) → refused (deciding.due_verdict day d) ≡ Some (Held k) → ⊥
+due_is_not_held : (day : Date) (d : Due) (k : ℕ) → refusal_in (deciding.due_verdict day d) ≡ Some (Held k) → ⊥
 due_is_not_held day (On date) k e = by_test (int_lt (epoch_day day) (epoch_day date)) e
   where
-    by_test : (t : Bool) → refused (answer_if t (NotDue date)) ≡ Some (Held k) → ⊥
+    by_test : (t : Bool) → refusal_in (answer_if t (NotDue date)) ≡ Some (Held k) → ⊥
     by_test true e = absurd cc
     by_test false e = absurd cc
 due_is_not_held day Never k e = absurd cc
 
-held_by : (ks : Option ℕ) (k : ℕ) → refused (deciding.hold_verdict ks) ≡ Some (Held k) → ks ≡ Some k
+held_by : (ks : Option ℕ) (k : ℕ) → refusal_in (deciding.hold_verdict ks) ≡ Some (Held k) → ks ≡ Some k
 held_by None k e = absurd cc
 held_by (Some j) k e = let same : j ≡ k = cc in ap Some same
 
 -- and refuses no disposal
-pub refuses_none : (h : History) (day on : Date) (caller : List ℕ) (k n : ℕ) → released h k ≡ Some on → refusal h day caller (Dispose n) ≡ Some (Held k) → ⊥
+pub refuses_none : (h : History) (day on : Date) (caller : List ℕ) (k n : ℕ) → release_day h k ≡ Some on → refusal h day caller (Dispose n) ≡ Some (Held k) → ⊥
 refuses_none h day on caller k n dead e = by_deposit (deposit_numbered h n) e
   where
-    by_deposit : (there : Option (Date × Deposit)) → first_some (of_deposit there (λ d. denial_at h caller acts.Dispose d ∷ is_gone h n ∷ held h n d ∷ not_due h day d ∷ [])) ≡ Some (Held k) → ⊥
+    by_deposit : (there : Option (Date × Deposit)) → first_some (of_deposit there (λ d. denial_at h caller acts.Dispose d ∷ gone_refusal h n ∷ held_refusal h n d ∷ not_due_refusal h day d ∷ [])) ≡ Some (Held k) → ⊥
     by_deposit None e = absurd cc
     by_deposit (Some found) e =
         elim (first_is (denial_at h caller acts.Dispose found.1) _ (Held k) e) [
           | inl a ↦ denied_is_not_held _ k a
-          | inr b ↦ elim (first_is (is_gone h n) _ (Held k) b) [
-            | inl a ↦ gone_is_not_held (gone h n) k a
-            | inr c ↦ elim (first_is (held h n found.1) _ (Held k) c) [
+          | inr b ↦ elim (first_is (gone_refusal h n) _ (Held k) b) [
+            | inl a ↦ gone_is_not_held (destruction_day h n) k a
+            | inr c ↦ elim (first_is (held_refusal h n found.1) _ (Held k) c) [
               | inl a ↦ not_among_live h k 0 n on found.1 dead (held_by (slice_get (live_holds h n found.1) 0) k a)
-              | inr d ↦ elim (first_is (not_due h day found.1) [] (Held k) d) [
+              | inr d ↦ elim (first_is (not_due_refusal h day found.1) [] (Held k) d) [
                 | inl a ↦ due_is_not_held day (due h found.1) k a
                 | inr wrong ↦ absurd cc
               ]

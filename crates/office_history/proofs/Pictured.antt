@@ -26,8 +26,8 @@ use Rattle.office_core.specs.declared.rule.Pattern.{Pattern}
 use Rattle.office_core.specs.declared.rule.Pattern.TheVariants as patterns
 use Rattle.office_core.specs.declared.rule.Rule.{Rule}
 use Rattle.office_rows.specs.Rows.{CallerRow, RuleRow, ClassRow, OfficeRow, DepositRow, FileRow, HoldRow, Tables}
-use Rattle.office_history.specs.Lists.{first_said, last_said, numbered, numbers, distinct_after, in_first_places}
-use Rattle.office_history.specs.Histories.{History, Change, Installed, DefinedClass, DefinedCollection, Deposited, PlacedHold, ReleasedHold, Destroyed, Target, OnDeposit, OnCollection, Deposit, Hold, policy, years_in, years_of, deposits, deposit_numbered, gone, holds, hold_numbered, released}
+use Rattle.office_history.specs.Lists.{first_said, last_said, item_numbered, numbers, distinct_after, in_first_places}
+use Rattle.office_history.specs.Histories.{History, Change, Installed, DefinedClass, DefinedCollection, Deposited, PlacedHold, ReleasedHold, Destroyed, Target, OnDeposit, OnCollection, Deposit, Hold, policy, years_in, years_of, deposits, deposit_numbered, destruction_day, holds, hold_numbered, release_day}
 use Rattle.office_history.specs.Pictures.{effect_number, pattern_text, action_pattern_text, caller_row, rule_rows, years_number, class_row, class_in, class_rows, deposit_row, row_of_deposit, file_row, file_rows, held_deposit, held_collection, hold_row, row_of_hold, picture}
 use Rattle.office_history.specs.Stocks.{files_of}
 use Rattle.office_core.specs.Policies.{IsNamed, HasNames}
@@ -77,18 +77,18 @@ row_at f (suc len) start there past j =
     at (suc i) rest = rest i ∙ ap f (shifted i)
 
 -- the row of a number is what is said of the item of that number
-pub told_at : {A R : Type 0} (xs : List A) (tell : ℕ → A → R) (n : ℕ) → numbered (filter_map (λ m. option_map (tell m) (numbered xs m)) (numbers (length xs))) n ≡ option_map (tell n) (numbered xs n)
+pub told_at : {A R : Type 0} (xs : List A) (tell : ℕ → A → R) (n : ℕ) → item_numbered (filter_map (λ m. option_map (tell m) (item_numbered xs m)) (numbers (length xs))) n ≡ option_map (tell n) (item_numbered xs n)
 told_at {A} {R} xs tell zero = refl
-told_at {A} {R} xs tell (suc j) = row_at (λ m. option_map (tell m) (numbered xs m)) (length xs) 1 there past j ∙ ap (λ m. option_map (tell m) (numbered xs m)) (one j)
+told_at {A} {R} xs tell (suc j) = row_at (λ m. option_map (tell m) (item_numbered xs m)) (length xs) 1 there past j ∙ ap (λ m. option_map (tell m) (item_numbered xs m)) (one j)
   where
     one : (i : ℕ) → 1 + i ≡ suc i
     one i = omega arith
 
-    there : (i : ℕ) → i < length xs → (r : R) × (option_map (tell (1 + i)) (numbered xs (1 + i)) ≡ Some r)
-    there i lt = let x = there_is xs i lt in (tell (suc i) x.0, ap (λ m. option_map (tell m) (numbered xs m)) (one i) ∙ ap (option_map (tell (suc i))) x.1)
+    there : (i : ℕ) → i < length xs → (r : R) × (option_map (tell (1 + i)) (item_numbered xs (1 + i)) ≡ Some r)
+    there i lt = let x = there_is xs i lt in (tell (suc i) x.0, ap (λ m. option_map (tell m) (item_numbered xs m)) (one i) ∙ ap (option_map (tell (suc i))) x.1)
 
-    past : (i : ℕ) → length xs ≤ i → option_map (tell (1 + i)) (numbered xs (1 + i)) ≡ None
-    past i le = ap (λ m. option_map (tell m) (numbered xs m)) (one i) ∙ ap (option_map (tell (suc i))) (slice_get_past xs i le)
+    past : (i : ℕ) → length xs ≤ i → option_map (tell (1 + i)) (item_numbered xs (1 + i)) ≡ None
+    past i le = ap (λ m. option_map (tell m) (item_numbered xs m)) (one i) ∙ ap (option_map (tell (suc i))) (slice_get_past xs i le)
 
 -- ---- days
 
@@ -105,7 +105,7 @@ same_days (Some a) (Some b) e = ap Some (same_day a b (same_Some _ _ e))
 
 same_row : (h k : History) (version : ℤ) → picture version h ≡ picture version k → (n : ℕ) → row_of_deposit h n ≡ row_of_deposit k n
 same_row h k version e n =
-    sym (told_at (deposits h) (deposit_row h) n) ∙ ap (λ (t : Tables). numbered t.deposits n) e ∙ told_at (deposits k) (deposit_row k) n
+    sym (told_at (deposits h) (deposit_row h) n) ∙ ap (λ (t : Tables). item_numbered t.deposits n) e ∙ told_at (deposits k) (deposit_row k) n
 
 outline_by_row : (h k : History) (n : ℕ) (x y : Option (Date × Deposit)) → option_map (deposit_row h n) x ≡ option_map (deposit_row k n) y → option_map outline x ≡ option_map outline y
 outline_by_row h k n None None e = refl
@@ -127,13 +127,13 @@ outline_by_row h k n (Some x) (Some y) e =
     ap Some one
 
 gone_by_row : (h k : History) → IsLegal h → IsLegal k → (n : ℕ) (x y : Option (Date × Deposit)) → deposit_numbered h n ≡ x → deposit_numbered k n ≡ y
-    → option_map (deposit_row h n) x ≡ option_map (deposit_row k n) y → gone h n ≡ gone k n
+    → option_map (deposit_row h n) x ≡ option_map (deposit_row k n) y → destruction_day h n ≡ destruction_day k n
 gone_by_row h k legal_h legal_k n None None a b e = none_gone h legal_h n a ∙ sym (none_gone k legal_k n b)
 gone_by_row h k legal_h legal_k n None (Some y) a b e = absurd cc
 gone_by_row h k legal_h legal_k n (Some x) None a b e = absurd cc
 gone_by_row h k legal_h legal_k n (Some x) (Some y) a b e =
     let s : deposit_row h n x ≡ deposit_row k n y = same_Some _ _ e in
-    same_days (gone h n) (gone k n) (ap (λ (r : DepositRow). r.gone) s)
+    same_days (destruction_day h n) (destruction_day k n) (ap (λ (r : DepositRow). r.gone) s)
 
 -- ---- the files of deposits that are kept
 
@@ -199,13 +199,13 @@ mine files p (suc len) (suc j) start n is lt stays = by (p start) (mine files p 
     by false rest = rest
 
 -- the files of a kept deposit, read off the rows
-files_told : (h : History) (n : ℕ) (found : Date × Deposit) → deposit_numbered h n ≡ Some found → gone h n ≡ None → filter_map (own n) (file_rows h) ≡ files_of h n
+files_told : (h : History) (n : ℕ) (found : Date × Deposit) → deposit_numbered h n ≡ Some found → destruction_day h n ≡ None → filter_map (own n) (file_rows h) ≡ files_of h n
 files_told h zero found there stays = absurd cc
 files_told h (suc j) found there stays =
-    mine (files_of h) (λ m. is_none (gone h m)) (length (deposits h)) j 1 (suc j) (omega arith) (slice_get_within (deposits h) j found there) (ap is_none stays)
+    mine (files_of h) (λ m. is_none (destruction_day h m)) (length (deposits h)) j 1 (suc j) (omega arith) (slice_get_within (deposits h) j found there) (ap is_none stays)
 
 same_files : (h k : History) (version : ℤ) → picture version h ≡ picture version k → (n : ℕ) (x y : Option (Date × Deposit)) → deposit_numbered h n ≡ x → deposit_numbered k n ≡ y
-    → option_map (deposit_row h n) x ≡ option_map (deposit_row k n) y → gone h n ≡ None → gone k n ≡ None → files_of h n ≡ files_of k n
+    → option_map (deposit_row h n) x ≡ option_map (deposit_row k n) y → destruction_day h n ≡ None → destruction_day k n ≡ None → files_of h n ≡ files_of k n
 same_files h k version e n None None a b rows kept_h kept_k =
     ap (λ found. option_map_or (λ f. f.1.bag) found []) a ∙ sym (ap (λ found. option_map_or (λ f. f.1.bag) found []) b)
 same_files h k version e n None (Some y) a b rows kept_h kept_k = absurd cc
@@ -227,7 +227,7 @@ target_told (OnCollection name) = refl
 
 same_hold_row : (h k : History) (version : ℤ) → picture version h ≡ picture version k → (n : ℕ) → row_of_hold h n ≡ row_of_hold k n
 same_hold_row h k version e n =
-    sym (told_at (holds h) (hold_row h) n) ∙ ap (λ (t : Tables). numbered t.holds n) e ∙ told_at (holds k) (hold_row k) n
+    sym (told_at (holds h) (hold_row h) n) ∙ ap (λ (t : Tables). item_numbered t.holds n) e ∙ told_at (holds k) (hold_row k) n
 
 hold_by_row : (h k : History) (n : ℕ) (x y : Option (Date × Hold)) → option_map (hold_row h n) x ≡ option_map (hold_row k n) y → x ≡ y
 hold_by_row h k n None None e = refl
@@ -241,13 +241,13 @@ hold_by_row h k n (Some x) (Some y) e =
     λ i. Some (day i, hold i)
 
 released_by_row : (h k : History) → IsLegal h → IsLegal k → (n : ℕ) (x y : Option (Date × Hold)) → hold_numbered h n ≡ x → hold_numbered k n ≡ y
-    → option_map (hold_row h n) x ≡ option_map (hold_row k n) y → released h n ≡ released k n
+    → option_map (hold_row h n) x ≡ option_map (hold_row k n) y → release_day h n ≡ release_day k n
 released_by_row h k legal_h legal_k n None None a b e = none_released h legal_h n a ∙ sym (none_released k legal_k n b)
 released_by_row h k legal_h legal_k n None (Some y) a b e = absurd cc
 released_by_row h k legal_h legal_k n (Some x) None a b e = absurd cc
 released_by_row h k legal_h legal_k n (Some x) (Some y) a b e =
     let s : hold_row h n x ≡ hold_row k n y = same_Some _ _ e in
-    same_days (released h n) (released k n) (ap (λ (r : HoldRow). r.released) s)
+    same_days (release_day h n) (release_day k n) (ap (λ (r : HoldRow). r.released) s)
 
 -- ---- the policy
 
@@ -481,10 +481,10 @@ alike h k version legal_h legal_k e = record {
       ∙ outline_by_row h k (suc i) (deposit_numbered h (suc i)) (deposit_numbered k (suc i)) (same_row h k version e (suc i))
       ∙ sym (slice_get-map outline (deposits k) i));
   same_gone = lost;
-  same_bags = λ n kept. same_files h k version e n (deposit_numbered h n) (deposit_numbered k n) refl refl (same_row h k version e n) kept (sym (lost n) ∙ kept);
+  same_bags = λ n kept_numbers. same_files h k version e n (deposit_numbered h n) (deposit_numbered k n) refl refl (same_row h k version e n) kept_numbers (sym (lost n) ∙ kept_numbers);
   same_holds = same_list (holds h) (holds k) (λ i. hold_by_row h k (suc i) (hold_numbered h (suc i)) (hold_numbered k (suc i)) (same_hold_row h k version e (suc i)));
   same_released = λ j. released_by_row h k legal_h legal_k j (hold_numbered h j) (hold_numbered k j) refl refl (same_hold_row h k version e j);
 }
   where
-    lost : (n : ℕ) → gone h n ≡ gone k n
+    lost : (n : ℕ) → destruction_day h n ≡ destruction_day k n
     lost n = gone_by_row h k legal_h legal_k n (deposit_numbered h n) (deposit_numbered k n) refl refl (same_row h k version e n)

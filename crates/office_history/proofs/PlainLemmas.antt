@@ -13,16 +13,16 @@ use Rattle.office_core.specs.declared.refusal.Refusal.{Refusal}
 use Rattle.office_core.specs.declared.request.Request.TheVariants as requests
 use Rattle.office_history.specs.Refusals.{place_refusals, bag_refusals, refusal}
 use Rattle.jiff.specs.Types.{Date}
-use Rattle.office_history.specs.Histories.{History, Change, Installed, DefinedClass, DefinedCollection, Deposited, PlacedHold, ReleasedHold, Destroyed, Deposit, Hold, grown, deposit_in, hold_in, deposits, holds, accession_of}
-use Rattle.office_history.specs.Lists.{numbered}
+use Rattle.office_history.specs.Histories.{History, Change, Installed, DefinedClass, DefinedCollection, Deposited, PlacedHold, ReleasedHold, Destroyed, Deposit, Hold, with_changes, deposit_in, hold_in, deposits, holds, accession_of}
+use Rattle.office_history.specs.Lists.{item_numbered}
 use Rattle.office_history.specs.Runs.{IsWithin}
 use Rattle.office_history.specs.PlainOffices.{HasRoom}
 
 -- a change that is neither a deposit nor a hold adds none
-within_other : (h : History) (change : Change) → deposit_in change ≡ None → hold_in change ≡ None → IsWithin h → IsWithin (grown h (change ∷ []))
+within_other : (h : History) (change : Change) → deposit_in change ≡ None → hold_in change ≡ None → IsWithin h → IsWithin (with_changes h (change ∷ []))
 within_other h change no_deposit no_hold within =
-    let d : deposits (grown h (change ∷ [])) ≡ deposits h = rw (filter_map-append deposit_in h.changes (change ∷ []), no_deposit) (append-nil (deposits h)) in
-    let k : holds (grown h (change ∷ [])) ≡ holds h = rw (filter_map-append hold_in h.changes (change ∷ []), no_hold) (append-nil (holds h)) in
+    let d : deposits (with_changes h (change ∷ [])) ≡ deposits h = rw (filter_map-append deposit_in h.changes (change ∷ []), no_deposit) (append-nil (deposits h)) in
+    let k : holds (with_changes h (change ∷ [])) ≡ holds h = rw (filter_map-append hold_in h.changes (change ∷ []), no_hold) (append-nil (holds h)) in
     record {
       deposits_in = rw d within.deposits_in;
       holds_in = rw k within.holds_in;
@@ -30,10 +30,10 @@ within_other h change no_deposit no_hold within =
       holds_limit = within.holds_limit;
     }
 
-within_deposit : (h : History) (day : Date) (deposit : Deposit) → length (deposits h) < h.max_deposits → IsWithin h → IsWithin (grown h (Deposited day deposit ∷ []))
+within_deposit : (h : History) (day : Date) (deposit : Deposit) → length (deposits h) < h.max_deposits → IsWithin h → IsWithin (with_changes h (Deposited day deposit ∷ []))
 within_deposit h day deposit room within =
-    let d : length (deposits (grown h (Deposited day deposit ∷ []))) ≡ length (deposits h) + 1 = rw (filter_map-append deposit_in h.changes (Deposited day deposit ∷ [])) (length-append (deposits h) ((day, deposit) ∷ [])) in
-    let k : holds (grown h (Deposited day deposit ∷ [])) ≡ holds h = rw (filter_map-append hold_in h.changes (Deposited day deposit ∷ [])) (append-nil (holds h)) in
+    let d : length (deposits (with_changes h (Deposited day deposit ∷ []))) ≡ length (deposits h) + 1 = rw (filter_map-append deposit_in h.changes (Deposited day deposit ∷ [])) (length-append (deposits h) ((day, deposit) ∷ [])) in
+    let k : holds (with_changes h (Deposited day deposit ∷ [])) ≡ holds h = rw (filter_map-append hold_in h.changes (Deposited day deposit ∷ [])) (append-nil (holds h)) in
     record {
       deposits_in = rw d (omega arith);
       holds_in = rw k within.holds_in;
@@ -41,10 +41,10 @@ within_deposit h day deposit room within =
       holds_limit = within.holds_limit;
     }
 
-within_hold : (h : History) (day : Date) (hold : Hold) → length (holds h) < h.max_holds → IsWithin h → IsWithin (grown h (PlacedHold day hold ∷ []))
+within_hold : (h : History) (day : Date) (hold : Hold) → length (holds h) < h.max_holds → IsWithin h → IsWithin (with_changes h (PlacedHold day hold ∷ []))
 within_hold h day hold room within =
-    let d : deposits (grown h (PlacedHold day hold ∷ [])) ≡ deposits h = rw (filter_map-append deposit_in h.changes (PlacedHold day hold ∷ [])) (append-nil (deposits h)) in
-    let k : length (holds (grown h (PlacedHold day hold ∷ []))) ≡ length (holds h) + 1 = rw (filter_map-append hold_in h.changes (PlacedHold day hold ∷ [])) (length-append (holds h) ((day, hold) ∷ [])) in
+    let d : deposits (with_changes h (PlacedHold day hold ∷ [])) ≡ deposits h = rw (filter_map-append deposit_in h.changes (PlacedHold day hold ∷ [])) (append-nil (deposits h)) in
+    let k : length (holds (with_changes h (PlacedHold day hold ∷ []))) ≡ length (holds h) + 1 = rw (filter_map-append hold_in h.changes (PlacedHold day hold ∷ [])) (length-append (holds h) ((day, hold) ∷ [])) in
     record {
       deposits_in = rw d within.deposits_in;
       holds_in = rw k (omega arith);
@@ -53,7 +53,7 @@ within_hold h day hold room within =
     }
 
 -- a change for which there is room keeps the limits
-pub within_grown : (h : History) (change : Change) → HasRoom h change → IsWithin h → IsWithin (grown h (change ∷ []))
+pub within_grown : (h : History) (change : Change) → HasRoom h change → IsWithin h → IsWithin (with_changes h (change ∷ []))
 within_grown h (Installed policy) room within = within_other h (Installed policy) refl refl within
 within_grown h (DefinedClass day name years) room within = within_other h (DefinedClass day name years) refl refl within
 within_grown h (DefinedCollection day name) room within = within_other h (DefinedCollection day name) refl refl within
@@ -83,10 +83,10 @@ pub accession_found : (h : History) (accession : List ℕ) → accession_behind 
 accession_found h accession = behind_is 0 accession (deposits h) ∙ ap (option_map (λ place. place + 1)) (sym (position_from-zero (has accession) (deposits h)))
 
 -- the item of a number, behind the first
-pub numbered_next : {A : Type 0} (x : A) (xs : List A) (n : ℕ) → n ≢ 1 → numbered (x ∷ xs) n ≡ numbered xs (n - 1)
+pub numbered_next : {A : Type 0} (x : A) (xs : List A) (n : ℕ) → n ≢ 1 → item_numbered (x ∷ xs) n ≡ item_numbered xs (n - 1)
 numbered_next x xs zero h = refl
 numbered_next x xs (suc zero) h = absurd (h refl)
-numbered_next x xs (suc (suc k)) h = let is : suc k ≡ suc (suc k) - 1 = omega arith in ap (numbered xs) is
+numbered_next x xs (suc (suc k)) h = let is : suc k ≡ suc (suc k) - 1 = omega arith in ap (item_numbered xs) is
 
 -- numbers up to an end, the first taken off
 pub range_more : (n end : ℕ) → n < end → range_with_len n (end - n) ≡ n ∷ range_with_len (n + 1) (end - (n + 1))

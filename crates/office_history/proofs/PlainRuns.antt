@@ -4,7 +4,7 @@ use Rattle.std.proofs.lemmas.List.{drop_more}
 use Rattle.office_core.specs.declared.answer.Answer.{Answer}
 use Rattle.std.specs.Prelude.{Result, Ok, Err, OnOk, OnErr}
 use Rattle.office_core.specs.Policies.{Contents, IsPolicy}
-use Rattle.office_history.specs.Histories.{History, Installed, grown}
+use Rattle.office_history.specs.Histories.{History, Installed, with_changes}
 use Rattle.office_history.specs.Runs.{Item, Step, Run, IsLegal, install}
 use Rattle.office_history.specs.PlainOffices.{Serves, ServesAll}
 
@@ -50,6 +50,6 @@ run_end first last items i answers past begun =
 
 -- an install keeps a history legal, and so does one that failed
 pub install_legal : {E : Type 0} (h next : History) (policy : Contents) (r : Result (Unit {0}) E) → IsPolicy policy
-    → OnOk r (next ≡ grown h (Installed policy ∷ [])) → OnErr r (next ≡ h) → IsLegal h → IsLegal next
+    → OnOk r (next ≡ with_changes h (Installed policy ∷ [])) → OnErr r (next ≡ h) → IsLegal h → IsLegal next
 install_legal h next policy (Ok x) names installed failed legal = subst IsLegal (sym installed) (install h policy names legal)
 install_legal h next policy (Err e) names installed failed legal = subst IsLegal (sym failed) legal

@@ -13,7 +13,7 @@ use Rattle.office_core.specs.Days.{IsDay}
 use Rattle.office_core.specs.Names.{IsName}
 use Rattle.office_core.specs.Requests.{IsYears}
 use Rattle.office_history.specs.Lists.{first_said, last_said}
-use Rattle.office_history.specs.Histories.{History, Change, Installed, DefinedClass, DefinedCollection, Deposited, PlacedHold, ReleasedHold, Destroyed, Target, OnDeposit, OnCollection, Deposit, Hold, grown, years_in, years_of, has_class, collection_in, has_collection, deposit_in, deposits, deposit_numbered, destroyed_in, gone, hold_in, holds, released_in, released}
+use Rattle.office_history.specs.Histories.{History, Change, Installed, DefinedClass, DefinedCollection, Deposited, PlacedHold, ReleasedHold, Destroyed, Target, OnDeposit, OnCollection, Deposit, Hold, with_changes, years_in, years_of, has_class, collection_in, has_collection, deposit_in, deposits, deposit_numbered, destroyed_in, destruction_day, hold_in, holds, released_in, release_day}
 use Rattle.office_history.specs.Acceptance.{IsChange, IsDeposit, IsHold, IsThere}
 use Rattle.office_history.specs.Runs.{IsLegal, IsWithin}
 use Rattle.office_history.proofs.ListLemmas.{all_append}
@@ -140,10 +140,10 @@ placed_so (Deposited day deposit) ranged b e = absurd cc
 placed_so (ReleasedHold day k) ranged b e = absurd cc
 placed_so (Destroyed day n) ranged b e = absurd cc
 
-pub gone_days : (h : History) → IsLegal h → (n : ℕ) (day : Date) → gone h n ≡ Some day → IsDay day
+pub gone_days : (h : History) → IsLegal h → (n : ℕ) (day : Date) → destruction_day h n ≡ Some day → IsDay day
 gone_days h legal n = first_ranged (destroyed_in n) IsDay (gone_day n) h.changes (ranged_changes h legal)
 
-pub released_days : (h : History) → IsLegal h → (k : ℕ) (day : Date) → released h k ≡ Some day → IsDay day
+pub released_days : (h : History) → IsLegal h → (k : ℕ) (day : Date) → release_day h k ≡ Some day → IsDay day
 released_days h legal k = first_ranged (released_in k) IsDay (released_day k) h.changes (ranged_changes h legal)
 
 pub named_classes : (h : History) → IsLegal h → (name : List ℕ) (years : Option ℕ) → years_of h name ≡ Some years → IsName name × IsYears years
@@ -168,20 +168,20 @@ or_true : (a b : Bool) → a ≡ true → (a || b) ≡ true
 or_true true b e = refl
 or_true false b e = absurd cc
 
-class_stays : (h : History) (more : List Change) (name : List ℕ) → has_class h name ≡ true → has_class (grown h more) name ≡ true
+class_stays : (h : History) (more : List Change) (name : List ℕ) → has_class h name ≡ true → has_class (with_changes h more) name ≡ true
 class_stays h more name e = ap is_some (last_said-append (years_in name) h.changes more) ∙ some_or (last_said (years_in name) more) (years_of h name) e
 
-collection_stays : (h : History) (more : List Change) (name : List ℕ) → has_collection h name ≡ true → has_collection (grown h more) name ≡ true
+collection_stays : (h : History) (more : List Change) (name : List ℕ) → has_collection h name ≡ true → has_collection (with_changes h more) name ≡ true
 collection_stays h more name e =
     ap (list_any (bytes_eq name)) (filter_map-append collection_in h.changes more)
     ∙ list_any-append (bytes_eq name) (filter_map collection_in h.changes) (filter_map collection_in more)
     ∙ or_true (has_collection h name) _ e
 
-there_stays : (h : History) (more : List Change) (target : Target) → IsThere h target → IsThere (grown h more) target
+there_stays : (h : History) (more : List Change) (target : Target) → IsThere h target → IsThere (with_changes h more) target
 there_stays h more (OnCollection name) e = collection_stays h more name e
 there_stays h more (OnDeposit n) e = by (deposit_numbered h n) refl e
   where
-    by : (o : Option (Date × Deposit)) → deposit_numbered h n ≡ o → IsSome o → IsSome (deposit_numbered (grown h more) n)
+    by : (o : Option (Date × Deposit)) → deposit_numbered h n ≡ o → IsSome o → IsSome (deposit_numbered (with_changes h more) n)
     by None is e = absurd cc
     by (Some found) is e = subst (λ (o : Option (Date × Deposit)). IsSome o) (sym (deposit_stays h more n found is)) e
 
@@ -192,17 +192,17 @@ all_weaker P Q so (x ∷ xs) all = (so x all.0, all_weaker P Q so xs all.1)
 abbrev pub HasPlace : History → Date × Deposit → Type 0
 HasPlace h found = (has_collection h found.1.collection ≡ true) × (has_class h found.1.class ≡ true)
 
-place_stays : (h : History) (more : List Change) (found : Date × Deposit) → HasPlace h found → HasPlace (grown h more) found
+place_stays : (h : History) (more : List Change) (found : Date × Deposit) → HasPlace h found → HasPlace (with_changes h more) found
 place_stays h more found e = (collection_stays h more found.1.collection e.0, class_stays h more found.1.class e.1)
 
 pub placed_deposits : (h : History) → IsLegal h → AllByRecursion (HasPlace h) (deposits h)
 placed_deposits h legal = legal_by (λ x. AllByRecursion (HasPlace x) (deposits x)) (λ a b a_in b_in. tt) more h legal
   where
-    more : (x : History) (c : Change) → IsLegal x → IsAccepted x c → AllByRecursion (HasPlace x) (deposits x) → AllByRecursion (HasPlace (grown x (c ∷ []))) (deposits (grown x (c ∷ [])))
+    more : (x : History) (c : Change) → IsLegal x → IsAccepted x c → AllByRecursion (HasPlace x) (deposits x) → AllByRecursion (HasPlace (with_changes x (c ∷ []))) (deposits (with_changes x (c ∷ [])))
     more x c was ok all =
-        let still = all_weaker (HasPlace x) (HasPlace (grown x (c ∷ []))) (place_stays x (c ∷ [])) (deposits x) all in
-        deposits_by (AllByRecursion (HasPlace (grown x (c ∷ [])))) x c ok still
-        (λ day deposit ranged allowed. all_append (HasPlace (grown x (c ∷ []))) (deposits x) ((day, deposit) ∷ []) still
+        let still = all_weaker (HasPlace x) (HasPlace (with_changes x (c ∷ []))) (place_stays x (c ∷ [])) (deposits x) all in
+        deposits_by (AllByRecursion (HasPlace (with_changes x (c ∷ [])))) x c ok still
+        (λ day deposit ranged allowed. all_append (HasPlace (with_changes x (c ∷ []))) (deposits x) ((day, deposit) ∷ []) still
         (place_stays x (c ∷ []) (day, deposit) (allowed.collection, allowed.class), tt))
 
 abbrev pub HasTarget : History → Date × Hold → Type 0
@@ -211,9 +211,9 @@ HasTarget h found = IsThere h found.1.target
 pub placed_holds : (h : History) → IsLegal h → AllByRecursion (HasTarget h) (holds h)
 placed_holds h legal = legal_by (λ x. AllByRecursion (HasTarget x) (holds x)) (λ a b a_in b_in. tt) more h legal
   where
-    more : (x : History) (c : Change) → IsLegal x → IsAccepted x c → AllByRecursion (HasTarget x) (holds x) → AllByRecursion (HasTarget (grown x (c ∷ []))) (holds (grown x (c ∷ [])))
+    more : (x : History) (c : Change) → IsLegal x → IsAccepted x c → AllByRecursion (HasTarget x) (holds x) → AllByRecursion (HasTarget (with_changes x (c ∷ []))) (holds (with_changes x (c ∷ [])))
     more x c was ok all =
-        let still = all_weaker (HasTarget x) (HasTarget (grown x (c ∷ []))) (λ found there. there_stays x (c ∷ []) found.1.target there) (holds x) all in
-        holds_by (AllByRecursion (HasTarget (grown x (c ∷ [])))) x c ok still
-        (λ day hold ranged allowed. all_append (HasTarget (grown x (c ∷ []))) (holds x) ((day, hold) ∷ []) still
+        let still = all_weaker (HasTarget x) (HasTarget (with_changes x (c ∷ []))) (λ found there. there_stays x (c ∷ []) found.1.target there) (holds x) all in
+        holds_by (AllByRecursion (HasTarget (with_changes x (c ∷ [])))) x c ok still
+        (λ day hold ranged allowed. all_append (HasTarget (with_changes x (c ∷ []))) (holds x) ((day, hold) ∷ []) still
         (there_stays x (c ∷ []) hold.target allowed.there, tt))

@@ -21,8 +21,8 @@ use Rattle.office_core.specs.declared.rule.Pattern.{Pattern}
 use Rattle.office_core.specs.declared.rule.Pattern.TheVariants as patterns
 use Rattle.office_core.specs.declared.rule.Rule.{Rule}
 use Rattle.office_rows.specs.Rows.{RuleRow, ClassRow, DepositRow, HoldRow}
-use Rattle.office_history.specs.Lists.{numbered, numbers, in_first_places}
-use Rattle.office_history.specs.Histories.{History, Target, OnDeposit, OnCollection, Deposit, policy, years_of, collection_in, deposits, deposit_numbered, gone, kept, holds, hold_numbered, released}
+use Rattle.office_history.specs.Lists.{item_numbered, numbers, in_first_places}
+use Rattle.office_history.specs.Histories.{History, Target, OnDeposit, OnCollection, Deposit, policy, years_of, collection_in, deposits, deposit_numbered, destruction_day, kept_numbers, holds, hold_numbered, release_day}
 use Rattle.office_history.specs.Acceptance.{IsThere, IsTarget}
 use Rattle.office_history.specs.Pictures.{effect_number, pattern_text, action_pattern_text, caller_row, rule_rows, years_number, class_row, class_in, row_of_class, deposit_row, row_of_deposit, file_row, held_deposit, held_collection, hold_row, row_of_hold, picture}
 use Rattle.office_history.specs.RowRanges.{AreNumbered, IsPatternText, IsActionText, IsOneTarget, IsCallerRow, IsRuleRow, IsClassRow, IsDepositRow, IsFileRow, IsHoldRow, AreInRange}
@@ -59,17 +59,17 @@ mapped_some f None r e = absurd cc
 mapped_some f (Some x) r e = (x, refl, (let same : f x ≡ r = cc in same))
 
 -- the items have the numbers from 1 on
-item_there : {A : Type 0} (xs : List A) (n : ℕ) → 1 ≤ n → n ≤ length xs → (x : A) × (numbered xs n ≡ Some x)
+item_there : {A : Type 0} (xs : List A) (n : ℕ) → 1 ≤ n → n ≤ length xs → (x : A) × (item_numbered xs n ≡ Some x)
 item_there xs zero low high = absurd (omega (arith, low))
 item_there xs (suc i) low high = there_is xs i (omega (arith, high))
 
 numbered_rows : {A R : Type 0} (xs : List A) (tell : ℕ → A → R) (number : R → ℤ) → ((n : ℕ) (x : A) → number (tell n x) ≡ pos n)
     → (len start : ℕ) → 1 ≤ start → start + len ≤ length xs + 1
-    → AreNumbered number start (filter_map (λ m. option_map (tell m) (numbered xs m)) (range_with_len start len))
+    → AreNumbered number start (filter_map (λ m. option_map (tell m) (item_numbered xs m)) (range_with_len start len))
 numbered_rows xs tell number is zero start low high = tt
 numbered_rows {A = A} {R = R} xs tell number is (suc len) start low high =
     let here = item_there xs start low (omega (arith, high)) in
-    subst (λ (o : Option A). AreNumbered number start (cons_option (option_map (tell start) o) (filter_map (λ m. option_map (tell m) (numbered xs m)) (range_with_len (start + 1) len))))
+    subst (λ (o : Option A). AreNumbered number start (cons_option (option_map (tell start) o) (filter_map (λ m. option_map (tell m) (item_numbered xs m)) (range_with_len (start + 1) len))))
     (sym here.1)
     (is start here.0, numbered_rows xs tell number is len (start + 1) (omega arith) (omega (arith, high)))
 
@@ -140,7 +140,7 @@ deposit_ranged h legal n row e =
       in_turn = closed;
       files = omega (arith, signed_arith);
       bytes = omega (arith, signed_arith);
-      gone = day_ranged (gone h n) (gone_days h legal n);
+      gone = day_ranged (destruction_day h n) (gone_days h legal n);
     })
 
 files_ranged : (n : ℕ) (files : List File) → AllByRecursion Fits files → AllByRecursion IsFileRow (map (file_row n) files)
@@ -175,7 +175,7 @@ hold_ranged h legal k row e =
       target = target_ranged h found.0.1.target there made.1.target;
       matter = made.1.matter;
       placed = day_number found.0.0 made.0;
-      released = day_ranged (released h k) (released_days h legal k);
+      released = day_ranged (release_day h k) (released_days h legal k);
     })
 
 -- ---- all rows
@@ -200,7 +200,7 @@ rows_in_range reads judges h version legal =
       collections = all_distinct IsName [] (filter_map collection_in h.changes) (named_collections h legal);
       deposits = all_told IsDepositRow (row_of_deposit h) (deposit_ranged h legal) (numbers (length (deposits h)));
       deposit_numbers = numbered_rows (deposits h) (deposit_row h) (λ (row : DepositRow). row.number) (λ n x. refl) (length (deposits h)) 1 (omega arith) (omega arith);
-      files = rows_ranged (files_of h) (bag_ranged reads judges h legal) (kept h);
+      files = rows_ranged (files_of h) (bag_ranged reads judges h legal) (kept_numbers h);
       holds = all_told IsHoldRow (row_of_hold h) (hold_ranged h legal) (numbers (length (holds h)));
       hold_numbers = numbered_rows (holds h) (hold_row h) (λ (row : HoldRow). row.number) (λ n x. refl) (length (holds h)) 1 (omega arith) (omega arith);
     }

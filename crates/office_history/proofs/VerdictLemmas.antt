@@ -16,8 +16,8 @@ use Rattle.office_core.specs.declared.retention.Due.{Due}
 use Rattle.office_core.specs.declared.retention.Due.TheVariants.{On, Never}
 use Rattle.office_core.specs.declared.rule.Decision.{Decision}
 use Rattle.office_core.specs.declared.request.Request.TheVariants.{Dispose}
-use Rattle.office_history.specs.Histories.{History, Deposit, deposit_numbered, gone, due, least_hold}
-use Rattle.office_history.specs.Refusals.{refusal_of, refused, deciding_rule_at, facts_of, asked_refusals, disposal_refusals, of_deposit, refusal}
+use Rattle.office_history.specs.Histories.{History, Deposit, deposit_numbered, destruction_day, due, least_hold}
+use Rattle.office_history.specs.Refusals.{refusal_of, refusal_in, deciding_rule_at, facts_of, asked_refusals, disposal_refusals, of_deposit, refusal}
 
 -- verdicts that each refuse, where they stand
 abbrev first_verdict : List (Option Verdict) → Option Refusal
@@ -25,42 +25,42 @@ first_verdict verdicts = refusal_of (unwrap_or (first_some verdicts) Allow)
 
 -- the rules refuse first, then that the deposit is gone
 by_rules : (decision : Option Decision) (day : Option Date) (verdicts : List (Option Verdict)) (refusals : List (Option Refusal)) → first_some refusals ≡ first_verdict verdicts
-    → first_some (refused (deciding.denial_verdict decision) ∷ refused (deciding.gone_verdict day) ∷ refusals) ≡ first_verdict (deciding.denial_verdict decision ∷ deciding.gone_verdict day ∷ verdicts)
+    → first_some (refusal_in (deciding.denial_verdict decision) ∷ refusal_in (deciding.gone_verdict day) ∷ refusals) ≡ first_verdict (deciding.denial_verdict decision ∷ deciding.gone_verdict day ∷ verdicts)
 by_rules None day verdicts refusals same = refl
 by_rules (Some decision) day verdicts refusals same = by_effect (allows decision.effect) day
   where
     by_effect : (t : Bool) (day : Option Date)
-        → first_some (refused (if t then None else Some (DeniedByRule decision.rule)) ∷ refused (deciding.gone_verdict day) ∷ refusals)
+        → first_some (refusal_in (if t then None else Some (DeniedByRule decision.rule)) ∷ refusal_in (deciding.gone_verdict day) ∷ refusals)
         ≡ first_verdict ((if t then None else Some (DeniedByRule decision.rule)) ∷ deciding.gone_verdict day ∷ verdicts)
     by_effect false day = refl
     by_effect true (Some on) = refl
     by_effect true None = same
 
 -- and of a disposal a hold, and the due day
-by_hold : (hold : Option ℕ) (day : Date) (due : Due) → first_some (refused (deciding.hold_verdict hold) ∷ refused (deciding.due_verdict day due) ∷ []) ≡ first_verdict (deciding.hold_verdict hold ∷ deciding.due_verdict day due ∷ [])
+by_hold : (hold : Option ℕ) (day : Date) (due : Due) → first_some (refusal_in (deciding.hold_verdict hold) ∷ refusal_in (deciding.due_verdict day due) ∷ []) ≡ first_verdict (deciding.hold_verdict hold ∷ deciding.due_verdict day due ∷ [])
 by_hold (Some k) day due = refl
 by_hold None day Never = refl
 by_hold None day (On date) = by_day (int_lt (epoch_day day) (epoch_day date))
   where
-    by_day : (t : Bool) → first_some (refused (answer_if t (NotDue date)) ∷ []) ≡ first_verdict (answer_if t (NotDue date) ∷ [])
+    by_day : (t : Bool) → first_some (refusal_in (answer_if t (NotDue date)) ∷ []) ≡ first_verdict (answer_if t (NotDue date) ∷ [])
     by_day true = refl
     by_day false = refl
 
 pub asked_verdict : (h : History) (day : Date) (caller : List ℕ) (action : Action) (n : ℕ) (deposit : Deposit)
     → first_some (asked_refusals h day caller action n deposit) ≡ refusal_of (verdict_of (facts_of h caller action n deposit) day)
 asked_verdict h day caller acts.Dispose n deposit =
-    by_rules (deciding_rule_at h caller acts.Dispose deposit) (gone h n) (deciding.hold_verdict (least_hold h n deposit) ∷ deciding.due_verdict day (due h deposit) ∷ []) (refused (deciding.hold_verdict (least_hold h n deposit)) ∷ refused (deciding.due_verdict day (due h deposit)) ∷ [])
+    by_rules (deciding_rule_at h caller acts.Dispose deposit) (destruction_day h n) (deciding.hold_verdict (least_hold h n deposit) ∷ deciding.due_verdict day (due h deposit) ∷ []) (refusal_in (deciding.hold_verdict (least_hold h n deposit)) ∷ refusal_in (deciding.due_verdict day (due h deposit)) ∷ [])
     (by_hold (least_hold h n deposit) day (due h deposit))
-asked_verdict h day caller acts.Class n deposit = by_rules (deciding_rule_at h caller acts.Class deposit) (gone h n) (None ∷ None ∷ []) [] refl
-asked_verdict h day caller acts.Collection n deposit = by_rules (deciding_rule_at h caller acts.Collection deposit) (gone h n) (None ∷ None ∷ []) [] refl
-asked_verdict h day caller acts.Deposit n deposit = by_rules (deciding_rule_at h caller acts.Deposit deposit) (gone h n) (None ∷ None ∷ []) [] refl
-asked_verdict h day caller acts.List n deposit = by_rules (deciding_rule_at h caller acts.List deposit) (gone h n) (None ∷ None ∷ []) [] refl
-asked_verdict h day caller acts.Record n deposit = by_rules (deciding_rule_at h caller acts.Record deposit) (gone h n) (None ∷ None ∷ []) [] refl
-asked_verdict h day caller acts.Holds n deposit = by_rules (deciding_rule_at h caller acts.Holds deposit) (gone h n) (None ∷ None ∷ []) [] refl
-asked_verdict h day caller acts.Download n deposit = by_rules (deciding_rule_at h caller acts.Download deposit) (gone h n) (None ∷ None ∷ []) [] refl
-asked_verdict h day caller acts.Audit n deposit = by_rules (deciding_rule_at h caller acts.Audit deposit) (gone h n) (None ∷ None ∷ []) [] refl
-asked_verdict h day caller acts.Hold n deposit = by_rules (deciding_rule_at h caller acts.Hold deposit) (gone h n) (None ∷ None ∷ []) [] refl
-asked_verdict h day caller acts.Release n deposit = by_rules (deciding_rule_at h caller acts.Release deposit) (gone h n) (None ∷ None ∷ []) [] refl
+asked_verdict h day caller acts.Class n deposit = by_rules (deciding_rule_at h caller acts.Class deposit) (destruction_day h n) (None ∷ None ∷ []) [] refl
+asked_verdict h day caller acts.Collection n deposit = by_rules (deciding_rule_at h caller acts.Collection deposit) (destruction_day h n) (None ∷ None ∷ []) [] refl
+asked_verdict h day caller acts.Deposit n deposit = by_rules (deciding_rule_at h caller acts.Deposit deposit) (destruction_day h n) (None ∷ None ∷ []) [] refl
+asked_verdict h day caller acts.List n deposit = by_rules (deciding_rule_at h caller acts.List deposit) (destruction_day h n) (None ∷ None ∷ []) [] refl
+asked_verdict h day caller acts.Record n deposit = by_rules (deciding_rule_at h caller acts.Record deposit) (destruction_day h n) (None ∷ None ∷ []) [] refl
+asked_verdict h day caller acts.Holds n deposit = by_rules (deciding_rule_at h caller acts.Holds deposit) (destruction_day h n) (None ∷ None ∷ []) [] refl
+asked_verdict h day caller acts.Download n deposit = by_rules (deciding_rule_at h caller acts.Download deposit) (destruction_day h n) (None ∷ None ∷ []) [] refl
+asked_verdict h day caller acts.Audit n deposit = by_rules (deciding_rule_at h caller acts.Audit deposit) (destruction_day h n) (None ∷ None ∷ []) [] refl
+asked_verdict h day caller acts.Hold n deposit = by_rules (deciding_rule_at h caller acts.Hold deposit) (destruction_day h n) (None ∷ None ∷ []) [] refl
+asked_verdict h day caller acts.Release n deposit = by_rules (deciding_rule_at h caller acts.Release deposit) (destruction_day h n) (None ∷ None ∷ []) [] refl
 
 pub disposal_verdict : (h : History) (day : Date) (caller : List ℕ) (n : ℕ) (found : Date × Deposit) → deposit_numbered h n ≡ Some found
     → refusal h day caller (Dispose n) ≡ refusal_of (verdict_of (facts_of h caller acts.Dispose n found.1) day)

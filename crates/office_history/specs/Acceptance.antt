@@ -7,7 +7,7 @@ use Rattle.office_core.specs.Names.{IsName, IsAccession, IsMatter}
 use Rattle.office_core.specs.Policies.{IsPolicy}
 use Rattle.office_core.specs.Requests.{IsYears}
 use Rattle.office_core.specs.declared.retention.Due.TheVariants.{On}
-use Rattle.office_history.specs.Histories.{History, Change, Installed, DefinedClass, DefinedCollection, Deposited, PlacedHold, ReleasedHold, Destroyed, Deposit, Hold, Target, OnDeposit, OnCollection, has_class, has_collection, deposits, deposit_numbered, accession_of, gone, due, holds, hold_numbered, released, live_holds}
+use Rattle.office_history.specs.Histories.{History, Change, Installed, DefinedClass, DefinedCollection, Deposited, PlacedHold, ReleasedHold, Destroyed, Deposit, Hold, Target, OnDeposit, OnCollection, has_class, has_collection, deposits, deposit_numbered, accession_of, destruction_day, due, holds, hold_numbered, release_day, live_holds}
 use Rattle.office_history.specs.Bags.{bag_of}
 
 -- ---- what a change says
@@ -64,14 +64,14 @@ pub record IsPlaceable (h : History) (hold : Hold) : Type 0 where
 pub record IsReleasable (h : History) (k : ℕ) : Type 0 where
   pub found : Date × Hold
   pub there : hold_numbered h k ≡ Some found
-  pub live : released h k ≡ None
+  pub live : release_day h k ≡ None
 
 -- a deposit that may be destroyed on that day: it is kept, no live hold covers it, and its due day has come
 pub record IsDisposable (h : History) (day : Date) (n : ℕ) : Type 0 where
   pub found : Date × Deposit
   pub date : Date
   pub there : deposit_numbered h n ≡ Some found
-  pub kept : gone h n ≡ None
+  pub kept : destruction_day h n ≡ None
   pub unheld : live_holds h n found.1 ≡ []
   pub due : due h found.1 ≡ On date
   pub has_come : epoch_day date ≤ℤ epoch_day day

@@ -19,7 +19,7 @@ use Rattle.office_core.specs.declared.refusal.Refusal.{Refusal}
 use Rattle.office_core.specs.declared.refusal.Refusal.TheVariants.{NoSuch, NoFile}
 use Rattle.office_core.specs.declared.request.Request.{Request}
 use Rattle.office_core.specs.declared.request.Request.TheVariants.{DefineClass, DefineCollection, Deposit as MakeDeposit, List as ListDeposits, Record, Holds, DownloadBag, DownloadFile, Audit, HoldDeposit, HoldCollection, Release, Dispose, DueList}
-use Rattle.office_history.specs.Histories.{History, Change, DefinedClass, DefinedCollection, Deposited, PlacedHold, ReleasedHold, Destroyed, Deposit, Hold, Target, OnDeposit, OnCollection, grown, has_collection, deposits, deposit_numbered, kept, due, holds, hold_numbered, live_holds}
+use Rattle.office_history.specs.Histories.{History, Change, DefinedClass, DefinedCollection, Deposited, PlacedHold, ReleasedHold, Destroyed, Deposit, Hold, Target, OnDeposit, OnCollection, with_changes, has_collection, deposits, deposit_numbered, kept_numbers, due, holds, hold_numbered, live_holds}
 use Rattle.office_history.specs.Bags.{bag_of, report_on}
 use Rattle.office_history.specs.Refusals.{denial_at, refusal}
 
@@ -60,11 +60,11 @@ listed_record h caller collection class n =
 
 -- the kept deposits, of the collection and class asked for, that the caller may list, ascending
 abbrev pub listed_records : History → List ℕ → Option (List ℕ) → Option (List ℕ) → List DepositRecord
-listed_records h caller collection class = filter_map (listed_record h caller collection class) (kept h)
+listed_records h caller collection class = filter_map (listed_record h caller collection class) (kept_numbers h)
 
 -- the deposits that the caller may destroy on that day, ascending: those whose disposal would be accepted
 abbrev pub due_list : History → Date → List ℕ → List ℕ
-due_list h day caller = filter (λ n. is_none (refusal h day caller (Dispose n))) (kept h)
+due_list h day caller = filter (λ n. is_none (refusal h day caller (Dispose n))) (kept_numbers h)
 
 abbrev pub scope_of : Target → Scope
 scope_of (OnDeposit n) = scopes.Deposit
@@ -82,16 +82,16 @@ told_holds h n deposit = filter_map (told_hold h) (live_holds h n deposit)
 
 -- ---- audit
 
-abbrev pub audited : Result Report (List ℕ) → AuditReport
-audited (Ok report) = Valid (record { version = report.version; files = report.files; bytes = report.bytes; manifests = report.manifests })
-audited (Err fault) = Invalid fault
+abbrev pub audit_report : Result Report (List ℕ) → AuditReport
+audit_report (Ok report) = Valid (record { version = report.version; files = report.files; bytes = report.bytes; manifests = report.manifests })
+audit_report (Err fault) = Invalid fault
 
 -- ---- the answer to a request that isn't refused
 
 -- of a deposit that is there
-abbrev pub told : Option (Date × Deposit) → (Date × Deposit → Answer) → Answer
-told None tell = answers.Refused (NoSuch subjects.Deposit)
-told (Some found) tell = tell found
+abbrev pub told_of : Option (Date × Deposit) → (Date × Deposit → Answer) → Answer
+told_of None tell = answers.Refused (NoSuch subjects.Deposit)
+told_of (Some found) tell = tell found
 
 abbrev pub file_answer : Option (List ℕ) → Answer
 file_answer None = answers.Refused NoFile
@@ -102,11 +102,11 @@ allowed_answer h day caller (DefineClass name years) = answers.Class name years
 allowed_answer h day caller (DefineCollection name) = answers.Collection name
 allowed_answer h day caller (MakeDeposit collection class accession closed bag) = answers.Deposited (length (deposits h) + 1)
 allowed_answer h day caller (ListDeposits collection class) = answers.List (listed_records h caller collection class)
-allowed_answer h day caller (Record n) = told (deposit_numbered h n) (λ found. answers.Record (record_of h n found))
-allowed_answer h day caller (Holds n) = told (deposit_numbered h n) (λ found. answers.Holds (told_holds h n found.1))
-allowed_answer h day caller (DownloadBag n) = told (deposit_numbered h n) (λ found. answers.Bag (set_text found.1.bag))
-allowed_answer h day caller (DownloadFile n path) = told (deposit_numbered h n) (λ found. file_answer (content_at found.1.bag path.now))
-allowed_answer h day caller (Audit n) = told (deposit_numbered h n) (λ found. answers.Audit n (audited (report_on found.1.bag)))
+allowed_answer h day caller (Record n) = told_of (deposit_numbered h n) (λ found. answers.Record (record_of h n found))
+allowed_answer h day caller (Holds n) = told_of (deposit_numbered h n) (λ found. answers.Holds (told_holds h n found.1))
+allowed_answer h day caller (DownloadBag n) = told_of (deposit_numbered h n) (λ found. answers.Bag (set_text found.1.bag))
+allowed_answer h day caller (DownloadFile n path) = told_of (deposit_numbered h n) (λ found. file_answer (content_at found.1.bag path.now))
+allowed_answer h day caller (Audit n) = told_of (deposit_numbered h n) (λ found. answers.Audit n (audit_report (report_on found.1.bag)))
 allowed_answer h day caller (HoldDeposit n matter) = answers.HoldPlaced (length (holds h) + 1)
 allowed_answer h day caller (HoldCollection name matter) = answers.HoldPlaced (length (holds h) + 1)
 allowed_answer h day caller (Release k) = answers.HoldReleased k day
@@ -149,4 +149,4 @@ abbrev pub change : History → Date → List ℕ → Request → List Change
 change h day caller request = changes_unless (refusal h day caller request) (allowed_change h day request)
 
 abbrev pub after : History → Date → List ℕ → Request → History
-after h day caller request = grown h (change h day caller request)
+after h day caller request = with_changes h (change h day caller request)

@@ -11,12 +11,12 @@ use Rattle.bag_check.specs.FaultTexts.{fault_text}
 use Rattle.bag_check.specs.Judging.{judge}
 
 -- the report on a bag, or the text of its first fault
-abbrev pub judged : Result Report Fault → Result Report (List ℕ)
-judged (Ok report) = Ok report
-judged (Err fault) = Err (fault_text fault)
+abbrev pub report_or_text : Result Report Fault → Result Report (List ℕ)
+report_or_text (Ok report) = Ok report
+report_or_text (Err fault) = Err (fault_text fault)
 
 abbrev pub report_on : List File → Result Report (List ℕ)
-report_on bag = judged (judge bag)
+report_on bag = report_or_text (judge bag)
 
 abbrev pub if_valid : List File → Result Report (List ℕ) → Result (List File) (List ℕ)
 if_valid bag (Ok report) = Ok bag

@@ -9,7 +9,7 @@ use Rattle.office_core.specs.Policies.{Contents}
 use Rattle.office_core.specs.RetentionReading.{due_of}
 use Rattle.office_core.specs.declared.retention.Due.{Due}
 use Rattle.office_core.specs.declared.retention.Due.TheVariants.{Never}
-use Rattle.office_history.specs.Lists.{first_said, last_said, numbered, numbers}
+use Rattle.office_history.specs.Lists.{first_said, last_said, item_numbered, numbers}
 
 -- ---- changes
 
@@ -47,8 +47,8 @@ pub record History : Type 0 where
   pub changes : List Change
 
 -- the history with further changes
-abbrev pub grown : History → List Change → History
-grown h more = record h { changes = h.changes ++ more }
+abbrev pub with_changes : History → List Change → History
+with_changes h more = record h { changes = h.changes ++ more }
 
 -- ---- the policy: the one that was installed last
 
@@ -94,7 +94,7 @@ abbrev pub deposits : History → List (Date × Deposit)
 deposits h = filter_map deposit_in h.changes
 
 abbrev pub deposit_numbered : History → ℕ → Option (Date × Deposit)
-deposit_numbered h n = numbered (deposits h) n
+deposit_numbered h n = item_numbered (deposits h) n
 
 -- the number of the deposit that has this accession, kept or destroyed
 abbrev pub accession_of : History → List ℕ → Option ℕ
@@ -105,12 +105,12 @@ destroyed_in n (Destroyed day number) = if number == n then Some day else None
 destroyed_in n _ = None
 
 -- the day on which the deposit was destroyed, if it was
-abbrev pub gone : History → ℕ → Option Date
-gone h n = first_said (destroyed_in n) h.changes
+abbrev pub destruction_day : History → ℕ → Option Date
+destruction_day h n = first_said (destroyed_in n) h.changes
 
 -- the numbers of the deposits that are kept, ascending
-abbrev pub kept : History → List ℕ
-kept h = filter (λ n. is_none (gone h n)) (numbers (length (deposits h)))
+abbrev pub kept_numbers : History → List ℕ
+kept_numbers h = filter (λ n. is_none (destruction_day h n)) (numbers (length (deposits h)))
 
 -- the day from which a deposit may be destroyed, by the years of its class as they stand
 abbrev pub due : History → Deposit → Due
@@ -126,19 +126,19 @@ abbrev pub holds : History → List (Date × Hold)
 holds h = filter_map hold_in h.changes
 
 abbrev pub hold_numbered : History → ℕ → Option (Date × Hold)
-hold_numbered h k = numbered (holds h) k
+hold_numbered h k = item_numbered (holds h) k
 
 abbrev pub released_in : ℕ → Change → Option Date
 released_in k (ReleasedHold day number) = if number == k then Some day else None
 released_in k _ = None
 
 -- the day on which the hold was released, if it was
-abbrev pub released : History → ℕ → Option Date
-released h k = first_said (released_in k) h.changes
+abbrev pub release_day : History → ℕ → Option Date
+release_day h k = first_said (released_in k) h.changes
 
 -- a hold is live until it is released
 abbrev pub is_live : History → ℕ → Bool
-is_live h k = is_none (released h k)
+is_live h k = is_none (release_day h k)
 
 -- a hold on a deposit covers it, and one on a collection each deposit of the collection, whichever came first
 abbrev pub reaches : Target → ℕ → Deposit → Bool

@@ -14,9 +14,9 @@ last_said says [] = None
 last_said says (x ∷ xs) = option_or (last_said says xs) (says x)
 
 -- the item of that number, from 1
-abbrev pub numbered : {A : Type 0} → List A → ℕ → Option A
-numbered xs zero = None
-numbered xs (suc place) = slice_get xs place
+abbrev pub item_numbered : {A : Type 0} → List A → ℕ → Option A
+item_numbered xs zero = None
+item_numbered xs (suc place) = slice_get xs place
 
 -- 1, 2, 3 and so on, so many
 abbrev pub numbers : ℕ → List ℕ

@@ -17,7 +17,7 @@ use Rattle.office_core.specs.declared.rule.Rule.{Rule}
 use Rattle.office_core.specs.declared.caller.Caller.{Caller}
 use Rattle.office_rows.specs.Rows.{OfficeRow, CallerRow, RuleRow, ClassRow, DepositRow, FileRow, HoldRow, Tables}
 use Rattle.office_history.specs.Lists.{numbers, in_first_places}
-use Rattle.office_history.specs.Histories.{History, Change, DefinedClass, Deposit, Hold, Target, OnDeposit, OnCollection, policy, years_of, collection_in, deposits, deposit_numbered, gone, kept, holds, hold_numbered, released}
+use Rattle.office_history.specs.Histories.{History, Change, DefinedClass, Deposit, Hold, Target, OnDeposit, OnCollection, policy, years_of, collection_in, deposits, deposit_numbered, destruction_day, kept_numbers, holds, hold_numbered, release_day}
 use Rattle.office_history.specs.Stocks.{files_of}
 
 -- ---- one row each
@@ -72,7 +72,7 @@ deposit_row h n found = record {
   deposited = epoch_day found.0;
   files = pos (payload_files found.1.bag);
   bytes = pos (payload_bytes found.1.bag);
-  gone = option_map epoch_day (gone h n);
+  gone = option_map epoch_day (destruction_day h n);
 }
 
 abbrev pub file_row : ℕ → File → FileRow
@@ -93,7 +93,7 @@ hold_row h k found = record {
   collection = held_collection found.1.target;
   matter = found.1.matter;
   placed = epoch_day found.0;
-  released = option_map epoch_day (released h k);
+  released = option_map epoch_day (release_day h k);
 }
 
 -- ---- all rows
@@ -122,7 +122,7 @@ deposit_rows h = filter_map (row_of_deposit h) (numbers (length (deposits h)))
 
 -- the files of the deposits that are kept
 abbrev pub file_rows : History → List FileRow
-file_rows h = flat_map (λ n. map (file_row n) (files_of h n)) (kept h)
+file_rows h = flat_map (λ n. map (file_row n) (files_of h n)) (kept_numbers h)
 
 abbrev pub row_of_hold : History → ℕ → Option HoldRow
 row_of_hold h k = option_map (hold_row h k) (hold_numbered h k)

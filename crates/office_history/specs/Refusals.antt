@@ -21,7 +21,7 @@ use Rattle.office_core.specs.declared.refusal.Refusal.{Refusal}
 use Rattle.office_core.specs.declared.refusal.Refusal.TheVariants.{NoSuch, DeniedByRule, DeniedByDefault, Gone, Taken, ClosedAhead, BadBag, Held, NotDue, Released, Full, NoFile}
 use Rattle.office_core.specs.declared.request.Request.{Request}
 use Rattle.office_core.specs.declared.request.Request.TheVariants.{DefineClass, DefineCollection, Deposit as MakeDeposit, List as ListDeposits, Record, Holds, DownloadBag, DownloadFile, Audit, HoldDeposit, HoldCollection, Release, Dispose, DueList}
-use Rattle.office_history.specs.Histories.{History, Deposit, Hold, Target, OnDeposit, OnCollection, policy, has_class, has_collection, deposits, deposit_numbered, accession_of, gone, due, holds, hold_numbered, released, least_hold}
+use Rattle.office_history.specs.Histories.{History, Deposit, Hold, Target, OnDeposit, OnCollection, policy, has_class, has_collection, deposits, deposit_numbered, accession_of, destruction_day, due, holds, hold_numbered, release_day, least_hold}
 use Rattle.office_history.specs.Bags.{bag_of}
 
 -- ---- the verdicts of `office_core`, as refusals
@@ -36,8 +36,8 @@ refusal_of verdicts.Permanent = Some (NotDue Never)
 refusal_of verdicts.Allow = None
 
 -- of a verdict that stands
-abbrev pub refused : Option Verdict → Option Refusal
-refused verdict = option_and_then refusal_of verdict
+abbrev pub refusal_in : Option Verdict → Option Refusal
+refusal_in verdict = option_and_then refusal_of verdict
 
 -- the rule that decides, by the policy that was installed last
 abbrev pub deciding_rule : History → List ℕ → Action → Option (List ℕ) → Option (List ℕ) → Option Decision
@@ -53,7 +53,7 @@ abbrev pub facts_of : History → List ℕ → Action → ℕ → Deposit → Fa
 facts_of h caller action n deposit = record {
   action = action;
   decision = deciding_rule_at h caller action deposit;
-  gone = gone h n;
+  gone = destruction_day h n;
   hold = least_hold h n deposit;
   due = due h deposit;
 }
@@ -62,7 +62,7 @@ facts_of h caller action n deposit = record {
 
 -- E2: the first rule that matches denies, or none matches
 abbrev pub denial : History → List ℕ → Action → Option (List ℕ) → Option (List ℕ) → Option Refusal
-denial h caller action collection class = refused (deciding.denial_verdict (deciding_rule h caller action collection class))
+denial h caller action collection class = refusal_in (deciding.denial_verdict (deciding_rule h caller action collection class))
 
 -- asked of a deposit: of its collection and its class
 abbrev pub denial_at : History → List ℕ → Action → Deposit → Option Refusal
@@ -76,16 +76,16 @@ abbrev pub no_such_collection : History → List ℕ → Option Refusal
 no_such_collection h name = answer_if (not (has_collection h name)) (NoSuch subjects.Collection)
 
 -- E3: the deposit was destroyed
-abbrev pub is_gone : History → ℕ → Option Refusal
-is_gone h n = refused (deciding.gone_verdict (gone h n))
+abbrev pub gone_refusal : History → ℕ → Option Refusal
+gone_refusal h n = refusal_in (deciding.gone_verdict (destruction_day h n))
 
 -- E4: a deposit, kept or destroyed, has the accession
-abbrev pub taken : History → List ℕ → Option Refusal
-taken h accession = option_map Taken (accession_of h accession)
+abbrev pub taken_refusal : History → List ℕ → Option Refusal
+taken_refusal h accession = option_map Taken (accession_of h accession)
 
 -- E5: the closing day comes after the day of the request
-abbrev pub closed_ahead : Date → Date → Option Refusal
-closed_ahead day closed = answer_if (int_lt (epoch_day day) (epoch_day closed)) ClosedAhead
+abbrev pub closed_ahead_refusal : Date → Date → Option Refusal
+closed_ahead_refusal day closed = answer_if (int_lt (epoch_day day) (epoch_day closed)) ClosedAhead
 
 -- E6: the text is no transfer form, or that of a bag that isn't valid
 abbrev pub bad_as : Result (List File) (List ℕ) → Option Refusal
@@ -96,16 +96,16 @@ abbrev pub bad_bag : List ℕ → Option Refusal
 bad_bag text = bad_as (bag_of text)
 
 -- E7: a live hold covers the deposit; the least number is named
-abbrev pub held : History → ℕ → Deposit → Option Refusal
-held h n deposit = refused (deciding.hold_verdict (least_hold h n deposit))
+abbrev pub held_refusal : History → ℕ → Deposit → Option Refusal
+held_refusal h n deposit = refusal_in (deciding.hold_verdict (least_hold h n deposit))
 
 -- E8: the day comes before the due day, or there is none
-abbrev pub not_due : History → Date → Deposit → Option Refusal
-not_due h day deposit = refused (deciding.due_verdict day (due h deposit))
+abbrev pub not_due_refusal : History → Date → Deposit → Option Refusal
+not_due_refusal h day deposit = refusal_in (deciding.due_verdict day (due h deposit))
 
 -- E9: the hold was released
-abbrev pub is_released : History → ℕ → Option Refusal
-is_released h k = option_map Released (released h k)
+abbrev pub released_refusal : History → ℕ → Option Refusal
+released_refusal h k = option_map Released (release_day h k)
 
 -- E10: as many deposits, or holds, were accepted as the office takes
 abbrev pub full_of_deposits : History → Option Refusal
@@ -141,12 +141,12 @@ release_denial h caller (OnCollection name) = denial h caller acts.Release (Some
 
 -- what is asked of a deposit that is there: E2 and E3
 abbrev pub kept_refusals : History → List ℕ → Action → ℕ → Deposit → List (Option Refusal)
-kept_refusals h caller action n d = denial_at h caller action d ∷ is_gone h n ∷ []
+kept_refusals h caller action n d = denial_at h caller action d ∷ gone_refusal h n ∷ []
 
 -- its disposal: E2, E3, E7 and E8
 abbrev pub disposal_refusals : History → Date → List ℕ → ℕ → Deposit → List (Option Refusal)
 disposal_refusals h day caller n d =
-    denial_at h caller acts.Dispose d ∷ is_gone h n ∷ held h n d ∷ not_due h day d ∷ []
+    denial_at h caller acts.Dispose d ∷ gone_refusal h n ∷ held_refusal h n d ∷ not_due_refusal h day d ∷ []
 
 -- either of the two, by the action
 abbrev pub asked_refusals : History → Date → List ℕ → Action → ℕ → Deposit → List (Option Refusal)
@@ -154,11 +154,11 @@ asked_refusals h day caller action n d = if is_dispose action then disposal_refu
 
 -- a file of its bag: E2, E3 and E13
 abbrev pub file_refusals : History → List ℕ → ℕ → List ℕ → Deposit → List (Option Refusal)
-file_refusals h caller n path d = denial_at h caller acts.Download d ∷ is_gone h n ∷ no_file d path ∷ []
+file_refusals h caller n path d = denial_at h caller acts.Download d ∷ gone_refusal h n ∷ no_file d path ∷ []
 
 -- a hold of it: E2, E3 and E10
 abbrev pub hold_refusals : History → List ℕ → ℕ → Deposit → List (Option Refusal)
-hold_refusals h caller n d = denial_at h caller acts.Hold d ∷ is_gone h n ∷ full_of_holds h ∷ []
+hold_refusals h caller n d = denial_at h caller acts.Hold d ∷ gone_refusal h n ∷ full_of_holds h ∷ []
 
 -- a hold of a collection: E1, E2 and E10
 abbrev pub collection_hold_refusals : History → List ℕ → List ℕ → List (Option Refusal)
@@ -167,7 +167,7 @@ collection_hold_refusals h caller name =
 
 -- a release: E2 and E9
 abbrev pub release_refusals : History → List ℕ → ℕ → Hold → List (Option Refusal)
-release_refusals h caller k hold = release_denial h caller hold.target ∷ is_released h k ∷ []
+release_refusals h caller k hold = release_denial h caller hold.target ∷ released_refusal h k ∷ []
 
 -- where a bag is deposited: E1 and E2
 abbrev pub place_refusals : History → List ℕ → List ℕ → List ℕ → List (Option Refusal)
@@ -180,7 +180,7 @@ place_refusals h caller collection class =
 -- and what is deposited: E4, E5, E6 and E10
 abbrev pub bag_refusals : History → Date → List ℕ → Date → List ℕ → List (Option Refusal)
 bag_refusals h day accession closed bag =
-    taken h accession ∷ closed_ahead day closed ∷ bad_bag bag ∷ full_of_deposits h ∷ []
+    taken_refusal h accession ∷ closed_ahead_refusal day closed ∷ bad_bag bag ∷ full_of_deposits h ∷ []
 
 -- all refusals of a request
 abbrev pub refusals : History → Date → List ℕ → Request → List (Option Refusal)

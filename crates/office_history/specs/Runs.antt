@@ -13,7 +13,7 @@ use Rattle.office_core.specs.declared.answer.Answer.{Answer}
 use Rattle.office_core.specs.declared.answer.Answer.TheVariants.{Refused}
 use Rattle.office_core.specs.declared.refusal.Refusal.TheVariants.{Memory, Store}
 use Rattle.office_core.specs.declared.request.Request.{Request}
-use Rattle.office_history.specs.Histories.{History, Change, Installed, grown, deposits, holds}
+use Rattle.office_history.specs.Histories.{History, Change, Installed, with_changes, deposits, holds}
 use Rattle.office_history.specs.Answers.{answer, after}
 
 -- a day, a caller's name, and what the caller asks
@@ -49,11 +49,11 @@ Run h _ _ next = ⊥
 
 -- One history is later than another: it is the other, grown by some changes.
 abbrev pub IsLater : History → History → Type 0
-IsLater h next = (more : List Change) × (next ≡ grown h more)
+IsLater h next = (more : List Change) × (next ≡ with_changes h more)
 
 -- the history of a new office
-abbrev pub created : ℕ → ℕ → History
-created max_deposits max_holds =
+abbrev pub new_history : ℕ → ℕ → History
+new_history max_deposits max_holds =
     record { max_deposits = max_deposits; max_holds = max_holds; changes = [] }
 
 -- a limit of an office is from 1 to 1,000,000
@@ -62,8 +62,8 @@ IsLimit most = (1 ≤ most) × (most ≤ 1000000)
 
 -- A legal history is made from that of a new office by installs of policies and by requests, all in range.
 pub data IsLegal : History → Type 0 where
-  new : (max_deposits max_holds : ℕ) → IsLimit max_deposits → IsLimit max_holds → IsLegal (created max_deposits max_holds)
-  install : (h : History) (policy : Contents) → IsPolicy policy → IsLegal h → IsLegal (grown h (Installed policy ∷ []))
+  new : (max_deposits max_holds : ℕ) → IsLimit max_deposits → IsLimit max_holds → IsLegal (new_history max_deposits max_holds)
+  install : (h : History) (policy : Contents) → IsPolicy policy → IsLegal h → IsLegal (with_changes h (Installed policy ∷ []))
   serve : (h : History) (day : Date) (caller : List ℕ) (request : Request)
       → IsDay day → IsRequest request → IsLegal h → IsLegal (after h day caller request)
 

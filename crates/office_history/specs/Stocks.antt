@@ -4,7 +4,7 @@ use Rattle.std.specs.List.{flat_map}
 use Rattle.std.specs.Option.{option_map_or}
 use Rattle.jiff.specs.Types.{Date}
 use Rattle.bag_text.specs.TransferForm.{File}
-use Rattle.office_history.specs.Histories.{History, Deposit, deposit_numbered, gone, kept}
+use Rattle.office_history.specs.Histories.{History, Deposit, deposit_numbered, destruction_day, kept_numbers}
 use Rattle.office_history.specs.Lists.{IsIn, in_first_places}
 
 -- the files of a deposit, none where there is no such deposit
@@ -13,7 +13,7 @@ files_of h n = option_map_or (λ found. found.1.bag) (deposit_numbered h n) []
 
 -- the byte strings that stand at some path of some kept bag
 abbrev pub contents : History → List (List ℕ)
-contents h = in_first_places (map (λ file. file.content) (flat_map (files_of h) (kept h)))
+contents h = in_first_places (map (λ file. file.content) (flat_map (files_of h) (kept_numbers h)))
 
 -- the content of a file that stands in the bag of a kept deposit
 pub record IsKept (h : History) (content : List ℕ) : Type 0 where
@@ -21,7 +21,7 @@ pub record IsKept (h : History) (content : List ℕ) : Type 0 where
   pub found : Date × Deposit
   pub file : File
   pub there : deposit_numbered h number ≡ Some found
-  pub kept : gone h number ≡ None
+  pub kept : destruction_day h number ≡ None
   pub has_file : IsIn file found.1.bag
   pub has_content : file.content ≡ content
 

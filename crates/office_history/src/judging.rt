@@ -6,7 +6,7 @@ ghost use Rattle.bag_text.specs.FaultTexts.{set_fault_text};
 ghost use Rattle.bag_text.specs.TransferForm.{IsBag, set_text};
 ghost use Rattle.bag_text.specs.TransferReading.{set_of};
 ghost use Rattle.bag_check.specs.Answers.{named_fault, printed_fault};
-ghost use Rattle.office_history.specs.Answers.{audited};
+ghost use Rattle.office_history.specs.Answers.{audit_report};
 ghost use Rattle.office_history.specs.Bags as bags;
 ghost use Rattle.office_history.specs.Bags.{bag_of};
 ghost use Rattle.office_history.specs.PlainBags.{Judged};
@@ -57,7 +57,7 @@ pub fn report_on(
 
 /// What an audit says of a bag.
 pub fn audit(alloc: Global, bag: &BagSet<'_>) -> Result<AuditReport, AllocError>
-    ensures { IfOk result (λ report. report ≡ audited (bags.report_on bag.now)) }
+    ensures { IfOk result (λ report. report ≡ audit_report (bags.report_on bag.now)) }
 {
     match report_on(alloc, bag)? {
         Ok(report) => Ok(AuditReport::Valid(report)),

@@ -29,7 +29,7 @@ ghost use Rattle.office_core.specs.declared.refusal.Refusal.TheVariants.{Held};
 ghost use Rattle.office_core.specs.declared.request.Request.{Request};
 ghost use Rattle.office_core.specs.declared.request.Request.TheVariants.{DefineClass, Deposit as MakeDeposit, DownloadBag, DownloadFile, Audit, Holds, HoldCollection, Release, Dispose};
 ghost use Rattle.office_history.specs.Bags.{bag_of};
-ghost use Rattle.office_history.specs.Histories.{History, Change, Installed, ReleasedHold, Destroyed, Deposit, Hold, OnCollection, grown, has_class, has_collection, deposit_numbered, hold_numbered, released, covers, live_holds, due};
+ghost use Rattle.office_history.specs.Histories.{History, Change, Installed, ReleasedHold, Destroyed, Deposit, Hold, OnCollection, with_changes, has_class, has_collection, deposit_numbered, hold_numbered, release_day, covers, live_holds, due};
 ghost use Rattle.office_history.specs.Refusals.{asked_refusals, facts_of, refusal, refusal_of};
 ghost use Rattle.office_history.specs.Answers.{answer, due_list, change, after};
 ghost use Rattle.office_history.specs.Pictures.{picture};
@@ -131,7 +131,7 @@ pub fn runs_only_add()
     ensures runs { (h next : History) (items : List Item) (given : List Answer)
         → Run h items given next → IsLater h next }
     ensures installs { (h : History) (policy : Contents)
-        → IsLater h (grown h (Installed policy ∷ [])) }
+        → IsLater h (with_changes h (Installed policy ∷ [])) }
     ensures further { (h mid next : History)
         → IsLater h mid → IsLater mid next → IsLater h next }
 {}
@@ -244,17 +244,17 @@ pub fn released_holds_are_not_live()
     ensures answered { (h next : History) (k number : ℕ) (day on : Date) (caller : List ℕ)
         → answer h day caller (Release k) ≡ answers.HoldReleased number on
         → IsLater (after h day caller (Release k)) next
-        → released next k ≡ Some day }
+        → release_day next k ≡ Some day }
     ensures listed { (h next : History) (k n place : ℕ) (day : Date) (deposit : Deposit)
-        → released h k ≡ Some day → IsLater h next
+        → release_day h k ≡ Some day → IsLater h next
         → slice_get (live_holds next n deposit) place ≢ Some k }
     ensures told { (h next : History) (k n place : ℕ) (day later : Date) (caller : List ℕ)
         (given : List LiveHold) (hold : LiveHold)
-        → released h k ≡ Some day → IsLater h next
+        → release_day h k ≡ Some day → IsLater h next
         → answer next later caller (Holds n) ≡ answers.Holds given
         → slice_get given place ≡ Some hold → hold.number ≢ k }
     ensures refuses { (h next : History) (k n : ℕ) (day later : Date) (caller : List ℕ)
-        → released h k ≡ Some day → IsLater h next
+        → release_day h k ≡ Some day → IsLater h next
         → refusal next later caller (Dispose n) ≢ Some (Held k) }
 {}
 
@@ -310,8 +310,8 @@ pub fn one_picture()
     ensures installs { (h k : History) (version : ℤ)
         → IsLegal h → IsLegal k → picture version h ≡ picture version k
         → (policy : Contents)
-        → picture version (grown h (Installed policy ∷ []))
-        ≡ picture version (grown k (Installed policy ∷ [])) }
+        → picture version (with_changes h (Installed policy ∷ []))
+        ≡ picture version (with_changes k (Installed policy ∷ [])) }
     ensures stocks { (h k : History) (version : ℤ)
         → IsLegal h → IsLegal k → picture version h ≡ picture version k
         → stock h ≡ stock k }

@@ -7,13 +7,13 @@ ghost use Rattle.office_core.specs.declared.refusal.Subject.TheVariants as subje
 ghost use Rattle.office_core.specs.declared.refusal.Refusal.TheVariants.{NoSuch};
 ghost use Rattle.office_history.specs.Histories.{deposit_numbered};
 ghost use Rattle.office_history.specs.Bags.{report_on};
-ghost use Rattle.office_history.specs.Answers.{record_of, is_asked, is_listed, listed_record, listed_records, due_list, scope_of, live_hold, told_hold, told_holds, audited, told, file_answer, allowed_answer};
+ghost use Rattle.office_history.specs.Answers.{record_of, is_asked, is_listed, listed_record, listed_records, due_list, scope_of, live_hold, told_hold, told_holds, audit_report, told_of, file_answer, allowed_answer};
 
 use crate::plain::change::{Deposit, Hold, Target};
 use crate::plain::history::Office;
 use crate::plain::judging::audit;
 use crate::plain::reading::{
-    deposit_count, deposit_numbered, due, hold_count, hold_numbered, kept, live_holds,
+    deposit_count, deposit_numbered, due, hold_count, hold_numbered, kept_numbers, live_holds,
 };
 use crate::plain::refusals::dispose_refusal;
 use crate::plain::refusing::denial_at;
@@ -104,7 +104,7 @@ fn listed_records(
 ) -> Result<Vec<DepositRecord>, AllocError>
     ensures { IfOk result (λ told. told.items ≡ listed_records office.now caller.now collection.now class.now) }
 {
-    let numbers = kept(alloc, office)?;
+    let numbers = kept_numbers(alloc, office)?;
     let mut records = Vec::new(alloc);
     for number in &numbers {
         if let Some(record) = listed_record(alloc, office, caller, collection, class, *number)? {
@@ -118,7 +118,7 @@ fn listed_records(
 fn due_list(alloc: Global, office: &Office, day: Day, caller: &str) -> Result<Vec<u32>, AllocError>
     ensures { IfOk result (λ numbers. numbers.items ≡ due_list office.now day caller.now) }
 {
-    let numbers = kept(alloc, office)?;
+    let numbers = kept_numbers(alloc, office)?;
     let mut due = Vec::new(alloc);
     for number in &numbers {
         if dispose_refusal(alloc, office, day, caller, *number)?.is_none() {
@@ -195,7 +195,7 @@ fn no_deposit() -> Answer
 }
 
 fn record_answer(alloc: Global, office: &Office, number: u32) -> Result<Answer, AllocError>
-    ensures { IfOk result (λ answer. answer ≡ told (deposit_numbered office.now number) (λ found. answers.Record (record_of office.now number found))) }
+    ensures { IfOk result (λ answer. answer ≡ told_of (deposit_numbered office.now number) (λ found. answers.Record (record_of office.now number found))) }
 {
     match deposit_numbered(office, number) {
         Some((day, deposit)) => Ok(Answer::Record(record_of(alloc, office, number, day, deposit)?)),
@@ -204,7 +204,7 @@ fn record_answer(alloc: Global, office: &Office, number: u32) -> Result<Answer, 
 }
 
 fn holds_answer(alloc: Global, office: &Office, number: u32) -> Result<Answer, AllocError>
-    ensures { IfOk result (λ answer. answer ≡ told (deposit_numbered office.now number) (λ found. answers.Holds (told_holds office.now number found.1))) }
+    ensures { IfOk result (λ answer. answer ≡ told_of (deposit_numbered office.now number) (λ found. answers.Holds (told_holds office.now number found.1))) }
 {
     match deposit_numbered(office, number) {
         Some((_, deposit)) => Ok(Answer::Holds {
@@ -215,7 +215,7 @@ fn holds_answer(alloc: Global, office: &Office, number: u32) -> Result<Answer, A
 }
 
 fn bag_answer(alloc: Global, office: &Office, number: u32) -> Result<Answer, AllocError>
-    ensures { IfOk result (λ answer. answer ≡ told (deposit_numbered office.now number) (λ found. answers.Bag (set_text found.1.bag))) }
+    ensures { IfOk result (λ answer. answer ≡ told_of (deposit_numbered office.now number) (λ found. answers.Bag (set_text found.1.bag))) }
 {
     match deposit_numbered(office, number) {
         Some((_, deposit)) => Ok(Answer::Bag {
@@ -231,7 +231,7 @@ fn path_answer(
     number: u32,
     path: &[u8],
 ) -> Result<Answer, AllocError>
-    ensures { IfOk result (λ answer. answer ≡ told (deposit_numbered office.now number) (λ found. file_answer (content_at found.1.bag path.now))) }
+    ensures { IfOk result (λ answer. answer ≡ told_of (deposit_numbered office.now number) (λ found. file_answer (content_at found.1.bag path.now))) }
 {
     match deposit_numbered(office, number) {
         Some((_, deposit)) => file_answer(alloc, deposit.bag.content(alloc, path)?),
@@ -240,7 +240,7 @@ fn path_answer(
 }
 
 fn audit_answer(alloc: Global, office: &Office, number: u32) -> Result<Answer, AllocError>
-    ensures { IfOk result (λ answer. answer ≡ told (deposit_numbered office.now number) (λ found. answers.Audit number (audited (report_on found.1.bag)))) }
+    ensures { IfOk result (λ answer. answer ≡ told_of (deposit_numbered office.now number) (λ found. answers.Audit number (audit_report (report_on found.1.bag)))) }
 {
     match deposit_numbered(office, number) {
         Some((_, deposit)) => Ok(Answer::Audit {

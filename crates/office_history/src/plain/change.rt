@@ -81,7 +81,7 @@ impl Model for Change {
 
 impl Change {
     /// The policy that was installed.
-    pub fn installed(&self) -> Option<&Policy>
+    pub fn installed_policy(&self) -> Option<&Policy>
         ensures { option_copied result ≡ installed_in self.now }
     {
         match &self.kind {
@@ -131,7 +131,7 @@ impl Change {
     }
 
     /// The day, where the hold of that number was released.
-    pub fn released(&self, hold: u32) -> Option<Day>
+    pub fn release_day(&self, hold: u32) -> Option<Day>
         ensures { result ≡ released_in hold self.now }
     {
         match &self.kind {
@@ -141,7 +141,7 @@ impl Change {
     }
 
     /// The day, where the deposit of that number was destroyed.
-    pub fn destroyed(&self, deposit: u32) -> Option<Day>
+    pub fn destruction_day(&self, deposit: u32) -> Option<Day>
         ensures { result ≡ destroyed_in deposit self.now }
     {
         match &self.kind {

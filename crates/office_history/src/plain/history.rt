@@ -1,8 +1,8 @@
 //! The plain office: its limits and the changes that it accepted.
 
 ghost use Rattle.std.specs.Prelude.{◌≡◌, ◌≤◌, length, [], ◌∷◌, IfErr, IfOk, OnOk, OnErr};
-ghost use Rattle.office_history.specs.Histories.{grown, Installed};
-ghost use Rattle.office_history.specs.Runs.{created, IsLegal, IsWithin};
+ghost use Rattle.office_history.specs.Histories.{with_changes, Installed};
+ghost use Rattle.office_history.specs.Runs.{new_history, IsLegal, IsWithin};
 ghost use Rattle.office_history.specs.PlainOffices.{HasRoom};
 ghost use Rattle.office_history.specs.PlainChanges.{change_seen};
 
@@ -33,7 +33,7 @@ impl Model for Office {
 impl Office {
     /// A new office.
     pub fn create(alloc: Global, limits: Limits) -> Office
-        ensures created { result ≡ created limits.deposits limits.holds }
+        ensures created { result ≡ new_history limits.deposits limits.holds }
         ensures legal { IsLegal result }
     {
         Office {
@@ -45,7 +45,7 @@ impl Office {
     /// Installs a policy in the place of the one before. An `Err` leaves the office as it was. A
     /// legal history stays legal.
     pub fn install(&mut self, policy: Policy) -> Result<(), AllocError>
-        ensures installed { OnOk result (self.new ≡ grown self.old (Installed policy ∷ [])) }
+        ensures installed { OnOk result (self.new ≡ with_changes self.old (Installed policy ∷ [])) }
         ensures failed { OnErr result (self.new ≡ self.old) }
         ensures legal { IsLegal self.old → IsLegal self.new }
     {
@@ -74,7 +74,7 @@ pub fn limits_of(office: &Office) -> Limits
 /// Accepts a change.
 pub fn accept(office: &mut Office, kind: Kind) -> Result<(), AllocError>
     requires { HasRoom office.old (change_seen kind) }
-    ensures accepted { OnOk result (office.new ≡ grown office.old (change_seen kind ∷ [])) }
+    ensures accepted { OnOk result (office.new ≡ with_changes office.old (change_seen kind ∷ [])) }
     ensures failed { OnErr result (office.new ≡ office.old) }
 {
     office.changes.push(Change { kind })?;

@@ -2,7 +2,7 @@
 
 ghost use Rattle.std.specs.Prelude.{◌≡◌, IfOk};
 ghost use Rattle.office_history.specs.Bags.{bag_of, report_on};
-ghost use Rattle.office_history.specs.Answers.{audited};
+ghost use Rattle.office_history.specs.Answers.{audit_report};
 
 use crate::judging::{self, valid_bag};
 use crate::plain::stored::StoredBag;
@@ -22,7 +22,7 @@ pub fn bag_of(alloc: Global, text: &[u8]) -> Result<Result<StoredBag, FaultText>
 
 /// What an audit says of a bag.
 pub fn audit(alloc: Global, bag: &StoredBag) -> Result<AuditReport, AllocError>
-    ensures { IfOk result (λ report. report ≡ audited (report_on bag.now)) }
+    ensures { IfOk result (λ report. report ≡ audit_report (report_on bag.now)) }
 {
     let bag = bag.read(alloc)?;
     judging::audit(alloc, &bag)

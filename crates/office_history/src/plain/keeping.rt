@@ -4,12 +4,12 @@ ghost use Rattle.std.specs.Prelude.{◌≡◌, ◌++◌, ◌∷◌, ℕ, List, m
 ghost use Rattle.std.specs.List.{list_any, flat_map};
 ghost use Rattle.bag_text.specs.TransferReading as reading;
 ghost use Rattle.office_history.specs.Lists.{distinct_after, in_first_places};
-ghost use Rattle.office_history.specs.Histories.{kept};
+ghost use Rattle.office_history.specs.Histories.{kept_numbers};
 ghost use Rattle.office_history.specs.Stocks.{files_of, contents, stock};
 ghost use Rattle.office_history.specs.PlainStocks.{texts, contents_of, stock_seen};
 
 use crate::plain::history::Office;
-use crate::plain::reading::{deposit_numbered, kept};
+use crate::plain::reading::{deposit_numbered, kept_numbers};
 use crate::plain_stock::Stock;
 use std::alloc::{AllocError, Global};
 
@@ -44,9 +44,9 @@ fn push_deposit<'a>(
 
 /// The contents of all files of the kept bags.
 fn all_contents(alloc: Global, office: &Office) -> Result<Vec<&[u8]>, AllocError>
-    ensures { IfOk result (λ all. texts all.items ≡ contents_of (flat_map (files_of office.now) (kept office.now))) }
+    ensures { IfOk result (λ all. texts all.items ≡ contents_of (flat_map (files_of office.now) (kept_numbers office.now))) }
 {
-    let numbers = kept(alloc, office)?;
+    let numbers = kept_numbers(alloc, office)?;
     let mut all = Vec::new(alloc);
     for number in &numbers {
         push_deposit(alloc, office, *number, &mut all)?;

@@ -2,7 +2,7 @@
 
 ghost use Rattle.std.specs.Prelude.{◌≡◌, ◌≤◌, length, option_copied, is_none, ◌&&◌, ◌+◌, IfOk};
 ghost use Rattle.office_history.specs.Lists.{last_said};
-ghost use Rattle.office_history.specs.Histories.{installed_in, policy, years_of, has_class, has_collection, deposits, deposit_numbered, accession_of, gone, kept, due, holds, hold_numbered, released, is_live, reaches, covers, live_holds};
+ghost use Rattle.office_history.specs.Histories.{installed_in, policy, years_of, has_class, has_collection, deposits, deposit_numbered, accession_of, destruction_day, kept_numbers, due, holds, hold_numbered, release_day, is_live, reaches, covers, live_holds};
 ghost use Rattle.office_history.specs.PlainChanges.{borrowed};
 
 use crate::plain::change::{Deposit, Hold, Target};
@@ -11,13 +11,13 @@ use office_core::{Day, Due, Policy, Years};
 use std::alloc::{AllocError, Global};
 
 /// The policy that was installed last.
-pub fn installed(office: &Office) -> Option<&Policy>
+pub fn installed_policy(office: &Office) -> Option<&Policy>
     ensures { option_copied result ≡ last_said installed_in office.now.changes }
 {
     let changes = changes_of(office);
     let mut last = None;
     for change in changes {
-        if let Some(policy) = change.installed() {
+        if let Some(policy) = change.installed_policy() {
             last = Some(policy);
         }
     }
@@ -110,12 +110,12 @@ pub fn accession_of(office: &Office, accession: &str) -> Option<u32>
 }
 
 /// The day on which the deposit was destroyed, if it was.
-pub fn gone(office: &Office, deposit: u32) -> Option<Day>
-    ensures { result ≡ gone office.now deposit }
+pub fn destruction_day(office: &Office, deposit: u32) -> Option<Day>
+    ensures { result ≡ destruction_day office.now deposit }
 {
     let changes = changes_of(office);
     for change in changes {
-        if let Some(day) = change.destroyed(deposit) {
+        if let Some(day) = change.destruction_day(deposit) {
             return Some(day);
         }
     }
@@ -123,14 +123,14 @@ pub fn gone(office: &Office, deposit: u32) -> Option<Day>
 }
 
 fn is_kept(office: &Office, deposit: u32) -> bool
-    ensures { result ≡ is_none (gone office.now deposit) }
+    ensures { result ≡ is_none (destruction_day office.now deposit) }
 {
-    gone(office, deposit).is_none()
+    destruction_day(office, deposit).is_none()
 }
 
 /// The numbers of the deposits that are kept, ascending.
-pub fn kept(alloc: Global, office: &Office) -> Result<Vec<u32>, AllocError>
-    ensures { IfOk result (λ numbers. numbers.items ≡ kept office.now) }
+pub fn kept_numbers(alloc: Global, office: &Office) -> Result<Vec<u32>, AllocError>
+    ensures { IfOk result (λ numbers. numbers.items ≡ kept_numbers office.now) }
 {
     let count = deposit_count(office);
     let mut kept = Vec::new(alloc);
@@ -186,12 +186,12 @@ pub fn hold_numbered(office: &Office, number: u32) -> Option<(Day, &Hold)>
 }
 
 /// The day on which the hold was released, if it was.
-pub fn released(office: &Office, hold: u32) -> Option<Day>
-    ensures { result ≡ released office.now hold }
+pub fn release_day(office: &Office, hold: u32) -> Option<Day>
+    ensures { result ≡ release_day office.now hold }
 {
     let changes = changes_of(office);
     for change in changes {
-        if let Some(day) = change.released(hold) {
+        if let Some(day) = change.release_day(hold) {
             return Some(day);
         }
     }
@@ -201,7 +201,7 @@ pub fn released(office: &Office, hold: u32) -> Option<Day>
 fn is_live(office: &Office, hold: u32) -> bool
     ensures { result ≡ is_live office.now hold }
 {
-    released(office, hold).is_none()
+    release_day(office, hold).is_none()
 }
 
 /// A hold on a deposit covers it, and one on a collection each deposit of the collection, whichever came first.

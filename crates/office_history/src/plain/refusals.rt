@@ -11,8 +11,8 @@ use crate::plain::change::{Deposit, Hold, Target};
 use crate::plain::history::Office;
 use crate::plain::reading::{deposit_numbered, hold_numbered};
 use crate::plain::refusing::{
-    bad_bag, closed_ahead, denial, denial_at, facts_of, full_of_deposits, full_of_holds,
-    is_released, no_file, no_such_class, no_such_collection, taken,
+    bad_bag, closed_ahead_refusal, denial, denial_at, facts_of, full_of_deposits, full_of_holds,
+    no_file, no_such_class, no_such_collection, released_refusal, taken_refusal,
 };
 use office_core::{Action, Day, Name, Refusal, Request, Subject, verdict};
 use std::alloc::{AllocError, Global};
@@ -35,7 +35,7 @@ fn first_asked_refusal(
 }
 
 /// E1, and what is asked of the deposit that is there.
-fn asked(
+fn asked_refusal(
     alloc: Global,
     office: &Office,
     day: Day,
@@ -66,10 +66,10 @@ fn first_bag_refusal(
     ensures { IfOk result (λ found. found
         ≡ first_some (bag_refusals office.now day accession.now closed bag.now)) }
 {
-    if let Some(refusal) = taken(office, accession) {
+    if let Some(refusal) = taken_refusal(office, accession) {
         return Ok(Some(refusal));
     }
-    if let Some(refusal) = closed_ahead(day, closed) {
+    if let Some(refusal) = closed_ahead_refusal(day, closed) {
         return Ok(Some(refusal));
     }
     if let Some(refusal) = bad_bag(alloc, bag)? {
@@ -225,7 +225,7 @@ fn release_refusal(office: &Office, caller: &str, number: u32) -> Option<Refusal
     if let Some(refusal) = release_denial(office, caller, hold) {
         return Some(refusal);
     }
-    is_released(office, number)
+    released_refusal(office, number)
 }
 
 /// E1, E2, E3, E7 and E8.
@@ -238,7 +238,7 @@ pub fn dispose_refusal(
 ) -> Result<Option<Refusal>, AllocError>
     ensures { IfOk result (λ found. found ≡ refusal office.now day caller.now (requests.Dispose number)) }
 {
-    asked(alloc, office, day, caller, Action::Dispose, number)
+    asked_refusal(alloc, office, day, caller, Action::Dispose, number)
 }
 
 /// The first refusal that stands, or none where the request is allowed.
@@ -277,9 +277,23 @@ pub fn refusal(
             None => first_bag_refusal(alloc, office, day, accession.as_str(), *closed, *bag),
         },
         Request::List { .. } => Ok(None),
-        Request::Record { deposit } => asked(alloc, office, day, caller, Action::Record, *deposit),
-        Request::Holds { deposit } => asked(alloc, office, day, caller, Action::Holds, *deposit),
-        Request::DownloadBag { deposit } => asked(
+        Request::Record { deposit } => asked_refusal(
+            alloc,
+            office,
+            day,
+            caller,
+            Action::Record,
+            *deposit,
+        ),
+        Request::Holds { deposit } => asked_refusal(
+            alloc,
+            office,
+            day,
+            caller,
+            Action::Holds,
+            *deposit,
+        ),
+        Request::DownloadBag { deposit } => asked_refusal(
             alloc,
             office,
             day,
@@ -290,7 +304,14 @@ pub fn refusal(
         Request::DownloadFile { deposit, path } => file_refusal(
             alloc, office, day, caller, *deposit, *path,
         ),
-        Request::Audit { deposit } => asked(alloc, office, day, caller, Action::Audit, *deposit),
+        Request::Audit { deposit } => asked_refusal(
+            alloc,
+            office,
+            day,
+            caller,
+            Action::Audit,
+            *deposit,
+        ),
         Request::HoldDeposit { deposit, .. } => hold_refusal(alloc, office, day, caller, *deposit),
         Request::HoldCollection { collection, .. } => Ok(collection_hold_refusal(
             office, caller, collection,

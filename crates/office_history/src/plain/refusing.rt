@@ -3,15 +3,15 @@
 ghost use Rattle.std.specs.Prelude.{◌≡◌, IfOk, option_copied};
 ghost use Rattle.office_core.specs.Policies.{role_of};
 ghost use Rattle.office_history.specs.Histories.{policy};
-ghost use Rattle.office_history.specs.Refusals.{deciding_rule, facts_of, denial, denial_at, no_such_class, no_such_collection, taken, closed_ahead, bad_bag, is_released, full_of_deposits, full_of_holds, no_file};
+ghost use Rattle.office_history.specs.Refusals.{deciding_rule, facts_of, denial, denial_at, no_such_class, no_such_collection, taken_refusal, closed_ahead_refusal, bad_bag, released_refusal, full_of_deposits, full_of_holds, no_file};
 
 use crate::judging::refusal_of;
 use crate::plain::change::Deposit;
 use crate::plain::history::{Office, limits_of};
 use crate::plain::judging::bag_of;
 use crate::plain::reading::{
-    accession_of, deposit_count, due, gone, has_class, has_collection, hold_count, installed,
-    live_holds, released,
+    accession_of, deposit_count, destruction_day, due, has_class, has_collection, hold_count,
+    installed_policy, live_holds, release_day,
 };
 use office_core::{Action, Ask, Day, Decision, Facts, Refusal, Rule, Subject, decide};
 use std::alloc::{AllocError, Global};
@@ -20,7 +20,7 @@ use std::alloc::{AllocError, Global};
 fn role_of<'a>(office: &'a Office, caller: &str) -> &'a str
     ensures { result.now ≡ role_of (policy office.now) caller.now }
 {
-    match installed(office) {
+    match installed_policy(office) {
         Some(policy) => policy.role_of(caller),
         None => "stranger",
     }
@@ -30,7 +30,7 @@ fn role_of<'a>(office: &'a Office, caller: &str) -> &'a str
 fn rules_of(office: &Office) -> &[Rule]
     ensures { result.now ≡ (policy office.now).rules }
 {
-    match installed(office) {
+    match installed_policy(office) {
         Some(policy) => policy.rules(),
         None => &[],
     }
@@ -74,7 +74,7 @@ pub fn facts_of(
     Ok(Facts {
         action,
         decision: deciding_rule(office, caller, action, Some(collection), Some(class)),
-        gone: gone(office, number),
+        gone: destruction_day(office, number),
         hold: holds.first().copied(),
         due: due(office, deposit),
     })
@@ -138,8 +138,8 @@ pub fn no_such_collection(office: &Office, name: &str) -> Option<Refusal>
 }
 
 /// E4
-pub fn taken(office: &Office, accession: &str) -> Option<Refusal>
-    ensures { result ≡ taken office.now accession.now }
+pub fn taken_refusal(office: &Office, accession: &str) -> Option<Refusal>
+    ensures { result ≡ taken_refusal office.now accession.now }
 {
     match accession_of(office, accession) {
         Some(number) => Some(Refusal::Taken(number)),
@@ -148,8 +148,8 @@ pub fn taken(office: &Office, accession: &str) -> Option<Refusal>
 }
 
 /// E5
-pub fn closed_ahead(day: Day, closed: Day) -> Option<Refusal>
-    ensures { result ≡ closed_ahead day closed }
+pub fn closed_ahead_refusal(day: Day, closed: Day) -> Option<Refusal>
+    ensures { result ≡ closed_ahead_refusal day closed }
 {
     if day.number() < closed.number() {
         Some(Refusal::ClosedAhead)
@@ -169,10 +169,10 @@ pub fn bad_bag(alloc: Global, text: &[u8]) -> Result<Option<Refusal>, AllocError
 }
 
 /// E9
-pub fn is_released(office: &Office, hold: u32) -> Option<Refusal>
-    ensures { result ≡ is_released office.now hold }
+pub fn released_refusal(office: &Office, hold: u32) -> Option<Refusal>
+    ensures { result ≡ released_refusal office.now hold }
 {
-    match released(office, hold) {
+    match release_day(office, hold) {
         Some(day) => Some(Refusal::Released(day)),
         None => None,
     }

@@ -1,6 +1,6 @@
 use Rattle.std.proofs.Common.{map}
 use Rattle.std.specs.List.{flat_map}
-use Rattle.office_history.specs.Histories.{kept}
+use Rattle.office_history.specs.Histories.{kept_numbers}
 use Rattle.office_history.specs.Stocks.{files_of}
 use Rattle.office_history.proofs.MemberLemmas.{first_places_once}
 use Rattle.office_history.proofs.KeptLemmas.{kept_content, content_kept}
@@ -10,4 +10,4 @@ pub returns-clause-exactly : goal.returns-clause-exactly
 returns-clause-exactly c = λ h content. (content_kept h content, kept_content h content)
 
 pub returns-clause-once : goal.returns-clause-once
-returns-clause-once c = λ h. first_places_once (map (λ file. file.content) (flat_map (files_of h) (kept h)))
+returns-clause-once c = λ h. first_places_once (map (λ file. file.content) (flat_map (files_of h) (kept_numbers h)))

@@ -8,8 +8,8 @@ use Rattle.office_history.proofs.AnsweredLemmas.{collection_hold}
 use Rattle.office_history.proofs.laws.later_deposits_are_covered.Goals as goal
 
 pub returns-clause-held : goal.returns-clause-held
-returns-clause-held c = λ h next k n day name matter found is grown there same.
-    covers_collection next k n day name matter found.1 (ap (λ x. hold_numbered x k) grown.1 ∙ hold_stays h grown.0 k (day, record { target = OnCollection name; matter = matter }) is) same
+returns-clause-held c = λ h next k n day name matter found is after_it there same.
+    covers_collection next k n day name matter found.1 (ap (λ x. hold_numbered x k) after_it.1 ∙ hold_stays h after_it.0 k (day, record { target = OnCollection name; matter = matter }) is) same
 
 pub returns-clause-answered : goal.returns-clause-answered
 returns-clause-answered c = λ h next k n day caller name matter found e.

@@ -1,7 +1,7 @@
 use Rattle.std.proofs.Common.{◌≡◌, ◌∙◌, ap, sym, inl, inr, List}
 use Rattle.office_core.specs.declared.answer.Answer.TheVariants as answers
 use Rattle.office_core.specs.declared.refusal.Refusal.{Refusal}
-use Rattle.office_history.specs.Histories.{History, Change, grown}
+use Rattle.office_history.specs.Histories.{History, Change, with_changes}
 use Rattle.office_history.specs.Answers.{changes_unless, allowed_change}
 use Rattle.office_history.specs.Runs.{Item, Step}
 use Rattle.office_history.proofs.Accepted.{grown_by_none}
@@ -15,7 +15,7 @@ unchanged : (h next : History) (item : Item) (why : Refusal) → Step h item (an
 unchanged h next item why (inl failed) = failed.1
 unchanged h next item why (inr served) =
     served.1
-    ∙ ap (λ (more : List Change). grown h more) (refused_change h item.0 item.1.now item.2 why (sym served.0))
+    ∙ ap (λ (more : List Change). with_changes h more) (refused_change h item.0 item.1.now item.2 why (sym served.0))
     ∙ sym (grown_by_none h)
 
 pub returns-clause-answered : goal.returns-clause-answered

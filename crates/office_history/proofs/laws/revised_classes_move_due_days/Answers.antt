@@ -1,7 +1,7 @@
 use Rattle.std.proofs.Common.{◌∙◌, ap, ◌∷◌, []}
 use Rattle.office_core.specs.declared.answer.Answer.TheVariants as answers
 use Rattle.office_core.specs.declared.request.Request.TheVariants.{DefineClass}
-use Rattle.office_history.specs.Histories.{grown, due, DefinedClass}
+use Rattle.office_history.specs.Histories.{with_changes, due, DefinedClass}
 use Rattle.office_history.specs.Refusals.{refusal}
 use Rattle.office_history.specs.Answers.{changes_unless}
 use Rattle.office_history.proofs.LawLemmas.{revised_due, unrefused}
@@ -10,4 +10,4 @@ use Rattle.office_history.proofs.laws.revised_classes_move_due_days.Goals as goa
 pub returns : goal.returns
 returns c = λ h day caller name given_name years given_years deposit e same.
     let allowed = unrefused (refusal h day caller (DefineClass name years)) (answers.Class name years) (answers.Class given_name given_years) e (λ r. λ wrong. absurd cc) in
-    ap (λ why. due (grown h (changes_unless why (DefinedClass day name years ∷ []))) deposit) allowed.0 ∙ revised_due h day name years deposit same
+    ap (λ why. due (with_changes h (changes_unless why (DefinedClass day name years ∷ []))) deposit) allowed.0 ∙ revised_due h day name years deposit same
