@@ -241,7 +241,7 @@ pub fn run<F: Files + AllocGlobal, R: Read, O: Write, E: Write>(
     // Nothing else touches the input.
     ensures untouched { (AsksToCheck (texts words.now) (codes "-") → ⊥) → input.new ≡ input.old }
 
-    // Where a device or memory fails, standard error says so, if it doesn't fail too.
+    // Where a device or memory fails, standard error says so, or as much of it as it took.
     ensures failed { is_taken (texts words.now) ≡ true → result ≡ Failed
         → (failure : Failure) × Tells (message_of failure) (E.contents err.old) (E.contents err.new) }
 {
@@ -261,7 +261,7 @@ pub fn refuse_words<E: Write>(error: &Error, err: &mut E) -> Ending
     // A word that is no text is a fault of use, and whatever else the words failed for a failure.
     ensures no_text { error_kind error.now ≡ InvalidData → result ≡ Misused }
     ensures failed { error_kind error.now ≢ InvalidData → result ≡ Failed }
-    // Standard error says which, if it doesn't fail too.
+    // Standard error says which, or as much of it as it took.
     ensures message { error_kind error.now ≢ InvalidData → Tells
         (message_of (failure_of (error_kind error.now))) (E.contents err.old) (E.contents err.new) }
 {

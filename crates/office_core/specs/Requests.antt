@@ -4,7 +4,7 @@ use Rattle.office_core.specs.Bounds.{max_years}
 use Rattle.office_core.specs.Days.{IsDay}
 use Rattle.office_core.specs.Names.{IsName, IsAccession, IsMatter}
 use Rattle.office_core.specs.declared.request.Request.{Request}
-use Rattle.office_core.specs.declared.request.Request.TheVariants.{DefineClass, DefineCollection, Deposit, List as ListDeposits, HoldDeposit, HoldCollection}
+use Rattle.office_core.specs.declared.request.Request.TheVariants.{DefineClass, DefineCollection, Deposit, List as ListDeposits, Record, Holds, DownloadBag, DownloadFile, Audit, HoldDeposit, HoldCollection, Release, Dispose, DueList}
 
 -- 0 to 200 years, or for good
 abbrev pub IsYears : Option ℕ → Type 0
@@ -18,4 +18,11 @@ IsRequest (Deposit collection class accession closed bag) = IsName collection ×
 IsRequest (ListDeposits collection class) = IfSome collection IsName × IfSome class IsName
 IsRequest (HoldDeposit deposit matter) = IsMatter matter
 IsRequest (HoldCollection collection matter) = IsName collection × IsMatter matter
-IsRequest _ = Unit {0}
+IsRequest (Record deposit) = Unit {0}
+IsRequest (Holds deposit) = Unit {0}
+IsRequest (DownloadBag deposit) = Unit {0}
+IsRequest (DownloadFile deposit path) = Unit {0}
+IsRequest (Audit deposit) = Unit {0}
+IsRequest (Release hold) = Unit {0}
+IsRequest (Dispose deposit) = Unit {0}
+IsRequest DueList = Unit {0}

@@ -125,7 +125,14 @@ impl Request<'_> {
                 let _collection = collection.as_str();
                 let _matter = matter.as_str();
             }
-            _ => {}
+            Request::Record { .. }
+            | Request::Holds { .. }
+            | Request::DownloadBag { .. }
+            | Request::DownloadFile { .. }
+            | Request::Audit { .. }
+            | Request::Release { .. }
+            | Request::Dispose { .. }
+            | Request::DueList => {}
         }
     }
 }

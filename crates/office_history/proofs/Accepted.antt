@@ -131,13 +131,13 @@ pub disposable : (h : History) (day : Date) (caller : List ℕ) (n : ℕ) → re
 disposable h day caller n e = disposable_at h day caller n (deposit_numbered h n) refl e
 
 holdable_at : (h : History) (caller : List ℕ) (n : ℕ) (there : Option (Date × Deposit)) → deposit_numbered h n ≡ there
-    → first_some (of_deposit there (λ d. denial_at h caller acts.Hold d ∷ gone_refusal h n ∷ full_of_holds h ∷ [])) ≡ None → IsSome (deposit_numbered h n) × (length (holds h) < h.max_holds)
+    → first_some (of_deposit there (λ d. denial_at h caller acts.Hold d ∷ gone_refusal h n ∷ full_of_holds h ∷ [])) ≡ None → IsSome (deposit_numbered h n) × (destruction_day h n ≡ None) × (length (holds h) < h.max_holds)
 holdable_at h caller n None is e = absurd cc
 holdable_at h caller n (Some found) is e =
     let a = none_of (denial_at h caller acts.Hold found.1) _ e in
     let b = none_of (gone_refusal h n) _ a.1 in
     let c = none_of (full_of_holds h) _ b.1 in
-    (rw is refl, below h.max_holds (length (holds h)) c.0)
+    (rw is refl, not_gone (destruction_day h n) b.0, below h.max_holds (length (holds h)) c.0)
 
 releasable_at : (h : History) (caller : List ℕ) (k : ℕ) (there : Option (Date × Hold)) → hold_numbered h k ≡ there
     → first_some (of_hold there (λ hold. release_denial h caller hold.target ∷ released_refusal h k ∷ [])) ≡ None → IsReleasable h k
@@ -170,12 +170,12 @@ allowed_of h day caller (MakeDeposit collection class accession closed bag) e =
     subst (λ (r : Result (List File) (List ℕ)). AtMostOne (IsAllowed h) (deposit_change day collection class accession closed r)) (sym found.1) found.2
 allowed_of h day caller (HoldDeposit n matter) e =
     let found = holdable_at h caller n (deposit_numbered h n) refl e in
-    record { there = found.0; room = found.1 }
+    record { there = found.0; not_gone = found.1; room = found.2 }
 allowed_of h day caller (HoldCollection name matter) e =
     let a = none_of (no_such_collection h name) _ e in
     let b = none_of (denial h caller acts.Hold (Some name) None) _ a.1 in
     let c = none_of (full_of_holds h) _ b.1 in
-    record { there = is_so (has_collection h name) _ a.0; room = below h.max_holds (length (holds h)) c.0 }
+    record { there = is_so (has_collection h name) _ a.0; not_gone = tt; room = below h.max_holds (length (holds h)) c.0 }
 allowed_of h day caller (Release k) e = releasable h day caller k e
 allowed_of h day caller (Dispose n) e = disposable h day caller n e
 allowed_of h day caller (ListDeposits collection class) e = tt

@@ -25,7 +25,7 @@ use Rattle.office_history.proofs.MemberLemmas.{in_filter, filter_in, numbered_in
 use Rattle.office_history.proofs.Accepted.{legal_by, deposits_by, disposable}
 use Rattle.office_history.proofs.LawLemmas.{unrefused}
 
-is_nothing : {A : Type 0} (o : Option A) → is_none o ≡ true → o ≡ None
+pub is_nothing : {A : Type 0} (o : Option A) → is_none o ≡ true → o ≡ None
 is_nothing None e = refl
 is_nothing (Some x) e = absurd cc
 

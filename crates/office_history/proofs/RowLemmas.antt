@@ -1,8 +1,11 @@
 -- The rows of a legal history are in range.
-use Rattle.std.proofs.Common.{◌≡◌, ◌≤◌, ℕ, zero, suc, ◌+◌, ℤ, pos, List, [], ◌∷◌, length, map, Option, Some, None, IfSome, option_map, refl, sym, subst, inl, inr, ◌⊎◌, arith}
-use Rattle.std.specs.Prelude.{neg_ℤ}
-use Rattle.std.specs.List.{AllByRecursion, filter_map, flat_map, range_with_len, cons_option}
+use Rattle.std.proofs.Common.{◌≡◌, ◌≤◌, ℕ, zero, suc, ◌+◌, ◌||◌, ℤ, pos, Bool, true, false, List, [], ◌∷◌, length, map, filter, Option, Some, None, IfSome, IsSome, is_none, is_some, option_map, refl, sym, ap, subst, ◌∙◌, inl, inr, ◌⊎◌, arith, cond}
+use Rattle.std.specs.Prelude.{bytes_eq, neg_ℤ}
+use Rattle.std.specs.List.{AllByRecursion, filter_map, flat_map, list_any, range_with_len, cons_option}
 use Rattle.std.specs.Option.{option_map_or}
+use Rattle.std.proofs.lemmas.List.{length-map}
+use Rattle.std.proofs.lemmas.List.FromFn.{length-range_with_len}
+use Rattle.std.proofs.lemmas.Slice.Eq.{bytes_eq-Decides}
 use Rattle.jiff_core.proofs.SignedLemmas.{signed_arith}
 use Rattle.jiff.specs.Types.{Date}
 use Rattle.jiff.specs.Words.{epoch_day, IsBetween}
@@ -21,18 +24,20 @@ use Rattle.office_core.specs.declared.rule.Pattern.{Pattern}
 use Rattle.office_core.specs.declared.rule.Pattern.TheVariants as patterns
 use Rattle.office_core.specs.declared.rule.Rule.{Rule}
 use Rattle.office_rows.specs.Rows.{RuleRow, ClassRow, DepositRow, HoldRow}
-use Rattle.office_history.specs.Lists.{item_numbered, numbers, in_first_places}
-use Rattle.office_history.specs.Histories.{History, Target, OnDeposit, OnCollection, Deposit, policy, years_of, collection_in, deposits, deposit_numbered, destruction_day, kept_numbers, holds, hold_numbered, release_day}
-use Rattle.office_history.specs.Acceptance.{IsThere, IsTarget}
-use Rattle.office_history.specs.Pictures.{effect_number, pattern_text, action_pattern_text, caller_row, rule_rows, years_number, class_row, class_in, row_of_class, deposit_row, row_of_deposit, file_row, held_deposit, held_collection, hold_row, row_of_hold, picture}
+use Rattle.office_history.specs.Lists.{IsIn, item_numbered, numbers, in_first_places}
+use Rattle.office_history.specs.Histories.{History, Target, OnDeposit, OnCollection, Deposit, policy, years_of, collection_in, has_collection, deposits, deposit_numbered, destruction_day, kept_numbers, holds, hold_numbered, release_day}
+use Rattle.office_history.specs.Acceptance.{IsThere}
+use Rattle.office_history.specs.Pictures.{effect_number, pattern_text, action_pattern_text, caller_row, rule_rows, years_number, class_row, class_in, row_of_class, collection_rows, deposit_row, deposit_rows, row_of_deposit, file_row, held_deposit, held_collection, hold_row, row_of_hold, picture}
 use Rattle.office_history.specs.RowRanges.{AreNumbered, IsPatternText, IsActionText, IsOneTarget, IsCallerRow, IsRuleRow, IsClassRow, IsDepositRow, IsFileRow, IsHoldRow, AreInRange}
 use Rattle.office_history.specs.Runs.{IsLegal}
 use Rattle.office_history.specs.Stocks.{files_of}
 use Rattle.office_history.proofs.ListLemmas.{all_append, all_numbered}
 use Rattle.office_history.proofs.LegalLemmas.{Reads, Judges, HasSoundBag, sound_deposits}
 use Rattle.office_history.proofs.LegalReadings.{legal_policy}
-use Rattle.office_history.proofs.Pictured.{there_is, all_distinct}
-use Rattle.office_history.proofs.RangeLemmas.{limits_hold, WasClosed, closed_deposits, gone_days, released_days, named_classes, named_collections, IsDeposited, ranged_deposits, IsPlaced, ranged_holds, HasTarget, placed_holds}
+use Rattle.office_history.proofs.MemberLemmas.{further, first_places_in}
+use Rattle.office_history.proofs.KeptLemmas.{is_nothing}
+use Rattle.office_history.proofs.Pictured.{there_is, told_at, all_distinct}
+use Rattle.office_history.proofs.RangeLemmas.{limits_hold, WasClosed, closed_deposits, gone_days, released_days, named_classes, named_collections, IsDeposited, ranged_deposits, IsPlaced, ranged_holds, HasPlace, placed_deposits, HasTarget, placed_holds}
 
 -- ---- lists
 
@@ -73,6 +78,31 @@ numbered_rows {A = A} {R = R} xs tell number is (suc len) start low high =
     (sym here.1)
     (is start here.0, numbered_rows xs tell number is len (start + 1) (omega arith) (omega (arith, high)))
 
+few_told : {A R : Type 0} (tell : A → Option R) (xs : List A) → length (filter_map tell xs) ≤ length xs
+few_told tell [] = omega arith
+few_told {A = A} {R = R} tell (x ∷ xs) = by (tell x) (few_told tell xs)
+  where
+    by : (o : Option R) → length (filter_map tell xs) ≤ length xs → length (cons_option o (filter_map tell xs)) ≤ suc (length xs)
+    by None rest = omega (arith, rest)
+    by (Some row) rest = omega (arith, rest)
+
+-- a text that some text of a list equals stands in it
+any_in : (text : List ℕ) (texts : List (List ℕ)) → list_any (bytes_eq text) texts ≡ true → IsIn text texts
+any_in text [] e = absurd cc
+any_in text (x ∷ xs) e = by (bytes_eq text x) refl e (any_in text xs)
+  where
+    by : (b : Bool) → bytes_eq text x ≡ b → (b || list_any (bytes_eq text) xs) ≡ true → (list_any (bytes_eq text) xs ≡ true → IsIn text xs) → IsIn text (x ∷ xs)
+    by true is e rest = (0, ap Some (sym ((bytes_eq-Decides text x).0 is)))
+    by false is e rest = further text x xs (rest e)
+
+-- ---- what rows speak of
+
+row_there : (h : History) (n : ℕ) (found : Date × Deposit) → deposit_numbered h n ≡ Some found → item_numbered (deposit_rows h) n ≡ Some (deposit_row h n found)
+row_there h n found e = told_at (deposits h) (deposit_row h) n ∙ ap (option_map (deposit_row h n)) e
+
+collection_there : (h : History) (name : List ℕ) → has_collection h name ≡ true → IsIn name (collection_rows h)
+collection_there h name e = first_places_in name (filter_map collection_in h.changes) (any_in name (filter_map collection_in h.changes) e)
+
 -- ---- callers and rules
 
 ranged_callers : (callers : List Caller) → AllByRecursion IsNamedCaller callers → AllByRecursion IsCallerRow (map caller_row callers)
@@ -104,6 +134,10 @@ ranged_rules place (rule ∷ rules) all = (
   ranged_rules (place + 1) rules all.1,
 )
 
+count_of_rules : (place : ℕ) (rules : List Rule) → length (rule_rows place rules) ≡ length rules
+count_of_rules place [] = refl
+count_of_rules place (rule ∷ rules) = ap suc (count_of_rules (place + 1) rules)
+
 numbered_rules : (place : ℕ) (rules : List Rule) → AreNumbered (λ (row : RuleRow). row.place) place (rule_rows place rules)
 numbered_rules place [] = tt
 numbered_rules place (rule ∷ rules) = (refl, numbered_rules (place + 1) rules)
@@ -126,14 +160,15 @@ day_ranged : (o : Option Date) → ((day : Date) → o ≡ Some day → IsDay da
 day_ranged None so = tt
 day_ranged (Some day) so = day_number day (so day refl)
 
-deposit_ranged : (h : History) → IsLegal h → (n : ℕ) (row : DepositRow) → row_of_deposit h n ≡ Some row → IsDepositRow row
-deposit_ranged h legal n row e =
+deposit_ranged : (h : History) (version : ℤ) → IsLegal h → (n : ℕ) (row : DepositRow) → row_of_deposit h n ≡ Some row → IsDepositRow (picture version h) row
+deposit_ranged h version legal n row e =
     let found = mapped_some (deposit_row h n) (deposit_numbered h n) row e in
     let made = all_numbered IsDeposited (deposits h) n found.0 (ranged_deposits h legal) found.1 in
     let closed = all_numbered WasClosed (deposits h) n found.0 (closed_deposits h legal) found.1 in
-    subst IsDepositRow found.2 (record {
+    let place = all_numbered (HasPlace h) (deposits h) n found.0 (placed_deposits h legal) found.1 in
+    subst (IsDepositRow (picture version h)) found.2 (record {
       accession = made.1.accession;
-      collection = made.1.collection;
+      collection = collection_there h found.0.1.collection place.0;
       class = made.1.class;
       closed = day_number found.0.1.closed made.1.closed;
       deposited = day_number found.0.0 made.0;
@@ -143,10 +178,6 @@ deposit_ranged h legal n row e =
       gone = day_ranged (destruction_day h n) (gone_days h legal n);
     })
 
-files_ranged : (n : ℕ) (files : List File) → AllByRecursion Fits files → AllByRecursion IsFileRow (map (file_row n) files)
-files_ranged n [] all = tt
-files_ranged n (file ∷ files) all = (record { good = all.0.good; small = all.0.small }, files_ranged n files all.1)
-
 bag_ranged : Reads → Judges → (h : History) → IsLegal h → (n : ℕ) → AllByRecursion Fits (files_of h n)
 bag_ranged reads judges h legal n = by (deposit_numbered h n) refl
   where
@@ -154,25 +185,53 @@ bag_ranged reads judges h legal n = by (deposit_numbered h n) refl
     by None e = tt
     by (Some found) e = (all_numbered HasSoundBag (deposits h) n found (sound_deposits reads judges h legal) e).bag.each
 
-rows_ranged : (files : ℕ → List File) → ((n : ℕ) → AllByRecursion Fits (files n)) → (ns : List ℕ) → AllByRecursion IsFileRow (flat_map (λ n. map (file_row n) (files n)) ns)
-rows_ranged files so [] = tt
-rows_ranged files so (n ∷ ns) = all_append IsFileRow (map (file_row n) (files n)) _ (files_ranged n (files n) (so n)) (rows_ranged files so ns)
+files_ranged : (h : History) (version : ℤ) (n : ℕ) (found : Date × Deposit) → deposit_numbered h n ≡ Some found → destruction_day h n ≡ None
+    → (files : List File) → AllByRecursion Fits files → AllByRecursion (IsFileRow (picture version h)) (map (file_row n) files)
+files_ranged h version n found is stays [] all = tt
+files_ranged h version n found is stays (file ∷ files) all = (record {
+  file = record { good = all.0.good; small = all.0.small };
+  number = n;
+  deposit = deposit_row h n found;
+  of_deposit = refl;
+  there = row_there h n found is;
+  kept = ap (option_map epoch_day) stays;
+}, files_ranged h version n found is stays files all.1)
+
+-- the files of a deposit that was not destroyed
+kept_ranged : Reads → Judges → (h : History) (version : ℤ) → IsLegal h → (n : ℕ) → destruction_day h n ≡ None → AllByRecursion (IsFileRow (picture version h)) (map (file_row n) (files_of h n))
+kept_ranged reads judges h version legal n stays = by (deposit_numbered h n) refl (bag_ranged reads judges h legal n)
+  where
+    by : (o : Option (Date × Deposit)) → deposit_numbered h n ≡ o → AllByRecursion Fits (option_map_or (λ found. found.1.bag) o [])
+        → AllByRecursion (IsFileRow (picture version h)) (map (file_row n) (option_map_or (λ found. found.1.bag) o []))
+    by None is all = tt
+    by (Some found) is all = files_ranged h version n found is stays found.1.bag all
+
+-- what is so of the rows of each number that passes is so of all of them
+passing_rows : {R : Type 0} (P : R → Type 0) (p : ℕ → Bool) (rows : ℕ → List R) → ((n : ℕ) → p n ≡ true → AllByRecursion P (rows n)) → (ns : List ℕ) → AllByRecursion P (flat_map rows (filter p ns))
+passing_rows P p rows so [] = tt
+passing_rows P p rows so (n ∷ ns) = by (p n) refl (passing_rows P p rows so ns)
+  where
+    by : (b : Bool) → p n ≡ b → AllByRecursion P (flat_map rows (filter p ns)) → AllByRecursion P (flat_map rows (cond b (n ∷ filter p ns) (filter p ns)))
+    by true is rest = all_append P (rows n) (flat_map rows (filter p ns)) (so n is) rest
+    by false is rest = rest
 
 -- ---- holds
 
--- no deposit has the number 0
-target_ranged : (h : History) (target : Target) → IsThere h target → IsTarget target → IsOneTarget (held_deposit target) (held_collection target)
-target_ranged h (OnDeposit zero) there is = absurd cc
-target_ranged h (OnDeposit (suc n)) there is = omega (arith, signed_arith)
-target_ranged h (OnCollection name) there is = is
+target_ranged : (h : History) (version : ℤ) (target : Target) → IsThere h target → IsOneTarget (picture version h) (held_deposit target) (held_collection target)
+target_ranged h version (OnDeposit n) there = by (deposit_numbered h n) refl there
+  where
+    by : (o : Option (Date × Deposit)) → deposit_numbered h n ≡ o → IsSome o → (m : ℕ) × (pos n ≡ pos m) × IsSome (item_numbered (deposit_rows h) m)
+    by None is there = absurd cc
+    by (Some found) is there = (n, refl, ap is_some (row_there h n found is))
+target_ranged h version (OnCollection name) there = collection_there h name there
 
-hold_ranged : (h : History) → IsLegal h → (k : ℕ) (row : HoldRow) → row_of_hold h k ≡ Some row → IsHoldRow row
-hold_ranged h legal k row e =
+hold_ranged : (h : History) (version : ℤ) → IsLegal h → (k : ℕ) (row : HoldRow) → row_of_hold h k ≡ Some row → IsHoldRow (picture version h) row
+hold_ranged h version legal k row e =
     let found = mapped_some (hold_row h k) (hold_numbered h k) row e in
     let made = all_numbered IsPlaced (holds h) k found.0 (ranged_holds h legal) found.1 in
     let there = all_numbered (HasTarget h) (holds h) k found.0 (placed_holds h legal) found.1 in
-    subst IsHoldRow found.2 (record {
-      target = target_ranged h found.0.1.target there made.1.target;
+    subst (IsHoldRow (picture version h)) found.2 (record {
+      target = target_ranged h version found.0.1.target there;
       matter = made.1.matter;
       placed = day_number found.0.0 made.0;
       released = day_ranged (release_day h k) (released_days h legal k);
@@ -193,14 +252,18 @@ rows_in_range reads judges h version legal =
         max_deposits = (omega (arith, signed_arith, within.deposits_limit.0), omega (arith, signed_arith, within.deposits_limit.1));
         max_holds = (omega (arith, signed_arith, within.holds_limit.0), omega (arith, signed_arith, within.holds_limit.1));
       };
+      few_deposits = omega (arith, signed_arith, within.deposits_in, few_told (row_of_deposit h) (numbers (length (deposits h))), length-range_with_len 1 (length (deposits h)));
+      few_holds = omega (arith, signed_arith, within.holds_in, few_told (row_of_hold h) (numbers (length (holds h))), length-range_with_len 1 (length (holds h)));
+      few_callers = rw (length-map (policy h).callers caller_row) rules.few_callers;
+      few_rules = rw (count_of_rules 1 (policy h).rules) rules.few_rules;
       callers = ranged_callers (policy h).callers rules.callers_are_names;
       rules = ranged_rules 1 (policy h).rules rules.rules_ask_for_names;
       places = numbered_rules 1 (policy h).rules;
       classes = all_texts_told IsClassRow (row_of_class h) (class_ranged h legal) (in_first_places (filter_map class_in h.changes));
       collections = all_distinct IsName [] (filter_map collection_in h.changes) (named_collections h legal);
-      deposits = all_told IsDepositRow (row_of_deposit h) (deposit_ranged h legal) (numbers (length (deposits h)));
+      deposits = all_told (IsDepositRow (picture version h)) (row_of_deposit h) (deposit_ranged h version legal) (numbers (length (deposits h)));
       deposit_numbers = numbered_rows (deposits h) (deposit_row h) (λ (row : DepositRow). row.number) (λ n x. refl) (length (deposits h)) 1 (omega arith) (omega arith);
-      files = rows_ranged (files_of h) (bag_ranged reads judges h legal) (kept_numbers h);
-      holds = all_told IsHoldRow (row_of_hold h) (hold_ranged h legal) (numbers (length (holds h)));
+      files = passing_rows (IsFileRow (picture version h)) (λ n. is_none (destruction_day h n)) (λ n. map (file_row n) (files_of h n)) (λ n passes. kept_ranged reads judges h version legal n (is_nothing (destruction_day h n) passes)) (numbers (length (deposits h)));
+      holds = all_told (IsHoldRow (picture version h)) (row_of_hold h) (hold_ranged h version legal) (numbers (length (holds h)));
       hold_numbers = numbered_rows (holds h) (hold_row h) (λ (row : HoldRow). row.number) (λ n x. refl) (length (holds h)) 1 (omega arith) (omega arith);
     }

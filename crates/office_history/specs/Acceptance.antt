@@ -55,9 +55,15 @@ abbrev pub IsThere : History → Target → Type 0
 IsThere h (OnDeposit n) = IsSome (deposit_numbered h n)
 IsThere h (OnCollection name) = has_collection h name ≡ true
 
--- what the hold names is there, and the office takes one hold more
+-- a deposit that wasn't destroyed; a collection always
+abbrev pub IsNotGone : History → Target → Type 0
+IsNotGone h (OnDeposit n) = destruction_day h n ≡ None
+IsNotGone h (OnCollection name) = Unit {0}
+
+-- what the hold names is there, and wasn't destroyed; and the office takes one hold more
 pub record IsPlaceable (h : History) (hold : Hold) : Type 0 where
   pub there : IsThere h hold.target
+  pub not_gone : IsNotGone h hold.target
   pub room : length (holds h) < h.max_holds
 
 -- the hold is there, and wasn't released before

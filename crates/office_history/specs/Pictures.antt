@@ -1,6 +1,6 @@
 -- The rows that a history gives: what the tables of an office hold after its changes, and nothing else. Days stand as day
 -- numbers, 0 for 1 January 1970, and years as numbers, -1 where a class keeps its deposits for good.
-use Rattle.std.specs.Prelude.{ℕ, ◌+◌, ℤ, pos, neg_ℤ, List, [], ◌∷◌, length, map, Option, Some, None, option_map, codes}
+use Rattle.std.specs.Prelude.{ℕ, ◌+◌, ℤ, pos, negsuc, neg_ℤ, List, [], ◌∷◌, length, map, Option, Some, None, option_map, codes}
 use Rattle.std.specs.List.{filter_map, flat_map}
 use Rattle.jiff.specs.Types.{Date}
 use Rattle.jiff.specs.Words.{epoch_day}
@@ -58,6 +58,11 @@ rule_rows place (rule ∷ rules) = rule_row place rule ∷ rule_rows (place + 1)
 abbrev pub years_number : Option ℕ → ℤ
 years_number None = neg_ℤ (pos 1)
 years_number (Some years) = pos years
+
+-- and back
+abbrev pub years_back : ℤ → Option ℕ
+years_back (pos n) = Some n
+years_back (negsuc n) = None
 
 abbrev pub class_row : List ℕ → Option ℕ → ClassRow
 class_row name years = record { name = name; years = years_number years }

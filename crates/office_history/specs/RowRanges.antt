@@ -1,13 +1,16 @@
--- The rows that accepted changes write: one row of the office, and every number, name and day in its range.
-use Rattle.std.specs.Prelude.{◌≡◌, ℕ, ◌+◌, ◌≤ℤ◌, ◌⊎◌, ℤ, pos, neg_ℤ, List, [], ◌∷◌, Option, Some, None, IfSome, codes}
+-- The rows that accepted changes write: one row of the office, every number, name and day in its range, no more of each
+-- kind than is allowed, and what a row speaks of is there.
+use Rattle.std.specs.Prelude.{◌≡◌, ℕ, ◌+◌, ◌≤◌, ◌≤ℤ◌, ◌⊎◌, ℤ, pos, neg_ℤ, List, [], ◌∷◌, length, Option, Some, None, IsSome, IfSome, codes}
 use Rattle.std.specs.List.{AllByRecursion}
 use Rattle.jiff.specs.Words.{IsBetween}
 use Rattle.bag_text.specs.TransferForm.{Fits}
 use Rattle.office_core.specs.Actions.{action_text}
+use Rattle.office_core.specs.Bounds.{max_callers, max_limit, max_rules, max_years}
 use Rattle.office_core.specs.Days.{IsDayNumber}
 use Rattle.office_core.specs.Names.{IsName, IsAccession, IsMatter}
 use Rattle.office_core.specs.declared.action.Action.{Action}
 use Rattle.office_rows.specs.Rows.{OfficeRow, CallerRow, RuleRow, ClassRow, DepositRow, FileRow, HoldRow, Tables}
+use Rattle.office_history.specs.Lists.{IsIn, item_numbered}
 
 -- the numbers of the rows are these: n, n + 1, n + 2 and so on
 abbrev pub AreNumbered : {Row : Type 0} → (Row → ℤ) → ℕ → List Row → Type 0
@@ -19,8 +22,8 @@ AreNumbered number n (row ∷ rows) = (number row ≡ pos n) × AreNumbered numb
 pub record IsOfficeRow (tables_version : ℤ) (row : OfficeRow) : Type 0 where
   pub id : row.id ≡ pos 1
   pub version : row.version ≡ tables_version
-  pub max_deposits : IsBetween (pos 1) (pos 1000000) row.max_deposits
-  pub max_holds : IsBetween (pos 1) (pos 1000000) row.max_holds
+  pub max_deposits : IsBetween (pos 1) (pos max_limit) row.max_deposits
+  pub max_holds : IsBetween (pos 1) (pos max_limit) row.max_holds
 
 pub record IsCallerRow (row : CallerRow) : Type 0 where
   pub name : IsName row.name
@@ -43,11 +46,12 @@ pub record IsRuleRow (row : RuleRow) : Type 0 where
 
 pub record IsClassRow (row : ClassRow) : Type 0 where
   pub name : IsName row.name
-  pub years : IsBetween (neg_ℤ (pos 1)) (pos 200) row.years
+  pub years : IsBetween (neg_ℤ (pos 1)) (pos max_years) row.years
 
-pub record IsDepositRow (row : DepositRow) : Type 0 where
+-- its collection is there
+pub record IsDepositRow (tables : Tables) (row : DepositRow) : Type 0 where
   pub accession : IsAccession row.accession
-  pub collection : IsName row.collection
+  pub collection : IsIn row.collection tables.collections
   pub class : IsName row.class
   pub closed : IsDayNumber row.closed
   pub deposited : IsDayNumber row.deposited
@@ -56,18 +60,23 @@ pub record IsDepositRow (row : DepositRow) : Type 0 where
   pub bytes : pos 0 ≤ℤ row.bytes
   pub gone : IfSome row.gone IsDayNumber
 
--- a file that a bag may have
-abbrev pub IsFileRow : FileRow → Type 0
-IsFileRow row = Fits (record { path = row.path; content = row.content })
+-- a file that a bag may have, of a deposit that is there and was not destroyed
+pub record IsFileRow (tables : Tables) (row : FileRow) : Type 0 where
+  pub file : Fits (record { path = row.path; content = row.content })
+  pub number : ℕ
+  pub deposit : DepositRow
+  pub of_deposit : row.deposit ≡ pos number
+  pub there : item_numbered tables.deposits number ≡ Some deposit
+  pub kept : deposit.gone ≡ None
 
--- a deposit or a collection, and not both
-abbrev pub IsOneTarget : Option ℤ → Option (List ℕ) → Type 0
-IsOneTarget (Some deposit) None = pos 1 ≤ℤ deposit
-IsOneTarget None (Some collection) = IsName collection
-IsOneTarget _ _ = ⊥
+-- a deposit or a collection that is there, and not both
+abbrev pub IsOneTarget : Tables → Option ℤ → Option (List ℕ) → Type 0
+IsOneTarget tables (Some deposit) None = (n : ℕ) × (deposit ≡ pos n) × IsSome (item_numbered tables.deposits n)
+IsOneTarget tables None (Some collection) = IsIn collection tables.collections
+IsOneTarget tables _ _ = ⊥
 
-pub record IsHoldRow (row : HoldRow) : Type 0 where
-  pub target : IsOneTarget row.deposit row.collection
+pub record IsHoldRow (tables : Tables) (row : HoldRow) : Type 0 where
+  pub target : IsOneTarget tables row.deposit row.collection
   pub matter : IsMatter row.matter
   pub placed : IsDayNumber row.placed
   pub released : IfSome row.released IsDayNumber
@@ -78,13 +87,17 @@ pub record AreInRange (version : ℤ) (tables : Tables) : Type 0 where
   pub office_row : OfficeRow
   pub one_office : tables.office ≡ office_row ∷ []
   pub office : IsOfficeRow version office_row
+  pub few_deposits : pos (length tables.deposits) ≤ℤ office_row.max_deposits
+  pub few_holds : pos (length tables.holds) ≤ℤ office_row.max_holds
+  pub few_callers : length tables.callers ≤ max_callers
+  pub few_rules : length tables.rules ≤ max_rules
   pub callers : AllByRecursion IsCallerRow tables.callers
   pub rules : AllByRecursion IsRuleRow tables.rules
   pub places : AreNumbered (λ row. row.place) 1 tables.rules
   pub classes : AllByRecursion IsClassRow tables.classes
   pub collections : AllByRecursion IsName tables.collections
-  pub deposits : AllByRecursion IsDepositRow tables.deposits
+  pub deposits : AllByRecursion (IsDepositRow tables) tables.deposits
   pub deposit_numbers : AreNumbered (λ row. row.number) 1 tables.deposits
-  pub files : AllByRecursion IsFileRow tables.files
-  pub holds : AllByRecursion IsHoldRow tables.holds
+  pub files : AllByRecursion (IsFileRow tables) tables.files
+  pub holds : AllByRecursion (IsHoldRow tables) tables.holds
   pub hold_numbers : AreNumbered (λ row. row.number) 1 tables.holds

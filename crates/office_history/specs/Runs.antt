@@ -3,6 +3,7 @@ use Rattle.std.specs.Prelude.{◌≡◌, ℕ, ◌≤◌, ◌⊎◌, List, [], �
 use Rattle.std.specs.List.{AllByRecursion}
 use denote.Ref.{Bor}
 use Rattle.jiff.specs.Types.{Date}
+use Rattle.office_core.specs.Bounds.{max_limit}
 use Rattle.office_core.specs.Days.{IsDay}
 use Rattle.office_core.specs.Policies.{Contents, IsPolicy}
 use Rattle.office_core.specs.Requests.{IsRequest}
@@ -58,7 +59,7 @@ new_history max_deposits max_holds =
 
 -- a limit of an office is from 1 to 1,000,000
 abbrev pub IsLimit : ℕ → Type 0
-IsLimit most = (1 ≤ most) × (most ≤ 1000000)
+IsLimit most = (1 ≤ most) × (most ≤ max_limit)
 
 -- A legal history is made from that of a new office by installs of policies and by requests, all in range.
 pub data IsLegal : History → Type 0 where

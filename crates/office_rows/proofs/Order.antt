@@ -1,11 +1,12 @@
 -- Rows in the order of their numbers: how one is put, how all are sorted, and which number is the highest.
-use Rattle.std.proofs.Common.{◌≡◌, ℤ, Bool, true, false, List, [], ◌∷◌, ◌++◌, None, Some, Less, if◌then◌else◌, refl, sym, ap, subst, ◌∙◌, append-nil, append_assoc}
+use Rattle.std.proofs.Common.{◌≡◌, ◌≢◌, ℤ, Bool, true, false, List, [], ◌∷◌, ◌++◌, None, Some, Ordering, Less, Equal, Greater, if◌then◌else◌, refl, sym, ap, subst, ◌∙◌, append-nil, append_assoc}
 use Rattle.std.specs.List.{AllByRecursion}
 use Rattle.std.specs.List.Sorted.{IsPermutation}
-use Rattle.std.specs.Ordering.{int_cmp, is_lt}
+use Rattle.std.specs.FinMap.{int_cmp-IsAntisymmetric}
+use Rattle.std.specs.Ordering.{int_cmp, is_lt, ordering_reverse}
 use Rattle.std.proofs.lemmas.Cmp.{int_cmp_total}
 use Rattle.std.proofs.lemmas.List.Sorted.{IsPermutation-refl, IsPermutation-trans, IsPermutation-cons, IsPermutation-middle, IsPermutation-sym, IsPermutation-append_right}
-use Rattle.office_rows.specs.Rows.{put_by, put_each_by, sorted_by, NumbersRise, last_number}
+use Rattle.office_rows.specs.Rows.{put_by, put_each_by, sorted_by, NumbersRise, NumbersDiffer, last_number}
 
 all_append : {X : Type 0} (P : X → Type 0) (xs ys : List X) → AllByRecursion P xs → AllByRecursion P ys → AllByRecursion P (xs ++ ys)
 all_append P [] ys h k = k
@@ -42,7 +43,7 @@ module _ {Row : Type 0} (number : Row → ℤ) where
   put_by_either x r rows true rest = IsPermutation-trans _ _ _ (IsPermutation-middle (x ∷ []) r rows) (IsPermutation-cons r _ _ rest)
   put_by_either x r rows false rest = IsPermutation-refl (x ∷ r ∷ rows)
 
-  put_permutes : (x : Row) (rows : List Row) → IsPermutation (x ∷ rows) (put_by number x rows)
+  pub put_permutes : (x : Row) (rows : List Row) → IsPermutation (x ∷ rows) (put_by number x rows)
   put_permutes x [] = IsPermutation-refl (x ∷ [])
   put_permutes x (r ∷ rows) = put_by_either x r rows (is_lt (int_cmp (number r) (number x))) (put_permutes x rows)
 
@@ -54,6 +55,48 @@ module _ {Row : Type 0} (number : Row → ℤ) where
 
   pub sorted_permutes : (xs : List Row) → IsPermutation xs (sorted_by number xs)
   sorted_permutes xs = subst (λ ys. IsPermutation ys (sorted_by number xs)) (append-nil xs) (each_permutes xs [])
+
+  -- ---- what is put in its place is in order
+
+  all_put : (P : Row → Type 0) (x : Row) (rows : List Row) → P x → AllByRecursion P rows → AllByRecursion P (put_by number x rows)
+  all_put P x [] here all = (here, tt)
+  all_put P x (r ∷ rows) here all = by (is_lt (int_cmp (number r) (number x))) (all_put P x rows here all.1)
+    where
+      by : (lower : Bool) → AllByRecursion P (put_by number x rows) → AllByRecursion P (if lower then r ∷ put_by number x rows else x ∷ r ∷ rows)
+      by true behind = (all.0, behind)
+      by false behind = (here, all)
+
+  above_all : (x r : Row) (rows : List Row) → int_cmp (number x) (number r) ≡ Less → AllByRecursion (λ s. int_cmp (number r) (number s) ≡ Less) rows → AllByRecursion (λ s. int_cmp (number x) (number s) ≡ Less) rows
+  above_all x r [] less all = tt
+  above_all x r (s ∷ rows) less all = (int_cmp_total.trans (number x) (number r) (number s) less all.0, above_all x r rows less all.1)
+
+  -- a new number in rows that rise leaves rows that rise
+  pub put_rises : (x : Row) (rows : List Row) → NumbersRise number rows → AllByRecursion (λ r. number r ≢ number x) rows → NumbersRise number (put_by number x rows)
+  put_rises x [] up new = (tt, tt)
+  put_rises x (r ∷ rows) up new = by (int_cmp (number r) (number x)) refl (put_rises x rows up.1 new.1)
+    where
+      by : (o : Ordering) → int_cmp (number r) (number x) ≡ o → NumbersRise number (put_by number x rows) → NumbersRise number (if is_lt o then r ∷ put_by number x rows else x ∷ r ∷ rows)
+      by Less is behind = (all_put (λ s. int_cmp (number r) (number s) ≡ Less) x rows is up.0, behind)
+      by Equal is behind = absurd (new.0 (int_cmp-IsAntisymmetric (number r) (number x) is))
+      by Greater is behind =
+          let less : int_cmp (number x) (number r) ≡ Less = int_cmp_total.antisymm (number x) (number r) ∙ ap ordering_reverse is in
+          ((less, above_all x r rows less up.0), up)
+
+  -- rows of different numbers, sorted, rise
+  each_rises : (xs rows : List Row) → NumbersDiffer number xs → AllByRecursion (λ x. AllByRecursion (λ r. number r ≢ number x) rows) xs → NumbersRise number rows → NumbersRise number (put_each_by number xs rows)
+  each_rises [] rows differ new up = up
+  each_rises (x ∷ xs) rows differ new up = each_rises xs (put_by number x rows) differ.1 (more xs differ.0 new.1) (put_rises x rows up new.0)
+    where
+      more : (later : List Row) → AllByRecursion (λ s. number x ≢ number s) later → AllByRecursion (λ s. AllByRecursion (λ r. number r ≢ number s) rows) later → AllByRecursion (λ s. AllByRecursion (λ r. number r ≢ number s) (put_by number x rows)) later
+      more [] unlike others = tt
+      more (s ∷ later) unlike others = (all_put (λ r. number r ≢ number s) x rows unlike.0 others.0, more later unlike.1 others.1)
+
+  none_there : (xs : List Row) → AllByRecursion (λ x. AllByRecursion (λ r. number r ≢ number x) []) xs
+  none_there [] = tt
+  none_there (x ∷ xs) = (tt, none_there xs)
+
+  pub sorted_rises : (xs : List Row) → NumbersDiffer number xs → NumbersRise number (sorted_by number xs)
+  sorted_rises xs differ = each_rises xs [] differ (none_there xs) tt
 
   -- ---- the highest number
 

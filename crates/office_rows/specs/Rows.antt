@@ -1,6 +1,6 @@
 -- The rows of the office's tables as plain records, what is looked up in them, and how they change. Nothing here speaks of SQL.
 -- Texts are lists of bytes. Days are day numbers, 0 for 1970-01-01. Sizes are in bytes, years are calendar years.
-use Rattle.std.specs.Prelude.{⊤, ℕ, ℤ, pos, negsuc, nat_le, List, [], ◌∷◌, ◌++◌, map, find, filter, Option, Some, None, bytes_eq, not, is_some, unwrap_or, option_map, ◌≡◌, ◌&&◌, ◌||◌, Bool, false, if◌then◌else◌}
+use Rattle.std.specs.Prelude.{⊤, ℕ, ℤ, pos, negsuc, nat_le, List, [], ◌∷◌, ◌++◌, map, find, filter, Option, Some, None, bytes_eq, not, is_some, unwrap_or, option_map, ◌≡◌, ◌≢◌, ◌&&◌, ◌||◌, Bool, false, if◌then◌else◌}
 use Rattle.std.specs.List.{AllByRecursion, list_any}
 use Rattle.std.specs.Ordering.{int_eq, int_cmp, is_lt}
 use Rattle.std.specs.declared.cmp.Ordering.TheVariants.{Less}
@@ -96,6 +96,11 @@ sorted_by number xs = put_each_by number xs []
 abbrev pub NumbersRise : {Row : Type 0} → (Row → ℤ) → List Row → Type 0
 NumbersRise number [] = ⊤
 NumbersRise number (r ∷ rs) = AllByRecursion (λ s. int_cmp (number r) (number s) ≡ Less) rs × NumbersRise number rs
+
+-- no two rows have one number
+abbrev pub NumbersDiffer : {Row : Type 0} → (Row → ℤ) → List Row → Type 0
+NumbersDiffer number [] = ⊤
+NumbersDiffer number (r ∷ rs) = AllByRecursion (λ s. number r ≢ number s) rs × NumbersDiffer number rs
 
 -- the highest number of a list whose numbers rise
 abbrev pub last_number : {Row : Type 0} → (Row → ℤ) → List Row → Option ℤ

@@ -1,10 +1,11 @@
 //! Laws of the rows.
 
-ghost use Rattle.std.specs.Prelude.{◌≡◌, ℤ, List, [], ◌∷◌, ◌++◌, Some, None};
+ghost use Rattle.std.specs.Prelude.{◌≡◌, ◌≢◌, ℤ, List, [], ◌∷◌, ◌++◌, Some, None};
+ghost use Rattle.std.specs.List.{AllByRecursion};
 ghost use Rattle.std.specs.List.Sorted.{IsPermutation};
 ghost use Rattle.std.specs.Ordering.{int_cmp};
 ghost use Rattle.std.specs.declared.cmp.Ordering.TheVariants.{Less};
-ghost use Rattle.office_rows.specs.Rows.{Tables, CallerRow, RuleRow, DepositRow, HoldRow, AreInOrder, PlacesRise, sorted_by, last_number, DepositsBelow, HoldsBelow, with_policy, with_deposit, with_hold};
+ghost use Rattle.office_rows.specs.Rows.{Tables, CallerRow, RuleRow, DepositRow, HoldRow, AreInOrder, NumbersRise, NumbersDiffer, PlacesRise, sorted_by, last_number, DepositsBelow, HoldsBelow, with_policy, with_deposit, with_hold};
 
 /// A deposit or a hold whose number is above all others comes at the end.
 pub fn highest_comes_last()
@@ -14,8 +15,24 @@ pub fn highest_comes_last()
         → with_hold hold tables ≡ record tables { holds = tables.holds ++ hold ∷ [] } }
 {}
 
-/// A policy has just these rules, and as they are where their places rise.
+/// A row whose number is new comes to rows whose numbers rise in such a place that they still rise.
+pub fn new_rows_keep_the_order()
+    ensures deposits { (deposit : DepositRow) (tables : Tables)
+        → NumbersRise (λ d. d.number) tables.deposits
+        → AllByRecursion (λ d. d.number ≢ deposit.number) tables.deposits
+        → NumbersRise (λ d. d.number) (with_deposit deposit tables).deposits
+        × IsPermutation (deposit ∷ tables.deposits) (with_deposit deposit tables).deposits }
+    ensures holds { (hold : HoldRow) (tables : Tables) → NumbersRise (λ h. h.number) tables.holds
+        → AllByRecursion (λ h. h.number ≢ hold.number) tables.holds
+        → NumbersRise (λ h. h.number) (with_hold hold tables).holds
+        × IsPermutation (hold ∷ tables.holds) (with_hold hold tables).holds }
+{}
+
+/// A policy has just these rules; their places rise where no two have one place; and the rules are
+/// as they are where their places rise.
 pub fn rules_are_sorted()
+    ensures sorted { (rules : List RuleRow) → NumbersDiffer (λ r. r.place) rules
+        → PlacesRise (sorted_by (λ r. r.place) rules) }
     ensures each { (rules : List RuleRow) → IsPermutation rules (sorted_by (λ r. r.place) rules) }
     ensures rising { (callers : List CallerRow) (rules : List RuleRow) (tables : Tables) → PlacesRise rules
         → with_policy callers rules tables ≡ record tables { callers = callers; rules = rules } }
