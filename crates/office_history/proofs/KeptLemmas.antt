@@ -1,6 +1,7 @@
 -- Due lists and what is kept, by what stands in the lists; audits of legal histories.
 use Rattle.std.proofs.Common.{◌≡◌, ℕ, true, List, [], ◌∷◌, length, map, Option, Some, None, Result, Ok, Err, is_none, refl, sym, ap, subst, ◌∙◌}
 use Rattle.std.specs.List.{AllByRecursion, flat_map}
+use Rattle.std.specs.Prelude.{Contains}
 use Rattle.std.specs.Option.{option_map_or}
 use Rattle.jiff.specs.Types.{Date}
 use Rattle.bag_text.specs.TransferForm.{File}
@@ -13,7 +14,7 @@ use Rattle.office_core.specs.declared.answer.AuditReport.{AuditReport}
 use Rattle.office_core.specs.declared.answer.AuditReport.TheVariants.{Valid}
 use Rattle.office_core.specs.declared.refusal.Refusal.{Refusal}
 use Rattle.office_core.specs.declared.request.Request.TheVariants.{Audit, Dispose}
-use Rattle.office_history.specs.Lists.{IsIn, numbers}
+use Rattle.office_history.specs.Lists.{numbers}
 use Rattle.office_history.specs.Histories.{History, Deposit, deposits, deposit_numbered, destruction_day, kept_numbers}
 use Rattle.office_history.specs.Bags.{bag_of, valid_bag, if_valid, report_on}
 use Rattle.office_history.specs.Refusals.{refusal}
@@ -21,7 +22,8 @@ use Rattle.office_history.specs.Answers.{answer, answer_unless, allowed_answer, 
 use Rattle.office_history.specs.Runs.{IsLegal}
 use Rattle.office_history.specs.Stocks.{files_of, contents, IsKept}
 use Rattle.office_history.proofs.ListLemmas.{all_append, all_numbered}
-use Rattle.office_history.proofs.MemberLemmas.{in_filter, filter_in, numbered_in, in_map, map_in, in_gathered, gathered_in, first_places_in, in_places}
+use Rattle.bag_text.proofs.ElementLemmas.{Has, contains_has, has_contains, has_filter, filter_has, has_map, map_has}
+use Rattle.office_history.proofs.MemberLemmas.{numbered_has, has_gathered, gathered_has, first_places_have, has_in_places}
 use Rattle.office_history.proofs.Accepted.{legal_by, deposits_by, disposable}
 use Rattle.office_history.proofs.LawLemmas.{unrefused}
 
@@ -31,48 +33,51 @@ is_nothing (Some x) e = absurd cc
 
 -- ---- due lists
 
-pub listed_is_due : (h : History) (day : Date) (caller : List ℕ) (n : ℕ) → IsIn n (due_list h day caller) → answer h day caller (Dispose n) ≡ answers.Destroyed n day
+pub listed_is_due : (h : History) (day : Date) (caller : List ℕ) (n : ℕ) → Contains (due_list h day caller) n → answer h day caller (Dispose n) ≡ answers.Destroyed n day
 listed_is_due h day caller n found =
-    let passes = filter_in (λ m. is_none (refusal h day caller (Dispose m))) n (kept_numbers h) found in
+    let passes = filter_has (λ m. is_none (refusal h day caller (Dispose m))) (kept_numbers h) n (contains_has (due_list h day caller) n found) in
     ap (λ (why : Option Refusal). answer_unless why (answers.Destroyed n day)) (is_nothing (refusal h day caller (Dispose n)) passes.1)
 
-pub due_is_listed : (h : History) (day : Date) (caller : List ℕ) (n : ℕ) → answer h day caller (Dispose n) ≡ answers.Destroyed n day → IsIn n (due_list h day caller)
+-- the number of a deposit that was not destroyed is one of those that are kept
+is_kept : (h : History) (n : ℕ) (found : Date × Deposit) → deposit_numbered h n ≡ Some found → destruction_day h n ≡ None → Has (kept_numbers h) n
+is_kept h n found there stays = has_filter (λ m. is_none (destruction_day h m)) (numbers (length (deposits h))) n (numbered_has (deposits h) n found there) (ap is_none stays)
+
+pub due_is_listed : (h : History) (day : Date) (caller : List ℕ) (n : ℕ) → answer h day caller (Dispose n) ≡ answers.Destroyed n day → Contains (due_list h day caller) n
 due_is_listed h day caller n e =
     let r = unrefused (refusal h day caller (Dispose n)) (answers.Destroyed n day) (answers.Destroyed n day) e (λ r. λ wrong. absurd cc) in
     let may = disposable h day caller n r.0 in
-    let is_kept : IsIn n (kept_numbers h) = in_filter (λ m. is_none (destruction_day h m)) n (numbers (length (deposits h))) (ap is_none may.kept) (numbered_in (deposits h) n may.found may.there) in
-    in_filter (λ m. is_none (refusal h day caller (Dispose m))) n (kept_numbers h) (ap is_none r.0) is_kept
+    has_contains (due_list h day caller) n (has_filter (λ m. is_none (refusal h day caller (Dispose m))) (kept_numbers h) n (is_kept h n may.found may.there may.kept) (ap is_none r.0))
 
 -- ---- contents
 
 abbrev content : File → List ℕ
 content file = file.content
 
-pub kept_content : (h : History) (text : List ℕ) → IsKept h text → IsIn text (contents h)
+pub kept_content : (h : History) (text : List ℕ) → IsKept h text → Contains (contents h) text
 kept_content h text k =
-    let is_kept : IsIn k.number (kept_numbers h) = in_filter (λ m. is_none (destruction_day h m)) k.number (numbers (length (deposits h))) (ap is_none k.kept) (numbered_in (deposits h) k.number k.found k.there) in
-    let stands : IsIn k.file (files_of h k.number) = subst (λ (o : Option (Date × Deposit)). IsIn k.file (option_map_or (λ found. found.1.bag) o [])) (sym k.there) k.has_file in
-    let all = in_map content k.file (flat_map (files_of h) (kept_numbers h)) (in_gathered (files_of h) k.number k.file (kept_numbers h) is_kept stands) in
-    first_places_in text (map content (flat_map (files_of h) (kept_numbers h))) (subst (λ t. IsIn t (map content (flat_map (files_of h) (kept_numbers h)))) k.has_content all)
+    let all = flat_map (files_of h) (kept_numbers h) in
+    let stands : Has (files_of h k.number) k.file = subst (λ (o : Option (Date × Deposit)). Has (option_map_or (λ found. found.1.bag) o []) k.file) (sym k.there) (contains_has k.found.1.bag k.file k.has_file) in
+    let here = has_map content all k.file (has_gathered (files_of h) k.number k.file (kept_numbers h) (is_kept h k.number k.found k.there k.kept) stands) in
+    has_contains (contents h) text (first_places_have text (map content all) (subst (Has (map content all)) k.has_content here))
 
-pub content_kept : (h : History) (text : List ℕ) → IsIn text (contents h) → IsKept h text
+pub content_kept : (h : History) (text : List ℕ) → Contains (contents h) text → IsKept h text
 content_kept h text found =
-    let mapped = map_in content text (flat_map (files_of h) (kept_numbers h)) (in_places text (map content (flat_map (files_of h) (kept_numbers h))) found) in
-    let gathered = gathered_in (files_of h) mapped.0 (kept_numbers h) mapped.1 in
-    let passes = filter_in (λ m. is_none (destruction_day h m)) gathered.0 (numbers (length (deposits h))) gathered.1 in
-    by gathered.0 mapped.0 (is_nothing (destruction_day h gathered.0) passes.1) gathered.2 mapped.2 (deposit_numbered h gathered.0) refl
+    let all = flat_map (files_of h) (kept_numbers h) in
+    let mapped = map_has content all text (has_in_places text (map content all) (contains_has (contents h) text found)) in
+    let gathered = gathered_has (files_of h) mapped.0 (kept_numbers h) mapped.1 in
+    let passes = filter_has (λ m. is_none (destruction_day h m)) (numbers (length (deposits h))) gathered.0 gathered.1 in
+    by gathered.0 mapped.0 (is_nothing (destruction_day h gathered.0) passes.1) mapped.2 (deposit_numbered h gathered.0) refl gathered.2
   where
-    by : (n : ℕ) (file : File) → destruction_day h n ≡ None → IsIn file (files_of h n) → file.content ≡ text → (o : Option (Date × Deposit)) → deposit_numbered h n ≡ o → IsKept h text
-    by n file stays has same None is =
-        let none : IsIn file [] = subst (λ (o : Option (Date × Deposit)). IsIn file (option_map_or (λ found. found.1.bag) o [])) is has in
-        absurd (let wrong = none.1 in cc)
-    by n file stays has same (Some found) is = record {
+    by : (n : ℕ) (file : File) → destruction_day h n ≡ None → file.content ≡ text → (o : Option (Date × Deposit)) → deposit_numbered h n ≡ o
+        → Has (option_map_or (λ found. found.1.bag) o []) file → IsKept h text
+    by n file stays same None is has = absurd has
+    by n file stays same (Some found) is has = record {
       number = n;
       found = found;
       file = file;
       there = is;
       kept = stays;
-      has_file = subst (λ (o : Option (Date × Deposit)). IsIn file (option_map_or (λ found. found.1.bag) o [])) is has;
+      has_file = has_contains found.1.bag file has;
       has_content = same;
     }
 

@@ -23,7 +23,8 @@ use Rattle.office_history.specs.Refusals.{refusal_in, refusal, of_deposit, denia
 use Rattle.office_history.specs.Answers.{answer}
 use Rattle.office_history.specs.Runs.{IsLegal}
 use Rattle.office_history.proofs.ListLemmas.{numbered_cases, none_passes}
-use Rattle.office_history.proofs.MemberLemmas.{filter_in}
+use Rattle.bag_text.proofs.ElementLemmas.{filter_has}
+use Rattle.office_history.proofs.MemberLemmas.{has_at}
 use Rattle.office_history.proofs.HistoryLemmas.{deposits_grown}
 use Rattle.office_history.proofs.Accepted.{IsAccepted, legal_by, deposits_by, map_none}
 use Rattle.office_history.proofs.LawLemmas.{unrefused}
@@ -80,7 +81,7 @@ accessions_apart h legal = legal_by (λ x. AreApart (deposits x)) (λ a b a_in b
 -- a hold that was released is none of the live ones
 pub not_among_live : (h : History) (k i n : ℕ) (day : Date) (deposit : Deposit) → release_day h k ≡ Some day → slice_get (live_holds h n deposit) i ≡ Some k → ⊥
 not_among_live h k i n day deposit e at =
-    let passes : (is_live h k && covers h k n deposit) ≡ true = (filter_in (λ j. is_live h j && covers h j n deposit) k (numbers (length (holds h))) (i, at)).1 in
+    let passes : (is_live h k && covers h k n deposit) ≡ true = (filter_has (λ j. is_live h j && covers h j n deposit) (numbers (length (holds h))) k (has_at (live_holds h n deposit) i k at)).1 in
     let alive : is_live h k ≡ true = (and_parts _ _ passes).0 in
     let dead : is_live h k ≡ false = rw e refl in
     true≢false (sym alive ∙ dead)

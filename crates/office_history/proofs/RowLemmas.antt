@@ -1,6 +1,6 @@
 -- The rows of a legal history are in range.
 use Rattle.std.proofs.Common.{◌≡◌, ◌≤◌, ℕ, zero, suc, ◌+◌, ◌||◌, ℤ, pos, Bool, true, false, List, [], ◌∷◌, length, map, filter, Option, Some, None, IfSome, IsSome, is_none, is_some, option_map, refl, sym, ap, subst, ◌∙◌, inl, inr, ◌⊎◌, arith, cond}
-use Rattle.std.specs.Prelude.{bytes_eq, neg_ℤ}
+use Rattle.std.specs.Prelude.{Contains, bytes_eq, neg_ℤ}
 use Rattle.std.specs.List.{AllByRecursion, filter_map, flat_map, list_any, range_with_len, cons_option}
 use Rattle.std.specs.Option.{option_map_or}
 use Rattle.std.proofs.lemmas.List.{length-map}
@@ -10,6 +10,7 @@ use Rattle.jiff_core.proofs.SignedLemmas.{signed_arith}
 use Rattle.jiff.specs.Types.{Date}
 use Rattle.jiff.specs.Words.{epoch_day, IsBetween}
 use Rattle.bag_text.specs.TransferForm.{File, Fits}
+use Rattle.bag_text.proofs.ElementLemmas.{Has, has_contains, any_has}
 use Rattle.office_core.proofs.DayLemmas.{day_number}
 use Rattle.office_core.specs.Days.{IsDay, IsDayNumber}
 use Rattle.office_core.specs.Names.{IsName}
@@ -24,7 +25,7 @@ use Rattle.office_core.specs.declared.rule.Pattern.{Pattern}
 use Rattle.office_core.specs.declared.rule.Pattern.TheVariants as patterns
 use Rattle.office_core.specs.declared.rule.Rule.{Rule}
 use Rattle.office_rows.specs.Rows.{RuleRow, ClassRow, DepositRow, HoldRow}
-use Rattle.office_history.specs.Lists.{IsIn, item_numbered, numbers, in_first_places}
+use Rattle.office_history.specs.Lists.{item_numbered, numbers, in_first_places}
 use Rattle.office_history.specs.Histories.{History, Target, OnDeposit, OnCollection, Deposit, policy, years_of, collection_in, has_collection, deposits, deposit_numbered, destruction_day, kept_numbers, holds, hold_numbered, release_day}
 use Rattle.office_history.specs.Acceptance.{IsThere}
 use Rattle.office_history.specs.Pictures.{effect_number, pattern_text, action_pattern_text, caller_row, rule_rows, years_number, class_row, class_in, row_of_class, collection_rows, deposit_row, deposit_rows, row_of_deposit, file_row, held_deposit, held_collection, hold_row, row_of_hold, picture}
@@ -34,7 +35,7 @@ use Rattle.office_history.specs.Stocks.{files_of}
 use Rattle.office_history.proofs.ListLemmas.{all_append, all_numbered}
 use Rattle.office_history.proofs.LegalLemmas.{Reads, Judges, HasSoundBag, sound_deposits}
 use Rattle.office_history.proofs.LegalReadings.{legal_policy}
-use Rattle.office_history.proofs.MemberLemmas.{further, first_places_in}
+use Rattle.office_history.proofs.MemberLemmas.{first_places_have}
 use Rattle.office_history.proofs.KeptLemmas.{is_nothing}
 use Rattle.office_history.proofs.Pictured.{there_is, told_at, all_distinct}
 use Rattle.office_history.proofs.RangeLemmas.{limits_hold, WasClosed, closed_deposits, gone_days, released_days, named_classes, named_collections, IsDeposited, ranged_deposits, IsPlaced, ranged_holds, HasPlace, placed_deposits, HasTarget, placed_holds}
@@ -86,22 +87,16 @@ few_told {A = A} {R = R} tell (x ∷ xs) = by (tell x) (few_told tell xs)
     by None rest = omega (arith, rest)
     by (Some row) rest = omega (arith, rest)
 
--- a text that some text of a list equals stands in it
-any_in : (text : List ℕ) (texts : List (List ℕ)) → list_any (bytes_eq text) texts ≡ true → IsIn text texts
-any_in text [] e = absurd cc
-any_in text (x ∷ xs) e = by (bytes_eq text x) refl e (any_in text xs)
-  where
-    by : (b : Bool) → bytes_eq text x ≡ b → (b || list_any (bytes_eq text) xs) ≡ true → (list_any (bytes_eq text) xs ≡ true → IsIn text xs) → IsIn text (x ∷ xs)
-    by true is e rest = (0, ap Some (sym ((bytes_eq-Decides text x).0 is)))
-    by false is e rest = further text x xs (rest e)
-
 -- ---- what rows speak of
 
 row_there : (h : History) (n : ℕ) (found : Date × Deposit) → deposit_numbered h n ≡ Some found → item_numbered (deposit_rows h) n ≡ Some (deposit_row h n found)
 row_there h n found e = told_at (deposits h) (deposit_row h) n ∙ ap (option_map (deposit_row h n)) e
 
-collection_there : (h : History) (name : List ℕ) → has_collection h name ≡ true → IsIn name (collection_rows h)
-collection_there h name e = first_places_in name (filter_map collection_in h.changes) (any_in name (filter_map collection_in h.changes) e)
+collection_there : (h : History) (name : List ℕ) → has_collection h name ≡ true → Contains (collection_rows h) name
+collection_there h name e =
+    let found = any_has (bytes_eq name) (filter_map collection_in h.changes) e in
+    let here : Has (filter_map collection_in h.changes) name = subst (Has (filter_map collection_in h.changes)) (sym ((bytes_eq-Decides name found.0).0 found.2)) found.1 in
+    has_contains (collection_rows h) name (first_places_have name (filter_map collection_in h.changes) here)
 
 -- ---- callers and rules
 

@@ -1,5 +1,5 @@
 -- Words on lists that the definitions of the office use.
-use Rattle.std.specs.Prelude.{◌≡◌, ℕ, zero, suc, List, [], ◌∷◌, Option, Some, None, slice_get, bytes_eq, if◌then◌else◌}
+use Rattle.std.specs.Prelude.{ℕ, zero, suc, List, [], ◌∷◌, Option, None, slice_get, bytes_eq, if◌then◌else◌}
 use Rattle.std.specs.List.{list_any, range_with_len}
 use Rattle.std.specs.Option.{option_or}
 
@@ -30,7 +30,3 @@ distinct_after seen (text ∷ texts) = if list_any (bytes_eq text) seen then dis
 -- each text once, where it stands first
 abbrev pub in_first_places : List (List ℕ) → List (List ℕ)
 in_first_places texts = distinct_after [] texts
-
--- the item stands somewhere in the list
-abbrev pub IsIn : {A : Type 0} → A → List A → Type 0
-IsIn x xs = (place : ℕ) × (slice_get xs place ≡ Some x)

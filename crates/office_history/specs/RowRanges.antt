@@ -1,6 +1,6 @@
 -- The rows that accepted changes write: one row of the office, every number, name and day in its range, no more of each
 -- kind than is allowed, and what a row speaks of is there.
-use Rattle.std.specs.Prelude.{◌≡◌, ℕ, ◌+◌, ◌≤◌, ◌≤ℤ◌, ◌⊎◌, ℤ, pos, neg_ℤ, List, [], ◌∷◌, length, Option, Some, None, IsSome, IfSome, codes}
+use Rattle.std.specs.Prelude.{◌≡◌, ℕ, ◌+◌, ◌≤◌, ◌≤ℤ◌, ◌⊎◌, ℤ, pos, neg_ℤ, List, [], ◌∷◌, length, Option, Some, None, IsSome, IfSome, Contains, codes}
 use Rattle.std.specs.List.{AllByRecursion}
 use Rattle.jiff.specs.Words.{IsBetween}
 use Rattle.bag_text.specs.TransferForm.{Fits}
@@ -10,7 +10,7 @@ use Rattle.office_core.specs.Days.{IsDayNumber}
 use Rattle.office_core.specs.Names.{IsName, IsAccession, IsMatter}
 use Rattle.office_core.specs.declared.action.Action.{Action}
 use Rattle.office_rows.specs.Rows.{OfficeRow, CallerRow, RuleRow, ClassRow, DepositRow, FileRow, HoldRow, Tables}
-use Rattle.office_history.specs.Lists.{IsIn, item_numbered}
+use Rattle.office_history.specs.Lists.{item_numbered}
 
 -- the numbers of the rows are these: n, n + 1, n + 2 and so on
 abbrev pub AreNumbered : {Row : Type 0} → (Row → ℤ) → ℕ → List Row → Type 0
@@ -51,7 +51,7 @@ pub record IsClassRow (row : ClassRow) : Type 0 where
 -- its collection is there
 pub record IsDepositRow (tables : Tables) (row : DepositRow) : Type 0 where
   pub accession : IsAccession row.accession
-  pub collection : IsIn row.collection tables.collections
+  pub collection : Contains tables.collections row.collection
   pub class : IsName row.class
   pub closed : IsDayNumber row.closed
   pub deposited : IsDayNumber row.deposited
@@ -72,7 +72,7 @@ pub record IsFileRow (tables : Tables) (row : FileRow) : Type 0 where
 -- a deposit or a collection that is there, and not both
 abbrev pub IsOneTarget : Tables → Option ℤ → Option (List ℕ) → Type 0
 IsOneTarget tables (Some deposit) None = (n : ℕ) × (deposit ≡ pos n) × IsSome (item_numbered tables.deposits n)
-IsOneTarget tables None (Some collection) = IsIn collection tables.collections
+IsOneTarget tables None (Some collection) = Contains tables.collections collection
 IsOneTarget tables _ _ = ⊥
 
 pub record IsHoldRow (tables : Tables) (row : HoldRow) : Type 0 where

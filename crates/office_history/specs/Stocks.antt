@@ -1,11 +1,11 @@
 -- What the office keeps: the contents of the files of the kept deposits, each once.
-use Rattle.std.specs.Prelude.{◌≡◌, ℕ, List, [], Some, None, length, map, sum}
+use Rattle.std.specs.Prelude.{◌≡◌, ℕ, List, [], Some, None, Contains, length, map, sum}
 use Rattle.std.specs.List.{flat_map}
 use Rattle.std.specs.Option.{option_map_or}
 use Rattle.jiff.specs.Types.{Date}
 use Rattle.bag_text.specs.TransferForm.{File}
 use Rattle.office_history.specs.Histories.{History, Deposit, deposit_numbered, destruction_day, kept_numbers}
-use Rattle.office_history.specs.Lists.{IsIn, in_first_places}
+use Rattle.office_history.specs.Lists.{in_first_places}
 
 -- the files of a deposit, none where there is no such deposit
 abbrev pub files_of : History → ℕ → List File
@@ -22,7 +22,7 @@ pub record IsKept (h : History) (content : List ℕ) : Type 0 where
   pub file : File
   pub there : deposit_numbered h number ≡ Some found
   pub kept : destruction_day h number ≡ None
-  pub has_file : IsIn file found.1.bag
+  pub has_file : Contains found.1.bag file
   pub has_content : file.content ≡ content
 
 pub record Stock : Type 0 where

@@ -1,6 +1,6 @@
 //! Laws of the office, over the definitions alone.
 
-ghost use Rattle.std.specs.Prelude.{◌≡◌, ◌↔◌, ◌≤ℤ◌, ◌<◌, ◌≢◌, ℕ, ℤ, List, [], ◌∷◌, ◌++◌, Option, Some, None, Ok, Err, true, false, slice_get, bytes_eq};
+ghost use Rattle.std.specs.Prelude.{◌≡◌, ◌↔◌, ◌≤ℤ◌, ◌<◌, ◌≢◌, ℕ, ℤ, List, [], ◌∷◌, ◌++◌, Option, Some, None, Ok, Err, true, false, Contains, slice_get, bytes_eq};
 ghost use Rattle.std.specs.List.{IsDistinct};
 ghost use denote.Ref.{Bor};
 ghost use Rattle.jiff.specs.Types.{Date};
@@ -33,7 +33,6 @@ ghost use Rattle.office_history.specs.Histories.{History, Change, Installed, Rel
 ghost use Rattle.office_history.specs.Refusals.{asked_refusals, facts_of, refusal, refusal_of};
 ghost use Rattle.office_history.specs.Answers.{answer, due_list, change, after};
 ghost use Rattle.office_history.specs.Pictures.{picture};
-ghost use Rattle.office_history.specs.Lists.{IsIn};
 ghost use Rattle.office_history.specs.RowRanges.{AreInRange};
 ghost use Rattle.office_history.specs.Stocks.{stock, contents, IsKept};
 ghost use Rattle.office_history.specs.Acceptance.{IsChange, IsAllowed, IsThere, IsReleasable, IsDisposable};
@@ -193,7 +192,7 @@ pub fn files_are_served_as_deposited()
 /// answered as destroyed.
 pub fn due_lists_are_disposals()
     ensures { (h : History) (day : Date) (caller : List ℕ) (n : ℕ)
-        → IsIn n (due_list h day caller)
+        → Contains (due_list h day caller) n
         ↔ (answer h day caller (Dispose n) ≡ answers.Destroyed n day) }
 {}
 
@@ -208,7 +207,7 @@ pub fn audits_are_valid()
 /// The contents that are kept are exactly those of the files of kept deposits, each once.
 pub fn contents_are_kept_once()
     ensures exactly { (h : History) (content : List ℕ)
-        → IsIn content (contents h) ↔ IsKept h content }
+        → Contains (contents h) content ↔ IsKept h content }
     ensures once { (h : History) → IsDistinct bytes_eq (contents h) }
 {}
 
