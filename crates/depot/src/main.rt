@@ -1,7 +1,7 @@
 //! Judges BagIt bags (RFC 8493), and says which rule of a policy decides, from the command line.
 #![tactic(auto)]
 
-use commands::{Ending, run, refuse_words};
+use commands::{Ending, refuse_words, run};
 use std::io;
 use std::process::ExitCode;
 

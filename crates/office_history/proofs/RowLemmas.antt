@@ -183,14 +183,17 @@ bag_ranged reads judges h legal n = by (deposit_numbered h n) refl
 files_ranged : (h : History) (version : ℤ) (n : ℕ) (found : Date × Deposit) → deposit_numbered h n ≡ Some found → destruction_day h n ≡ None
     → (files : List File) → AllByRecursion Fits files → AllByRecursion (IsFileRow (picture version h)) (map (file_row n) files)
 files_ranged h version n found is stays [] all = tt
-files_ranged h version n found is stays (file ∷ files) all = (record {
-  file = record { good = all.0.good; small = all.0.small };
-  number = n;
-  deposit = deposit_row h n found;
-  of_deposit = refl;
-  there = row_there h n found is;
-  kept = ap (option_map epoch_day) stays;
-}, files_ranged h version n found is stays files all.1)
+files_ranged h version n found is stays (file ∷ files) all = (
+  record {
+    file = record { good = all.0.good; small = all.0.small };
+    number = n;
+    deposit = deposit_row h n found;
+    of_deposit = refl;
+    there = row_there h n found is;
+    kept = ap (option_map epoch_day) stays;
+  },
+  files_ranged h version n found is stays files all.1,
+)
 
 -- the files of a deposit that was not destroyed
 kept_ranged : Reads → Judges → (h : History) (version : ℤ) → IsLegal h → (n : ℕ) → destruction_day h n ≡ None → AllByRecursion (IsFileRow (picture version h)) (map (file_row n) (files_of h n))
