@@ -9,7 +9,7 @@ ghost use Rattle.office_tables.specs.Tables.{Becomes, tables_of};
 ghost use Rattle.office_history.specs.Histories.{History};
 ghost use Rattle.office_history.specs.Answers.{answer};
 ghost use Rattle.office_history.specs.RowRanges.{AreInRange};
-ghost use Rattle.office_history.specs.Runs.{IsLegal, created};
+ghost use Rattle.office_history.specs.Runs.{IsLegal, new_history};
 ghost use Rattle.office_engine.specs.Pictures.{Pictures};
 
 pub use office_history::laws::{
@@ -26,7 +26,7 @@ pub use office_history::laws::{
 pub fn new_offices_are_pictured()
     ensures { (db : Database) (max_deposits max_holds : ℕ)
         → Becomes db (empty_office this_version (pos max_deposits) (pos max_holds))
-        ↔ Pictures (created max_deposits max_holds) db }
+        ↔ Pictures (new_history max_deposits max_holds) db }
 {}
 
 /// Tables that picture two legal histories answer each request alike, whichever of the two is
