@@ -21,7 +21,8 @@ use Rattle.office_history.specs.Refusals.{refusal}
 use Rattle.office_history.specs.Answers.{answer, answer_unless, allowed_answer, told_of, audit_report, due_list}
 use Rattle.office_history.specs.Runs.{IsLegal}
 use Rattle.office_history.specs.Stocks.{files_of, contents, IsKept}
-use Rattle.office_history.proofs.ListLemmas.{all_append, all_numbered}
+use Rattle.office_history.proofs.ListLemmas.{all_numbered}
+use Rattle.office_rows.proofs.Order.{all_append}
 use Rattle.bag_text.proofs.ElementLemmas.{Has, contains_has, has_contains, has_filter, filter_has, has_map, map_has}
 use Rattle.office_history.proofs.MemberLemmas.{numbered_has, has_gathered, gathered_has, first_places_have, has_in_places}
 use Rattle.office_history.proofs.Accepted.{legal_by, deposits_by, disposable}

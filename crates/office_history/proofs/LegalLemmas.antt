@@ -14,7 +14,8 @@ use Rattle.office_history.specs.Histories.{History, Change, Deposit, with_change
 use Rattle.office_history.specs.Bags.{bag_of, valid_bag, if_valid, report_or_text}
 use Rattle.office_history.specs.Acceptance.{IsChange, IsAllowed}
 use Rattle.office_history.specs.Runs.{Item, IsItem, AreItems, Step, Run, IsLegal, serve, IsSound, as_of}
-use Rattle.office_history.proofs.ListLemmas.{all_append, split_two}
+use Rattle.office_history.proofs.ListLemmas.{split_two}
+use Rattle.office_rows.proofs.Order.{all_append}
 use Rattle.office_history.proofs.Accepted.{IsAccepted, legal_by, deposits_by}
 
 -- ---- the bags

@@ -17,10 +17,6 @@ pub numbered_front : {A : Type 0} (xs ys : List A) (n : ℕ) (x : A) → item_nu
 numbered_front xs ys zero x e = e
 numbered_front xs ys (suc place) x e = slice_get_front xs ys place x e
 
-pub all_append : {A : Type 0} (P : A → Type 0) (xs ys : List A) → AllByRecursion P xs → AllByRecursion P ys → AllByRecursion P (xs ++ ys)
-all_append P [] ys a b = b
-all_append P (x ∷ xs) ys a b = (a.0, all_append P xs ys a.1 b)
-
 pub all_at : {A : Type 0} (P : A → Type 0) (xs : List A) (i : ℕ) (x : A) → AllByRecursion P xs → slice_get xs i ≡ Some x → P x
 all_at P [] i x a e = absurd cc
 all_at P (y ∷ xs) zero x a e = subst P (same_Some _ _ e) a.0

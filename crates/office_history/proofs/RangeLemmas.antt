@@ -16,7 +16,7 @@ use Rattle.office_history.specs.Lists.{first_said, last_said}
 use Rattle.office_history.specs.Histories.{History, Change, Installed, DefinedClass, DefinedCollection, Deposited, PlacedHold, ReleasedHold, Destroyed, Target, OnDeposit, OnCollection, Deposit, Hold, with_changes, years_in, years_of, has_class, collection_in, has_collection, deposit_in, deposits, deposit_numbered, destroyed_in, destruction_day, hold_in, holds, released_in, release_day}
 use Rattle.office_history.specs.Acceptance.{IsChange, IsDeposit, IsHold, IsThere}
 use Rattle.office_history.specs.Runs.{IsLegal, IsWithin}
-use Rattle.office_history.proofs.ListLemmas.{all_append}
+use Rattle.office_rows.proofs.Order.{all_append}
 use Rattle.office_history.proofs.HistoryLemmas.{deposit_stays}
 use Rattle.office_history.proofs.Alike.{last_said-append}
 use Rattle.office_history.proofs.Accepted.{IsAccepted, legal_by, deposits_by, holds_by}

@@ -32,7 +32,8 @@ use Rattle.office_history.specs.Pictures.{effect_number, pattern_text, action_pa
 use Rattle.office_history.specs.RowRanges.{AreNumbered, IsPatternText, IsActionText, IsOneTarget, IsCallerRow, IsRuleRow, IsClassRow, IsDepositRow, IsFileRow, IsHoldRow, AreInRange}
 use Rattle.office_history.specs.Runs.{IsLegal}
 use Rattle.office_history.specs.Stocks.{files_of}
-use Rattle.office_history.proofs.ListLemmas.{all_append, all_numbered}
+use Rattle.office_history.proofs.ListLemmas.{all_numbered}
+use Rattle.office_rows.proofs.Order.{all_append}
 use Rattle.office_history.proofs.LegalLemmas.{Reads, Judges, HasSoundBag, sound_deposits}
 use Rattle.office_history.proofs.LegalReadings.{legal_policy}
 use Rattle.office_history.proofs.MemberLemmas.{first_places_have}

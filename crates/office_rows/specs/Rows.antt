@@ -126,9 +126,13 @@ limits_in o = record { max_deposits = o.max_deposits; max_holds = o.max_holds }
 abbrev pub limits_of : Tables → Option Limits
 limits_of t = option_map limits_in (office_row t)
 
--- a limit is from 1 to 1,000,000
+-- the greatest limit
+abbrev pub max_limit : ℕ
+max_limit = 1_000_000
+
+-- a limit is from 1 to the greatest
 abbrev pub is_in_range : ℤ → Bool
-is_in_range (pos n) = nat_le 1 n && nat_le n 1000000
+is_in_range (pos n) = nat_le 1 n && nat_le n max_limit
 is_in_range (negsuc n) = false
 
 -- the version of these tables

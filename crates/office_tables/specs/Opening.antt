@@ -11,7 +11,7 @@ use Rattle.sqlite.specs.Effect.{Database, Reads}
 use Rattle.sqlite.specs.State.{State}
 use Rattle.sqlite_schema.specs.Names.{table_named, column_named}
 use Rattle.sqlite_resolve.specs.declared.compiled.Compiled.{Compiled}
-use Rattle.office_rows.specs.Rows.{Tables, version_of}
+use Rattle.office_rows.specs.Rows.{Tables, max_limit, version_of}
 use Rattle.office_tables.specs.Tables.{Becomes}
 
 -- ---- what is left
@@ -52,7 +52,7 @@ is_one (Int (pos n)) = n == 1
 is_one _ = false
 
 abbrev pub is_limit : Value → Bool
-is_limit (Int (pos n)) = nat_le 1 n && nat_le n 1000000
+is_limit (Int (pos n)) = nat_le 1 n && nat_le n max_limit
 is_limit _ = false
 
 abbrev pub is_int : Value → Bool

@@ -1,6 +1,7 @@
 //! What the history says: each question is answered by going over all changes.
 
 ghost use Rattle.std.specs.Prelude.{◌≡◌, ◌≤◌, length, option_copied, is_none, ◌&&◌, ◌+◌, IfOk};
+ghost use Rattle.office_core.specs.Bounds.{max_limit};
 ghost use Rattle.office_history.specs.Lists.{last_said};
 ghost use Rattle.office_history.specs.Histories.{installed_in, policy, years_of, has_class, has_collection, deposits, deposit_numbered, accession_of, destruction_day, kept_numbers, due, holds, hold_numbered, release_day, is_live, reaches, covers, live_holds};
 ghost use Rattle.office_history.specs.PlainChanges.{borrowed};
@@ -61,7 +62,7 @@ pub fn has_collection(office: &Office, name: &str) -> bool
 /// How many deposits were accepted.
 pub fn deposit_count(office: &Office) -> u32
     ensures count { result ≡ length (deposits office.now) }
-    ensures few { result ≤ 1_000_000 }
+    ensures few { result ≤ max_limit }
 {
     let changes = changes_of(office);
     let mut count = 0;
@@ -155,7 +156,7 @@ pub fn due(office: &Office, deposit: &Deposit) -> Due
 /// How many holds were accepted.
 pub fn hold_count(office: &Office) -> u32
     ensures count { result ≡ length (holds office.now) }
-    ensures few { result ≤ 1_000_000 }
+    ensures few { result ≤ max_limit }
 {
     let changes = changes_of(office);
     let mut count = 0;
