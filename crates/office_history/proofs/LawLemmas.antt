@@ -71,29 +71,28 @@ deposit_adds h day caller collection class accession closed text bag e is =
     ∙ ap (λ (why : Option Refusal). deposits h ++ filter_map deposit_in (changes_unless why (deposit_change day collection class accession closed (bag_of text.now)))) e
     ∙ ap (λ (r : Result (List File) (List ℕ)). deposits h ++ filter_map deposit_in (deposit_change day collection class accession closed r)) is
 
--- the form of the bag that a text gives is the text
-pub form_of : ((t : List ℕ) (files : List File) → set_of t ≡ Ok files → t ≡ set_text files) → (text : List ℕ) (bag : List File) → bag_of text ≡ Ok bag → text ≡ set_text bag
-form_of forms text bag e = by_set (set_of text) refl e
+-- the bag that a text gives is read from it
+pub read_of : (text : List ℕ) (bag : List File) → bag_of text ≡ Ok bag → set_of text ≡ Ok bag
+read_of text bag e = by_set (set_of text) refl e
   where
-    by_report : (files : List File) (r : Result Report (List ℕ)) → set_of text ≡ Ok files → if_valid files r ≡ Ok bag → text ≡ set_text bag
-    by_report files (Ok report) s e = let same : files ≡ bag = cc in forms text files s ∙ ap set_text same
+    by_report : (files : List File) (r : Result Report (List ℕ)) → set_of text ≡ Ok files → if_valid files r ≡ Ok bag → set_of text ≡ Ok bag
+    by_report files (Ok report) s e = let same : files ≡ bag = cc in s ∙ ap Ok same
     by_report files (Err fault) s e = absurd cc
 
-    by_set : (r : Result (List File) SetFault) → set_of text ≡ r → valid_bag r ≡ Ok bag → text ≡ set_text bag
+    by_set : (r : Result (List File) SetFault) → set_of text ≡ r → valid_bag r ≡ Ok bag → set_of text ≡ Ok bag
     by_set (Err fault) s e = absurd cc
     by_set (Ok files) s e = by_report files (report_on files) s e
 
--- A deposit that was answered stands in each later history with its bag, whose form is the text that was deposited.
+-- A deposit that was answered stands in each later history with its bag, which is read from the text that was deposited.
 pub record WasDeposited (next : History) (n : ℕ) (text : List ℕ) : Type 0 where
   pub found : Date × Deposit
   pub there : deposit_numbered next n ≡ Some found
-  pub form : text ≡ set_text found.1.bag
+  pub read : set_of text ≡ Ok found.1.bag
 
-pub was_deposited : ((t : List ℕ) (files : List File) → set_of t ≡ Ok files → t ≡ set_text files)
-    → (h next : History) (day : Date) (n : ℕ) (caller collection class accession : List ℕ) (closed : Date) (bag : Bor (List ℕ))
+pub was_deposited : (h next : History) (day : Date) (n : ℕ) (caller collection class accession : List ℕ) (closed : Date) (bag : Bor (List ℕ))
     → answer h day caller (MakeDeposit collection class accession closed bag) ≡ answers.Deposited n
     → IsLater (after h day caller (MakeDeposit collection class accession closed bag)) next → WasDeposited next n bag.now
-was_deposited forms h next day n caller collection class accession closed bag e after_it =
+was_deposited h next day n caller collection class accession closed bag e after_it =
     let was = unrefused (refusal h day caller (MakeDeposit collection class accession closed bag)) (answers.Deposited (length (deposits h) + 1)) (answers.Deposited n) e (λ r. λ wrong. absurd cc) in
     let number : length (deposits h) + 1 ≡ n = (let same = was.1 in cc) in
     let allowed = depositable h day caller collection class accession closed bag.now was.0 in
@@ -105,7 +104,7 @@ was_deposited forms h next day n caller collection class accession closed bag e 
     record {
       found = made;
       there = ap (λ x. deposit_numbered x n) after_it.1 ∙ deposit_stays mid after_it.0 n made there;
-      form = form_of forms bag.now allowed.0 allowed.1;
+      read = read_of bag.now allowed.0 allowed.1;
     }
 
 -- of two items of a run, neither of which failed, the second was answered in a later history than the first made

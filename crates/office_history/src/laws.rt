@@ -173,7 +173,7 @@ pub fn files_are_served_as_deposited()
         (answers.Deposited n) mid
         → Run mid items given late
         → Step late (later, other, DownloadFile n path) (answers.File bytes) next
-        → (files : List File) × (bag.now ≡ set_text files)
+        → (files : List File) × IsBag files × (bag.now ≡ set_text files)
         × (content_at files path.now ≡ Some bytes) }
     ensures answered { (h next : History) (day later : Date) (n : ℕ) (bytes : List ℕ)
         (caller other collection class accession : List ℕ) (closed : Date)
@@ -182,7 +182,7 @@ pub fn files_are_served_as_deposited()
         ≡ answers.Deposited n
         → IsLater (after h day caller (MakeDeposit collection class accession closed bag)) next
         → answer next later other (DownloadFile n path) ≡ answers.File bytes
-        → (files : List File) × (bag.now ≡ set_text files)
+        → (files : List File) × IsBag files × (bag.now ≡ set_text files)
         × (content_at files path.now ≡ Some bytes) }
 {
     bag_text::laws::transfer_forms();

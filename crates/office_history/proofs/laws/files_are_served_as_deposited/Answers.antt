@@ -5,8 +5,9 @@ use Rattle.office_history.proofs.laws.files_are_served_as_deposited.Goals as goa
 
 pub returns-clause-answered : goal.returns-clause-answered
 returns-clause-answered c = λ h next day later n bytes caller other collection class accession closed bag path e after_it served.
-    let made = was_deposited (λ t files is. ((c.transfer_forms.ensures.read t files).0 is).1) h next day n caller collection class accession closed bag e after_it in
-    (made.found.1.bag, made.form, served_content next later other n path made.found bytes made.there served)
+    let made = was_deposited h next day n caller collection class accession closed bag e after_it in
+    let form = (c.transfer_forms.ensures.read bag.now made.found.1.bag).0 made.read in
+    (made.found.1.bag, form.0, form.1, served_content next later other n path made.found bytes made.there served)
 
 pub returns-clause-ran : goal.returns-clause-ran
 returns-clause-ran c = λ h mid late next items given day later n bytes caller other collection class accession closed bag path first run last.

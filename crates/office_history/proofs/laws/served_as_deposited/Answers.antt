@@ -6,8 +6,8 @@ use Rattle.office_history.proofs.laws.served_as_deposited.Goals as goal
 
 pub returns-clause-answered : goal.returns-clause-answered
 returns-clause-answered c = λ h next day later n bytes caller other collection class accession closed bag e after_it served.
-    let made = was_deposited (λ t files is. ((c.transfer_forms.ensures.read t files).0 is).1) h next day n caller collection class accession closed bag e after_it in
-    served_form next later other n made.found bytes made.there served ∙ sym made.form
+    let made = was_deposited h next day n caller collection class accession closed bag e after_it in
+    served_form next later other n made.found bytes made.there served ∙ sym ((c.transfer_forms.ensures.read bag.now made.found.1.bag).0 made.read).1
 
 pub returns-clause-ran : goal.returns-clause-ran
 returns-clause-ran c = λ h mid late next items given day later n bytes caller other collection class accession closed bag first run last.
