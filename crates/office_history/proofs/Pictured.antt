@@ -33,7 +33,7 @@ use Rattle.office_history.specs.Stocks.{files_of}
 use Rattle.office_core.specs.Policies.{IsNamed, HasNames}
 use Rattle.office_history.specs.Runs.{IsLegal}
 use Rattle.office_history.proofs.MemberLemmas.{other_way}
-use Rattle.office_history.proofs.Alike.{outline, Alike}
+use Rattle.office_history.proofs.Alike.{outline, Alike, or_none}
 use Rattle.office_history.proofs.AlikeAnswers.{among_first_places}
 use Rattle.office_history.proofs.LegalReadings.{legal_policy, none_gone, none_released}
 
@@ -373,10 +373,6 @@ or_true true = refl
 or_true false = refl
 
 -- a class that has years is among those that were defined
-or_none : {A : Type 0} (o : Option A) → option_or o None ≡ o
-or_none None = refl
-or_none (Some x) = refl
-
 class_at : (name other : List ℕ) (years y : Option ℕ) (o : Option (Option ℕ)) (among : Bool) (b : Bool) → bytes_eq other name ≡ b → (o ≡ Some y → among ≡ true)
     → option_or o (if b then Some years else None) ≡ Some y → (bytes_eq name other || among) ≡ true
 class_at name other years y o among true f rest e = ap (λ b. b || among) ((bytes_eq-Decides name other).1 (sym ((bytes_eq-Decides other name).0 f)))
