@@ -378,7 +378,7 @@ class_at : (name other : List ℕ) (years y : Option ℕ) (o : Option (Option �
 class_at name other years y o among true f rest e = ap (λ b. b || among) ((bytes_eq-Decides name other).1 (sym ((bytes_eq-Decides other name).0 f)))
 class_at name other years y o among false f rest e = ap (λ b. bytes_eq name other || b) (rest (sym (or_none o) ∙ e)) ∙ or_true (bytes_eq name other)
 
-was_defined : (name : List ℕ) (y : Option ℕ) (changes : List Change) → last_said (years_in name) changes ≡ Some y → list_any (bytes_eq name) (filter_map class_in changes) ≡ true
+pub was_defined : (name : List ℕ) (y : Option ℕ) (changes : List Change) → last_said (years_in name) changes ≡ Some y → list_any (bytes_eq name) (filter_map class_in changes) ≡ true
 was_defined name y [] e = absurd cc
 was_defined name y (DefinedClass day other years ∷ changes) e =
     class_at name other years y (last_said (years_in name) changes) (list_any (bytes_eq name) (filter_map class_in changes)) (bytes_eq other name) refl (was_defined name y changes) e
@@ -450,7 +450,7 @@ names_told years (name ∷ names) a = by (years name) a.0 (names_told years name
     by None e rest = absurd (true≢false (sym e))
     by (Some y) e rest = ap (λ ns. name ∷ ns) rest
 
-names_read : (h : History) → map (λ (r : ClassRow). r.name) (class_rows h) ≡ in_first_places (filter_map class_in h.changes)
+pub names_read : (h : History) → map (λ (r : ClassRow). r.name) (class_rows h) ≡ in_first_places (filter_map class_in h.changes)
 names_read h = names_told (years_of h) (in_first_places (filter_map class_in h.changes)) (all_distinct (HasYears h.changes) [] (filter_map class_in h.changes) (all_have_years h.changes))
 
 -- ---- all of it

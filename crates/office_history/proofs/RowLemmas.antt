@@ -26,9 +26,9 @@ use Rattle.office_core.specs.declared.rule.Pattern.TheVariants as patterns
 use Rattle.office_core.specs.declared.rule.Rule.{Rule}
 use Rattle.office_rows.specs.Rows.{RuleRow, ClassRow, DepositRow, HoldRow}
 use Rattle.office_history.specs.Lists.{item_numbered, numbers, in_first_places}
-use Rattle.office_history.specs.Histories.{History, Target, OnDeposit, OnCollection, Deposit, policy, years_of, collection_in, has_collection, deposits, deposit_numbered, destruction_day, kept_numbers, holds, hold_numbered, release_day}
+use Rattle.office_history.specs.Histories.{History, Target, OnDeposit, OnCollection, Deposit, policy, years_of, has_class, collection_in, has_collection, deposits, deposit_numbered, destruction_day, kept_numbers, holds, hold_numbered, release_day}
 use Rattle.office_history.specs.Acceptance.{IsThere}
-use Rattle.office_history.specs.Pictures.{effect_number, pattern_text, action_pattern_text, caller_row, rule_rows, years_number, class_row, class_in, row_of_class, collection_rows, deposit_row, deposit_rows, row_of_deposit, file_row, held_deposit, held_collection, hold_row, row_of_hold, picture}
+use Rattle.office_history.specs.Pictures.{effect_number, pattern_text, action_pattern_text, caller_row, rule_rows, years_number, class_row, class_in, row_of_class, class_rows, collection_rows, deposit_row, deposit_rows, row_of_deposit, file_row, held_deposit, held_collection, hold_row, row_of_hold, picture}
 use Rattle.office_history.specs.RowRanges.{AreNumbered, IsPatternText, IsActionText, IsOneTarget, IsCallerRow, IsRuleRow, IsClassRow, IsDepositRow, IsFileRow, IsHoldRow, AreInRange}
 use Rattle.office_history.specs.Runs.{IsLegal}
 use Rattle.office_history.specs.Stocks.{files_of}
@@ -38,7 +38,7 @@ use Rattle.office_history.proofs.LegalLemmas.{Reads, Judges, HasSoundBag, sound_
 use Rattle.office_history.proofs.LegalReadings.{legal_policy}
 use Rattle.office_history.proofs.MemberLemmas.{first_places_have}
 use Rattle.office_history.proofs.KeptLemmas.{is_nothing}
-use Rattle.office_history.proofs.Pictured.{there_is, told_at, all_distinct}
+use Rattle.office_history.proofs.Pictured.{there_is, told_at, was_defined, all_distinct, names_read}
 use Rattle.office_history.proofs.RangeLemmas.{limits_hold, WasClosed, closed_deposits, gone_days, released_days, named_classes, named_collections, IsDeposited, ranged_deposits, IsPlaced, ranged_holds, HasPlace, placed_deposits, HasTarget, placed_holds}
 
 -- ---- lists
@@ -93,11 +93,22 @@ few_told {A = A} {R = R} tell (x ∷ xs) = by (tell x) (few_told tell xs)
 row_there : (h : History) (n : ℕ) (found : Date × Deposit) → deposit_numbered h n ≡ Some found → item_numbered (deposit_rows h) n ≡ Some (deposit_row h n found)
 row_there h n found e = told_at (deposits h) (deposit_row h) n ∙ ap (option_map (deposit_row h n)) e
 
+-- what is among some texts is among them once each
+text_there : (name : List ℕ) (texts : List (List ℕ)) → list_any (bytes_eq name) texts ≡ true → Contains (in_first_places texts) name
+text_there name texts e =
+    let found = any_has (bytes_eq name) texts e in
+    let here : Has texts name = subst (Has texts) (sym ((bytes_eq-Decides name found.0).0 found.2)) found.1 in
+    has_contains (in_first_places texts) name (first_places_have name texts here)
+
 collection_there : (h : History) (name : List ℕ) → has_collection h name ≡ true → Contains (collection_rows h) name
-collection_there h name e =
-    let found = any_has (bytes_eq name) (filter_map collection_in h.changes) e in
-    let here : Has (filter_map collection_in h.changes) name = subst (Has (filter_map collection_in h.changes)) (sym ((bytes_eq-Decides name found.0).0 found.2)) found.1 in
-    has_contains (collection_rows h) name (first_places_have name (filter_map collection_in h.changes) here)
+collection_there h name e = text_there name (filter_map collection_in h.changes) e
+
+class_there : (h : History) (name : List ℕ) → has_class h name ≡ true → Contains (map (λ (row : ClassRow). row.name) (class_rows h)) name
+class_there h name e = subst (λ (names : List (List ℕ)). Contains names name) (sym (names_read h)) (text_there name (filter_map class_in h.changes) (by (years_of h name) refl e))
+  where
+    by : (o : Option (Option ℕ)) → years_of h name ≡ o → is_some o ≡ true → list_any (bytes_eq name) (filter_map class_in h.changes) ≡ true
+    by None is e = absurd cc
+    by (Some years) is e = was_defined name years h.changes is
 
 -- ---- callers and rules
 
@@ -165,7 +176,7 @@ deposit_ranged h version legal n row e =
     subst (IsDepositRow (picture version h)) found.2 (record {
       accession = made.1.accession;
       collection = collection_there h found.0.1.collection place.0;
-      class = made.1.class;
+      class = class_there h found.0.1.class place.1;
       closed = day_number found.0.1.closed made.1.closed;
       deposited = day_number found.0.0 made.0;
       in_turn = closed;

@@ -1,6 +1,6 @@
 -- The rows that accepted changes write: one row of the office, every number, name and day in its range, no more of each
 -- kind than is allowed, and what a row speaks of is there.
-use Rattle.std.specs.Prelude.{◌≡◌, ℕ, ◌+◌, ◌≤◌, ◌≤ℤ◌, ◌⊎◌, ℤ, pos, neg_ℤ, List, [], ◌∷◌, length, Option, Some, None, IsSome, IfSome, Contains, codes}
+use Rattle.std.specs.Prelude.{◌≡◌, ℕ, ◌+◌, ◌≤◌, ◌≤ℤ◌, ◌⊎◌, ℤ, pos, neg_ℤ, List, [], ◌∷◌, length, map, Option, Some, None, IsSome, IfSome, Contains, codes}
 use Rattle.std.specs.List.{AllByRecursion}
 use Rattle.jiff.specs.Words.{IsBetween}
 use Rattle.bag_text.specs.TransferForm.{Fits}
@@ -48,11 +48,11 @@ pub record IsClassRow (row : ClassRow) : Type 0 where
   pub name : IsName row.name
   pub years : IsBetween (neg_ℤ (pos 1)) (pos max_years) row.years
 
--- its collection is there
+-- its collection and its class are there
 pub record IsDepositRow (tables : Tables) (row : DepositRow) : Type 0 where
   pub accession : IsAccession row.accession
   pub collection : Contains tables.collections row.collection
-  pub class : IsName row.class
+  pub class : Contains (map (λ class. class.name) tables.classes) row.class
   pub closed : IsDayNumber row.closed
   pub deposited : IsDayNumber row.deposited
   pub in_turn : row.closed ≤ℤ row.deposited
