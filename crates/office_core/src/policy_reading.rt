@@ -20,6 +20,7 @@ use std::alloc::Global;
 use toml::value::Array;
 use toml::{Table, Value};
 
+/// Whether the policy says that its version is 1.
 pub fn has_version_1(tree: &Table) -> bool
     ensures { result ≡ not (has_bad_version (table_view tree.now)) }
 {
@@ -35,6 +36,7 @@ fn is_top_key(key: &str) -> bool
     key == "version" || key == "callers" || key == "rule"
 }
 
+/// Whether each key at the top is one that a policy may have.
 pub fn has_top_keys(tree: &Table) -> bool
     ensures { result
         ≡ list_all (λ entry. is_one_of top_keys entry.0) (entries (table_view tree.now)) }
@@ -78,6 +80,7 @@ fn callers_in(alloc: Global, table: &Table) -> Result<Vec<Caller>, PolicyFault>
     Ok(callers)
 }
 
+/// The callers that the policy lists: none where it has no `callers`.
 pub fn callers_of(alloc: Global, tree: &Table) -> Result<Vec<Caller>, PolicyFault>
     ensures { Gives named_policy_fault (λ v. v.items) result (read_callers (caller_entries (table_view tree.now))) }
 {
@@ -104,6 +107,7 @@ fn rules_in(alloc: Global, values: &Array) -> Result<Vec<Rule>, PolicyFault>
     Ok(rules)
 }
 
+/// The rules of the policy in their order: none where it has no `rule`.
 pub fn rules_of(alloc: Global, tree: &Table) -> Result<Vec<Rule>, PolicyFault>
     ensures { Gives named_policy_fault (λ v. v.items) result (read_rules (rule_values (table_view tree.now))) }
 {

@@ -6,6 +6,7 @@ ghost use Rattle.toml.specs.View.{view, table_view};
 
 use toml::{Table, Value};
 
+/// The value of a key, where the table has it.
 pub fn value_at<'a>(table: &'a Table, key: &str) -> Option<&'a Value>
     ensures { option_map (λ value. view value.now) result
         ≡ get_member key.now (table_view table.now) }

@@ -39,12 +39,14 @@ pub fn years_of(office: &Office, class: &str) -> Option<Years>
     last
 }
 
+/// Whether there is a class of that name.
 pub fn has_class(office: &Office, class: &str) -> bool
     ensures { result ≡ has_class office.now class.now }
 {
     years_of(office, class).is_some()
 }
 
+/// Whether there is a collection of that name.
 pub fn has_collection(office: &Office, name: &str) -> bool
     ensures { result ≡ has_collection office.now name.now }
 {
@@ -123,6 +125,7 @@ pub fn destruction_day(office: &Office, deposit: u32) -> Option<Day>
     None
 }
 
+/// A deposit is kept until it is destroyed.
 fn is_kept(office: &Office, deposit: u32) -> bool
     ensures { result ≡ is_none (destruction_day office.now deposit) }
 {
@@ -199,6 +202,7 @@ pub fn release_day(office: &Office, hold: u32) -> Option<Day>
     None
 }
 
+/// A hold is live until it is released.
 fn is_live(office: &Office, hold: u32) -> bool
     ensures { result ≡ is_live office.now hold }
 {
@@ -215,6 +219,7 @@ fn reaches(hold: &Hold, number: u32, deposit: &Deposit) -> bool
     }
 }
 
+/// Whether the hold of that number, live or not, covers a deposit.
 fn covers(office: &Office, hold: u32, number: u32, deposit: &Deposit) -> bool
     ensures { result ≡ covers office.now hold number deposit.now }
 {
