@@ -1,5 +1,5 @@
 -- The rows of a legal history are in range.
-use Rattle.std.proofs.Common.{◌≡◌, ◌≤◌, ℕ, zero, suc, ◌+◌, ◌||◌, ℤ, pos, Bool, true, false, List, [], ◌∷◌, length, map, filter, Option, Some, None, IfSome, IsSome, is_none, is_some, option_map, refl, sym, ap, subst, ◌∙◌, inl, inr, ◌⊎◌, arith, cond}
+use Rattle.std.proofs.Common.{◌≡◌, ◌≤◌, ℕ, zero, suc, ◌+◌, ℤ, pos, Bool, true, false, List, [], ◌∷◌, length, map, filter, Option, Some, None, IfSome, IsSome, is_none, is_some, option_map, refl, sym, ap, subst, ◌∙◌, inl, inr, ◌⊎◌, arith, cond}
 use Rattle.std.specs.Prelude.{Contains, bytes_eq, neg_ℤ}
 use Rattle.std.specs.List.{AllByRecursion, filter_map, flat_map, list_any, range_with_len, cons_option}
 use Rattle.std.specs.Option.{option_map_or}
@@ -26,7 +26,7 @@ use Rattle.office_core.specs.declared.rule.Pattern.TheVariants as patterns
 use Rattle.office_core.specs.declared.rule.Rule.{Rule}
 use Rattle.office_rows.specs.Rows.{RuleRow, ClassRow, DepositRow, HoldRow}
 use Rattle.office_history.specs.Lists.{item_numbered, numbers, in_first_places}
-use Rattle.office_history.specs.Histories.{History, Target, OnDeposit, OnCollection, Deposit, policy, years_of, has_class, collection_in, has_collection, deposits, deposit_numbered, destruction_day, kept_numbers, holds, hold_numbered, release_day}
+use Rattle.office_history.specs.Histories.{History, Target, OnDeposit, OnCollection, Deposit, policy, years_of, has_class, collection_in, has_collection, deposits, deposit_numbered, destruction_day, holds, hold_numbered, release_day}
 use Rattle.office_history.specs.Acceptance.{IsThere}
 use Rattle.office_history.specs.Pictures.{effect_number, pattern_text, action_pattern_text, caller_row, rule_rows, years_number, class_row, class_in, row_of_class, class_rows, collection_rows, deposit_row, deposit_rows, row_of_deposit, file_row, held_deposit, held_collection, hold_row, row_of_hold, picture}
 use Rattle.office_history.specs.RowRanges.{AreNumbered, IsPatternText, IsActionText, IsOneTarget, IsCallerRow, IsRuleRow, IsClassRow, IsDepositRow, IsFileRow, IsHoldRow, AreInRange}

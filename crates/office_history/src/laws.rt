@@ -213,7 +213,7 @@ pub fn contents_are_kept_once()
 
 /// The rows that a legal history gives are in their ranges: one row of the office, of that version;
 /// effects 0 and 1; names, accessions and matters; years from -1 to 200; numbers of days; one
-/// target a hold; places and numbers 1, 2, 3 and so on.
+/// target a hold; what a row speaks of is there; places and numbers 1, 2, 3 and so on.
 pub fn pictures_are_in_range()
     ensures { (h : History) (version : ℤ) → IsLegal h → AreInRange version (picture version h) }
 {
