@@ -1,8 +1,8 @@
 -- How a failure and a fault of use are printed, and what a device's error comes to.
-use Rattle.std.specs.Prelude.{◌≡◌, ◌⊎◌, ◌++◌, ◌∷◌, [], ℕ, List, Option, codes, string_bytes, take}
+use Rattle.std.specs.Prelude.{◌≡◌, ◌++◌, ◌∷◌, [], ℕ, List, Option, codes, string_bytes, take}
 use Rattle.std.specs.Io.KnownBytes.{Appends}
 use Rattle.std.specs.declared.io.ErrorKind.{ErrorKind}
-use Rattle.std.specs.declared.io.ErrorKind.TheVariants.{OutOfMemory}
+use Rattle.std.specs.declared.io.ErrorKind.TheVariants.{InvalidData, OutOfMemory}
 use Rattle.commands.specs.declared.program.Failure.{Failure}
 use Rattle.commands.specs.declared.program.Failure.TheVariants as failures
 use Rattle.commands.specs.declared.use_fault.UseFault.{UseFault}
@@ -17,6 +17,11 @@ message_of failures.Memory = codes "memory" ++ 10 ∷ []
 abbrev pub failure_of : ErrorKind → Failure
 failure_of OutOfMemory = failures.Memory
 failure_of _ = failures.Device
+
+-- what is said where the words could not be had: that one is no text, or the failure's line
+abbrev pub refusal_text : ErrorKind → List ℕ
+refusal_text InvalidData = codes "a word is not UTF-8" ++ 10 ∷ []
+refusal_text kind = message_of (failure_of kind)
 
 abbrev pub use_fault_text : UseFault → List ℕ
 use_fault_text (faults.Use text) = string_bytes text
@@ -33,10 +38,6 @@ IsExplainedBy why faults.Memory = Unit {0}
 abbrev pub BeginsWith : List ℕ → Option (List ℕ) → Option (List ℕ) → Type 0
 BeginsWith text old new = (more : List ℕ) × Appends old new (text ++ more)
 
--- only a beginning of the text may have come
+-- a beginning of the text comes: nothing, a part or all of it
 abbrev pub IsCutShort : List ℕ → Option (List ℕ) → Option (List ℕ) → Type 0
 IsCutShort text old new = (count : ℕ) × Appends old new (take count text)
-
--- the text comes, and more may follow, or the writer failed before it had all of it
-abbrev pub Tells : List ℕ → Option (List ℕ) → Option (List ℕ) → Type 0
-Tells text old new = BeginsWith text old new ⊎ IsCutShort text old new

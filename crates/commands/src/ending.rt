@@ -1,7 +1,7 @@
 //! How a run of the program ends.
 
-ghost use Rattle.std.specs.Prelude.{◌≡◌, ◌↔◌};
-ghost use Rattle.commands.specs.declared.ending.Ending.TheVariants.{Accepted, Failed, Misused, Refused};
+ghost use Rattle.std.specs.Prelude.{◌≡◌, ◌⊎◌, ◌↔◌};
+ghost use Rattle.commands.specs.declared.ending.Ending.TheVariants.{Accepted, Failed, Misused, Refused, Unsaid};
 
 /// How a run of the program ends.
 #[derive(Clone, Copy, Debug, PartialEq, Eq)]
@@ -12,8 +12,10 @@ pub enum Ending {
     Refused,
     /// The words are no use of the program.
     Misused,
-    /// A device or memory failed.
+    /// A device or memory failed, and standard error was told so.
     Failed,
+    /// Standard error failed, when it was to be told of a failure or why the words are no use.
+    Unsaid,
 }
 
 impl Ending {
@@ -22,13 +24,13 @@ impl Ending {
         ensures accepted { result ≡ 0 ↔ self ≡ Accepted }
         ensures refused { result ≡ 1 ↔ self ≡ Refused }
         ensures misused { result ≡ 2 ↔ self ≡ Misused }
-        ensures failed { result ≡ 3 ↔ self ≡ Failed }
+        ensures failed { result ≡ 3 ↔ ((self ≡ Failed) ⊎ (self ≡ Unsaid)) }
     {
         match self {
             Ending::Accepted => 0,
             Ending::Refused => 1,
             Ending::Misused => 2,
-            Ending::Failed => 3,
+            Ending::Failed | Ending::Unsaid => 3,
         }
     }
 }

@@ -5,10 +5,10 @@ ghost use Rattle.std.specs.Prelude.{◌≡◌, ◌≢◌, ◌⊎◌, ℕ, List, 
 ghost use Rattle.std.specs.IoError.{error_kind};
 ghost use Rattle.std.specs.declared.io.ErrorKind.TheVariants.{InvalidData};
 ghost use Rattle.commands.specs.CommandLine.{AsksToCheck, IsCheckOf, command_in, is_taken, texts, uses_text};
-ghost use Rattle.commands.specs.Failing.{BeginsWith, IsCutShort, Tells, failure_of, message_of};
-ghost use Rattle.commands.specs.Running.{Answers, Does, DoesWords, Ends, Judges, UnlessFailed};
+ghost use Rattle.commands.specs.Failing.{BeginsWith, IsCutShort, failure_of, message_of, refusal_text};
+ghost use Rattle.commands.specs.Running.{Answers, CanFail, Does, DoesWords, Ends, HasFailed, IsToBeSaid, Judges, UnlessFailed};
 ghost use Rattle.commands.specs.Checking.{too_many};
-ghost use Rattle.commands.specs.declared.ending.Ending.TheVariants.{Misused, Failed};
+ghost use Rattle.commands.specs.declared.ending.Ending.TheVariants.{Failed, Misused, Unsaid};
 ghost use Rattle.commands.specs.declared.program.Failure.TheVariants.{Memory};
 
 use crate::asking::Asked;
@@ -192,25 +192,38 @@ fn perform<F: Files + AllocGlobal, R: Read, O: Write>(
     }
 }
 
-/// Says why the words are no use of the program. Where that can't be said, standard error has failed.
-fn refuse<E: Write>(reason: &str, err: &mut E) -> Ending
-    ensures ends { (result ≡ Misused) ⊎ (result ≡ Failed) }
-    ensures reason { result ≡ Misused
-        → BeginsWith reason.now (E.contents err.old) (E.contents err.new) }
+/// Tells standard error the text, and ends so. Where it doesn't take all of it, the status alone says
+/// that something failed.
+fn tell<E: Write>(text: &str, ending: Ending, err: &mut E) -> Ending
+    ensures ends { (result ≡ ending) ⊎ (result ≡ Unsaid) }
+    ensures whole { result ≢ Unsaid
+        → BeginsWith text.now (E.contents err.old) (E.contents err.new) }
+    ensures front { IsCutShort text.now (E.contents err.old) (E.contents err.new) }
 {
-    match write_text(reason, err) {
-        Ok(()) => Ending::Misused,
-        Err(_) => Ending::Failed,
+    match write_text(text, err) {
+        Ok(()) => ending,
+        Err(_) => Ending::Unsaid,
     }
 }
 
-/// Says that the program failed. Where that can't be said either, the status alone does.
-fn fail<E: Write>(failure: Failure, err: &mut E) -> Ending
-    ensures ends { result ≡ Failed }
-    ensures message { Tells (message_of failure) (E.contents err.old) (E.contents err.new) }
+/// Says why the words are no use of the program.
+fn refuse<E: Write>(reason: &str, err: &mut E) -> Ending
+    ensures ends { (result ≡ Misused) ⊎ (result ≡ Unsaid) }
+    ensures reason { result ≡ Misused
+        → BeginsWith reason.now (E.contents err.old) (E.contents err.new) }
+    ensures front { IsCutShort reason.now (E.contents err.old) (E.contents err.new) }
 {
-    let _ = write_text(failure.message(), err);
-    Ending::Failed
+    tell(reason, Ending::Misused, err)
+}
+
+/// Says that the program failed.
+fn fail<E: Write>(failure: Failure, err: &mut E) -> Ending
+    ensures ends { (result ≡ Failed) ⊎ (result ≡ Unsaid) }
+    ensures message { result ≡ Failed
+        → BeginsWith (message_of failure) (E.contents err.old) (E.contents err.new) }
+    ensures front { IsCutShort (message_of failure) (E.contents err.old) (E.contents err.new) }
+{
+    tell(failure.message(), Ending::Failed, err)
 }
 
 /// The program's whole work on the words after its name. A file `-` is the input.
@@ -222,7 +235,7 @@ pub fn run<F: Files + AllocGlobal, R: Read, O: Write, E: Write>(
     err: &mut E,
 ) -> Ending
     // Words that are no use of the program end as such, unless a device or memory fails.
-    ensures misused { is_taken (texts words.now) ≡ false → (result ≡ Misused) ⊎ (result ≡ Failed) }
+    ensures misused { is_taken (texts words.now) ≡ false → UnlessFailed result (result ≡ Misused) }
     // No others do.
     ensures taken { is_taken (texts words.now) ≡ true → result ≢ Misused }
     // They print nothing on standard output.
@@ -241,9 +254,14 @@ pub fn run<F: Files + AllocGlobal, R: Read, O: Write, E: Write>(
     // Nothing else touches the input.
     ensures untouched { (AsksToCheck (texts words.now) (codes "-") → ⊥) → input.new ≡ input.old }
 
-    // Where a device or memory fails, standard error says so, or as much of it as it took.
-    ensures failed { is_taken (texts words.now) ≡ true → result ≡ Failed
-        → (failure : Failure) × Tells (message_of failure) (E.contents err.old) (E.contents err.new) }
+    // Where a device or memory fails, standard error says so.
+    ensures failed { result ≡ Failed → (failure : Failure) × CanFail (texts words.now) failure
+        × BeginsWith (message_of failure) (E.contents err.old) (E.contents err.new) }
+    // Where standard error itself fails, it has a beginning of what there was to say.
+    ensures unsaid { result ≡ Unsaid → (text : List ℕ) × IsToBeSaid (texts words.now) text
+        × IsCutShort text (E.contents err.old) (E.contents err.new) }
+    // Where nothing fails, and the words are taken, nothing is said on it.
+    ensures quiet { is_taken (texts words.now) ≡ true → UnlessFailed result (err.new ≡ err.old) }
 {
     match read_line(rt.alloc(), words) {
         Ok(line) => match perform(rt, line, input, out) {
@@ -259,17 +277,17 @@ pub fn run<F: Files + AllocGlobal, R: Read, O: Write, E: Write>(
 /// out.
 pub fn refuse_words<E: Write>(error: &Error, err: &mut E) -> Ending
     // A word that is no text is a fault of use, and whatever else the words failed for a failure.
-    ensures no_text { error_kind error.now ≡ InvalidData → result ≡ Misused }
-    ensures failed { error_kind error.now ≢ InvalidData → result ≡ Failed }
-    // Standard error says which, or as much of it as it took.
-    ensures message { error_kind error.now ≢ InvalidData → Tells
-        (message_of (failure_of (error_kind error.now))) (E.contents err.old) (E.contents err.new) }
+    ensures no_text { error_kind error.now ≡ InvalidData
+        → (result ≡ Misused) ⊎ (result ≡ Unsaid) }
+    ensures failed { error_kind error.now ≢ InvalidData → HasFailed result }
+    // Standard error says which. Where it fails itself, it has a beginning of that.
+    ensures said { result ≢ Unsaid → BeginsWith (refusal_text (error_kind error.now))
+        (E.contents err.old) (E.contents err.new) }
+    ensures unsaid { result ≡ Unsaid → IsCutShort (refusal_text (error_kind error.now))
+        (E.contents err.old) (E.contents err.new) }
 {
     match error.kind() {
-        ErrorKind::InvalidData => {
-            let _ = writeln!(err, "a word is not UTF-8");
-            Ending::Misused
-        }
+        ErrorKind::InvalidData => refuse("a word is not UTF-8\n", err),
         ErrorKind::OutOfMemory => fail(Failure::Memory, err),
         _ => fail(Failure::Device, err),
     }
