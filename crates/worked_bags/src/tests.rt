@@ -123,12 +123,23 @@ fn what_is_not_flushed_is_a_fault_of_the_device(rt: HostRuntime) {
     let ending = run(&rt, words.as_slice(), &mut &*BAG, &mut Unflushed, &mut err);
     assert_eq!(rt; err.as_slice(), b"device\n".as_slice());
     assert_eq!(rt; ending, Ending::Failed);
-    // Words that are no use, where standard error fails.
-    let words = ["judge", "-"];
+}
+
+#[test]
+fn standard_error_may_fail(rt: HostRuntime) {
+    // As it is told of a failure.
+    let words = ["check", "-"];
+    let mut torn = Torn { given: false };
     let mut out = Vec::new(rt.alloc());
+    let ending = run(&rt, words.as_slice(), &mut torn, &mut out, &mut Unflushed);
+    assert_eq!(rt; out.as_slice(), b"".as_slice());
+    assert_eq!(rt; ending, Ending::Unsaid);
+    // As it is told why words are no use.
+    let words = ["judge", "-"];
     let ending = run(&rt, words.as_slice(), &mut &*BAG, &mut out, &mut Unflushed);
     assert_eq!(rt; out.as_slice(), b"".as_slice());
-    assert_eq!(rt; ending, Ending::Failed);
+    assert_eq!(rt; ending, Ending::Unsaid);
+    assert_eq!(rt; ending.status(), 3);
 }
 
 /// What a run on these words prints on standard output and on standard error, and how it ends.

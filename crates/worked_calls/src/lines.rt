@@ -250,4 +250,20 @@ fn words_that_are_no_text(rt: HostRuntime) {
     let ending = refuse_words(&Error::from(ErrorKind::InvalidData), &mut err);
     assert_eq!(rt; err.as_slice(), b"a word is not UTF-8\n".as_slice());
     assert_eq!(rt; ending, Ending::Misused);
+    let ending = refuse_words(&Error::from(ErrorKind::InvalidData), &mut Broken);
+    assert_eq!(rt; ending, Ending::Unsaid);
+}
+
+#[test]
+fn words_that_could_not_be_had(rt: HostRuntime) {
+    let mut err = Vec::new(rt.alloc());
+    let ending = refuse_words(&Error::from(ErrorKind::BrokenPipe), &mut err);
+    assert_eq!(rt; err.as_slice(), b"device\n".as_slice());
+    assert_eq!(rt; ending, Ending::Failed);
+    let mut err = Vec::new(rt.alloc());
+    let ending = refuse_words(&Error::from(ErrorKind::OutOfMemory), &mut err);
+    assert_eq!(rt; err.as_slice(), b"memory\n".as_slice());
+    assert_eq!(rt; ending, Ending::Failed);
+    let ending = refuse_words(&Error::from(ErrorKind::OutOfMemory), &mut Broken);
+    assert_eq!(rt; ending, Ending::Unsaid);
 }
