@@ -10,7 +10,7 @@ ghost use Rattle.office_history.specs.Histories.{History};
 ghost use Rattle.office_history.specs.Answers.{answer};
 ghost use Rattle.office_history.specs.RowRanges.{AreInRange};
 ghost use Rattle.office_history.specs.Runs.{IsLegal, new_history};
-ghost use Rattle.office_engine.specs.Pictures.{Pictures};
+ghost use Rattle.office_asking.specs.Pictures.{Pictures};
 
 pub use office_history::laws::{
     accessions_are_used_once, audits_are_valid, changes_stand, closed_by_the_day_of_deposit,

@@ -1,0 +1,105 @@
+-- The rows of holds, and the history that they picture.
+use Rattle.std.proofs.Common.{◌≡◌, ℕ, zero, suc, ◌+◌, ◌==◌, ℤ, pos, Bool, true, false, not, ◌&&◌, ◌||◌, List, [], ◌∷◌, length, map, filter, Option, Some, None, option_map, unwrap_or, slice_get, is_none, is_some, refl, sym, ap, subst, ◌∙◌, arith, cond, true≢false}
+use Rattle.std.specs.Prelude.{bytes_eq}
+use Rattle.std.specs.List.{range_with_len}
+use Rattle.std.specs.Option.{option_map_or}
+use Rattle.std.specs.Ordering.{int_eq}
+use Rattle.std.proofs.lemmas.Bool.Decides.{Decides-int_eq, Decides-eqb}
+use Rattle.jiff.specs.Types.{Date}
+use Rattle.jiff.specs.Words.{epoch_day}
+use Rattle.office_rows.specs.Rows as rows
+use Rattle.office_rows.specs.Rows.{HoldRow, is_live_over, this_version}
+use Rattle.office_tables.specs.Tables.{tables_of}
+use Rattle.sqlite.specs.Effect.{Database}
+use Rattle.office_asking.specs.Pictures.{Pictures}
+use Rattle.office_asking.proofs.Readings.{in_picture}
+use Rattle.office_history.specs.Lists.{item_numbered, numbers}
+use Rattle.office_history.specs.Histories as histories
+use Rattle.office_history.specs.Histories.{History, Hold, Target, OnDeposit, OnCollection, Deposit, holds, release_day, reaches, covers}
+use Rattle.office_history.specs.Pictures.{held_deposit, held_collection, hold_row, hold_rows, picture}
+use Rattle.office_asking.proofs.NumberedRows.{rows_from, rows_are}
+
+pub hold_rows_are : (h : History) → hold_rows h ≡ rows_from (hold_row h) 1 (holds h)
+hold_rows_are h = rows_are (hold_row h) (holds h)
+
+-- the numbers of the rows that pass are those of the items that do
+pub numbers_passing : {A R : Type 0} (tell : ℕ → A → R) (number : R → ℤ) → ((m : ℕ) (x : A) → number (tell m x) ≡ pos m) → (passes : R → Bool) (test : ℕ → Bool) (xs : List A) (start : ℕ)
+    → ((i : ℕ) (x : A) → slice_get xs i ≡ Some x → passes (tell (start + i) x) ≡ test (start + i)) → map number (filter passes (rows_from tell start xs)) ≡ map pos (filter test (range_with_len start (length xs)))
+numbers_passing tell number is passes test [] start same = refl
+numbers_passing tell number is passes test (x ∷ xs) start same =
+    by (passes (tell start x)) (test start) first
+    (numbers_passing tell number is passes test xs (start + 1) (λ i y e. let one : start + 1 + i ≡ start + suc i = omega arith in subst (λ k. passes (tell k y) ≡ test k) (sym one) (same (suc i) y e)))
+  where
+    first : passes (tell start x) ≡ test start
+    first = let none : start + 0 ≡ start = omega arith in subst (λ k. passes (tell k x) ≡ test k) none (same 0 x refl)
+
+    by : (p t : Bool) → p ≡ t → map number (filter passes (rows_from tell (start + 1) xs)) ≡ map pos (filter test (range_with_len (start + 1) (length xs)))
+        → map number (cond p (tell start x ∷ filter passes (rows_from tell (start + 1) xs)) (filter passes (rows_from tell (start + 1) xs)))
+        ≡ map pos (cond t (start ∷ filter test (range_with_len (start + 1) (length xs))) (filter test (range_with_len (start + 1) (length xs))))
+    by true true e rest = λ i. is start x i ∷ rest i
+    by false false e rest = rest
+    by true false e rest = absurd (true≢false e)
+    by false true e rest = absurd (true≢false (sym e))
+
+live_same : (o : Option Date) → not (is_some (option_map epoch_day o)) ≡ is_none o
+live_same None = refl
+live_same (Some day) = refl
+
+pub same_number : (m n : ℕ) → int_eq (pos m) (pos n) ≡ (m == n)
+same_number m n = by (int_eq (pos m) (pos n)) (m == n) refl refl
+  where
+    by : (s t : Bool) → int_eq (pos m) (pos n) ≡ s → (m == n) ≡ t → s ≡ t
+    by true true e f = refl
+    by false false e f = refl
+    by true false e f = absurd (let same : pos m ≡ pos n = (Decides-int_eq (pos m) (pos n)).0 e in let equal : m ≡ n = cc in true≢false (sym ((Decides-eqb m n).1 equal) ∙ f))
+    by false true e f = absurd (true≢false (sym ((Decides-int_eq (pos m) (pos n)).1 (ap pos ((Decides-eqb m n).0 f))) ∙ e))
+
+pub eqb-sym : (m n : ℕ) → (m == n) ≡ (n == m)
+eqb-sym m n = by (m == n) (n == m) refl refl
+  where
+    by : (s t : Bool) → (m == n) ≡ s → (n == m) ≡ t → s ≡ t
+    by true true e f = refl
+    by false false e f = refl
+    by true false e f = absurd (true≢false (sym ((Decides-eqb n m).1 (sym ((Decides-eqb m n).0 e))) ∙ f))
+    by false true e f = absurd (true≢false (sym ((Decides-eqb m n).1 (sym ((Decides-eqb n m).0 f))) ∙ e))
+
+reach_same : (target : Target) (n : ℕ) (deposit : Deposit)
+    → (unwrap_or (option_map (λ d. int_eq d (pos n)) (held_deposit target)) false || unwrap_or (option_map (λ c. bytes_eq c deposit.collection) (held_collection target)) false) ≡ reaches target n deposit
+reach_same (OnDeposit m) n deposit = by (int_eq (pos m) (pos n)) ∙ same_number m n
+  where
+    by : (b : Bool) → (b || false) ≡ b
+    by true = refl
+    by false = refl
+reach_same (OnCollection name) n deposit = refl
+
+pub live_told : (h : History) (n : ℕ) (deposit : Deposit) (version : ℤ) → rows.live_holds (pos n) deposit.collection (picture version h) ≡ map pos (histories.live_holds h n deposit)
+live_told h n deposit version =
+    ap (λ (hs : List HoldRow). map (λ (r : HoldRow). r.number) (filter (is_live_over (pos n) deposit.collection) hs)) (hold_rows_are h)
+    ∙ numbers_passing (hold_row h) (λ r. r.number) (λ m x. refl) (is_live_over (pos n) deposit.collection) (λ k. histories.is_live h k && covers h k n deposit) (holds h) 1 (λ i x e. λ j.
+    live_same (release_day h (1 + i)) j && reached i x e j)
+  where
+    reached : (i : ℕ) (x : Date × Hold) → slice_get (holds h) i ≡ Some x
+        → (unwrap_or (option_map (λ d. int_eq d (pos n)) (held_deposit x.1.target)) false || unwrap_or (option_map (λ c. bytes_eq c deposit.collection) (held_collection x.1.target)) false) ≡ covers h (1 + i) n deposit
+    reached i x e =
+        let one : 1 + i ≡ suc i = omega arith in
+        reach_same x.1.target n deposit ∙ ap (λ o. option_map_or (λ (hold : Date × Hold). reaches hold.1.target n deposit) o false) (sym e) ∙ ap (λ k. covers h k n deposit) (sym one)
+
+same_numbers : (xs ys : List ℕ) → map pos xs ≡ map pos ys → xs ≡ ys
+same_numbers [] [] e = refl
+same_numbers [] (y ∷ ys) e = absurd cc
+same_numbers (x ∷ xs) [] e = absurd cc
+same_numbers (x ∷ xs) (y ∷ ys) e =
+    let first : x ≡ y = cc in
+    let rest : map pos xs ≡ map pos ys = cc in
+    λ i. first i ∷ same_numbers xs ys rest i
+
+-- the numbers of the live holds over a deposit that are read
+pub live_read : (h : History) (db : Database) → Pictures h db → (n : ℕ) (collection : List ℕ) (numbers : List ℕ) → map pos numbers ≡ rows.live_holds (pos n) collection (tables_of db)
+    → (deposit : Deposit) → deposit.collection ≡ collection → numbers ≡ histories.live_holds h n deposit
+live_read h db pictured n collection numbers e deposit is =
+    same_numbers numbers (histories.live_holds h n deposit)
+    (e ∙ in_picture h db pictured (rows.live_holds (pos n) collection) ∙ ap (λ c. rows.live_holds (pos n) c (picture this_version h)) (sym is) ∙ live_told h n deposit this_version)
+
+pub first_live : (h : History) (db : Database) → Pictures h db → (n : ℕ) (collection : List ℕ) (numbers : List ℕ) → map pos numbers ≡ rows.live_holds (pos n) collection (tables_of db)
+    → (deposit : Deposit) → deposit.collection ≡ collection → slice_get numbers 0 ≡ histories.least_hold h n deposit
+first_live h db pictured n collection numbers e deposit is = ap (λ ks. slice_get ks 0) (live_read h db pictured n collection numbers e deposit is)

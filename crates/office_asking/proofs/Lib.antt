@@ -1,0 +1,9 @@
+pub mod NumberedRows
+pub mod PolicyTold
+pub mod Readings
+pub mod DepositTold
+pub mod DepositAsked
+pub mod DueTold
+pub mod HoldTold
+pub mod Serving
+pub mod Unchanged

@@ -1,0 +1,80 @@
+-- Rows that stand for the items of a list, item_numbered from 1.
+use Rattle.std.proofs.Common.{◌≡◌, ℕ, zero, suc, ◌+◌, ◌<◌, ◌≤◌, ℤ, pos, Bool, true, false, List, [], ◌∷◌, ◌++◌, length, map, Option, Some, None, option_map, unwrap_or, slice_get, refl, sym, ap, subst, ◌∙◌, arith, true≢false, cond}
+use Rattle.std.specs.Prelude.{find}
+use Rattle.std.specs.List.{filter_map}
+use Rattle.std.specs.Ordering.{int_eq}
+use Rattle.std.proofs.lemmas.Bool.Decides.{Decides-int_eq}
+use Rattle.office_rows.specs.Rows.{last_number}
+use Rattle.office_history.specs.Lists.{item_numbered, numbers}
+use Rattle.office_history.proofs.Pictured.{told_at, same_list}
+
+-- each item's row, by its number, the first of which is this one
+abbrev pub rows_from : {A R : Type 0} → (ℕ → A → R) → ℕ → List A → List R
+rows_from tell start [] = []
+rows_from tell start (x ∷ xs) = tell start x ∷ rows_from tell (start + 1) xs
+
+abbrev pub is_nil : {A : Type 0} → List A → Bool
+is_nil [] = true
+is_nil (x ∷ xs) = false
+
+pub different : (a b : ℕ) → a < b → int_eq (pos a) (pos b) ≡ false
+different a b less = by (int_eq (pos a) (pos b)) refl
+  where
+    by : (t : Bool) → int_eq (pos a) (pos b) ≡ t → t ≡ false
+    by true e = absurd (let same : pos a ≡ pos b = (Decides-int_eq (pos a) (pos b)).0 e in let equal : a ≡ b = cc in omega (arith, less, equal))
+    by false e = refl
+
+pub different_above : (a b : ℕ) → b < a → int_eq (pos a) (pos b) ≡ false
+different_above a b less = by (int_eq (pos a) (pos b)) refl
+  where
+    by : (t : Bool) → int_eq (pos a) (pos b) ≡ t → t ≡ false
+    by true e = absurd (let same : pos a ≡ pos b = (Decides-int_eq (pos a) (pos b)).0 e in let equal : a ≡ b = cc in omega (arith, less, equal))
+    by false e = refl
+
+pub alike : (a b : ℕ) → a ≡ b → int_eq (pos a) (pos b) ≡ true
+alike a b e = (Decides-int_eq (pos a) (pos b)).1 (ap pos e)
+
+module _ {A R : Type 0} (tell : ℕ → A → R) where
+  at_place : (xs : List A) (start i : ℕ) → slice_get (rows_from tell start xs) i ≡ option_map (tell (start + i)) (slice_get xs i)
+  at_place [] start i = refl
+  at_place (x ∷ xs) start zero = let none : start ≡ start + 0 = omega arith in ap (λ k. Some (tell k x)) none
+  at_place (x ∷ xs) start (suc i) = let one : start + 1 + i ≡ start + suc i = omega arith in at_place xs (start + 1) i ∙ ap (λ k. option_map (tell k) (slice_get xs i)) one
+
+  pub rows_are : (xs : List A) → filter_map (λ m. option_map (tell m) (item_numbered xs m)) (numbers (length xs)) ≡ rows_from tell 1 xs
+  rows_are xs = same_list _ _ (λ i. told_at xs tell (suc i) ∙ (let one : suc i ≡ 1 + i = omega arith in ap (λ k. option_map (tell k) (slice_get xs i)) one) ∙ sym (at_place xs 1 i))
+
+  pub rows_append : (xs ys : List A) (start : ℕ) → rows_from tell start (xs ++ ys) ≡ rows_from tell start xs ++ rows_from tell (start + length xs) ys
+  rows_append [] ys start = let none : start ≡ start + 0 = omega arith in ap (λ k. rows_from tell k ys) none
+  rows_append (x ∷ xs) ys start = let one : start + 1 + length xs ≡ start + suc (length xs) = omega arith in ap (λ rs. tell start x ∷ rs) (rows_append xs ys (start + 1) ∙ ap (λ k. rows_from tell (start + 1) xs ++ rows_from tell k ys) one)
+
+  module _ (number : R → ℤ) (numbers_it : (m : ℕ) (x : A) → number (tell m x) ≡ pos m) where
+    missed : (xs : List A) (start n : ℕ) → n < start → find (λ r. int_eq (number r) (pos n)) (rows_from tell start xs) ≡ None
+    missed [] start n low = refl
+    missed (x ∷ xs) start n low =
+        ap (λ b. cond b (Some (tell start x)) (find (λ r. int_eq (number r) (pos n)) (rows_from tell (start + 1) xs))) (ap (λ k. int_eq k (pos n)) (numbers_it start x) ∙ different_above start n low)
+        ∙ missed xs (start + 1) n (omega (arith, low))
+
+    found_from : (xs : List A) (start i : ℕ) → find (λ r. int_eq (number r) (pos (start + i))) (rows_from tell start xs) ≡ option_map (tell (start + i)) (slice_get xs i)
+    found_from [] start i = refl
+    found_from (x ∷ xs) start zero =
+        let none : start ≡ start + 0 = omega arith in
+        ap (λ b. cond b (Some (tell start x)) (find (λ r. int_eq (number r) (pos (start + 0))) (rows_from tell (start + 1) xs))) (ap (λ k. int_eq k (pos (start + 0))) (numbers_it start x) ∙ alike start (start + 0) none)
+        ∙ ap (λ k. Some (tell k x)) none
+    found_from (x ∷ xs) start (suc i) =
+        let one : start + 1 + i ≡ start + suc i = omega arith in
+        ap (λ b. cond b (Some (tell start x)) (find (λ r. int_eq (number r) (pos (start + suc i))) (rows_from tell (start + 1) xs))) (ap (λ k. int_eq k (pos (start + suc i))) (numbers_it start x) ∙ different start (start + suc i) (omega arith))
+        ∙ subst (λ k. find (λ r. int_eq (number r) (pos k)) (rows_from tell (start + 1) xs) ≡ option_map (tell k) (slice_get xs i)) one (found_from xs (start + 1) i)
+
+    -- the row of a number
+    pub found_at : (xs : List A) (n : ℕ) → find (λ r. int_eq (number r) (pos n)) (rows_from tell 1 xs) ≡ option_map (tell n) (item_numbered xs n)
+    found_at xs zero = missed xs 1 0 (omega arith)
+    found_at xs (suc i) = let one : 1 + i ≡ suc i = omega arith in subst (λ k. find (λ r. int_eq (number r) (pos k)) (rows_from tell 1 xs) ≡ option_map (tell k) (slice_get xs i)) one (found_from xs 1 i)
+
+    -- the last number
+    last_after : (xs : List A) (x : A) (start : ℕ) → last_number number (rows_from tell start (x ∷ xs)) ≡ Some (pos (start + length xs))
+    last_after [] x start = let none : start ≡ start + 0 = omega arith in ap Some (numbers_it start x ∙ ap pos none)
+    last_after (y ∷ xs) x start = let one : start + 1 + length xs ≡ start + suc (length xs) = omega arith in ap (λ o. Some (unwrap_or o (number (tell start x)))) (last_after xs y (start + 1)) ∙ ap (λ k. Some (pos k)) one
+
+    pub last_is : (xs : List A) → last_number number (rows_from tell 1 xs) ≡ cond (is_nil xs) None (Some (pos (length xs)))
+    last_is [] = refl
+    last_is (x ∷ xs) = let one : 1 + length xs ≡ suc (length xs) = omega arith in last_after xs x 1 ∙ ap (λ k. Some (pos k)) one

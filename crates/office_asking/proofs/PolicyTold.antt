@@ -1,0 +1,127 @@
+-- What the rows of callers and rules tell of the policy.
+use Rattle.std.proofs.Common.{◌≡◌, ℕ, zero, suc, ◌+◌, pos, Bool, true, false, ◌||◌, ◌&&◌, List, [], ◌∷◌, map, Option, Some, None, option_map, unwrap_or, slice_get, refl, sym, ap, subst, ◌∙◌, true≢false, cond, arith}
+use Rattle.std.specs.Prelude.{bytes_eq, codes, find, position, option_and_then, nat_lt, length, not, if◌then◌else◌}
+use Rattle.std.specs.Ordering.{int_eq}
+use Rattle.std.specs.List.{AllByRecursion, prefix_len}
+use Rattle.std.proofs.lemmas.Option.{same_Some}
+use Rattle.std.proofs.lemmas.Slice.Eq.{bytes_eq-Decides}
+use Rattle.office_core.specs.Actions.{action_text}
+use Rattle.office_core.specs.Names.{is_name, IsName}
+use Rattle.office_core.specs.Policies.{Contents, IsPolicy, IsNamed, HasNames, role_or_stranger, role_of}
+use Rattle.office_core.specs.Rules.{Question, matches_name, matches_action, matches_optional, matches, decision_at, decision_of}
+use Rattle.office_core.specs.declared.action.Action.{Action}
+use Rattle.office_core.specs.declared.action.Action.TheVariants as acts
+use Rattle.office_core.specs.declared.caller.Caller.{Caller}
+use Rattle.office_core.specs.declared.rule.ActionPattern.{ActionPattern}
+use Rattle.office_core.specs.declared.rule.ActionPattern.TheVariants as action_patterns
+use Rattle.office_core.specs.declared.rule.Decision.{Decision}
+use Rattle.office_core.specs.declared.rule.Effect.{Effect}
+use Rattle.office_core.specs.declared.rule.Effect.TheVariants.{Allow, Deny}
+use Rattle.office_core.specs.declared.rule.Pattern.{Pattern}
+use Rattle.office_core.specs.declared.rule.Pattern.TheVariants as patterns
+use Rattle.office_core.specs.declared.rule.Rule.{Rule}
+use Rattle.office_rows.specs.Rows.{CallerRow, RuleRow, caller_named}
+use Rattle.office_history.specs.Pictures.{caller_row, effect_number, pattern_text, action_pattern_text, rule_row, rule_rows}
+use Rattle.office_asking.specs.Asking.{star, asks_for, asks_for_optional, row_matches, row_decision, as_row, or_stranger}
+
+-- ---- the role
+
+pub role_told : (name : List ℕ) (cs : List Caller) → or_stranger (option_map (λ (c : CallerRow). c.role) (caller_named name (map caller_row cs))) ≡ role_or_stranger (find (λ c. bytes_eq c.name name) cs)
+role_told name [] = refl
+role_told name (c ∷ cs) = by (bytes_eq c.name name) (role_told name cs)
+  where
+    by : (b : Bool) → or_stranger (option_map (λ (c : CallerRow). c.role) (caller_named name (map caller_row cs))) ≡ role_or_stranger (find (λ c. bytes_eq c.name name) cs)
+        → or_stranger (option_map (λ (c : CallerRow). c.role) (cond b (Some (caller_row c)) (caller_named name (map caller_row cs)))) ≡ role_or_stranger (cond b (Some c) (find (λ c. bytes_eq c.name name) cs))
+    by true rest = refl
+    by false rest = rest
+
+-- ---- the patterns
+
+not_star : (only : List ℕ) → IsName only → bytes_eq only star ≡ false
+not_star only named = by (bytes_eq only star) refl
+  where
+    by : (b : Bool) → bytes_eq only star ≡ b → b ≡ false
+    by true e = absurd (let wrong : is_name star ≡ true = subst IsName ((bytes_eq-Decides only star).0 e) named in true≢false (sym wrong))
+    by false e = refl
+
+asks_told : (pattern : Pattern) (name : List ℕ) → IsNamed pattern → asks_for (pattern_text pattern) name ≡ matches_name pattern name
+asks_told patterns.Any name named = refl
+asks_told (patterns.Named only) name named = ap (λ b. b || bytes_eq only name) (not_star only named)
+
+optional_told : (pattern : Pattern) (name : Option (List ℕ)) → IsNamed pattern → asks_for_optional (pattern_text pattern) name ≡ matches_optional pattern name
+optional_told patterns.Any None named = refl
+optional_told patterns.Any (Some name) named = refl
+optional_told (patterns.Named only) None named = not_star only named
+optional_told (patterns.Named only) (Some name) named = asks_told (patterns.Named only) name named
+
+action_not_star : (action : Action) → bytes_eq (action_text action) star ≡ false
+action_not_star acts.Class = refl
+action_not_star acts.Collection = refl
+action_not_star acts.Deposit = refl
+action_not_star acts.List = refl
+action_not_star acts.Record = refl
+action_not_star acts.Holds = refl
+action_not_star acts.Download = refl
+action_not_star acts.Audit = refl
+action_not_star acts.Hold = refl
+action_not_star acts.Release = refl
+action_not_star acts.Dispose = refl
+
+action_asks : (pattern : ActionPattern) (action : Action) → asks_for (action_pattern_text pattern) (action_text action) ≡ matches_action pattern action
+action_asks action_patterns.Any action = refl
+action_asks (action_patterns.Only only) action = ap (λ b. b || bytes_eq (action_text only) (action_text action)) (action_not_star only)
+
+-- ---- the rules
+
+row_told : (place : ℕ) (rule : Rule) (asked : Question) → HasNames rule → row_matches (rule_row place rule) asked ≡ matches rule asked
+row_told place rule asked named = λ i.
+    asks_told rule.role asked.role named.0 i && action_asks rule.action asked.action i
+    && optional_told rule.collection asked.collection named.1 i && optional_told rule.class asked.class named.2 i
+
+decision_same : (at place i : ℕ) (rules : List Rule) → option_map (λ (row : RuleRow). (at + 1, row.effect)) (slice_get (rule_rows place rules) i) ≡ option_map as_row (option_map (decision_at at) (slice_get rules i))
+decision_same at place i [] = refl
+decision_same at place zero (rule ∷ rules) = refl
+decision_same at place (suc i) (rule ∷ rules) = decision_same at (place + 1) i rules
+
+same_prefix : (asked : Question) (place : ℕ) (rules : List Rule) → AllByRecursion HasNames rules
+    → prefix_len (λ row. not (row_matches row asked)) (rule_rows place rules) ≡ prefix_len (λ rule. not (matches rule asked)) rules
+same_prefix asked place [] named = refl
+same_prefix asked place (rule ∷ rules) named = λ i. cond (not (row_told place rule asked named.0 i)) (1 + same_prefix asked (place + 1) rules named.1 i) 0
+
+same_length : (place : ℕ) (rules : List Rule) → length (rule_rows place rules) ≡ length rules
+same_length place [] = refl
+same_length place (rule ∷ rules) = ap suc (same_length (place + 1) rules)
+
+same_place : (asked : Question) (rules : List Rule) → AllByRecursion HasNames rules → position (λ row. row_matches row asked) (rule_rows 1 rules) ≡ position (λ rule. matches rule asked) rules
+same_place asked rules named = λ i. let place = same_prefix asked 1 rules named i in cond (nat_lt place (same_length 1 rules i)) (Some place) None
+
+then_same : {A B C : Type 0} (f : A → Option C) (g : A → Option B) (into : B → C) (o : Option A) → ((x : A) → f x ≡ option_map into (g x)) → option_and_then f o ≡ option_map into (option_and_then g o)
+then_same f g into None same = refl
+then_same f g into (Some x) same = same x
+
+decision_told : (policy : Contents) (asked : Question) → IsPolicy policy → row_decision (rule_rows 1 policy.rules) asked ≡ option_map as_row (decision_of policy.rules asked)
+decision_told policy asked named =
+    ap (option_and_then (λ place. option_map (λ (row : RuleRow). (place + 1, row.effect)) (slice_get (rule_rows 1 policy.rules) place))) (same_place asked policy.rules named.rules_ask_for_names)
+    ∙ then_same (λ place. option_map (λ (row : RuleRow). (place + 1, row.effect)) (slice_get (rule_rows 1 policy.rules) place)) (λ place. option_map (decision_at place) (slice_get policy.rules place)) as_row
+    (position (λ rule. matches rule asked) policy.rules) (λ place. decision_same place 1 place policy.rules)
+
+-- ---- and back
+
+same_effect : (a b : Effect) → effect_number a ≡ effect_number b → a ≡ b
+same_effect Allow Allow e = refl
+same_effect Allow Deny e = absurd cc
+same_effect Deny Allow e = absurd cc
+same_effect Deny Deny e = refl
+
+same_decision : (a b : Option Decision) → option_map as_row a ≡ option_map as_row b → a ≡ b
+same_decision None None e = refl
+same_decision None (Some b) e = absurd cc
+same_decision (Some a) None e = absurd cc
+same_decision (Some a) (Some b) e =
+    let both : as_row a ≡ as_row b = same_Some _ _ e in
+    λ i. Some (record { rule = ap (λ p. p.0) both i; effect = same_effect a.effect b.effect (ap (λ p. p.1) both) i })
+
+-- the decision by the rows is that of the policy
+pub decided : (policy : Contents) (asked : Question) (rows : List RuleRow) (decision : Option Decision) → IsPolicy policy → rows ≡ rule_rows 1 policy.rules → option_map as_row decision ≡ row_decision rows asked
+    → decision ≡ decision_of policy.rules asked
+decided policy asked rows decision named is e = same_decision decision (decision_of policy.rules asked) (e ∙ ap (λ rs. row_decision rs asked) is ∙ decision_told policy asked named)

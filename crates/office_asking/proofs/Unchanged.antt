@@ -1,0 +1,86 @@
+-- Which rows a longer history leaves as they were.
+use Rattle.std.proofs.Common.{◌≡◌, ℕ, ℤ, pos, List, [], ◌∷◌, ◌++◌, map, filter, length, Option, Some, None, option_map, unwrap_or, is_none, refl, sym, ap, ◌∙◌, append-nil}
+use Rattle.std.specs.List.{filter_map, flat_map}
+use Rattle.std.specs.Option.{option_or, option_map_or}
+use Rattle.std.proofs.lemmas.List.Elements.{filter_map-append}
+use Rattle.jiff.specs.Types.{Date}
+use Rattle.jiff.specs.Words.{epoch_day}
+use Rattle.bag_check.specs.Validity.{payload_files, payload_bytes}
+use Rattle.office_rows.specs.Rows.{Tables, DepositRow, HoldRow}
+use Rattle.office_history.specs.Lists.{first_said, last_said, item_numbered, numbers, in_first_places}
+use Rattle.office_history.specs.Histories.{History, Change, Deposit, Hold, with_changes, installed_in, policy, years_in, years_of, collection_in, deposit_in, deposits, deposit_numbered, destroyed_in, destruction_day, kept_numbers, hold_in, holds, hold_numbered, released_in, release_day}
+use Rattle.office_history.specs.Stocks.{files_of}
+use Rattle.office_history.specs.Pictures.{class_in, class_row, row_of_class, class_rows, held_deposit, held_collection, collection_rows, deposit_row, row_of_deposit, deposit_rows, file_row, file_rows, hold_row, row_of_hold, hold_rows, caller_row, rule_rows, office_row, picture}
+use Rattle.office_history.proofs.Alike.{or_none, last_said-append, policy_grown, gone_grown, released_grown}
+use Rattle.office_history.proofs.HistoryLemmas.{deposits_grown, holds_grown}
+
+-- a deposit's row by the day on which it was destroyed, and a hold's by the day on which it was released
+abbrev pub row_by_gone : ℕ → Option Date → Date × Deposit → DepositRow
+row_by_gone n day found = record {
+  number = pos n;
+  accession = found.1.accession;
+  collection = found.1.collection;
+  class = found.1.class;
+  closed = epoch_day found.1.closed;
+  deposited = epoch_day found.0;
+  files = pos (payload_files found.1.bag);
+  bytes = pos (payload_bytes found.1.bag);
+  gone = option_map epoch_day day;
+}
+
+abbrev pub row_by_release : ℕ → Option Date → Date × Hold → HoldRow
+row_by_release k day found = record {
+  number = pos k;
+  deposit = held_deposit found.1.target;
+  collection = held_collection found.1.target;
+  matter = found.1.matter;
+  placed = epoch_day found.0;
+  released = option_map epoch_day day;
+}
+
+module _ (h : History) (more : List Change) where
+  -- what says of a history: none of `more`
+  same_said : {B : Type 0} (says : Change → Option B) → filter_map says more ≡ [] → filter_map says (with_changes h more).changes ≡ filter_map says h.changes
+  same_said says none = filter_map-append says h.changes more ∙ ap (λ xs. filter_map says h.changes ++ xs) none ∙ append-nil (filter_map says h.changes)
+
+  -- it installs nothing
+  pub same_policy : last_said installed_in more ≡ None → policy (with_changes h more) ≡ policy h
+  same_policy none = policy_grown h more ∙ ap (λ o. unwrap_or o (policy h)) none
+
+  pub years_grown : (name : List ℕ) → years_of (with_changes h more) name ≡ option_or (last_said (years_in name) more) (years_of h name)
+  years_grown name = last_said-append (years_in name) h.changes more
+
+  -- it defines no class
+  pub same_years : ((name : List ℕ) → last_said (years_in name) more ≡ None) → (name : List ℕ) → years_of (with_changes h more) name ≡ years_of h name
+  same_years none name = years_grown name ∙ ap (λ o. option_or o (years_of h name)) (none name)
+
+  pub same_classes : filter_map class_in more ≡ [] → ((name : List ℕ) → last_said (years_in name) more ≡ None) → class_rows (with_changes h more) ≡ class_rows h
+  same_classes none silent = λ i. filter_map (λ name. option_map (class_row name) (same_years silent name i)) (in_first_places (same_said class_in none i))
+
+  -- it defines no collection
+  pub same_collections : filter_map collection_in more ≡ [] → collection_rows (with_changes h more) ≡ collection_rows h
+  same_collections none = ap in_first_places (same_said collection_in none)
+
+  -- it destroys no deposit
+  pub same_gone : ((n : ℕ) → first_said (destroyed_in n) more ≡ None) → (n : ℕ) → destruction_day (with_changes h more) n ≡ destruction_day h n
+  same_gone none n = gone_grown h more n ∙ ap (option_or (destruction_day h n)) (none n) ∙ or_none (destruction_day h n)
+
+  pub same_deposits : filter_map deposit_in more ≡ [] → deposits (with_changes h more) ≡ deposits h
+  same_deposits none = same_said deposit_in none
+
+  pub same_deposit_rows : filter_map deposit_in more ≡ [] → ((n : ℕ) → first_said (destroyed_in n) more ≡ None) → deposit_rows (with_changes h more) ≡ deposit_rows h
+  same_deposit_rows none kept = λ i. filter_map (λ n. option_map (row_by_gone n (same_gone kept n i)) (item_numbered (same_deposits none i) n)) (numbers (length (same_deposits none i)))
+
+  pub same_file_rows : filter_map deposit_in more ≡ [] → ((n : ℕ) → first_said (destroyed_in n) more ≡ None) → file_rows (with_changes h more) ≡ file_rows h
+  same_file_rows none kept =
+      λ i. flat_map (λ n. map (file_row n) (option_map_or (λ found. found.1.bag) (item_numbered (same_deposits none i) n) [])) (filter (λ n. is_none (same_gone kept n i)) (numbers (length (same_deposits none i))))
+
+  -- it places and releases no hold
+  pub same_released : ((k : ℕ) → first_said (released_in k) more ≡ None) → (k : ℕ) → release_day (with_changes h more) k ≡ release_day h k
+  same_released none k = released_grown h more k ∙ ap (option_or (release_day h k)) (none k) ∙ or_none (release_day h k)
+
+  pub same_holds : filter_map hold_in more ≡ [] → holds (with_changes h more) ≡ holds h
+  same_holds none = same_said hold_in none
+
+  pub same_hold_rows : filter_map hold_in more ≡ [] → ((k : ℕ) → first_said (released_in k) more ≡ None) → hold_rows (with_changes h more) ≡ hold_rows h
+  same_hold_rows none live = λ i. filter_map (λ k. option_map (row_by_release k (same_released live k i)) (item_numbered (same_holds none i) k)) (numbers (length (same_holds none i)))

@@ -1,0 +1,4 @@
+pub mod Pictures
+pub mod Serving
+pub mod Asking
+pub mod Deposits

@@ -1,0 +1,13 @@
+//! What a request asks of the tables before it is answered: who asks, which rule decides, which
+//! deposit is meant, and which refusal stands first.
+#![tactic(auto)]
+
+mod asker;
+mod deposits;
+mod due;
+mod rows;
+
+pub use asker::{Asker, denial};
+pub use deposits::kept_deposit;
+pub use due::{due_day, least_hold};
+pub use rows::{day_numbered, optional_day_numbered, years_numbered};

@@ -1,0 +1,52 @@
+//! What the numbers of rows stand for. A number that stands for nothing is of a row that no accepted
+//! change writes, which is a fault of the store.
+
+ghost use Rattle.std.specs.Prelude.{◌≡◌, IfErr, IfOk, option_map};
+ghost use Rattle.jiff.specs.Words.{epoch_day};
+ghost use Rattle.office_tables.specs.Faults.{IsFailure};
+ghost use Rattle.office_history.specs.Pictures.{years_back};
+
+use office_core::{Day, Years};
+use office_tables::TableFault;
+
+/// The day with that number.
+pub fn day_numbered(number: i64) -> Result<Day, TableFault>
+    ensures day { IfOk result (λ day. epoch_day day ≡ number) }
+    ensures failure { IfErr result IsFailure }
+{
+    let Ok(small) = i32::try_from(number) else {
+        return Err(TableFault::Store);
+    };
+    match Day::new(small) {
+        Some(day) => Ok(day),
+        None => Err(TableFault::Store),
+    }
+}
+
+/// The day with that number, where there is a number.
+pub fn optional_day_numbered(number: Option<i64>) -> Result<Option<Day>, TableFault>
+    ensures day { IfOk result (λ day. option_map epoch_day day ≡ number) }
+    ensures failure { IfErr result IsFailure }
+{
+    match number {
+        Some(number) => Ok(Some(day_numbered(number)?)),
+        None => Ok(None),
+    }
+}
+
+/// The years that the number of a class's row stands for.
+pub fn years_numbered(number: i64) -> Result<Years, TableFault>
+    ensures years { IfOk result (λ years. years ≡ years_back number) }
+    ensures failure { IfErr result IsFailure }
+{
+    if number == -1 {
+        return Ok(Years::permanent());
+    }
+    let Ok(count) = u8::try_from(number) else {
+        return Err(TableFault::Store);
+    };
+    match Years::new(count) {
+        Some(years) => Ok(years),
+        None => Err(TableFault::Store),
+    }
+}
