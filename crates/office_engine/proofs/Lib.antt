@@ -1,0 +1,4 @@
+pub mod Accepted
+pub mod Ends
+pub mod Kept
+pub mod RunTurns

@@ -2,3 +2,7 @@
 #![tactic(auto)]
 
 pub mod laws;
+mod office;
+mod serving;
+
+pub use office::Office;

@@ -1,0 +1,38 @@
+-- Which answers tell of a change.
+use Rattle.std.proofs.Common.{◌≡◌, ℕ, Bool, true, false, List, [], Option, Some, None, refl, sym, ap, ◌∙◌, true≢false}
+use Rattle.jiff.specs.Types.{Date}
+use Rattle.office_core.specs.declared.answer.Answer.{Answer}
+use Rattle.office_core.specs.declared.answer.Answer.TheVariants as answers
+use Rattle.office_core.specs.declared.refusal.Refusal.{Refusal}
+use Rattle.office_core.specs.declared.refusal.Refusal.TheVariants.{Memory, Store}
+use Rattle.office_core.specs.declared.request.Request.{Request}
+use Rattle.office_core.specs.declared.request.Request.TheVariants.{DefineClass, DefineCollection, Deposit as MakeDeposit, List as ListDeposits, Record, Holds, DownloadBag, DownloadFile, Audit, HoldDeposit, HoldCollection, Release, Dispose, DueList}
+use Rattle.office_history.specs.Histories.{History, Change}
+use Rattle.office_history.specs.Refusals.{refusal}
+use Rattle.office_history.specs.Answers.{answer_unless, changes_unless, allowed_answer, allowed_change, answer, change}
+use Rattle.office_engine.specs.Keeping.{is_accepted}
+
+none_allowed : (h : History) (day : Date) (caller : List ℕ) (request : Request) → is_accepted (allowed_answer h day caller request) ≡ false → allowed_change h day request ≡ []
+none_allowed h day caller (DefineClass name years) e = absurd (true≢false e)
+none_allowed h day caller (DefineCollection name) e = absurd (true≢false e)
+none_allowed h day caller (MakeDeposit collection class accession closed bag) e = absurd (true≢false e)
+none_allowed h day caller (ListDeposits collection class) e = refl
+none_allowed h day caller (Record n) e = refl
+none_allowed h day caller (Holds n) e = refl
+none_allowed h day caller (DownloadBag n) e = refl
+none_allowed h day caller (DownloadFile n path) e = refl
+none_allowed h day caller (Audit n) e = refl
+none_allowed h day caller (HoldDeposit n matter) e = absurd (true≢false e)
+none_allowed h day caller (HoldCollection name matter) e = absurd (true≢false e)
+none_allowed h day caller (Release k) e = absurd (true≢false e)
+none_allowed h day caller (Dispose n) e = absurd (true≢false e)
+none_allowed h day caller DueList e = refl
+
+unless_none : (why : Option Refusal) (given : Answer) (changes : List Change) → (is_accepted given ≡ false → changes ≡ []) → is_accepted (answer_unless why given) ≡ false → changes_unless why changes ≡ []
+unless_none None given changes none e = none e
+unless_none (Some why) given changes none e = refl
+
+-- an answer that tells of no change changes nothing
+pub no_change : (h : History) (day : Date) (caller : List ℕ) (request : Request) (given : Answer) → given ≡ answer h day caller request → is_accepted given ≡ false → change h day caller request ≡ []
+no_change h day caller request given is e =
+    unless_none (refusal h day caller request) (allowed_answer h day caller request) (allowed_change h day request) (none_allowed h day caller request) (ap is_accepted (sym is) ∙ e)

@@ -1,0 +1,37 @@
+-- Histories and the rows that are kept or left of them.
+use Rattle.std.proofs.Common.{◌≡◌, ◌≤◌, ◌&&◌, IsTrue, Bool, true, Some, ℕ, pos, nat_le, refl, arith}
+use Rattle.std.proofs.lemmas.Bool.Decides.{nat_tests}
+use Rattle.sqlite.specs.Tree.{Trees}
+use Rattle.sqlite.specs.State.{State, HasCleanDisk, Survives}
+use Rattle.sqlite.proofs.StateLemmas.{survives_weaker}
+use Rattle.office_rows.specs.Rows.{empty_office, is_in_range, this_version, version_of}
+use Rattle.office_tables.specs.Opening.{IsLeft}
+use Rattle.office_history.specs.Histories.{History}
+use Rattle.office_history.specs.Pictures.{picture}
+use Rattle.office_history.specs.Runs.{IsLegal, IsLimit, new_history}
+use Rattle.office_history.proofs.RangeLemmas.{limits_hold}
+use Rattle.office_recovery.specs.Found.{GoesOnAs, IsKeptAs}
+use Rattle.office_engine.specs.Keeping.{IsKeptBy, IsLeftOf}
+
+pub rows_left : (h : History) (left : Trees) → IsLeftOf h left → IsLeft (picture this_version h) left
+rows_left h left it = (it.0, record { office = it.1.office; are = it.1.are }, it.2)
+
+-- what was left goes on as the history that it pictures
+pub history_goes_on : (old new : State) → GoesOnAs old new → (h : History) → IsLeftOf h old.now.trees → IsKeptBy h new
+history_goes_on old new on h left is_open = let it = on (picture this_version h) (rows_left h old.now.trees left) is_open in (record { office = it.0.office; are = it.0.are }, it.1)
+
+-- a crash leaves a new office
+pub new_left : (a b : ℕ) (left : Trees) → IsLeft (empty_office this_version (pos a) (pos b)) left → IsLeftOf (new_history a b) left
+new_left a b left it = (it.0, record { office = it.1.office; are = it.1.are }, it.2)
+
+pub new_survives : (a b : ℕ) (old new : State) → Survives old new (IsLeft (empty_office this_version (pos a) (pos b))) → Survives old new (IsLeftOf (new_history a b))
+new_survives a b old new = survives_weaker old new _ _ (λ clean db left. new_left a b db left)
+
+-- the tables of a legal history are known as this version's
+in_range : (n : ℕ) → IsLimit n → is_in_range (pos n) ≡ true
+in_range n limit = let low : nat_le 1 n ≡ true = grind (arith, nat_tests, limit.0) in let high : nat_le n 1_000_000 ≡ true = grind (arith, nat_tests, limit.1) in rw (low, high) refl
+
+pub known_version : (h : History) → IsLegal h → version_of (picture this_version h) ≡ Some this_version
+known_version h legal =
+    let within = limits_hold h legal in
+    rw (in_range h.max_deposits within.deposits_limit, in_range h.max_holds within.holds_limit) refl

@@ -1,0 +1,23 @@
+use Rattle.std.proofs.Common.{refl, arith, rules}
+use Rattle.sqlite.specs.State.{HasCleanDisk}
+use Rattle.sqlite.specs.Held.{state}
+use Rattle.office_engine.proofs.RunTurns.{run_turn, run_end, left_by_turn}
+use Rattle.office_engine.proofs.office.Office.run.Goals as goal
+
+pub loop-item-preserved : goal.loop-item-preserved
+loop-item-preserved g c = record {
+  count = omega (arith, c.loop-item.invariant.count, c.push_reserved.ensures.len);
+  room = search rules;
+  told = λ clean h legal keeps.
+      let early : HasCleanDisk (state g.S.Store c.loop-item.self) = omega (arith, clean, c.step.ensures.survives.clean) in
+      let m = c.loop-item.invariant.told early h legal keeps in
+      let s = c.step.ensures.served clean m.0 m.2.legal m.2.kept in
+      (s.0, rw c.push_reserved.ensures.items (run_turn c.args.items.now c.loop-item.item-index c.item-item.result c.loop-item.answers.items h m.0 s.0 c.step.result c.loop-item-test.true c.item-item.is m.1 s.1), s.2);
+  left = left_by_turn (state g.S.Store c.args.self.now) (state g.S.Store c.loop-item.self) (state g.S.Store c.step.new.self) c.args.items.now c.loop-item.item-index c.item-item.result c.loop-item.answers.items c.loop-item-test.true c.item-item.is
+      (λ clean. c.loop-item.invariant.told (omega (arith, clean, c.step.ensures.survives.clean))) c.loop-item.invariant.left c.step.ensures.survives;
+}
+
+pub returns-clause-ran : goal.returns-clause-ran
+returns-clause-ran g c clean h legal keeps =
+    let m = c.loop-item.invariant.told clean h legal keeps in
+    (m.0, run_end c.args.items.now c.loop-item.item-index c.loop-item.answers.items h m.0 c.loop-item-test.false m.1, m.2)

@@ -1,0 +1,100 @@
+-- What an office keeps over its connection, what a request does to it, and what a crash may leave. `old` is the store before a call
+-- and `new` the store after it.
+use Rattle.std.specs.Prelude.{⊤, ◌⊎◌, ◌≡◌, ◌≢◌, List, [], ◌∷◌, ℕ, ◌≤◌, Bool, true, false, IsTrue, length, take}
+use Rattle.sqlite.specs.Tree.{Trees}
+use Rattle.sqlite.specs.Effect.{Database}
+use Rattle.sqlite.specs.State.{State}
+use Rattle.office_core.specs.Policies.{Contents}
+use Rattle.office_core.specs.declared.answer.Answer.{Answer}
+use Rattle.office_core.specs.declared.answer.Answer.TheVariants as answers
+use Rattle.office_history.specs.Histories.{History, Installed, with_changes}
+use Rattle.office_history.specs.Answers.{change, after}
+use Rattle.office_history.specs.Runs.{IsLegal, IsFailure, Item, Step, Run}
+use Rattle.office_asking.specs.Pictures.{Pictures}
+
+-- ---- what is kept, and what is left
+
+-- while the store is open its tables picture the history, and all of it is committed
+abbrev pub IsKeptBy : History → State → Type 0
+IsKeptBy h s = IsTrue s.is_open → Pictures h s.now × (s.committed ≡ s.now)
+
+-- what a crash leaves pictures the history
+abbrev pub IsLeftOf : History → Trees → Type 0
+IsLeftOf h left = (found : Database) × Pictures h found × (left ≡ found.trees)
+
+-- whichever legal history was kept, a crash may leave the one that this makes of it
+abbrev pub CommitsTo : State → (History → History) → Trees → Type 0
+CommitsTo old next left = (h : History) → IsLegal h → IsKeptBy h old → IsLeftOf (next h) left
+
+-- whichever legal history was kept, a crash leaves it, or the one that this makes of it
+abbrev pub LeavesEither : State → State → (History → History) → Type 0
+LeavesEither old new next =
+    (h : History) → IsLegal h → IsTrue old.is_open → IsKeptBy h old → (left : Trees) → new.may_leave left → IsLeftOf h left ⊎ IsLeftOf (next h) left
+
+-- ---- one request
+
+-- the history after a request
+abbrev pub after_item : Item → History → History
+after_item item h = after h item.0 item.1.now item.2
+
+-- the history that a step or a run leads to: it is legal, and kept
+pub record IsReached (next : History) (new : State) : Type 0 where
+  pub legal : IsLegal next
+  pub kept : IsKeptBy next new
+
+-- whichever legal history was kept, this is a step from it, and the history that it leads to is kept
+abbrev pub Serves : State → State → Item → Answer → Type 0
+Serves old new item given = (h : History) → IsLegal h → IsKeptBy h old → (next : History) × Step h item given next × IsReached next new
+
+-- after an answer that accepts a change, a crash leaves the tables of the history with the change, and nothing else
+abbrev pub Lasts : State → State → Item → Answer → Type 0
+Lasts old new item given =
+    (h : History) → IsLegal h → IsKeptBy h old → (IsFailure given → ⊥) → change h item.0 item.1.now item.2 ≢ []
+    → (left : Trees) → new.may_leave left → IsLeftOf (after_item item h) left
+
+-- the answers that tell of a change
+abbrev pub is_accepted : Answer → Bool
+is_accepted (answers.Class name years) = true
+is_accepted (answers.Collection name) = true
+is_accepted (answers.Deposited n) = true
+is_accepted (answers.HoldPlaced k) = true
+is_accepted (answers.HoldReleased k day) = true
+is_accepted (answers.Destroyed n day) = true
+is_accepted _ = false
+
+-- ---- requests in turn
+
+-- whichever legal history was kept, the answers are those of a run from it, and the history that it leads to is kept
+abbrev pub Runs : State → State → List Item → List Answer → Type 0
+Runs old new items given = (h : History) → IsLegal h → IsKeptBy h old → (next : History) × Run h items given next × IsReached next new
+
+-- this is left of a run of some beginning of the items
+pub record IsLeftOfRun (h : History) (items : List Item) (left : Trees) : Type 0 where
+  pub count : ℕ
+  pub within : count ≤ length items
+  pub given : List Answer
+  pub next : History
+  pub run : Run h (take count items) given next
+  pub is_left : IsLeftOf next left
+
+-- whichever legal history was kept, a crash may leave what some beginning of the items made of it
+abbrev pub CommitsRun : State → List Item → Trees → Type 0
+CommitsRun old items left = (h : History) → IsLegal h → IsKeptBy h old → IsLeftOfRun h items left
+
+-- and leaves nothing else
+abbrev pub LeavesRun : State → State → List Item → Type 0
+LeavesRun old new items =
+    (h : History) → IsLegal h → IsTrue old.is_open → IsKeptBy h old → (left : Trees) → new.may_leave left → IsLeftOfRun h items left
+
+-- ---- an install
+
+abbrev pub with_policy : Contents → History → History
+with_policy policy h = with_changes h (Installed policy ∷ [])
+
+-- whichever legal history was kept, it is kept with the policy
+abbrev pub Installs : State → State → Contents → Type 0
+Installs old new policy = (h : History) → IsLegal h → IsKeptBy h old → IsKeptBy (with_policy policy h) new
+
+-- and a crash leaves that, and nothing else
+abbrev pub InstallLasts : State → State → Contents → Type 0
+InstallLasts old new policy = (h : History) → IsLegal h → IsKeptBy h old → (left : Trees) → new.may_leave left → IsLeftOf (with_policy policy h) left

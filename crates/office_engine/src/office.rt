@@ -1,0 +1,152 @@
+//! The office: requests over a connection to any store, each in one transaction.
+
+ghost use Rattle.std.specs.Prelude.{◌≡◌, Err, IfErr, IfOk, IsTrue, OnErr, false};
+ghost use Rattle.sqlite.specs.State.{HasCleanDisk, Survives};
+ghost use Rattle.sqlite.specs.Held.{state};
+ghost use Rattle.sqlite.specs.Tree.{Trees};
+ghost use Rattle.office_tables.specs.Faults as faults;
+ghost use Rattle.office_tables.specs.Opening as opening;
+ghost use Rattle.office_tables.specs.Opening.{HasOtherVersion, HasVersion, IsKept, has_office};
+ghost use Rattle.office_tables.specs.declared.fault.TableFault.TheVariants.{NotAnOffice, OtherVersion};
+ghost use Rattle.office_rows.specs.Rows.{this_version};
+ghost use Rattle.office_history.specs.Histories.{History};
+ghost use Rattle.office_history.specs.Runs.{IsLegal, new_history};
+ghost use Rattle.office_engine.specs.Keeping.{CommitsRun, CommitsTo, IsKeptBy, IsLeftOf, Lasts, LeavesEither, LeavesRun, Runs, Serves, after_item, is_accepted};
+
+use crate::serving::serve_and_leave;
+use office_core::{Answer, Day, Limits, Request};
+use office_tables::TableFault;
+use sqlite::{Alter, Connection};
+use std::alloc::{AllocError, Global};
+use std::marker::Model;
+
+/// An office over a connection, which is outside a transaction. Contracts see it as the connection.
+pub struct Office<S: Alter> {
+    conn: Connection<S>,
+}
+
+impl<S: Alter + Drop> Drop for Office<S> {
+    fn drop(self) {
+        let Office { conn: _ } = self;
+    }
+}
+
+impl<S: Alter> Model for Office<S> {
+    ghost use Rattle.std.specs.Prelude.{◌≡◌, false};
+    ghost use Rattle.sqlite.specs.Held.{Held, held_code};
+
+    ghost Value = { Held S };
+
+    ghost coded = { held_code S.code };
+
+    ghost view = { λ o. o.conn };
+
+    ghost invariant = { λ o. o.conn.in_transaction ≡ false };
+}
+
+impl<S: Alter> Office<S> {
+    /// Makes an office with those limits in an empty database.
+    ///
+    /// Fails with `Store` where the database isn't empty, and with `Memory` or `Store`. The
+    /// connection is handed back, its tables as they were.
+    pub fn create(
+        mut conn: Connection<S>,
+        limits: Limits,
+    ) -> Result<Office<S>, (Connection<S>, TableFault)>
+        requires outside { (state S.Store conn).in_transaction ≡ false }
+        ensures made { IfOk result (λ office. HasCleanDisk (state S.Store office)
+            → IsKeptBy (new_history limits.deposits limits.holds) (state S.Store office)) }
+        ensures survives { IfOk result (λ office. Survives (state S.Store conn) (state S.Store office)
+            (IsLeftOf (new_history limits.deposits limits.holds))) }
+        ensures durable { IfOk result (λ office. HasCleanDisk (state S.Store office) → (left : Trees)
+            → (state S.Store office).may_leave left → IsLeftOf (new_history limits.deposits limits.holds) left) }
+        ensures refused { IfErr result (λ e. HasCleanDisk (state S.Store e.0)
+            → IsKept (state S.Store conn) (state S.Store e.0)) }
+        ensures refused_outside { IfErr result (λ e. (state S.Store e.0).in_transaction ≡ false) }
+        ensures refused_survives { IfErr result (λ e. Survives (state S.Store conn) (state S.Store e.0)
+            (IsLeftOf (new_history limits.deposits limits.holds))) }
+        ensures failure { IfErr result (λ e. faults.IsFailure e.1) }
+    {
+        match office_tables::create(&mut conn, limits.deposits, limits.holds) {
+            Ok(()) => Ok(Office { conn }),
+            Err(stopped) => Err((conn, stopped)),
+        }
+    }
+
+    /// Takes a connection that shows an office of this version. It doesn't test the rows of the
+    /// other tables.
+    ///
+    /// Fails with `NotAnOffice` and `OtherVersion` as the tables tell, and with `Memory` or `Store`.
+    /// The connection is handed back, its tables as they were.
+    pub fn adopt(conn: Connection<S>) -> Result<Office<S>, (Connection<S>, TableFault)>
+        requires outside { (state S.Store conn).in_transaction ≡ false }
+        ensures same { IfOk result (λ office. HasCleanDisk (state S.Store office) → IsKept (state S.Store conn) (state S.Store office)) }
+        ensures version { IfOk result (λ office. HasCleanDisk (state S.Store office) → HasVersion (state S.Store conn).now this_version) }
+        ensures survives { IfOk result (λ office. Survives (state S.Store conn) (state S.Store office) (λ _. ⊥)) }
+        // What a crash left of an office goes on as that office, and is never told to be none, or one
+        // of another version.
+        ensures goes_on { IfOk result (λ office. HasCleanDisk (state S.Store office)
+            → (h : History) → IsLeftOf h (state S.Store conn).now.trees → IsKeptBy h (state S.Store office)) }
+        ensures known { IfErr result (λ e. HasCleanDisk (state S.Store e.0) → IsTrue (state S.Store conn).is_open
+            → (h : History) → IsLegal h → IsLeftOf h (state S.Store conn).now.trees → faults.IsFailure e.1) }
+
+        ensures refused { IfErr result (λ e. HasCleanDisk (state S.Store e.0) → IsKept (state S.Store conn) (state S.Store e.0)) }
+        ensures refused_outside { IfErr result (λ e. (state S.Store e.0).in_transaction ≡ false) }
+        ensures refused_survives { IfErr result (λ e. Survives (state S.Store conn) (state S.Store e.0) (λ _. ⊥)) }
+        ensures goes_back { IfErr result (λ e. HasCleanDisk (state S.Store e.0)
+            → (h : History) → IsLeftOf h (state S.Store conn).now.trees → IsKeptBy h (state S.Store e.0)) }
+        ensures not_office { IfErr result (λ e. HasCleanDisk (state S.Store e.0) → e.1 ≡ NotAnOffice → opening.NotAnOffice (state S.Store conn).now) }
+        ensures other_version { IfErr result (λ e. HasCleanDisk (state S.Store e.0) → e.1 ≡ OtherVersion → HasOtherVersion (state S.Store conn).now this_version) }
+        ensures no_table { has_office (state S.Store conn).now.schema ≡ false → result ≡ Err (conn, NotAnOffice) }
+    {
+        match office_recovery::adopt(conn) {
+            Ok(conn) => Ok(Office { conn }),
+            Err(refused) => Err(refused),
+        }
+    }
+
+    /// Serves a caller's request on that day, in one transaction with one commit. A request that is
+    /// refused, or only asks, changes nothing.
+    pub fn step(&mut self, alloc: Global, day: Day, caller: &str, request: &Request<'_>) -> Answer
+        ensures served { HasCleanDisk (state S.Store self.new)
+            → Serves (state S.Store self.old) (state S.Store self.new) (day, caller.entry, request.now) result }
+        ensures kept { HasCleanDisk (state S.Store self.new) → is_accepted result ≡ false
+            → IsKept (state S.Store self.old) (state S.Store self.new) }
+        ensures survives { Survives (state S.Store self.old) (state S.Store self.new)
+            (CommitsTo (state S.Store self.old) (after_item (day, caller.entry, request.now))) }
+        ensures durable { HasCleanDisk (state S.Store self.new)
+            → Lasts (state S.Store self.old) (state S.Store self.new) (day, caller.entry, request.now) result }
+        ensures leaves { HasCleanDisk (state S.Store self.new)
+            → LeavesEither (state S.Store self.old) (state S.Store self.new) (after_item (day, caller.entry, request.now)) }
+    {
+        serve_and_leave(alloc, &mut self.conn, day, caller, request)
+    }
+
+    /// Serves requests one after the other, each with its day and its caller. The room for the
+    /// answers is taken first: an `Err` has done nothing.
+    pub fn run(
+        &mut self,
+        alloc: Global,
+        items: &[(Day, &str, Request<'_>)],
+    ) -> Result<Vec<Answer>, AllocError>
+        ensures ran { HasCleanDisk (state S.Store self.new) → IfOk result (λ answers.
+            Runs (state S.Store self.old) (state S.Store self.new) items.now answers.items) }
+        ensures failed { OnErr result (self.new ≡ self.old) }
+        ensures survives { Survives (state S.Store self.old) (state S.Store self.new) (CommitsRun (state S.Store self.old) items.now) }
+    {
+        let mut answers = Vec::with_capacity(alloc, items.len())?;
+        for item in items {
+            answers.push_reserved(self.step(alloc, item.0, item.1, &item.2));
+        }
+        Ok(answers)
+    }
+
+    /// The connection, outside a transaction, its tables as they are.
+    pub fn into_connection(self) -> Connection<S>
+        ensures same { result ≡ self }
+        ensures outside { (state S.Store result).in_transaction ≡ false }
+    {
+        let Office { conn } = self;
+        conn
+    }
+}

@@ -1,0 +1,3 @@
+pub mod FoundAgain
+pub mod Settled
+pub mod Reopened
