@@ -1,0 +1,4 @@
+pub mod FirstPlaces
+pub mod ClassTold
+pub mod CollectionTold
+pub mod InstallTold

@@ -1,0 +1,47 @@
+//! Collections.
+
+ghost use Rattle.std.specs.Prelude.{◌≡◌, IfErr};
+ghost use Rattle.office_core.specs.declared.request.Request.TheVariants as requests;
+ghost use Rattle.office_tables.specs.Faults.{IsFailure};
+ghost use Rattle.office_tables.specs.Calls.{CommitsNothing, Continues};
+ghost use Rattle.office_asking.specs.Serving.{Decides};
+
+use office_asking::denial;
+use office_core::{Action, Answer, Day, Name};
+use office_tables::{TableFault, put_collection};
+use sqlite::{Alter, Transaction};
+use std::alloc::Global;
+
+/// Defines a collection. One that is there stays as it is, and is no other change.
+///
+/// Fails with `Memory` or `Store`.
+pub fn define_collection<S: Alter>(
+    alloc: Global,
+    tx: &mut Transaction<'_, S>,
+    day: Day,
+    caller: &str,
+    name: &Name<'_>,
+) -> Result<Answer, TableFault>
+    ensures same_reference { tx.new.conn.ghost_name ≡ tx.old.conn.ghost_name }
+    ensures stays { CommitsNothing S.Store tx.old.conn.now tx.new.conn.now }
+    ensures goes_on { Continues S.Store tx.old.conn.now tx.new.conn.now result }
+    ensures failure { IfErr result IsFailure }
+    ensures decides { Decides S.Store tx.old.conn.now tx.new.conn.now result day caller.now (requests.DefineCollection name.now) }
+{
+    let denied = denial(
+        alloc,
+        tx,
+        caller,
+        Action::Collection,
+        Some(name.as_str()),
+        None,
+    )?;
+    if let Some(why) = denied {
+        return Ok(Answer::Refused(why));
+    }
+    let answer = Answer::Collection {
+        name: name.to_owned(alloc)?,
+    };
+    put_collection(tx, name.as_str())?;
+    Ok(answer)
+}

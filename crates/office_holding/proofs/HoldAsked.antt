@@ -1,0 +1,76 @@
+-- A hold that is asked for, by its row.
+use Rattle.std.proofs.Common.{◌≡◌, ℕ, pos, List, [], ◌∷◌, Option, Some, None, option_map, refl, sym, ap, ◌∙◌}
+use Rattle.std.proofs.lemmas.Option.{same_Some}
+use Rattle.jiff.specs.Types.{Date}
+use Rattle.jiff.specs.Words.{epoch_day}
+use Rattle.sqlite.specs.Effect.{Database}
+use Rattle.office_core.specs.FirstOf.{first_some}
+use Rattle.office_core.specs.declared.action.Action.TheVariants as acts
+use Rattle.office_core.specs.declared.refusal.Refusal.{Refusal}
+use Rattle.office_core.specs.declared.refusal.Refusal.TheVariants.{NoSuch, Released}
+use Rattle.office_core.specs.declared.refusal.Subject.TheVariants as subjects
+use Rattle.office_rows.specs.Rows as rows
+use Rattle.office_rows.specs.Rows.{DepositRow, HoldRow}
+use Rattle.office_tables.specs.Tables.{tables_of}
+use Rattle.office_tables.specs.ShownHolds as shown
+use Rattle.office_tables.specs.declared.holds.HoldTarget.{HoldTarget}
+use Rattle.office_tables.specs.declared.holds.HoldTarget.TheVariants as targets
+use Rattle.office_history.specs.Histories.{History, Hold, Target, OnDeposit, OnCollection, holds, hold_numbered, release_day, deposit_numbered}
+use Rattle.office_history.specs.Pictures.{held_deposit, held_collection, hold_row, hold_rows, deposit_row}
+use Rattle.office_history.specs.Refusals.{of_hold, denial, release_denial, release_denial_of, release_refusals}
+use Rattle.office_history.proofs.Pictured.{same_days}
+use Rattle.office_asking.specs.Pictures.{Pictures}
+use Rattle.office_asking.proofs.DepositAsked.{there}
+use Rattle.office_asking.proofs.HoldTold.{hold_rows_are}
+use Rattle.office_asking.proofs.NumberedRows.{found_at}
+use Rattle.office_asking.proofs.Readings.{in_picture}
+use Rattle.office_holding.specs.Holds.{target_of}
+
+hold_told : (h : History) (k : ℕ) → rows.hold_numbered (pos k) (hold_rows h) ≡ option_map (hold_row h k) (hold_numbered h k)
+hold_told h k = ap (rows.hold_numbered (pos k)) (hold_rows_are h) ∙ found_at (hold_row h) (λ r. r.number) (λ m x. refl) (holds h) k
+
+pub hold_read : (h : History) (old : Database) → Pictures h old → (k : ℕ) (found : Option HoldRow) → found ≡ rows.hold_numbered (pos k) (tables_of old).holds → found ≡ option_map (hold_row h k) (hold_numbered h k)
+hold_read h old pictured k found e = e ∙ in_picture h old pictured (λ t. rows.hold_numbered (pos k) t.holds) ∙ hold_told h k
+
+pub no_hold : (h : History) (k : ℕ) (caller : List ℕ) → None ≡ option_map (hold_row h k) (hold_numbered h k) → Some (NoSuch subjects.Hold) ≡ first_some (of_hold (hold_numbered h k) (release_refusals h caller k))
+no_hold h k caller e = by (hold_numbered h k) e
+  where
+    by : (o : Option (Date × Hold)) → None ≡ option_map (hold_row h k) o → Some (NoSuch subjects.Hold) ≡ first_some (of_hold o (release_refusals h caller k))
+    by None e = refl
+    by (Some found) e = absurd cc
+
+-- what a row names is what the hold names
+same_target : (named : HoldTarget) (target : Target) → shown.held_deposit named ≡ held_deposit target → shown.held_collection named ≡ held_collection target → target_of named ≡ target
+same_target (targets.Deposit m) (OnDeposit n) d c = let same : m ≡ n = cc in ap OnDeposit same
+same_target (targets.Deposit m) (OnCollection name) d c = absurd cc
+same_target (targets.Collection name) (OnDeposit n) d c = absurd cc
+same_target (targets.Collection name) (OnCollection other) d c = ap OnCollection (same_Some _ _ c)
+
+-- the release of a hold of that deposit is asked of the deposit's row
+pub asked_of_deposit : (h : History) (caller : List ℕ) (n : ℕ) (row : DepositRow) → Some row ≡ option_map (deposit_row h n) (deposit_numbered h n) → (why : Option Refusal)
+    → why ≡ denial h caller acts.Release (Some row.collection) (Some row.class) → why ≡ release_denial h caller (OnDeposit n)
+asked_of_deposit h caller n row read why is =
+    let found = there h caller acts.Release n row read in
+    is
+    ∙ ap (λ (r : DepositRow). denial h caller acts.Release (Some r.collection) (Some r.class)) found.2
+    ∙ ap (release_denial_of h caller) (sym found.1)
+
+module _ (h : History) (k : ℕ) (row : HoldRow) (read : Some row ≡ option_map (hold_row h k) (hold_numbered h k)) where
+  hold_there : (found : Date × Hold) × (hold_numbered h k ≡ Some found) × (row ≡ hold_row h k found)
+  hold_there = by (hold_numbered h k) refl read
+    where
+      by : (o : Option (Date × Hold)) → hold_numbered h k ≡ o → Some row ≡ option_map (hold_row h k) o → (found : Date × Hold) × (hold_numbered h k ≡ Some found) × (row ≡ hold_row h k found)
+      by None is e = absurd cc
+      by (Some found) is e = (found, is, same_Some _ _ e)
+
+  pub release_asked : (caller : List ℕ) (named : HoldTarget) (denied : Option Refusal) (released : Option Date) → shown.held_deposit named ≡ row.deposit → shown.held_collection named ≡ row.collection
+      → denied ≡ release_denial h caller (target_of named) → option_map epoch_day released ≡ row.released
+      → first_some (denied ∷ option_map Released released ∷ []) ≡ first_some (of_hold (hold_numbered h k) (release_refusals h caller k))
+  release_asked caller named denied released d c is day =
+      let row_is = hold_there.2 in
+      let target : target_of named ≡ hold_there.0.1.target =
+      same_target named hold_there.0.1.target (d ∙ ap (λ (r : HoldRow). r.deposit) row_is) (c ∙ ap (λ (r : HoldRow). r.collection) row_is) in
+      let asked = is ∙ ap (release_denial h caller) target in
+      let when = same_days released (release_day h k) (day ∙ ap (λ (r : HoldRow). r.released) row_is) in
+      (λ i. first_some (asked i ∷ option_map Released (when i) ∷ []))
+      ∙ ap (λ o. first_some (of_hold o (release_refusals h caller k))) (sym hold_there.1)

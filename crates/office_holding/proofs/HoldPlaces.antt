@@ -1,0 +1,62 @@
+-- Which refusal of a hold stands first, and else its number.
+use Rattle.std.proofs.Common.{◌≡◌, ℕ, true, false, not, List, [], ◌∷◌, Option, Some, None, Result, Ok, Err, refl, sym, ap, subst, ◌∙◌}
+use Rattle.jiff.specs.Types.{Date}
+use Rattle.office_core.specs.FirstOf.{first_some, answer_if}
+use Rattle.office_core.specs.declared.action.Action.TheVariants as acts
+use Rattle.office_core.specs.declared.refusal.Refusal.{Refusal}
+use Rattle.office_core.specs.declared.refusal.Refusal.TheVariants.{NoSuch}
+use Rattle.office_core.specs.declared.refusal.Subject.TheVariants as subjects
+use Rattle.office_rows.specs.Rows.{DepositRow}
+use Rattle.office_history.specs.Histories.{History, Deposit, has_collection, deposit_numbered}
+use Rattle.office_history.specs.Refusals.{of_deposit, denial, denial_at, gone_refusal, full_of_holds, kept_refusals, hold_refusals}
+use Rattle.office_asking.specs.Deposits.{IsAsked}
+use Rattle.office_holding.specs.Holds.{IsPlace, collection_denials}
+
+-- a refusal that stands among two stands among more
+first_of_more : (a b : Option Refusal) (more : List (Option Refusal)) (why : Refusal) → Some why ≡ first_some (a ∷ b ∷ []) → Some why ≡ first_some (a ∷ b ∷ more)
+first_of_more (Some x) b more why e = e
+first_of_more None (Some x) more why e = e
+first_of_more None None more why e = absurd cc
+
+-- where neither of two stands, the others are asked
+others_asked : (h : History) (a b : Option Refusal) (more : List (Option Refusal)) (place : Result ℕ Refusal) → None ≡ first_some (a ∷ b ∷ []) → IsPlace h more place → IsPlace h (a ∷ b ∷ more) place
+others_asked h (Some x) b more place e is = absurd cc
+others_asked h None (Some x) more place e is = absurd cc
+others_asked h None None more (Ok number) e is = is
+others_asked h None None more (Err why) e is = is
+
+module _ (h : History) (caller name : List ℕ) where
+  abbrev may_hold : Option Refusal
+  may_hold = denial h caller acts.Hold (Some name) None
+
+  pub not_there : false ≡ has_collection h name → Some (NoSuch subjects.Collection) ≡ first_some (collection_denials h caller name)
+  not_there e = ap (λ b. first_some (answer_if (not b) (NoSuch subjects.Collection) ∷ may_hold ∷ [])) e
+
+  one : (o : Option Refusal) → o ≡ first_some (o ∷ [])
+  one None = refl
+  one (Some why) = refl
+
+  pub is_there : true ≡ has_collection h name → (why : Option Refusal) → why ≡ may_hold → why ≡ first_some (collection_denials h caller name)
+  is_there e why is = one why ∙ (λ i. first_some (answer_if (not (e i)) (NoSuch subjects.Collection) ∷ is i ∷ []))
+
+  abbrev absent : Option Refusal
+  absent = answer_if (not (has_collection h name)) (NoSuch subjects.Collection)
+
+  pub collection_denied : (why : Refusal) → Some why ≡ first_some (collection_denials h caller name) → IsPlace h (absent ∷ may_hold ∷ full_of_holds h ∷ []) (Err why)
+  collection_denied why e = first_of_more absent may_hold (full_of_holds h ∷ []) why e
+
+  pub collection_placed : (place : Result ℕ Refusal) → None ≡ first_some (collection_denials h caller name) → IsPlace h (full_of_holds h ∷ []) place → IsPlace h (absent ∷ may_hold ∷ full_of_holds h ∷ []) place
+  collection_placed place e is = others_asked h absent may_hold (full_of_holds h ∷ []) place e is
+
+module _ (h : History) (caller : List ℕ) (n : ℕ) where
+  pub deposit_denied : (why : Refusal) → IsAsked h n (kept_refusals h caller acts.Hold n) (Err why) → IsPlace h (of_deposit (deposit_numbered h n) (hold_refusals h caller n)) (Err why)
+  deposit_denied why e = by (deposit_numbered h n) e
+    where
+      by : (o : Option (Date × Deposit)) → Some why ≡ first_some (of_deposit o (kept_refusals h caller acts.Hold n)) → Some why ≡ first_some (of_deposit o (hold_refusals h caller n))
+      by None e = e
+      by (Some found) e = first_of_more (denial_at h caller acts.Hold found.1) (gone_refusal h n) (full_of_holds h ∷ []) why e
+
+  pub deposit_placed : (row : DepositRow) (place : Result ℕ Refusal) → IsAsked h n (kept_refusals h caller acts.Hold n) (Ok row) → IsPlace h (full_of_holds h ∷ []) place → IsPlace h (of_deposit (deposit_numbered h n) (hold_refusals h caller n)) place
+  deposit_placed row place asked is =
+      subst (λ o. IsPlace h (of_deposit o (hold_refusals h caller n)) place) (sym asked.there)
+      (others_asked h (denial_at h caller acts.Hold asked.found.1) (gone_refusal h n) (full_of_holds h ∷ []) place (sym asked.free) is)

@@ -1,0 +1,6 @@
+pub mod HoldCount
+pub mod CollectionTold
+pub mod HoldPlaces
+pub mod PlacedTold
+pub mod HoldAsked
+pub mod ReleasedTold

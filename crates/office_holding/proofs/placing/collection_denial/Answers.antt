@@ -1,0 +1,29 @@
+use Rattle.std.proofs.Common.{rules, ◌≡◌, true, false, arith, ◌∙◌}
+use Rattle.sqlite.specs.State.{HasCleanDisk}
+use Rattle.sqlite.specs.Held.{state}
+use Rattle.sql_meaning.proofs.Results.{if_ok}
+use Rattle.office_asking.proofs.Readings.{pictured_still}
+use Rattle.office_holding.proofs.CollectionTold.{collection_told}
+use Rattle.office_holding.proofs.HoldPlaces.{not_there, is_there}
+use Rattle.office_holding.proofs.placing.collection_denial.Goals as goal
+
+pub returns-then-not-branch-clause-denied : goal.returns-then-not-branch-clause-denied
+returns-then-not-branch-clause-denied g c clean h legal pictured =
+    let a = c.args in
+    let old = state g.S.Store a.tx.now.conn.now in
+    let new = state g.S.Store c.has_collection.new.tx.conn.now in
+    let none : false ≡ c.in_ok-has_collection.field-0 = search rules in (
+      pictured_still h old.now pictured new.now (c.in_ok-has_collection.ensures.same clean pictured.office),
+      not_there h a.caller.now a.collection.now (none ∙ c.in_ok-has_collection.ensures.found clean pictured.office ∙ collection_told h old.now pictured a.collection.now),
+    )
+
+pub returns-clause-denied : goal.returns-clause-denied
+returns-clause-denied g c clean h legal pictured =
+    let a = c.args in
+    let old = state g.S.Store a.tx.now.conn.now in
+    let mid = state g.S.Store c.has_collection.new.tx.conn.now in
+    let early : HasCleanDisk mid = omega (arith, clean, c.denial.ensures.stays.survives.clean) in
+    let still = pictured_still h old.now pictured mid.now (c.in_ok-has_collection.ensures.same early pictured.office) in
+    let some : true ≡ c.in_ok-has_collection.field-0 = search rules in
+    let there = some ∙ c.in_ok-has_collection.ensures.found early pictured.office ∙ collection_told h old.now pictured a.collection.now in
+    if_ok c.denial.result (λ why p. (p.0, is_there h a.caller.now a.collection.now there why p.1)) (c.denial.ensures.denied clean h legal still)

@@ -1,0 +1,31 @@
+use Rattle.std.proofs.Common.{arith, ap, subst, Ok, Err, [], ◌∷◌}
+use Rattle.sqlite.specs.State.{HasCleanDisk}
+use Rattle.sqlite.specs.Held.{state}
+use Rattle.office_core.specs.declared.answer.Answer.TheVariants as answers
+use Rattle.office_core.specs.declared.request.Request.TheVariants as requests
+use Rattle.office_history.specs.Histories.{PlacedHold, OnCollection, with_changes}
+use Rattle.office_history.specs.Refusals.{collection_hold_refusals}
+use Rattle.office_asking.specs.Pictures.{Pictures}
+use Rattle.office_asking.proofs.Serving.{allowed_serves, refused_serves}
+use Rattle.office_holding.specs.Holds.{IsPlace}
+use Rattle.office_holding.proofs.placing.hold_collection.Goals as goal
+
+pub returns-in_ok-place-in-Ok-clause-decides : goal.returns-in_ok-place-in-Ok-clause-decides
+returns-in_ok-place-in-Ok-clause-decides g c clean h legal pictured =
+    let a = c.args in
+    let mid = state g.S.Store c.place_for_collection.new.tx.conn.now in
+    let new = state g.S.Store c.place.new.tx.conn.now in
+    let early : HasCleanDisk mid = omega (arith, clean, c.place.ensures.stays.survives.clean) in
+    let found = c.in_ok-hold.ensures.found early h legal pictured in
+    let place = subst (λ name. IsPlace h (collection_hold_refusals h a.caller.now name) (Ok c.in-Ok.hold)) c.as_str.ensures.text (subst (IsPlace h (collection_hold_refusals h a.caller.now c.as_str.result.now)) c.in-Ok.is found.1) in
+    let put : Pictures (with_changes h (PlacedHold a.day (record { target = OnCollection a.name.now; matter = a.matter.now }) ∷ [])) new.now =
+    rw (c.as_str-in-Ok.ensures.text, c.as_str-in-Ok-2.ensures.text) at (c.in_ok-place-in-Ok.ensures.placed clean h legal found.0 place.1) in
+    allowed_serves h a.day a.caller.now (requests.HoldCollection a.name.now a.matter.now) new.now (answers.HoldPlaced c.in-Ok.hold) place.0 (ap answers.HoldPlaced place.1) put
+
+pub returns-in-Err-clause-decides : goal.returns-in-Err-clause-decides
+returns-in-Err-clause-decides g c clean h legal pictured =
+    let a = c.args in
+    let new = state g.S.Store c.place_for_collection.new.tx.conn.now in
+    let found = c.in_ok-hold.ensures.found clean h legal pictured in
+    let said = subst (λ name. IsPlace h (collection_hold_refusals h a.caller.now name) (Err c.in-Err.why)) c.as_str.ensures.text (subst (IsPlace h (collection_hold_refusals h a.caller.now c.as_str.result.now)) c.in-Err.is found.1) in
+    refused_serves h a.day a.caller.now (requests.HoldCollection a.name.now a.matter.now) new.now c.in-Err.why said found.0

@@ -1,0 +1,35 @@
+use Rattle.std.proofs.Common.{rules, ◌≡◌, arith, sym, ◌∙◌, Some, None, option_map}
+use Rattle.sqlite.specs.State.{HasCleanDisk}
+use Rattle.sqlite.specs.Held.{state}
+use Rattle.jiff.specs.Words.{epoch_day}
+use Rattle.office_tables.specs.ShownHolds as shown
+use Rattle.office_history.specs.Histories.{hold_numbered}
+use Rattle.office_history.specs.Pictures.{hold_row}
+use Rattle.office_asking.proofs.Readings.{pictured_still}
+use Rattle.office_holding.proofs.HoldAsked.{hold_read, no_hold, release_asked}
+use Rattle.office_holding.proofs.releasing.release_refusal.Goals as goal
+
+pub returns-in_default-clause-refused : goal.returns-in_default-clause-refused
+returns-in_default-clause-refused g c clean h legal pictured =
+    let a = c.args in
+    let old = state g.S.Store a.tx.now.conn.now in
+    let new = state g.S.Store c.hold_row.new.tx.conn.now in
+    let read = hold_read h old.now pictured a.number c.in_ok-hold.field-0 (c.in_ok-hold.ensures.found clean pictured.office) in
+    let none : None ≡ option_map (hold_row h a.number) (hold_numbered h a.number) = search (rules, read) in
+    (pictured_still h old.now pictured new.now (c.in_ok-hold.ensures.same clean pictured.office), no_hold h a.number a.caller.now none)
+
+pub returns-clause-refused : goal.returns-clause-refused
+returns-clause-refused g c clean h legal pictured =
+    let a = c.args in
+    let old = state g.S.Store a.tx.now.conn.now in
+    let mid = state g.S.Store c.hold_row.new.tx.conn.now in
+    let early : HasCleanDisk mid = omega (arith, clean, c.release_denial.ensures.stays.survives.clean) in
+    let read = hold_read h old.now pictured a.number c.in_ok-hold.field-0 (c.in_ok-hold.ensures.found early pictured.office) in
+    let still = pictured_still h old.now pictured mid.now (c.in_ok-hold.ensures.same early pictured.office) in
+    let row = c.in-Some.hold in
+    let some : Some row ≡ option_map (hold_row h a.number) (hold_numbered h a.number) = sym c.in-Some.is ∙ read in
+    let asked = c.in_ok-denied.ensures.denied clean h legal still in
+    let deposit : shown.held_deposit c.in_ok-target.target ≡ row.deposit = search rules in
+    let collection : shown.held_collection c.in_ok-target.target ≡ row.collection = search rules in
+    let day : option_map epoch_day c.in_ok-released.released ≡ row.released = search rules in
+    (asked.0, c.first_refusal.ensures ∙ release_asked h a.number row some a.caller.now c.in_ok-target.target c.in_ok-denied.denied c.in_ok-released.released deposit collection asked.1 day)

@@ -1,0 +1,8 @@
+//! Holds, and their release, over the tables.
+#![tactic(auto)]
+
+mod placing;
+mod releasing;
+
+pub use placing::{hold_collection, hold_deposit};
+pub use releasing::release;

@@ -1,0 +1,165 @@
+//! Holds that are placed on deposits and collections.
+
+ghost use Rattle.std.specs.Prelude.{◌≡◌, IfErr, [], ◌∷◌};
+ghost use Rattle.office_core.specs.FirstOf.{first_some};
+ghost use Rattle.office_core.specs.declared.request.Request.TheVariants as requests;
+ghost use Rattle.office_tables.specs.Faults.{IsFailure};
+ghost use Rattle.office_tables.specs.Calls.{CommitsNothing, Continues};
+ghost use Rattle.office_history.specs.Histories.{PlacedHold, deposit_numbered};
+ghost use Rattle.office_history.specs.Refusals.{collection_hold_refusals, full_of_holds, hold_refusals, of_deposit};
+ghost use Rattle.office_asking.specs.Serving.{Accepts, Decides, Finds};
+ghost use Rattle.office_holding.specs.Holds.{IsNext, IsPlace, collection_denials, target_of};
+
+use office_asking::{denial, kept_deposit};
+use office_core::{Action, Answer, Day, Matter, Name, Refusal, Subject};
+use office_tables::{HoldTarget, TableFault, has_collection, last_hold, limits, put_hold};
+use sqlite::{Alter, Transaction};
+use std::alloc::Global;
+
+/// The number of the next hold, where the office takes one more.
+fn next_hold<S: Alter>(tx: &mut Transaction<'_, S>) -> Result<Result<u32, Refusal>, TableFault>
+    ensures same_reference { tx.new.conn.ghost_name ≡ tx.old.conn.ghost_name }
+    ensures stays { CommitsNothing S.Store tx.old.conn.now tx.new.conn.now }
+    ensures goes_on { Continues S.Store tx.old.conn.now tx.new.conn.now result }
+    ensures failure { IfErr result IsFailure }
+    ensures next { Finds S.Store tx.old.conn.now tx.new.conn.now result (λ h place. IsPlace h (full_of_holds h ∷ []) place) }
+{
+    let limits = limits(tx)?;
+    let last = last_hold(tx)?.unwrap_or(0);
+    if limits.max_holds <= last {
+        return Ok(Err(Refusal::Full));
+    }
+    Ok(Ok(last + 1))
+}
+
+/// Places a hold of that number, which is to be the next.
+fn place<S: Alter>(
+    tx: &mut Transaction<'_, S>,
+    day: Day,
+    number: u32,
+    target: HoldTarget<'_>,
+    matter: &str,
+) -> Result<(), TableFault>
+    ensures same_reference { tx.new.conn.ghost_name ≡ tx.old.conn.ghost_name }
+    ensures stays { CommitsNothing S.Store tx.old.conn.now tx.new.conn.now }
+    ensures goes_on { Continues S.Store tx.old.conn.now tx.new.conn.now result }
+    ensures failure { IfErr result IsFailure }
+    ensures placed { Accepts S.Store tx.old.conn.now tx.new.conn.now result (λ h. IsNext h number)
+        (PlacedHold day (record { target = target_of target.entry; matter = matter.now }) ∷ []) }
+{
+    put_hold(tx, number, target, matter, day.number() as i64)
+}
+
+/// The refusal where there is no such collection, or the caller may not hold it.
+fn collection_denial<S: Alter>(
+    alloc: Global,
+    tx: &mut Transaction<'_, S>,
+    caller: &str,
+    collection: &str,
+) -> Result<Option<Refusal>, TableFault>
+    ensures same_reference { tx.new.conn.ghost_name ≡ tx.old.conn.ghost_name }
+    ensures stays { CommitsNothing S.Store tx.old.conn.now tx.new.conn.now }
+    ensures goes_on { Continues S.Store tx.old.conn.now tx.new.conn.now result }
+    ensures failure { IfErr result IsFailure }
+    ensures denied { Finds S.Store tx.old.conn.now tx.new.conn.now result (λ h why.
+        why ≡ first_some (collection_denials h caller.now collection.now)) }
+{
+    if !has_collection(tx, collection)? {
+        return Ok(Some(Refusal::NoSuch(Subject::Collection)));
+    }
+    denial(alloc, tx, caller, Action::Hold, Some(collection), None)
+}
+
+/// The number of a hold of that collection, where nothing stands against it.
+fn place_for_collection<S: Alter>(
+    alloc: Global,
+    tx: &mut Transaction<'_, S>,
+    caller: &str,
+    collection: &str,
+) -> Result<Result<u32, Refusal>, TableFault>
+    ensures same_reference { tx.new.conn.ghost_name ≡ tx.old.conn.ghost_name }
+    ensures stays { CommitsNothing S.Store tx.old.conn.now tx.new.conn.now }
+    ensures goes_on { Continues S.Store tx.old.conn.now tx.new.conn.now result }
+    ensures failure { IfErr result IsFailure }
+    ensures found { Finds S.Store tx.old.conn.now tx.new.conn.now result (λ h place.
+        IsPlace h (collection_hold_refusals h caller.now collection.now) place) }
+{
+    if let Some(why) = collection_denial(alloc, tx, caller, collection)? {
+        return Ok(Err(why));
+    }
+    next_hold(tx)
+}
+
+/// The number of a hold of the deposit of that number, where nothing stands against it.
+fn place_for_deposit<S: Alter>(
+    alloc: Global,
+    tx: &mut Transaction<'_, S>,
+    caller: &str,
+    number: u32,
+) -> Result<Result<u32, Refusal>, TableFault>
+    ensures same_reference { tx.new.conn.ghost_name ≡ tx.old.conn.ghost_name }
+    ensures stays { CommitsNothing S.Store tx.old.conn.now tx.new.conn.now }
+    ensures goes_on { Continues S.Store tx.old.conn.now tx.new.conn.now result }
+    ensures failure { IfErr result IsFailure }
+    ensures found { Finds S.Store tx.old.conn.now tx.new.conn.now result (λ h place.
+        IsPlace h (of_deposit (deposit_numbered h number) (hold_refusals h caller.now number)) place) }
+{
+    match kept_deposit(alloc, tx, caller, Action::Hold, number)? {
+        Ok(_) => next_hold(tx),
+        Err(why) => Ok(Err(why)),
+    }
+}
+
+/// Holds a collection: all its deposits, those that come later too.
+///
+/// Fails with `Memory` or `Store`.
+pub fn hold_collection<S: Alter>(
+    alloc: Global,
+    tx: &mut Transaction<'_, S>,
+    day: Day,
+    caller: &str,
+    name: &Name<'_>,
+    matter: &Matter<'_>,
+) -> Result<Answer, TableFault>
+    ensures same_reference { tx.new.conn.ghost_name ≡ tx.old.conn.ghost_name }
+    ensures stays { CommitsNothing S.Store tx.old.conn.now tx.new.conn.now }
+    ensures goes_on { Continues S.Store tx.old.conn.now tx.new.conn.now result }
+    ensures failure { IfErr result IsFailure }
+    ensures decides { Decides S.Store tx.old.conn.now tx.new.conn.now result day caller.now (requests.HoldCollection name.now matter.now) }
+{
+    match place_for_collection(alloc, tx, caller, name.as_str())? {
+        Ok(hold) => {
+            let target = HoldTarget::Collection(name.as_str());
+            place(tx, day, hold, target, matter.as_str())?;
+            Ok(Answer::HoldPlaced { hold })
+        }
+        Err(why) => Ok(Answer::Refused(why)),
+    }
+}
+
+/// Holds a deposit.
+///
+/// Fails with `Memory` or `Store`.
+pub fn hold_deposit<S: Alter>(
+    alloc: Global,
+    tx: &mut Transaction<'_, S>,
+    day: Day,
+    caller: &str,
+    number: u32,
+    matter: &Matter<'_>,
+) -> Result<Answer, TableFault>
+    ensures same_reference { tx.new.conn.ghost_name ≡ tx.old.conn.ghost_name }
+    ensures stays { CommitsNothing S.Store tx.old.conn.now tx.new.conn.now }
+    ensures goes_on { Continues S.Store tx.old.conn.now tx.new.conn.now result }
+    ensures failure { IfErr result IsFailure }
+    ensures decides { Decides S.Store tx.old.conn.now tx.new.conn.now result day caller.now (requests.HoldDeposit number matter.now) }
+{
+    match place_for_deposit(alloc, tx, caller, number)? {
+        Ok(hold) => {
+            let target = HoldTarget::Deposit(number);
+            place(tx, day, hold, target, matter.as_str())?;
+            Ok(Answer::HoldPlaced { hold })
+        }
+        Err(why) => Ok(Answer::Refused(why)),
+    }
+}

@@ -1,0 +1,172 @@
+-- The rows of an office after a deposit was made.
+use Rattle.std.proofs.Common.{◌≡◌, ℕ, zero, suc, ◌+◌, ◌<◌, ◌≤◌, ℤ, pos, Bool, true, false, List, [], ◌∷◌, ◌++◌, length, map, filter, Some, None, Less, slice_get, is_none, refl, sym, ap, subst, ◌∙◌, arith, cond, append-nil, append_assoc}
+use Rattle.std.specs.List.{flat_map, range_with_len, AllByRecursion}
+use Rattle.std.specs.Option.{option_map_or}
+use Rattle.std.specs.Ordering.{int_cmp}
+use Rattle.std.proofs.lemmas.List.{at_drop_more}
+use Rattle.std.proofs.Common.{drop, get_or, Bor, rules}
+use Rattle.bag_text.specs.TransferReading as pairs
+use Rattle.std.specs.Cmp.{int_cmp_is}
+use Rattle.office_tables.specs.Tables.{IsOffice, Becomes, tables_of}
+use Rattle.std.proofs.lemmas.List.Elements.{filter-append}
+use Rattle.jiff.specs.Types.{Date}
+use Rattle.sqlite.specs.Effect.{Database}
+use Rattle.bag_text.specs.TransferForm.{File}
+use Rattle.office_rows.proofs.Order.{put_last}
+use Rattle.office_rows.specs.Rows.{Tables, DepositRow, FileRow, put_by, with_deposit, with_file, this_version}
+use Rattle.office_history.specs.Lists.{item_numbered, numbers}
+use Rattle.office_history.specs.Histories.{History, Change, Deposited, Deposit, with_changes, deposits, destruction_day}
+use Rattle.office_history.specs.Pictures.{deposit_row, deposit_rows, file_row, file_rows, picture, caller_row, rule_rows, office_row}
+use Rattle.office_history.specs.Runs.{IsLegal}
+use Rattle.office_history.proofs.LegalReadings.{none_gone}
+use Rattle.office_asking.specs.Pictures.{Pictures}
+use Rattle.office_history.proofs.HistoryLemmas.{deposits_grown}
+use Rattle.office_keeping.specs.Depositing.{with_files}
+use Rattle.office_asking.proofs.NumberedRows.{rows_from, rows_append}
+use Rattle.office_asking.proofs.DepositTold.{deposit_rows_are}
+use Rattle.office_asking.proofs.Unchanged.{row_by_gone, same_policy, same_classes, same_collections, same_gone, same_hold_rows}
+
+pub files_added : (n : ℕ) (files : List File) (t : Tables) → with_files (pos n) files t ≡ record t { files = t.files ++ map (file_row n) files }
+files_added n [] t = λ i. record t { files = sym (append-nil t.files) i }
+files_added n (f ∷ files) t =
+    files_added n files (record t { files = t.files ++ file_row n f ∷ [] })
+    ∙ ap (λ (fs : List FileRow). record t { files = fs }) (append_assoc t.files (file_row n f ∷ []) (map (file_row n) files))
+
+range_last : (start len : ℕ) → range_with_len start (len + 1) ≡ range_with_len start len ++ (start + len) ∷ []
+range_last start zero = let none : start ≡ start + 0 = omega arith in ap (λ k. k ∷ []) none
+range_last start (suc len) =
+    let one : start + 1 + len ≡ start + suc len = omega arith in
+    let two : suc len + 1 ≡ suc (len + 1) = omega arith in
+    ap (range_with_len start) two
+    ∙ ap (λ ks. start ∷ ks) (range_last (start + 1) len ∙ ap (λ k. range_with_len (start + 1) len ++ k ∷ []) one)
+
+flat_append : {X A : Type 0} (f : X → List A) (xs ys : List X) → flat_map f (xs ++ ys) ≡ flat_map f xs ++ flat_map f ys
+flat_append f [] ys = refl
+flat_append f (x ∷ xs) ys = ap (λ zs. f x ++ zs) (flat_append f xs ys) ∙ sym (append_assoc (f x) (flat_map f xs) (flat_map f ys))
+
+front : {A : Type 0} (xs ys : List A) (i : ℕ) → i < length xs → slice_get (xs ++ ys) i ≡ slice_get xs i
+front [] ys i less = absurd (omega (arith, less))
+front (x ∷ xs) ys zero less = refl
+front (x ∷ xs) ys (suc i) less = front xs ys i (omega (arith, less))
+
+-- what is gathered of numbers in a row that a filter keeps
+same_gathered : {A : Type 0} (f g : ℕ → List A) (keeps : ℕ → Bool) (len start : ℕ) → ((i : ℕ) → i < len → f (start + i) ≡ g (start + i)) → flat_map f (filter keeps (range_with_len start len)) ≡ flat_map g (filter keeps (range_with_len start len))
+same_gathered f g keeps zero start same = refl
+same_gathered f g keeps (suc len) start same =
+    by (keeps start) (let none : start + 0 ≡ start = omega arith in subst (λ k. f k ≡ g k) none (same 0 (omega arith)))
+    (same_gathered f g keeps len (start + 1) (λ i less. let one : start + suc i ≡ start + 1 + i = omega arith in subst (λ k. f k ≡ g k) one (same (suc i) (omega (arith, less)))))
+  where
+    by : (b : Bool) → f start ≡ g start → flat_map f (filter keeps (range_with_len (start + 1) len)) ≡ flat_map g (filter keeps (range_with_len (start + 1) len))
+        → flat_map f (cond b (start ∷ filter keeps (range_with_len (start + 1) len)) (filter keeps (range_with_len (start + 1) len)))
+        ≡ flat_map g (cond b (start ∷ filter keeps (range_with_len (start + 1) len)) (filter keeps (range_with_len (start + 1) len)))
+    by true first rest = λ i. first i ++ rest i
+    by false first rest = rest
+
+slice_last : {A : Type 0} (xs : List A) (x : A) → slice_get (xs ++ x ∷ []) (length xs) ≡ Some x
+slice_last [] x = refl
+slice_last (y ∷ xs) x = slice_last xs x
+
+length_more : {A : Type 0} (xs : List A) (x : A) → length (xs ++ x ∷ []) ≡ length xs + 1
+length_more [] x = refl
+length_more (y ∷ xs) x = let rest = length_more xs x in omega (arith, rest)
+
+-- the numbers that are there are lower than the next
+below : (h : History) (n : ℕ) → n ≡ 1 + length (deposits h) → AllByRecursion (λ (r : DepositRow). int_cmp r.number (pos n) ≡ Less) (deposit_rows h)
+below h n e = subst (AllByRecursion (λ (r : DepositRow). int_cmp r.number (pos n) ≡ Less)) (sym (deposit_rows_are h)) (all (deposits h) 1 (omega (arith, e)))
+  where
+    less : (m : ℕ) → m < n → int_cmp (pos m) (pos n) ≡ Less
+    less m lt = sym (int_cmp_is (pos m) (pos n) Less (search (rules, lt)))
+
+    all : (xs : List (Date × Deposit)) (start : ℕ) → start + length xs ≤ n → AllByRecursion (λ (r : DepositRow). int_cmp r.number (pos n) ≡ Less) (rows_from (deposit_row h) start xs)
+    all [] start le = tt
+    all (x ∷ xs) start le = (less start (omega (arith, le)), all xs (start + 1) (omega (arith, le)))
+
+module _ (h : History) (day : Date) (d : Deposit) (not_gone : destruction_day h (1 + length (deposits h)) ≡ None) where
+  abbrev more : List Change
+  more = Deposited day d ∷ []
+
+  abbrev longer : History
+  longer = with_changes h more
+
+  abbrev next : ℕ
+  next = 1 + length (deposits h)
+
+  abbrev new_row : DepositRow
+  new_row = row_by_gone next None (day, d)
+
+  deposits_told : put_by (λ r. r.number) new_row (deposit_rows h) ≡ deposit_rows longer
+  deposits_told =
+      put_last (λ r. r.number) new_row (deposit_rows h) (below h next refl)
+      ∙ (λ i. deposit_rows_are h i ++ row_by_gone next (sym not_gone i) (day, d) ∷ [])
+      ∙ sym (rows_append (deposit_row h) (deposits h) ((day, d) ∷ []) 1)
+      ∙ (λ i. rows_from (λ m. row_by_gone m (sym (same_gone h more (λ n. refl) m) i)) 1 (deposits h ++ (day, d) ∷ []))
+      ∙ ap (rows_from (deposit_row longer) 1) (sym (deposits_grown h more))
+      ∙ sym (deposit_rows_are longer)
+
+  abbrev files_in : List (Date × Deposit) → ℕ → List FileRow
+  files_in ds m = map (file_row m) (option_map_or (λ (f : Date × Deposit). f.1.bag) (item_numbered ds m) [])
+
+  abbrev keeps : ℕ → Bool
+  keeps m = is_none (destruction_day h m)
+
+  files_told : file_rows h ++ map (file_row next) d.bag ≡ file_rows longer
+  files_told =
+      (λ i. old i ++ sym last i)
+      ∙ sym (flat_append (files_in (deposits h ++ (day, d) ∷ [])) (filter keeps (numbers (length (deposits h)))) (filter keeps (next ∷ [])))
+      ∙ ap (flat_map (files_in (deposits h ++ (day, d) ∷ []))) (sym (filter-append keeps (numbers (length (deposits h))) (next ∷ [])))
+      ∙ ap (λ ks. flat_map (files_in (deposits h ++ (day, d) ∷ [])) (filter keeps ks)) (sym (range_last 1 (length (deposits h))) ∙ ap (range_with_len 1) (sym (length_more (deposits h) (day, d))))
+      ∙ (λ i. flat_map (files_in (sym (deposits_grown h more) i)) (filter (λ m. is_none (sym (same_gone h more (λ n. refl) m) i)) (numbers (length (sym (deposits_grown h more) i)))))
+    where
+      old : file_rows h ≡ flat_map (files_in (deposits h ++ (day, d) ∷ [])) (filter keeps (numbers (length (deposits h))))
+      old = same_gathered (files_in (deposits h)) (files_in (deposits h ++ (day, d) ∷ [])) keeps (length (deposits h)) 1 (λ i less.
+          let one : suc i ≡ 1 + i = omega arith in
+          subst (λ k. files_in (deposits h) k ≡ files_in (deposits h ++ (day, d) ∷ []) k) one
+          (ap (λ o. map (file_row (suc i)) (option_map_or (λ (f : Date × Deposit). f.1.bag) o [])) (sym (front (deposits h) ((day, d) ∷ []) i less))))
+
+      there : item_numbered (deposits h ++ (day, d) ∷ []) next ≡ Some (day, d)
+      there = let one : suc (length (deposits h)) ≡ next = omega arith in subst (λ k. item_numbered (deposits h ++ (day, d) ∷ []) k ≡ Some (day, d)) one (slice_last (deposits h) (day, d))
+
+      last : flat_map (files_in (deposits h ++ (day, d) ∷ [])) (filter keeps (next ∷ [])) ≡ map (file_row next) d.bag
+      last =
+          ap (λ o. flat_map (files_in (deposits h ++ (day, d) ∷ [])) (cond (is_none o) (next ∷ []) [])) not_gone
+          ∙ ap (λ o. map (file_row next) (option_map_or (λ (f : Date × Deposit). f.1.bag) o []) ++ []) there
+          ∙ append-nil (map (file_row next) d.bag)
+
+  pub deposited_told : with_files (pos next) d.bag (with_deposit new_row (picture this_version h)) ≡ picture this_version longer
+  deposited_told = files_added next d.bag (with_deposit new_row (picture this_version h)) ∙ (λ i. record {
+    office = office_row this_version h ∷ [];
+    callers = map caller_row (sym (same_policy h more refl) i).callers;
+    rules = rule_rows 1 (sym (same_policy h more refl) i).rules;
+    classes = sym (same_classes h more refl (λ name. refl)) i;
+    collections = sym (same_collections h more refl) i;
+    deposits = deposits_told i;
+    files = files_told i;
+    holds = sym (same_hold_rows h more refl (λ k. refl)) i;
+  })
+
+-- one file after another
+pub next_file : (n : ℤ) (fs : List (Bor (List ℕ) × Bor (List ℕ))) (i : ℕ) (d : Bor (List ℕ) × Bor (List ℕ)) → i < length fs → (t : Tables) (now new : Database)
+    → Becomes new (with_file (record { deposit = n; path = (get_or fs i d).0.now; content = (get_or fs i d).1.now }) (tables_of now))
+    → with_files n (pairs.files_of (drop i fs)) (tables_of now) ≡ with_files n (pairs.files_of fs) t → IsOffice new × (with_files n (pairs.files_of (drop (i + 1) fs)) (tables_of new) ≡ with_files n (pairs.files_of fs) t)
+next_file n fs i d low t now new added there =
+    let here : with_files n (pairs.files_of (drop i fs)) (tables_of now) ≡ with_files n (pairs.files_of (get_or fs i d ∷ drop (i + 1) fs)) (tables_of now) = at_drop_more (λ more. with_files n (pairs.files_of more) (tables_of now)) fs i d low in
+    (added.office, ap (with_files n (pairs.files_of (drop (i + 1) fs))) added.are ∙ sym here ∙ there)
+
+none_past : {A : Type 0} (xs : List A) → slice_get xs (length xs) ≡ None
+none_past [] = refl
+none_past (x ∷ xs) = none_past xs
+
+-- a deposit's row and then its files
+pub kept_deposit : (h : History) → IsLegal h → (day : Date) (d : Deposit) (n : ℕ) (old mid new : Database) → n ≡ length (deposits h) + 1 → Pictures h old
+    → Becomes mid (with_deposit (row_by_gone n None (day, d)) (tables_of old)) → Becomes new (with_files (pos n) d.bag (tables_of mid)) → Pictures (with_changes h (Deposited day d ∷ [])) new
+kept_deposit h legal day d n old mid new next_is pictured put became =
+    let at : 1 + length (deposits h) ≡ n = let one : 1 + length (deposits h) ≡ length (deposits h) + 1 = omega arith in one ∙ sym next_is in
+    let place : suc (length (deposits h)) ≡ 1 + length (deposits h) = omega arith in
+    let absent : item_numbered (deposits h) (1 + length (deposits h)) ≡ None = subst (λ k. item_numbered (deposits h) k ≡ None) place (none_past (deposits h)) in
+    let told = deposited_told h day d (none_gone h legal (1 + length (deposits h)) absent) in
+    let here : with_files (pos n) d.bag (with_deposit (row_by_gone n None (day, d)) (picture this_version h)) ≡ picture this_version (with_changes h (Deposited day d ∷ [])) =
+    subst (λ k. with_files (pos k) d.bag (with_deposit (row_by_gone k None (day, d)) (picture this_version h)) ≡ picture this_version (with_changes h (Deposited day d ∷ []))) at told in
+    record {
+      office = became.office;
+      are = became.are ∙ ap (with_files (pos n) d.bag) (put.are ∙ ap (with_deposit (row_by_gone n None (day, d))) pictured.are) ∙ here;
+    }

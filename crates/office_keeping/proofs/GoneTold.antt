@@ -1,0 +1,140 @@
+-- The rows of an office after a deposit was destroyed.
+use Rattle.std.proofs.Common.{◌≡◌, ℕ, ◌+◌, ◌==◌, pos, Bool, true, false, not, List, [], ◌∷◌, ◌++◌, length, map, filter, Option, Some, None, is_none, refl, sym, ap, subst, ◌∙◌, cond, if◌then◌else◌}
+use Rattle.std.specs.List.{flat_map}
+use Rattle.std.specs.Option.{option_or, option_map_or}
+use Rattle.std.specs.Ordering.{int_eq}
+use Rattle.std.proofs.lemmas.Bool.Decides.{Decides-eqb}
+use Rattle.std.proofs.lemmas.List.Elements.{filter-append}
+use Rattle.jiff.specs.Types.{Date}
+use Rattle.jiff.specs.Words.{epoch_day}
+use Rattle.bag_text.specs.TransferForm.{File}
+use Rattle.office_rows.specs.Rows.{DepositRow, FileRow, is_deposit, is_file_of, with_gone, without_files, this_version}
+use Rattle.office_tables.specs.Tables.{Becomes, tables_of}
+use Rattle.sqlite.specs.Effect.{Database}
+use Rattle.office_asking.specs.Pictures.{Pictures}
+use Rattle.office_history.specs.Lists.{item_numbered, numbers}
+use Rattle.office_history.specs.Histories.{History, Change, Destroyed, Deposit, with_changes, deposits, destruction_day}
+use Rattle.office_history.specs.Stocks.{files_of}
+use Rattle.office_history.specs.Pictures.{deposit_row, deposit_rows, file_row, file_rows, picture, caller_row, rule_rows, office_row}
+use Rattle.office_history.proofs.Alike.{gone_grown}
+use Rattle.office_asking.proofs.NumberedRows.{rows_from}
+use Rattle.office_asking.proofs.DepositTold.{deposit_rows_are}
+use Rattle.office_asking.proofs.HoldTold.{same_number, eqb-sym}
+use Rattle.office_asking.proofs.Unchanged.{row_by_gone, same_policy, same_classes, same_collections, same_deposits, same_hold_rows}
+
+pub rows_changed : {A R : Type 0} (change : R → R) (before after : ℕ → A → R) → ((m : ℕ) (x : A) → change (before m x) ≡ after m x) → (xs : List A) (start : ℕ) → map change (rows_from before start xs) ≡ rows_from after start xs
+rows_changed change before after same [] start = refl
+rows_changed change before after same (x ∷ xs) start = λ i. same start x i ∷ rows_changed change before after same xs (start + 1) i
+
+module _ (h : History) (day : Date) (n : ℕ) (kept_before : destruction_day h n ≡ None) where
+  abbrev more : List Change
+  more = Destroyed day n ∷ []
+
+  abbrev longer : History
+  longer = with_changes h more
+
+  or_nothing : (o : Option Date) → option_or o None ≡ o
+  or_nothing None = refl
+  or_nothing (Some d) = refl
+
+  gone_then : (m : ℕ) → destruction_day longer m ≡ option_or (destruction_day h m) (if n == m then Some day else None)
+  gone_then m = gone_grown h more m ∙ ap (option_or (destruction_day h m)) (or_nothing (if n == m then Some day else None))
+
+  -- the deposit itself, and each other one
+  itself : (m : ℕ) → int_eq (pos m) (pos n) ≡ true → (destruction_day h m ≡ None) × (destruction_day longer m ≡ Some day)
+  itself m e =
+      let is : (m == n) ≡ true = sym (same_number m n) ∙ e in
+      let was : destruction_day h m ≡ None = subst (λ k. destruction_day h k ≡ None) (sym ((Decides-eqb m n).0 is)) kept_before in
+      (was, gone_then m ∙ (λ i. option_or (was i) (if (sym (eqb-sym m n) ∙ is) i then Some day else None)))
+
+  another : (m : ℕ) → int_eq (pos m) (pos n) ≡ false → destruction_day longer m ≡ destruction_day h m
+  another m e =
+      let is : (m == n) ≡ false = sym (same_number m n) ∙ e in
+      gone_then m ∙ (λ i. option_or (destruction_day h m) (if (sym (eqb-sym m n) ∙ is) i then Some day else None)) ∙ or_nothing (destruction_day h m)
+
+  abbrev marked : DepositRow → DepositRow
+  marked d = if is_deposit (pos n) d then record d { gone = Some (epoch_day day) } else d
+
+  mark : (m : ℕ) (x : Date × Deposit) → marked (deposit_row h m x) ≡ row_by_gone m (destruction_day longer m) x
+  mark m x = by (int_eq (pos m) (pos n)) refl
+    where
+      by : (b : Bool) → int_eq (pos m) (pos n) ≡ b → (if int_eq (pos m) (pos n) then record (deposit_row h m x) { gone = Some (epoch_day day) } else deposit_row h m x) ≡ row_by_gone m (destruction_day longer m) x
+      by true e = ap (λ b. if b then record (deposit_row h m x) { gone = Some (epoch_day day) } else deposit_row h m x) e ∙ ap (λ g. row_by_gone m g x) (sym (itself m e).1)
+      by false e = ap (λ b. if b then record (deposit_row h m x) { gone = Some (epoch_day day) } else deposit_row h m x) e ∙ ap (λ g. row_by_gone m g x) (sym (another m e))
+
+  deposits_told : map marked (deposit_rows h) ≡ deposit_rows longer
+  deposits_told =
+      ap (map marked) (deposit_rows_are h)
+      ∙ rows_changed marked (deposit_row h) (λ m. row_by_gone m (destruction_day longer m)) mark (deposits h) 1
+      ∙ ap (rows_from (λ m. row_by_gone m (destruction_day longer m)) 1) (sym (same_deposits h more refl))
+      ∙ sym (deposit_rows_are longer)
+
+  -- ---- the files
+
+  abbrev stays : FileRow → Bool
+  stays f = not (is_file_of (pos n) f)
+
+  abbrev rows_at : ℕ → List FileRow
+  rows_at m = map (file_row m) (files_of h m)
+
+  own_dropped : (m : ℕ) (files : List File) → int_eq (pos m) (pos n) ≡ true → filter stays (map (file_row m) files) ≡ []
+  own_dropped m [] e = refl
+  own_dropped m (f ∷ files) e = λ i. cond (not (e i)) (file_row m f ∷ filter stays (map (file_row m) files)) (own_dropped m files e i)
+
+  others_stay : (m : ℕ) (files : List File) → int_eq (pos m) (pos n) ≡ false → filter stays (map (file_row m) files) ≡ map (file_row m) files
+  others_stay m [] e = refl
+  others_stay m (f ∷ files) e = λ i. cond (not (e i)) (file_row m f ∷ others_stay m files e i) (filter stays (map (file_row m) files))
+
+  abbrev kept_first : List ℕ → List ℕ
+  kept_first ms = filter (λ k. is_none (destruction_day h k)) ms
+
+  abbrev kept_then : List ℕ → List ℕ
+  kept_then ms = filter (λ k. is_none (destruction_day longer k)) ms
+
+  dropped : (ms : List ℕ) → filter stays (flat_map rows_at (filter (λ m. is_none (destruction_day h m)) ms)) ≡ flat_map rows_at (filter (λ m. is_none (destruction_day longer m)) ms)
+  dropped [] = refl
+  dropped (m ∷ ms) = by (int_eq (pos m) (pos n)) refl (dropped ms)
+    where
+      step : (b : Bool) → filter stays (flat_map rows_at (cond b (m ∷ (kept_first ms)) (kept_first ms))) ≡ cond b (filter stays (rows_at m)) [] ++ filter stays (flat_map rows_at (kept_first ms))
+      step true = filter-append stays (rows_at m) (flat_map rows_at (kept_first ms))
+      step false = refl
+
+      back : (b : Bool) → flat_map rows_at (cond b (m ∷ (kept_then ms)) (kept_then ms)) ≡ cond b (rows_at m) [] ++ flat_map rows_at (kept_then ms)
+      back true = refl
+      back false = refl
+
+      by : (b : Bool) → int_eq (pos m) (pos n) ≡ b → filter stays (flat_map rows_at (kept_first ms)) ≡ flat_map rows_at (kept_then ms)
+          → filter stays (flat_map rows_at (cond (is_none (destruction_day h m)) (m ∷ (kept_first ms)) (kept_first ms))) ≡ flat_map rows_at (cond (is_none (destruction_day longer m)) (m ∷ (kept_then ms)) (kept_then ms))
+      by true e rest =
+          step (is_none (destruction_day h m))
+          ∙ (λ i. cond (is_none ((itself m e).0 i)) (own_dropped m (files_of h m) e i) [] ++ rest i)
+          ∙ (λ i. cond (is_none (sym (itself m e).1 i)) (rows_at m) [] ++ flat_map rows_at (kept_then ms))
+          ∙ sym (back (is_none (destruction_day longer m)))
+      by false e rest =
+          step (is_none (destruction_day h m))
+          ∙ (λ i. cond (is_none (sym (another m e) i)) (others_stay m (files_of h m) e i) [] ++ rest i)
+          ∙ sym (back (is_none (destruction_day longer m)))
+
+  files_told : filter stays (file_rows h) ≡ file_rows longer
+  files_told =
+      dropped (numbers (length (deposits h)))
+      ∙ (λ i. let ds = sym (same_deposits h more refl) i in flat_map (λ m. map (file_row m) (option_map_or (λ (f : Date × Deposit). f.1.bag) (item_numbered ds m) [])) (filter (λ m. is_none (destruction_day longer m)) (numbers (length ds))))
+
+  pub gone_told : without_files (pos n) (with_gone (pos n) (epoch_day day) (picture this_version h)) ≡ picture this_version longer
+  gone_told = λ i. record {
+    office = office_row this_version h ∷ [];
+    callers = map caller_row (sym (same_policy h more refl) i).callers;
+    rules = rule_rows 1 (sym (same_policy h more refl) i).rules;
+    classes = sym (same_classes h more refl (λ name. refl)) i;
+    collections = sym (same_collections h more refl) i;
+    deposits = deposits_told i;
+    files = files_told i;
+    holds = sym (same_hold_rows h more refl (λ k. refl)) i;
+  }
+
+  -- so do the two changes of the tables
+  pub destroyed : (old mid new : Database) → Pictures h old → Becomes mid (with_gone (pos n) (epoch_day day) (tables_of old)) → Becomes new (without_files (pos n) (tables_of mid)) → Pictures longer new
+  destroyed old mid new pictured marked became = record {
+    office = became.office;
+    are = became.are ∙ ap (without_files (pos n)) (marked.are ∙ ap (with_gone (pos n) (epoch_day day)) pictured.are) ∙ gone_told;
+  }

@@ -1,0 +1,6 @@
+pub mod GoneTold
+pub mod Disposals
+pub mod AccessionTold
+pub mod Placing
+pub mod DepositedTold
+pub mod AskedFor

@@ -1,0 +1,44 @@
+use Rattle.std.proofs.Common.{◌≡◌, arith, Some, sym, ap, subst, ◌∙◌}
+use Rattle.sqlite.specs.State.{HasCleanDisk}
+use Rattle.sqlite.specs.Held.{state}
+use Rattle.office_core.specs.FirstOf.{first_some}
+use Rattle.office_core.specs.declared.answer.Answer.TheVariants as answers
+use Rattle.office_core.specs.declared.request.Request.TheVariants as requests
+use Rattle.office_history.specs.Histories.{History, with_changes}
+use Rattle.office_history.specs.Answers.{deposit_change}
+use Rattle.office_history.specs.Refusals.{refusals}
+use Rattle.office_asking.specs.Pictures.{Pictures}
+use Rattle.office_asking.proofs.Serving.{refused_serves, allowed_serves}
+use Rattle.office_keeping.specs.Depositing.{IsAskedFor, IsNext}
+use Rattle.office_keeping.proofs.depositing.deposit.Goals as goal
+
+pub returns-in-Err-clause-decides : goal.returns-in-Err-clause-decides
+returns-in-Err-clause-decides g c clean h legal pictured =
+    let a = c.args in
+    let new = state g.S.Store c.new_bag.new.tx.conn.now in
+    let collection = c.as_str-collection.ensures.text in
+    let class = c.as_str-class.ensures.text in
+    let accession = c.as_str-accession.ensures.text in
+    let asked = c.in_ok-asked.ensures.asked clean h legal pictured in
+    let these = refusals h a.day a.caller.now (requests.Deposit c.as_str-collection.result.now c.as_str-class.result.now c.as_str-accession.result.now a.closed a.bag) in
+    let stands : Some c.in-Err.why ≡ first_some these = subst (IsAskedFor h a.bag.now these) c.in-Err.is asked.1 in
+    refused_serves h a.day a.caller.now (requests.Deposit a.collection.now a.class.now a.accession.now a.closed a.bag) new.now c.in-Err.why
+    (stands ∙ (λ i. first_some (refusals h a.day a.caller.now (requests.Deposit (collection i) (class i) (accession i) a.closed a.bag)))) asked.0
+
+pub returns-clause-decides : goal.returns-clause-decides
+returns-clause-decides g c clean h legal pictured =
+    let a = c.args in
+    let mid = state g.S.Store c.new_bag.new.tx.conn.now in
+    let new = state g.S.Store c.keep.new.tx.conn.now in
+    let early : HasCleanDisk mid = omega (arith, clean, c.keep.ensures.stays.survives.clean) in
+    let collection = c.as_str-collection.ensures.text in
+    let class = c.as_str-class.ensures.text in
+    let accession = c.as_str-accession.ensures.text in
+    let asked = c.in_ok-asked.ensures.asked early h legal pictured in
+    let these = refusals h a.day a.caller.now (requests.Deposit c.as_str-collection.result.now c.as_str-class.result.now c.as_str-accession.result.now a.closed a.bag) in
+    let next : IsNext h a.bag.now these c.in-Ok.new = subst (IsAskedFor h a.bag.now these) c.in-Ok.is asked.1 in
+    let kept = c.in_ok-keep.ensures.kept clean h legal asked.0 next.number in
+    allowed_serves h a.day a.caller.now (requests.Deposit a.collection.now a.class.now a.accession.now a.closed a.bag) new.now (answers.Deposited c.in-Ok.new.number)
+    (sym next.free ∙ (λ i. first_some (refusals h a.day a.caller.now (requests.Deposit (collection i) (class i) (accession i) a.closed a.bag))))
+    (ap answers.Deposited next.number)
+    (subst (λ (x : History). Pictures x new.now) (λ i. with_changes h (deposit_change a.day (collection i) (class i) (accession i) a.closed (sym next.bag i))) kept)

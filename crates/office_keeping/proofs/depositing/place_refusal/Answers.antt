@@ -1,0 +1,49 @@
+use Rattle.std.proofs.Common.{rules, ◌≡◌, true, false, arith, ◌∙◌, is_some}
+use Rattle.sqlite.specs.State.{HasCleanDisk}
+use Rattle.sqlite.specs.Held.{state}
+use Rattle.sql_meaning.proofs.Results.{if_ok}
+use Rattle.office_asking.proofs.Readings.{pictured_still}
+use Rattle.office_asking.proofs.DueTold.{years_read_back}
+use Rattle.office_keeping.proofs.Placing.{collection_told, class_there, no_collection, no_class, both_there}
+use Rattle.office_keeping.proofs.depositing.place_refusal.Goals as goal
+
+pub returns-then-not-branch-clause-refusal : goal.returns-then-not-branch-clause-refusal
+returns-then-not-branch-clause-refusal g c clean h legal pictured =
+    let a = c.args in
+    let old = state g.S.Store a.tx.now.conn.now in
+    let new = state g.S.Store c.has_collection.new.tx.conn.now in
+    let none : false ≡ c.in_ok-has_collection.field-0 = search rules in (
+      pictured_still h old.now pictured new.now (c.in_ok-has_collection.ensures.same clean pictured.office),
+      no_collection h a.caller.now a.collection.now a.class.now (none ∙ c.in_ok-has_collection.ensures.found clean pictured.office ∙ collection_told h old.now pictured a.collection.now),
+    )
+
+pub returns-then-is_none-clause-refusal : goal.returns-then-is_none-clause-refusal
+returns-then-is_none-clause-refusal g c clean h legal pictured =
+    let a = c.args in
+    let old = state g.S.Store a.tx.now.conn.now in
+    let mid = state g.S.Store c.has_collection.new.tx.conn.now in
+    let new = state g.S.Store c.class_of.new.tx.conn.now in
+    let early : HasCleanDisk mid = omega (arith, clean, c.class_of.ensures.stays.survives.clean) in
+    let still = pictured_still h old.now pictured mid.now (c.in_ok-has_collection.ensures.same early pictured.office) in
+    let some : true ≡ c.in_ok-has_collection.field-0 = search rules in
+    let none : false ≡ is_some c.in_ok-class_of.field-0 = search rules in (
+      pictured_still h mid.now still new.now (c.in_ok-class_of.ensures.same clean still.office),
+      no_class h a.caller.now a.collection.now a.class.now (some ∙ c.in_ok-has_collection.ensures.found early pictured.office ∙ collection_told h old.now pictured a.collection.now)
+          (none ∙ class_there h a.class.now c.in_ok-class_of.field-0 (years_read_back h mid.now still a.class.now c.in_ok-class_of.field-0 (c.in_ok-class_of.ensures.found clean still.office))),
+    )
+
+pub returns-clause-refusal : goal.returns-clause-refusal
+returns-clause-refusal g c clean h legal pictured =
+    let a = c.args in
+    let old = state g.S.Store a.tx.now.conn.now in
+    let s1 = state g.S.Store c.has_collection.new.tx.conn.now in
+    let s2 = state g.S.Store c.class_of.new.tx.conn.now in
+    let clean2 : HasCleanDisk s2 = omega (arith, clean, c.denial.ensures.stays.survives.clean) in
+    let clean1 : HasCleanDisk s1 = omega (arith, clean2, c.class_of.ensures.stays.survives.clean) in
+    let p1 = pictured_still h old.now pictured s1.now (c.in_ok-has_collection.ensures.same clean1 pictured.office) in
+    let p2 = pictured_still h s1.now p1 s2.now (c.in_ok-class_of.ensures.same clean2 p1.office) in
+    let there : true ≡ c.in_ok-has_collection.field-0 = search rules in
+    let some : true ≡ is_some c.in_ok-class_of.field-0 = search rules in
+    let collection = there ∙ c.in_ok-has_collection.ensures.found clean1 pictured.office ∙ collection_told h old.now pictured a.collection.now in
+    let class = some ∙ class_there h a.class.now c.in_ok-class_of.field-0 (years_read_back h s1.now p1 a.class.now c.in_ok-class_of.field-0 (c.in_ok-class_of.ensures.found clean2 p1.office)) in
+    if_ok c.denial.result (λ why p. (p.0, both_there h a.caller.now a.collection.now a.class.now collection class why p.1)) (c.denial.ensures.denied clean h legal p2)

@@ -1,0 +1,27 @@
+use Rattle.std.proofs.Common.{◌≡◌, pos, sym, ap, ◌∙◌, Some, option_map}
+use Rattle.sqlite.specs.Held.{state}
+use Rattle.office_rows.specs.Rows.{DepositRow, deposit_by}
+use Rattle.office_history.specs.Histories.{accession_of}
+use Rattle.office_asking.proofs.Readings.{pictured_still, in_picture}
+use Rattle.office_keeping.proofs.AccessionTold.{accession_told}
+use Rattle.office_keeping.proofs.Placing.{taken_some, taken_none}
+use Rattle.office_keeping.proofs.depositing.taken_refusal.Goals as goal
+
+pub returns-in-Some-clause-taken : goal.returns-in-Some-clause-taken
+returns-in-Some-clause-taken g c clean h legal pictured =
+    let a = c.args in
+    let old = state g.S.Store a.tx.now.conn.now in
+    let new = state g.S.Store c.by_accession.new.tx.conn.now in
+    let told = ap (option_map (λ (d : DepositRow). d.number)) (sym c.in-Some.is ∙ c.in_ok-deposit.ensures.found clean pictured.office)
+    ∙ in_picture h old.now pictured (λ t. option_map (λ (d : DepositRow). d.number) (deposit_by a.accession.now t.deposits)) ∙ accession_told h a.accession.now in
+    let number : Some (pos c.deposit.inside.number) ≡ Some c.in-Some.deposit.number = ap (λ (d : DepositRow). Some d.number) c.deposit.view_is in
+    (pictured_still h old.now pictured new.now (c.in_ok-deposit.ensures.same clean pictured.office), taken_some c.deposit.inside.number (accession_of h a.accession.now) (number ∙ told))
+
+pub returns-in-None-clause-taken : goal.returns-in-None-clause-taken
+returns-in-None-clause-taken g c clean h legal pictured =
+    let a = c.args in
+    let old = state g.S.Store a.tx.now.conn.now in
+    let new = state g.S.Store c.by_accession.new.tx.conn.now in
+    let told = ap (option_map (λ (d : DepositRow). d.number)) (sym c.in-None.is ∙ c.in_ok-deposit.ensures.found clean pictured.office)
+    ∙ in_picture h old.now pictured (λ t. option_map (λ (d : DepositRow). d.number) (deposit_by a.accession.now t.deposits)) ∙ accession_told h a.accession.now in
+    (pictured_still h old.now pictured new.now (c.in_ok-deposit.ensures.same clean pictured.office), taken_none (accession_of h a.accession.now) told)

@@ -1,0 +1,36 @@
+use Rattle.std.proofs.Common.{rules, ◌≡◌, arith, ap, sym, ◌∙◌, Some, None, option_map}
+use Rattle.sqlite.specs.State.{HasCleanDisk}
+use Rattle.sqlite.specs.Held.{state}
+use Rattle.office_core.specs.Verdicts.{verdict_of}
+use Rattle.office_core.specs.declared.action.Action.TheVariants as acts
+use Rattle.office_history.specs.Histories as histories
+use Rattle.office_history.specs.Pictures.{deposit_row}
+use Rattle.office_history.specs.Refusals.{refusal_of, disposal_refusals}
+use Rattle.office_asking.proofs.Readings.{pictured_still}
+use Rattle.office_asking.proofs.DepositAsked.{deposit_read, none_there, there}
+use Rattle.office_keeping.proofs.disposing.disposal_refusal.Goals as goal
+
+pub returns-in_default-clause-refusal : goal.returns-in_default-clause-refusal
+returns-in_default-clause-refusal g c clean h legal pictured =
+    let a = c.args in
+    let old = state g.S.Store a.tx.now.conn.now in
+    let new = state g.S.Store c.deposit_row.new.tx.conn.now in
+    let read = deposit_read h old.now pictured a.number c.in_ok-deposit.field-0 (c.in_ok-deposit.ensures.found clean pictured.office) in
+    let none : None ≡ option_map (deposit_row h a.number) (histories.deposit_numbered h a.number) = search (rules, read) in
+    (pictured_still h old.now pictured new.now (c.in_ok-deposit.ensures.same clean pictured.office), none_there h a.number (disposal_refusals h a.day a.caller.now a.number) none)
+
+pub returns-clause-refusal : goal.returns-clause-refusal
+returns-clause-refusal g c clean h legal pictured =
+    let a = c.args in
+    let old = state g.S.Store a.tx.now.conn.now in
+    let mid = state g.S.Store c.deposit_row.new.tx.conn.now in
+    let early : HasCleanDisk mid = omega (arith, clean, c.disposal_facts.ensures.stays.survives.clean) in
+    let read = deposit_read h old.now pictured a.number c.in_ok-deposit.field-0 (c.in_ok-deposit.ensures.found early pictured.office) in
+    let still = pictured_still h old.now pictured mid.now (c.in_ok-deposit.ensures.same early pictured.office) in
+    let row = c.in-Some.deposit in
+    let some : Some row ≡ option_map (deposit_row h a.number) (histories.deposit_numbered h a.number) = sym c.in-Some.is ∙ read in
+    let found = there h a.caller.now acts.Dispose a.number row some in
+    let known = c.in_ok-facts.ensures.facts clean h legal still in
+    let facts = known.1 found.0 found.2 in
+    let told : c.refusal_of.result ≡ refusal_of (verdict_of c.in_ok-facts.facts a.day) = search rules in
+    (known.0, told ∙ ap (λ f. refusal_of (verdict_of f a.day)) facts ∙ sym (c.verdicts_decide.ensures.disposal h a.day a.caller.now a.number found.0 found.1))

@@ -1,0 +1,27 @@
+use Rattle.std.proofs.Common.{rules, ◌≡◌, arith, refl, sym, ◌∙◌, None}
+use Rattle.sqlite.specs.State.{HasCleanDisk}
+use Rattle.sqlite.specs.Held.{state}
+use Rattle.office_core.specs.declared.answer.Answer.TheVariants as answers
+use Rattle.office_core.specs.declared.request.Request.TheVariants as requests
+use Rattle.office_history.specs.Refusals.{refusal}
+use Rattle.office_history.proofs.Accepted.{disposable}
+use Rattle.office_asking.proofs.Serving.{refused_serves, allowed_serves}
+use Rattle.office_keeping.proofs.disposing.dispose.Goals as goal
+
+pub returns-in-Some-clause-decides : goal.returns-in-Some-clause-decides
+returns-in-Some-clause-decides g c clean h legal pictured =
+    let a = c.args in
+    let new = state g.S.Store c.disposal_refusal.new.tx.conn.now in
+    let asked = c.in_ok-why.ensures.refusal clean h legal pictured in
+    refused_serves h a.day a.caller.now (requests.Dispose a.number) new.now c.in-Some.why (sym c.in-Some.is ∙ asked.1) asked.0
+
+pub returns-clause-decides : goal.returns-clause-decides
+returns-clause-decides g c clean h legal pictured =
+    let a = c.args in
+    let mid = state g.S.Store c.disposal_refusal.new.tx.conn.now in
+    let new = state g.S.Store c.destroy.new.tx.conn.now in
+    let early : HasCleanDisk mid = omega (arith, clean, c.destroy.ensures.stays.survives.clean) in
+    let asked = c.in_ok-why.ensures.refusal early h legal pictured in
+    let none : None ≡ refusal h a.day a.caller.now (requests.Dispose a.number) = search (rules, asked.1) in
+    let kept = (disposable h a.day a.caller.now a.number (sym none)).kept in
+    allowed_serves h a.day a.caller.now (requests.Dispose a.number) new.now (answers.Destroyed a.number a.day) none refl (c.in_ok-destroy.ensures.destroyed clean h legal asked.0 kept)

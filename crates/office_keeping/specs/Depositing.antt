@@ -1,0 +1,32 @@
+-- What is asked before a bag is kept, and its files, which are added one after another.
+use Rattle.std.specs.Prelude.{◌≡◌, ℕ, ◌+◌, ℤ, List, [], ◌∷◌, ◌++◌, length, Option, None, Some, Result, Ok, Err}
+use Rattle.jiff.specs.Types.{Date}
+use Rattle.bag_text.specs.TransferForm.{File}
+use Rattle.office_core.specs.FirstOf.{first_some}
+use Rattle.office_core.specs.declared.refusal.Refusal.{Refusal}
+use Rattle.office_rows.specs.Rows.{Tables, with_file}
+use Rattle.office_history.specs.Histories.{History, deposits}
+use Rattle.office_history.specs.Bags.{bag_of}
+use Rattle.office_history.specs.Refusals.{place_refusals, taken_refusal, closed_ahead_refusal}
+use Rattle.office_keeping.specs.declared.depositing.NewBag.{NewBag}
+
+-- those of the place, of the accession and of the closing day
+abbrev pub refusals_before_the_bag : History → Date → List ℕ → List ℕ → List ℕ → List ℕ → Date → List (Option Refusal)
+refusals_before_the_bag h day caller collection class accession closed =
+    place_refusals h caller collection class ++ taken_refusal h accession ∷ closed_ahead_refusal day closed ∷ []
+
+-- the bag of the text, which gets the next number, where none of these refusals stands
+pub record IsNext (h : History) (text : List ℕ) (these : List (Option Refusal)) (new : NewBag) : Type 0 where
+  pub bag : bag_of text ≡ Ok new.bag
+  pub number : new.number ≡ length (deposits h) + 1
+  pub free : first_some these ≡ None
+
+-- the bag, or the first of these refusals that stands
+abbrev pub IsAskedFor : History → List ℕ → List (Option Refusal) → Result NewBag Refusal → Type 0
+IsAskedFor h text these (Ok new) = IsNext h text these new
+IsAskedFor h text these (Err why) = Some why ≡ first_some these
+
+-- the deposit of that number has these files too
+abbrev pub with_files : ℤ → List File → Tables → Tables
+with_files n [] t = t
+with_files n (f ∷ fs) t = with_files n fs (with_file (record { deposit = n; path = f.path; content = f.content }) t)

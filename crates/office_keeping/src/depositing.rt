@@ -1,0 +1,225 @@
+//! Deposits of bags.
+
+ghost use Rattle.std.specs.Prelude.{◌≡◌, IfErr, [], ◌∷◌, Some, None, MatchOption, ◌+◌, length};
+ghost use Rattle.office_core.specs.FirstOf.{first_some};
+ghost use Rattle.office_core.specs.declared.refusal.Refusal.TheVariants.{Full};
+ghost use Rattle.office_core.specs.declared.request.Request.TheVariants as requests;
+ghost use Rattle.office_tables.specs.Faults.{IsFailure};
+ghost use Rattle.office_tables.specs.Calls.{CommitsNothing, Continues};
+ghost use Rattle.office_history.specs.Histories.{deposits};
+ghost use Rattle.office_history.specs.Refusals as refusals;
+ghost use Rattle.office_history.specs.Refusals.{place_refusals, bad_bag, closed_ahead_refusal, full_of_deposits};
+ghost use Rattle.office_asking.specs.Serving.{Finds, Decides};
+ghost use Rattle.office_keeping.specs.Depositing.{IsAskedFor, refusals_before_the_bag};
+
+use crate::keeping::keep;
+use bag_text::BagSet;
+use office_asking::denial;
+use office_core::{Accession, Action, Answer, Day, Name, Refusal, Subject};
+use office_history::judging::valid_bag;
+use office_tables::{TableFault, by_accession, class_of, has_collection, last_deposit, limits};
+use sqlite::{Alter, Transaction};
+use std::alloc::Global;
+
+/// The refusal of the place that stands first, if one stands: no such collection, no such class, or
+/// the caller may not deposit there.
+fn place_refusal<S: Alter>(
+    alloc: Global,
+    tx: &mut Transaction<'_, S>,
+    caller: &str,
+    collection: &str,
+    class: &str,
+) -> Result<Option<Refusal>, TableFault>
+    ensures same_reference { tx.new.conn.ghost_name ≡ tx.old.conn.ghost_name }
+    ensures stays { CommitsNothing S.Store tx.old.conn.now tx.new.conn.now }
+    ensures goes_on { Continues S.Store tx.old.conn.now tx.new.conn.now result }
+    ensures failure { IfErr result IsFailure }
+    ensures refusal { Finds S.Store tx.old.conn.now tx.new.conn.now result (λ h why. why ≡ first_some (place_refusals h caller.now collection.now class.now)) }
+{
+    if !has_collection(tx, collection)? {
+        return Ok(Some(Refusal::NoSuch(Subject::Collection)));
+    }
+    if class_of(tx, class)?.is_none() {
+        return Ok(Some(Refusal::NoSuch(Subject::Class)));
+    }
+    denial(
+        alloc,
+        tx,
+        caller,
+        Action::Deposit,
+        Some(collection),
+        Some(class),
+    )
+}
+
+/// The refusal where a deposit, kept or destroyed, has the accession.
+fn taken_refusal<S: Alter>(
+    tx: &mut Transaction<'_, S>,
+    accession: &str,
+) -> Result<Option<Refusal>, TableFault>
+    ensures same_reference { tx.new.conn.ghost_name ≡ tx.old.conn.ghost_name }
+    ensures stays { CommitsNothing S.Store tx.old.conn.now tx.new.conn.now }
+    ensures goes_on { Continues S.Store tx.old.conn.now tx.new.conn.now result }
+    ensures failure { IfErr result IsFailure }
+    ensures taken { Finds S.Store tx.old.conn.now tx.new.conn.now result (λ h why. why ≡ refusals.taken_refusal h accession.now) }
+{
+    match by_accession(tx, accession)? {
+        Some(deposit) => Ok(Some(Refusal::Taken(deposit.number))),
+        None => Ok(None),
+    }
+}
+
+/// The refusal where the closing day comes after the day of the request.
+fn closed_ahead(day: Day, closed: Day) -> Option<Refusal>
+    ensures { result ≡ closed_ahead_refusal day closed }
+{
+    if day.number() < closed.number() {
+        return Some(Refusal::ClosedAhead);
+    }
+    None
+}
+
+/// The refusal that stands first before the bag is looked at, if one stands.
+fn refusal_before_the_bag<S: Alter>(
+    alloc: Global,
+    tx: &mut Transaction<'_, S>,
+    day: Day,
+    caller: &str,
+    collection: &str,
+    class: &str,
+    accession: &str,
+    closed: Day,
+) -> Result<Option<Refusal>, TableFault>
+    ensures same_reference { tx.new.conn.ghost_name ≡ tx.old.conn.ghost_name }
+    ensures stays { CommitsNothing S.Store tx.old.conn.now tx.new.conn.now }
+    ensures goes_on { Continues S.Store tx.old.conn.now tx.new.conn.now result }
+    ensures failure { IfErr result IsFailure }
+    ensures refusal { Finds S.Store tx.old.conn.now tx.new.conn.now result (λ h why.
+        why ≡ first_some (refusals_before_the_bag h day caller.now collection.now class.now accession.now closed)) }
+{
+    if let Some(why) = place_refusal(alloc, tx, caller, collection, class)? {
+        return Ok(Some(why));
+    }
+    if let Some(why) = taken_refusal(tx, accession)? {
+        return Ok(Some(why));
+    }
+    Ok(closed_ahead(day, closed))
+}
+
+/// The number of the next deposit; `None` where the office is full.
+fn next_number<S: Alter>(tx: &mut Transaction<'_, S>) -> Result<Option<u32>, TableFault>
+    ensures same_reference { tx.new.conn.ghost_name ≡ tx.old.conn.ghost_name }
+    ensures stays { CommitsNothing S.Store tx.old.conn.now tx.new.conn.now }
+    ensures goes_on { Continues S.Store tx.old.conn.now tx.new.conn.now result }
+    ensures failure { IfErr result IsFailure }
+    ensures next { Finds S.Store tx.old.conn.now tx.new.conn.now result (λ h next.
+        MatchOption next (full_of_deposits h ≡ Some Full) (λ number. (full_of_deposits h ≡ None) × (number ≡ length (deposits h) + 1))) }
+{
+    let limits = limits(tx)?;
+    let last = last_deposit(tx)?.unwrap_or(0);
+    if limits.max_deposits <= last {
+        return Ok(None);
+    }
+    Ok(Some(last + 1))
+}
+
+/// A bag that is to be kept, and the number that its deposit is to have.
+#[derive(Drop)]
+struct NewBag<'a> {
+    bag: BagSet<'a>,
+    number: u32,
+}
+
+/// The bag of the text with the number of the next deposit, or the refusal of the bag or of the
+/// office that stands first: a bad bag, or a full office.
+fn numbered_bag<'a, S: Alter>(
+    alloc: Global,
+    tx: &mut Transaction<'_, S>,
+    text: &'a [u8],
+) -> Result<Result<NewBag<'a>, Refusal>, TableFault>
+    ensures same_reference { tx.new.conn.ghost_name ≡ tx.old.conn.ghost_name }
+    ensures stays { CommitsNothing S.Store tx.old.conn.now tx.new.conn.now }
+    ensures goes_on { Continues S.Store tx.old.conn.now tx.new.conn.now result }
+    ensures failure { IfErr result IsFailure }
+    ensures numbered { Finds S.Store tx.old.conn.now tx.new.conn.now result (λ h asked.
+        IsAskedFor h text.entry.now (bad_bag text.entry.now ∷ full_of_deposits h ∷ []) asked) }
+{
+    let number = next_number(tx)?;
+    let bag = match valid_bag(alloc, text)? {
+        Ok(bag) => bag,
+        Err(fault) => return Ok(Err(Refusal::BadBag(fault))),
+    };
+    match number {
+        Some(number) => Ok(Ok(NewBag { bag, number })),
+        None => Ok(Err(Refusal::Full)),
+    }
+}
+
+/// The bag that is to be kept, with its number, or the refusal that stands first.
+fn new_bag<'a, S: Alter>(
+    alloc: Global,
+    tx: &mut Transaction<'_, S>,
+    day: Day,
+    caller: &str,
+    collection: &str,
+    class: &str,
+    accession: &str,
+    closed: Day,
+    text: &'a [u8],
+) -> Result<Result<NewBag<'a>, Refusal>, TableFault>
+    ensures same_reference { tx.new.conn.ghost_name ≡ tx.old.conn.ghost_name }
+    ensures stays { CommitsNothing S.Store tx.old.conn.now tx.new.conn.now }
+    ensures goes_on { Continues S.Store tx.old.conn.now tx.new.conn.now result }
+    ensures failure { IfErr result IsFailure }
+    ensures asked { Finds S.Store tx.old.conn.now tx.new.conn.now result (λ h asked.
+        IsAskedFor h text.entry.now (refusals.refusals h day caller.now (requests.Deposit collection.now class.now accession.now closed text.entry)) asked) }
+{
+    let refusal = refusal_before_the_bag(
+        alloc, tx, day, caller, collection, class, accession, closed,
+    )?;
+    if let Some(why) = refusal {
+        return Ok(Err(why));
+    }
+    numbered_bag(alloc, tx, text)
+}
+
+/// Accepts the bag whose transfer form the text is as the next deposit.
+///
+/// Refused, in this order: no such collection, no such class, the caller may not, the accession is
+/// taken, closed after the day of the request, a bad bag, a full office. Fails with `Memory` or
+/// `Store`.
+pub fn deposit<S: Alter>(
+    alloc: Global,
+    tx: &mut Transaction<'_, S>,
+    day: Day,
+    caller: &str,
+    collection: &Name<'_>,
+    class: &Name<'_>,
+    accession: &Accession<'_>,
+    closed: Day,
+    bag: &[u8],
+) -> Result<Answer, TableFault>
+    ensures same_reference { tx.new.conn.ghost_name ≡ tx.old.conn.ghost_name }
+    ensures stays { CommitsNothing S.Store tx.old.conn.now tx.new.conn.now }
+    ensures goes_on { Continues S.Store tx.old.conn.now tx.new.conn.now result }
+    ensures failure { IfErr result IsFailure }
+    ensures decides { Decides S.Store tx.old.conn.now tx.new.conn.now result day caller.now
+        (requests.Deposit collection.now class.now accession.now closed bag.entry) }
+{
+    let collection = collection.as_str();
+    let class = class.as_str();
+    let accession = accession.as_str();
+    let asked = new_bag(
+        alloc, tx, day, caller, collection, class, accession, closed, bag,
+    )?;
+    let new = match asked {
+        Ok(new) => new,
+        Err(why) => return Ok(Answer::Refused(why)),
+    };
+    keep(
+        tx, day, new.number, collection, class, accession, closed, &new.bag,
+    )?;
+    Ok(Answer::Deposited {
+        deposit: new.number,
+    })
+}
