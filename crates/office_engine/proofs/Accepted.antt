@@ -10,6 +10,9 @@ use Rattle.office_core.specs.declared.request.Request.TheVariants.{DefineClass, 
 use Rattle.office_history.specs.Histories.{History, Change}
 use Rattle.office_history.specs.Refusals.{refusal}
 use Rattle.office_history.specs.Answers.{answer_unless, changes_unless, allowed_answer, allowed_change, answer, change}
+use Rattle.office_history.specs.Runs.{IsFailure}
+use Rattle.office_rows.specs.Rows.{Tables}
+use Rattle.office_serving.specs.Audits.{IsAuditOf}
 use Rattle.office_engine.specs.Keeping.{is_accepted}
 
 none_allowed : (h : History) (day : Date) (caller : List ℕ) (request : Request) → is_accepted (allowed_answer h day caller request) ≡ false → allowed_change h day request ≡ []
@@ -36,3 +39,8 @@ unless_none (Some why) given changes none e = refl
 pub no_change : (h : History) (day : Date) (caller : List ℕ) (request : Request) (given : Answer) → given ≡ answer h day caller request → is_accepted given ≡ false → change h day caller request ≡ []
 no_change h day caller request given is e =
     unless_none (refusal h day caller request) (allowed_answer h day caller request) (allowed_change h day request) (none_allowed h day caller request) (ap is_accepted (sym is) ∙ e)
+
+-- a failure is no audit
+pub failure_audits : (tables : Tables) (number : ℕ) (given : Answer) → IsFailure given → IsAuditOf tables number given
+failure_audits tables number (answers.Audit deposit report) fails = absurd fails
+failure_audits tables number _ fails = tt

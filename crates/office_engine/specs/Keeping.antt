@@ -1,16 +1,21 @@
 -- What an office keeps over its connection, what a request does to it, and what a crash may leave. `old` is the store before a call
 -- and `new` the store after it.
 use Rattle.std.specs.Prelude.{⊤, ◌⊎◌, ◌≡◌, ◌≢◌, List, [], ◌∷◌, ℕ, ◌≤◌, Bool, true, false, IsTrue, length, take}
+use Rattle.jiff.specs.Types.{Date}
 use Rattle.sqlite.specs.Tree.{Trees}
 use Rattle.sqlite.specs.Effect.{Database}
 use Rattle.sqlite.specs.State.{State}
 use Rattle.office_core.specs.Policies.{Contents}
 use Rattle.office_core.specs.declared.answer.Answer.{Answer}
 use Rattle.office_core.specs.declared.answer.Answer.TheVariants as answers
+use Rattle.office_core.specs.declared.request.Request.{Request}
+use Rattle.office_core.specs.declared.request.Request.TheVariants.{Audit}
+use Rattle.office_tables.specs.Tables.{IsOffice, tables_of}
 use Rattle.office_history.specs.Histories.{History, Installed, with_changes}
-use Rattle.office_history.specs.Answers.{change, after}
+use Rattle.office_history.specs.Answers.{change, after, due_list}
 use Rattle.office_history.specs.Runs.{IsLegal, IsFailure, Item, Step, Run}
 use Rattle.office_asking.specs.Pictures.{Pictures}
+use Rattle.office_serving.specs.Audits.{IsAuditOf}
 
 -- ---- what is kept, and what is left
 
@@ -62,6 +67,10 @@ is_accepted (answers.HoldReleased k day) = true
 is_accepted (answers.Destroyed n day) = true
 is_accepted _ = false
 
+-- whatever the tables of an office held, the answer to an audit is the verdict on the files that stood there
+abbrev pub Audits : State → Request → Answer → Type 0
+Audits old request given = (number : ℕ) → request ≡ Audit number → IsOffice old.now → IsAuditOf (tables_of old.now) number given
+
 -- ---- requests in turn
 
 -- whichever legal history was kept, the answers are those of a run from it, and the history that it leads to is kept
@@ -93,8 +102,14 @@ with_policy policy h = with_changes h (Installed policy ∷ [])
 
 -- whichever legal history was kept, it is kept with the policy
 abbrev pub Installs : State → State → Contents → Type 0
-Installs old new policy = (h : History) → IsLegal h → IsKeptBy h old → IsKeptBy (with_policy policy h) new
+Installs old new policy = (h : History) → IsLegal h → IsKeptBy h old → IsReached (with_policy policy h) new
 
 -- and a crash leaves that, and nothing else
 abbrev pub InstallLasts : State → State → Contents → Type 0
 InstallLasts old new policy = (h : History) → IsLegal h → IsKeptBy h old → (left : Trees) → new.may_leave left → IsLeftOf (with_policy policy h) left
+
+-- ---- the due list
+
+-- whichever legal history was kept, it still is, and these are the deposits that the caller may destroy on that day
+abbrev pub ListsDue : State → State → Date → List ℕ → List ℕ → Type 0
+ListsDue old new day caller numbers = (h : History) → IsLegal h → IsKeptBy h old → IsReached h new × (numbers ≡ due_list h day caller)

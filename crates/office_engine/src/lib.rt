@@ -2,6 +2,8 @@
 #![tactic(auto)]
 
 pub mod laws;
+mod installing;
+mod listing;
 mod office;
 mod serving;
 

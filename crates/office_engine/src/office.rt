@@ -1,6 +1,6 @@
 //! The office: requests over a connection to any store, each in one transaction.
 
-ghost use Rattle.std.specs.Prelude.{◌≡◌, Err, IfErr, IfOk, IsTrue, OnErr, false};
+ghost use Rattle.std.specs.Prelude.{◌≡◌, Err, IfErr, IfOk, IsTrue, OnErr, OnOk, false};
 ghost use Rattle.sqlite.specs.State.{HasCleanDisk, Survives};
 ghost use Rattle.sqlite.specs.Held.{state};
 ghost use Rattle.sqlite.specs.Tree.{Trees};
@@ -11,10 +11,12 @@ ghost use Rattle.office_tables.specs.declared.fault.TableFault.TheVariants.{NotA
 ghost use Rattle.office_rows.specs.Rows.{this_version};
 ghost use Rattle.office_history.specs.Histories.{History};
 ghost use Rattle.office_history.specs.Runs.{IsLegal, new_history};
-ghost use Rattle.office_engine.specs.Keeping.{CommitsRun, CommitsTo, IsKeptBy, IsLeftOf, Lasts, LeavesEither, LeavesRun, Runs, Serves, after_item, is_accepted};
+ghost use Rattle.office_engine.specs.Keeping.{Audits, CommitsRun, CommitsTo, InstallLasts, Installs, IsKeptBy, IsLeftOf, Lasts, LeavesEither, ListsDue, Runs, Serves, after_item, is_accepted, with_policy};
 
+use crate::installing::install_and_leave;
+use crate::listing::due_list;
 use crate::serving::serve_and_leave;
-use office_core::{Answer, Day, Limits, Request};
+use office_core::{Answer, Day, Limits, Policy, Request};
 use office_tables::TableFault;
 use sqlite::{Alter, Connection};
 use std::alloc::{AllocError, Global};
@@ -105,6 +107,25 @@ impl<S: Alter> Office<S> {
         }
     }
 
+    /// Installs a policy, in place of the one before: all of it, or nothing.
+    ///
+    /// Fails with `Memory` or `Store`.
+    pub fn install(&mut self, alloc: Global, policy: &Policy) -> Result<(), TableFault>
+        ensures failure { IfErr result faults.IsFailure }
+        ensures installed { HasCleanDisk (state S.Store self.new)
+            → OnOk result (Installs (state S.Store self.old) (state S.Store self.new) policy.now) }
+        ensures kept { HasCleanDisk (state S.Store self.new)
+            → OnErr result (IsKept (state S.Store self.old) (state S.Store self.new)) }
+        ensures survives { Survives (state S.Store self.old) (state S.Store self.new)
+            (CommitsTo (state S.Store self.old) (with_policy policy.now)) }
+        ensures durable { HasCleanDisk (state S.Store self.new)
+            → OnOk result (InstallLasts (state S.Store self.old) (state S.Store self.new) policy.now) }
+        ensures leaves { HasCleanDisk (state S.Store self.new)
+            → LeavesEither (state S.Store self.old) (state S.Store self.new) (with_policy policy.now) }
+    {
+        install_and_leave(alloc, &mut self.conn, policy)
+    }
+
     /// Serves a caller's request on that day, in one transaction with one commit. A request that is
     /// refused, or only asks, changes nothing.
     pub fn step(&mut self, alloc: Global, day: Day, caller: &str, request: &Request<'_>) -> Answer
@@ -112,6 +133,8 @@ impl<S: Alter> Office<S> {
             → Serves (state S.Store self.old) (state S.Store self.new) (day, caller.entry, request.now) result }
         ensures kept { HasCleanDisk (state S.Store self.new) → is_accepted result ≡ false
             → IsKept (state S.Store self.old) (state S.Store self.new) }
+        // Whatever the tables of the office hold, an audit is the verdict on what stands there.
+        ensures audited { HasCleanDisk (state S.Store self.new) → Audits (state S.Store self.old) request.now result }
         ensures survives { Survives (state S.Store self.old) (state S.Store self.new)
             (CommitsTo (state S.Store self.old) (after_item (day, caller.entry, request.now))) }
         ensures durable { HasCleanDisk (state S.Store self.new)
@@ -139,6 +162,20 @@ impl<S: Alter> Office<S> {
             answers.push_reserved(self.step(alloc, item.0, item.1, &item.2));
         }
         Ok(answers)
+    }
+
+    /// The numbers of the deposits that the caller may destroy on that day, ascending: those whose
+    /// disposal by that caller on that day would be accepted.
+    ///
+    /// Fails with `Memory` or `Store`. Nothing changes.
+    pub fn due_list(&mut self, alloc: Global, day: Day, caller: &str) -> Result<Vec<u32>, TableFault>
+        ensures failure { IfErr result faults.IsFailure }
+        ensures listed { HasCleanDisk (state S.Store self.new) → IfOk result (λ numbers.
+            ListsDue (state S.Store self.old) (state S.Store self.new) day caller.now numbers.items) }
+        ensures kept { HasCleanDisk (state S.Store self.new) → IsKept (state S.Store self.old) (state S.Store self.new) }
+        ensures survives { Survives (state S.Store self.old) (state S.Store self.new) (λ _. ⊥) }
+    {
+        due_list(alloc, &mut self.conn, day, caller)
     }
 
     /// The connection, outside a transaction, its tables as they are.

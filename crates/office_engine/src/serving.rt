@@ -1,16 +1,22 @@
 //! One request in one transaction.
 
-ghost use Rattle.std.specs.Prelude.{◌≡◌, false};
+ghost use Rattle.std.specs.Prelude.{◌≡◌, ℕ, IfErr, false};
 ghost use Rattle.sqlite.specs.State.{HasCleanDisk, Survives};
 ghost use Rattle.sqlite.specs.Held.{state};
-ghost use Rattle.office_tables.specs.Calls.{CommitsNothing, Continues};
+ghost use Rattle.office_core.specs.declared.request.Request.TheVariants as requests;
+ghost use Rattle.office_tables.specs.Calls.{CommitsNothing, Continues, Tells};
 ghost use Rattle.office_tables.specs.Faults as faults;
 ghost use Rattle.office_tables.specs.Opening.{IsKept};
 ghost use Rattle.office_history.specs.Runs.{IsFailure};
 ghost use Rattle.office_asking.specs.Serving.{Decides};
-ghost use Rattle.office_engine.specs.Keeping.{CommitsTo, Lasts, LeavesEither, Serves, after_item, is_accepted};
+ghost use Rattle.office_serving.specs.Audits.{IsAuditOf};
+ghost use Rattle.office_engine.specs.Keeping.{Audits, CommitsTo, Lasts, LeavesEither, Serves, after_item, is_accepted};
 
 use office_core::{Answer, Day, Refusal, Request};
+use office_defining::{define_class, define_collection};
+use office_holding::{hold_collection, hold_deposit, release};
+use office_keeping::{deposit, dispose};
+use office_serving::{audit, download_bag, download_path, due_list, holds, list, record};
 use office_tables::TableFault;
 use sqlite::{Alter, Connection, Transaction};
 use std::alloc::Global;
@@ -52,10 +58,48 @@ fn decide<S: Alter>(
     ensures same_reference { tx.new.conn.ghost_name ≡ tx.old.conn.ghost_name }
     ensures stays { CommitsNothing S.Store tx.old.conn.now tx.new.conn.now }
     ensures goes_on { Continues S.Store tx.old.conn.now tx.new.conn.now result }
-    ensures failure { Rattle.std.specs.Prelude.IfErr result faults.IsFailure }
+    ensures failure { IfErr result faults.IsFailure }
     ensures decides { Decides S.Store tx.old.conn.now tx.new.conn.now result day caller.now request.now }
+    ensures audited { (number : ℕ) → request.now ≡ requests.Audit number
+        → Tells S.Store tx.old.conn.now tx.new.conn.now result (λ tables answer. IsAuditOf tables number answer) }
 {
-    Err(TableFault::Store)
+    match request {
+        Request::DefineClass { name, years } => define_class(alloc, tx, day, caller, name, *years),
+        Request::DefineCollection { name } => define_collection(alloc, tx, day, caller, name),
+        Request::Deposit {
+            collection,
+            class,
+            accession,
+            closed,
+            bag,
+        } => deposit(
+            alloc, tx, day, caller, collection, class, accession, *closed, bag,
+        ),
+        Request::HoldDeposit { deposit, matter } => {
+            hold_deposit(alloc, tx, day, caller, *deposit, matter)
+        }
+        Request::HoldCollection { collection, matter } => {
+            hold_collection(alloc, tx, day, caller, collection, matter)
+        }
+        Request::Release { hold } => release(alloc, tx, day, caller, *hold),
+        Request::Dispose { deposit } => dispose(alloc, tx, day, caller, *deposit),
+        Request::List { collection, class } => list(
+            alloc,
+            tx,
+            day,
+            caller,
+            collection.as_ref(),
+            class.as_ref(),
+        ),
+        Request::Record { deposit } => record(alloc, tx, day, caller, *deposit),
+        Request::Holds { deposit } => holds(alloc, tx, day, caller, *deposit),
+        Request::DownloadBag { deposit } => download_bag(alloc, tx, day, caller, *deposit),
+        Request::DownloadFile { deposit, path } => {
+            download_path(alloc, tx, day, caller, *deposit, path)
+        }
+        Request::Audit { deposit } => audit(alloc, tx, day, caller, *deposit),
+        Request::DueList => due_list(alloc, tx, day, caller),
+    }
 }
 
 /// Serves one request in one transaction with one commit. A request that changes nothing is rolled
@@ -72,6 +116,7 @@ pub fn serve<S: Alter>(
     ensures served { HasCleanDisk (state S.Store conn.new)
         → Serves (state S.Store conn.old) (state S.Store conn.new) (day, caller.entry, request.now) result }
     ensures kept { HasCleanDisk (state S.Store conn.new) → is_accepted result ≡ false → IsKept (state S.Store conn.old) (state S.Store conn.new) }
+    ensures audited { HasCleanDisk (state S.Store conn.new) → Audits (state S.Store conn.old) request.now result }
     ensures survives { Survives (state S.Store conn.old) (state S.Store conn.new)
         (CommitsTo (state S.Store conn.old) (after_item (day, caller.entry, request.now))) }
     ensures durable { HasCleanDisk (state S.Store conn.new)
@@ -112,6 +157,7 @@ pub fn serve_and_leave<S: Alter>(
     ensures served { HasCleanDisk (state S.Store conn.new)
         → Serves (state S.Store conn.old) (state S.Store conn.new) (day, caller.entry, request.now) result }
     ensures kept { HasCleanDisk (state S.Store conn.new) → is_accepted result ≡ false → IsKept (state S.Store conn.old) (state S.Store conn.new) }
+    ensures audited { HasCleanDisk (state S.Store conn.new) → Audits (state S.Store conn.old) request.now result }
     ensures survives { Survives (state S.Store conn.old) (state S.Store conn.new)
         (CommitsTo (state S.Store conn.old) (after_item (day, caller.entry, request.now))) }
     ensures durable { HasCleanDisk (state S.Store conn.new)

@@ -21,6 +21,7 @@ use Rattle.office_history.proofs.AlikeAnswers.{among_first_places}
 use Rattle.office_core.specs.declared.action.Action.TheVariants as acts
 use Rattle.office_asking.specs.Pictures.{Pictures}
 use Rattle.office_asking.proofs.Readings.{in_picture}
+use Rattle.office_asking.proofs.Serving.{one_refusal}
 
 bytes_eq-sym : (a b : List ℕ) → bytes_eq a b ≡ bytes_eq b a
 bytes_eq-sym a b = by (bytes_eq a b) (bytes_eq b a) refl refl
@@ -49,12 +50,8 @@ module _ (h : History) (caller collection class : List ℕ) where
   pub no_class : true ≡ has_collection h collection → false ≡ has_class h class → Some (NoSuch subjects.Class) ≡ first_some (place_refusals h caller collection class)
   no_class e f = λ i. first_some (answer_if (not (e i)) (NoSuch subjects.Collection) ∷ answer_if (not (f i)) (NoSuch subjects.Class) ∷ denial h caller acts.Deposit (Some collection) (Some class) ∷ [])
 
-  one : (o : Option Refusal) → o ≡ first_some (o ∷ [])
-  one None = refl
-  one (Some why) = refl
-
   pub both_there : true ≡ has_collection h collection → true ≡ has_class h class → (why : Option Refusal) → why ≡ denial h caller acts.Deposit (Some collection) (Some class) → why ≡ first_some (place_refusals h caller collection class)
-  both_there e f why is = one why ∙ (λ i. first_some (answer_if (not (e i)) (NoSuch subjects.Collection) ∷ answer_if (not (f i)) (NoSuch subjects.Class) ∷ is i ∷ []))
+  both_there e f why is = one_refusal why ∙ (λ i. first_some (answer_if (not (e i)) (NoSuch subjects.Collection) ∷ answer_if (not (f i)) (NoSuch subjects.Class) ∷ is i ∷ []))
 
 pub taken_some : (n : ℕ) (o : Option ℕ) → Some (pos n) ≡ option_map pos o → Some (Taken n) ≡ option_map Taken o
 taken_some n None e = absurd cc

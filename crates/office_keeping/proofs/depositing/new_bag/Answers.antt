@@ -1,4 +1,4 @@
-use Rattle.std.proofs.Common.{rules, ◌≡◌, arith, [], ◌∷◌, None, sym, ◌∙◌}
+use Rattle.std.proofs.Common.{rules, ◌≡◌, arith, [], ◌∷◌, None, Some, sym, ◌∙◌}
 use Rattle.sqlite.specs.State.{HasCleanDisk}
 use Rattle.sqlite.specs.Held.{state}
 use Rattle.sql_meaning.proofs.Results.{if_ok}
@@ -12,7 +12,8 @@ pub returns-in-Some-clause-asked : goal.returns-in-Some-clause-asked
 returns-in-Some-clause-asked g c clean h legal pictured =
     let a = c.args in
     let asked = c.in_ok-refusal.ensures.refusal clean h legal pictured in
-    (asked.0, first_stands (refusals_before_the_bag h a.day a.caller.now a.collection.now a.class.now a.accession.now a.closed) (bad_bag a.text.now ∷ full_of_deposits h ∷ []) c.in-Some.why (sym c.in-Some.is ∙ asked.1))
+    let stands : Some c.in-Some.why ≡ first_some (refusals_before_the_bag h a.day a.caller.now a.collection.now a.class.now a.accession.now a.closed) = sym c.in-Some.is ∙ asked.1 in
+    (asked.0, first_stands (refusals_before_the_bag h a.day a.caller.now a.collection.now a.class.now a.accession.now a.closed) (bad_bag a.text.now ∷ full_of_deposits h ∷ []) c.in-Some.why stands)
 
 pub returns-clause-asked : goal.returns-clause-asked
 returns-clause-asked g c clean h legal pictured =

@@ -1,9 +1,9 @@
-use Rattle.std.proofs.Common.{rules, ◌≡◌, arith, [], ◌∷◌, Option, Some, None, sym, ◌∙◌}
+use Rattle.std.proofs.Common.{rules, ◌≡◌, arith, [], ◌∷◌, Some, None, sym, ◌∙◌}
 use Rattle.sqlite.specs.State.{HasCleanDisk}
 use Rattle.sqlite.specs.Held.{state}
 use Rattle.office_core.specs.FirstOf.{first_some}
-use Rattle.office_core.specs.declared.refusal.Refusal.{Refusal}
 use Rattle.office_history.specs.Refusals.{place_refusals, taken_refusal, closed_ahead_refusal}
+use Rattle.office_asking.proofs.Serving.{one_refusal}
 use Rattle.office_keeping.proofs.AskedFor.{first_stands, first_later}
 use Rattle.office_keeping.proofs.depositing.refusal_before_the_bag.Goals as goal
 
@@ -11,7 +11,8 @@ pub returns-in-Some-clause-refusal : goal.returns-in-Some-clause-refusal
 returns-in-Some-clause-refusal g c clean h legal pictured =
     let a = c.args in
     let asked = c.in_ok-why.ensures.refusal clean h legal pictured in
-    (asked.0, first_stands (place_refusals h a.caller.now a.collection.now a.class.now) (taken_refusal h a.accession.now ∷ closed_ahead_refusal a.day a.closed ∷ []) c.in-Some.why (sym c.in-Some.is ∙ asked.1))
+    let stands : Some c.in-Some.why ≡ first_some (place_refusals h a.caller.now a.collection.now a.class.now) = sym c.in-Some.is ∙ asked.1 in
+    (asked.0, first_stands (place_refusals h a.caller.now a.collection.now a.class.now) (taken_refusal h a.accession.now ∷ closed_ahead_refusal a.day a.closed ∷ []) c.in-Some.why stands)
 
 pub returns-clause-refusal : goal.returns-clause-refusal
 returns-clause-refusal g c clean h legal pictured =
@@ -24,10 +25,6 @@ returns-clause-refusal g c clean h legal pictured =
     let untaken : None ≡ taken_refusal h a.accession.now = search (rules, asked.1) in
     let ahead : c.closed_ahead.result ≡ closed_ahead_refusal a.day a.closed = c.closed_ahead.ensures in (
       asked.0,
-      last c.closed_ahead.result ∙ (λ i. first_some (untaken i ∷ ahead i ∷ []))
+      one_refusal c.closed_ahead.result ∙ (λ i. first_some (untaken i ∷ ahead i ∷ []))
           ∙ first_later (place_refusals h a.caller.now a.collection.now a.class.now) (taken_refusal h a.accession.now ∷ closed_ahead_refusal a.day a.closed ∷ []) free,
     )
-  where
-    last : (o : Option Refusal) → o ≡ first_some (None ∷ o ∷ [])
-    last None = λ i. None
-    last (Some why) = λ i. Some why

@@ -1,0 +1,35 @@
+//! The due list, read in a transaction that is rolled back.
+
+ghost use Rattle.std.specs.Prelude.{◌≡◌, IfErr, IfOk, false};
+ghost use Rattle.sqlite.specs.State.{HasCleanDisk, Survives};
+ghost use Rattle.sqlite.specs.Held.{state};
+ghost use Rattle.office_tables.specs.Faults.{IsFailure};
+ghost use Rattle.office_tables.specs.Opening.{IsKept};
+ghost use Rattle.office_engine.specs.Keeping.{ListsDue};
+
+use office_core::Day;
+use office_serving::due_numbers;
+use office_tables::TableFault;
+use sqlite::{Alter, Connection};
+use std::alloc::Global;
+
+/// The numbers of the deposits that the caller may destroy on that day, ascending.
+pub fn due_list<S: Alter>(
+    alloc: Global,
+    conn: &mut Connection<S>,
+    day: Day,
+    caller: &str,
+) -> Result<Vec<u32>, TableFault>
+    requires outside { (state S.Store conn.old).in_transaction ≡ false }
+    ensures outside { (state S.Store conn.new).in_transaction ≡ false }
+    ensures failure { IfErr result IsFailure }
+    ensures listed { HasCleanDisk (state S.Store conn.new) → IfOk result (λ numbers.
+        ListsDue (state S.Store conn.old) (state S.Store conn.new) day caller.now numbers.items) }
+    ensures kept { HasCleanDisk (state S.Store conn.new) → IsKept (state S.Store conn.old) (state S.Store conn.new) }
+    ensures survives { Survives (state S.Store conn.old) (state S.Store conn.new) (λ _. ⊥) }
+{
+    let mut tx = conn.transaction();
+    let found = due_numbers(alloc, &mut tx, day, caller);
+    tx.rollback();
+    found
+}

@@ -1,0 +1,18 @@
+-- The verdict on files.
+use Rattle.std.proofs.Common.{◌≡◌, List, Some, None, ap}
+use Rattle.bag_text.specs.BagList.{list_fault}
+use Rattle.bag_text.specs.FaultTexts.{set_fault_text}
+use Rattle.bag_text.specs.TransferForm.{File}
+use Rattle.bag_text.specs.declared.set_fault.SetFault.{SetFault}
+use Rattle.office_core.specs.declared.answer.AuditReport.TheVariants.{Invalid}
+use Rattle.office_history.specs.Bags.{report_on}
+use Rattle.office_history.specs.Answers.{audit_report}
+use Rattle.office_serving.specs.Audits.{verdict_on, verdict_unless}
+
+-- on a list that has no fault
+pub on_a_bag : (files : List File) → list_fault files ≡ None → verdict_on files ≡ audit_report (report_on files)
+on_a_bag files none = ap (λ o. verdict_unless o files) none
+
+-- on a list that has one
+pub on_a_fault : (files : List File) (fault : SetFault) → list_fault files ≡ Some fault → verdict_on files ≡ Invalid (set_fault_text fault)
+on_a_fault files fault is = ap (λ o. verdict_unless o files) is

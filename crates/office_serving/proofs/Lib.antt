@@ -1,0 +1,9 @@
+pub mod FilesTold
+pub mod Told
+pub mod ListedRows
+pub mod RecordTold
+pub mod HoldsTold
+pub mod AuditTold
+pub mod DueListTold
+pub mod ShownTold
+pub mod PathsTold

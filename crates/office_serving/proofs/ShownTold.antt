@@ -1,0 +1,52 @@
+-- The deposits that a caller may list, by the rows.
+use Rattle.std.proofs.Common.{◌≡◌, ℕ, suc, ◌+◌, ◌<◌, Bool, true, false, ◌&&◌, List, [], ◌∷◌, ◌++◌, Option, Some, None, is_none, refl, sym, ap, subst, ◌∙◌, length, get_or, arith, if◌then◌else◌}
+use Rattle.std.proofs.lemmas.Option.{slice_get-get_or}
+use Rattle.std.specs.List.{filter_map}
+use Rattle.std.specs.Option.{option_map_or}
+use Rattle.jiff.specs.Types.{Date}
+use Rattle.office_core.specs.declared.answer.DepositRecord.{DepositRecord}
+use Rattle.office_rows.specs.Rows.{DepositRow}
+use Rattle.office_history.specs.Lists.{numbers}
+use Rattle.office_history.specs.Histories.{History, Deposit, deposits, deposit_numbered, destruction_day}
+use Rattle.office_history.specs.Pictures.{deposit_row, deposit_rows}
+use Rattle.office_history.specs.Answers.{is_listed, record_of, listed_record, listed_records}
+use Rattle.office_serving.specs.Listing.{is_shown, shown_record}
+use Rattle.office_serving.proofs.ListedRows.{all_rows, row_at, tells_next, silent_next, told_of_those}
+
+module _ (h : History) (caller : List ℕ) (collection class : Option (List ℕ)) (n : ℕ) (found : Date × Deposit) where
+  module _ (there : deposit_numbered h n ≡ Some found) where
+    shown_is : shown_record h caller collection class n ≡ (if is_shown h caller collection class n found.1 then Some (record_of h n found) else None)
+    shown_is =
+        ap (λ o. if is_none (destruction_day h n) then option_map_or (λ (d : Date × Deposit). if is_listed h caller collection class d.1 then Some (record_of h n d) else None) o None else None) there
+        ∙ by (is_none (destruction_day h n)) (is_listed h caller collection class found.1)
+      where
+        by : (kept listed : Bool) → ◌≡◌ {A = Option DepositRecord} (if kept then (if listed then Some (record_of h n found) else None) else None) (if kept && listed then Some (record_of h n found) else None)
+        by true listed = refl
+        by false listed = refl
+
+    pub record_shown : (shown : Bool) → shown ≡ true → shown ≡ is_shown h caller collection class n found.1 → (told : DepositRecord) → told ≡ record_of h n found → Some told ≡ shown_record h caller collection class n
+    record_shown shown e is told told_is = ap Some told_is ∙ ap (λ b. if b then Some (record_of h n found) else None) (sym e ∙ is) ∙ sym shown_is
+
+    pub none_shown : (shown : Bool) → shown ≡ false → shown ≡ is_shown h caller collection class n found.1 → None ≡ shown_record h caller collection class n
+    none_shown shown e is = ap (λ b. if b then Some (record_of h n found) else None) (sym e ∙ is) ∙ sym shown_is
+
+-- one row after another
+pub shown_next : (h : History) (caller : List ℕ) (collection class : Option (List ℕ)) (rows : List DepositRow) → rows ≡ deposit_rows h → (i : ℕ) (d : DepositRow) → i < length rows
+    → (before : List DepositRecord) → before ≡ filter_map (shown_record h caller collection class) (numbers i)
+    → (told : Option DepositRecord) → ((n : ℕ) (found : Date × Deposit) → deposit_numbered h n ≡ Some found → get_or rows i d ≡ deposit_row h n found → told ≡ shown_record h caller collection class n)
+    → ((next : DepositRecord) → told ≡ Some next → before ++ next ∷ [] ≡ filter_map (shown_record h caller collection class) (numbers (i + 1)))
+    × (told ≡ None → before ≡ filter_map (shown_record h caller collection class) (numbers (i + 1)))
+shown_next h caller collection class rows is i d low before e told says =
+    let at = row_at h rows is i (get_or rows i d) (slice_get-get_or rows i d low) in
+    let one : suc i ≡ i + 1 = omega arith in
+    let said = says (suc i) at.0 at.1 at.2 in (
+      λ next some. subst (λ k. before ++ next ∷ [] ≡ filter_map (shown_record h caller collection class) (numbers k)) one (tells_next (shown_record h caller collection class) i before next e (sym some ∙ said)),
+      λ none. subst (λ k. before ≡ filter_map (shown_record h caller collection class) (numbers k)) one (silent_next (shown_record h caller collection class) i before e (sym none ∙ said)),
+    )
+
+-- all of them
+pub shown_of_rows : (h : History) (caller : List ℕ) (collection class : Option (List ℕ)) (rows : List DepositRow) → rows ≡ deposit_rows h
+    → (told : List DepositRecord) → told ≡ filter_map (shown_record h caller collection class) (numbers (length rows)) → told ≡ listed_records h caller collection class
+shown_of_rows h caller collection class rows is told e =
+    e ∙ ap (λ count. filter_map (shown_record h caller collection class) (numbers count)) (all_rows h rows is)
+    ∙ told_of_those (λ n. is_none (destruction_day h n)) (listed_record h caller collection class) (numbers (length (deposits h)))

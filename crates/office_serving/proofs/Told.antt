@@ -1,0 +1,77 @@
+-- Requests about a deposit that is kept, which change nothing.
+use Rattle.std.proofs.Common.{◌≡◌, ℕ, List, [], ◌∷◌, Option, Some, None, is_none, refl, sym, ap, ◌∙◌}
+use denote.Ref.{Bor}
+use Rattle.jiff.specs.Types.{Date}
+use Rattle.sqlite.specs.Effect.{Database}
+use Rattle.bag_text.specs.TransferForm.{content_at}
+use Rattle.office_core.specs.FirstOf.{first_some, answer_if}
+use Rattle.office_core.specs.declared.action.Action.{Action}
+use Rattle.office_core.specs.declared.action.Action.TheVariants as acts
+use Rattle.office_core.specs.declared.answer.Answer.{Answer}
+use Rattle.office_core.specs.declared.answer.Answer.TheVariants as answers
+use Rattle.office_core.specs.declared.refusal.Refusal.{Refusal}
+use Rattle.office_core.specs.declared.refusal.Refusal.TheVariants.{NoFile}
+use Rattle.office_core.specs.declared.request.Request.{Request}
+use Rattle.office_core.specs.declared.request.Request.TheVariants.{DownloadFile}
+use Rattle.office_rows.specs.Rows.{DepositRow}
+use Rattle.office_history.specs.Histories.{History, Deposit, deposit_numbered, destruction_day}
+use Rattle.office_history.specs.Refusals.{of_deposit, kept_refusals, file_refusals, denial_at, gone_refusal, no_file, refusals, refusal}
+use Rattle.office_history.specs.Answers.{told_of, file_answer, allowed_answer, allowed_change}
+use Rattle.office_asking.specs.Pictures.{Pictures}
+use Rattle.office_asking.specs.Serving.{IsServed}
+use Rattle.office_asking.specs.Deposits.{IsThere}
+use Rattle.office_asking.proofs.DepositAsked.{still_kept}
+use Rattle.office_asking.proofs.Serving.{read_serves, refused_serves, one_refusal}
+
+module _ (h : History) (caller : List ℕ) (action : Action) (n : ℕ) (row : DepositRow) (it : IsThere h n (kept_refusals h caller action n) row) where
+  -- where nothing is refused, the deposit was not destroyed
+  pub is_kept : destruction_day h n ≡ None
+  is_kept = still_kept (denial_at h caller action it.found.1) (destruction_day h n) _ it.free
+
+  -- and this is told of it
+  pub told_serves : (day : Date) (request : Request) (db : Database) → refusals h day caller request ≡ of_deposit (deposit_numbered h n) (kept_refusals h caller action n)
+      → (tell : Date × Deposit → Answer) → allowed_answer h day caller request ≡ told_of (deposit_numbered h n) tell → allowed_change h day request ≡ []
+      → (given : Answer) → given ≡ tell it.found → Pictures h db → IsServed h day caller request given db
+  told_serves day request db asks tell answers none given is pictured =
+      read_serves h day caller request db given
+      (sym (ap first_some asks ∙ ap (λ o. first_some (of_deposit o (kept_refusals h caller action n))) it.there ∙ it.free))
+      (is ∙ sym (answers ∙ ap (λ o. told_of o tell) it.there))
+      none pictured
+
+-- ---- a file of it
+
+first_of_three : (a b c : Option Refusal) → first_some (a ∷ b ∷ []) ≡ None → c ≡ first_some (a ∷ b ∷ c ∷ [])
+first_of_three None None c e = one_refusal c
+first_of_three None (Some why) c e = absurd cc
+first_of_three (Some other) b c e = absurd cc
+
+still_first : (a b c : Option Refusal) (why : Refusal) → Some why ≡ first_some (a ∷ b ∷ []) → Some why ≡ first_some (a ∷ b ∷ c ∷ [])
+still_first None None c why e = absurd cc
+still_first None (Some other) c why e = e
+still_first (Some other) b c why e = e
+
+module _ (h : History) (day : Date) (caller : List ℕ) (n : ℕ) (path : Bor (List ℕ)) (db : Database) where
+  asks_first : (why : Refusal) → Some why ≡ first_some (of_deposit (deposit_numbered h n) (kept_refusals h caller acts.Download n)) → Some why ≡ refusal h day caller (DownloadFile n path)
+  asks_first why e = by (deposit_numbered h n) e
+    where
+      by : (o : Option (Date × Deposit)) → Some why ≡ first_some (of_deposit o (kept_refusals h caller acts.Download n)) → Some why ≡ first_some (of_deposit o (file_refusals h caller n path.now))
+      by None e = e
+      by (Some found) e = still_first (denial_at h caller acts.Download found.1) (gone_refusal h n) (no_file found.1 path.now) why e
+
+  -- a refusal that stands before the file is looked for
+  pub file_not_asked : (why : Refusal) → Some why ≡ first_some (of_deposit (deposit_numbered h n) (kept_refusals h caller acts.Download n)) → Pictures h db → IsServed h day caller (DownloadFile n path) (answers.Refused why) db
+  file_not_asked why e pictured = refused_serves h day caller (DownloadFile n path) db why (asks_first why e) pictured
+
+  module _ (row : DepositRow) (it : IsThere h n (kept_refusals h caller acts.Download n) row) where
+    asks : no_file it.found.1 path.now ≡ refusal h day caller (DownloadFile n path)
+    asks = first_of_three (denial_at h caller acts.Download it.found.1) (gone_refusal h n) (no_file it.found.1 path.now) it.free ∙ ap (λ o. first_some (of_deposit o (file_refusals h caller n path.now))) (sym it.there)
+
+    pub file_served : (content : List ℕ) → Some content ≡ content_at it.found.1.bag path.now → Pictures h db → IsServed h day caller (DownloadFile n path) (answers.File content) db
+    file_served content e pictured =
+        read_serves h day caller (DownloadFile n path) db (answers.File content)
+        (ap (λ o. answer_if (is_none o) NoFile) e ∙ asks)
+        (ap file_answer e ∙ ap (λ o. told_of o (λ (found : Date × Deposit). file_answer (content_at found.1.bag path.now))) (sym it.there))
+        refl pictured
+
+    pub file_missing : None ≡ content_at it.found.1.bag path.now → Pictures h db → IsServed h day caller (DownloadFile n path) (answers.Refused NoFile) db
+    file_missing e pictured = refused_serves h day caller (DownloadFile n path) db NoFile (ap (λ o. answer_if (is_none o) NoFile) e ∙ asks) pictured

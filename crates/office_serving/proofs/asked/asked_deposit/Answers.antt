@@ -1,0 +1,90 @@
+use Rattle.std.proofs.Common.{rules, ◌≡◌, arith, sym, subst, ◌∙◌, Some, None, option_map}
+use Rattle.sqlite.specs.State.{HasCleanDisk}
+use Rattle.sqlite.specs.Held.{state}
+use Rattle.office_tables.specs.Tables.{IsOffice}
+use Rattle.office_history.specs.Histories as histories
+use Rattle.office_history.specs.Pictures.{deposit_row}
+use Rattle.office_history.specs.Refusals.{denial, kept_refusals}
+use Rattle.office_asking.proofs.Readings.{pictured_still}
+use Rattle.office_asking.proofs.DepositAsked.{deposit_read, none_there, asked_denied, asked_gone, asked_kept}
+use Rattle.office_serving.proofs.asked.asked_deposit.Goals as goal
+
+pub returns-in_default-clause-asked : goal.returns-in_default-clause-asked
+returns-in_default-clause-asked g c clean h legal pictured =
+    let a = c.args in
+    let old = state g.S.Store a.tx.now.conn.now in
+    let new = state g.S.Store c.deposit_row.new.tx.conn.now in
+    let read = deposit_read h old.now pictured a.number c.in_ok-deposit.field-0 (c.in_ok-deposit.ensures.found clean pictured.office) in
+    let none : None ≡ option_map (deposit_row h a.number) (histories.deposit_numbered h a.number) = search (rules, read) in
+    (pictured_still h old.now pictured new.now (c.in_ok-deposit.ensures.same clean pictured.office), none_there h a.number (kept_refusals h a.caller.now a.action a.number) none)
+
+pub returns-in-Some-denied-clause-asked : goal.returns-in-Some-denied-clause-asked
+returns-in-Some-denied-clause-asked g c clean h legal pictured =
+    let a = c.args in
+    let old = state g.S.Store a.tx.now.conn.now in
+    let mid = state g.S.Store c.deposit_row.new.tx.conn.now in
+    let early : HasCleanDisk mid = omega (arith, clean, c.denial.ensures.stays.survives.clean) in
+    let read = deposit_read h old.now pictured a.number c.in_ok-deposit.field-0 (c.in_ok-deposit.ensures.found early pictured.office) in
+    let still = pictured_still h old.now pictured mid.now (c.in_ok-deposit.ensures.same early pictured.office) in
+    let row = c.in-Some.deposit in
+    let some : Some row ≡ option_map (deposit_row h a.number) (histories.deposit_numbered h a.number) = sym c.in-Some.is ∙ read in
+    let asked = c.in_ok-denied.ensures.denied clean h legal still in
+    let collection : c.deref.result.now ≡ row.collection = search rules in
+    let class : c.deref-2.result.now ≡ row.class = search rules in
+    let said : Some c.in-Some-denied.why ≡ denial h a.caller.now a.action (Some row.collection) (Some row.class) = sym c.in-Some-denied.is ∙ asked.1 ∙ (λ i. denial h a.caller.now a.action (Some (collection i)) (Some (class i))) in
+    (asked.0, asked_denied h a.caller.now a.action a.number row some c.in-Some-denied.why said)
+
+pub returns-in-Some-gone-clause-asked : goal.returns-in-Some-gone-clause-asked
+returns-in-Some-gone-clause-asked g c clean h legal pictured =
+    let a = c.args in
+    let old = state g.S.Store a.tx.now.conn.now in
+    let mid = state g.S.Store c.deposit_row.new.tx.conn.now in
+    let early : HasCleanDisk mid = omega (arith, clean, c.denial.ensures.stays.survives.clean) in
+    let read = deposit_read h old.now pictured a.number c.in_ok-deposit.field-0 (c.in_ok-deposit.ensures.found early pictured.office) in
+    let still = pictured_still h old.now pictured mid.now (c.in_ok-deposit.ensures.same early pictured.office) in
+    let row = c.in-Some.deposit in
+    let some : Some row ≡ option_map (deposit_row h a.number) (histories.deposit_numbered h a.number) = sym c.in-Some.is ∙ read in
+    let asked = c.in_ok-denied.ensures.denied clean h legal still in
+    let collection : c.deref.result.now ≡ row.collection = search rules in
+    let class : c.deref-2.result.now ≡ row.class = search rules in
+    let allowed : None ≡ c.in_ok-denied.denied = search rules in
+    let said : None ≡ denial h a.caller.now a.action (Some row.collection) (Some row.class) = allowed ∙ asked.1 ∙ (λ i. denial h a.caller.now a.action (Some (collection i)) (Some (class i))) in
+    (asked.0, asked_gone h a.caller.now a.action a.number row some c.in-Some-gone.day said (search rules))
+
+pub returns-in-None-clause-asked : goal.returns-in-None-clause-asked
+returns-in-None-clause-asked g c clean h legal pictured =
+    let a = c.args in
+    let old = state g.S.Store a.tx.now.conn.now in
+    let mid = state g.S.Store c.deposit_row.new.tx.conn.now in
+    let early : HasCleanDisk mid = omega (arith, clean, c.denial.ensures.stays.survives.clean) in
+    let read = deposit_read h old.now pictured a.number c.in_ok-deposit.field-0 (c.in_ok-deposit.ensures.found early pictured.office) in
+    let still = pictured_still h old.now pictured mid.now (c.in_ok-deposit.ensures.same early pictured.office) in
+    let row = c.in-Some.deposit in
+    let some : Some row ≡ option_map (deposit_row h a.number) (histories.deposit_numbered h a.number) = sym c.in-Some.is ∙ read in
+    let asked = c.in_ok-denied.ensures.denied clean h legal still in
+    let collection : c.deref.result.now ≡ row.collection = search rules in
+    let class : c.deref-2.result.now ≡ row.class = search rules in
+    let allowed : None ≡ c.in_ok-denied.denied = search rules in
+    let said : None ≡ denial h a.caller.now a.action (Some row.collection) (Some row.class) = allowed ∙ asked.1 ∙ (λ i. denial h a.caller.now a.action (Some (collection i)) (Some (class i))) in
+    (asked.0, asked_kept h a.caller.now a.action a.number row some said (search rules))
+
+pub returns-in-Some-denied-clause-same : goal.returns-in-Some-denied-clause-same
+returns-in-Some-denied-clause-same g c clean office =
+    let mid = state g.S.Store c.deposit_row.new.tx.conn.now in
+    let early : HasCleanDisk mid = omega (arith, clean, c.denial.ensures.stays.survives.clean) in
+    let same = c.in_ok-deposit.ensures.same early office in
+    c.in_ok-denied.ensures.same clean (subst IsOffice (sym same) office) ∙ same
+
+pub returns-in-Some-gone-clause-same : goal.returns-in-Some-gone-clause-same
+returns-in-Some-gone-clause-same g c clean office =
+    let mid = state g.S.Store c.deposit_row.new.tx.conn.now in
+    let early : HasCleanDisk mid = omega (arith, clean, c.denial.ensures.stays.survives.clean) in
+    let same = c.in_ok-deposit.ensures.same early office in
+    c.in_ok-denied.ensures.same clean (subst IsOffice (sym same) office) ∙ same
+
+pub returns-in-None-clause-same : goal.returns-in-None-clause-same
+returns-in-None-clause-same g c clean office =
+    let mid = state g.S.Store c.deposit_row.new.tx.conn.now in
+    let early : HasCleanDisk mid = omega (arith, clean, c.denial.ensures.stays.survives.clean) in
+    let same = c.in_ok-deposit.ensures.same early office in
+    c.in_ok-denied.ensures.same clean (subst IsOffice (sym same) office) ∙ same

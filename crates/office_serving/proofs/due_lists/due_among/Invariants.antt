@@ -1,0 +1,24 @@
+use Rattle.std.proofs.Common.{◌≡◌, List, ℕ, filter}
+use Rattle.sqlite.specs.State.{HasCleanDisk}
+use Rattle.sqlite.specs.Held.{state}
+use Rattle.sql_meaning.specs.Inside.{Stays, Stands}
+use Rattle.office_history.specs.Lists.{numbers}
+use Rattle.office_history.specs.Histories.{History}
+use Rattle.office_history.specs.Pictures.{deposit_rows}
+use Rattle.office_history.specs.Runs.{IsLegal}
+use Rattle.office_asking.specs.Asking.{IsAsker}
+use Rattle.office_asking.specs.Pictures.{Pictures}
+use Rattle.office_serving.specs.Listing.{is_due}
+use Rattle.office_serving.proofs.due_lists.due_among.Given as goal
+
+abbrev pub invariant-loop-row : goal.invariant-loop-row
+invariant-loop-row g l =
+    let old = state g.S.Store l.fn.tx.conn.now in
+    let now = state g.S.Store l.tx.conn.now in
+    record {
+      same_reference : l.tx.conn.ghost_name ≡ l.fn.tx.conn.ghost_name;
+      stays : Stays old now;
+      goes_on : HasCleanDisk now → Stands old now;
+      due : HasCleanDisk now → (h : History) → IsLegal h → Pictures h old.now → Pictures h now.now
+          × ((caller : List ℕ) → IsAsker h caller l.asker → l.rows ≡ deposit_rows h → l.numbers.items ≡ filter (is_due h l.day caller) (numbers l.row-index));
+    }

@@ -1,0 +1,14 @@
+use Rattle.std.proofs.Common.{rules, ◌≡◌, refl, ap, ◌∙◌}
+use Rattle.sqlite.specs.Held.{state}
+use Rattle.office_core.specs.declared.answer.Answer.TheVariants as answers
+use Rattle.office_core.specs.declared.request.Request.TheVariants as requests
+use Rattle.office_asking.proofs.Serving.{read_serves}
+use Rattle.office_serving.proofs.due_lists.due_list.Goals as goal
+
+pub returns-clause-decides : goal.returns-clause-decides
+returns-clause-decides g c clean h legal pictured =
+    let a = c.args in
+    let new = state g.S.Store c.due_numbers.new.tx.conn.now in
+    let found = c.in_ok-numbers.ensures.due clean h legal pictured in
+    let given : c.of.result ≡ c.in_ok-numbers.numbers.items = search rules in
+    read_serves h a.day a.caller.now requests.DueList new.now (answers.DueList a.day c.of.result) refl (ap (answers.DueList a.day) (given ∙ found.1)) refl found.0

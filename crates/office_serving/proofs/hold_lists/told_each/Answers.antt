@@ -1,0 +1,25 @@
+use Rattle.std.proofs.Common.{arith, rules, ◌∙◌}
+use Rattle.sqlite.specs.State.{HasCleanDisk}
+use Rattle.sqlite.specs.Held.{state}
+use Rattle.sql_meaning.proofs.Inside.{stays_on}
+use Rattle.office_history.specs.Answers.{told_hold}
+use Rattle.office_serving.proofs.HoldsTold.{next_told}
+use Rattle.office_serving.proofs.hold_lists.told_each.Goals as goal
+
+pub loop-number-preserved : goal.loop-number-preserved
+loop-number-preserved g c =
+    let a = c.args in
+    let old = state g.S.Store a.tx.now.conn.now in
+    let now = state g.S.Store c.loop-number.tx.conn.now in
+    let new = state g.S.Store c.told_hold.new.tx.conn.now in
+    let inv = c.loop-number.invariant in
+    let early = λ (clean : HasCleanDisk new). let e : HasCleanDisk now = omega (arith, clean, c.told_hold.ensures.stays.survives.clean) in e in
+    record {
+      same_reference = search rules;
+      stays = stays_on old now new inv.stays inv.goes_on c.told_hold.ensures.stays;
+      goes_on = λ clean. let p = inv.goes_on (early clean) in let q = c.in_ok-told_hold.ensures.goes_on clean in record { is_open = λ _. q.is_open; inside = λ i. q.inside (p.inside i) };
+      told = λ clean h legal pictured.
+          let there = inv.told (early clean) h legal pictured in
+          let found = c.in_ok-told_hold.ensures.told clean h legal there.0 in
+          (found.0, c.in_ok-push.ensures.items ∙ next_told (told_hold h) a.numbers.now c.loop-number.number-index _ c.loop-number-test.true c.loop-number.told.items c.in_ok-told_hold.field-0 there.1 found.1);
+    }

@@ -1,0 +1,24 @@
+use Rattle.std.proofs.Common.{arith, ap, ◌∙◌}
+use Rattle.std.specs.List.{filter_map}
+use Rattle.sqlite.specs.State.{HasCleanDisk}
+use Rattle.sqlite.specs.Held.{state}
+use Rattle.sql_meaning.proofs.Results.{if_ok}
+use Rattle.office_history.specs.Answers.{told_hold}
+use Rattle.office_asking.proofs.HoldTold.{live_read}
+use Rattle.office_asking.proofs.Readings.{pictured_still}
+use Rattle.office_serving.proofs.hold_lists.told_holds.Goals as goal
+
+pub returns-clause-told : goal.returns-clause-told
+returns-clause-told g c clean h legal pictured =
+    let a = c.args in
+    let old = state g.S.Store a.tx.now.conn.now in
+    let mid = state g.S.Store c.live_holds.new.tx.conn.now in
+    let early : HasCleanDisk mid = omega (arith, clean, c.told_each.ensures.stays.survives.clean) in
+    let still = pictured_still h old.now pictured mid.now (c.in_ok-numbers.ensures.same early pictured.office) in
+    let ks = c.in_ok-numbers.numbers.items in
+    if_ok c.told_each.result (λ told says. (
+      says.0,
+      λ deposit is.
+          says.1 ∙ ap (filter_map (told_hold h)) (c.deref.ensures.value ∙ live_read h old.now pictured a.number a.collection.now ks (c.in_ok-numbers.ensures.found early pictured.office) deposit is),
+    ))
+    (c.told_each.ensures.told clean h legal still)

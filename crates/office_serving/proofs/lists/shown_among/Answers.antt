@@ -1,0 +1,48 @@
+use Rattle.std.proofs.Common.{arith, rules, ◌≡◌, length, get_or, ap, ◌∙◌, option_copied}
+use Rattle.std.specs.List.{filter_map}
+use Rattle.sqlite.specs.State.{HasCleanDisk}
+use Rattle.sqlite.specs.Held.{state}
+use Rattle.sql_meaning.proofs.Inside.{stays_on}
+use Rattle.office_history.specs.Lists.{numbers}
+use Rattle.office_serving.specs.Listing.{shown_record}
+use Rattle.office_serving.proofs.ShownTold.{shown_next, shown_of_rows}
+use Rattle.office_serving.proofs.lists.shown_among.Goals.{in-Some+in_ok-push, in_default}
+use Rattle.office_serving.proofs.lists.shown_among.Goals as goal
+
+pub loop-row-preserved : goal.loop-row-preserved
+loop-row-preserved g c =
+    let a = c.args in
+    let old = state g.S.Store a.tx.now.conn.now in
+    let now = state g.S.Store c.loop-row.tx.conn.now in
+    let new = state g.S.Store c.shown_record.new.tx.conn.now in
+    let inv = c.loop-row.invariant in
+    let place = c.loop-row.row-index in
+    let row = c.row-item.result in
+    let item : row ≡ get_or a.rows.now place row = search rules in
+    let early = λ (clean : HasCleanDisk new). let e : HasCleanDisk now = omega (arith, clean, c.shown_record.ensures.stays.survives.clean) in e in
+    record {
+      same_reference = search rules;
+      stays = stays_on old now new inv.stays inv.goes_on c.shown_record.ensures.stays;
+      goes_on = λ clean. let p = inv.goes_on (early clean) in let q = c.in_ok-record.ensures.goes_on clean in record { is_open = λ i. q.is_open (p.is_open i); inside = λ i. q.inside (p.inside i) };
+      told = λ clean h legal pictured.
+          let there = inv.told (early clean) h legal pictured in
+          let found = c.in_ok-record.ensures.shown clean h legal there.0 in (
+            found.0,
+            λ caller is rows_are.
+                let next = shown_next h caller (option_copied a.collection) (option_copied a.class) a.rows.now rows_are place row c.loop-row-test.true c.loop-row.told.items (there.1 caller is rows_are) c.in_ok-record.field-0 (λ n f at row_is. found.1 caller is n f at (item ∙ row_is)) in
+                elim c.match-branch-2.branch [
+                  | in-Some+in_ok-push w ↦ ap (λ v. v.items) w.told-is ∙ w.in_ok-push.ensures.items ∙ next.0 w.in-Some.record w.in-Some.is
+                  | in_default w ↦ ap (λ v. v.items) w.told-is ∙ next.1 w.in_default.is
+                ],
+          );
+    }
+
+pub returns-clause-listed : goal.returns-clause-listed
+returns-clause-listed g c clean h legal pictured =
+    let a = c.args in
+    let there = c.loop-row.invariant.told clean h legal pictured in
+    let finished : c.loop-row.row-index ≡ length a.rows.now = omega (arith, c.loop-row-test.false, c.loop-row.auto.row-index-end) in (
+      there.0,
+      λ caller is rows_are. shown_of_rows h caller (option_copied a.collection) (option_copied a.class) a.rows.now rows_are c.loop-row.told.items
+          (there.1 caller is rows_are ∙ ap (λ k. filter_map (shown_record h caller (option_copied a.collection) (option_copied a.class)) (numbers k)) finished),
+    )

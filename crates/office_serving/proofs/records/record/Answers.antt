@@ -1,0 +1,33 @@
+use Rattle.std.proofs.Common.{arith, refl, ap, subst}
+use Rattle.sqlite.specs.State.{HasCleanDisk}
+use Rattle.sqlite.specs.Held.{state}
+use Rattle.office_core.specs.declared.action.Action.TheVariants as acts
+use Rattle.office_core.specs.declared.answer.Answer.TheVariants as answers
+use Rattle.office_core.specs.declared.request.Request.TheVariants as requests
+use Rattle.office_history.specs.Refusals.{kept_refusals}
+use Rattle.office_history.specs.Answers.{record_of}
+use Rattle.office_asking.specs.Deposits.{IsAsked, IsThere}
+use Rattle.office_asking.proofs.Serving.{refused_serves}
+use Rattle.office_serving.proofs.Told.{told_serves}
+use Rattle.office_serving.proofs.records.record.Goals as goal
+
+pub returns-in_ok-record_of-in-Ok-clause-decides : goal.returns-in_ok-record_of-in-Ok-clause-decides
+returns-in_ok-record_of-in-Ok-clause-decides g c clean h legal pictured =
+    let a = c.args in
+    let mid = state g.S.Store c.kept_deposit.new.tx.conn.now in
+    let new = state g.S.Store c.record_of.new.tx.conn.now in
+    let early : HasCleanDisk mid = omega (arith, clean, c.record_of.ensures.stays.survives.clean) in
+    let asked = c.in_ok-row.ensures.asked early h legal pictured in
+    let row = c.in-Ok.row in
+    let it : IsThere h a.number (kept_refusals h a.caller.now acts.Record a.number) row = subst (IsAsked h a.number (kept_refusals h a.caller.now acts.Record a.number)) c.in-Ok.is asked.1 in
+    let told = c.in_ok-record_of-in-Ok.ensures.told clean h legal asked.0 in
+    told_serves h a.caller.now acts.Record a.number row it a.day (requests.Record a.number) new.now refl (λ found. answers.Record (record_of h a.number found)) refl refl (answers.Record c.in_ok-record_of-in-Ok.field-0)
+    (ap answers.Record (told.1 a.number it.found it.row_is)) told.0
+
+pub returns-in-Err-clause-decides : goal.returns-in-Err-clause-decides
+returns-in-Err-clause-decides g c clean h legal pictured =
+    let a = c.args in
+    let new = state g.S.Store c.kept_deposit.new.tx.conn.now in
+    let asked = c.in_ok-row.ensures.asked clean h legal pictured in
+    let said = subst (IsAsked h a.number (kept_refusals h a.caller.now acts.Record a.number)) c.in-Err.is asked.1 in
+    refused_serves h a.day a.caller.now (requests.Record a.number) new.now c.in-Err.why said asked.0

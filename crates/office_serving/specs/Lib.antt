@@ -1,0 +1,4 @@
+pub mod Files
+pub mod Audits
+pub mod Told
+pub mod Listing

@@ -1,0 +1,75 @@
+//! Audits: the bag of a deposit is made of what is stored, and checked again.
+
+ghost use Rattle.std.specs.Prelude.{◌≡◌, IfErr, IfOk, map};
+ghost use Rattle.bag_text.specs.FaultTexts.{set_fault_text};
+ghost use Rattle.office_core.specs.declared.request.Request.TheVariants as requests;
+ghost use Rattle.office_tables.specs.Faults.{IsFailure};
+ghost use Rattle.office_tables.specs.Calls.{CommitsNothing, Continues, Tells};
+ghost use Rattle.office_asking.specs.Serving.{Decides};
+ghost use Rattle.office_serving.specs.Files.{file_in};
+ghost use Rattle.office_serving.specs.Audits.{verdict_on, IsAuditOf};
+
+use crate::asked::asked_deposit;
+use crate::bags::pairs_of;
+use bag_text::laws::one_list_fault;
+use bag_text::{BagSet, SetFault};
+use office_core::{Action, Answer, AuditReport, Day, FaultText};
+use office_history::judging;
+use office_history::laws::sound_bags;
+use office_tables::{FileRow, TableFault, files_of};
+use sqlite::{Alter, Transaction};
+use std::alloc::{AllocError, Global};
+
+/// The text of a fault of a list of files.
+fn set_fault_text(alloc: Global, fault: SetFault) -> Result<FaultText, AllocError>
+    ensures { IfOk result (λ text. text ≡ set_fault_text fault) }
+{
+    let text = format!(in alloc; "{fault}")?;
+    Ok(FaultText::of(text))
+}
+
+/// The verdict on the files of the rows.
+fn verdict_on(alloc: Global, rows: &[FileRow]) -> Result<AuditReport, TableFault>
+    ensures verdict { IfOk result (λ report. report ≡ verdict_on (map file_in rows.now)) }
+    ensures failure { IfErr result IsFailure }
+{
+    one_list_fault();
+    let pairs = pairs_of(alloc, rows)?;
+    match BagSet::of(alloc, &pairs) {
+        Ok(bag) => Ok(judging::audit(alloc, &bag)?),
+        Err(SetFault::Memory) => Err(TableFault::Memory),
+        Err(fault) => Ok(AuditReport::Invalid(set_fault_text(alloc, fault)?)),
+    }
+}
+
+/// Answers the verdict on a deposit's bag, as its files are stored, whoever wrote them.
+///
+/// Fails with `Memory` or `Store`.
+pub fn audit<S: Alter>(
+    alloc: Global,
+    tx: &mut Transaction<'_, S>,
+    day: Day,
+    caller: &str,
+    number: u32,
+) -> Result<Answer, TableFault>
+    ensures same_reference { tx.new.conn.ghost_name ≡ tx.old.conn.ghost_name }
+    ensures stays { CommitsNothing S.Store tx.old.conn.now tx.new.conn.now }
+    ensures goes_on { Continues S.Store tx.old.conn.now tx.new.conn.now result }
+    ensures failure { IfErr result IsFailure }
+    ensures decides { Decides S.Store tx.old.conn.now tx.new.conn.now result day caller.now (requests.Audit number) }
+    // Whatever the tables of the office hold, the report is the verdict on what stands there.
+    ensures audited { Tells S.Store tx.old.conn.now tx.new.conn.now result (λ tables answer. IsAuditOf tables number answer) }
+{
+    one_list_fault();
+    sound_bags();
+    match asked_deposit(alloc, tx, caller, Action::Audit, number)? {
+        Ok(_) => {
+            let rows = files_of(alloc, tx, number)?;
+            Ok(Answer::Audit {
+                deposit: number,
+                report: verdict_on(alloc, &rows)?,
+            })
+        }
+        Err(why) => Ok(Answer::Refused(why)),
+    }
+}

@@ -1,0 +1,21 @@
+//! The requests that read over the tables of an office, and change nothing.
+#![tactic(auto)]
+
+mod asked;
+mod audits;
+mod bags;
+mod due_lists;
+mod files;
+mod hold_lists;
+pub mod laws;
+mod lists;
+mod records;
+mod texts;
+
+pub use audits::audit;
+pub use bags::download_bag;
+pub use due_lists::{due_list, due_numbers};
+pub use files::{download_file, download_path};
+pub use hold_lists::holds;
+pub use lists::list;
+pub use records::record;

@@ -1,0 +1,149 @@
+//! Lists of deposits.
+
+ghost use Rattle.std.specs.Prelude.{◌≡◌, ◌&&◌, is_none, IfErr, IfOk, Some, List, ℕ, option_copied};
+ghost use Rattle.jiff.specs.Types.{Date};
+ghost use Rattle.office_core.specs.declared.request.Request.TheVariants as requests;
+ghost use Rattle.office_tables.specs.Faults.{IsFailure};
+ghost use Rattle.office_tables.specs.Calls.{CommitsNothing, Continues, ContinuesInTurn};
+ghost use Rattle.office_history.specs.Histories.{History, Deposit, deposit_numbered};
+ghost use Rattle.office_history.specs.Pictures.{deposit_row, deposit_rows};
+ghost use Rattle.office_history.specs.Answers.{is_asked, listed_records};
+ghost use Rattle.office_history.specs.Runs.{IsLegal};
+ghost use Rattle.office_asking.specs.Asking.{IsAsker};
+ghost use Rattle.office_asking.specs.Serving.{Finds, Decides};
+ghost use Rattle.office_serving.specs.Listing.{is_shown, shown_record};
+
+use crate::records::record_of;
+use office_asking::Asker;
+use office_core::{Action, Answer, Day, DepositRecord, Name, Sequence};
+use office_tables::{DepositRow, TableFault, deposit_rows};
+use sqlite::{Alter, Transaction};
+use std::alloc::Global;
+
+/// Whether the name is the one that is asked for, or none is asked for.
+fn is_asked(only: Option<&Name<'_>>, name: &str) -> bool
+    ensures { result ≡ is_asked (option_copied only.entry) name.now }
+{
+    match only {
+        Some(only) => only.as_str() == name,
+        None => true,
+    }
+}
+
+/// Whether the deposit of the row is kept, and is of the collection and the class that are asked for.
+fn is_wanted(row: &DepositRow, collection: Option<&Name<'_>>, class: Option<&Name<'_>>) -> bool
+    ensures { result ≡ (is_none row.now.gone && (is_asked (option_copied collection.entry) row.now.collection && is_asked (option_copied class.entry) row.now.class)) }
+{
+    row.gone.is_none() && (is_asked(collection, &row.collection) && is_asked(class, &row.class))
+}
+
+/// Whether the deposit of the row is kept, and the caller may list it.
+fn is_shown(
+    asker: &Asker,
+    collection: Option<&Name<'_>>,
+    class: Option<&Name<'_>>,
+    row: &DepositRow,
+) -> Result<bool, TableFault>
+    ensures failure { IfErr result IsFailure }
+    ensures shown { (h : History) (caller : List ℕ) → IsLegal h → IsAsker h caller asker.now → (n : ℕ) (found : Date × Deposit) → row.now ≡ deposit_row h n found
+        → IfOk result (λ is. is ≡ is_shown h caller (option_copied collection.entry) (option_copied class.entry) n found.1) }
+{
+    if !is_wanted(row, collection, class) {
+        return Ok(false);
+    }
+    let denied = asker.denial(Action::List, Some(&row.collection), Some(&row.class))?;
+    Ok(denied.is_none())
+}
+
+/// The record of the deposit of the row, where the caller may list it.
+fn shown_record<S: Alter>(
+    alloc: Global,
+    tx: &mut Transaction<'_, S>,
+    asker: &Asker,
+    collection: Option<&Name<'_>>,
+    class: Option<&Name<'_>>,
+    row: &DepositRow,
+) -> Result<Option<DepositRecord>, TableFault>
+    ensures same_reference { tx.new.conn.ghost_name ≡ tx.old.conn.ghost_name }
+    ensures stays { CommitsNothing S.Store tx.old.conn.now tx.new.conn.now }
+    ensures goes_on { ContinuesInTurn S.Store tx.old.conn.now tx.new.conn.now result }
+    ensures failure { IfErr result IsFailure }
+    ensures shown { Finds S.Store tx.old.conn.now tx.new.conn.now result (λ h told.
+        (caller : List ℕ) → IsAsker h caller asker.now → (n : ℕ) (found : Date × Deposit) → deposit_numbered h n ≡ Some found → row.now ≡ deposit_row h n found
+        → told ≡ shown_record h caller (option_copied collection.entry) (option_copied class.entry) n) }
+{
+    if is_shown(asker, collection, class, row)? {
+        Ok(Some(record_of(alloc, tx, row)?))
+    } else {
+        Ok(None)
+    }
+}
+
+/// The records of the deposits among the rows that the caller may list.
+fn shown_among<S: Alter>(
+    alloc: Global,
+    tx: &mut Transaction<'_, S>,
+    asker: &Asker,
+    collection: Option<&Name<'_>>,
+    class: Option<&Name<'_>>,
+    rows: &[DepositRow],
+) -> Result<Vec<DepositRecord>, TableFault>
+    ensures same_reference { tx.new.conn.ghost_name ≡ tx.old.conn.ghost_name }
+    ensures stays { CommitsNothing S.Store tx.old.conn.now tx.new.conn.now }
+    ensures goes_on { ContinuesInTurn S.Store tx.old.conn.now tx.new.conn.now result }
+    ensures failure { IfErr result IsFailure }
+    ensures listed { Finds S.Store tx.old.conn.now tx.new.conn.now result (λ h told.
+        (caller : List ℕ) → IsAsker h caller asker.now → rows.now ≡ deposit_rows h → told.items ≡ listed_records h caller (option_copied collection.entry) (option_copied class.entry)) }
+{
+    let mut told = Vec::new(alloc);
+    for row in rows {
+        if let Some(record) = shown_record(alloc, tx, asker, collection, class, row)? {
+            told.push(record)?;
+        }
+    }
+    Ok(told)
+}
+
+/// Reads every deposit, and tells the records of those that the caller may list.
+fn shown_of_all<S: Alter>(
+    alloc: Global,
+    tx: &mut Transaction<'_, S>,
+    asker: &Asker,
+    collection: Option<&Name<'_>>,
+    class: Option<&Name<'_>>,
+) -> Result<Vec<DepositRecord>, TableFault>
+    ensures same_reference { tx.new.conn.ghost_name ≡ tx.old.conn.ghost_name }
+    ensures stays { CommitsNothing S.Store tx.old.conn.now tx.new.conn.now }
+    ensures goes_on { Continues S.Store tx.old.conn.now tx.new.conn.now result }
+    ensures failure { IfErr result IsFailure }
+    ensures listed { Finds S.Store tx.old.conn.now tx.new.conn.now result (λ h told.
+        (caller : List ℕ) → IsAsker h caller asker.now → told.items ≡ listed_records h caller (option_copied collection.entry) (option_copied class.entry)) }
+{
+    let rows = deposit_rows(alloc, tx)?;
+    shown_among(alloc, tx, asker, collection, class, &rows)
+}
+
+/// Answers the records of the kept deposits that the caller may list, ascending: of that collection
+/// and that class, where one is named.
+///
+/// Fails with `Memory` or `Store`.
+pub fn list<S: Alter>(
+    alloc: Global,
+    tx: &mut Transaction<'_, S>,
+    day: Day,
+    caller: &str,
+    collection: Option<&Name<'_>>,
+    class: Option<&Name<'_>>,
+) -> Result<Answer, TableFault>
+    ensures same_reference { tx.new.conn.ghost_name ≡ tx.old.conn.ghost_name }
+    ensures stays { CommitsNothing S.Store tx.old.conn.now tx.new.conn.now }
+    ensures goes_on { Continues S.Store tx.old.conn.now tx.new.conn.now result }
+    ensures failure { IfErr result IsFailure }
+    ensures decides { Decides S.Store tx.old.conn.now tx.new.conn.now result day caller.now (requests.List (option_copied collection.entry) (option_copied class.entry)) }
+{
+    let asker = Asker::read(alloc, tx, caller)?;
+    let told = shown_of_all(alloc, tx, &asker, collection, class)?;
+    Ok(Answer::List {
+        deposits: Sequence::of(told),
+    })
+}

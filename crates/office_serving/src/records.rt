@@ -1,0 +1,79 @@
+//! Records of deposits.
+
+ghost use Rattle.std.specs.Prelude.{◌≡◌, IfErr, IfOk, ℕ};
+ghost use Rattle.jiff.specs.Types.{Date};
+ghost use Rattle.office_core.specs.declared.request.Request.TheVariants as requests;
+ghost use Rattle.office_tables.specs.Faults.{IsFailure};
+ghost use Rattle.office_tables.specs.Calls.{CommitsNothing, Continues};
+ghost use Rattle.office_history.specs.Histories.{Deposit};
+ghost use Rattle.office_history.specs.Pictures.{deposit_row};
+ghost use Rattle.office_history.specs.Answers.{record_of};
+ghost use Rattle.office_asking.specs.Serving.{Finds, Decides};
+ghost use Rattle.office_serving.specs.Told.{IsRecordOf};
+
+use crate::texts::{accession_in, count_in, name_in};
+use office_asking::{day_numbered, due_day, kept_deposit};
+use office_core::{Action, Answer, Day, DepositRecord, Due};
+use office_tables::{DepositRow, TableFault};
+use sqlite::{Alter, Transaction};
+use std::alloc::Global;
+
+/// What a row tells of its deposit, which has that due day.
+fn record_in(alloc: Global, row: &DepositRow, due: Due) -> Result<DepositRecord, TableFault>
+    ensures told { IfOk result (λ told. IsRecordOf row.now due told) }
+    ensures failure { IfErr result IsFailure }
+{
+    Ok(DepositRecord {
+        number: row.number,
+        accession: accession_in(alloc, &row.accession)?,
+        collection: name_in(alloc, &row.collection)?,
+        class: name_in(alloc, &row.class)?,
+        closed: day_numbered(row.closed)?,
+        deposited: day_numbered(row.deposited)?,
+        files: count_in(row.files)?,
+        bytes: count_in(row.bytes)?,
+        due,
+    })
+}
+
+/// What is told of the deposit that has this row.
+///
+/// Fails with `Memory` or `Store`.
+pub fn record_of<S: Alter>(
+    alloc: Global,
+    tx: &mut Transaction<'_, S>,
+    row: &DepositRow,
+) -> Result<DepositRecord, TableFault>
+    ensures same_reference { tx.new.conn.ghost_name ≡ tx.old.conn.ghost_name }
+    ensures stays { CommitsNothing S.Store tx.old.conn.now tx.new.conn.now }
+    ensures goes_on { Continues S.Store tx.old.conn.now tx.new.conn.now result }
+    ensures failure { IfErr result IsFailure }
+    ensures told { Finds S.Store tx.old.conn.now tx.new.conn.now result (λ h told.
+        (n : ℕ) (found : Date × Deposit) → row.now ≡ deposit_row h n found → told ≡ record_of h n found) }
+{
+    let closed = day_numbered(row.closed)?;
+    let due = due_day(tx, &row.class, closed)?;
+    record_in(alloc, row, due)
+}
+
+/// Answers the record of a deposit.
+///
+/// Fails with `Memory` or `Store`.
+pub fn record<S: Alter>(
+    alloc: Global,
+    tx: &mut Transaction<'_, S>,
+    day: Day,
+    caller: &str,
+    number: u32,
+) -> Result<Answer, TableFault>
+    ensures same_reference { tx.new.conn.ghost_name ≡ tx.old.conn.ghost_name }
+    ensures stays { CommitsNothing S.Store tx.old.conn.now tx.new.conn.now }
+    ensures goes_on { Continues S.Store tx.old.conn.now tx.new.conn.now result }
+    ensures failure { IfErr result IsFailure }
+    ensures decides { Decides S.Store tx.old.conn.now tx.new.conn.now result day caller.now (requests.Record number) }
+{
+    match kept_deposit(alloc, tx, caller, Action::Record, number)? {
+        Ok(row) => Ok(Answer::Record(record_of(alloc, tx, &row)?)),
+        Err(why) => Ok(Answer::Refused(why)),
+    }
+}
