@@ -1,6 +1,6 @@
 //! Lists of deposits.
 
-ghost use Rattle.std.specs.Prelude.{◌≡◌, ◌&&◌, is_none, IfErr, IfOk, Some, List, ℕ, option_copied};
+ghost use Rattle.std.specs.Prelude.{◌≡◌, ◌&&◌, is_none, IfErr, IfOk, List, ℕ, option_copied};
 ghost use Rattle.jiff.specs.Types.{Date};
 ghost use Rattle.office_core.specs.declared.request.Request.TheVariants as requests;
 ghost use Rattle.office_tables.specs.Faults.{IsFailure};
