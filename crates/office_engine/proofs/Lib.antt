@@ -2,3 +2,4 @@ pub mod Accepted
 pub mod Ends
 pub mod Kept
 pub mod RunTurns
+pub mod Stopping

@@ -27,6 +27,10 @@ IsKeptBy h s = IsTrue s.is_open → Pictures h s.now × (s.committed ≡ s.now)
 abbrev pub IsLeftOf : History → Trees → Type 0
 IsLeftOf h left = (found : Database) × Pictures h found × (left ≡ found.trees)
 
+-- what a crash leaves pictures one of the two
+abbrev pub IsLeftOfEither : History → History → Trees → Type 0
+IsLeftOfEither g h left = IsLeftOf g left ⊎ IsLeftOf h left
+
 -- whichever legal history was kept, a crash may leave the one that this makes of it
 abbrev pub CommitsTo : State → (History → History) → Trees → Type 0
 CommitsTo old next left = (h : History) → IsLegal h → IsKeptBy h old → IsLeftOf (next h) left
@@ -34,7 +38,7 @@ CommitsTo old next left = (h : History) → IsLegal h → IsKeptBy h old → IsL
 -- whichever legal history was kept, a crash leaves it, or the one that this makes of it
 abbrev pub LeavesEither : State → State → (History → History) → Type 0
 LeavesEither old new next =
-    (h : History) → IsLegal h → IsTrue old.is_open → IsKeptBy h old → (left : Trees) → new.may_leave left → IsLeftOf h left ⊎ IsLeftOf (next h) left
+    (h : History) → IsLegal h → IsTrue old.is_open → IsKeptBy h old → (left : Trees) → new.may_leave left → IsLeftOfEither h (next h) left
 
 -- ---- one request
 
@@ -85,6 +89,15 @@ pub record IsLeftOfRun (h : History) (items : List Item) (left : Trees) : Type 0
   pub next : History
   pub run : Run h (take count items) given next
   pub is_left : IsLeftOf next left
+
+-- the history after some beginning of the items is kept
+pub record IsAfterSome (h : History) (items : List Item) (s : State) : Type 0 where
+  pub count : ℕ
+  pub within : count ≤ length items
+  pub given : List Answer
+  pub next : History
+  pub run : Run h (take count items) given next
+  pub kept : IsKeptBy next s
 
 -- whichever legal history was kept, a crash may leave what some beginning of the items made of it
 abbrev pub CommitsRun : State → List Item → Trees → Type 0

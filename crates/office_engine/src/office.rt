@@ -1,6 +1,10 @@
 //! The office: requests over a connection to any store, each in one transaction.
 
-ghost use Rattle.std.specs.Prelude.{◌≡◌, Err, IfErr, IfOk, IsTrue, OnErr, OnOk, false};
+ghost use Rattle.std.specs.Prelude.{◌≡◌, ◌⊎◌, Err, IfErr, IfOk, IfSome, IsTrue, List, OnErr, OnOk, false};
+ghost use Rattle.sqlite.specs.FileStore.{view, state as files_state};
+ghost use Rattle.sqlite.specs.Files.{file_state, image_of};
+ghost use Rattle.sqlite.specs.Recovery.{Image};
+ghost use Rattle.sqlite.specs.View.{IsClean};
 ghost use Rattle.sqlite.specs.State.{HasCleanDisk, Survives};
 ghost use Rattle.sqlite.specs.Held.{state};
 ghost use Rattle.sqlite.specs.Tree.{Trees};
@@ -10,15 +14,19 @@ ghost use Rattle.office_tables.specs.Opening.{HasOtherVersion, HasVersion, IsKep
 ghost use Rattle.office_tables.specs.declared.fault.TableFault.TheVariants.{NotAnOffice, OtherVersion};
 ghost use Rattle.office_rows.specs.Rows.{this_version};
 ghost use Rattle.office_history.specs.Histories.{History};
-ghost use Rattle.office_history.specs.Runs.{IsLegal, new_history};
-ghost use Rattle.office_engine.specs.Keeping.{Audits, CommitsRun, CommitsTo, InstallLasts, Installs, IsKeptBy, IsLeftOf, Lasts, LeavesEither, ListsDue, Runs, Serves, after_item, is_accepted, with_policy};
+ghost use Rattle.office_history.specs.Answers.{after};
+ghost use Rattle.office_history.specs.Runs.{IsLegal, Item, new_history};
+ghost use Rattle.office_recovery.specs.Found.{HoldsWhere};
+ghost use Rattle.office_engine.specs.Keeping.{Audits, CommitsRun, CommitsTo, InstallLasts, Installs, IsAfterSome, IsKeptBy, IsLeftOf, IsLeftOfEither, IsLeftOfRun, Lasts, LeavesEither, LeavesRun, ListsDue, Runs, Serves, after_item, is_accepted, with_policy};
 
 use crate::installing::install_and_leave;
 use crate::listing::due_list;
 use crate::serving::serve_and_leave;
 use office_core::{Answer, Day, Limits, Policy, Request};
+use office_recovery::{reopen_files, stop};
 use office_tables::TableFault;
-use sqlite::{Alter, Connection};
+use sqlite::{Alter, Connection, FileStore, Files, Options};
+use sqlite_disk::Disk;
 use std::alloc::{AllocError, Global};
 use std::marker::Model;
 
@@ -156,6 +164,7 @@ impl<S: Alter> Office<S> {
             Runs (state S.Store self.old) (state S.Store self.new) items.now answers.items) }
         ensures failed { OnErr result (self.new ≡ self.old) }
         ensures survives { Survives (state S.Store self.old) (state S.Store self.new) (CommitsRun (state S.Store self.old) items.now) }
+        ensures leaves { HasCleanDisk (state S.Store self.new) → LeavesRun (state S.Store self.old) (state S.Store self.new) items.now }
     {
         let mut answers = Vec::with_capacity(alloc, items.len())?;
         for item in items {
@@ -186,4 +195,54 @@ impl<S: Alter> Office<S> {
         let Office { conn } = self;
         conn
     }
+}
+
+/// Serves a request, and stops there: the files as they are then, which may be what a crash leaves.
+pub fn stop_in<D: Disk + Drop>(
+    alloc: Global,
+    mut office: Office<FileStore<D>>,
+    day: Day,
+    caller: &str,
+    request: &Request<'_>,
+) -> FileStore<D>
+    // They hold the office before the request, or after it.
+    ensures leaves { IsClean (view result) → (h : History) → IsLegal h → IsTrue (file_state office).is_open → IsKeptBy h (file_state office)
+        → (image : Image) → (files_state result).may_leave image → HoldsWhere (IsLeftOfEither h (after h day caller.now request.now)) image }
+{
+    let _answer = office.step(alloc, day, caller, request);
+    stop(office.into_connection())
+}
+
+/// Serves requests one after the other, and stops there: the files as they are then.
+pub fn stop_in_run<D: Disk + Drop>(
+    alloc: Global,
+    mut office: Office<FileStore<D>>,
+    items: &[(Day, &str, Request<'_>)],
+) -> FileStore<D>
+    // They hold the office after some beginning of the requests.
+    ensures leaves { IsClean (view result) → (h : History) → IsLegal h → IsTrue (file_state office).is_open → IsKeptBy h (file_state office)
+        → (image : Image) → (files_state result).may_leave image → HoldsWhere (IsLeftOfRun h items.now) image }
+{
+    let _answers = office.run(alloc, items);
+    stop(office.into_connection())
+}
+
+/// The office that is found in files.
+pub fn reopen<D: Disk + Drop>(
+    alloc: Global,
+    files: Files<D>,
+    options: Options,
+) -> Option<Office<FileStore<D>>>
+    requires log { IsTrue (D.Disk.is_usable files.log) }
+    requires db { IsTrue (D.Disk.is_usable files.db) }
+    // Where they hold one of two offices, it is one of them.
+    ensures either { IfSome result (λ office. HasCleanDisk (file_state office) → (g h : History)
+        → HoldsWhere (IsLeftOfEither g h) (image_of D.Disk files) → ∥ (IsKeptBy g (file_state office) ⊎ IsKeptBy h (file_state office)) ∥₁) }
+    // Where they hold what some beginning of a run left, it is the office after some beginning.
+    ensures some_beginning { IfSome result (λ office. HasCleanDisk (file_state office) → (h : History) (items : List Item)
+        → HoldsWhere (IsLeftOfRun h items) (image_of D.Disk files) → ∥ IsAfterSome h items (file_state office) ∥₁) }
+{
+    Some(Office {
+        conn: reopen_files(alloc, files, options)?,
+    })
 }

@@ -1,7 +1,7 @@
 use Rattle.std.proofs.Common.{refl, arith, rules}
 use Rattle.sqlite.specs.State.{HasCleanDisk}
 use Rattle.sqlite.specs.Held.{state}
-use Rattle.office_engine.proofs.RunTurns.{run_turn, run_end, left_by_turn}
+use Rattle.office_engine.proofs.RunTurns.{run_turn, run_end, left_at_first, left_by_turn, left_by_run}
 use Rattle.office_engine.proofs.office.Office.run.Goals as goal
 
 pub loop-item-preserved : goal.loop-item-preserved
@@ -21,3 +21,11 @@ pub returns-clause-ran : goal.returns-clause-ran
 returns-clause-ran g c clean h legal keeps =
     let m = c.loop-item.invariant.told clean h legal keeps in
     (m.0, run_end c.args.items.now c.loop-item.item-index c.loop-item.answers.items h m.0 c.loop-item-test.false m.1, m.2)
+
+pub returns-clause-leaves : goal.returns-clause-leaves
+returns-clause-leaves g c clean =
+    left_by_run (state g.S.Store c.args.self.now) (state g.S.Store c.loop-item.self) c.args.items.now (λ db is_open left. g.met.S.Store.settled c.args.self.now.store db is_open left) c.loop-item.invariant.left clean
+
+pub returns-in_err-answers-clause-leaves : goal.returns-in_err-answers-clause-leaves
+returns-in_err-answers-clause-leaves g c clean h legal is_open keeps left may =
+    left_at_first (state g.S.Store c.args.self.now) c.args.items.now (λ db is_open left. g.met.S.Store.settled c.args.self.now.store db is_open left) h is_open keeps left may

@@ -1,0 +1,33 @@
+-- What is found again after a stop.
+use Rattle.std.proofs.Common.{◌≡◌, ◌⊎◌, IsTrue, inl, inr, List}
+use Rattle.std.proofs.Math.Logic.{∥∥₁_map}
+use Rattle.sqlite.specs.Tree.{Trees}
+use Rattle.sqlite.specs.Recovery.{Image}
+use Rattle.sqlite.specs.Files.{HoldsDatabase}
+use Rattle.sqlite.specs.State.{State}
+use Rattle.office_rows.specs.Rows.{this_version}
+use Rattle.office_history.specs.Histories.{History}
+use Rattle.office_history.specs.Pictures.{picture}
+use Rattle.office_history.specs.Runs.{Item}
+use Rattle.office_recovery.specs.Found.{HoldsWhere, PicksUp}
+use Rattle.office_engine.specs.Keeping.{IsAfterSome, IsKeptBy, IsLeftOf, IsLeftOfEither, IsLeftOfRun}
+use Rattle.office_engine.proofs.Kept.{rows_left}
+
+-- what files hold of a history is picked up as that history
+picked : (image : Image) (s : State) → PicksUp image s → (db : Trees) → HoldsDatabase image db → (h : History) → IsLeftOf h db → IsKeptBy h s
+picked image s picks db held h left is_open = let it = picks db held (picture this_version h) (rows_left h db left) is_open in (record { office = it.0.office; are = it.0.are }, it.1)
+
+pub either_found : (image : Image) (s : State) (g h : History) → PicksUp image s → HoldsWhere (IsLeftOfEither g h) image → ∥ (IsKeptBy g s ⊎ IsKeptBy h s) ∥₁
+either_found image s g h picks holds = ∥∥₁_map holds (λ d. one d.0 d.2 d.1)
+  where
+    one : (db : Trees) → HoldsDatabase image db → IsLeftOfEither g h db → IsKeptBy g s ⊎ IsKeptBy h s
+    one db held (inl left) = inl (picked image s picks db held g left)
+    one db held (inr left) = inr (picked image s picks db held h left)
+
+pub some_found : (image : Image) (s : State) (h : History) (items : List Item) → PicksUp image s → HoldsWhere (IsLeftOfRun h items) image → ∥ IsAfterSome h items s ∥₁
+some_found image s h items picks holds =
+    ∥∥₁_map holds (λ d. record { count = d.1.count; within = d.1.within; given = d.1.given; next = d.1.next; run = d.1.run; kept = picked image s picks d.0 d.2 d.1.next d.1.is_left })
+
+-- what is so of all that a crash may leave is so of what the files hold
+pub holds_all : (image : Image) (new : State) (P : Trees → Type 0) → ((left : Trees) → new.may_leave left → P left) → HoldsWhere new.may_leave image → HoldsWhere P image
+holds_all image new P leaves holds = ∥∥₁_map holds (λ d. (d.0, leaves d.0 d.1, d.2))
