@@ -79,8 +79,7 @@ module _ {S : Type 0} (g : Ghosts S) (first : Held S) (last end : State) (stays 
 
       pub serves_change : Shows last end last.now last.now false → Serves (state g first) end item given
       serves_change shows h legal keeps =
-          let served = decides h legal (keeps was_open).0 in
-          (
+          let served = decides h legal (keeps was_open).0 in (
             after_item item h,
             inr (served.answer, refl),
             record { legal = serve h item.0 item.1.now item.2 ranged.0 ranged.1 legal; kept = makes_kept (after_item item) pictures_after shows h legal keeps },

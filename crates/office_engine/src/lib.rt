@@ -1,8 +1,8 @@
 //! The office over its tables.
 #![tactic(auto)]
 
-pub mod laws;
 mod installing;
+pub mod laws;
 mod listing;
 mod office;
 mod serving;

@@ -177,7 +177,12 @@ impl<S: Alter> Office<S> {
     /// disposal by that caller on that day would be accepted.
     ///
     /// Fails with `Memory` or `Store`. Nothing changes.
-    pub fn due_list(&mut self, alloc: Global, day: Day, caller: &str) -> Result<Vec<u32>, TableFault>
+    pub fn due_list(
+        &mut self,
+        alloc: Global,
+        day: Day,
+        caller: &str,
+    ) -> Result<Vec<u32>, TableFault>
         ensures failure { IfErr result faults.IsFailure }
         ensures listed { HasCleanDisk (state S.Store self.new) → IfOk result (λ numbers.
             ListsDue (state S.Store self.old) (state S.Store self.new) day caller.now numbers.items) }

@@ -1,5 +1,5 @@
 -- That an office has these rows comes out of a truncation.
-use Rattle.std.proofs.Common.{◌≡◌, refl, subst}
+use Rattle.std.proofs.Common.{◌≡◌, refl}
 use Rattle.std.proofs.Math.Logic.{∥∥₁_elim, ∥∥₁_map}
 use Rattle.std.specs.Coded.{Coded, Coded-set, codes}
 use Rattle.sqlite.specs.Tree.{Trees}

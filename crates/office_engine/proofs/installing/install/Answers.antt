@@ -39,5 +39,5 @@ returns-in-Ok-commit-clause-durable g c clean =
     let stays = rw begun at c.install.ensures.stays in
     let accepted = rw begun at (c.in-Ok.ensures.installed early) in
     let lasting = makes_lasting g.S.Store first last (state g.S.Store end) stays early goes (with_policy policy) (λ x is_legal pictured. accepted x is_legal pictured tt) (c.in-Ok-commit.ensures.ok late).1
-        (λ db is_open left. g.met.S.Store.settled end.store db is_open left) in
+    (λ db is_open left. g.met.S.Store.settled end.store db is_open left) in
     subst (λ x. InstallLasts (state g.S.Store first) (state g.S.Store x) policy) same lasting

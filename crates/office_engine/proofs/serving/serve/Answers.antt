@@ -89,9 +89,9 @@ returns-in-Ok-commit-clause-survives g c =
     let same : end ≡ c.conn-in-Ok-1.given.0 = search rules in
     let stays = rw begun at c.decide.ensures.stays in
     let made = λ (early : HasCleanDisk last).
-        let goes = rw begun at (c.in-Ok.ensures.goes_on early) in
-        let decides = rw begun at (c.in-Ok.ensures.decides early) in
-        commits g.S.Store first last (state g.S.Store end) stays early goes (after_item item) (pictures_after g.S.Store first last (state g.S.Store end) stays early goes item c.in-Ok.answer ranged decides) in
+    let goes = rw begun at (c.in-Ok.ensures.goes_on early) in
+    let decides = rw begun at (c.in-Ok.ensures.decides early) in
+    commits g.S.Store first last (state g.S.Store end) stays early goes (after_item item) (pictures_after g.S.Store first last (state g.S.Store end) stays early goes item c.in-Ok.answer ranged decides) in
     subst (λ x. Survives (state g.S.Store first) (state g.S.Store x) (CommitsTo (state g.S.Store first) (after_item item))) same
     (survives_commit g.S.Store first last (state g.S.Store end) stays (CommitsTo (state g.S.Store first) (after_item item)) made c.commit.ensures.survives)
 
@@ -106,9 +106,9 @@ returns-in-Err-commit-clause-survives g c =
     let same : end ≡ c.conn-in-Ok-1.given.0 = search rules in
     let stays = rw begun at c.decide.ensures.stays in
     let made = λ (early : HasCleanDisk last).
-        let goes = rw begun at (c.in-Ok.ensures.goes_on early) in
-        let decides = rw begun at (c.in-Ok.ensures.decides early) in
-        commits g.S.Store first last (state g.S.Store end) stays early goes (after_item item) (pictures_after g.S.Store first last (state g.S.Store end) stays early goes item c.in-Ok.answer ranged decides) in
+    let goes = rw begun at (c.in-Ok.ensures.goes_on early) in
+    let decides = rw begun at (c.in-Ok.ensures.decides early) in
+    commits g.S.Store first last (state g.S.Store end) stays early goes (after_item item) (pictures_after g.S.Store first last (state g.S.Store end) stays early goes item c.in-Ok.answer ranged decides) in
     subst (λ x. Survives (state g.S.Store first) (state g.S.Store x) (CommitsTo (state g.S.Store first) (after_item item))) same
     (survives_commit g.S.Store first last (state g.S.Store end) stays (CommitsTo (state g.S.Store first) (after_item item)) made c.commit.ensures.survives)
 
