@@ -1,4 +1,4 @@
--- Rows that stand for the items of a list, item_numbered from 1.
+-- Rows that stand for the items of a list, numbered from 1.
 use Rattle.std.proofs.Common.{◌≡◌, ℕ, zero, suc, ◌+◌, ◌<◌, ◌≤◌, ℤ, pos, Bool, true, false, List, [], ◌∷◌, ◌++◌, length, map, Option, Some, None, option_map, unwrap_or, slice_get, refl, sym, ap, subst, ◌∙◌, arith, true≢false, cond}
 use Rattle.std.specs.Prelude.{find}
 use Rattle.std.specs.List.{filter_map}
