@@ -1,0 +1,27 @@
+//! The methods of requests.
+
+ghost use Rattle.std.specs.Prelude.{◌≡◌};
+ghost use Rattle.desk_routes.specs.Routes.{method_text};
+
+/// A method that some route takes.
+#[derive(Clone, Copy, Debug, PartialEq, Eq)]
+pub enum Method {
+    Delete,
+    Get,
+    Post,
+    Put,
+}
+
+impl Method {
+    /// The word of a request line.
+    pub fn as_str(self) -> &'static str
+        ensures { result.now ≡ method_text self }
+    {
+        match self {
+            Method::Delete => "DELETE",
+            Method::Get => "GET",
+            Method::Post => "POST",
+            Method::Put => "PUT",
+        }
+    }
+}
