@@ -1,23 +1,13 @@
 #!/usr/bin/env bash
-# Has the proved program `table_file` write the worked office into a file, and compares what the
+# Has the proved program `office_file` write the worked office into a file, and compares what the
 # `sqlite3` command finds there with what it has to be: each row with `rows.txt`, the texts of the
 # tables with `schema.sql`; and `sqlite3` makes its own tests of the file.
 # Needs sqlite3 (Debian: apt-get install sqlite3); proves and builds the program where it is missing,
 # or older than a source.
 set -eu
 top=$(dirname "$(readlink -f "$0")")/..
-crate=$top/crates/table_file
-program=$crate/out/table_file
-is_stale() {
-    [ -x "$program" ] || return 0
-    [ -n "$(find "$top/crates.txt" "$top/crates" -name out -prune -o \
-        -type f \( -name '*.rt' -o -name '*.antt' -o -name crates.txt \) -newer "$program" -print -quit)" ]
-}
-if is_stale; then
-    rm -f "$program"
-    (cd "$crate" && rt run -- write /dev/null/none) >/dev/null 2>&1 || true
-    [ -x "$program" ] || { echo "the program could not be built: try rt check in $crate" >&2; exit 3; }
-fi
+. "$top/diff/built.sh"
+built office_file write /dev/null/none
 folder=$(mktemp -d)
 trap 'rm -rf "$folder"' EXIT
 file=$folder/office.db

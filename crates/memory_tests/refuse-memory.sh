@@ -1,5 +1,5 @@
 #!/usr/bin/env bash
-# refuse-memory.sh GROUP [FROM [TO]]: runs the cases of a group (bags, office, tables) with one of their allocations refused, for
+# refuse-memory.sh GROUP [FROM [TO]]: runs the cases of a group (bags, office, tables, stored) with one of their allocations refused, for
 # each allocation from FROM (else the first) to TO (else the last).
 # `rt try` refuses one allocation of a run, here always that of number $room; so each run makes fewer of its own before the cases.
 set -eu
@@ -9,8 +9,9 @@ case $group in
 bags) room=600 ;;
 office) room=200 ;;
 tables) room=4000 ;;
+stored) room=20000 ;;
 *)
-    echo "refuse-memory.sh: bags, office or tables" >&2
+    echo "refuse-memory.sh: bags, office, tables or stored" >&2
     exit 2
     ;;
 esac

@@ -2,13 +2,13 @@
 
 use crate::outcome::Outcome;
 use crate::{calls, lines, offices, tables};
-use office_history::plain::Office;
 use sqlite::{Connection, MemStore};
 use std::io;
 use worked_bags::{
     CHECKSUM, COUNTED, DENIED_EVERYTHING, LISTED_IN_ONE, PERCENT_SIGN_0_97, PRINTED_NAME, SMALL,
     TAG_MANIFEST, TWO_LINES,
 };
+use worked_sessions::AnyOffice;
 
 /// Prints how a case came out.
 fn say(rt: &HostRuntime, name: &str, outcome: Outcome) -> io::Result<()> {
@@ -68,13 +68,38 @@ fn session(rt: &HostRuntime, conn: &mut Connection<MemStore>) -> io::Result<()> 
 
 /// A session with the plain office.
 pub fn office(rt: &HostRuntime) -> io::Result<()> {
-    match offices::made(rt.alloc()) {
-        Some(mut office) => asked(rt, &mut office),
-        None => say(rt, "an office", Outcome::Wrong),
-    }
+    let alloc = rt.alloc();
+    let Some(mut office) = offices::plain(alloc) else {
+        return say(rt, "an office", Outcome::Wrong);
+    };
+    asked(rt, &mut office)?;
+    let outcome = offices::count(alloc, &office, offices::KEPT);
+    say(rt, "contents counted", outcome)?;
+    asked_last(rt, &mut office)?;
+    let outcome = offices::count(alloc, &office, offices::NOTHING);
+    say(rt, "no contents counted", outcome)
 }
 
-fn asked(rt: &HostRuntime, office: &mut Office) -> io::Result<()> {
+/// The same session with the office over tables in memory.
+pub fn stored(rt: &HostRuntime) -> io::Result<()> {
+    let Some((outcome, mut office)) = offices::stored(rt.alloc()) else {
+        return say(rt, "an office over tables", Outcome::Wrong);
+    };
+    say(rt, "an office over tables", outcome)?;
+    asked(rt, &mut office)?;
+    let Some((outcome, mut office)) = offices::adopted(office) else {
+        return say(rt, "the office again", Outcome::Wrong);
+    };
+    say(rt, "the office again", outcome)?;
+    say(
+        rt,
+        "numbers that are due",
+        offices::due(rt.alloc(), &mut office),
+    )?;
+    asked_last(rt, &mut office)
+}
+
+fn asked<O: AnyOffice>(rt: &HostRuntime, office: &mut O) -> io::Result<()> {
     say(
         rt,
         "a policy installed",
@@ -87,18 +112,13 @@ fn asked(rt: &HostRuntime, office: &mut Office) -> io::Result<()> {
         rt,
         "three requests in a run",
         offices::together(rt.alloc(), office),
-    )?;
-    say(
-        rt,
-        "contents counted",
-        offices::count(rt.alloc(), office, offices::KEPT),
-    )?;
+    )
+}
+
+/// The end of the session.
+fn asked_last<O: AnyOffice>(rt: &HostRuntime, office: &mut O) -> io::Result<()> {
     for (name, day, part) in offices::END {
         say(rt, name, offices::come_out(rt.alloc(), office, day, part))?;
     }
-    say(
-        rt,
-        "no contents counted",
-        offices::count(rt.alloc(), office, offices::NOTHING),
-    )
+    Ok(())
 }

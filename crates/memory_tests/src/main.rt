@@ -14,12 +14,46 @@ mod tables;
 use std::io::{self, Read};
 use std::process::ExitCode;
 
-/// A group of cases, and the number of allocations before them.
-fn said_first(said: &[u8]) -> (&str, u16) {
+/// A group of cases.
+#[derive(Clone, Copy, PartialEq, Eq)]
+enum Group {
+    Bags,
+    Tables,
+    Office,
+    Stored,
+}
+
+/// All groups, in the order in which they are run.
+const GROUPS: [Group; 4] = [Group::Bags, Group::Tables, Group::Office, Group::Stored];
+
+impl Group {
+    fn read(word: &str) -> Option<Group> {
+        match word {
+            "bags" => Some(Group::Bags),
+            "tables" => Some(Group::Tables),
+            "office" => Some(Group::Office),
+            "stored" => Some(Group::Stored),
+            _ => None,
+        }
+    }
+
+    /// Prints how each case of the group comes out.
+    fn run(self, rt: &HostRuntime) -> io::Result<()> {
+        match self {
+            Group::Bags => groups::bags(rt),
+            Group::Tables => groups::tables(rt),
+            Group::Office => groups::office(rt),
+            Group::Stored => groups::stored(rt),
+        }
+    }
+}
+
+/// The one group that is asked for, if one is, and the number of allocations before its cases.
+fn said_first(said: &[u8]) -> (Option<Group>, u16) {
     let text = str::from_utf8(said).unwrap_or("").trim();
     match text.split_once(' ') {
-        Some((group, count)) => (group, count.parse().unwrap_or(0)),
-        None => (text, 0),
+        Some((group, count)) => (Group::read(group), count.parse().unwrap_or(0)),
+        None => (Group::read(text), 0),
     }
 }
 
@@ -36,16 +70,12 @@ fn allocate(rt: &HostRuntime, count: u16) {
 fn answer(rt: &HostRuntime) -> io::Result<()> {
     let mut room = [0_u8; 16];
     let length = rt.stdin().read(&mut room)?;
-    let (group, count) = said_first(room.get(..length).unwrap_or(&[]));
+    let (only, count) = said_first(room.get(..length).unwrap_or(&[]));
     allocate(rt, count);
-    if group != "tables" && group != "office" {
-        groups::bags(rt)?;
-    }
-    if group != "bags" && group != "office" {
-        groups::tables(rt)?;
-    }
-    if group != "bags" && group != "tables" {
-        groups::office(rt)?;
+    for group in GROUPS {
+        if only.is_none() || only == Some(group) {
+            group.run(rt)?;
+        }
     }
     Ok(())
 }

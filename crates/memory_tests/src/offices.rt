@@ -1,13 +1,16 @@
-//! Cases of the plain office: a short run over one office in memory.
+//! Cases of an office: a short session, with the plain one or with one over its tables.
 
 use crate::outcome::Outcome;
 use office_core::{
     Accession, Answer, Day, Limits, Matter, Name, PolicyFault, Refusal, Request, Years, read_policy,
 };
+use office_engine::Office;
 use office_history::Stock;
-use office_history::plain::Office;
+use office_history::plain;
+use sqlite::{Connection, MemStore};
 use std::alloc::{AllocError, Global};
 use worked_bags::{BAG, POLICY};
+use worked_sessions::AnyOffice;
 
 /// What is asked.
 #[derive(Clone, Copy)]
@@ -73,19 +76,63 @@ pub const NOTHING: Stock = Stock {
     bytes: 0,
 };
 
-/// A new office.
-pub fn made(alloc: Global) -> Option<Office> {
+/// A new plain office.
+pub fn plain(alloc: Global) -> Option<plain::Office> {
     let limits = Limits::new(10, 10)?;
-    Some(Office::create(alloc, limits))
+    Some(plain::Office::create(alloc, limits))
+}
+
+/// A new office over tables in memory. Where memory was refused to a call, it is made once more.
+pub fn stored(alloc: Global) -> Option<(Outcome, Office<MemStore>)> {
+    let limits = Limits::new(10, 10)?;
+    let (outcome, conn) = match Connection::open_in_memory(alloc) {
+        Ok(conn) => (Outcome::Expected, conn),
+        Err(_) => match Connection::open_in_memory(alloc) {
+            Ok(conn) => (Outcome::Memory, conn),
+            Err(_) => return None,
+        },
+    };
+    match Office::create(conn, limits) {
+        Ok(office) => Some((outcome, office)),
+        Err((conn, _)) => match Office::create(conn, limits) {
+            Ok(office) => Some((Outcome::Memory, office)),
+            Err(_) => None,
+        },
+    }
+}
+
+/// The office of the same tables, taken out and adopted again. Where memory was refused, once more.
+pub fn adopted(office: Office<MemStore>) -> Option<(Outcome, Office<MemStore>)> {
+    match Office::adopt(office.into_connection()) {
+        Ok(office) => Some((Outcome::Expected, office)),
+        Err((conn, _)) => match Office::adopt(conn) {
+            Ok(office) => Some((Outcome::Memory, office)),
+            Err(_) => None,
+        },
+    }
+}
+
+/// What the office lists as due; where memory was refused, once more.
+pub fn due(alloc: Global, office: &mut Office<MemStore>) -> Outcome {
+    let Some(day) = Day::read("2030-01-02") else {
+        return Outcome::Wrong;
+    };
+    match office.due_list(alloc, day, "anna") {
+        Ok(numbers) => Outcome::expected(numbers.as_slice() == [1].as_slice()),
+        Err(_) => match office.due_list(alloc, day, "anna") {
+            Ok(numbers) => Outcome::memory(numbers.as_slice() == [1].as_slice()),
+            Err(_) => Outcome::Wrong,
+        },
+    }
 }
 
 /// Reads the policy and installs it.
-fn install_policy(alloc: Global, office: &mut Office) -> Outcome {
+fn install_policy<O: AnyOffice>(alloc: Global, office: &mut O) -> Outcome {
     let Ok(text) = str::from_utf8(POLICY) else {
         return Outcome::Wrong;
     };
     match read_policy(alloc, text) {
-        Ok(policy) => match office.install(policy) {
+        Ok(policy) => match office.install(alloc, policy) {
             Ok(()) => Outcome::Expected,
             Err(_) => Outcome::Memory,
         },
@@ -95,7 +142,7 @@ fn install_policy(alloc: Global, office: &mut Office) -> Outcome {
 
 /// Installs the policy; where memory was refused, once more, and then it has to be installed: what
 /// is asked next is denied by an office that has none.
-pub fn installed(alloc: Global, office: &mut Office) -> Outcome {
+pub fn installed<O: AnyOffice>(alloc: Global, office: &mut O) -> Outcome {
     match install_policy(alloc, office) {
         Outcome::Memory => install_policy(alloc, office).again(),
         outcome => outcome,
@@ -180,13 +227,13 @@ fn fits(part: Part, answer: &Answer) -> bool {
 }
 
 /// Asks; where memory was refused, once more, and then the answer has to fit: a request that was
-/// refused has changed nothing.
-pub fn come_out(alloc: Global, office: &mut Office, day: &str, part: Part) -> Outcome {
+/// refused has changed nothing. What the store lacked memory for it may tell as its own failure.
+pub fn come_out<O: AnyOffice>(alloc: Global, office: &mut O, day: &str, part: Part) -> Outcome {
     let (Some(day), Some(request)) = (Day::read(day), request(part)) else {
         return Outcome::Wrong;
     };
     match office.step(alloc, day, "anna", &request) {
-        Answer::Refused(Refusal::Memory) => {
+        Answer::Refused(Refusal::Memory | Refusal::Store) => {
             Outcome::memory(fits(part, &office.step(alloc, day, "anna", &request)))
         }
         answer => Outcome::expected(fits(part, &answer)),
@@ -196,7 +243,7 @@ pub fn come_out(alloc: Global, office: &mut Office, day: &str, part: Part) -> Ou
 /// How an answer came out.
 fn answered(part: Part, answer: &Answer) -> Outcome {
     match answer {
-        Answer::Refused(Refusal::Memory) => Outcome::Memory,
+        Answer::Refused(Refusal::Memory | Refusal::Store) => Outcome::Memory,
         answer => Outcome::expected(fits(part, answer)),
     }
 }
@@ -213,7 +260,7 @@ fn items(alloc: Global) -> Result<Vec<(Day, &'static str, Request<'static>)>, Al
 }
 
 /// Asks all of them in one run.
-fn run_together(alloc: Global, office: &mut Office) -> Result<Outcome, AllocError> {
+fn run_together<O: AnyOffice>(alloc: Global, office: &mut O) -> Result<Outcome, AllocError> {
     let items = items(alloc)?;
     let answers = office.run(alloc, items.as_slice())?;
     let mut outcome = Outcome::expected(answers.len() == TOGETHER.len());
@@ -224,7 +271,7 @@ fn run_together(alloc: Global, office: &mut Office) -> Result<Outcome, AllocErro
 }
 
 /// Asks them in one run; where memory was refused, once more, and then all answers have to fit.
-pub fn together(alloc: Global, office: &mut Office) -> Outcome {
+pub fn together<O: AnyOffice>(alloc: Global, office: &mut O) -> Outcome {
     match run_together(alloc, office) {
         Ok(Outcome::Expected) => Outcome::Expected,
         Ok(Outcome::Wrong) => Outcome::Wrong,
@@ -236,7 +283,7 @@ pub fn together(alloc: Global, office: &mut Office) -> Outcome {
 }
 
 /// Counts the contents of the office.
-pub fn count(alloc: Global, office: &Office, kept: Stock) -> Outcome {
+pub fn count(alloc: Global, office: &plain::Office, kept: Stock) -> Outcome {
     match office.stock(alloc) {
         Ok(found) => Outcome::expected(found == kept),
         Err(_) => Outcome::Memory,

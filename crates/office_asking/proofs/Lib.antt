@@ -7,3 +7,5 @@ pub mod DueTold
 pub mod HoldTold
 pub mod Serving
 pub mod Unchanged
+pub mod CollectionTold
+pub mod LimitsTold

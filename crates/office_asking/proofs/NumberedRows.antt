@@ -78,3 +78,13 @@ module _ {A R : Type 0} (tell : ℕ → A → R) where
     pub last_is : (xs : List A) → last_number number (rows_from tell 1 xs) ≡ cond (is_nil xs) None (Some (pos (length xs)))
     last_is [] = refl
     last_is (x ∷ xs) = let one : 1 + length xs ≡ suc (length xs) = omega arith in last_after xs x 1 ∙ ap (λ k. Some (pos k)) one
+
+    last_or_zero : (xs : List A) (o : Option ℕ) → option_map pos o ≡ cond (is_nil xs) None (Some (pos (length xs))) → unwrap_or o 0 ≡ length xs
+    last_or_zero [] None e = refl
+    last_or_zero [] (Some n) e = absurd cc
+    last_or_zero (x ∷ xs) None e = absurd cc
+    last_or_zero (x ∷ xs) (Some n) e = let same : n ≡ length (x ∷ xs) = cc in same
+
+    -- the last number, or 0, is how many items there are
+    pub count_is : (xs : List A) (o : Option ℕ) → option_map pos o ≡ last_number number (rows_from tell 1 xs) → unwrap_or o 0 ≡ length xs
+    count_is xs o e = last_or_zero xs o (e ∙ last_is xs)

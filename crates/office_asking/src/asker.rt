@@ -3,7 +3,7 @@
 ghost use Rattle.std.specs.Prelude.{◌≡◌, ℕ, List, IfErr, IfOk, option_copied, option_map, string_bytes, position};
 ghost use Rattle.office_core.specs.Rules.{question_of};
 ghost use Rattle.office_tables.specs.Faults.{IsFailure};
-ghost use Rattle.office_tables.specs.Calls.{CommitsNothing, Continues};
+ghost use Rattle.office_tables.specs.Calls.{CommitsNothing, Continues, Keeps};
 ghost use Rattle.office_history.specs.Histories.{History};
 ghost use Rattle.office_history.specs.Pictures.{effect_number};
 ghost use Rattle.office_history.specs.Refusals.{deciding_rule, denial};
@@ -107,6 +107,7 @@ impl Asker {
         ensures stays { CommitsNothing S.Store tx.old.conn.now tx.new.conn.now }
         ensures goes_on { Continues S.Store tx.old.conn.now tx.new.conn.now result }
         ensures failure { IfErr result IsFailure }
+        ensures same { Keeps S.Store tx.old.conn.now tx.new.conn.now result }
         ensures asker { Finds S.Store tx.old.conn.now tx.new.conn.now result (λ h asker. IsAsker h caller.now asker) }
     {
         let role = role_of(tx, caller)?;
@@ -181,6 +182,7 @@ pub fn denial<S: Alter>(
     ensures stays { CommitsNothing S.Store tx.old.conn.now tx.new.conn.now }
     ensures goes_on { Continues S.Store tx.old.conn.now tx.new.conn.now result }
     ensures failure { IfErr result IsFailure }
+    ensures same { Keeps S.Store tx.old.conn.now tx.new.conn.now result }
     ensures denied { Finds S.Store tx.old.conn.now tx.new.conn.now result (λ h why.
         why ≡ denial h caller.now action (option_copied collection.entry) (option_copied class.entry)) }
 {

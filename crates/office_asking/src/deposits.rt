@@ -2,7 +2,7 @@
 
 ghost use Rattle.std.specs.Prelude.{◌≡◌, IfErr};
 ghost use Rattle.office_tables.specs.Faults.{IsFailure};
-ghost use Rattle.office_tables.specs.Calls.{CommitsNothing, Continues};
+ghost use Rattle.office_tables.specs.Calls.{CommitsNothing, Continues, Keeps};
 ghost use Rattle.office_history.specs.Refusals.{kept_refusals};
 ghost use Rattle.office_asking.specs.Serving.{Finds};
 ghost use Rattle.office_asking.specs.Deposits.{IsAsked};
@@ -29,6 +29,7 @@ pub fn kept_deposit<S: Alter>(
     ensures stays { CommitsNothing S.Store tx.old.conn.now tx.new.conn.now }
     ensures goes_on { Continues S.Store tx.old.conn.now tx.new.conn.now result }
     ensures failure { IfErr result IsFailure }
+    ensures same { Keeps S.Store tx.old.conn.now tx.new.conn.now result }
     ensures asked { Finds S.Store tx.old.conn.now tx.new.conn.now result (λ h asked.
         IsAsked h number (kept_refusals h caller.now action number) asked) }
 {

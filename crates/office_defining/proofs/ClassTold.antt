@@ -13,7 +13,8 @@ use Rattle.office_history.specs.Pictures.{class_in, class_row, years_number, cla
 use Rattle.office_history.proofs.AlikeAnswers.{among_first_places}
 use Rattle.office_history.proofs.Pictured.{rows_by, HasYears, all_have_years, all_distinct}
 use Rattle.office_asking.proofs.Unchanged.{same_policy, years_grown, same_collections, same_deposit_rows, same_file_rows, same_hold_rows}
-use Rattle.office_defining.proofs.FirstPlaces.{bytes_eq-sym, first_places_last}
+use Rattle.office_asking.proofs.CollectionTold.{bytes_eq-sym}
+use Rattle.office_defining.proofs.FirstPlaces.{first_places_last}
 
 -- ---- the years of one class change
 

@@ -8,16 +8,12 @@ use Rattle.office_rows.specs.Rows.{with_collection, with_new_collection, this_ve
 use Rattle.office_history.specs.Lists.{in_first_places}
 use Rattle.office_history.specs.Histories.{History, Change, DefinedCollection, with_changes, has_collection, collection_in}
 use Rattle.office_history.specs.Pictures.{collection_rows, picture, caller_row, rule_rows, office_row}
-use Rattle.office_history.proofs.AlikeAnswers.{among_first_places}
 use Rattle.office_asking.proofs.Unchanged.{same_policy, same_classes, same_deposit_rows, same_file_rows, same_hold_rows}
 use Rattle.office_asking.proofs.Serving.{grown_none}
-use Rattle.office_defining.proofs.FirstPlaces.{among_either, first_places_last}
+use Rattle.office_asking.proofs.CollectionTold.{collection_there}
+use Rattle.office_defining.proofs.FirstPlaces.{first_places_last}
 
 module _ (h : History) (day : Date) (name : List ℕ) where
-  -- there is a row of that name where there is such a collection
-  pub collection_there : rows.has_collection name (picture this_version h) ≡ has_collection h name
-  collection_there = among_either name (collection_rows h) ∙ among_first_places name (filter_map collection_in h.changes)
-
   abbrev defined : List Change
   defined = DefinedCollection day name ∷ []
 
@@ -42,7 +38,7 @@ module _ (h : History) (day : Date) (name : List ℕ) where
   -- a collection that is there changes nothing
   pub collection_told : with_collection name (picture this_version h) ≡ picture this_version (with_changes h (if has_collection h name then [] else defined))
   collection_told =
-      ap (λ b. if b then picture this_version h else with_new_collection name (picture this_version h)) collection_there
+      ap (λ b. if b then picture this_version h else with_new_collection name (picture this_version h)) (collection_there h name)
       ∙ by (has_collection h name) refl
     where
       by : (b : Bool) → has_collection h name ≡ b

@@ -5,15 +5,6 @@ use Rattle.std.specs.List.{list_any}
 use Rattle.std.proofs.lemmas.Slice.Eq.{bytes_eq-Decides}
 use Rattle.office_history.specs.Lists.{distinct_after, in_first_places}
 
-pub bytes_eq-sym : (a b : List ℕ) → bytes_eq a b ≡ bytes_eq b a
-bytes_eq-sym a b = by (bytes_eq a b) (bytes_eq b a) refl refl
-  where
-    by : (s t : Bool) → bytes_eq a b ≡ s → bytes_eq b a ≡ t → s ≡ t
-    by true true e f = refl
-    by false false e f = refl
-    by true false e f = absurd (true≢false (sym ((bytes_eq-Decides b a).1 (sym ((bytes_eq-Decides a b).0 e))) ∙ f))
-    by false true e f = absurd (true≢false (sym ((bytes_eq-Decides a b).1 (sym ((bytes_eq-Decides b a).0 f))) ∙ e))
-
 -- a text that comes last is kept where it wasn't there
 distinct_last : (seen xs : List (List ℕ)) (x : List ℕ) → distinct_after seen (xs ++ x ∷ []) ≡ distinct_after seen xs ++ (if list_any (bytes_eq x) seen || list_any (bytes_eq x) xs then [] else x ∷ [])
 distinct_last seen [] x = by (list_any (bytes_eq x) seen)
@@ -50,8 +41,3 @@ distinct_last seen (y ∷ xs) x = by (list_any (bytes_eq y) seen) refl (distinct
 
 pub first_places_last : (xs : List (List ℕ)) (x : List ℕ) → in_first_places (xs ++ x ∷ []) ≡ in_first_places xs ++ (if list_any (bytes_eq x) xs then [] else x ∷ [])
 first_places_last xs x = distinct_last [] xs x
-
--- whichever of the two is asked of the other
-pub among_either : (name : List ℕ) (names : List (List ℕ)) → list_any (λ other. bytes_eq other name) names ≡ list_any (bytes_eq name) names
-among_either name [] = refl
-among_either name (other ∷ names) = λ i. bytes_eq-sym other name i || among_either name names i

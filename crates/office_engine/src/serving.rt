@@ -16,7 +16,7 @@ use office_core::{Answer, Day, Refusal, Request};
 use office_defining::{define_class, define_collection};
 use office_holding::{hold_collection, hold_deposit, release};
 use office_keeping::{deposit, dispose};
-use office_serving::{audit, download_bag, download_path, due_list, holds, list, record};
+use office_serving::{audit, download_bag, download_file, due_list, holds, list, record};
 use office_tables::TableFault;
 use sqlite::{Alter, Connection, Transaction};
 use std::alloc::Global;
@@ -95,7 +95,7 @@ fn decide<S: Alter>(
         Request::Holds { deposit } => holds(alloc, tx, day, caller, *deposit),
         Request::DownloadBag { deposit } => download_bag(alloc, tx, day, caller, *deposit),
         Request::DownloadFile { deposit, path } => {
-            download_path(alloc, tx, day, caller, *deposit, path)
+            download_file(alloc, tx, day, caller, *deposit, path)
         }
         Request::Audit { deposit } => audit(alloc, tx, day, caller, *deposit),
         Request::DueList => due_list(alloc, tx, day, caller),

@@ -1,5 +1,4 @@
 pub mod HoldCount
-pub mod CollectionTold
 pub mod HoldPlaces
 pub mod PlacedTold
 pub mod HoldAsked

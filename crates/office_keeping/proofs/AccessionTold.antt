@@ -11,7 +11,7 @@ use Rattle.office_history.specs.Histories.{History, Deposit, deposits, accession
 use Rattle.office_history.specs.Pictures.{deposit_row, deposit_rows}
 use Rattle.office_asking.specs.Pictures.{Pictures}
 use Rattle.office_asking.proofs.DepositTold.{deposit_rows_are}
-use Rattle.office_asking.proofs.NumberedRows.{rows_from, last_is, is_nil}
+use Rattle.office_asking.proofs.NumberedRows.{rows_from, count_is}
 use Rattle.office_asking.proofs.Readings.{in_picture}
 
 lt_next : (p n : ℕ) → nat_lt (suc p) (suc n) ≡ nat_lt p n
@@ -78,14 +78,8 @@ accession_told h accession =
     by None = refl
     by (Some p) = let one : 1 + p ≡ p + 1 = omega arith in ap (λ k. Some (pos k)) one
 
-last_or_zero : (xs : List (Date × Deposit)) (o : Option ℕ) → option_map pos o ≡ cond (is_nil xs) None (Some (pos (length xs))) → unwrap_or o 0 ≡ length xs
-last_or_zero [] None e = refl
-last_or_zero [] (Some n) e = absurd cc
-last_or_zero (x ∷ xs) None e = absurd cc
-last_or_zero (x ∷ xs) (Some n) e = let same : n ≡ length (x ∷ xs) = cc in same
-
 -- the last number is how many deposits there are
 pub count_told : (h : History) (db : Database) → Pictures h db → (o : Option ℕ) → option_map pos o ≡ last_number (λ (d : DepositRow). d.number) (tables_of db).deposits → unwrap_or o 0 ≡ length (deposits h)
 count_told h db pictured o e =
-    last_or_zero (deposits h) o
-    (e ∙ in_picture h db pictured (λ t. last_number (λ (d : DepositRow). d.number) t.deposits) ∙ ap (last_number (λ (d : DepositRow). d.number)) (deposit_rows_are h) ∙ last_is (deposit_row h) (λ d. d.number) (λ m x. refl) (deposits h))
+    count_is (deposit_row h) (λ d. d.number) (λ m x. refl) (deposits h) o
+    (e ∙ in_picture h db pictured (λ t. last_number (λ (d : DepositRow). d.number) t.deposits) ∙ ap (last_number (λ (d : DepositRow). d.number)) (deposit_rows_are h))

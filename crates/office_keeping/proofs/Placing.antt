@@ -23,22 +23,6 @@ use Rattle.office_asking.specs.Pictures.{Pictures}
 use Rattle.office_asking.proofs.Readings.{in_picture}
 use Rattle.office_asking.proofs.Serving.{one_refusal}
 
-bytes_eq-sym : (a b : List ℕ) → bytes_eq a b ≡ bytes_eq b a
-bytes_eq-sym a b = by (bytes_eq a b) (bytes_eq b a) refl refl
-  where
-    by : (s t : Bool) → bytes_eq a b ≡ s → bytes_eq b a ≡ t → s ≡ t
-    by true true e f = refl
-    by false false e f = refl
-    by true false e f = absurd (true≢false (sym ((bytes_eq-Decides b a).1 (sym ((bytes_eq-Decides a b).0 e))) ∙ f))
-    by false true e f = absurd (true≢false (sym ((bytes_eq-Decides a b).1 (sym ((bytes_eq-Decides b a).0 f))) ∙ e))
-
-flipped : (name : List ℕ) (texts : List (List ℕ)) → list_any (λ c. bytes_eq c name) texts ≡ list_any (bytes_eq name) texts
-flipped name [] = refl
-flipped name (t ∷ texts) = λ i. bytes_eq-sym t name i || flipped name texts i
-
-pub collection_told : (h : History) (db : Database) → Pictures h db → (name : List ℕ) → rows.has_collection name (tables_of db) ≡ has_collection h name
-collection_told h db pictured name = in_picture h db pictured (rows.has_collection name) ∙ flipped name (collection_rows h) ∙ among_first_places name (filter_map collection_in h.changes)
-
 pub class_there : (h : History) (class : List ℕ) (found : Option ℤ) → option_map years_back found ≡ years_of h class → is_some found ≡ has_class h class
 class_there h class None e = ap is_some e
 class_there h class (Some y) e = ap is_some e
@@ -60,23 +44,3 @@ taken_some n (Some m) e = let same : n ≡ m = cc in ap (λ k. Some (Taken k)) s
 pub taken_none : (o : Option ℕ) → None ≡ option_map pos o → None ≡ option_map Taken o
 taken_none None e = refl
 taken_none (Some m) e = absurd cc
-
-pub limit_told : (h : History) (db : Database) → Pictures h db → (deposits_at holds_at : ℕ) → limits_of (tables_of db) ≡ Some (record { max_deposits = pos deposits_at; max_holds = pos holds_at }) → deposits_at ≡ h.max_deposits
-limit_told h db pictured deposits_at holds_at e =
-    let same : ◌≡◌ {A = Option Limits} (Some (record { max_deposits = pos h.max_deposits; max_holds = pos h.max_holds })) (Some (record { max_deposits = pos deposits_at; max_holds = pos holds_at })) = sym (in_picture h db pictured limits_of) ∙ e in
-    let most : pos h.max_deposits ≡ pos deposits_at = ap (λ (l : Limits). l.max_deposits) (same_Some _ _ same) in
-    let equal : h.max_deposits ≡ deposits_at = cc in sym equal
-
-pub is_full : (h : History) (most last : ℕ) → most ≡ h.max_deposits → last ≡ length (deposits h) → most ≤ last → full_of_deposits h ≡ Some Full
-is_full h most last m l le =
-    elim (cases_Bool (nat_le h.max_deposits (length (deposits h)))) [
-      | inl over ↦ ap (λ b. answer_if b Full) over
-      | inr under ↦ absurd (let wrong : nat_le most last ≡ false = (λ i. nat_le (m i) (l i)) ∙ under in grind (arith, nat_tests, wrong, le))
-    ]
-
-pub has_room : (h : History) (most last : ℕ) → most ≡ h.max_deposits → last ≡ length (deposits h) → last < most → full_of_deposits h ≡ None
-has_room h most last m l lt =
-    elim (cases_Bool (nat_le h.max_deposits (length (deposits h)))) [
-      | inl over ↦ absurd (let wrong : nat_le most last ≡ true = (λ i. nat_le (m i) (l i)) ∙ over in grind (arith, nat_tests, wrong, lt))
-      | inr under ↦ ap (λ b. answer_if b Full) under
-    ]

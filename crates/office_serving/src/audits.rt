@@ -9,10 +9,10 @@ ghost use Rattle.office_asking.specs.Serving.{Decides};
 ghost use Rattle.office_serving.specs.Files.{file_in};
 ghost use Rattle.office_serving.specs.Audits.{verdict_on, IsAuditOf};
 
-use crate::asked::asked_deposit;
 use crate::bags::pairs_of;
 use bag_text::laws::one_list_fault;
 use bag_text::{BagSet, SetFault};
+use office_asking::kept_deposit;
 use office_core::{Action, Answer, AuditReport, Day, FaultText};
 use office_history::judging;
 use office_history::laws::sound_bags;
@@ -62,7 +62,7 @@ pub fn audit<S: Alter>(
 {
     one_list_fault();
     sound_bags();
-    match asked_deposit(alloc, tx, caller, Action::Audit, number)? {
+    match kept_deposit(alloc, tx, caller, Action::Audit, number)? {
         Ok(_) => {
             let rows = files_of(alloc, tx, number)?;
             Ok(Answer::Audit {

@@ -15,10 +15,8 @@ use office_tables::{TableFault, file_of};
 use sqlite::{Alter, Transaction};
 use std::alloc::Global;
 
-/// Answers the file at that path of a deposit's bag.
-///
-/// Fails with `Memory` or `Store`.
-pub fn download_file<S: Alter>(
+/// Answers the file at a path that is a text.
+fn download_text<S: Alter>(
     alloc: Global,
     tx: &mut Transaction<'_, S>,
     day: Day,
@@ -69,7 +67,7 @@ fn download_no_text<S: Alter>(
 /// Answers the file at that path of a deposit's bag, for a path that is any bytes.
 ///
 /// Fails with `Memory` or `Store`.
-pub fn download_path<S: Alter>(
+pub fn download_file<S: Alter>(
     alloc: Global,
     tx: &mut Transaction<'_, S>,
     day: Day,
@@ -84,7 +82,7 @@ pub fn download_path<S: Alter>(
     ensures decides { Decides S.Store tx.old.conn.now tx.new.conn.now result day caller.now (requests.DownloadFile number path.entry) }
 {
     match text_in(path) {
-        Some(text) => download_file(alloc, tx, day, caller, number, text),
+        Some(text) => download_text(alloc, tx, day, caller, number, text),
         None => download_no_text(alloc, tx, day, caller, number, path),
     }
 }

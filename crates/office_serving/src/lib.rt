@@ -1,7 +1,6 @@
 //! The requests that read over the tables of an office, and change nothing.
 #![tactic(auto)]
 
-mod asked;
 mod audits;
 mod bags;
 mod due_lists;
@@ -15,7 +14,7 @@ mod texts;
 pub use audits::audit;
 pub use bags::download_bag;
 pub use due_lists::{due_list, due_numbers};
-pub use files::{download_file, download_path};
+pub use files::download_file;
 pub use hold_lists::holds;
 pub use lists::list;
 pub use records::record;

@@ -67,3 +67,24 @@ returns-in-None-clause-asked g c clean h legal pictured =
     let allowed : None ≡ c.in_ok-denied.denied = search rules in
     let said : None ≡ denial h a.caller.now a.action (Some row.collection) (Some row.class) = allowed ∙ asked.1 ∙ (λ i. denial h a.caller.now a.action (Some (collection i)) (Some (class i))) in
     (asked.0, asked_kept h a.caller.now a.action a.number row some said (search rules))
+
+pub returns-in-Some-denied-clause-same : goal.returns-in-Some-denied-clause-same
+returns-in-Some-denied-clause-same g c clean office =
+    let mid = state g.S.Store c.deposit_row.new.tx.conn.now in
+    let early : HasCleanDisk mid = omega (arith, clean, c.denial.ensures.stays.survives.clean) in
+    let same = c.in_ok-deposit.ensures.same early office in
+    c.in_ok-denied.ensures.same clean (subst IsOffice (sym same) office) ∙ same
+
+pub returns-in-Some-gone-clause-same : goal.returns-in-Some-gone-clause-same
+returns-in-Some-gone-clause-same g c clean office =
+    let mid = state g.S.Store c.deposit_row.new.tx.conn.now in
+    let early : HasCleanDisk mid = omega (arith, clean, c.denial.ensures.stays.survives.clean) in
+    let same = c.in_ok-deposit.ensures.same early office in
+    c.in_ok-denied.ensures.same clean (subst IsOffice (sym same) office) ∙ same
+
+pub returns-in-None-clause-same : goal.returns-in-None-clause-same
+returns-in-None-clause-same g c clean office =
+    let mid = state g.S.Store c.deposit_row.new.tx.conn.now in
+    let early : HasCleanDisk mid = omega (arith, clean, c.denial.ensures.stays.survives.clean) in
+    let same = c.in_ok-deposit.ensures.same early office in
+    c.in_ok-denied.ensures.same clean (subst IsOffice (sym same) office) ∙ same

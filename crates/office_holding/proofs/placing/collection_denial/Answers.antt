@@ -3,7 +3,7 @@ use Rattle.sqlite.specs.State.{HasCleanDisk}
 use Rattle.sqlite.specs.Held.{state}
 use Rattle.sql_meaning.proofs.Results.{if_ok}
 use Rattle.office_asking.proofs.Readings.{pictured_still}
-use Rattle.office_holding.proofs.CollectionTold.{collection_told}
+use Rattle.office_asking.proofs.CollectionTold.{collection_told}
 use Rattle.office_holding.proofs.HoldPlaces.{not_there, is_there}
 use Rattle.office_holding.proofs.placing.collection_denial.Goals as goal
 

@@ -1,9 +1,11 @@
-use Rattle.std.proofs.Common.{rules, ◌≡◌, ◌+◌, arith, sym, ap, ◌∙◌, unwrap_or, [], ◌∷◌}
+use Rattle.std.proofs.Common.{rules, ◌≡◌, ◌+◌, arith, sym, ap, ◌∙◌, unwrap_or, length, [], ◌∷◌}
 use Rattle.sqlite.specs.State.{HasCleanDisk}
 use Rattle.sqlite.specs.Held.{state}
 use Rattle.office_core.specs.FirstOf.{first_some}
+use Rattle.office_history.specs.Histories.{holds}
+use Rattle.office_asking.proofs.LimitsTold.{limits_told, is_full, has_room}
 use Rattle.office_asking.proofs.Readings.{pictured_still}
-use Rattle.office_holding.proofs.HoldCount.{count_told, limit_told, is_full, has_room}
+use Rattle.office_holding.proofs.HoldCount.{count_told}
 use Rattle.office_holding.proofs.placing.next_hold.Goals as goal
 
 pub returns-then-limits-last-clause-next : goal.returns-then-limits-last-clause-next
@@ -13,11 +15,11 @@ returns-then-limits-last-clause-next g c clean h legal pictured =
     let new = state g.S.Store c.last_hold.new.tx.conn.now in
     let early : HasCleanDisk mid = omega (arith, clean, c.last_hold.ensures.stays.survives.clean) in
     let still = pictured_still h old.now pictured mid.now (c.in_ok-limits.ensures.same early pictured.office) in
-    let limit = limit_told h old.now pictured c.in_ok-limits.limits.max_deposits c.in_ok-limits.limits.max_holds (c.in_ok-limits.ensures.found early pictured.office) in
+    let limit = (limits_told h old.now pictured c.in_ok-limits.limits.max_deposits c.in_ok-limits.limits.max_holds (c.in_ok-limits.ensures.found early pictured.office)).1 in
     let last : c.unwrap_or-last.result ≡ unwrap_or c.in_ok-last_hold.field-0 0 = search rules in
     let count = last ∙ count_told h mid.now still c.in_ok-last_hold.field-0 (c.in_ok-last_hold.ensures.found clean still.office) in (
       pictured_still h mid.now still new.now (c.in_ok-last_hold.ensures.same clean still.office),
-      sym (ap (λ o. first_some (o ∷ [])) (is_full h c.in_ok-limits.limits.max_holds c.unwrap_or-last.result limit count c.if-limits-last.true)),
+      sym (ap (λ o. first_some (o ∷ [])) (is_full h.max_holds (length (holds h)) c.in_ok-limits.limits.max_holds c.unwrap_or-last.result limit count c.if-limits-last.true)),
     )
 
 pub returns-clause-next : goal.returns-clause-next
@@ -27,9 +29,9 @@ returns-clause-next g c clean h legal pictured =
     let new = state g.S.Store c.last_hold.new.tx.conn.now in
     let early : HasCleanDisk mid = omega (arith, clean, c.last_hold.ensures.stays.survives.clean) in
     let still = pictured_still h old.now pictured mid.now (c.in_ok-limits.ensures.same early pictured.office) in
-    let limit = limit_told h old.now pictured c.in_ok-limits.limits.max_deposits c.in_ok-limits.limits.max_holds (c.in_ok-limits.ensures.found early pictured.office) in
+    let limit = (limits_told h old.now pictured c.in_ok-limits.limits.max_deposits c.in_ok-limits.limits.max_holds (c.in_ok-limits.ensures.found early pictured.office)).1 in
     let last : c.unwrap_or-last.result ≡ unwrap_or c.in_ok-last_hold.field-0 0 = search rules in
     let count = last ∙ count_told h mid.now still c.in_ok-last_hold.field-0 (c.in_ok-last_hold.ensures.found clean still.office) in (
       pictured_still h mid.now still new.now (c.in_ok-last_hold.ensures.same clean still.office),
-      (sym (ap (λ o. first_some (o ∷ [])) (has_room h c.in_ok-limits.limits.max_holds c.unwrap_or-last.result limit count c.if-limits-last.false)), ap (λ k. k + 1) count),
+      (sym (ap (λ o. first_some (o ∷ [])) (has_room h.max_holds (length (holds h)) c.in_ok-limits.limits.max_holds c.unwrap_or-last.result limit count c.if-limits-last.false)), ap (λ k. k + 1) count),
     )

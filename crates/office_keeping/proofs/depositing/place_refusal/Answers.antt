@@ -4,7 +4,8 @@ use Rattle.sqlite.specs.Held.{state}
 use Rattle.sql_meaning.proofs.Results.{if_ok}
 use Rattle.office_asking.proofs.Readings.{pictured_still}
 use Rattle.office_asking.proofs.DueTold.{years_read_back}
-use Rattle.office_keeping.proofs.Placing.{collection_told, class_there, no_collection, no_class, both_there}
+use Rattle.office_asking.proofs.CollectionTold.{collection_told}
+use Rattle.office_keeping.proofs.Placing.{class_there, no_collection, no_class, both_there}
 use Rattle.office_keeping.proofs.depositing.place_refusal.Goals as goal
 
 pub returns-then-not-branch-clause-refusal : goal.returns-then-not-branch-clause-refusal

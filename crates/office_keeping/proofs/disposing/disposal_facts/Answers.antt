@@ -2,6 +2,8 @@ use Rattle.std.proofs.Common.{rules, ◌≡◌, arith, ap, sym, ◌∙◌, Some}
 use Rattle.sqlite.specs.State.{HasCleanDisk}
 use Rattle.sqlite.specs.Held.{state}
 use Rattle.jiff.specs.Words.{epoch_day}
+use Rattle.sql_meaning.specs.Inside.{GoesOn, Stays}
+use Rattle.sql_meaning.proofs.Inside.{goes_then, stays_then}
 use Rattle.office_core.specs.declared.action.Action.TheVariants as acts
 use Rattle.office_rows.specs.Rows.{DepositRow}
 use Rattle.office_history.specs.Refusals.{deciding_rule}
@@ -28,3 +30,34 @@ returns-clause-facts g c clean h legal pictured =
           (p2.1 found.1 (sym (ap (λ (r : DepositRow). r.collection) is) ∙ sym collection))
           (p3.1 found.1 (sym (ap (λ (r : DepositRow). r.class) is) ∙ sym class) (closed_is h a.number found row is c.in_ok-closed.closed closed)),
     )
+
+pub returns-in_err-hold-clause-stays : goal.returns-in_err-hold-clause-stays
+returns-in_err-hold-clause-stays g c =
+    stays_then (state g.S.Store c.args.tx.now.conn.now) (state g.S.Store c.read.new.tx.conn.now) (state g.S.Store c.least_hold.new.tx.conn.now) c.read.ensures.stays c.in_ok-asker.ensures.goes_on c.least_hold.ensures.stays
+
+pub returns-in_err-due-clause-stays : goal.returns-in_err-due-clause-stays
+returns-in_err-due-clause-stays g c =
+    let s0 = state g.S.Store c.args.tx.now.conn.now in
+    let s1 = state g.S.Store c.read.new.tx.conn.now in
+    let s2 = state g.S.Store c.least_hold.new.tx.conn.now in
+    let twice : Stays s0 s2 = stays_then s0 s1 s2 c.read.ensures.stays c.in_ok-asker.ensures.goes_on c.least_hold.ensures.stays in
+    let goes : HasCleanDisk s2 → GoesOn s0 s2 = λ clean. goes_then s0 s1 s2 (c.in_ok-asker.ensures.goes_on (omega (arith, clean, c.least_hold.ensures.stays.survives.clean))) (c.in_ok-hold.ensures.goes_on clean) in
+    stays_then s0 s2 (state g.S.Store c.due_day.new.tx.conn.now) twice goes c.due_day.ensures.stays
+
+pub returns-clause-stays : goal.returns-clause-stays
+returns-clause-stays g c =
+    let s0 = state g.S.Store c.args.tx.now.conn.now in
+    let s1 = state g.S.Store c.read.new.tx.conn.now in
+    let s2 = state g.S.Store c.least_hold.new.tx.conn.now in
+    let twice : Stays s0 s2 = stays_then s0 s1 s2 c.read.ensures.stays c.in_ok-asker.ensures.goes_on c.least_hold.ensures.stays in
+    let goes : HasCleanDisk s2 → GoesOn s0 s2 = λ clean. goes_then s0 s1 s2 (c.in_ok-asker.ensures.goes_on (omega (arith, clean, c.least_hold.ensures.stays.survives.clean))) (c.in_ok-hold.ensures.goes_on clean) in
+    stays_then s0 s2 (state g.S.Store c.due_day.new.tx.conn.now) twice goes c.due_day.ensures.stays
+
+pub returns-clause-goes_on : goal.returns-clause-goes_on
+returns-clause-goes_on g c clean =
+    let s0 = state g.S.Store c.args.tx.now.conn.now in
+    let s1 = state g.S.Store c.read.new.tx.conn.now in
+    let s2 = state g.S.Store c.least_hold.new.tx.conn.now in
+    let clean2 : HasCleanDisk s2 = omega (arith, clean, c.due_day.ensures.stays.survives.clean) in
+    let clean1 : HasCleanDisk s1 = omega (arith, clean2, c.least_hold.ensures.stays.survives.clean) in
+    goes_then s0 s2 (state g.S.Store c.due_day.new.tx.conn.now) (goes_then s0 s1 s2 (c.in_ok-asker.ensures.goes_on clean1) (c.in_ok-hold.ensures.goes_on clean2)) (c.in_ok-due.ensures.goes_on clean)

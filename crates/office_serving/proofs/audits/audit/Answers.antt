@@ -20,10 +20,10 @@ use Rattle.office_serving.proofs.audits.audit.Goals as goal
 pub returns-in-Ok-clause-decides : goal.returns-in-Ok-clause-decides
 returns-in-Ok-clause-decides g c clean h legal pictured =
     let a = c.args in
-    let mid = state g.S.Store c.asked_deposit.new.tx.conn.now in
+    let mid = state g.S.Store c.kept_deposit.new.tx.conn.now in
     let new = state g.S.Store c.files_of.new.tx.conn.now in
     let early : HasCleanDisk mid = omega (arith, clean, c.files_of.ensures.stays.survives.clean) in
-    let asked = c.in_ok-asked_deposit.ensures.asked early h legal pictured in
+    let asked = c.in_ok-kept_deposit.ensures.asked early h legal pictured in
     let row = c.in-Ok.field-0 in
     let it : IsThere h a.number (kept_refusals h a.caller.now acts.Audit a.number) row = subst (IsAsked h a.number (kept_refusals h a.caller.now acts.Audit a.number)) c.in-Ok.is asked.1 in
     let kept = is_kept h a.caller.now acts.Audit a.number row it in
@@ -39,7 +39,7 @@ returns-in-Ok-clause-decides g c clean h legal pictured =
 pub returns-clause-decides : goal.returns-clause-decides
 returns-clause-decides g c clean h legal pictured =
     let a = c.args in
-    let new = state g.S.Store c.asked_deposit.new.tx.conn.now in
-    let asked = c.in_ok-asked_deposit.ensures.asked clean h legal pictured in
+    let new = state g.S.Store c.kept_deposit.new.tx.conn.now in
+    let asked = c.in_ok-kept_deposit.ensures.asked clean h legal pictured in
     let said = subst (IsAsked h a.number (kept_refusals h a.caller.now acts.Audit a.number)) c.in-Err.is asked.1 in
     refused_serves h a.day a.caller.now (requests.Audit a.number) new.now c.in-Err.why said asked.0

@@ -1,52 +1,20 @@
-use Rattle.std.proofs.Common.{rules, ◌≡◌, arith, subst, Some, None}
-use Rattle.sqlite.specs.State.{HasCleanDisk}
+use Rattle.std.proofs.Common.{ap, sym, ◌∙◌, option_copied}
+use Rattle.std.specs.Str.{is_utf8}
 use Rattle.sqlite.specs.Held.{state}
-use Rattle.bag_text.specs.TransferForm.{content_at}
-use Rattle.office_core.specs.declared.action.Action.TheVariants as acts
-use Rattle.office_core.specs.declared.answer.Answer.TheVariants as answers
-use Rattle.office_core.specs.declared.request.Request.TheVariants as requests
-use Rattle.office_history.specs.Refusals.{kept_refusals}
-use Rattle.office_asking.specs.Deposits.{IsAsked, IsThere}
-use Rattle.office_asking.specs.Serving.{IsServed}
-use Rattle.office_asking.proofs.Readings.{pictured_still}
-use Rattle.office_serving.proofs.FilesTold.{content_read, seen_in, seen_none}
-use Rattle.office_serving.proofs.Told.{is_kept, file_served, file_missing, file_not_asked}
+use Rattle.sql_meaning.proofs.Results.{if_ok}
+use Rattle.office_serving.proofs.PathsTold.{spelled, unspelled, same_path}
 use Rattle.office_serving.proofs.files.download_file.Goals as goal
 
 pub returns-in-Some-clause-decides : goal.returns-in-Some-clause-decides
 returns-in-Some-clause-decides g c clean h legal pictured =
     let a = c.args in
-    let mid = state g.S.Store c.kept_deposit.new.tx.conn.now in
-    let new = state g.S.Store c.file_of.new.tx.conn.now in
-    let early : HasCleanDisk mid = omega (arith, clean, c.file_of.ensures.stays.survives.clean) in
-    let asked = c.in_ok-kept_deposit.ensures.asked early h legal pictured in
-    let row = c.in-Ok.field-0 in
-    let it : IsThere h a.number (kept_refusals h a.caller.now acts.Download a.number) row = subst (IsAsked h a.number (kept_refusals h a.caller.now acts.Download a.number)) c.in-Ok.is asked.1 in
-    let kept = is_kept h a.caller.now acts.Download a.number row it in
-    let read = content_read h mid.now asked.0 a.number it.found it.there kept a.path.now _ (c.in_ok-content-in-Ok.ensures.found clean asked.0.office) in
-    let some : Some c.in-Some.content.items ≡ content_at it.found.1.bag a.path.now = seen_in _ _ _ c.in-Some.is read in
-    let bytes : c.in-Some.content.items ≡ c.of.result = search rules in
-    subst (λ content. IsServed h a.day a.caller.now (requests.DownloadFile a.number a.path) (answers.File content) new.now) bytes
-    (file_served h a.day a.caller.now a.number a.path new.now row it c.in-Some.content.items some (pictured_still h mid.now asked.0 new.now (c.in_ok-content-in-Ok.ensures.same clean asked.0.office)))
+    let new = state g.S.Store c.download_text.new.tx.conn.now in
+    let text = c.in-Some.text in
+    let same = spelled (is_utf8 a.path.now) text.now a.path.now (ap option_copied (sym c.in-Some.is) ∙ c.text_in.ensures) in
+    if_ok c.download_text.result (λ given it. same_path h a.day a.caller.now a.number text a.path same given new.now it) (c.download_text.ensures.decides clean h legal pictured)
 
-pub returns-in-Ok-clause-decides : goal.returns-in-Ok-clause-decides
-returns-in-Ok-clause-decides g c clean h legal pictured =
+pub returns-in-None-clause-decides : goal.returns-in-None-clause-decides
+returns-in-None-clause-decides g c clean h legal pictured =
     let a = c.args in
-    let mid = state g.S.Store c.kept_deposit.new.tx.conn.now in
-    let new = state g.S.Store c.file_of.new.tx.conn.now in
-    let early : HasCleanDisk mid = omega (arith, clean, c.file_of.ensures.stays.survives.clean) in
-    let asked = c.in_ok-kept_deposit.ensures.asked early h legal pictured in
-    let row = c.in-Ok.field-0 in
-    let it : IsThere h a.number (kept_refusals h a.caller.now acts.Download a.number) row = subst (IsAsked h a.number (kept_refusals h a.caller.now acts.Download a.number)) c.in-Ok.is asked.1 in
-    let kept = is_kept h a.caller.now acts.Download a.number row it in
-    let read = content_read h mid.now asked.0 a.number it.found it.there kept a.path.now _ (c.in_ok-content-in-Ok.ensures.found clean asked.0.office) in
-    let none : None ≡ content_at it.found.1.bag a.path.now = seen_none _ _ c.in-None.is read in
-    file_missing h a.day a.caller.now a.number a.path new.now row it none (pictured_still h mid.now asked.0 new.now (c.in_ok-content-in-Ok.ensures.same clean asked.0.office))
-
-pub returns-clause-decides : goal.returns-clause-decides
-returns-clause-decides g c clean h legal pictured =
-    let a = c.args in
-    let new = state g.S.Store c.kept_deposit.new.tx.conn.now in
-    let asked = c.in_ok-kept_deposit.ensures.asked clean h legal pictured in
-    let said = subst (IsAsked h a.number (kept_refusals h a.caller.now acts.Download a.number)) c.in-Err.is asked.1 in
-    file_not_asked h a.day a.caller.now a.number a.path new.now c.in-Err.why said asked.0
+    let bad = unspelled (is_utf8 a.path.now) a.path.now (ap option_copied (sym c.in-None.is) ∙ c.text_in.ensures) in
+    c.download_no_text.ensures.decides bad clean h legal pictured

@@ -1,23 +1,23 @@
 //! Calls that are timed, over bags of 10 KiB with three files.
 
 use crate::changes::{Change, commit};
-use crate::office;
+use crate::office::{self, Rule};
 use anyhow::{Result, bail};
 use office_tables::{NewDeposit, TableFault, file_of, last_deposit, live_holds};
 use sqlite::{Alter, Connection};
 use std::alloc::Global;
 
-const DECLARATION: &[u8] = b"BagIt-Version: 1.0\nTag-File-Character-Encoding: UTF-8\n";
+pub const DECLARATION: &[u8] = b"BagIt-Version: 1.0\nTag-File-Character-Encoding: UTF-8\n";
 
 /// The payload file of a bag.
-const RECORD: &str = "data/record";
+pub const RECORD: &str = "data/record";
 
 /// Its length: with the other two files the bag has 10,240 bytes.
-const RECORD_LENGTH: usize = 10_108;
+pub const RECORD_LENGTH: usize = 10_108;
 
-/// The line that lists it, as long as a true one.
-const MANIFEST: &[u8] =
-    b"0123456789abcdef0123456789abcdef0123456789abcdef0123456789abcdef  data/record\n";
+/// The line that lists it.
+pub const MANIFEST: &[u8] =
+    b"c18da936f4a0e2d069d24a948518a527894ef8b727b5f6d020d11e9bbf5448d4  data/record\n";
 
 /// A call that is made many times.
 #[derive(Clone, Copy)]
@@ -32,14 +32,27 @@ pub enum Call {
     LastDeposit,
 }
 
-/// Makes an office with the class and the collection of the bags.
+/// A policy that allows its one caller everything, and the class and the collection of the bags.
+static DEFINITIONS: [Change<'static>; 3] = [
+    Change::Policy(
+        &[("anna", "archivist")],
+        &[Rule {
+            place: 1,
+            effect: 1,
+            role: "archivist",
+            action: "*",
+            collection: "*",
+            class: "*",
+        }],
+    ),
+    Change::Class("y10", 10),
+    Change::Collection("tax"),
+];
+
+/// Makes an office in which bags can be deposited.
 pub fn make<S: Alter>(alloc: Global, conn: &mut Connection<S>) -> Result<(), TableFault> {
     office::make(conn)?;
-    commit(
-        alloc,
-        conn,
-        &[Change::Class("y10", 10), Change::Collection("tax")],
-    )
+    commit(alloc, conn, &DEFINITIONS)
 }
 
 /// The last number of a deposit, or 0.
@@ -51,7 +64,7 @@ pub fn last<S: Alter>(conn: &mut Connection<S>) -> Result<u32, TableFault> {
 }
 
 /// A number from 1 to `last`, here and there.
-fn scattered(turn: u32, last: u32) -> u32 {
+pub fn scattered(turn: u32, last: u32) -> u32 {
     let before = turn.wrapping_mul(7919).checked_rem(last).unwrap_or(0);
     before.wrapping_add(1)
 }

@@ -5,14 +5,15 @@ use Rattle.std.specs.List.{list_any, filter_map}
 use Rattle.std.proofs.lemmas.Slice.Eq.{bytes_eq-Decides}
 use Rattle.sqlite.specs.Effect.{Database}
 use Rattle.office_rows.specs.Rows as rows
+use Rattle.office_rows.specs.Rows.{this_version}
 use Rattle.office_tables.specs.Tables.{tables_of}
 use Rattle.office_history.specs.Histories.{History, collection_in, has_collection}
-use Rattle.office_history.specs.Pictures.{collection_rows}
+use Rattle.office_history.specs.Pictures.{picture, collection_rows}
 use Rattle.office_history.proofs.AlikeAnswers.{among_first_places}
 use Rattle.office_asking.specs.Pictures.{Pictures}
 use Rattle.office_asking.proofs.Readings.{in_picture}
 
-bytes_eq-sym : (a b : List ℕ) → bytes_eq a b ≡ bytes_eq b a
+pub bytes_eq-sym : (a b : List ℕ) → bytes_eq a b ≡ bytes_eq b a
 bytes_eq-sym a b = by (bytes_eq a b) (bytes_eq b a) refl refl
   where
     by : (s t : Bool) → bytes_eq a b ≡ s → bytes_eq b a ≡ t → s ≡ t
@@ -21,9 +22,14 @@ bytes_eq-sym a b = by (bytes_eq a b) (bytes_eq b a) refl refl
     by true false e f = absurd (true≢false (sym ((bytes_eq-Decides b a).1 (sym ((bytes_eq-Decides a b).0 e))) ∙ f))
     by false true e f = absurd (true≢false (sym ((bytes_eq-Decides a b).1 (sym ((bytes_eq-Decides b a).0 f))) ∙ e))
 
-flipped : (name : List ℕ) (texts : List (List ℕ)) → list_any (λ c. bytes_eq c name) texts ≡ list_any (bytes_eq name) texts
-flipped name [] = refl
-flipped name (t ∷ texts) = λ i. bytes_eq-sym t name i || flipped name texts i
+-- whichever of the two is asked of the other
+pub among_either : (name : List ℕ) (names : List (List ℕ)) → list_any (λ other. bytes_eq other name) names ≡ list_any (bytes_eq name) names
+among_either name [] = refl
+among_either name (other ∷ names) = λ i. bytes_eq-sym other name i || among_either name names i
+
+-- there is a row of that name where there is such a collection
+pub collection_there : (h : History) (name : List ℕ) → rows.has_collection name (picture this_version h) ≡ has_collection h name
+collection_there h name = among_either name (collection_rows h) ∙ among_first_places name (filter_map collection_in h.changes)
 
 pub collection_told : (h : History) (db : Database) → Pictures h db → (name : List ℕ) → rows.has_collection name (tables_of db) ≡ has_collection h name
-collection_told h db pictured name = in_picture h db pictured (rows.has_collection name) ∙ flipped name (collection_rows h) ∙ among_first_places name (filter_map collection_in h.changes)
+collection_told h db pictured name = in_picture h db pictured (rows.has_collection name) ∙ collection_there h name

@@ -1,0 +1,117 @@
+"""What the speed scripts of the office share: the program `crates/office_file`, and files that hold
+an office, which Python fills.
+"""
+import hashlib
+import os
+import pathlib
+import shutil
+import sqlite3
+import statistics
+import subprocess
+import sys
+import tempfile
+import time
+
+TOP = pathlib.Path(__file__).resolve().parent.parent
+PROGRAM = TOP / "crates" / "office_file" / "out" / "office_file"
+RUNS = int(os.environ.get("RUNS", "7"))
+# The bag of 10,240 bytes that the program deposits, too.
+DECLARATION = b"BagIt-Version: 1.0\nTag-File-Character-Encoding: UTF-8\n"
+RECORD = b"r" * 10_108
+MANIFEST = hashlib.sha256(RECORD).hexdigest().encode() + b"  data/record\n"
+FILES = [("bagit.txt", DECLARATION), ("data/record", RECORD), ("manifest-sha256.txt", MANIFEST)]
+PUT_DEPOSIT = (
+    "INSERT INTO deposit (number, accession, collection, class, closed, deposited, files, bytes)"
+    " VALUES (?1, ?2, ?3, ?4, ?5, ?6, ?7, ?8)"
+)
+PUT_FILE = "INSERT INTO file (deposit, path, content) VALUES (?1, ?2, ?3)"
+PUT_HOLD = (
+    "INSERT INTO hold (number, deposit, collection, matter, placed, released)"
+    " VALUES (?1, ?2, ?3, ?4, ?5, ?6)"
+)
+FILE_OF = "SELECT content FROM file WHERE deposit = ?1 AND path = ?2"
+
+
+def ours(*words):
+    """What the program prints."""
+    found = subprocess.run([str(PROGRAM), *map(str, words)], capture_output=True, text=True)
+    if found.returncode != 0:
+        sys.exit(f"{words} ended with {found.returncode}: {found.stderr}")
+    return found.stdout
+
+
+def opened(file):
+    """The file, as Python opens it."""
+    conn = sqlite3.connect(file, isolation_level=None)
+    conn.execute("PRAGMA journal_mode = WAL").fetchall()
+    conn.execute("PRAGMA synchronous = FULL")
+    conn.execute("PRAGMA foreign_keys = ON")
+    return conn
+
+
+def put_bag(conn, number):
+    """A deposit of the bag and its three files."""
+    conn.execute(PUT_DEPOSIT, (number, f"2026-{number:07}", "tax", "y10", 20454, 20500, 1, 10108))
+    for path, content in FILES:
+        conn.execute(PUT_FILE, (number, path, content))
+
+
+def filled(folder, rows):
+    """An office with so many deposits and holds; three live holds are over deposit 1."""
+    file = pathlib.Path(folder) / f"{rows}.db"
+    if file.exists():
+        return file
+    ours("make", file)
+    conn = opened(file)
+    conn.execute("BEGIN")
+    for number in range(1, rows + 1):
+        put_bag(conn, number)
+    few = {rows // 4: (1, None), rows // 2: (None, "tax"), rows: (1, None)}
+    for number in range(1, rows + 1):
+        if number in few:
+            held, released = few[number], None
+        else:
+            other = (number + 1, None) if number % 2 else (None, f"other {number % 50}")
+            held, released = other, (20_700 if number % 3 else None)
+        conn.execute(PUT_HOLD, (number, *held, "suit", 20_600, released))
+    conn.execute("COMMIT")
+    conn.execute("PRAGMA wal_checkpoint(TRUNCATE)").fetchall()
+    conn.close()
+    return file
+
+
+def copy(file, name):
+    """A copy of the file beside it, in place of an earlier one."""
+    to = file.with_name(name)
+    for end in ("", "-wal", "-shm"):
+        to.with_name(name + end).unlink(missing_ok=True)
+    shutil.copyfile(file, to)
+    return to
+
+
+def turns(first, second):
+    """The medians of runs that take turns."""
+    ones, others = [], []
+    for _ in range(RUNS):
+        ones.append(float(first()))
+        others.append(float(second()))
+    return statistics.median(ones), statistics.median(others)
+
+
+def say(name, count, first, second, other, most):
+    """Prints a case."""
+    each = f"{first / count:.1f} and {second / count:.1f} microseconds each"
+    print(f"{name}: {first / second:.2f} times {other} (at most {most}; {each})", flush=True)
+
+
+def main(cases):
+    """Runs the cases that the words behind the script's name ask for, or all."""
+    if not PROGRAM.exists():
+        sys.exit("build the program first: in crates/office_file, rt run -- make /tmp/a-new-file.db")
+    names = sys.argv[1:] or list(cases)
+    for name in names:
+        if name not in cases:
+            sys.exit("the cases are " + ", ".join(cases))
+    with tempfile.TemporaryDirectory() as folder:
+        for name in names:
+            cases[name](folder)

@@ -1,0 +1,182 @@
+#!/usr/bin/env python3
+"""Speed of requests to the office over a file.
+
+Each case is measured beside the SQL statements alone that the request makes, in their order and in
+one transaction, through Python's sqlite3 (WAL, synchronous FULL). Prints a ratio for each case: of
+the medians of runs that take turns (RUNS=n, 7 if left out). `due` is a figure alone, and `large` a
+ratio of peak memory. The program crates/office_file, which makes the requests, has to be built; it
+doesn't count the opening of the file, and nor does the other side. Words behind `requests.py` name
+the cases that are run; with none, all are.
+"""
+import os
+import sys
+import time
+
+from office_file import FILES, PROGRAM, copy, filled, main, opened, ours, put_bag, say, turns
+from office_file import PUT_DEPOSIT, PUT_FILE
+
+DEPOSIT = "SELECT number, accession, collection, class, closed, deposited, files, bytes, gone FROM deposit"
+HOLDS_ON_DEPOSIT = (
+    "SELECT number FROM hold WHERE deposit = ?1 AND released IS NULL ORDER BY number"
+)
+HOLDS_ON_COLLECTION = (
+    "SELECT number FROM hold WHERE collection = ?2 AND deposit IS NOT ?1 AND released IS NULL"
+    " ORDER BY number"
+)
+
+
+class Statements:
+    """The statements of requests, by the caller `anna`."""
+
+    def __init__(self, file):
+        self.conn = opened(file)
+
+    def rows(self, text, *values):
+        return self.conn.execute(text, values).fetchall()
+
+    def asker(self):
+        self.rows("SELECT role FROM caller WHERE name = ?1", "anna")
+        self.rows("SELECT place, effect, role, action, collection, class FROM rule ORDER BY place")
+
+    def row(self, number):
+        return self.rows(DEPOSIT + " WHERE number = ?1", number)[0]
+
+    def years(self):
+        return self.rows("SELECT years FROM class WHERE name = ?1", "y10")[0][0]
+
+    def deposit(self, number):
+        self.rows("SELECT name FROM collection WHERE name = ?1", "tax")
+        self.years()
+        self.asker()
+        self.rows(DEPOSIT + " WHERE accession = ?1", f"2026-{number:07}")
+        self.rows("SELECT max_deposits, max_holds FROM office WHERE id = ?1", 1)
+        self.rows("SELECT number FROM deposit ORDER BY number DESC LIMIT 1")
+        put_bag(self.conn, number)
+
+    def record(self, number):
+        self.row(number)
+        self.asker()
+        self.years()
+
+    def disposal(self, number):
+        self.row(number)
+        self.asker()
+        self.rows(HOLDS_ON_DEPOSIT, number)
+        self.rows(HOLDS_ON_COLLECTION, number, "tax")
+        self.years()
+
+    def bag(self, number):
+        self.row(number)
+        self.asker()
+        self.rows("SELECT deposit, path, content FROM file WHERE deposit = ?1 ORDER BY path", number)
+
+    def list(self, _number):
+        self.asker()
+        for _row in self.rows(DEPOSIT + " ORDER BY number"):
+            self.years()
+
+
+def theirs(file, name, last, count, end):
+    """Microseconds of the statements of so many requests."""
+    statements = Statements(file)
+    ask = getattr(statements, name)
+    begin = time.perf_counter()
+    for turn in range(1, count + 1):
+        number = last + turn if end == "COMMIT" else (turn * 7919) % 2**32 % last + 1
+        statements.conn.execute("BEGIN")
+        ask(number)
+        statements.conn.execute(end)
+    took = time.perf_counter() - begin
+    statements.conn.close()
+    return took * 1e6
+
+
+def deposit(folder):
+    """Deposits of a bag of 10 KiB with three files, into an office of 100."""
+    file, count = filled(folder, 100), 300
+    first, second = turns(
+        lambda: ours("ask-deposits", copy(file, "ours.db"), count),
+        lambda: theirs(copy(file, "theirs.db"), "deposit", 100, count, "COMMIT"),
+    )
+    say("deposit", count, first, second, "its statements through Python", 1.6)
+
+
+def reading(folder, task, name, count, most):
+    """A request that changes nothing, at 10,000 deposits."""
+    file = filled(folder, 10_000)
+    first, second = turns(
+        lambda: ours(task, file, count), lambda: theirs(file, name, 10_000, count, "ROLLBACK")
+    )
+    say(name, count, first, second, "its statements through Python", most)
+
+
+def record(folder):
+    """Records, at 10,000 deposits."""
+    reading(folder, "ask-records", "record", 2_000, 1.5)
+
+
+def disposal(folder):
+    """Disposals that are refused, at 10,000 deposits and as many holds."""
+    reading(folder, "ask-disposals", "disposal", 300, 1.5)
+
+
+def bag(folder):
+    """Downloads of a bag of 10 KiB, at 10,000 deposits."""
+    reading(folder, "ask-bags", "bag", 2_000, 1.5)
+
+
+def whole_list(folder):
+    """A list of 10,000 records."""
+    reading(folder, "ask-lists", "list", 2, 2)
+
+
+def due(folder):
+    """The due list at 10,000 deposits and as many holds: the figure alone."""
+    took = float(ours("ask-due", filled(folder, 10_000), 1))
+    print(f"due: {took / 1e6:.2f} seconds", flush=True)
+
+
+def peak(*words):
+    """The most memory that the program takes, in bytes."""
+    child = os.posix_spawn(
+        str(PROGRAM),
+        [str(PROGRAM), *map(str, words)],
+        os.environ,
+        file_actions=[(os.POSIX_SPAWN_OPEN, 1, os.devnull, os.O_WRONLY, 0)],
+    )
+    _, status, used = os.wait4(child, 0)
+    if status != 0:
+        sys.exit(f"{words} ended with {status}")
+    return used.ru_maxrss * 1024
+
+
+def large(folder):
+    """A download of 16 MiB: peak memory beside the same program's once it had opened the file."""
+    file = filled(folder, 100)
+    file = copy(file, "large.db")
+    size = 16 * 1024 * 1024
+    content = b"r" * (size - sum(len(path) + len(it) for path, it in FILES) + len(FILES[1][1]) - 200)
+    conn = opened(file)
+    conn.execute("DELETE FROM file")
+    conn.execute("DELETE FROM deposit")
+    conn.execute(PUT_DEPOSIT, (1, "2026-0000001", "tax", "y10", 20454, 20500, 1, len(content)))
+    for path, it in FILES:
+        conn.execute(PUT_FILE, (1, path, content if path == "data/record" else it))
+    conn.execute("PRAGMA wal_checkpoint(TRUNCATE)").fetchall()
+    conn.close()
+    opening = peak("ask-records", file, 0)
+    whole = peak("ask-bags", file, 1)
+    print(f"large: {(whole - opening) / size:.2f} times 16 MiB above {opening / 2**20:.1f} MiB (at most 3)")
+
+
+CASES = {
+    "deposit": deposit,
+    "record": record,
+    "disposal": disposal,
+    "bag": bag,
+    "list": whole_list,
+    "due": due,
+    "large": large,
+}
+
+main(CASES)

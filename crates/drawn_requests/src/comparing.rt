@@ -1,0 +1,103 @@
+//! The same requests, put to both offices.
+
+use crate::drawing::{Drawn, Draws};
+use crate::texts::POLICIES;
+use anyhow::{Context, Result, bail};
+use office_core::{Answer, Day, Limits, Request, read_policy};
+use office_engine::Office;
+use office_history::plain;
+use sqlite::{Connection, MemStore};
+use std::alloc::Global;
+
+/// How many requests were accepted, and how many refused.
+#[derive(Clone, Copy)]
+pub struct Tally {
+    pub accepted: u64,
+    pub refused: u64,
+}
+
+/// The two offices.
+struct Offices {
+    plain: plain::Office,
+    kept: Office<MemStore>,
+}
+
+impl Offices {
+    /// Two new offices, with room for a few deposits and holds.
+    fn create(alloc: Global) -> Result<Offices> {
+        let limits = Limits::new(5, 6).context("limits")?;
+        let conn = Connection::open_in_memory(alloc)?;
+        let Ok(kept) = Office::create(conn, limits) else {
+            bail!("no office could be made");
+        };
+        Ok(Offices {
+            plain: plain::Office::create(alloc, limits),
+            kept,
+        })
+    }
+
+    fn install(&mut self, alloc: Global, policy: &str) -> Result<()> {
+        self.kept.install(alloc, &read_policy(alloc, policy)?)?;
+        self.plain.install(read_policy(alloc, policy)?)?;
+        Ok(())
+    }
+
+    /// Whether the request is accepted. Fails where the answers differ.
+    fn step(
+        &mut self,
+        alloc: Global,
+        day: Day,
+        caller: &str,
+        request: &Request<'_>,
+    ) -> Result<bool> {
+        let wanted = self.plain.step(alloc, day, caller, request);
+        let found = self.kept.step(alloc, day, caller, request);
+        let wanted_text = format!(in alloc; "{wanted:?}")?;
+        let found_text = format!(in alloc; "{found:?}")?;
+        if wanted_text != found_text {
+            bail!("{request:?} on {day} by {caller:?} is answered {found_text}, by the plain office {wanted_text}");
+        }
+        Ok(!matches!(wanted, Answer::Refused(_)))
+    }
+
+    /// Compares what either office lists as due.
+    fn compare_due(&mut self, alloc: Global, day: Day, caller: &str) -> Result<()> {
+        let found = self.kept.due_list(alloc, day, caller)?;
+        if let Answer::DueList { deposits, .. } = self.plain.step(alloc, day, caller, &Request::DueList) {
+            if deposits.as_slice() == found.as_slice() {
+                return Ok(());
+            }
+        }
+        bail!("the due list on {day} for {caller:?} is another one")
+    }
+}
+
+/// Puts so many requests, drawn by the seed, to two new offices, and installs between them. Fails
+/// where an answer of the one isn't the answer of the other.
+pub fn compare(alloc: Global, seed: u64, count: u32) -> Result<Tally> {
+    let mut draws = Draws::new(seed);
+    let mut offices = Offices::create(alloc)?;
+    offices.install(alloc, POLICIES[0])?;
+    let mut tally = Tally {
+        accepted: 0,
+        refused: 0,
+    };
+    for _ in 0..count {
+        match draws.next().context("a draw")? {
+            Drawn::Install(policy) => offices.install(alloc, policy)?,
+            Drawn::Request {
+                day,
+                caller,
+                request,
+            } => {
+                if offices.step(alloc, day, caller, &request)? {
+                    tally.accepted += 1;
+                    offices.compare_due(alloc, day, caller)?;
+                } else {
+                    tally.refused += 1;
+                }
+            }
+        }
+    }
+    Ok(tally)
+}

@@ -1,0 +1,54 @@
+//! What requests are drawn from: names, days, bags and policies.
+
+/// Who calls. The policies list two of them.
+pub static CALLERS: [&str; 4] = ["anna", "carl", "eve", ""];
+
+pub static COLLECTIONS: [&str; 3] = ["tax", "maps", "x"];
+
+pub static CLASSES: [&str; 3] = ["y1", "y10", "z"];
+
+pub static ACCESSIONS: [&str; 6] = ["A-1", "A-2", "A-3", "A-4", "A-5", "A-6"];
+
+pub static MATTERS: [&str; 2] = ["Case 7", "Müller ./. \"Land\""];
+
+/// Days of requests, and closing days.
+pub static DAYS: [&str; 8] = [
+    "1969-12-31",
+    "2024-02-28",
+    "2024-02-29",
+    "2024-03-01",
+    "2025-02-28",
+    "2025-03-01",
+    "2034-02-28",
+    "9799-12-31",
+];
+
+/// Paths that are asked for: two files, a name spelled as in a manifest, and one that is no path.
+pub static PATHS: [&str; 4] = ["data/a", "bagit.txt", "data/a%0Ab", "data/../a"];
+
+const BAG: &[u8] =
+    b"BAGSET 1\nFILE 9 54\nbagit.txtBagIt-Version: 1.0\nTag-File-Character-Encoding: UTF-8\n\nFILE 6 3\ndata/aabc\nFILE 19 73\nmanifest-sha256.txtba7816bf8f01cfea414140de5dae2223b00361a396177a9cb410ff61f20015ad  data/a\n\nEND\n";
+
+const OLDER: &[u8] =
+    b"BAGSET 1\nFILE 9 55\nbagit.txtBagIt-Version: 0.97\nTag-File-Character-Encoding: UTF-8\n\nFILE 6 3\ndata/aabc\nFILE 19 73\nmanifest-sha256.txtba7816bf8f01cfea414140de5dae2223b00361a396177a9cb410ff61f20015ad  data/a\n\nEND\n";
+
+const PERCENT: &[u8] =
+    b"BAGSET 1\nFILE 9 54\nbagit.txtBagIt-Version: 1.0\nTag-File-Character-Encoding: UTF-8\n\nFILE 10 3\ndata/a%0Ababc\nFILE 19 79\nmanifest-sha256.txtba7816bf8f01cfea414140de5dae2223b00361a396177a9cb410ff61f20015ad  data/a%250Ab\n\nEND\n";
+
+const OTHER_BYTES: &[u8] =
+    b"BAGSET 1\nFILE 9 54\nbagit.txtBagIt-Version: 1.0\nTag-File-Character-Encoding: UTF-8\n\nFILE 6 3\ndata/aabd\nFILE 19 73\nmanifest-sha256.txtba7816bf8f01cfea414140de5dae2223b00361a396177a9cb410ff61f20015ad  data/a\n\nEND\n";
+
+const CUT: &[u8] =
+    b"BAGSET 1\nFILE 9 54\nbagit.txtBagIt-Version: 1.0\nTag-File-Character-Encoding: UTF-8\n";
+
+/// Three valid bags, one whose file has other bytes than its manifest says, one that is cut, and none.
+pub static BAGS: [&[u8]; 6] = [BAG, OLDER, PERCENT, OTHER_BYTES, CUT, b""];
+
+const ARCHIVIST_AND_CLERK: &str =
+    "version = 1\n\n[callers]\nanna = \"archivist\"\ncarl = \"clerk\"\n\n[[rule]]\neffect = \"deny\"\nrole = \"archivist\"\naction = \"dispose\"\ncollection = \"tax\"\nclass = \"*\"\n\n[[rule]]\neffect = \"allow\"\nrole = \"archivist\"\naction = \"*\"\ncollection = \"*\"\nclass = \"*\"\n\n[[rule]]\neffect = \"allow\"\nrole = \"clerk\"\naction = \"list\"\ncollection = \"*\"\nclass = \"y10\"\n";
+
+const EVERYBODY: &str =
+    "version = 1\n\n[[rule]]\neffect = \"deny\"\nrole = \"*\"\naction = \"hold\"\ncollection = \"*\"\nclass = \"y1\"\n\n[[rule]]\neffect = \"allow\"\nrole = \"stranger\"\naction = \"*\"\ncollection = \"*\"\nclass = \"*\"\n";
+
+/// The policies. The first is installed before the first request.
+pub static POLICIES: [&str; 2] = [ARCHIVIST_AND_CLERK, EVERYBODY];

@@ -1,0 +1,17 @@
+//! Worked sessions with an office, which is any of two: who asks what on which day, and what is
+//! answered.
+#![tactic(auto)]
+
+mod asking;
+mod bags;
+mod offices;
+mod session_fault;
+mod sessions;
+mod wording;
+
+pub use asking::Asked;
+pub use bags::{BAG, BAG_0_97, PERCENT};
+pub use offices::AnyOffice;
+pub use session_fault::SessionFault;
+pub use sessions::{OPENING, POLICY, Row, differs, differs_in_run, open, said};
+pub use wording::words;

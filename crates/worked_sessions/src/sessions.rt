@@ -1,0 +1,107 @@
+//! Sessions: rows put to an office in turn, each with its answer.
+
+use crate::asking::Asked;
+use crate::offices::AnyOffice;
+use crate::session_fault::SessionFault;
+use crate::wording::words;
+use office_core::{Day, read_policy};
+use std::alloc::Global;
+
+/// Two callers and three rules. `anna` may do all but destroy what is of the collection `tax`;
+/// `carl` may list what is of the class `y10`.
+pub const POLICY: &str =
+    "version = 1\n\n[callers]\nanna = \"archivist\"\ncarl = \"clerk\"\n\n[[rule]]\neffect = \"deny\"\nrole = \"archivist\"\naction = \"dispose\"\ncollection = \"tax\"\nclass = \"*\"\n\n[[rule]]\neffect = \"allow\"\nrole = \"archivist\"\naction = \"*\"\ncollection = \"*\"\nclass = \"*\"\n\n[[rule]]\neffect = \"allow\"\nrole = \"clerk\"\naction = \"list\"\ncollection = \"*\"\nclass = \"y10\"\n";
+
+/// A row: the day, who asks, what is asked, and the answer in words.
+pub type Row = (&'static str, &'static str, Asked, &'static str);
+
+/// Two classes and two collections are defined.
+pub static OPENING: [Row; 4] = [
+    ("2024-03-01", "anna", Asked::Class("y1", 1), "class y1 1"),
+    (
+        "2024-03-01",
+        "anna",
+        Asked::Class("y10", 10),
+        "class y10 10",
+    ),
+    (
+        "2024-03-01",
+        "anna",
+        Asked::Collection("tax"),
+        "collection tax",
+    ),
+    (
+        "2024-03-01",
+        "anna",
+        Asked::Collection("maps"),
+        "collection maps",
+    ),
+];
+
+/// What the office answers that caller on that day, in words.
+pub fn said<O: AnyOffice>(
+    alloc: Global,
+    office: &mut O,
+    day: &str,
+    caller: &str,
+    asked: Asked,
+) -> Result<String, SessionFault> {
+    let day = Day::read(day).ok_or(SessionFault::AsksNothing)?;
+    let request = asked.request().ok_or(SessionFault::AsksNothing)?;
+    let answer = office.step(alloc, day, caller, &request);
+    Ok(words(alloc, &answer)?)
+}
+
+/// The first of the rows that is answered otherwise, with its answer, or none: they are put to the
+/// office one after the other.
+pub fn differs<O: AnyOffice>(
+    alloc: Global,
+    office: &mut O,
+    rows: &[Row],
+) -> Result<Option<String>, SessionFault> {
+    for (at, (day, caller, asked, told)) in rows.iter().enumerate() {
+        let answer = said(alloc, office, day, caller, *asked)?;
+        if answer.as_str() != *told {
+            return Ok(Some(format!(in alloc; "row {at} answers {answer}")?));
+        }
+    }
+    Ok(None)
+}
+
+/// The same, where the rows are put to the office in one run.
+pub fn differs_in_run<O: AnyOffice>(
+    alloc: Global,
+    office: &mut O,
+    rows: &[Row],
+) -> Result<Option<String>, SessionFault> {
+    let mut items = Vec::new(alloc);
+    for (day, caller, asked, _) in rows {
+        let day = Day::read(day).ok_or(SessionFault::AsksNothing)?;
+        items.push((
+            day,
+            *caller,
+            asked.request().ok_or(SessionFault::AsksNothing)?,
+        ))?;
+    }
+    let answers = office.run(alloc, items.as_slice())?;
+    if answers.len() != rows.len() {
+        return Ok(Some(format!(in alloc; "another number of answers")?));
+    }
+    for (at, (answer, row)) in answers.iter().zip(rows.iter()).enumerate() {
+        let answer = words(alloc, answer)?;
+        if answer.as_str() != row.3 {
+            return Ok(Some(format!(in alloc; "row {at} answers {answer}")?));
+        }
+    }
+    Ok(None)
+}
+
+/// Gives the office the policy, the classes `y1` and `y10` and the collections `tax` and `maps`. As
+/// `differs` on the rows of `OPENING`.
+pub fn open<O: AnyOffice>(alloc: Global, office: &mut O) -> Result<Option<String>, SessionFault> {
+    let policy = read_policy(alloc, POLICY).map_err(|_| SessionFault::NoPolicy)?;
+    office
+        .install(alloc, policy)
+        .map_err(SessionFault::NotInstalled)?;
+    differs(alloc, office, &OPENING)
+}
