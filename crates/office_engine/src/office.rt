@@ -1,6 +1,6 @@
 //! The office: requests over a connection to any store, each in one transaction.
 
-ghost use Rattle.std.specs.Prelude.{◌≡◌, ◌⊎◌, Err, IfErr, IfOk, IfSome, IsTrue, List, OnErr, OnOk, false};
+ghost use Rattle.std.specs.Prelude.{◌≡◌, ◌≢◌, ◌⊎◌, Err, IfErr, IfOk, IfSome, IsTrue, List, OnErr, OnOk, false};
 ghost use Rattle.sqlite.specs.FileStore.{view, state as files_state};
 ghost use Rattle.sqlite.specs.Files.{file_state, image_of};
 ghost use Rattle.sqlite.specs.Recovery.{Image};
@@ -11,6 +11,7 @@ ghost use Rattle.sqlite.specs.Tree.{Trees};
 ghost use Rattle.office_tables.specs.Faults as faults;
 ghost use Rattle.office_tables.specs.Opening as opening;
 ghost use Rattle.office_tables.specs.Opening.{HasOtherVersion, HasVersion, IsKept, has_office};
+ghost use Rattle.office_tables.specs.Schema.{no_schema};
 ghost use Rattle.office_tables.specs.declared.fault.TableFault.TheVariants.{NotAnOffice, OtherVersion};
 ghost use Rattle.office_rows.specs.Rows.{this_version};
 ghost use Rattle.office_history.specs.Histories.{History};
@@ -76,6 +77,8 @@ impl<S: Alter> Office<S> {
         ensures refused_survives { IfErr result (λ e. Survives (state S.Store conn) (state S.Store e.0)
             (IsLeftOf (new_history limits.deposits limits.holds))) }
         ensures failure { IfErr result (λ e. faults.IsFailure e.1) }
+        // What is there stays: a database that isn't empty is never made an office.
+        ensures not_empty { (state S.Store conn).now.schema ≢ no_schema → result ≡ Err (conn, TableFault.Store) }
     {
         match office_tables::create(&mut conn, limits.deposits, limits.holds) {
             Ok(()) => Ok(Office { conn }),
@@ -232,7 +235,8 @@ pub fn stop_in_run<D: Disk + Drop>(
     stop(office.into_connection())
 }
 
-/// The office that is found in files.
+/// The office that is found in files. `None` where they can't be opened, or are no office of this
+/// version.
 pub fn reopen<D: Disk + Drop>(
     alloc: Global,
     files: Files<D>,
@@ -240,6 +244,8 @@ pub fn reopen<D: Disk + Drop>(
 ) -> Option<Office<FileStore<D>>>
     requires log { IsTrue (D.Disk.is_usable files.log) }
     requires db { IsTrue (D.Disk.is_usable files.db) }
+    // It is an office of this version, and never any other database.
+    ensures version { IfSome result (λ office. HasCleanDisk (file_state office) → IsTrue (file_state office).is_open → HasVersion (file_state office).now this_version) }
     // Where they hold one of two offices, it is one of them.
     ensures either { IfSome result (λ office. HasCleanDisk (file_state office) → (g h : History)
         → HoldsWhere (IsLeftOfEither g h) (image_of D.Disk files) → ∥ (IsKeptBy g (file_state office) ⊎ IsKeptBy h (file_state office)) ∥₁) }

@@ -1,6 +1,6 @@
 //! One request in one transaction.
 
-ghost use Rattle.std.specs.Prelude.{◌≡◌, ℕ, IfErr, false};
+ghost use Rattle.std.specs.Prelude.{◌≡◌, ◌≢◌, ℕ, IfErr, false};
 ghost use Rattle.sqlite.specs.State.{HasCleanDisk, Survives};
 ghost use Rattle.sqlite.specs.Held.{state};
 ghost use Rattle.office_core.specs.declared.request.Request.TheVariants as requests;
@@ -23,6 +23,8 @@ use std::alloc::Global;
 
 /// The answer where the tables fail.
 fn failure_of(fault: TableFault) -> Answer
+    ensures memory { fault ≡ TableFault.Memory → result ≡ Answer.Refused Refusal.Memory }
+    ensures store { fault ≢ TableFault.Memory → result ≡ Answer.Refused Refusal.Store }
     ensures failure { IsFailure result }
     ensures unchanged { is_accepted result ≡ false }
 {

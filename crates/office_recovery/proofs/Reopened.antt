@@ -1,5 +1,5 @@
 -- An office whose files are opened again.
-use Rattle.std.proofs.Common.{◌≡◌, IsTrue, refl, sym, ap, subst, ◌∙◌}
+use Rattle.std.proofs.Common.{◌≡◌, ℤ, IsTrue, refl, sym, ap, subst, ◌∙◌}
 use Rattle.std.proofs.Math.Logic.{∥∥₁_map}
 use Rattle.sqlite_disk.specs.declared.Disk.{Ghosts}
 use Rattle.sqlite.specs.Recovery.{Image}
@@ -13,7 +13,7 @@ use Rattle.sqlite.specs.Start.{FindsIn}
 use Rattle.sqlite.specs.Files.{HoldsDatabase}
 use Rattle.sqlite.proofs.Theorems.{opens_again}
 use Rattle.office_rows.specs.Rows.{Tables}
-use Rattle.office_tables.specs.Opening.{IsLeft}
+use Rattle.office_tables.specs.Opening.{HasVersion, IsKept, IsLeft}
 use Rattle.office_recovery.specs.Found.{IsKeptAs, GoesOnAs, HoldsWhere, PicksUp}
 use Rattle.office_recovery.proofs.FoundAgain.{becomes_again}
 use Rattle.office_recovery.proofs.Settled.{left_from}
@@ -36,6 +36,11 @@ opened_keeps s opens live tables left is_open =
 pub picks_up : (image : Image) (first last : State) → ((db : Trees) → HoldsDatabase image db → first.committed.trees ≡ db) → Opens first → GoesOnAs first last → PicksUp image last
 picks_up image first last finds opens on db held tables left =
     on tables (subst (IsLeft tables) (sym (ap (λ (d : Database). d.trees) opens.clean ∙ finds db held)) left)
+
+-- and shows the version that it was found to have
+pub shows_version : (first last : State) (version : ℤ) → Opens first → IsKept first last → HasVersion first.now version → IsTrue last.is_open → HasVersion last.now version
+shows_version first last version opens kept has is_open =
+    let same = (kept is_open).1 (sym opens.clean) in subst (λ (d : Database). HasVersion d version) (sym same.0) has
 
 -- Of several that a crash may leave, one is picked up.
 pub picks_one : {H : Type 0} (image : Image) (s : State) (May : H → Type 0) (rows : H → Tables) → PicksUp image s

@@ -66,6 +66,9 @@ pub fn reopen<S: Start>(
     path: &str,
     start: S,
 ) -> Option<Connection<FileStore<FileFrom<S>>>>
+    ensures outside { IfSome result (λ office. (file_state office).in_transaction ≡ false) }
+    // It is an office of this version, and never any other database.
+    ensures version { IfSome result (λ office. HasCleanDisk (file_state office) → IsTrue (file_state office).is_open → HasVersion (file_state office).now this_version) }
     ensures goes_on { IfSome result (λ office. HasCleanDisk (file_state office) → PicksUp (image_at S.Start) (file_state office)) }
 {
     let conn = match Connection::open_from(rt, path, false, start) {
@@ -87,6 +90,7 @@ pub fn reopen_files<D: Disk + Drop>(
     requires log { IsTrue (D.Disk.is_usable files.log) }
     requires db { IsTrue (D.Disk.is_usable files.db) }
     ensures outside { IfSome result (λ office. (file_state office).in_transaction ≡ false) }
+    ensures version { IfSome result (λ office. HasCleanDisk (file_state office) → IsTrue (file_state office).is_open → HasVersion (file_state office).now this_version) }
     ensures goes_on { IfSome result (λ office. HasCleanDisk (file_state office) → PicksUp (image_of D.Disk files) (file_state office)) }
 {
     let conn = match Connection::open_files(alloc, files, options) {
