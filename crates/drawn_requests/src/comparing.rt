@@ -1,9 +1,9 @@
 //! The same requests, put to both offices.
 
 use crate::drawing::{Drawn, Draws};
-use crate::texts::POLICIES;
+use crate::texts::{FIRST_CLASSES, FIRST_COLLECTIONS, POLICIES};
 use anyhow::{Context, Result, bail};
-use office_core::{Answer, Day, Limits, Request, read_policy};
+use office_core::{Answer, Day, Limits, Name, Request, Years, read_policy};
 use office_engine::Office;
 use office_history::plain;
 use sqlite::{Connection, MemStore};
@@ -17,6 +17,7 @@ pub struct Tally {
 }
 
 /// The two offices.
+#[derive(Drop)]
 struct Offices {
     plain: plain::Office,
     kept: Office<MemStore>,
@@ -55,15 +56,39 @@ impl Offices {
         let wanted_text = format!(in alloc; "{wanted:?}")?;
         let found_text = format!(in alloc; "{found:?}")?;
         if wanted_text != found_text {
-            bail!("{request:?} on {day} by {caller:?} is answered {found_text}, by the plain office {wanted_text}");
+            bail!(
+                "{request:?} on {day} by {caller:?} is answered {found_text}, by the plain office {wanted_text}"
+            );
         }
         Ok(!matches!(wanted, Answer::Refused(_)))
+    }
+
+    /// Defines what is there from the beginning.
+    fn define(&mut self, alloc: Global) -> Result<()> {
+        let day = Day::read("2024-02-28").context("the first day")?;
+        for name in FIRST_CLASSES {
+            let request = Request::DefineClass {
+                name: Name::read(name).context("a class")?,
+                years: Years::new(1).context("years")?,
+            };
+            self.step(alloc, day, "anna", &request)?;
+        }
+        for name in FIRST_COLLECTIONS {
+            let request = Request::DefineCollection {
+                name: Name::read(name).context("a collection")?,
+            };
+            self.step(alloc, day, "anna", &request)?;
+        }
+        Ok(())
     }
 
     /// Compares what either office lists as due.
     fn compare_due(&mut self, alloc: Global, day: Day, caller: &str) -> Result<()> {
         let found = self.kept.due_list(alloc, day, caller)?;
-        if let Answer::DueList { deposits, .. } = self.plain.step(alloc, day, caller, &Request::DueList) {
+        if let Answer::DueList { deposits, .. } = self
+            .plain
+            .step(alloc, day, caller, &Request::DueList)
+        {
             if deposits.as_slice() == found.as_slice() {
                 return Ok(());
             }
@@ -78,6 +103,7 @@ pub fn compare(alloc: Global, seed: u64, count: u32) -> Result<Tally> {
     let mut draws = Draws::new(seed);
     let mut offices = Offices::create(alloc)?;
     offices.install(alloc, POLICIES[0])?;
+    offices.define(alloc)?;
     let mut tally = Tally {
         accepted: 0,
         refused: 0,
@@ -91,10 +117,10 @@ pub fn compare(alloc: Global, seed: u64, count: u32) -> Result<Tally> {
                 request,
             } => {
                 if offices.step(alloc, day, caller, &request)? {
-                    tally.accepted += 1;
+                    tally.accepted = tally.accepted.saturating_add(1);
                     offices.compare_due(alloc, day, caller)?;
                 } else {
-                    tally.refused += 1;
+                    tally.refused = tally.refused.saturating_add(1);
                 }
             }
         }

@@ -1,7 +1,7 @@
 //! Requests drawn by a seed.
 
 use crate::texts::{
-    ACCESSIONS, BAGS, CALLERS, CLASSES, COLLECTIONS, DAYS, MATTERS, PATHS, POLICIES,
+    ACCESSIONS, BAGS, CALLERS, CLASSES, CLOSING_DAYS, COLLECTIONS, DAYS, MATTERS, PATHS, POLICIES,
 };
 use office_core::{Accession, Day, Matter, Name, Request, Years};
 use rand::RngExt;
@@ -59,6 +59,7 @@ static KINDS: [Kind; 26] = [
 ];
 
 /// What is put to both offices.
+#[derive(Drop)]
 pub enum Drawn {
     /// The text of a policy that is installed.
     Install(&'static str),
@@ -70,6 +71,7 @@ pub enum Drawn {
 }
 
 /// Draws what is put to the offices, the same for the same seed.
+#[derive(Drop)]
 pub struct Draws {
     generator: Pcg32,
 }
@@ -125,7 +127,7 @@ impl Draws {
             collection: self.name(&COLLECTIONS)?,
             class: self.name(&CLASSES)?,
             accession: Accession::read(self.word(&ACCESSIONS)?)?,
-            closed: self.day()?,
+            closed: Day::read(self.word(&CLOSING_DAYS)?)?,
             bag: BAGS.choose(&mut self.generator).copied()?,
         })
     }

@@ -1,17 +1,24 @@
 //! What requests are drawn from: names, days, bags and policies.
 
-/// Who calls. The policies list two of them.
-pub static CALLERS: [&str; 4] = ["anna", "carl", "eve", ""];
+/// Who calls, as often as each is to. The policies list two of them.
+pub static CALLERS: [&str; 8] = ["anna", "anna", "anna", "anna", "anna", "carl", "eve", ""];
 
-pub static COLLECTIONS: [&str; 3] = ["tax", "maps", "x"];
+/// The collections and classes that are there from the beginning.
+pub static FIRST_COLLECTIONS: [&str; 2] = ["tax", "maps"];
 
-pub static CLASSES: [&str; 3] = ["y1", "y10", "z"];
+pub static FIRST_CLASSES: [&str; 2] = ["y1", "y10"];
 
-pub static ACCESSIONS: [&str; 6] = ["A-1", "A-2", "A-3", "A-4", "A-5", "A-6"];
+pub static COLLECTIONS: [&str; 5] = ["tax", "maps", "maps", "maps", "x"];
+
+pub static CLASSES: [&str; 5] = ["y1", "y1", "y10", "y10", "z"];
+
+pub static ACCESSIONS: [&str; 9] = [
+    "A-1", "A-2", "A-3", "A-4", "A-5", "A-6", "A-7", "A-8", "A-9",
+];
 
 pub static MATTERS: [&str; 2] = ["Case 7", "Müller ./. \"Land\""];
 
-/// Days of requests, and closing days.
+/// Days of requests.
 pub static DAYS: [&str; 8] = [
     "1969-12-31",
     "2024-02-28",
@@ -22,6 +29,9 @@ pub static DAYS: [&str; 8] = [
     "2034-02-28",
     "9799-12-31",
 ];
+
+/// Closing days.
+pub static CLOSING_DAYS: [&str; 4] = ["1969-12-31", "2024-02-28", "2024-02-29", "2025-03-01"];
 
 /// Paths that are asked for: two files, a name spelled as in a manifest, and one that is no path.
 pub static PATHS: [&str; 4] = ["data/a", "bagit.txt", "data/a%0Ab", "data/../a"];
@@ -41,8 +51,9 @@ const OTHER_BYTES: &[u8] =
 const CUT: &[u8] =
     b"BAGSET 1\nFILE 9 54\nbagit.txtBagIt-Version: 1.0\nTag-File-Character-Encoding: UTF-8\n";
 
-/// Three valid bags, one whose file has other bytes than its manifest says, one that is cut, and none.
-pub static BAGS: [&[u8]; 6] = [BAG, OLDER, PERCENT, OTHER_BYTES, CUT, b""];
+/// Three valid bags, one of them three times, one whose file has other bytes than its manifest says,
+/// one that is cut, and none.
+pub static BAGS: [&[u8]; 8] = [BAG, BAG, BAG, OLDER, PERCENT, OTHER_BYTES, CUT, b""];
 
 const ARCHIVIST_AND_CLERK: &str =
     "version = 1\n\n[callers]\nanna = \"archivist\"\ncarl = \"clerk\"\n\n[[rule]]\neffect = \"deny\"\nrole = \"archivist\"\naction = \"dispose\"\ncollection = \"tax\"\nclass = \"*\"\n\n[[rule]]\neffect = \"allow\"\nrole = \"archivist\"\naction = \"*\"\ncollection = \"*\"\nclass = \"*\"\n\n[[rule]]\neffect = \"allow\"\nrole = \"clerk\"\naction = \"list\"\ncollection = \"*\"\nclass = \"y10\"\n";
