@@ -1,0 +1,11 @@
+pub mod PartSpelling
+pub mod RowLemmas
+pub mod PathLemmas
+pub mod RouteLemmas
+pub mod SpellingLemmas
+pub mod WalkLemmas
+pub mod PlaceLemmas
+pub mod NumberLemmas
+pub mod ReadingLemmas
+pub mod TableLemmas
+pub mod TargetLemmas

@@ -1,13 +1,13 @@
-//! Worked rows of the office: who asks what on which day, and what is answered.
+//! Worked sessions, put to the plain office and to the office over its tables.
 #![tactic(auto)]
 
 #[cfg(test)]
-mod asked;
+mod files;
 #[cfg(test)]
-mod office;
+mod sessions;
 #[cfg(test)]
 mod tests;
 #[cfg(test)]
 mod tests_sessions;
 #[cfg(test)]
-mod words;
+mod tests_stops;

@@ -1,8 +1,8 @@
 //! Rows worked out by hand from `docs/OFFICE.md`.
 
-use crate::asked::Asked;
-use crate::office::{BAG, PERCENT, Row, opened, take, take_new};
+use crate::sessions::{Part, take_all, take_rows};
 use std::test::*;
+use worked_sessions::{Asked, BAG, PERCENT, Row};
 
 const INTO_MAPS: Asked = Asked::Deposit {
     collection: "maps",
@@ -61,7 +61,7 @@ static FILES_BY_PATH: [Row; 5] = [
 
 #[test]
 fn a_file_is_served_at_its_own_path_alone(rt: HostRuntime) -> Result<(), Fail> {
-    take_new(rt.alloc(), &FILES_BY_PATH)
+    take_rows(rt.alloc(), &FILES_BY_PATH)
 }
 
 static RULE_HOLD_DATE: [Row; 14] = [
@@ -78,7 +78,7 @@ static RULE_HOLD_DATE: [Row; 14] = [
         "released 2 2024-03-05",
     ),
     ("2024-03-05", "anna", Asked::Dispose(2), "NotDue 2025-02-28"),
-    ("2024-03-05", "anna", Asked::Class("y1", 0), "class y1"),
+    ("2024-03-05", "anna", Asked::Class("y1", 0), "class y1 0"),
     (
         "2024-03-05",
         "anna",
@@ -98,7 +98,7 @@ static RULE_HOLD_DATE: [Row; 14] = [
 
 #[test]
 fn a_disposal_asks_the_rules_then_holds_then_the_date(rt: HostRuntime) -> Result<(), Fail> {
-    take_new(rt.alloc(), &RULE_HOLD_DATE)
+    take_rows(rt.alloc(), &RULE_HOLD_DATE)
 }
 
 static ABSENT_THEN_DENIED: [Row; 7] = [
@@ -128,7 +128,7 @@ static ABSENT_THEN_DENIED: [Row; 7] = [
 
 #[test]
 fn what_is_absent_is_said_first_and_what_is_denied_next(rt: HostRuntime) -> Result<(), Fail> {
-    take_new(rt.alloc(), &ABSENT_THEN_DENIED)
+    take_rows(rt.alloc(), &ABSENT_THEN_DENIED)
 }
 
 static RECORDS: [Row; 10] = [
@@ -166,7 +166,7 @@ static RECORDS: [Row; 10] = [
 
 #[test]
 fn records_audits_and_holds_are_told_to_whom_the_rules_allow(rt: HostRuntime) -> Result<(), Fail> {
-    take_new(rt.alloc(), &RECORDS)
+    take_rows(rt.alloc(), &RECORDS)
 }
 
 static DUE_AS_HOLDS_GO: [Row; 9] = [
@@ -210,15 +210,28 @@ static DUE_AS_YEARS_CHANGE: [Row; 7] = [
         "destroyed 1 2025-02-28",
     ),
     ("2025-02-28", "anna", Asked::DueList, "due on 2025-02-28: 2"),
-    ("2025-02-28", "anna", Asked::ForGood("y1"), "class y1"),
+    (
+        "2025-02-28",
+        "anna",
+        Asked::ForGood("y1"),
+        "class y1 permanent",
+    ),
     ("2025-02-28", "anna", Asked::DueList, "due on 2025-02-28:"),
-    ("2025-02-28", "anna", Asked::Class("y1", 1), "class y1"),
+    ("2025-02-28", "anna", Asked::Class("y1", 1), "class y1 1"),
     ("2025-02-28", "anna", Asked::DueList, "due on 2025-02-28: 2"),
 ];
 
 #[test]
 fn due_lists_follow_holds_disposals_and_years(rt: HostRuntime) -> Result<(), Fail> {
-    let mut office = opened(rt.alloc())?;
-    take(rt.alloc(), &mut office, &DUE_AS_HOLDS_GO)?;
-    take(rt.alloc(), &mut office, &DUE_AS_YEARS_CHANGE)
+    take_all(
+        rt.alloc(),
+        1_000_000,
+        &[
+            Part::Rows(&DUE_AS_HOLDS_GO),
+            Part::Due("2025-02-27", &[]),
+            Part::Due("2025-02-28", &[1, 2]),
+            Part::Rows(&DUE_AS_YEARS_CHANGE),
+            Part::Due("2025-02-28", &[2]),
+        ],
+    )
 }

@@ -1,8 +1,9 @@
 //! Sessions with an office, worked out by hand from `docs/OFFICE.md`.
 
-use crate::asked::Asked;
-use crate::office::{BAG, BAG_0_97, Row, has_stock, opened, opened_for, run_words, take, take_new};
+use crate::sessions::{Part, Way, plain_office, take, take_all, take_rows};
+use office_history::Stock;
 use std::test::*;
+use worked_sessions::{Asked, BAG, BAG_0_97, Row};
 
 const A_1: Asked = Asked::Deposit {
     collection: "maps",
@@ -106,7 +107,7 @@ static DUE_DAY: [Row; 4] = [
 
 #[test]
 fn a_deposit_is_destroyed_from_its_due_day_on(rt: HostRuntime) -> Result<(), Fail> {
-    take_new(rt.alloc(), &DUE_DAY)
+    take_rows(rt.alloc(), &DUE_DAY)
 }
 
 static HELD: [Row; 10] = [
@@ -154,7 +155,7 @@ static HELD: [Row; 10] = [
 
 #[test]
 fn a_hold_of_a_collection_covers_what_comes_later(rt: HostRuntime) -> Result<(), Fail> {
-    take_new(rt.alloc(), &HELD)
+    take_rows(rt.alloc(), &HELD)
 }
 
 static TWO_BAGS: [Row; 2] = [
@@ -187,14 +188,40 @@ static BOTH_DESTROYED: [Row; 1] = [(
 #[test]
 fn a_content_counts_once_and_while_it_is_kept(rt: HostRuntime) -> Result<(), Fail> {
     let alloc = rt.alloc();
-    let mut office = opened(alloc)?;
-    take(alloc, &mut office, &TWO_BAGS)?;
-    assert!(rt; has_stock(alloc, &office, 4, 185)?);
-    take(alloc, &mut office, &ONE_DESTROYED)?;
-    assert!(rt; has_stock(alloc, &office, 3, 131)?);
-    take(alloc, &mut office, &BOTH_DESTROYED)?;
-    assert!(rt; has_stock(alloc, &office, 0, 0)?);
-    Ok(())
+    let mut office = plain_office(alloc, 1_000_000)?;
+    take(alloc, &mut office, Way::Steps, &TWO_BAGS)?;
+    assert_eq!(rt;
+        office.stock(alloc)?,
+        Stock {
+            contents: 4,
+            bytes: 185
+        }
+    );
+    take(alloc, &mut office, Way::Steps, &ONE_DESTROYED)?;
+    assert_eq!(rt;
+        office.stock(alloc)?,
+        Stock {
+            contents: 3,
+            bytes: 131
+        }
+    );
+    take(alloc, &mut office, Way::Steps, &BOTH_DESTROYED)?;
+    assert_eq!(rt;
+        office.stock(alloc)?,
+        Stock {
+            contents: 0,
+            bytes: 0
+        }
+    );
+    take_all(
+        alloc,
+        1_000_000,
+        &[
+            Part::Rows(&TWO_BAGS),
+            Part::Rows(&ONE_DESTROYED),
+            Part::Rows(&BOTH_DESTROYED),
+        ],
+    )
 }
 
 static USED_ONCE: [Row; 8] = [
@@ -215,39 +242,49 @@ static USED_ONCE: [Row; 8] = [
 
 #[test]
 fn an_accession_is_used_once(rt: HostRuntime) -> Result<(), Fail> {
-    take_new(rt.alloc(), &USED_ONCE)
+    take_rows(rt.alloc(), &USED_ONCE)
 }
 
-static LISTS: [Row; 7] = [
+static LISTS: [Row; 9] = [
     ("2024-03-01", "anna", LONG_MAPS, "deposit 1"),
     ("2024-03-01", "anna", LONG_TAX, "deposit 2"),
     ("2024-03-01", "anna", A_3, "deposit 3"),
     ("2024-03-01", "carl", Asked::List, "list: 1 2"),
+    ("2024-03-01", "anna", Asked::ListOf("maps"), "list: 1 3"),
+    ("2024-03-01", "anna", Asked::ListOfClass("y10"), "list: 1 2"),
     ("2024-03-05", "anna", Asked::DueList, "due on 2024-03-05:"),
-    ("2024-03-05", "anna", Asked::Class("y10", 0), "class y10"),
+    ("2024-03-05", "anna", Asked::Class("y10", 0), "class y10 0"),
     ("2024-03-05", "anna", Asked::DueList, "due on 2024-03-05: 1"),
 ];
 
 #[test]
 fn the_rules_decide_lists_and_due_lists(rt: HostRuntime) -> Result<(), Fail> {
-    take_new(rt.alloc(), &LISTS)
+    take_rows(rt.alloc(), &LISTS)
 }
 
-static FULL: [Row; 3] = [
+static FULL: [Row; 7] = [
     ("2024-03-01", "anna", A_1, "deposit 1"),
     ("2024-03-01", "anna", A_2, "Full"),
     ("2024-03-01", "anna", NOTHING_AS_A_2, "BadBag S3"),
+    ("2024-03-01", "anna", Asked::HoldDeposit(1), "hold 1"),
+    ("2024-03-01", "anna", Asked::HoldCollection("maps"), "Full"),
+    (
+        "2024-03-01",
+        "anna",
+        Asked::Release(1),
+        "released 1 2024-03-01",
+    ),
+    ("2024-03-01", "anna", Asked::HoldDeposit(1), "Full"),
 ];
 
 #[test]
 fn a_full_office_takes_no_more(rt: HostRuntime) -> Result<(), Fail> {
-    let mut office = opened_for(rt.alloc(), 1)?;
-    take(rt.alloc(), &mut office, &FULL)
+    take_all(rt.alloc(), 1, &[Part::Rows(&FULL)])
 }
 
 #[test]
 fn records_are_closed_before_they_come(rt: HostRuntime) -> Result<(), Fail> {
-    take_new(rt.alloc(), &[("2024-03-01", "anna", AHEAD, "ClosedAhead")])
+    take_rows(rt.alloc(), &[("2024-03-01", "anna", AHEAD, "ClosedAhead")])
 }
 
 static FIRST_REFUSALS: [Row; 5] = [
@@ -259,13 +296,6 @@ static FIRST_REFUSALS: [Row; 5] = [
 ];
 
 #[test]
-fn a_run_answers_the_first_refusal_of_each(rt: HostRuntime) -> Result<(), Fail> {
-    let alloc = rt.alloc();
-    let mut office = opened(alloc)?;
-    let answers = run_words(alloc, &mut office, &FIRST_REFUSALS)?;
-    assert_eq!(rt; answers.len(), 5);
-    for (answer, row) in answers.iter().zip(FIRST_REFUSALS.iter()) {
-        assert_eq!(rt; answer.as_str(), row.3);
-    }
-    Ok(())
+fn the_first_refusal_of_each_request_is_answered(rt: HostRuntime) -> Result<(), Fail> {
+    take_rows(rt.alloc(), &FIRST_REFUSALS)
 }

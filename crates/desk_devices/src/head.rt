@@ -1,0 +1,89 @@
+//! The head of a request, read from a device.
+
+ghost use Rattle.std.specs.Prelude.{◌≡◌, ◌≢◌, ◌<◌, ◌≤◌, ℕ, List, [], length, vec_len, Err, IfOk, OnOk, IfSome};
+ghost use Rattle.std.specs.Io.KnownBytes.{Consumes};
+ghost use Rattle.desk_devices.specs.Devices.{HasFailed};
+ghost use Rattle.desk_devices.specs.HeadReading.{EndRead, EndOf, HeadRead, HeadOf};
+
+use crate::counted::Counted;
+use crate::place::{HeadPlace, place_of_head};
+use std::alloc::{AllocError, Global};
+use std::io::Read;
+
+/// The bytes of a request that have been read up to the end of its head, and perhaps further.
+#[derive(Debug, Drop)]
+pub struct RequestHead {
+    /// What the reader gave: the head, and perhaps a beginning of what follows it.
+    pub bytes: Vec<u8>,
+    /// How many bytes of it are the head.
+    pub end: usize,
+}
+
+/// Why no head was read.
+#[derive(Clone, Copy, Debug, PartialEq, Eq)]
+pub enum HeadFault {
+    /// The first 8,192 bytes have no head.
+    TooLarge,
+    /// The input ended before a head did.
+    Truncated,
+    /// The reader failed before a head came.
+    Read,
+    /// There was no memory.
+    Memory,
+}
+
+impl From<AllocError> for HeadFault {
+    ghost use Rattle.std.specs.Prelude.{◌≡◌};
+    ghost use Rattle.desk_devices.specs.declared.head.HeadFault.{HeadFault};
+
+    ghost from_gives = { λ _ r. r ≡ HeadFault.Memory };
+
+    fn from(_: AllocError) -> HeadFault {
+        HeadFault::Memory
+    }
+}
+
+/// Adds to the bytes, of which there are none yet, until they have a head, and answers its length.
+fn read_to_end_of_head<R: Read>(
+    reader: &mut Counted<R>,
+    bytes: &mut Vec<u8>,
+) -> Result<usize, HeadFault>
+    requires { bytes.old.items ≡ [] }
+    ensures given { result ≢ Err HeadFault.Memory
+        → Consumes (R.remaining reader.old.device) (R.remaining reader.new.device) bytes.new.items }
+    ensures head { EndRead bytes.new.items result (R.remaining reader.new.device) }
+    ensures calm { result ≢ Err HeadFault.Read → reader.new.failures ≡ reader.old.failures }
+    ensures failed { result ≡ Err HeadFault.Read → HasFailed reader.old.failures reader.new.failures }
+    ensures within { IfOk result (λ n. (n ≤ length bytes.new.items) × (n ≤ 8192)) }
+    ensures whole { IfSome (R.remaining reader.old.device) (λ input. EndOf input result) }
+{
+    let mut chunk = [0u8; 1024];
+    'reads: loop {
+        match place_of_head(bytes) {
+            HeadPlace::Found(n) => return Ok(n),
+            HeadPlace::TooLarge => return Err(HeadFault::TooLarge),
+            HeadPlace::Short => {}
+        }
+        match reader.read(&mut chunk) {
+            Ok(0) => return Err(HeadFault::Truncated),
+            Ok(n) => bytes.extend_from_slice(&chunk[..n])?,
+            Err(_) => return Err(HeadFault::Read),
+        }
+    }
+}
+
+/// Reads until the bytes so far decide what the head is. From then on the reader isn't called:
+/// another call could fail, and only `Read`, which says that no head had come, allows a failure.
+pub fn read_head<R: Read>(alloc: Global, reader: &mut Counted<R>) -> Result<RequestHead, HeadFault>
+    ensures given { result ≢ Err HeadFault.Memory → (given : List ℕ)
+        × Consumes (R.remaining reader.old.device) (R.remaining reader.new.device) given
+        × HeadRead given result (R.remaining reader.new.device) }
+    ensures calm { result ≢ Err HeadFault.Read → reader.new.failures ≡ reader.old.failures }
+    ensures failed { result ≡ Err HeadFault.Read → HasFailed reader.old.failures reader.new.failures }
+    ensures within { IfOk result (λ head. (head.end ≤ vec_len head.bytes) × (head.end ≤ 8192)) }
+    ensures whole { IfSome (R.remaining reader.old.device) (λ input. HeadOf input result) }
+{
+    let mut bytes = Vec::new(alloc);
+    let end = read_to_end_of_head(reader, &mut bytes)?;
+    Ok(RequestHead { bytes, end })
+}

@@ -1,0 +1,5 @@
+pub mod CountLemmas
+pub mod CountedQueries
+pub mod PathLemmas
+pub mod QueryLemmas
+pub mod SayingLemmas

@@ -1,0 +1,62 @@
+-- What a query or a body says is one thing.
+use Rattle.std.proofs.Common.{◌≡◌, ℕ, List, [], ◌∷◌, Option, Some, None, codes, refl, sym, ap, ◌∙◌}
+use Rattle.std.proofs.lemmas.Option.{same_Some}
+use Rattle.jiff.specs.Types.{Date}
+use Rattle.office_core.specs.Days.{IsDay, day_text}
+use Rattle.office_core.specs.DayReading.{parts_of}
+use Rattle.office_core.proofs.DayLemmas.{same_date, parts_of-day, parts_are}
+use Rattle.desk_forms.specs.declared.query.Listing.{Listing}
+use Rattle.desk_forms.specs.declared.query.DepositQuery.{DepositQuery}
+use Rattle.desk_forms.specs.declared.body.HoldBody.{HoldBody}
+use Rattle.desk_forms.specs.declared.body.HoldBody.TheVariants.{Deposit, Collection}
+use Rattle.desk_forms.specs.Queries.{values_of, GivesName, AsksListing, DescribesDeposit}
+use Rattle.desk_forms.specs.Bodies.{years_object, SaysYears, hold_object, SaysHold}
+
+one_value : (values : List (List ℕ)) (a b : List ℕ) → values ≡ a ∷ [] → values ≡ b ∷ [] → a ≡ b
+one_value values a b x y = let e : a ∷ [] ≡ b ∷ [] = sym x ∙ y in cc
+
+-- a key gives one name, or none
+one_name : (key : List ℕ) (pairs : List (List ℕ × List ℕ)) (a b : Option (List ℕ)) → GivesName key pairs a → GivesName key pairs b → a ≡ b
+one_name key pairs None None x y = refl
+one_name key pairs None (Some b) x y = let e : [] ≡ b ∷ [] = sym x ∙ y.0 in cc
+one_name key pairs (Some a) None x y = let e : [] ≡ a ∷ [] = sym y ∙ x.0 in cc
+one_name key pairs (Some a) (Some b) x y = ap Some (one_value (values_of key pairs) a b x.0 y.0)
+
+pub one_listing : (pairs : List (List ℕ × List ℕ)) (a b : Listing) → AsksListing pairs a → AsksListing pairs b → a ≡ b
+one_listing pairs a b x y =
+    let collection = one_name (codes "collection") pairs a.collection b.collection x.collection y.collection in
+    let class = one_name (codes "class") pairs a.class b.class x.class y.class in
+    λ i. record { collection = collection i; class = class i }
+
+-- one text writes one day
+one_day : (a b : Date) → IsDay a → IsDay b → day_text a ≡ day_text b → a ≡ b
+one_day a b in_a in_b e =
+    let of_a = parts_are a _ in_a (sym (parts_of-day a in_a)) in
+    let of_b = parts_are b _ in_b (sym (parts_of-day a in_a) ∙ ap parts_of e) in
+    same_date a b (of_a.0 ∙ sym of_b.0) (of_a.1 ∙ sym of_b.1) (of_a.2 ∙ sym of_b.2)
+
+pub one_deposit_query : (pairs : List (List ℕ × List ℕ)) (a b : DepositQuery) → DescribesDeposit pairs a → DescribesDeposit pairs b → a ≡ b
+one_deposit_query pairs a b x y =
+    let collection = one_value _ a.collection b.collection x.collection.0 y.collection.0 in
+    let class = one_value _ a.class b.class x.class.0 y.class.0 in
+    let accession = one_value _ a.accession b.accession x.accession.0 y.accession.0 in
+    let closed = one_day a.closed b.closed x.closed.1 y.closed.1 (one_value _ (day_text a.closed) (day_text b.closed) x.closed.0 y.closed.0) in
+    λ i. record { collection = collection i; class = class i; accession = accession i; closed = closed i }
+
+one_years_object : (a b : Option ℕ) → years_object a ≡ years_object b → a ≡ b
+one_years_object None None e = refl
+one_years_object None (Some n) e = cc
+one_years_object (Some m) None e = cc
+one_years_object (Some m) (Some n) e = cc
+
+pub one_years : (body : List ℕ) (a b : Option ℕ) → SaysYears body a → SaysYears body b → a ≡ b
+one_years body a b x y = one_years_object a b (same_Some _ _ (sym x.json.1 ∙ y.json.1))
+
+one_hold_object : (a b : HoldBody) → hold_object a ≡ hold_object b → a ≡ b
+one_hold_object (Deposit m s) (Deposit n t) e = cc
+one_hold_object (Deposit m s) (Collection c t) e = cc
+one_hold_object (Collection c s) (Deposit n t) e = cc
+one_hold_object (Collection c s) (Collection d t) e = cc
+
+pub one_hold : (body : List ℕ) (a b : HoldBody) → SaysHold body a → SaysHold body b → a ≡ b
+one_hold body a b x y = one_hold_object a b (same_Some _ _ (sym x.json.1 ∙ y.json.1))

@@ -1,0 +1,5 @@
+pub mod Bodies
+pub mod BodyReading
+pub mod Paths
+pub mod Queries
+pub mod QueryReading

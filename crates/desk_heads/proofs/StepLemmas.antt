@@ -1,0 +1,392 @@
+-- The refusals of a head, step by step.
+use Rattle.std.proofs.Common.{◌≡◌, ℕ, ◌<◌, ◌⊎◌, inl, inr, List, [], ◌∷◌, length, Bool, true, false, Option, Some, None, Ok, Err, refl, sym, ap, ◌∙◌, subst, arith, codes}
+use Rattle.std.specs.Prelude.{Result, nat_lt, if◌then◌else◌}
+use Rattle.std.proofs.lemmas.Bool.Decides.{nat_tests}
+use Rattle.std.proofs.lemmas.List.Elements.{All-weaker}
+use Rattle.std.proofs.lemmas.List.Sums.{AllPass-from_list_all, list_all-from_AllPass}
+use Rattle.std.specs.List.{list_all}
+use Rattle.std.specs.Char.{is_ascii_digit, IsAsciiDigit}
+use Rattle.std.specs.Str.Parse.{digits_value}
+use Rattle.httparse.specs.Grammar.{RequestHead}
+use Rattle.httparse.proofs.GrammarLemmas.{request_unique}
+use Rattle.office_core.specs.FirstOf.{first_some, answer_if}
+use Rattle.office_core.specs.Names.{is_name}
+use Rattle.desk_heads.specs.Bounds.{max_body}
+use Rattle.desk_heads.specs.Fields.{Occurrence, once, occurrence_of, values_among, values_of, fields_of}
+use Rattle.desk_heads.specs.Heads.{SpellsHead, IsHead, HeadContents, occurrence_in, encoding_refusal, length_refusal, caller_refusal, is_length_text, body_length_of, caller_of, contents_of, unless_refused, judgement_of, Judges}
+use Rattle.desk_heads.specs.Steps.{IsLengthText, StandsOfHead, Stands, step_of, StandsFirst, NamesCaller, AnnouncesBody, Says}
+use Rattle.desk_heads.specs.declared.refusal.HeadRefusal.{HeadRefusal}
+use Rattle.desk_heads.specs.declared.refusal.HeadRefusal.TheVariants.{BadHead, Chunked, BadLength, TooLarge, TwoCallers}
+
+-- ---- the refusals of a head
+
+abbrev encoding : RequestHead → Option HeadRefusal
+encoding head = encoding_refusal (occurrence_in head (codes "transfer-encoding"))
+
+abbrev content_length : RequestHead → Option HeadRefusal
+content_length head = length_refusal (occurrence_in head (codes "content-length"))
+
+abbrev caller : RequestHead → Option HeadRefusal
+caller head = caller_refusal (occurrence_in head (codes "depot-caller"))
+
+pub at_encoding : (head : RequestHead) (refusal : HeadRefusal) → encoding head ≡ Some refusal → judgement_of head ≡ Err refusal
+unfolding judgement_of
+at_encoding head refusal e = ap (λ r. unless_refused (first_some (r ∷ content_length head ∷ caller head ∷ [])) (contents_of head)) e
+
+pub at_length : (head : RequestHead) (refusal : HeadRefusal) → encoding head ≡ None → content_length head ≡ Some refusal → judgement_of head ≡ Err refusal
+unfolding judgement_of
+at_length head refusal none e = ap (λ r. unless_refused (first_some (r ∷ content_length head ∷ caller head ∷ [])) (contents_of head)) none
+    ∙ ap (λ r. unless_refused (first_some (r ∷ caller head ∷ [])) (contents_of head)) e
+
+pub at_caller : (head : RequestHead) (refusal : HeadRefusal) → encoding head ≡ None → content_length head ≡ None → caller head ≡ Some refusal → judgement_of head ≡ Err refusal
+unfolding judgement_of
+at_caller head refusal none no_length e = ap (λ r. unless_refused (first_some (r ∷ content_length head ∷ caller head ∷ [])) (contents_of head)) none
+    ∙ ap (λ r. unless_refused (first_some (r ∷ caller head ∷ [])) (contents_of head)) no_length
+    ∙ ap (λ r. unless_refused (first_some (r ∷ [])) (contents_of head)) e
+
+pub at_none : (head : RequestHead) → encoding head ≡ None → content_length head ≡ None → caller head ≡ None → judgement_of head ≡ Ok (contents_of head)
+unfolding judgement_of
+at_none head none no_length no_caller = ap (λ r. unless_refused (first_some (r ∷ content_length head ∷ caller head ∷ [])) (contents_of head)) none
+    ∙ ap (λ r. unless_refused (first_some (r ∷ caller head ∷ [])) (contents_of head)) no_length
+    ∙ ap (λ r. unless_refused (first_some (r ∷ [])) (contents_of head)) no_caller
+
+-- ---- one head, one judgement
+
+pub spells_unique : (front : List ℕ) (first second : RequestHead) → SpellsHead front first → SpellsHead front second → first ≡ second
+spells_unique front first second a b = (request_unique front first second [] [] a.reads b.reads).0
+
+pub one_judgement : (front : List ℕ) (first second : Result HeadContents HeadRefusal) → Judges front first → Judges front second → first ≡ second
+one_judgement front first second (inl a) (inl b) = a.1 ∙ sym b.1
+one_judgement front first second (inl a) (inr b) = absurd (a.0 (b.0, b.1))
+one_judgement front first second (inr a) (inl b) = absurd (b.0 (a.0, a.1))
+one_judgement front first second (inr a) (inr b) = a.2 ∙ ap judgement_of (spells_unique front a.0 b.0 a.1 b.1) ∙ sym b.2
+
+-- ---- what the code found
+
+-- what was found among the pairs of a head is what stands in it
+pub found : (name : List ℕ) (pairs : List (List ℕ × List ℕ)) (head : RequestHead) (o : Occurrence) → o ≡ occurrence_of (values_among name pairs) → pairs ≡ fields_of head → o ≡ occurrence_in head name
+found name pairs head o e f = e ∙ ap (λ p. occurrence_of (values_among name p)) f
+
+pub refused_encoding : (front : List ℕ) (head : RequestHead) (o : Occurrence) (refusal : HeadRefusal) → SpellsHead front head
+    → o ≡ occurrence_in head (codes "transfer-encoding") → encoding_refusal o ≡ Some refusal → Judges front (Err refusal)
+refused_encoding front head o refusal spells e r = inr (head, spells, sym (at_encoding head refusal (ap encoding_refusal (sym e) ∙ r)))
+
+pub refused_length : (front : List ℕ) (head : RequestHead) (o p : Occurrence) (refusal : HeadRefusal) → SpellsHead front head
+    → o ≡ occurrence_in head (codes "transfer-encoding") → encoding_refusal o ≡ None
+    → p ≡ occurrence_in head (codes "content-length") → length_refusal p ≡ Some refusal → Judges front (Err refusal)
+refused_length front head o p refusal spells e none f r = inr (head, spells, sym (at_length head refusal (ap encoding_refusal (sym e) ∙ none) (ap length_refusal (sym f) ∙ r)))
+
+pub refused_caller : (front : List ℕ) (head : RequestHead) (o p q : Occurrence) (refusal : HeadRefusal) → SpellsHead front head
+    → o ≡ occurrence_in head (codes "transfer-encoding") → encoding_refusal o ≡ None
+    → p ≡ occurrence_in head (codes "content-length") → length_refusal p ≡ None
+    → q ≡ occurrence_in head (codes "depot-caller") → caller_refusal q ≡ Some refusal → Judges front (Err refusal)
+refused_caller front head o p q refusal spells e none f no_length g r =
+    inr (head, spells, sym (at_caller head refusal (ap encoding_refusal (sym e) ∙ none) (ap length_refusal (sym f) ∙ no_length) (ap caller_refusal (sym g) ∙ r)))
+
+pub taken : (front : List ℕ) (head : RequestHead) (o p q : Occurrence) (contents : HeadContents) → SpellsHead front head
+    → o ≡ occurrence_in head (codes "transfer-encoding") → encoding_refusal o ≡ None
+    → p ≡ occurrence_in head (codes "content-length") → length_refusal p ≡ None
+    → q ≡ occurrence_in head (codes "depot-caller") → caller_refusal q ≡ None
+    → contents.method ≡ head.method → contents.target ≡ head.target → contents.caller ≡ caller_of q → contents.body_length ≡ body_length_of p
+    → Judges front (Ok contents)
+taken front head o p q contents spells e none f no_length g no_caller method target caller count =
+    let caller_is = caller ∙ ap caller_of g in
+    let count_is = count ∙ ap body_length_of f in
+    inr (head, spells, ap Ok (λ i. record { method = method i; target = target i; caller = caller_is i; body_length = count_is i })
+        ∙ sym (at_none head (ap encoding_refusal (sym e) ∙ none) (ap length_refusal (sym f) ∙ no_length) (ap caller_refusal (sym g) ∙ no_caller)))
+
+-- ---- each step as a relation
+
+ascii_digit : (c : ℕ) → is_ascii_digit c ≡ true → IsAsciiDigit c
+ascii_digit c h = (grind (arith, nat_tests), grind (arith, nat_tests))
+
+is_digit : (c : ℕ) → IsAsciiDigit c → is_ascii_digit c ≡ true
+is_digit c h = grind (arith, nat_tests)
+
+all_digits : (text : List ℕ) → is_length_text text ≡ true → list_all is_ascii_digit text ≡ true
+all_digits text h = grind (arith, nat_tests)
+
+length_text : (text : List ℕ) → is_length_text text ≡ true → IsLengthText text
+length_text text h = record {
+  some = grind (arith, nat_tests);
+  few = grind (arith, nat_tests);
+  digits = All-weaker (λ c. is_ascii_digit c ≡ true) IsAsciiDigit ascii_digit text (AllPass-from_list_all is_ascii_digit text (all_digits text h))
+}
+
+is_length : (text : List ℕ) → IsLengthText text → is_length_text text ≡ true
+is_length text h =
+    let all = list_all-from_AllPass is_ascii_digit text (All-weaker IsAsciiDigit (λ c. is_ascii_digit c ≡ true) is_digit text h.digits) in
+    let some = h.some in
+    let few = h.few in
+    grind (arith, nat_tests)
+
+encoding_stands : (values : List (List ℕ)) (refusal : HeadRefusal) → encoding_refusal (occurrence_of values) ≡ Some refusal → (refusal ≡ Chunked) × (0 < length values)
+encoding_stands [] refusal e = absurd (cc)
+encoding_stands (value ∷ []) refusal e = (cc, omega arith)
+encoding_stands (value ∷ second ∷ more) refusal e = (cc, omega arith)
+
+stands_encoding : (values : List (List ℕ)) → 0 < length values → encoding_refusal (occurrence_of values) ≡ Some Chunked
+stands_encoding [] h = absurd (omega arith)
+stands_encoding (value ∷ []) h = refl
+stands_encoding (value ∷ second ∷ more) h = refl
+
+-- what `BadLength` and `TooLarge` say of the values
+abbrev IsBadLength : List (List ℕ) → Type 0
+IsBadLength values = (1 < length values) ⊎ ((text : List ℕ) × (values ≡ text ∷ []) × (IsLengthText text → ⊥))
+
+abbrev IsTooLarge : List (List ℕ) → Type 0
+IsTooLarge values = (text : List ℕ) × (values ≡ text ∷ []) × IsLengthText text × (max_body < digits_value 10 text)
+
+one_length : (text : List ℕ) (refusal : HeadRefusal) → length_refusal (once text) ≡ Some refusal
+    → ((refusal ≡ BadLength) × (IsLengthText text → ⊥)) ⊎ ((refusal ≡ TooLarge) × IsLengthText text × (max_body < digits_value 10 text))
+one_length text refusal e = by (is_length_text text) refl (nat_lt max_body (digits_value 10 text)) refl e
+  where
+    by : (b : Bool) → is_length_text text ≡ b → (d : Bool) → nat_lt max_body (digits_value 10 text) ≡ d → (if b then answer_if d TooLarge else Some BadLength) ≡ Some refusal
+        → ((refusal ≡ BadLength) × (IsLengthText text → ⊥)) ⊎ ((refusal ≡ TooLarge) × IsLengthText text × (max_body < digits_value 10 text))
+    by true t true l e = inr (cc, length_text text t, grind (arith, nat_tests))
+    by true t false l e = absurd (cc)
+    by false f d l e = inl (cc, λ h. let t = is_length text h in let wrong : true ≡ false = sym t ∙ f in cc)
+
+length_stands : (values : List (List ℕ)) (refusal : HeadRefusal) → length_refusal (occurrence_of values) ≡ Some refusal → ((refusal ≡ BadLength) × IsBadLength values) ⊎ ((refusal ≡ TooLarge) × IsTooLarge values)
+length_stands [] refusal e = absurd (cc)
+length_stands (text ∷ []) refusal e = elim (one_length text refusal e) [ inl bad ↦ inl (bad.0, inr (text, refl, bad.1)) | inr large ↦ inr (large.0, (text, refl, large.1, large.2)) ]
+length_stands (text ∷ second ∷ more) refusal e = inl (cc, inl (omega arith))
+
+repeated_length : (values : List (List ℕ)) → 1 < length values → length_refusal (occurrence_of values) ≡ Some BadLength
+repeated_length [] h = absurd (omega arith)
+repeated_length (text ∷ []) h = absurd (omega arith)
+repeated_length (text ∷ second ∷ more) h = refl
+
+bad_length : (text : List ℕ) → (IsLengthText text → ⊥) → length_refusal (once text) ≡ Some BadLength
+bad_length text bad = by (is_length_text text) refl
+  where
+    by : (b : Bool) → is_length_text text ≡ b → (if b then answer_if (nat_lt max_body (digits_value 10 text)) TooLarge else Some BadLength) ≡ Some BadLength
+    by true t = absurd (bad (length_text text t))
+    by false f = refl
+
+large_length : (text : List ℕ) → IsLengthText text → max_body < digits_value 10 text → length_refusal (once text) ≡ Some TooLarge
+large_length text is large =
+    let over : nat_lt max_body (digits_value 10 text) ≡ true = grind (arith, nat_tests) in
+    ap (λ b. if b then answer_if (nat_lt max_body (digits_value 10 text)) TooLarge else Some BadLength) (is_length text is) ∙ ap (λ b. answer_if b TooLarge) over
+
+stands_bad : (values : List (List ℕ)) → IsBadLength values → length_refusal (occurrence_of values) ≡ Some BadLength
+stands_bad values (inl long) = repeated_length values long
+stands_bad values (inr bad) = ap (λ v. length_refusal (occurrence_of v)) bad.1 ∙ bad_length bad.0 bad.2
+
+stands_large : (values : List (List ℕ)) → IsTooLarge values → length_refusal (occurrence_of values) ≡ Some TooLarge
+stands_large values h = ap (λ v. length_refusal (occurrence_of v)) h.1 ∙ large_length h.0 h.2 h.3
+
+caller_stands : (values : List (List ℕ)) (refusal : HeadRefusal) → caller_refusal (occurrence_of values) ≡ Some refusal → (refusal ≡ TwoCallers) × (1 < length values)
+caller_stands [] refusal e = absurd (cc)
+caller_stands (value ∷ []) refusal e = absurd (cc)
+caller_stands (value ∷ second ∷ more) refusal e = (cc, omega arith)
+
+stands_caller : (values : List (List ℕ)) → 1 < length values → caller_refusal (occurrence_of values) ≡ Some TwoCallers
+stands_caller [] h = absurd (omega arith)
+stands_caller (value ∷ []) h = absurd (omega arith)
+stands_caller (value ∷ second ∷ more) h = refl
+
+-- ---- the first refusal
+
+-- what stands of some head of the front stands of this one
+of_head : (front : List ℕ) (head : RequestHead) (P : RequestHead → Type 0) → SpellsHead front head → (other : RequestHead) × SpellsHead front other × P other → P head
+of_head front head P spells h = subst P (spells_unique front h.0 head h.1 spells) h.2
+
+no_chunks : (front : List ℕ) (head : RequestHead) → SpellsHead front head → encoding head ≡ None → Stands front Chunked → ⊥
+no_chunks front head spells none h =
+    let some = stands_encoding _ (of_head front head (λ other. StandsOfHead other Chunked) spells h) in
+    let wrong : None ≡ Some Chunked = sym none ∙ some in cc
+
+no_bad_length : (front : List ℕ) (head : RequestHead) → SpellsHead front head → content_length head ≡ None → Stands front BadLength → ⊥
+no_bad_length front head spells none h =
+    let some = stands_bad _ (of_head front head (λ other. StandsOfHead other BadLength) spells h) in
+    let wrong : None ≡ Some BadLength = sym none ∙ some in cc
+
+no_large_length : (front : List ℕ) (head : RequestHead) → SpellsHead front head → content_length head ≡ None → Stands front TooLarge → ⊥
+no_large_length front head spells none h =
+    let some = stands_large _ (of_head front head (λ other. StandsOfHead other TooLarge) spells h) in
+    let wrong : None ≡ Some TooLarge = sym none ∙ some in cc
+
+no_callers : (front : List ℕ) (head : RequestHead) → SpellsHead front head → caller head ≡ None → Stands front TwoCallers → ⊥
+no_callers front head spells none h =
+    let some = stands_caller _ (of_head front head (λ other. StandsOfHead other TwoCallers) spells h) in
+    let wrong : None ≡ Some TwoCallers = sym none ∙ some in cc
+
+before_1 : (front : List ℕ) (earlier : HeadRefusal) → step_of earlier < 1 → Stands front earlier → ⊥
+before_1 front BadHead low h = omega arith
+before_1 front Chunked low h = omega arith
+before_1 front BadLength low h = omega arith
+before_1 front TooLarge low h = omega arith
+before_1 front TwoCallers low h = omega arith
+
+before_2 : (front : List ℕ) (head : RequestHead) → SpellsHead front head → (earlier : HeadRefusal) → step_of earlier < 2 → Stands front earlier → ⊥
+before_2 front head spells BadHead low h = h (head, spells)
+before_2 front head spells Chunked low h = omega arith
+before_2 front head spells BadLength low h = omega arith
+before_2 front head spells TooLarge low h = omega arith
+before_2 front head spells TwoCallers low h = omega arith
+
+before_3 : (front : List ℕ) (head : RequestHead) → SpellsHead front head → encoding head ≡ None → (earlier : HeadRefusal) → step_of earlier < 3 → Stands front earlier → ⊥
+before_3 front head spells none BadHead low h = h (head, spells)
+before_3 front head spells none Chunked low h = no_chunks front head spells none h
+before_3 front head spells none BadLength low h = omega arith
+before_3 front head spells none TooLarge low h = omega arith
+before_3 front head spells none TwoCallers low h = omega arith
+
+before_4 : (front : List ℕ) (head : RequestHead) → SpellsHead front head → encoding head ≡ None → content_length head ≡ None → (earlier : HeadRefusal) → step_of earlier < 4 → Stands front earlier → ⊥
+before_4 front head spells none no_length BadHead low h = h (head, spells)
+before_4 front head spells none no_length Chunked low h = no_chunks front head spells none h
+before_4 front head spells none no_length BadLength low h = no_bad_length front head spells no_length h
+before_4 front head spells none no_length TooLarge low h = no_large_length front head spells no_length h
+before_4 front head spells none no_length TwoCallers low h = omega arith
+
+none_stands : (front : List ℕ) (head : RequestHead) → SpellsHead front head → encoding head ≡ None → content_length head ≡ None → caller head ≡ None → (refusal : HeadRefusal) → Stands front refusal → ⊥
+none_stands front head spells none no_length no_caller BadHead h = h (head, spells)
+none_stands front head spells none no_length no_caller Chunked h = no_chunks front head spells none h
+none_stands front head spells none no_length no_caller BadLength h = no_bad_length front head spells no_length h
+none_stands front head spells none no_length no_caller TooLarge h = no_large_length front head spells no_length h
+none_stands front head spells none no_length no_caller TwoCallers h = no_callers front head spells no_caller h
+
+first_bad_head : (front : List ℕ) → (IsHead front → ⊥) → StandsFirst front BadHead
+first_bad_head front bad = record { stands = bad; first = before_1 front }
+
+first_chunked : (front : List ℕ) (head : RequestHead) (refusal : HeadRefusal) → SpellsHead front head → encoding head ≡ Some refusal → StandsFirst front refusal
+first_chunked front head refusal spells e =
+    let s = encoding_stands _ refusal e in
+    subst (StandsFirst front) (sym s.0) (record { stands = (head, spells, s.1); first = before_2 front head spells })
+
+first_length : (front : List ℕ) (head : RequestHead) (refusal : HeadRefusal) → SpellsHead front head → encoding head ≡ None → content_length head ≡ Some refusal → StandsFirst front refusal
+first_length front head refusal spells none e = elim (length_stands (values_of (codes "content-length") head) refusal e) [
+    inl bad ↦ subst (StandsFirst front) (sym bad.0) (record { stands = (head, spells, bad.1); first = before_3 front head spells none })
+    | inr large ↦ subst (StandsFirst front) (sym large.0) (record { stands = (head, spells, large.1); first = before_3 front head spells none }) ]
+
+first_callers : (front : List ℕ) (head : RequestHead) (refusal : HeadRefusal) → SpellsHead front head → encoding head ≡ None → content_length head ≡ None → caller head ≡ Some refusal → StandsFirst front refusal
+first_callers front head refusal spells none no_length e =
+    let s = caller_stands _ refusal e in
+    subst (StandsFirst front) (sym s.0) (record { stands = (head, spells, s.1); first = before_4 front head spells none no_length })
+
+-- at which step a head is refused
+data Outcome (head : RequestHead) : Type 0 where
+  at_encoding_step : (refusal : HeadRefusal) → encoding head ≡ Some refusal → Outcome head
+  at_length_step : (refusal : HeadRefusal) → encoding head ≡ None → content_length head ≡ Some refusal → Outcome head
+  at_caller_step : (refusal : HeadRefusal) → encoding head ≡ None → content_length head ≡ None → caller head ≡ Some refusal → Outcome head
+  at_no_step : encoding head ≡ None → content_length head ≡ None → caller head ≡ None → Outcome head
+
+outcome : (head : RequestHead) → Outcome head
+outcome head = by (encoding head) refl (content_length head) refl (caller head) refl
+  where
+    by : (e : Option HeadRefusal) → encoding head ≡ e → (l : Option HeadRefusal) → content_length head ≡ l → (c : Option HeadRefusal) → caller head ≡ c → Outcome head
+    by (Some refusal) e l f c g = at_encoding_step refusal e
+    by None e (Some refusal) f c g = at_length_step refusal e f
+    by None e None f (Some refusal) g = at_caller_step refusal e f g
+    by None e None f None g = at_no_step e f g
+
+head_refused : (front : List ℕ) (head : RequestHead) (refusal : HeadRefusal) → SpellsHead front head → Err refusal ≡ judgement_of head → StandsFirst front refusal
+head_refused front head refusal spells j = elim (outcome head) [
+    at_encoding_step other e ↦ (let same : Err refusal ≡ Err other = j ∙ at_encoding head other e in first_chunked front head refusal spells (cc))
+    | at_length_step other e f ↦ (let same : Err refusal ≡ Err other = j ∙ at_length head other e f in first_length front head refusal spells e (cc))
+    | at_caller_step other e f g ↦ (let same : Err refusal ≡ Err other = j ∙ at_caller head other e f g in first_callers front head refusal spells e f (cc))
+    | at_no_step e f g ↦ absurd (let same : Err refusal ≡ Ok (contents_of head) = j ∙ at_none head e f g in cc) ]
+
+pub refused_first : (front : List ℕ) (refusal : HeadRefusal) → Judges front (Err refusal) → StandsFirst front refusal
+refused_first front refusal (inl bad) = let e = bad.1 in let same : refusal ≡ BadHead = cc in subst (StandsFirst front) (sym same) (first_bad_head front bad.0)
+refused_first front refusal (inr h) = head_refused front h.0 refusal h.1 h.2
+
+-- ---- and the other way round
+
+no_encoding : (front : List ℕ) (head : RequestHead) → SpellsHead front head → (Stands front Chunked → ⊥) → encoding head ≡ None
+no_encoding front head spells bad = by (encoding head) refl
+  where
+    by : (e : Option HeadRefusal) → encoding head ≡ e → encoding head ≡ None
+    by None e = e
+    by (Some refusal) e = absurd (bad (head, spells, (encoding_stands (values_of (codes "transfer-encoding") head) refusal e).1))
+
+no_length : (front : List ℕ) (head : RequestHead) → SpellsHead front head → (Stands front BadLength → ⊥) → (Stands front TooLarge → ⊥) → content_length head ≡ None
+no_length front head spells bad large = by (content_length head) refl
+  where
+    by : (e : Option HeadRefusal) → content_length head ≡ e → content_length head ≡ None
+    by None e = e
+    by (Some refusal) e = elim (length_stands (values_of (codes "content-length") head) refusal e) [
+        inl h ↦ absurd (bad (head, spells, h.1)) | inr h ↦ absurd (large (head, spells, h.1)) ]
+
+no_caller : (front : List ℕ) (head : RequestHead) → SpellsHead front head → (Stands front TwoCallers → ⊥) → caller head ≡ None
+no_caller front head spells bad = by (caller head) refl
+  where
+    by : (e : Option HeadRefusal) → caller head ≡ e → caller head ≡ None
+    by None e = e
+    by (Some refusal) e = absurd (bad (head, spells, (caller_stands (values_of (codes "depot-caller") head) refusal e).1))
+
+pub first_refused : (front : List ℕ) (refusal : HeadRefusal) → StandsFirst front refusal → Judges front (Err refusal)
+first_refused front BadHead h = inl (h.stands, refl)
+first_refused front Chunked h = let s = h.stands in inr (s.0, s.1, sym (at_encoding s.0 Chunked (stands_encoding _ s.2)))
+first_refused front BadLength h = let s = h.stands in
+    inr (s.0, s.1, sym (at_length s.0 BadLength (no_encoding front s.0 s.1 (h.first Chunked (omega arith))) (stands_bad _ s.2)))
+first_refused front TooLarge h = let s = h.stands in
+    inr (s.0, s.1, sym (at_length s.0 TooLarge (no_encoding front s.0 s.1 (h.first Chunked (omega arith))) (stands_large _ s.2)))
+first_refused front TwoCallers h = let s = h.stands in
+    inr (s.0, s.1, sym (at_caller s.0 TwoCallers (no_encoding front s.0 s.1 (h.first Chunked (omega arith)))
+        (no_length front s.0 s.1 (h.first BadLength (omega arith)) (h.first TooLarge (omega arith))) (stands_caller _ s.2)))
+
+-- ---- what a head says
+
+names_caller : (values : List (List ℕ)) → caller_refusal (occurrence_of values) ≡ None → NamesCaller values (caller_of (occurrence_of values))
+names_caller [] none = λ name e is. cc
+names_caller (value ∷ []) none = by (is_name value) refl
+  where
+    by : (b : Bool) → is_name value ≡ b → NamesCaller (value ∷ []) (answer_if b value)
+    by true is = (refl, is)
+    by false other = λ name e is. let same : value ≡ name = cc in let wrong : true ≡ false = sym is ∙ ap is_name (sym same) ∙ other in cc
+names_caller (value ∷ second ∷ more) none = absurd (cc)
+
+announces : (values : List (List ℕ)) → length_refusal (occurrence_of values) ≡ None → AnnouncesBody values (body_length_of (occurrence_of values))
+announces [] none = inl (refl, refl)
+announces (text ∷ []) none = by (is_length_text text) refl none
+  where
+    by : (b : Bool) → is_length_text text ≡ b → (if b then answer_if (nat_lt max_body (digits_value 10 text)) TooLarge else Some BadLength) ≡ None → AnnouncesBody (text ∷ []) (digits_value 10 text)
+    by true is e = inr (text, refl, length_text text is, refl)
+    by false other e = absurd (cc)
+announces (text ∷ second ∷ more) none = absurd (cc)
+
+caller_is : (values : List (List ℕ)) (said : Option (List ℕ)) → NamesCaller values said → said ≡ caller_of (occurrence_of values)
+caller_is values (Some name) h = sym (ap (λ v. caller_of (occurrence_of v)) h.0 ∙ ap (λ b. answer_if b name) h.1)
+caller_is [] None h = refl
+caller_is (value ∷ []) None h = by (is_name value) refl
+  where
+    by : (b : Bool) → is_name value ≡ b → None ≡ answer_if b value
+    by true is = absurd (h value refl is)
+    by false other = refl
+caller_is (value ∷ second ∷ more) None h = refl
+
+body_length_is : (values : List (List ℕ)) (count : ℕ) → AnnouncesBody values count → count ≡ body_length_of (occurrence_of values)
+body_length_is values count (inl none) = none.1 ∙ sym (ap (λ v. body_length_of (occurrence_of v)) none.0)
+body_length_is values count (inr one) = one.3 ∙ sym (ap (λ v. body_length_of (occurrence_of v)) one.1)
+
+head_says : (front : List ℕ) (head : RequestHead) → SpellsHead front head → content_length head ≡ None → caller head ≡ None → Says front (contents_of head)
+head_says front head spells f g = record {
+  head = head;
+  spells = spells;
+  method = refl;
+  target = refl;
+  caller = names_caller (values_of (codes "depot-caller") head) g;
+  body_length = announces (values_of (codes "content-length") head) f
+}
+
+head_taken : (front : List ℕ) (head : RequestHead) (contents : HeadContents) → SpellsHead front head → Ok contents ≡ judgement_of head
+    → Says front contents × ((refusal : HeadRefusal) → Stands front refusal → ⊥)
+head_taken front head contents spells j = elim (outcome head) [
+    at_encoding_step other e ↦ absurd (let same : Ok contents ≡ Err other = j ∙ at_encoding head other e in cc)
+    | at_length_step other e f ↦ absurd (let same : Ok contents ≡ Err other = j ∙ at_length head other e f in cc)
+    | at_caller_step other e f g ↦ absurd (let same : Ok contents ≡ Err other = j ∙ at_caller head other e f g in cc)
+    | at_no_step e f g ↦ (let equal : Ok contents ≡ Ok (contents_of head) = j ∙ at_none head e f g in let same : contents ≡ contents_of head = cc in
+        (subst (Says front) (sym same) (head_says front head spells f g), none_stands front head spells e f g)) ]
+
+pub taken_says : (front : List ℕ) (contents : HeadContents) → Judges front (Ok contents) → Says front contents × ((refusal : HeadRefusal) → Stands front refusal → ⊥)
+taken_says front contents (inl bad) = absurd (let e = bad.1 in cc)
+taken_says front contents (inr h) = head_taken front h.0 contents h.1 h.2
+
+pub says_taken : (front : List ℕ) (contents : HeadContents) → Says front contents → ((refusal : HeadRefusal) → Stands front refusal → ⊥) → Judges front (Ok contents)
+says_taken front contents says none = taken front says.head _ _ _ contents says.spells
+    refl (no_encoding front says.head says.spells (none Chunked))
+    refl (no_length front says.head says.spells (none BadLength) (none TooLarge))
+    refl (no_caller front says.head says.spells (none TwoCallers))
+    says.method says.target (caller_is _ contents.caller says.caller) (body_length_is _ contents.body_length says.body_length)

@@ -1,0 +1,5 @@
+pub mod Bounds
+pub mod Fields
+pub mod Heads
+pub mod Steps
+pub mod View

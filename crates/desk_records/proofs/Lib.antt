@@ -1,0 +1,5 @@
+pub mod DigitLemmas
+pub mod LengthLemmas
+pub mod LineLemmas
+pub mod FoundLemmas
+pub mod ListLemmas

@@ -1,0 +1,4 @@
+pub mod Records
+pub mod RecordReading
+pub mod Finds
+pub mod RecordLists

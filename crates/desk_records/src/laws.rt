@@ -1,0 +1,44 @@
+//! Laws of the definitions alone.
+
+ghost use Rattle.std.specs.Prelude.{◌≡◌, ◌++◌, ◌≤◌, ℕ, List, length};
+ghost use Rattle.jiff.specs.Types.{Date};
+ghost use Rattle.desk_records.specs.Records.{IsRecord, record_text, HasLine, WantsMore, BeginsWithNone, CanNotBegin};
+ghost use Rattle.desk_records.specs.RecordLists.{RequestRecord, AreRecords, HasRecords, request_texts, max_records};
+
+/// An input begins with one record at most, and is read in one way.
+pub fn one_reading()
+    ensures { (day day' : Date) (bytes bytes' rest rest' : List ℕ)
+        → IsRecord day bytes → IsRecord day' bytes'
+        → record_text day bytes ++ rest ≡ record_text day' bytes' ++ rest'
+        → (day ≡ day') × (bytes ≡ bytes') × (rest ≡ rest') }
+{}
+
+/// Where more bytes are wanted, no record begins the input yet, and there are no more bytes than a
+/// record has before its last line feed. Where a record's line has come, bytes that complete it are
+/// wanted.
+pub fn wanted_bytes()
+    ensures none { (input : List ℕ) → WantsMore input → BeginsWithNone input }
+    ensures short { (input : List ℕ) → WantsMore input → length input ≤ 16800024 }
+    ensures line { (input : List ℕ) → HasLine input → ¬ CanNotBegin input }
+{}
+
+/// An input has one list of records.
+pub fn one_list()
+    ensures { (input rest rest' : List ℕ) (items items' : List RequestRecord)
+        → HasRecords input items rest → HasRecords input items' rest'
+        → (items ≡ items') × (rest ≡ rest') }
+{}
+
+/// Records, and what can't begin one, whatever follows; or as many records as an input may have,
+/// and anything: these are the records of the input, whatever is still to be read.
+pub fn last_record()
+    ensures bad { (items : List RequestRecord) (rest others : List ℕ)
+        → AreRecords items → length items ≤ max_records → CanNotBegin rest
+        → HasRecords (request_texts items ++ (rest ++ others)) items (rest ++ others) }
+    ensures full { (items : List RequestRecord) (rest : List ℕ)
+        → AreRecords items → length items ≡ max_records
+        → HasRecords (request_texts items ++ rest) items rest }
+    ensures end { (items : List RequestRecord) (rest : List ℕ)
+        → AreRecords items → length items ≤ max_records → WantsMore rest
+        → HasRecords (request_texts items ++ rest) items rest }
+{}

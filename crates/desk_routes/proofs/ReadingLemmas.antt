@@ -1,0 +1,152 @@
+-- A path is read as a place where it is spelled so, and only there.
+use Rattle.std.proofs.Common.{◌≡◌, ℕ, ◌<◌, ◌==◌, ◌&&◌, List, [], ◌∷◌, ◌++◌, length, Option, Some, None, Bool, true, false, cond, refl, sym, ap, ◌∙◌, subst, arith, codes}
+use Rattle.std.specs.Prelude.{decimal, option_map, option_and_then, nat_le}
+use Rattle.std.specs.List.{list_all}
+use Rattle.std.proofs.lemmas.Bool.{and_parts}
+use Rattle.std.proofs.lemmas.Bool.Decides.{nat_tests}
+use Rattle.office_core.specs.Names.{is_name, is_name_byte, IsName}
+use Rattle.desk_routes.specs.PathReading.{Parts, onto, cut, by_part, no_more, last_part, under_deposit, of_deposit, parts_of, name_of, number_of, place_by_parts, place_of, class, collection, deposit, holds_of_deposit, bag, audit, hold, file, deposits, holds, due}
+use Rattle.desk_routes.specs.Places as places
+use Rattle.desk_routes.specs.Places.{PlaceValue, path_of, IsPlace, IsNumber, Spells}
+use Rattle.desk_routes.proofs.PartSpelling.{path_by_parts, has_slash, IsPart, AreParts, SpellsParts}
+use Rattle.desk_routes.proofs.SpellingLemmas.{spelled}
+use Rattle.desk_routes.proofs.NumberLemmas.{number-written, number-read, number-part}
+
+-- ---- parts are read from their spelling
+
+-- a text before a slash, and what follows it
+abbrev pub Cut : Type 0
+Cut = List ℕ × Option (List ℕ)
+
+plain : (b : ℕ) (part : List ℕ) → has_slash (b ∷ part) ≡ false → ((b == 47) ≡ false) × (has_slash part ≡ false)
+plain b part h = by (b == 47) refl h
+  where
+    by : (v : Bool) → (b == 47) ≡ v → cond v true (has_slash part) ≡ false → ((b == 47) ≡ false) × (has_slash part ≡ false)
+    by true e q = absurd (let z = q in cc)
+    by false e q = (e, q)
+
+cut-last : (part : List ℕ) → has_slash part ≡ false → ◌≡◌ {A = Cut} (cut part) (part, None)
+cut-last [] h = refl
+cut-last (b ∷ part) h = let p = plain b part h in rw p.0 (ap (onto b) (cut-last part p.1))
+
+cut-more : (part rest : List ℕ) → has_slash part ≡ false → ◌≡◌ {A = Cut} (cut (part ++ 47 ∷ rest)) (part, Some rest)
+cut-more [] rest h = refl
+cut-more (b ∷ part) rest h = let p = plain b part h in rw p.0 (ap (onto b) (cut-more part rest p.1))
+
+part-last : (last : List ℕ → Option Parts) (more : List ℕ → List ℕ → Option Parts) (part : List ℕ) → IsPart part → by_part last more (cut part) ≡ last part
+part-last last more [] h = absurd (let s = h.0 in omega arith)
+part-last last more (b ∷ part) h = ap (by_part last more) (cut-last (b ∷ part) h.1)
+
+part-more : (last : List ℕ → Option Parts) (more : List ℕ → List ℕ → Option Parts) (part rest : List ℕ) → IsPart part → by_part last more (cut (part ++ 47 ∷ rest)) ≡ more part rest
+part-more last more [] rest h = absurd (let s = h.0 in omega arith)
+part-more last more (b ∷ part) rest h = ap (by_part last more) (cut-more (b ∷ part) rest h.1)
+
+last-read : (f : List ℕ → Parts) (part : List ℕ) → IsPart part → last_part f part ≡ Some (f part)
+last-read f part h = part-last (λ p. Some (f p)) no_more part h
+
+under-read : (number rest : List ℕ) → IsPart number → of_deposit (number ++ 47 ∷ rest) ≡ under_deposit number rest
+under-read number rest h = part-more (λ n. Some (deposit n)) under_deposit number rest h
+
+file-read : (number path : List ℕ) → 0 < length path → under_deposit number (codes "files/" ++ path) ≡ Some (file number path)
+file-read number [] some = absurd (omega arith)
+file-read number (b ∷ path) some = refl
+
+pub parts-read : (parts : Parts) → AreParts parts → parts_of (path_by_parts parts) ≡ Some parts
+parts-read (class name) h = rw (last-read class name h) refl
+parts-read (collection name) h = rw (last-read collection name h) refl
+parts-read (audit number) h = rw (under-read number (codes "audit") h) refl
+parts-read (bag number) h = rw (under-read number (codes "bag") h) refl
+parts-read (file number path) h = rw (under-read number (codes "files/" ++ path) h.0, file-read number path h.1) refl
+parts-read (holds_of_deposit number) h = rw (under-read number (codes "holds") h) refl
+parts-read (deposit number) h = rw (part-last (λ n. Some (deposit n)) under_deposit number h) refl
+parts-read deposits h = refl
+parts-read due h = refl
+parts-read (hold number) h = rw (last-read hold number h) refl
+parts-read holds h = refl
+
+-- ---- names
+
+name_byte : (b : ℕ) → is_name_byte b ≡ true → (b == 47) ≡ false
+name_byte b h = by (b == 47) refl
+  where
+    by : (v : Bool) → (b == 47) ≡ v → v ≡ false
+    by true e = let same : b ≡ 47 = grind (arith, nat_tests) in absurd (let z = rw same at h in cc)
+    by false e = refl
+
+name_slash : (name : List ℕ) → list_all is_name_byte name ≡ true → has_slash name ≡ false
+name_slash [] h = refl
+name_slash (b ∷ name) h =
+    let f = and_parts (is_name_byte b) (list_all is_name_byte name) h in
+    rw (name_byte b f.0) (name_slash name f.1)
+
+name-part : (name : List ℕ) → IsName name → IsPart name
+name-part name h =
+    let f = and_parts (nat_le 1 (length name) && nat_le (length name) 40) (list_all is_name_byte name) h in
+    let g = and_parts (nat_le 1 (length name)) (nat_le (length name) 40) f.0 in
+    let some : nat_le 1 (length name) ≡ true = g.0 in
+    (grind (arith, nat_tests), name_slash name f.1)
+
+-- ---- places
+
+named : (f : List ℕ → PlaceValue) (name : List ℕ) → IsName name → option_map f (name_of name) ≡ Some (f name)
+named f name h = rw h refl
+
+numbered : (f : ℕ → PlaceValue) (number : ℕ) → IsNumber number → option_map f (number_of (decimal number)) ≡ Some (f number)
+numbered f number h = rw (number-read number h) refl
+
+read_by : (parts : Parts) (place : PlaceValue) → AreParts parts → place_by_parts parts ≡ Some place → place_of (path_by_parts parts) ≡ Some place
+read_by parts place h e = ap (option_and_then place_by_parts) (parts-read parts h) ∙ e
+
+pub place-read : (place : PlaceValue) → IsPlace place → place_of (path_of place) ≡ Some place
+place-read (places.class name) h = read_by (class name) (places.class name) (name-part name h) (named places.class name h)
+place-read (places.collection name) h = read_by (collection name) (places.collection name) (name-part name h) (named places.collection name h)
+place-read places.deposits h = refl
+place-read (places.deposit n) h = read_by (deposit (decimal n)) (places.deposit n) (number-part n h) (numbered places.deposit n h)
+place-read (places.holds_of_deposit n) h = read_by (holds_of_deposit (decimal n)) (places.holds_of_deposit n) (number-part n h) (numbered places.holds_of_deposit n h)
+place-read (places.bag n) h = read_by (bag (decimal n)) (places.bag n) (number-part n h) (numbered places.bag n h)
+place-read (places.file n path) h = read_by (file (decimal n) path) (places.file n path) (number-part n h.0, h.1) (rw (number-read n h.0) refl)
+place-read (places.audit n) h = read_by (audit (decimal n)) (places.audit n) (number-part n h) (numbered places.audit n h)
+place-read places.holds h = refl
+place-read (places.hold n) h = read_by (hold (decimal n)) (places.hold n) (number-part n h) (numbered places.hold n h)
+place-read places.due h = refl
+
+pub spelling-read : (path : List ℕ) (place : PlaceValue) → Spells path place → place_of path ≡ Some place
+spelling-read path place h = ap place_of h.0 ∙ place-read place h.1
+
+by_name : (f : List ℕ → PlaceValue) (name : List ℕ) (place : PlaceValue) → option_map f (name_of name) ≡ Some place → (f name ≡ place) × IsName name
+by_name f name place e = by (is_name name) refl e
+  where
+    by : (v : Bool) → is_name name ≡ v → option_map f (cond v (Some name) None) ≡ Some place → (f name ≡ place) × IsName name
+    by true is q = (let z = q in cc, is)
+    by false is q = absurd (let z = q in cc)
+
+by_number : (f : ℕ → PlaceValue) (text : List ℕ) (place : PlaceValue) → option_map f (number_of text) ≡ Some place → (n : ℕ) × (f n ≡ place) × (text ≡ decimal n) × IsNumber n
+by_number f text place e = by (number_of text) refl e
+  where
+    by : (o : Option ℕ) → number_of text ≡ o → option_map f o ≡ Some place → (n : ℕ) × (f n ≡ place) × (text ≡ decimal n) × IsNumber n
+    by None is q = absurd (let z = q in cc)
+    by (Some n) is q = let w = number-written text n is in (n, let z = q in cc, w.0, w.1)
+
+-- a path whose parts are a name and numbers spells their place
+part_place : (path : List ℕ) (parts : Parts) (place : PlaceValue) → SpellsParts path parts → place_by_parts parts ≡ Some place → Spells path place
+part_place path (class name) place h e = let r = by_name places.class name place e in subst (Spells path) r.0 (h.0, r.1)
+part_place path (collection name) place h e = let r = by_name places.collection name place e in subst (Spells path) r.0 (h.0, r.1)
+part_place path deposits place h e = let same : places.deposits ≡ place = cc in subst (Spells path) same (h.0, tt)
+part_place path (deposit text) place h e = let r = by_number places.deposit text place e in subst (Spells path) r.1 (h.0 ∙ ap (λ t. codes "/deposits/" ++ t) r.2, r.3)
+part_place path (holds_of_deposit text) place h e = let r = by_number places.holds_of_deposit text place e in subst (Spells path) r.1 (h.0 ∙ ap (λ t. codes "/deposits/" ++ (t ++ codes "/holds")) r.2, r.3)
+part_place path (bag text) place h e = let r = by_number places.bag text place e in subst (Spells path) r.1 (h.0 ∙ ap (λ t. codes "/deposits/" ++ (t ++ codes "/bag")) r.2, r.3)
+part_place path (file text rest) place h e = let r = by_number (λ n. places.file n rest) text place e in subst (Spells path) r.1 (h.0 ∙ ap (λ t. codes "/deposits/" ++ (t ++ (codes "/files/" ++ rest))) r.2, (r.3, h.1.1))
+part_place path (audit text) place h e = let r = by_number places.audit text place e in subst (Spells path) r.1 (h.0 ∙ ap (λ t. codes "/deposits/" ++ (t ++ codes "/audit")) r.2, r.3)
+part_place path holds place h e = let same : places.holds ≡ place = cc in subst (Spells path) same (h.0, tt)
+part_place path (hold text) place h e = let r = by_number places.hold text place e in subst (Spells path) r.1 (h.0 ∙ ap (λ t. codes "/holds/" ++ t) r.2, r.3)
+part_place path due place h e = let same : places.due ≡ place = cc in subst (Spells path) same (h.0, tt)
+
+pub reading-spelled : (path : List ℕ) (place : PlaceValue) → place_of path ≡ Some place → Spells path place
+reading-spelled path place e = by (parts_of path) refl e
+  where
+    by : (o : Option Parts) → parts_of path ≡ o → option_and_then place_by_parts o ≡ Some place → Spells path place
+    by None is q = absurd (let z = q in cc)
+    by (Some parts) is q = part_place path parts place (spelled path parts is) q
+
+pub one-spelled : (path : List ℕ) (a b : PlaceValue) → Spells path a → Spells path b → a ≡ b
+one-spelled path a b x y = let e : Some a ≡ Some b = sym (spelling-read path a x) ∙ spelling-read path b y in cc

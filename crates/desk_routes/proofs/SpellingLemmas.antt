@@ -1,0 +1,105 @@
+-- A path that has a route is the spelling of that route.
+use Rattle.std.proofs.Common.{◌≡◌, ℕ, ◌==◌, List, [], ◌∷◌, ◌++◌, length, drop, take, Option, Some, None, Bool, true, false, cond, refl, sym, ap, ◌∙◌, subst, arith, nat_eq, codes}
+use Rattle.std.proofs.lemmas.Bool.Decides.{nat_tests}
+use Rattle.std.specs.List.{starts_with}
+use Rattle.std.specs.Cmp.Lexicographic.{bytes_decides}
+use Rattle.std.proofs.lemmas.List.{take-append-drop}
+use Rattle.desk_routes.specs.PathReading.{Parts, or_else, after, nothing_more, onto, cut, by_part, no_more, last_part, all_of, under_deposit, of_deposit, parts_of, class, collection, deposit, holds_of_deposit, bag, audit, hold, file, deposits, holds, due}
+use Rattle.desk_routes.proofs.PartSpelling.{path_by_parts, has_slash, IsPart, AreParts, SpellsParts}
+
+or-gives : (P : Parts → Type 0) (a b : Option Parts) (parts : Parts) → (a ≡ Some parts → P parts) → (b ≡ Some parts → P parts) → or_else a b ≡ Some parts → P parts
+or-gives P None b parts f g e = g e
+or-gives P (Some x) b parts f g e = f e
+
+starts-gives : (w path : List ℕ) → starts_with nat_eq path w ≡ true → path ≡ w ++ drop (length w) path
+starts-gives w path e = sym (take-append-drop (length w) path) ∙ ap (λ l. l ++ drop (length w) path) (sym ((bytes_decides w (take (length w) path)).0 e))
+
+after-gives : (P : Parts → Type 0) (w path : List ℕ) (f : List ℕ → Option Parts) (parts : Parts) → ((rest : List ℕ) → path ≡ w ++ rest → f rest ≡ Some parts → P parts) → after w f path ≡ Some parts → P parts
+after-gives P w path f parts g e = by (starts_with nat_eq path w) refl e
+  where
+    by : (v : Bool) → starts_with nat_eq path w ≡ v → cond v (f (drop (length w) path)) None ≡ Some parts → P parts
+    by true s e2 = g (drop (length w) path) (starts-gives w path s) e2
+    by false s e2 = absurd (let q = e2 in cc)
+
+nothing-gives : (x parts : Parts) (rest : List ℕ) → nothing_more x rest ≡ Some parts → (rest ≡ []) × (x ≡ parts)
+nothing-gives x parts [] e = (refl, let q = e in cc)
+nothing-gives x parts (b ∷ rest) e = absurd (let q = e in cc)
+
+-- what a cut says of a path
+abbrev pub Cuts : List ℕ → List ℕ × Option (List ℕ) → Type 0
+Cuts path (part, None) = (part ≡ path) × (has_slash part ≡ false)
+Cuts path (part, Some rest) = (path ≡ part ++ 47 ∷ rest) × (has_slash part ≡ false)
+
+cuts : (path : List ℕ) → Cuts path (cut path)
+cuts [] = (refl, refl)
+cuts (b ∷ path) = by (b == 47) refl (cut path) (cuts path)
+  where
+    by : (v : Bool) → (b == 47) ≡ v → (pair : List ℕ × Option (List ℕ)) → Cuts path pair → Cuts (b ∷ path) (cond v ([], Some path) (onto b pair))
+    by true e pair h = let same : b ≡ 47 = grind (arith, nat_tests) in rw same (refl, refl)
+    by false e (part, None) h = (ap (λ l. b ∷ l) h.0, rw e h.1)
+    by false e (part, Some rest) h = (ap (λ l. b ∷ l) h.0, rw e h.1)
+
+part-gives : (P : Parts → Type 0) (last : List ℕ → Option Parts) (more : List ℕ → List ℕ → Option Parts) (path : List ℕ) (parts : Parts)
+    → ((part : List ℕ) → path ≡ part → IsPart part → last part ≡ Some parts → P parts) → ((part rest : List ℕ) → path ≡ part ++ 47 ∷ rest → IsPart part → more part rest ≡ Some parts → P parts)
+    → by_part last more (cut path) ≡ Some parts → P parts
+part-gives P last more path parts f g e = by (cut path) (cuts path) e
+  where
+    by : (pair : List ℕ × Option (List ℕ)) → Cuts path pair → by_part last more pair ≡ Some parts → P parts
+    by ([], rest) h e = absurd (let q = e in cc)
+    by (b ∷ part, None) h e = f (b ∷ part) (sym h.0) (omega arith, h.1) e
+    by (b ∷ part, Some rest) h e = g (b ∷ part) rest h.0 (omega arith, h.1) e
+
+whole : (w path rest : List ℕ) → path ≡ w ++ rest → rest ≡ [] → (out : List ℕ) → w ++ [] ≡ out → path ≡ out
+whole w path rest e n out o = e ∙ ap (λ l. w ++ l) n ∙ o
+
+-- a name at the end
+last-gives : (w path : List ℕ) (f : List ℕ → Parts) (parts : Parts) → ((part : List ℕ) → path_by_parts (f part) ≡ w ++ part) → ((part : List ℕ) → IsPart part → AreParts (f part))
+    → (rest : List ℕ) → path ≡ w ++ rest → last_part f rest ≡ Some parts → SpellsParts path parts
+last-gives w path f parts spelled good rest e said = part-gives (SpellsParts path) (λ part. Some (f part)) no_more rest parts
+    (λ part p h s. let same : f part ≡ parts = cc in subst (SpellsParts path) same (e ∙ ap (λ l. w ++ l) p ∙ sym (spelled part), good part h))
+    (λ part more p h s. absurd (let q = s in cc)) said
+
+end-gives : (w path : List ℕ) (x parts : Parts) → path_by_parts x ≡ w ++ [] → AreParts x → (rest : List ℕ) → path ≡ w ++ rest → nothing_more x rest ≡ Some parts → SpellsParts path parts
+end-gives w path x parts spelled good rest e said =
+    let h = nothing-gives x parts rest said in
+    subst (SpellsParts path) h.1 (e ∙ ap (λ l. w ++ l) h.0 ∙ sym spelled, good)
+
+file_is : (number path : List ℕ) → path_by_parts (file number path) ≡ codes "/deposits/" ++ (number ++ (47 ∷ (codes "files/" ++ path)))
+file_is number path = refl
+
+-- what follows a number
+under-gives : (path number rest : List ℕ) (parts : Parts) → path ≡ codes "/deposits/" ++ number ++ 47 ∷ rest → IsPart number → under_deposit number rest ≡ Some parts → SpellsParts path parts
+under-gives path number rest parts e good said = or-gives (SpellsParts path) _ _ parts (tail (codes "audit") (nothing_more (audit number)) (ending (codes "audit") (audit number) refl good))
+    (or-gives (SpellsParts path) _ _ parts (tail (codes "bag") (nothing_more (bag number)) (ending (codes "bag") (bag number) refl good))
+    (or-gives (SpellsParts path) _ _ parts (tail (codes "files/") (all_of (file number)) files)
+    (tail (codes "holds") (nothing_more (holds_of_deposit number)) (ending (codes "holds") (holds_of_deposit number) refl good)))) said
+  where
+    tail : (w : List ℕ) (f : List ℕ → Option Parts) → ((after_it : List ℕ) → rest ≡ w ++ after_it → f after_it ≡ Some parts → SpellsParts path parts) → after w f rest ≡ Some parts → SpellsParts path parts
+    tail w f g s = after-gives (SpellsParts path) w rest f parts g s
+
+    ending : (w : List ℕ) (x : Parts) → path_by_parts x ≡ codes "/deposits/" ++ (number ++ (47 ∷ (w ++ []))) → AreParts x → (after_it : List ℕ) → rest ≡ w ++ after_it → nothing_more x after_it ≡ Some parts → SpellsParts path parts
+    ending w x spelled fine after_it r s =
+        let h = nothing-gives x parts after_it s in
+        subst (SpellsParts path) h.1 (e ∙ ap (λ l. codes "/deposits/" ++ number ++ 47 ∷ l) (r ∙ ap (λ l. w ++ l) h.0) ∙ sym spelled, fine)
+
+    files : (after_it : List ℕ) → rest ≡ codes "files/" ++ after_it → all_of (file number) after_it ≡ Some parts → SpellsParts path parts
+    files [] r s = absurd (let q = s in cc)
+    files (b ∷ l) r s = let same : file number (b ∷ l) ≡ parts = cc in subst (SpellsParts path) same (e ∙ ap (λ z. codes "/deposits/" ++ (number ++ (47 ∷ z))) r ∙ sym (file_is number (b ∷ l)), (good, omega arith))
+
+of-gives : (path rest : List ℕ) (parts : Parts) → path ≡ codes "/deposits/" ++ rest → of_deposit rest ≡ Some parts → SpellsParts path parts
+of-gives path rest parts e said = part-gives (SpellsParts path) (λ number. Some (deposit number)) under_deposit rest parts
+    (λ part p h s. let same : deposit part ≡ parts = cc in subst (SpellsParts path) same (e ∙ ap (λ l. codes "/deposits/" ++ l) p, h))
+    (λ part more p h s. under-gives path part more parts (e ∙ ap (λ l. codes "/deposits/" ++ l) p) h s) said
+
+pub spelled : (path : List ℕ) (parts : Parts) → parts_of path ≡ Some parts → SpellsParts path parts
+spelled path parts said =
+    or-gives (SpellsParts path) _ _ parts (front (codes "/classes/") (last_part class) (last-gives (codes "/classes/") path class parts (λ p. refl) (λ p h. h)))
+    (or-gives (SpellsParts path) _ _ parts (front (codes "/collections/") (last_part collection) (last-gives (codes "/collections/") path collection parts (λ p. refl) (λ p h. h)))
+    (or-gives (SpellsParts path) _ _ parts (front (codes "/deposits/") of_deposit (λ rest e s. of-gives path rest parts e s))
+    (or-gives (SpellsParts path) _ _ parts (front (codes "/deposits") (nothing_more deposits) (end-gives (codes "/deposits") path deposits parts refl tt))
+    (or-gives (SpellsParts path) _ _ parts (front (codes "/due") (nothing_more due) (end-gives (codes "/due") path due parts refl tt))
+    (or-gives (SpellsParts path) _ _ parts (front (codes "/holds/") (last_part hold) (last-gives (codes "/holds/") path hold parts (λ p. refl) (λ p h. h)))
+    (front (codes "/holds") (nothing_more holds) (end-gives (codes "/holds") path holds parts refl tt))))))) said
+  where
+    front : (w : List ℕ) (f : List ℕ → Option Parts) → ((rest : List ℕ) → path ≡ w ++ rest → f rest ≡ Some parts → SpellsParts path parts) → after w f path ≡ Some parts → SpellsParts path parts
+    front w f g s = after-gives (SpellsParts path) w path f parts g s

@@ -1,0 +1,224 @@
+-- The table of the routes, read by method and place.
+use Rattle.std.proofs.Common.{◌≡◌, ◌⊎◌, inl, inr, ℕ, zero, suc, List, [], ◌∷◌, Option, Some, None, Ok, Err, Bool, true, false, cond, refl, sym, ap, ◌∙◌, subst, arith, codes}
+use Rattle.std.specs.Prelude.{bytes_eq, option_and_then, Contains, map}
+use Rattle.std.specs.List.Sorted.{IsStrictlySortedBy}
+use Rattle.std.specs.Cmp.Lexicographic.{slice_cmp, bytes_decides}
+use Rattle.std.specs.Ordering.{nat_cmp}
+use Rattle.desk_routes.specs.declared.method.Method.{Method}
+use Rattle.desk_routes.specs.declared.method.Method.TheVariants.{Delete, Get, Post, Put}
+use Rattle.desk_routes.specs.declared.pattern.Pattern.{Pattern}
+use Rattle.desk_routes.specs.declared.pattern.Pattern.TheVariants as patterns
+use Rattle.desk_routes.specs.declared.refusal.DeskRefusal.{DeskRefusal}
+use Rattle.desk_routes.specs.declared.refusal.DeskRefusal.TheVariants as refusals
+use Rattle.desk_routes.specs.Routes.{method_text, methods_of}
+use Rattle.desk_routes.specs.Places.{PlaceValue, class, collection, deposits, deposit, holds_of_deposit, bag, file, audit, holds, hold, due, Spells, pattern_of}
+use Rattle.desk_routes.specs.PathReading.{place_of}
+use Rattle.desk_routes.specs.Table.{RouteValue, define_class, define_collection, deposit_bag, list_deposits, record_of, dispose, holds_of, download_bag, download_file, audit_of, place_hold, release, due_list, row, Asks, Refuses, route_at, method_of, or_refused, route_of_place, route_of}
+use Rattle.desk_routes.proofs.ReadingLemmas.{spelling-read, reading-spelled}
+
+-- ---- rows
+
+pub row-found : (route : RouteValue) → route_at (row route).0 (row route).1 ≡ Some route
+row-found (define_class name) = refl
+row-found (define_collection name) = refl
+row-found deposit_bag = refl
+row-found list_deposits = refl
+row-found (record_of number) = refl
+row-found (dispose number) = refl
+row-found (holds_of number) = refl
+row-found (download_bag number) = refl
+row-found (download_file number path) = refl
+row-found (audit_of number) = refl
+row-found place_hold = refl
+row-found (release number) = refl
+row-found due_list = refl
+
+abbrev pub IsRow : RouteValue → Method → PlaceValue → Type 0
+IsRow route method place = ((row route).0 ≡ method) × ((row route).1 ≡ place)
+
+same_row : (route found : RouteValue) → Some found ≡ Some route → IsRow route (row found).0 (row found).1
+same_row route found e = let same : found ≡ route = cc in subst (λ r. IsRow r (row found).0 (row found).1) same (refl, refl)
+
+pub row-only : (method : Method) (place : PlaceValue) (route : RouteValue) → route_at method place ≡ Some route → IsRow route method place
+row-only Put (class name) route e = same_row route (define_class name) e
+row-only Put (collection name) route e = same_row route (define_collection name) e
+row-only Post deposits route e = same_row route deposit_bag e
+row-only Get deposits route e = same_row route list_deposits e
+row-only Get (deposit number) route e = same_row route (record_of number) e
+row-only Delete (deposit number) route e = same_row route (dispose number) e
+row-only Get (holds_of_deposit number) route e = same_row route (holds_of number) e
+row-only Get (bag number) route e = same_row route (download_bag number) e
+row-only Get (file number path) route e = same_row route (download_file number path) e
+row-only Get (audit number) route e = same_row route (audit_of number) e
+row-only Post holds route e = same_row route place_hold e
+row-only Delete (hold number) route e = same_row route (release number) e
+row-only Get due route e = same_row route due_list e
+row-only method place route e = absurd (let z = e in cc)
+
+pub row-at : (method : Method) (place : PlaceValue) (route : RouteValue) → IsRow route method place → route_at method place ≡ Some route
+row-at method place route h = rw (← h.0, ← h.1) (row-found route)
+
+-- ---- allowed methods
+
+one_of : (a x : Method) → Contains (a ∷ []) x → a ≡ x
+one_of a x (zero, low, is) = is
+one_of a x (suc k, low, is) = absurd (omega arith)
+
+two_of : (a b x : Method) → Contains (a ∷ b ∷ []) x → (a ≡ x) ⊎ (b ≡ x)
+two_of a b x (zero, low, is) = inl is
+two_of a b x (suc zero, low, is) = inr is
+two_of a b x (suc (suc k), low, is) = absurd (omega arith)
+
+abbrev pub HasRoute : PlaceValue → Method → Type 0
+HasRoute place method = (route : RouteValue) × (route_at method place ≡ Some route)
+
+either : (a b x : Method) (place : PlaceValue) → HasRoute place a → HasRoute place b → Contains (a ∷ b ∷ []) x → HasRoute place x
+either a b x place p q c = by (two_of a b x c)
+  where
+    by : (a ≡ x) ⊎ (b ≡ x) → HasRoute place x
+    by (inl e) = subst (HasRoute place) e p
+    by (inr e) = subst (HasRoute place) e q
+
+pub allowed-route : (method : Method) (place : PlaceValue) → Contains (methods_of (pattern_of place)) method → HasRoute place method
+allowed-route method (class name) c = subst (HasRoute (class name)) (one_of Put method c) (define_class name, refl)
+allowed-route method (collection name) c = subst (HasRoute (collection name)) (one_of Put method c) (define_collection name, refl)
+allowed-route method deposits c = either Get Post method deposits (list_deposits, refl) (deposit_bag, refl) c
+allowed-route method (deposit number) c = either Delete Get method (deposit number) (dispose number, refl) (record_of number, refl) c
+allowed-route method (holds_of_deposit number) c = subst (HasRoute (holds_of_deposit number)) (one_of Get method c) (holds_of number, refl)
+allowed-route method (bag number) c = subst (HasRoute (bag number)) (one_of Get method c) (download_bag number, refl)
+allowed-route method (file number path) c = subst (HasRoute (file number path)) (one_of Get method c) (download_file number path, refl)
+allowed-route method (audit number) c = subst (HasRoute (audit number)) (one_of Get method c) (audit_of number, refl)
+allowed-route method holds c = subst (HasRoute holds) (one_of Post method c) (place_hold, refl)
+allowed-route method (hold number) c = subst (HasRoute (hold number)) (one_of Delete method c) (release number, refl)
+allowed-route method due c = subst (HasRoute due) (one_of Get method c) (due_list, refl)
+
+pub route-allowed : (method : Method) (place : PlaceValue) (route : RouteValue) → route_at method place ≡ Some route → Contains (methods_of (pattern_of place)) method
+route-allowed Put (class name) route e = (0, omega arith, refl)
+route-allowed Put (collection name) route e = (0, omega arith, refl)
+route-allowed Get deposits route e = (0, omega arith, refl)
+route-allowed Post deposits route e = (1, omega arith, refl)
+route-allowed Delete (deposit number) route e = (0, omega arith, refl)
+route-allowed Get (deposit number) route e = (1, omega arith, refl)
+route-allowed Get (holds_of_deposit number) route e = (0, omega arith, refl)
+route-allowed Get (bag number) route e = (0, omega arith, refl)
+route-allowed Get (file number path) route e = (0, omega arith, refl)
+route-allowed Get (audit number) route e = (0, omega arith, refl)
+route-allowed Post holds route e = (0, omega arith, refl)
+route-allowed Delete (hold number) route e = (0, omega arith, refl)
+route-allowed Get due route e = (0, omega arith, refl)
+route-allowed method place route e = absurd (let z = e in cc)
+
+pub methods-sorted : (pattern : Pattern) → IsStrictlySortedBy (slice_cmp nat_cmp) (map method_text (methods_of pattern))
+unfolding IsStrictlySortedBy
+methods-sorted patterns.Class = (tt, tt)
+methods-sorted patterns.Collection = (tt, tt)
+methods-sorted patterns.Deposits = ((refl, tt), (tt, tt))
+methods-sorted patterns.Deposit = ((refl, tt), (tt, tt))
+methods-sorted patterns.HoldsOfDeposit = (tt, tt)
+methods-sorted patterns.Bag = (tt, tt)
+methods-sorted patterns.File = (tt, tt)
+methods-sorted patterns.Audit = (tt, tt)
+methods-sorted patterns.Holds = (tt, tt)
+methods-sorted patterns.Hold = (tt, tt)
+methods-sorted patterns.Due = (tt, tt)
+
+-- ---- the words of the methods
+
+method-read : (method : Method) → method_of (method_text method) ≡ Some method
+method-read Delete = refl
+method-read Get = refl
+method-read Post = refl
+method-read Put = refl
+
+same_text : (a b : List ℕ) → bytes_eq a b ≡ true → a ≡ b
+same_text a b e = (bytes_decides a b).0 e
+
+method-written : (text : List ℕ) (method : Method) → method_of text ≡ Some method → text ≡ method_text method
+method-written text method e = by (bytes_eq text (codes "DELETE")) (bytes_eq text (codes "GET")) (bytes_eq text (codes "POST")) (bytes_eq text (codes "PUT")) refl refl refl refl e
+  where
+    found : (m : Method) → text ≡ method_text m → Some m ≡ Some method → text ≡ method_text method
+    found m is q = let same : m ≡ method = cc in is ∙ ap method_text same
+
+    by : (d g o p : Bool) → bytes_eq text (codes "DELETE") ≡ d → bytes_eq text (codes "GET") ≡ g → bytes_eq text (codes "POST") ≡ o → bytes_eq text (codes "PUT") ≡ p
+        → cond d (Some Delete) (cond g (Some Get) (cond o (Some Post) (cond p (Some Put) None))) ≡ Some method → text ≡ method_text method
+    by true g o p x y z w q = found Delete (same_text text (codes "DELETE") x) q
+    by false true o p x y z w q = found Get (same_text text (codes "GET") y) q
+    by false false true p x y z w q = found Post (same_text text (codes "POST") z) q
+    by false false false true x y z w q = found Put (same_text text (codes "PUT") w) q
+    by false false false false x y z w q = absurd (let k = q in cc)
+
+-- ---- what a method and a path ask for
+
+refused-gives : (found : Option RouteValue) (refusal : DeskRefusal) (route : RouteValue) → or_refused found refusal ≡ Ok route → found ≡ Some route
+refused-gives None refusal route e = absurd (let z = e in cc)
+refused-gives (Some r) refusal route e = let z = e in cc
+
+pub asked-found : (method path : List ℕ) (route : RouteValue) → Asks method path route → route_of method path ≡ Ok route
+asked-found method path route h =
+    let place = spelling-read path (row route).1 h.1 in
+    let word : method_of method ≡ Some (row route).0 = ap method_of h.0 ∙ method-read (row route).0 in
+    rw place (rw word (rw (row-found route) refl))
+
+pub found-asked : (method path : List ℕ) (route : RouteValue) → route_of method path ≡ Ok route → Asks method path route
+found-asked method path route e = by (place_of path) refl e
+  where
+    by_word : (place : PlaceValue) (word : Option Method) → place_of path ≡ Some place → method_of method ≡ word
+        → or_refused (option_and_then (λ m. route_at m place) word) (refusals.Method (pattern_of place)) ≡ Ok route → Asks method path route
+    by_word place None is w q = absurd (let z = q in cc)
+    by_word place (Some m) is w q =
+        let r = row-only m place route (refused-gives (route_at m place) _ route q) in
+        (method-written method m w ∙ ap method_text (sym r.0), subst (Spells path) (sym r.1) (reading-spelled path place is))
+
+    by : (o : Option PlaceValue) → place_of path ≡ o → route_of_place method o ≡ Ok route → Asks method path route
+    by None is q = absurd (let z = q in cc)
+    by (Some place) is q = by_word place (method_of method) is refl q
+
+no_route : (found : Option RouteValue) (pattern : Pattern) → or_refused found (refusals.Method pattern) ≡ Err refusals.NoRoute → ⊥
+no_route None pattern e = let z = e in cc
+no_route (Some r) pattern e = let z = e in cc
+
+pub nothing-named : (method path : List ℕ) → route_of method path ≡ Err refusals.NoRoute → (place : PlaceValue) → Spells path place → ⊥
+nothing-named method path e place h =
+    no_route (option_and_then (λ m. route_at m place) (method_of method)) (pattern_of place) (sym (ap (route_of_place method) (spelling-read path place h)) ∙ e)
+
+pub named-nothing : (method path : List ℕ) → ((place : PlaceValue) → Spells path place → ⊥) → route_of method path ≡ Err refusals.NoRoute
+named-nothing method path h = by (place_of path) refl
+  where
+    by : (o : Option PlaceValue) → place_of path ≡ o → route_of_place method o ≡ Err refusals.NoRoute
+    by None is = refl
+    by (Some place) is = absurd (h place (reading-spelled path place is))
+
+refused-none : (found : Option RouteValue) (was pattern : Pattern) → or_refused found (refusals.Method was) ≡ Err (refusals.Method pattern) → (found ≡ None) × (was ≡ pattern)
+refused-none None was pattern e = (refl, let z = e in cc)
+refused-none (Some r) was pattern e = absurd (let z = e in cc)
+
+pub method-refused : (method path : List ℕ) (pattern : Pattern) → route_of method path ≡ Err (refusals.Method pattern) → Refuses method path pattern
+method-refused method path pattern e = by (place_of path) refl e
+  where
+    by : (o : Option PlaceValue) → place_of path ≡ o → route_of_place method o ≡ Err (refusals.Method pattern) → Refuses method path pattern
+    by None is q = absurd (let z = q in cc)
+    by (Some place) is q =
+        let r = refused-none (option_and_then (λ m. route_at m place) (method_of method)) (pattern_of place) pattern q in (
+          place,
+          reading-spelled path place is,
+          r.1,
+          λ allowed c word.
+              let here : Contains (methods_of (pattern_of place)) allowed = subst (λ p. Contains (methods_of p) allowed) (sym r.1) c in
+              let route = allowed-route allowed place here in
+              let reads : method_of method ≡ Some allowed = ap method_of word ∙ method-read allowed in
+              let none : route_at allowed place ≡ None = sym (ap (option_and_then (λ m. route_at m place)) reads) ∙ r.0 in
+              let both : Some route.0 ≡ None = sym route.1 ∙ none in
+              let z = both in cc,
+        )
+
+pub refused-method : (method path : List ℕ) (pattern : Pattern) → Refuses method path pattern → route_of method path ≡ Err (refusals.Method pattern)
+refused-method method path pattern (place, spells, same, never) =
+    ap (route_of_place method) (spelling-read path place spells) ∙ by_word (method_of method) refl
+  where
+    by_route : (m : Method) (found : Option RouteValue) → method_of method ≡ Some m → route_at m place ≡ found → or_refused found (refusals.Method (pattern_of place)) ≡ Err (refusals.Method pattern)
+    by_route m None w is = ap (λ p. Err (refusals.Method p)) same
+    by_route m (Some route) w is = absurd (never m (subst (λ p. Contains (methods_of p) m) same (route-allowed m place route is)) (method-written method m w))
+
+    by_word : (word : Option Method) → method_of method ≡ word → or_refused (option_and_then (λ m. route_at m place) word) (refusals.Method (pattern_of place)) ≡ Err (refusals.Method pattern)
+    by_word None w = ap (λ p. Err (refusals.Method p)) same
+    by_word (Some m) w = by_route m (route_at m place) w refl

@@ -1,0 +1,104 @@
+-- How a path is read, by its beginning and its parts. The law `spelled_places` says that this reads each path as `Places` spells it.
+use Rattle.std.specs.Prelude.{ℕ, ◌==◌, Bool, false, ◌&&◌, nat_le, List, [], ◌∷◌, length, drop, codes, Option, Some, None, nat_eq, option_map, option_and_then, if◌then◌else◌}
+use Rattle.std.specs.List.{starts_with, list_all}
+use Rattle.std.specs.Char.{is_ascii_digit}
+use Rattle.std.specs.Str.Parse.{digits_value}
+use Rattle.office_core.specs.Names.{is_name}
+use Rattle.desk_routes.specs.Places.{PlaceValue}
+use Rattle.desk_routes.specs.Places as places
+
+-- which pattern a path has, with the texts that stand for its name, its number and its path
+pub data Parts : Type 0 where
+  class collection deposit holds_of_deposit bag audit hold : List ℕ → Parts
+  file : List ℕ → List ℕ → Parts
+  deposits holds due : Parts
+
+-- the first of two answers
+abbrev pub or_else : Option Parts → Option Parts → Option Parts
+or_else None other = other
+or_else (Some parts) other = Some parts
+
+-- what a path says that begins so, by what follows
+abbrev pub after : List ℕ → (List ℕ → Option Parts) → List ℕ → Option Parts
+after front rest_of path = if starts_with nat_eq path front then rest_of (drop (length front) path) else None
+
+abbrev pub nothing_more : Parts → List ℕ → Option Parts
+nothing_more parts [] = Some parts
+nothing_more parts (b ∷ rest) = None
+
+abbrev pub onto : ℕ → List ℕ × Option (List ℕ) → List ℕ × Option (List ℕ)
+onto b pair = (b ∷ pair.0, pair.1)
+
+-- the text before the first slash, and what follows that slash
+abbrev pub cut : List ℕ → List ℕ × Option (List ℕ)
+cut [] = ([], None)
+cut (b ∷ text) = if b == 47 then ([], Some text) else onto b (cut text)
+
+-- a part that is not empty: the last of the path, or one that more follows
+abbrev pub by_part : (List ℕ → Option Parts) → (List ℕ → List ℕ → Option Parts) → List ℕ × Option (List ℕ) → Option Parts
+by_part last more ([], rest) = None
+by_part last more (b ∷ part, None) = last (b ∷ part)
+by_part last more (b ∷ part, Some rest) = more (b ∷ part) rest
+
+abbrev pub no_more : List ℕ → List ℕ → Option Parts
+no_more part rest = None
+
+abbrev pub last_part : (List ℕ → Parts) → List ℕ → Option Parts
+last_part parts text = by_part (λ part. Some (parts part)) no_more (cut text)
+
+-- all that is left, if it is not empty
+abbrev pub all_of : (List ℕ → Parts) → List ℕ → Option Parts
+all_of parts [] = None
+all_of parts (b ∷ rest) = Some (parts (b ∷ rest))
+
+-- what follows `/deposits/N/`
+abbrev pub under_deposit : List ℕ → List ℕ → Option Parts
+under_deposit number rest =
+    or_else (after (codes "audit") (nothing_more (audit number)) rest)
+    (or_else (after (codes "bag") (nothing_more (bag number)) rest)
+    (or_else (after (codes "files/") (all_of (file number)) rest)
+    (after (codes "holds") (nothing_more (holds_of_deposit number)) rest)))
+
+-- what follows `/deposits/`
+abbrev pub of_deposit : List ℕ → Option Parts
+of_deposit text = by_part (λ number. Some (deposit number)) under_deposit (cut text)
+
+abbrev pub parts_of : List ℕ → Option Parts
+parts_of path =
+    or_else (after (codes "/classes/") (last_part class) path)
+    (or_else (after (codes "/collections/") (last_part collection) path)
+    (or_else (after (codes "/deposits/") of_deposit path)
+    (or_else (after (codes "/deposits") (nothing_more deposits) path)
+    (or_else (after (codes "/due") (nothing_more due) path)
+    (or_else (after (codes "/holds/") (last_part hold) path)
+    (after (codes "/holds") (nothing_more holds) path))))))
+
+-- 1 to 7 digits, of which the first is no zero, unless it stands alone
+abbrev pub is_number : List ℕ → Bool
+is_number [] = false
+is_number (b ∷ []) = is_ascii_digit b
+is_number (b ∷ c ∷ rest) = if b == 48 then false else nat_le (length (b ∷ c ∷ rest)) 7 && list_all is_ascii_digit (b ∷ c ∷ rest)
+
+abbrev pub number_of : List ℕ → Option ℕ
+number_of text = if is_number text then Some (digits_value 10 text) else None
+
+abbrev pub name_of : List ℕ → Option (List ℕ)
+name_of text = if is_name text then Some text else None
+
+-- the place of a path with these parts, where they are a name and numbers
+abbrev pub place_by_parts : Parts → Option PlaceValue
+place_by_parts (class name) = option_map places.class (name_of name)
+place_by_parts (collection name) = option_map places.collection (name_of name)
+place_by_parts deposits = Some places.deposits
+place_by_parts (deposit number) = option_map places.deposit (number_of number)
+place_by_parts (holds_of_deposit number) = option_map places.holds_of_deposit (number_of number)
+place_by_parts (bag number) = option_map places.bag (number_of number)
+place_by_parts (file number path) = option_and_then (λ n. Some (places.file n path)) (number_of number)
+place_by_parts (audit number) = option_map places.audit (number_of number)
+place_by_parts holds = Some places.holds
+place_by_parts (hold number) = option_map places.hold (number_of number)
+place_by_parts due = Some places.due
+
+-- what a path names, if anything
+abbrev pub place_of : List ℕ → Option PlaceValue
+place_of path = option_and_then place_by_parts (parts_of path)

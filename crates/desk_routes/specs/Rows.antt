@@ -1,0 +1,33 @@
+-- The rows of the router that keeps the patterns: 256 stands for a part, and 257 for all that is left.
+use Rattle.std.specs.Prelude.{ℕ, List, [], ◌∷◌, ◌++◌, codes}
+use Rattle.matchit.specs.Router.{RouteOf}
+use Rattle.matchit.specs.Rows.{RowsOf}
+use Rattle.desk_routes.specs.declared.pattern.Pattern.{Pattern}
+use Rattle.desk_routes.specs.declared.pattern.Pattern.TheVariants as patterns
+use Rattle.desk_routes.specs.PathReading.{Parts, class, collection, deposit, holds_of_deposit, bag, audit, hold, file, deposits, holds, due}
+
+abbrev pub route_row : List ℕ → List ℕ → List (ℕ × ℕ) → Pattern → RouteOf Pattern
+route_row tokens text names value = record { pattern = tokens; text = text; names = names; value = value }
+
+-- the router's row for a path with these parts
+abbrev pub row_of : Parts → RouteOf Pattern
+row_of (class name) = route_row (codes "/classes/" ++ 256 ∷ []) (codes "/classes/{name}") ((10, 14) ∷ []) patterns.Class
+row_of (collection name) = route_row (codes "/collections/" ++ 256 ∷ []) (codes "/collections/{name}") ((14, 18) ∷ []) patterns.Collection
+row_of (audit number) = route_row (codes "/deposits/" ++ 256 ∷ codes "/audit") (codes "/deposits/{number}/audit") ((11, 17) ∷ []) patterns.Audit
+row_of (bag number) = route_row (codes "/deposits/" ++ 256 ∷ codes "/bag") (codes "/deposits/{number}/bag") ((11, 17) ∷ []) patterns.Bag
+row_of (file number path) = route_row (codes "/deposits/" ++ 256 ∷ codes "/files/" ++ 257 ∷ []) (codes "/deposits/{number}/files/{*path}") ((11, 17) ∷ (27, 31) ∷ []) patterns.File
+row_of (holds_of_deposit number) = route_row (codes "/deposits/" ++ 256 ∷ codes "/holds") (codes "/deposits/{number}/holds") ((11, 17) ∷ []) patterns.HoldsOfDeposit
+row_of (deposit number) = route_row (codes "/deposits/" ++ 256 ∷ []) (codes "/deposits/{number}") ((11, 17) ∷ []) patterns.Deposit
+row_of deposits = route_row (codes "/deposits") (codes "/deposits") [] patterns.Deposits
+row_of due = route_row (codes "/due") (codes "/due") [] patterns.Due
+row_of (hold number) = route_row (codes "/holds/" ++ 256 ∷ []) (codes "/holds/{number}") ((8, 14) ∷ []) patterns.Hold
+row_of holds = route_row (codes "/holds") (codes "/holds") [] patterns.Holds
+
+abbrev pub row : Parts → List ℕ × RouteOf Pattern
+row parts = ((row_of parts).pattern, row_of parts)
+
+-- in the order in which the router keeps them
+abbrev pub the_rows : RowsOf (RouteOf Pattern)
+the_rows =
+    row (class []) ∷ row (collection []) ∷ row (audit []) ∷ row (bag []) ∷ row (file [] []) ∷ row (holds_of_deposit []) ∷ row (deposit [])
+    ∷ row deposits ∷ row due ∷ row (hold []) ∷ row holds ∷ []

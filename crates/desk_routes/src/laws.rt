@@ -1,0 +1,65 @@
+//! Laws of the definitions alone.
+
+ghost use Rattle.std.specs.Prelude.{◌≡◌, ◌↔◌, ℕ, List, Some, Ok, Err, Contains, map};
+ghost use Rattle.std.specs.Cmp.Lexicographic.{slice_cmp};
+ghost use Rattle.std.specs.List.Sorted.{IsStrictlySortedBy};
+ghost use Rattle.std.specs.Ordering.{nat_cmp};
+ghost use Rattle.desk_routes.specs.declared.method.Method.{Method as AnyMethod};
+ghost use Rattle.desk_routes.specs.declared.pattern.Pattern.{Pattern as AnyPattern};
+ghost use Rattle.desk_routes.specs.declared.refusal.DeskRefusal.TheVariants.{NoRoute, Method};
+ghost use Rattle.desk_routes.specs.PathReading.{place_of};
+ghost use Rattle.desk_routes.specs.Places.{PlaceValue, Spells, pattern_of};
+ghost use Rattle.desk_routes.specs.Routes.{method_text, methods_of};
+ghost use Rattle.desk_routes.specs.Table.{RouteValue, Asks, Refuses, row, route_at, route_of};
+ghost use Rattle.desk_routes.specs.Targets.{Splits, path_part, query_part};
+
+/// A path is read as a place exactly where it is the spelling of that place.
+pub fn spelled_places()
+    ensures { (path : List ℕ) (place : PlaceValue)
+        → (place_of path ≡ Some place) ↔ Spells path place }
+{}
+
+/// A path is the spelling of one place at most.
+pub fn one_place()
+    ensures { (path : List ℕ) (one other : PlaceValue)
+        → Spells path one → Spells path other → one ≡ other }
+{}
+
+/// A method and a place give a route exactly where they are the route's row of the table.
+pub fn rows_of_routes()
+    ensures { (method : AnyMethod) (place : PlaceValue) (route : RouteValue)
+        → (route_at method place ≡ Some route)
+        ↔ (((row route).0 ≡ method) × ((row route).1 ≡ place)) }
+{}
+
+/// A place takes exactly the methods that its pattern lists.
+pub fn allowed_methods()
+    ensures { (method : AnyMethod) (place : PlaceValue)
+        → Contains (methods_of (pattern_of place)) method
+        ↔ ((route : RouteValue) × (route_at method place ≡ Some route)) }
+{}
+
+/// A pattern lists its methods by their words in the order of bytes, each once.
+pub fn methods_in_order()
+    ensures { (pattern : AnyPattern)
+        → IsStrictlySortedBy (slice_cmp nat_cmp) (map method_text (methods_of pattern)) }
+{}
+
+/// A method on a path asks for a route exactly where the route's row has that method and the path
+/// is the spelling of its place. It is refused with `NoRoute` exactly where the path is the
+/// spelling of no place, and with `Method` exactly where it is the spelling of a place that does
+/// not take the method.
+pub fn asked_routes()
+    ensures asked { (method path : List ℕ) (route : RouteValue)
+        → (route_of method path ≡ Ok route) ↔ Asks method path route }
+    ensures nothing { (method path : List ℕ)
+        → (route_of method path ≡ Err NoRoute) ↔ ((place : PlaceValue) → ¬ (Spells path place)) }
+    ensures refused { (method path : List ℕ) (pattern : AnyPattern)
+        → (route_of method path ≡ Err (Method pattern)) ↔ Refuses method path pattern }
+{}
+
+/// A target has one path and one query.
+pub fn one_split()
+    ensures { (target path query : List ℕ)
+        → ((path_part target ≡ path) × (query_part target ≡ query)) ↔ Splits target path query }
+{}

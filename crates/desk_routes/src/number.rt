@@ -1,0 +1,33 @@
+//! Numbers in paths.
+
+ghost use Rattle.std.specs.Prelude.{◌≡◌};
+ghost use Rattle.std.specs.List.{list_all};
+ghost use Rattle.std.specs.Char.{is_ascii_digit};
+ghost use Rattle.desk_routes.specs.PathReading.{is_number, number_of};
+
+fn all_digits(bytes: &[u8]) -> bool
+    ensures { result ≡ list_all is_ascii_digit bytes.now }
+{
+    bytes.iter().all(|b| b.is_ascii_digit())
+}
+
+fn is_number(text: &[u8]) -> bool
+    ensures { result ≡ is_number text.now }
+{
+    match text {
+        [b'0'] => true,
+        [b'0', ..] => false,
+        _ => !text.is_empty() && text.len() <= 7 && all_digits(text),
+    }
+}
+
+/// The number that 1 to 7 digits write, of which the first is no zero unless it stands alone.
+pub(crate) fn read_number(text: &str) -> Option<u32>
+    ensures { result ≡ number_of text.now }
+{
+    if is_number(text.as_bytes()) {
+        text.parse::<u32>().ok()
+    } else {
+        None
+    }
+}

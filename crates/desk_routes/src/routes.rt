@@ -1,0 +1,92 @@
+//! The table of the routes.
+
+ghost use Rattle.std.specs.Prelude.{◌≡◌, IfOk, MatchResult, Ok, Err, option_map};
+ghost use Rattle.desk_routes.specs.PathReading.{place_of};
+ghost use Rattle.desk_routes.specs.Rows.{the_rows};
+ghost use Rattle.desk_routes.specs.Table.{route_of};
+ghost use Rattle.desk_routes.specs.Views.{place_view, route_view};
+
+use crate::pattern::Pattern;
+use crate::place::{Place, place_by_params};
+use crate::refusal::DeskRefusal;
+use crate::route::{Route, read_method, route_at};
+use matchit::{InsertError, Router};
+use std::alloc::{AllocError, Global};
+use std::marker::Model;
+
+fn pattern_router(alloc: Global) -> Result<Router<Pattern>, InsertError>
+    ensures { IfOk result (λ router. router ≡ the_rows) }
+{
+    let mut router = Router::new(alloc);
+    router.insert("/classes/{name}", Pattern::Class)?;
+    router.insert("/collections/{name}", Pattern::Collection)?;
+    router.insert("/deposits", Pattern::Deposits)?;
+    router.insert("/deposits/{number}", Pattern::Deposit)?;
+    router.insert("/deposits/{number}/holds", Pattern::HoldsOfDeposit)?;
+    router.insert("/deposits/{number}/bag", Pattern::Bag)?;
+    router.insert("/deposits/{number}/files/{*path}", Pattern::File)?;
+    router.insert("/deposits/{number}/audit", Pattern::Audit)?;
+    router.insert("/holds", Pattern::Holds)?;
+    router.insert("/holds/{number}", Pattern::Hold)?;
+    router.insert("/due", Pattern::Due)?;
+    Ok(router)
+}
+
+/// The table of the routes. There is one such table, so contracts see nothing of it.
+#[derive(Drop)]
+pub struct Routes {
+    router: Router<Pattern>,
+}
+
+impl Model for Routes {
+    ghost use Rattle.std.specs.Prelude.{◌≡◌};
+    ghost use Rattle.desk_routes.specs.Rows.{the_rows};
+
+    ghost Value = { Unit {0} };
+
+    ghost view = { λ _. tt };
+
+    ghost invariant = { λ routes. routes.router ≡ the_rows };
+}
+
+impl Routes {
+    /// The table. Fails only for want of memory.
+    pub fn new(alloc: Global) -> Result<Routes, AllocError> {
+        match pattern_router(alloc) {
+            Ok(router) => Ok(Routes { router }),
+            Err(_) => Err(AllocError),
+        }
+    }
+
+    /// What a path names, if anything: the place of which the path is the spelling.
+    pub fn find<'p>(&self, path: &'p str) -> Option<Place<'p>>
+        ensures { option_map place_view result ≡ place_of path.now }
+    {
+        match self.router.at(path) {
+            Ok(found) => place_by_params(*found.value, &found.params),
+            Err(_) => None,
+        }
+    }
+
+    /// What a method on a path asks for.
+    ///
+    /// Refuses with `NoRoute` where the path names nothing, and with `Method` where the place that
+    /// it names doesn't take the method. Methods are compared exactly.
+    pub fn route<'p>(&self, method: &str, path: &'p str) -> Result<Route<'p>, DeskRefusal>
+        ensures { MatchResult result
+            (λ route. route_of method.now path.now ≡ Ok (route_view route))
+            (λ refusal. route_of method.now path.now ≡ Err refusal) }
+    {
+        let Some(place) = self.find(path) else {
+            return Err(DeskRefusal::NoRoute);
+        };
+        let pattern = place.pattern();
+        match read_method(method) {
+            Some(method) => match route_at(method, place) {
+                Some(route) => Ok(route),
+                None => Err(DeskRefusal::Method(pattern)),
+            },
+            None => Err(DeskRefusal::Method(pattern)),
+        }
+    }
+}

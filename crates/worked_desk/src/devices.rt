@@ -1,0 +1,184 @@
+//! The calls of `desk_devices`: heads, what follows them, and writes, at devices that fail.
+
+use desk_devices::{
+    Counted, FailAt, FillFault, HeadFault, HeadPlace, Portion, WriteFailed, fill, place_of_head,
+    read_head, write_whole,
+};
+use std::alloc::Global;
+use std::io::{Read, Write};
+use std::test::*;
+
+static PLACES: [(&str, HeadPlace); 12] = [
+    (
+        "GET / HTTP/1.1\r\nDepot-Caller: anna\r\n\r\n",
+        HeadPlace::Found(38),
+    ),
+    ("GET / HTTP/1.1\n\nbody", HeadPlace::Found(16)),
+    ("\n\n", HeadPlace::Found(2)),
+    ("\r\n\r\n", HeadPlace::Found(4)),
+    ("a\n\r\nb\n\n", HeadPlace::Found(4)),
+    ("a\r\n\n", HeadPlace::Found(4)),
+    ("", HeadPlace::Short),
+    ("\n", HeadPlace::Short),
+    ("a\r\n\r", HeadPlace::Short),
+    ("a\n\r\r\n", HeadPlace::Short),
+    ("a\n \n", HeadPlace::Short),
+    ("\r\r\r", HeadPlace::Short),
+];
+
+#[test]
+fn places_of_heads(rt: HostRuntime) {
+    for (text, place) in &PLACES {
+        assert_eq!(rt; place_of_head(text.as_bytes()), *place, "of {text:?}");
+    }
+}
+
+/// So many letters, and then two line feeds and a letter.
+fn long_head(alloc: Global, letters: usize) -> Result<Vec<u8>, Fail> {
+    let mut bytes = vec![in alloc; b'a'; letters]?;
+    bytes.extend_from_slice(b"\n\nb")?;
+    Ok(bytes)
+}
+
+#[test]
+fn heads_of_8192_bytes(rt: HostRuntime) -> Result<(), Fail> {
+    for (letters, place) in [
+        (8_189, HeadPlace::Found(8_191)),
+        (8_190, HeadPlace::Found(8_192)),
+        (8_191, HeadPlace::TooLarge),
+        (8_192, HeadPlace::TooLarge),
+    ] {
+        let bytes = long_head(rt.alloc(), letters)?;
+        assert_eq!(rt; place_of_head(&bytes), place, "of {letters}");
+        assert_eq!(rt;
+            place_of_head(&bytes[..letters.min(8_191)]),
+            HeadPlace::Short,
+            "of {letters}"
+        );
+        let mut reader = Counted::new(FailAt::new(bytes.as_slice(), Portion::All, 100));
+        let found = match read_head(rt.alloc(), &mut reader) {
+            Ok(head) => HeadPlace::Found(head.end),
+            Err(HeadFault::TooLarge) => HeadPlace::TooLarge,
+            Err(_) => HeadPlace::Short,
+        };
+        assert_eq!(rt; found, place, "read of {letters}");
+    }
+    Ok(())
+}
+
+/// What is read of `GET / HTTP/1.1`, an empty line and `body` by a device that works for so many
+/// calls: the end of the head, how many bytes came, and how many calls failed.
+fn read_at(
+    alloc: Global,
+    input: &str,
+    portion: Portion,
+    calls: u64,
+) -> Result<(usize, usize, u64), (HeadFault, u64)> {
+    let mut reader = Counted::new(FailAt::new(input.as_bytes(), portion, calls));
+    match read_head(alloc, &mut reader) {
+        Ok(head) => Ok((head.end, head.bytes.len(), reader.failures)),
+        Err(fault) => Err((fault, reader.failures)),
+    }
+}
+
+#[test]
+fn heads_at_devices_that_fail(rt: HostRuntime) {
+    let input = "GET / HTTP/1.1\n\nbody";
+    let short = "GET / HTTP/1.1\n";
+    let rows = [
+        (input, Portion::OneByte, 16, Ok((16, 16, 0))),
+        (input, Portion::OneByte, 15, Err((HeadFault::Read, 1))),
+        (input, Portion::OneByte, 0, Err((HeadFault::Read, 1))),
+        (input, Portion::All, 1, Ok((16, 20, 0))),
+        (input, Portion::All, 0, Err((HeadFault::Read, 1))),
+        (short, Portion::OneByte, 16, Err((HeadFault::Truncated, 0))),
+        (short, Portion::OneByte, 15, Err((HeadFault::Read, 1))),
+        (short, Portion::All, 2, Err((HeadFault::Truncated, 0))),
+        ("", Portion::All, 1, Err((HeadFault::Truncated, 0))),
+    ];
+    for (text, portion, calls, want) in &rows {
+        let found = read_at(rt.alloc(), text, *portion, *calls);
+        assert_eq!(rt; found, *want, "{text:?} at {calls}");
+    }
+}
+
+/// What comes of `body` by a device that works for so many calls, to stand behind the two bytes
+/// `a\n`: the bytes, and how many calls failed.
+fn filled(
+    alloc: Global,
+    portion: Portion,
+    calls: u64,
+    want: usize,
+) -> Result<(Result<(), FillFault>, Vec<u8>, u64), Fail> {
+    let mut bytes = Vec::from_slice(alloc, b"a\n")?;
+    let mut reader = Counted::new(FailAt::new("body".as_bytes(), portion, calls));
+    let result = fill(&mut reader, &mut bytes, want);
+    Ok((result, bytes, reader.failures))
+}
+
+#[test]
+fn bytes_behind_a_head(rt: HostRuntime) -> Result<(), Fail> {
+    let rows = [
+        (Portion::OneByte, 0, 2, Ok(()), "a\n", 0),
+        (Portion::OneByte, 3, 5, Ok(()), "a\nbod", 0),
+        (Portion::OneByte, 2, 5, Err(FillFault::Read), "a\nbo", 1),
+        (Portion::All, 1, 5, Ok(()), "a\nbody", 0),
+        (Portion::All, 1, 7, Err(FillFault::Read), "a\nbody", 1),
+        (Portion::All, 2, 7, Err(FillFault::Truncated), "a\nbody", 0),
+    ];
+    for (portion, calls, want, answer, text, failures) in &rows {
+        let (result, bytes, failed) = filled(rt.alloc(), *portion, *calls, *want)?;
+        assert_eq!(rt; result, *answer, "{want} at {calls}");
+        assert_eq!(rt; bytes.as_slice(), text.as_bytes(), "{want} at {calls}");
+        assert_eq!(rt; failed, *failures, "{want} at {calls}");
+    }
+    Ok(())
+}
+
+#[test]
+fn bytes_written_whole(rt: HostRuntime) -> Result<(), Fail> {
+    let rows = [
+        (Portion::OneByte, 4, Ok(()), "body", 0),
+        (Portion::OneByte, 3, Err(WriteFailed), "bod", 1),
+        (Portion::All, 1, Ok(()), "body", 0),
+        (Portion::All, 0, Err(WriteFailed), "", 1),
+    ];
+    for (portion, calls, answer, text, failures) in &rows {
+        let memory: Vec<u8> = Vec::new(rt.alloc());
+        let mut writer = Counted::new(FailAt::new(memory, *portion, *calls));
+        assert_eq!(rt; write_whole(&mut writer, b"body"), *answer, "at {calls}");
+        assert_eq!(rt;
+            writer.device.memory.as_slice(),
+            text.as_bytes(),
+            "at {calls}"
+        );
+        assert_eq!(rt; writer.failures, *failures, "at {calls}");
+    }
+    Ok(())
+}
+
+#[test]
+fn failed_calls_are_counted(rt: HostRuntime) -> Result<(), Fail> {
+    let mut reader = Counted::new(FailAt::new("ab".as_bytes(), Portion::OneByte, 1));
+    let mut buffer = [0u8; 4];
+    assert_eq!(rt; reader.read(&mut buffer).ok(), Some(1));
+    assert_eq!(rt; reader.read(&mut buffer).ok(), None);
+    assert_eq!(rt; reader.read(&mut buffer).ok(), None);
+    assert_eq!(rt; reader.failures, 2);
+    let memory: Vec<u8> = Vec::new(rt.alloc());
+    let mut writer = Counted::new(FailAt::new(memory, Portion::All, 2));
+    assert!(rt; writer.flush().is_ok());
+    assert_eq!(rt; writer.write(b"ab").ok(), Some(2));
+    assert!(rt; writer.flush().is_err());
+    assert_eq!(rt; writer.write(b"c").ok(), None);
+    assert_eq!(rt; writer.failures, 2);
+    assert_eq!(rt; writer.device.memory.as_slice(), b"ab".as_slice());
+    let mut full = [0u8; 1];
+    let mut narrow = Counted::new(&mut full[..]);
+    assert_eq!(rt; narrow.write(b"ab").ok(), Some(1));
+    assert_eq!(rt; narrow.write(b"").ok(), Some(0));
+    assert_eq!(rt; narrow.failures, 0);
+    assert_eq!(rt; narrow.write(b"b").ok(), Some(0));
+    assert_eq!(rt; narrow.failures, 1);
+    Ok(())
+}
