@@ -92,8 +92,12 @@ pub taken : (front : List ℕ) (head : RequestHead) (o p q : Occurrence) (conten
 taken front head o p q contents spells e none f no_length g no_caller method target caller count =
     let caller_is = caller ∙ ap caller_of g in
     let count_is = count ∙ ap body_length_of f in
-    inr (head, spells, ap Ok (λ i. record { method = method i; target = target i; caller = caller_is i; body_length = count_is i })
-        ∙ sym (at_none head (ap encoding_refusal (sym e) ∙ none) (ap length_refusal (sym f) ∙ no_length) (ap caller_refusal (sym g) ∙ no_caller)))
+    inr (
+      head,
+      spells,
+      ap Ok (λ i. record { method = method i; target = target i; caller = caller_is i; body_length = count_is i })
+          ∙ sym (at_none head (ap encoding_refusal (sym e) ∙ none) (ap length_refusal (sym f) ∙ no_length) (ap caller_refusal (sym g) ∙ no_caller)),
+    )
 
 -- ---- each step as a relation
 
@@ -110,7 +114,7 @@ length_text : (text : List ℕ) → is_length_text text ≡ true → IsLengthTex
 length_text text h = record {
   some = grind (arith, nat_tests);
   few = grind (arith, nat_tests);
-  digits = All-weaker (λ c. is_ascii_digit c ≡ true) IsAsciiDigit ascii_digit text (AllPass-from_list_all is_ascii_digit text (all_digits text h))
+  digits = All-weaker (λ c. is_ascii_digit c ≡ true) IsAsciiDigit ascii_digit text (AllPass-from_list_all is_ascii_digit text (all_digits text h));
 }
 
 is_length : (text : List ℕ) → IsLengthText text → is_length_text text ≡ true
@@ -257,8 +261,9 @@ first_chunked front head refusal spells e =
 
 first_length : (front : List ℕ) (head : RequestHead) (refusal : HeadRefusal) → SpellsHead front head → encoding head ≡ None → content_length head ≡ Some refusal → StandsFirst front refusal
 first_length front head refusal spells none e = elim (length_stands (values_of (codes "content-length") head) refusal e) [
-    inl bad ↦ subst (StandsFirst front) (sym bad.0) (record { stands = (head, spells, bad.1); first = before_3 front head spells none })
-    | inr large ↦ subst (StandsFirst front) (sym large.0) (record { stands = (head, spells, large.1); first = before_3 front head spells none }) ]
+  | inl bad ↦ subst (StandsFirst front) (sym bad.0) (record { stands = (head, spells, bad.1); first = before_3 front head spells none })
+  | inr large ↦ subst (StandsFirst front) (sym large.0) (record { stands = (head, spells, large.1); first = before_3 front head spells none })
+]
 
 first_callers : (front : List ℕ) (head : RequestHead) (refusal : HeadRefusal) → SpellsHead front head → encoding head ≡ None → content_length head ≡ None → caller head ≡ Some refusal → StandsFirst front refusal
 first_callers front head refusal spells none no_length e =
@@ -283,10 +288,11 @@ outcome head = by (encoding head) refl (content_length head) refl (caller head) 
 
 head_refused : (front : List ℕ) (head : RequestHead) (refusal : HeadRefusal) → SpellsHead front head → Err refusal ≡ judgement_of head → StandsFirst front refusal
 head_refused front head refusal spells j = elim (outcome head) [
-    at_encoding_step other e ↦ (let same : Err refusal ≡ Err other = j ∙ at_encoding head other e in first_chunked front head refusal spells (cc))
-    | at_length_step other e f ↦ (let same : Err refusal ≡ Err other = j ∙ at_length head other e f in first_length front head refusal spells e (cc))
-    | at_caller_step other e f g ↦ (let same : Err refusal ≡ Err other = j ∙ at_caller head other e f g in first_callers front head refusal spells e f (cc))
-    | at_no_step e f g ↦ absurd (let same : Err refusal ≡ Ok (contents_of head) = j ∙ at_none head e f g in cc) ]
+  | at_encoding_step other e ↦ (let same : Err refusal ≡ Err other = j ∙ at_encoding head other e in first_chunked front head refusal spells (cc))
+  | at_length_step other e f ↦ (let same : Err refusal ≡ Err other = j ∙ at_length head other e f in first_length front head refusal spells e (cc))
+  | at_caller_step other e f g ↦ (let same : Err refusal ≡ Err other = j ∙ at_caller head other e f g in first_callers front head refusal spells e f (cc))
+  | at_no_step e f g ↦ absurd (let same : Err refusal ≡ Ok (contents_of head) = j ∙ at_none head e f g in cc)
+]
 
 pub refused_first : (front : List ℕ) (refusal : HeadRefusal) → Judges front (Err refusal) → StandsFirst front refusal
 refused_first front refusal (inl bad) = let e = bad.1 in let same : refusal ≡ BadHead = cc in subst (StandsFirst front) (sym same) (first_bad_head front bad.0)
@@ -307,7 +313,9 @@ no_length front head spells bad large = by (content_length head) refl
     by : (e : Option HeadRefusal) → content_length head ≡ e → content_length head ≡ None
     by None e = e
     by (Some refusal) e = elim (length_stands (values_of (codes "content-length") head) refusal e) [
-        inl h ↦ absurd (bad (head, spells, h.1)) | inr h ↦ absurd (large (head, spells, h.1)) ]
+      | inl h ↦ absurd (bad (head, spells, h.1))
+      | inr h ↦ absurd (large (head, spells, h.1))
+    ]
 
 no_caller : (front : List ℕ) (head : RequestHead) → SpellsHead front head → (Stands front TwoCallers → ⊥) → caller head ≡ None
 no_caller front head spells bad = by (caller head) refl
@@ -324,8 +332,12 @@ first_refused front BadLength h = let s = h.stands in
 first_refused front TooLarge h = let s = h.stands in
     inr (s.0, s.1, sym (at_length s.0 TooLarge (no_encoding front s.0 s.1 (h.first Chunked (omega arith))) (stands_large _ s.2)))
 first_refused front TwoCallers h = let s = h.stands in
-    inr (s.0, s.1, sym (at_caller s.0 TwoCallers (no_encoding front s.0 s.1 (h.first Chunked (omega arith)))
-        (no_length front s.0 s.1 (h.first BadLength (omega arith)) (h.first TooLarge (omega arith))) (stands_caller _ s.2)))
+    inr (
+      s.0,
+      s.1,
+      sym (at_caller s.0 TwoCallers (no_encoding front s.0 s.1 (h.first Chunked (omega arith)))
+          (no_length front s.0 s.1 (h.first BadLength (omega arith)) (h.first TooLarge (omega arith))) (stands_caller _ s.2)),
+    )
 
 -- ---- what a head says
 
@@ -368,17 +380,18 @@ head_says front head spells f g = record {
   method = refl;
   target = refl;
   caller = names_caller (values_of (codes "depot-caller") head) g;
-  body_length = announces (values_of (codes "content-length") head) f
+  body_length = announces (values_of (codes "content-length") head) f;
 }
 
 head_taken : (front : List ℕ) (head : RequestHead) (contents : HeadContents) → SpellsHead front head → Ok contents ≡ judgement_of head
     → Says front contents × ((refusal : HeadRefusal) → Stands front refusal → ⊥)
 head_taken front head contents spells j = elim (outcome head) [
-    at_encoding_step other e ↦ absurd (let same : Ok contents ≡ Err other = j ∙ at_encoding head other e in cc)
-    | at_length_step other e f ↦ absurd (let same : Ok contents ≡ Err other = j ∙ at_length head other e f in cc)
-    | at_caller_step other e f g ↦ absurd (let same : Ok contents ≡ Err other = j ∙ at_caller head other e f g in cc)
-    | at_no_step e f g ↦ (let equal : Ok contents ≡ Ok (contents_of head) = j ∙ at_none head e f g in let same : contents ≡ contents_of head = cc in
-        (subst (Says front) (sym same) (head_says front head spells f g), none_stands front head spells e f g)) ]
+  | at_encoding_step other e ↦ absurd (let same : Ok contents ≡ Err other = j ∙ at_encoding head other e in cc)
+  | at_length_step other e f ↦ absurd (let same : Ok contents ≡ Err other = j ∙ at_length head other e f in cc)
+  | at_caller_step other e f g ↦ absurd (let same : Ok contents ≡ Err other = j ∙ at_caller head other e f g in cc)
+  | at_no_step e f g ↦ (let equal : Ok contents ≡ Ok (contents_of head) = j ∙ at_none head e f g in let same : contents ≡ contents_of head = cc in
+      (subst (Says front) (sym same) (head_says front head spells f g), none_stands front head spells e f g))
+]
 
 pub taken_says : (front : List ℕ) (contents : HeadContents) → Judges front (Ok contents) → Says front contents × ((refusal : HeadRefusal) → Stands front refusal → ⊥)
 taken_says front contents (inl bad) = absurd (let e = bad.1 in cc)

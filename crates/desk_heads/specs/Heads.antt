@@ -79,7 +79,7 @@ contents_of head = record {
   method = head.method;
   target = head.target;
   caller = caller_of (occurrence_in head (codes "depot-caller"));
-  body_length = body_length_of (occurrence_in head (codes "content-length"))
+  body_length = body_length_of (occurrence_in head (codes "content-length"));
 }
 
 abbrev pub unless_refused : {A : Type 0} → Option HeadRefusal → A → Result A HeadRefusal

@@ -19,7 +19,7 @@ contents_seen head = record {
   method = head.method.now;
   target = head.target.now;
   caller = head.caller;
-  body_length = head.body_length
+  body_length = head.body_length;
 }
 
 -- what was judged

@@ -7,13 +7,12 @@ ghost use Rattle.desk_heads.specs.Bounds.{max_body};
 ghost use Rattle.desk_heads.specs.Heads.{SpellsHead, IsHead, Judges, caller_refusal, caller_of, encoding_refusal};
 ghost use Rattle.desk_heads.specs.View.{judgement_seen, occurrence_seen};
 
-use httparse::Status;
-use httparse::spans::{EMPTY_HEADER_SPAN, HeaderSpan, RequestSpans, parse_request};
-use office_core::Name;
-
 use crate::field::{Field, find_field};
 use crate::length::body_length;
 use crate::refusal::HeadRefusal;
+use httparse::Status;
+use httparse::spans::{EMPTY_HEADER_SPAN, HeaderSpan, RequestSpans, parse_request};
+use office_core::Name;
 
 /// How many fields a head has at most.
 const MAX_FIELDS: usize = 64;

@@ -5,8 +5,7 @@ use office_core::{
     Accession, Answer, Day, Limits, Matter, Name, PolicyFault, Refusal, Request, Years, read_policy,
 };
 use office_engine::Office;
-use office_history::Stock;
-use office_history::plain;
+use office_history::{Stock, plain};
 use sqlite::{Connection, MemStore};
 use std::alloc::{AllocError, Global};
 use worked_bags::{BAG, POLICY};

@@ -13,6 +13,7 @@ const CALLER: &str = "anna";
 
 /// The closing day of the deposits, and the day of each request.
 const CLOSED: &str = "2026-01-01";
+
 const DAY: &str = "2026-02-16";
 
 /// A request that is made many times. One about a deposit is made of this one and that, here and

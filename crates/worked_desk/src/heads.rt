@@ -16,13 +16,7 @@ static TAKEN: [(&str, &str, &str, Option<&str>, usize); 15] = [
     ("GET /due HTTP/1.0\n\n", "GET", "/due", None, 0),
     ("get * HTTP/1.1\n\r\n", "get", "*", None, 0),
     ("\r\nGET /due HTTP/1.1\r\n\r\n", "GET", "/due", None, 0),
-    (
-        "PUT /caf\u{e9} HTTP/1.1\n\n",
-        "PUT",
-        "/caf\u{e9}",
-        None,
-        0,
-    ),
+    ("PUT /caf\u{e9} HTTP/1.1\n\n", "PUT", "/caf\u{e9}", None, 0),
     (
         "POST /holds HTTP/1.1\nHost: a\nCONTENT-length: \t35 \ndepot-caller:carl\t\n\n",
         "POST",

@@ -9,24 +9,24 @@ returns-in_err-refuse_chunks-clause-judged c =
     let head = c.in-Some.ensures.head in
     let p = err_from_is_err_and c.from_residual.result c.from_residual.ensures.1 in
     rw (p.1, p.2) (refused_encoding c.args.front.now head.0 _ _ head.1
-        (found (codes "transfer-encoding") _ head.0 _ c.find_field.ensures head.2.fields) c.in_err-refuse_chunks.ensures)
+    (found (codes "transfer-encoding") _ head.0 _ c.find_field.ensures head.2.fields) c.in_err-refuse_chunks.ensures)
 
 pub returns-in_err-body_length-clause-judged : goal.returns-in_err-body_length-clause-judged
 returns-in_err-body_length-clause-judged c =
     let head = c.in-Some.ensures.head in
     let p = err_from_is_err_and c.from_residual-in_err-body_length.result c.from_residual-in_err-body_length.ensures.1 in
     rw (p.1, p.2) (refused_length c.args.front.now head.0 _ _ _ head.1
-        (found (codes "transfer-encoding") _ head.0 _ c.find_field.ensures head.2.fields) c.in_ok-refuse_chunks.ensures
-        (found (codes "content-length") _ head.0 _ c.find_field-2.ensures head.2.fields) c.in_err-body_length.ensures.judged)
+    (found (codes "transfer-encoding") _ head.0 _ c.find_field.ensures head.2.fields) c.in_ok-refuse_chunks.ensures
+    (found (codes "content-length") _ head.0 _ c.find_field-2.ensures head.2.fields) c.in_err-body_length.ensures.judged)
 
 pub returns-in_err-caller-clause-judged : goal.returns-in_err-caller-clause-judged
 returns-in_err-caller-clause-judged c =
     let head = c.in-Some.ensures.head in
     let p = err_from_is_err_and c.from_residual-in_err-caller.result c.from_residual-in_err-caller.ensures.1 in
     rw (p.1, p.2) (refused_caller c.args.front.now head.0 _ _ _ _ head.1
-        (found (codes "transfer-encoding") _ head.0 _ c.find_field.ensures head.2.fields) c.in_ok-refuse_chunks.ensures
-        (found (codes "content-length") _ head.0 _ c.find_field-2.ensures head.2.fields) c.in_ok-body_length.ensures.judged.0
-        (found (codes "depot-caller") _ head.0 _ c.find_field-3.ensures head.2.fields) c.in_err-caller.ensures)
+    (found (codes "transfer-encoding") _ head.0 _ c.find_field.ensures head.2.fields) c.in_ok-refuse_chunks.ensures
+    (found (codes "content-length") _ head.0 _ c.find_field-2.ensures head.2.fields) c.in_ok-body_length.ensures.judged.0
+    (found (codes "depot-caller") _ head.0 _ c.find_field-3.ensures head.2.fields) c.in_err-caller.ensures)
 
 pub text_of-requires : goal.text_of-requires
 text_of-requires c =
@@ -37,8 +37,8 @@ pub returns-clause-judged : goal.returns-clause-judged
 returns-clause-judged c =
     let head = c.in-Some.ensures.head in
     taken c.args.front.now head.0 _ _ _ _ head.1
-        (found (codes "transfer-encoding") _ head.0 _ c.find_field.ensures head.2.fields) c.in_ok-refuse_chunks.ensures
-        (found (codes "content-length") _ head.0 _ c.find_field-2.ensures head.2.fields) c.in_ok-body_length.ensures.judged.0
-        (found (codes "depot-caller") _ head.0 _ c.find_field-3.ensures head.2.fields) c.in_ok-caller.ensures.0
-        (c.text_of.ensures ∙ c.of.ensures ∙ head.2.method) (c.text_of-2.ensures ∙ c.of-2.ensures ∙ head.2.path)
-        c.in_ok-caller.ensures.1 c.in_ok-body_length.ensures.judged.1
+    (found (codes "transfer-encoding") _ head.0 _ c.find_field.ensures head.2.fields) c.in_ok-refuse_chunks.ensures
+    (found (codes "content-length") _ head.0 _ c.find_field-2.ensures head.2.fields) c.in_ok-body_length.ensures.judged.0
+    (found (codes "depot-caller") _ head.0 _ c.find_field-3.ensures head.2.fields) c.in_ok-caller.ensures.0
+    (c.text_of.ensures ∙ c.of.ensures ∙ head.2.method) (c.text_of-2.ensures ∙ c.of-2.ensures ∙ head.2.path)
+    c.in_ok-caller.ensures.1 c.in_ok-body_length.ensures.judged.1
