@@ -66,7 +66,7 @@ fn time<S: Alter>(
 }
 
 /// Makes the request so many times. The connection again, and the time of all requests.
-fn ask<S: Alter>(
+fn ask<S: Alter + Drop>(
     rt: &HostRuntime,
     mut conn: Connection<S>,
     asked: Asked,
@@ -87,7 +87,7 @@ fn ask<S: Alter>(
 
 /// Does the task over the open file. The connection again, and the time of the calls or requests,
 /// where they are timed: the opening of the file doesn't count.
-fn perform<S: Alter>(
+fn perform<S: Alter + Drop>(
     rt: &HostRuntime,
     mut conn: Connection<S>,
     task: Task,
