@@ -41,6 +41,19 @@ fn long_head(alloc: Global, letters: usize) -> Result<Vec<u8>, Fail> {
 }
 
 #[test]
+fn letters_without_a_head(rt: HostRuntime) -> Result<(), Fail> {
+    for (letters, place) in [
+        (8_191, HeadPlace::Short),
+        (8_192, HeadPlace::TooLarge),
+        (8_193, HeadPlace::TooLarge),
+    ] {
+        let bytes = vec![in rt.alloc(); b'a'; letters]?;
+        assert_eq!(rt; place_of_head(&bytes), place, "of {letters}");
+    }
+    Ok(())
+}
+
+#[test]
 fn heads_of_8192_bytes(rt: HostRuntime) -> Result<(), Fail> {
     for (letters, place) in [
         (8_189, HeadPlace::Found(8_191)),
@@ -50,11 +63,6 @@ fn heads_of_8192_bytes(rt: HostRuntime) -> Result<(), Fail> {
     ] {
         let bytes = long_head(rt.alloc(), letters)?;
         assert_eq!(rt; place_of_head(&bytes), place, "of {letters}");
-        assert_eq!(rt;
-            place_of_head(&bytes[..letters.min(8_191)]),
-            HeadPlace::Short,
-            "of {letters}"
-        );
         let mut reader = Counted::new(FailAt::new(bytes.as_slice(), Portion::All, 100));
         let found = match read_head(rt.alloc(), &mut reader) {
             Ok(head) => HeadPlace::Found(head.end),

@@ -1,0 +1,8 @@
+use Rattle.std.proofs.Common.{rules, sym, ◌≡◌, ◌++◌, IfOk, string_bytes, length}
+use Rattle.std.proofs.lemmas.Result.{IfOk-weaker}
+use Rattle.std.specs.Option.{IfSome}
+use Rattle.desk_answers.specs.Responses.{media_text, head_text}
+use Rattle.desk_answers.proofs.head.head.Goals as goal
+
+pub returns : goal.returns
+returns c = IfOk-weaker c.format.result _ _ (λ s h. rw (sym c.as_str-kind.ensures) h) c.format.ensures.ok

@@ -1,0 +1,56 @@
+-- What is said of a refusal of the desk: its status, its body, and the methods that the target takes where the method was wrong. Which refusal has which status is Depot's own rule.
+use Rattle.std.specs.Prelude.{ℕ, List, [], ◌∷◌, ◌++◌, codes}
+use Rattle.serde_json.specs.Data.{Data}
+use Rattle.desk_routes.specs.Routes.{method_text, methods_of}
+use Rattle.desk_routes.specs.declared.method.Method.{Method}
+use Rattle.desk_routes.specs.declared.refusal.DeskRefusal.{DeskRefusal}
+use Rattle.desk_routes.specs.declared.refusal.DeskRefusal.TheVariants.{TooLarge, Truncated, BadHead, Chunked, BadLength, TwoCallers, NoRoute, Method as WrongMethod, BadQuery, BadBody}
+use Rattle.desk_answers.specs.Refusals.{name_data}
+use Rattle.desk_answers.specs.declared.status.Status.{Status}
+use Rattle.desk_answers.specs.declared.status.Status.TheVariants as statuses
+
+abbrev pub desk_status : DeskRefusal → Status
+desk_status TooLarge = statuses.ContentTooLarge
+desk_status Truncated = statuses.BadRequest
+desk_status BadHead = statuses.BadRequest
+desk_status Chunked = statuses.BadRequest
+desk_status BadLength = statuses.BadRequest
+desk_status TwoCallers = statuses.BadRequest
+desk_status NoRoute = statuses.NotFound
+desk_status (WrongMethod pattern) = statuses.MethodNotAllowed
+desk_status BadQuery = statuses.BadRequest
+desk_status BadBody = statuses.BadRequest
+
+abbrev pub desk_name : DeskRefusal → List ℕ
+desk_name TooLarge = codes "TooLarge"
+desk_name Truncated = codes "Truncated"
+desk_name BadHead = codes "BadHead"
+desk_name Chunked = codes "Chunked"
+desk_name BadLength = codes "BadLength"
+desk_name TwoCallers = codes "TwoCallers"
+desk_name NoRoute = codes "NoRoute"
+desk_name (WrongMethod pattern) = codes "Method"
+desk_name BadQuery = codes "BadQuery"
+desk_name BadBody = codes "BadBody"
+
+abbrev pub desk_data : DeskRefusal → Data
+desk_data refusal = name_data (desk_name refusal)
+
+-- methods with `, ` between them
+abbrev pub methods_text : List Method → List ℕ
+methods_text [] = []
+methods_text (method ∷ []) = method_text method
+methods_text (method ∷ next ∷ more) = method_text method ++ (codes ", " ++ methods_text (next ∷ more))
+
+-- RFC 9110, section 10.2.1: the field `Allow` names the methods that the target takes. It stands where the method was wrong (section 15.5.6), and nowhere else.
+abbrev pub allow_line : DeskRefusal → List ℕ
+allow_line (WrongMethod pattern) = codes "Allow: " ++ (methods_text (methods_of pattern) ++ codes "\r\n")
+allow_line TooLarge = []
+allow_line Truncated = []
+allow_line BadHead = []
+allow_line Chunked = []
+allow_line BadLength = []
+allow_line TwoCallers = []
+allow_line NoRoute = []
+allow_line BadQuery = []
+allow_line BadBody = []

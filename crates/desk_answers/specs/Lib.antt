@@ -1,0 +1,10 @@
+pub mod Statuses
+pub mod Responses
+pub mod Objects
+pub mod Rows
+pub mod Refusals
+pub mod DeskRefusals
+pub mod Bodies
+pub mod Answers
+pub mod Messages
+pub mod Keys

@@ -1,0 +1,58 @@
+-- What a reader of HTTP finds in a response. The grammar of RFC 9112, sections 2 to 5, is `httparse`'s, which reads a text in one way at most.
+use Rattle.std.specs.Prelude.{◌≡◌, ℕ, List, [], ◌∷◌, ◌++◌, length, map, codes, decimal, bytes_eq, if◌then◌else◌}
+use Rattle.std.specs.Char.{to_ascii_lowercase}
+use Rattle.std.specs.Ordering.{nat_cmp}
+use Rattle.std.specs.declared.cmp.Ordering.TheVariants.{Less}
+use Rattle.std.specs.Cmp.Lexicographic.{slice_cmp}
+use Rattle.httparse.specs.Grammar.{Field, field_value, ResponseHead, ReadsResponse, status_code, reason_phrase}
+use Rattle.desk_routes.specs.Routes.{methods_of}
+use Rattle.desk_routes.specs.declared.refusal.DeskRefusal.{DeskRefusal}
+use Rattle.desk_routes.specs.declared.refusal.DeskRefusal.TheVariants.{TooLarge, Truncated, BadHead, Chunked, BadLength, TwoCallers, NoRoute, Method as WrongMethod, BadQuery, BadBody}
+use Rattle.desk_answers.specs.Statuses.{code_of, reason_of}
+use Rattle.desk_answers.specs.Responses.{Content, media_text, media_type_of, body_of}
+use Rattle.desk_answers.specs.DeskRefusals.{methods_text}
+use Rattle.desk_answers.specs.declared.status.Status.{Status}
+
+-- a field's name and its value
+abbrev pub named_value : Field → List ℕ × List ℕ
+named_value field = (field.name, field_value field)
+
+-- the text is a response of HTTP/1.1 with this status, these fields in their order, and this body
+pub record IsResponse (text : List ℕ) (status : Status) (fields : List (List ℕ × List ℕ)) (body : List ℕ) : Type 0 where
+  pub head : ResponseHead
+  pub reads : ReadsResponse text head body
+  pub version : head.minor ≡ 1
+  pub code : status_code head ≡ code_of status
+  pub reason : reason_phrase head.reason ≡ reason_of status
+  pub fields_are : map named_value head.fields ≡ fields
+
+-- the fields of a response. `allow` is the field of that name, or nothing.
+abbrev pub fields_of : List (List ℕ × List ℕ) → Content → List (List ℕ × List ℕ)
+fields_of allow content =
+    (codes "Content-Type", media_text (media_type_of content))
+    ∷ (codes "Content-Length", decimal (length (body_of content)))
+    ∷ (allow ++ (codes "Connection", codes "close") ∷ [])
+
+-- the field `Allow`, where the method was wrong
+abbrev pub allow_fields : DeskRefusal → List (List ℕ × List ℕ)
+allow_fields (WrongMethod pattern) = (codes "Allow", methods_text (methods_of pattern)) ∷ []
+allow_fields TooLarge = []
+allow_fields Truncated = []
+allow_fields BadHead = []
+allow_fields Chunked = []
+allow_fields BadLength = []
+allow_fields TwoCallers = []
+allow_fields NoRoute = []
+allow_fields BadQuery = []
+allow_fields BadBody = []
+
+-- the values of the fields of a name, which is in small letters: names are compared in any case (RFC 9110, section 5.1)
+abbrev pub values_of : List ℕ → List (List ℕ × List ℕ) → List (List ℕ)
+values_of name [] = []
+values_of name (field ∷ fields) = if bytes_eq (map to_ascii_lowercase field.0) name then field.1 ∷ values_of name fields else values_of name fields
+
+-- each before the next, as in a dictionary
+abbrev pub IsInAlphabet : List (List ℕ) → Type 0
+IsInAlphabet [] = Unit {0}
+IsInAlphabet (word ∷ []) = Unit {0}
+IsInAlphabet (word ∷ next ∷ words) = (slice_cmp nat_cmp word next ≡ Less) × IsInAlphabet (next ∷ words)

@@ -1,0 +1,34 @@
+-- The statuses that answers have: the codes and the reason phrases of RFC 9110, section 15.
+use Rattle.std.specs.Prelude.{ℕ, List, ◌++◌, codes, decimal}
+use Rattle.desk_answers.specs.declared.status.Status.{Status}
+use Rattle.desk_answers.specs.declared.status.Status.TheVariants.{Success, Created, BadRequest, Forbidden, NotFound, MethodNotAllowed, Conflict, Gone, ContentTooLarge, UnprocessableContent, ServiceUnavailable}
+
+abbrev pub code_of : Status → ℕ
+code_of Success = 200
+code_of Created = 201
+code_of BadRequest = 400
+code_of Forbidden = 403
+code_of NotFound = 404
+code_of MethodNotAllowed = 405
+code_of Conflict = 409
+code_of Gone = 410
+code_of ContentTooLarge = 413
+code_of UnprocessableContent = 422
+code_of ServiceUnavailable = 503
+
+abbrev pub reason_of : Status → List ℕ
+reason_of Success = codes "OK"
+reason_of Created = codes "Created"
+reason_of BadRequest = codes "Bad Request"
+reason_of Forbidden = codes "Forbidden"
+reason_of NotFound = codes "Not Found"
+reason_of MethodNotAllowed = codes "Method Not Allowed"
+reason_of Conflict = codes "Conflict"
+reason_of Gone = codes "Gone"
+reason_of ContentTooLarge = codes "Content Too Large"
+reason_of UnprocessableContent = codes "Unprocessable Content"
+reason_of ServiceUnavailable = codes "Service Unavailable"
+
+-- the code and the phrase, as a status line has them
+abbrev pub status_text : Status → List ℕ
+status_text status = decimal (code_of status) ++ (codes " " ++ reason_of status)

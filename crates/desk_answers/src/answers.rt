@@ -1,0 +1,115 @@
+//! The bytes of answers.
+
+ghost use Rattle.std.specs.Prelude.{◌≡◌, IfOk};
+ghost use Rattle.desk_answers.specs.Answers.{answer_text, refusal_text};
+ghost use Rattle.desk_answers.specs.Bodies.{status_of, content_of};
+ghost use Rattle.desk_answers.specs.DeskRefusals.{desk_status, desk_name};
+ghost use Rattle.desk_answers.specs.Responses.{content_view};
+
+use crate::bodies;
+use crate::content::{Content, content_bytes};
+use crate::methods::allow_line;
+use crate::refusals::{name_value, refusal_status, refusal_value};
+use crate::rows::deposit_row;
+use crate::status::Status;
+use desk_routes::DeskRefusal;
+use office_core::Answer;
+use std::alloc::{AllocError, Global};
+
+fn status_of(answer: &Answer) -> Status
+    ensures { result ≡ status_of answer.now }
+{
+    match answer {
+        Answer::Deposited { .. } | Answer::HoldPlaced { .. } => Status::Created,
+        Answer::Class { .. }
+        | Answer::Collection { .. }
+        | Answer::List { .. }
+        | Answer::Record(_)
+        | Answer::Holds { .. }
+        | Answer::Bag { .. }
+        | Answer::File { .. }
+        | Answer::Audit { .. }
+        | Answer::HoldReleased { .. }
+        | Answer::Destroyed { .. }
+        | Answer::DueList { .. } => Status::Success,
+        Answer::Refused(refusal) => refusal_status(refusal),
+    }
+}
+
+/// What the answer carries. Bags and files are lent.
+fn content_of<'a>(alloc: Global, answer: &'a Answer) -> Result<Content<'a>, AllocError>
+    ensures { IfOk result (λ content. content_view content ≡ content_of answer.now) }
+{
+    let value = match answer {
+        Answer::Bag { bytes } | Answer::File { bytes } => {
+            return Ok(Content::Octets(bytes.as_slice()));
+        }
+        Answer::Class { name, years } => bodies::class(alloc, name.as_str(), *years)?,
+        Answer::Collection { name } => bodies::collection(alloc, name.as_str())?,
+        Answer::Deposited { deposit } => bodies::deposit(alloc, *deposit)?,
+        Answer::List { deposits } => bodies::list(alloc, deposits.as_slice())?,
+        Answer::Record(record) => deposit_row(alloc, record)?,
+        Answer::Holds { holds } => bodies::holds(alloc, holds.as_slice())?,
+        Answer::Audit { deposit, report } => bodies::audit(alloc, *deposit, report)?,
+        Answer::HoldPlaced { hold } => bodies::hold(alloc, *hold)?,
+        Answer::HoldReleased { hold, day } => bodies::release(alloc, *hold, *day)?,
+        Answer::Destroyed { deposit, day } => bodies::disposal(alloc, *deposit, *day)?,
+        Answer::DueList { day, deposits } => bodies::due_list(alloc, *day, deposits.as_slice())?,
+        Answer::Refused(refusal) => refusal_value(alloc, refusal)?,
+    };
+    Ok(Content::Json(value))
+}
+
+/// The bytes of the response that gives the office's answer: status line, fields, an empty line and
+/// the body. The bytes of a bag or a file are copied once.
+pub fn answer_bytes(alloc: Global, answer: &Answer) -> Result<Vec<u8>, AllocError>
+    ensures { IfOk result (λ bytes. bytes.items ≡ answer_text answer.now) }
+{
+    let content = content_of(alloc, answer)?;
+    content_bytes(alloc, status_of(answer), "", &content)
+}
+
+fn desk_status(refusal: DeskRefusal) -> Status
+    ensures { result ≡ desk_status refusal }
+{
+    match refusal {
+        DeskRefusal::TooLarge => Status::ContentTooLarge,
+        DeskRefusal::NoRoute => Status::NotFound,
+        DeskRefusal::Method(_) => Status::MethodNotAllowed,
+        DeskRefusal::Truncated
+        | DeskRefusal::BadHead
+        | DeskRefusal::Chunked
+        | DeskRefusal::BadLength
+        | DeskRefusal::TwoCallers
+        | DeskRefusal::BadQuery
+        | DeskRefusal::BadBody => Status::BadRequest,
+    }
+}
+
+fn desk_name(refusal: DeskRefusal) -> &'static str
+    ensures { result.now ≡ desk_name refusal }
+{
+    match refusal {
+        DeskRefusal::TooLarge => "TooLarge",
+        DeskRefusal::Truncated => "Truncated",
+        DeskRefusal::BadHead => "BadHead",
+        DeskRefusal::Chunked => "Chunked",
+        DeskRefusal::BadLength => "BadLength",
+        DeskRefusal::TwoCallers => "TwoCallers",
+        DeskRefusal::NoRoute => "NoRoute",
+        DeskRefusal::Method(_) => "Method",
+        DeskRefusal::BadQuery => "BadQuery",
+        DeskRefusal::BadBody => "BadBody",
+    }
+}
+
+/// The bytes of the response that refuses a request before the office is asked. Where the method was
+/// wrong, the field `Allow` names those that the target takes.
+pub fn refusal_bytes(alloc: Global, refusal: &DeskRefusal) -> Result<Vec<u8>, AllocError>
+    ensures { IfOk result (λ bytes. bytes.items ≡ refusal_text refusal.now) }
+{
+    let refusal = *refusal;
+    let allow = allow_line(alloc, refusal)?;
+    let content = Content::Json(name_value(alloc, desk_name(refusal))?);
+    content_bytes(alloc, desk_status(refusal), allow.as_str(), &content)
+}
