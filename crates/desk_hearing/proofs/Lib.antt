@@ -1,0 +1,5 @@
+pub mod HearingLemmas
+pub mod JudgingLemmas
+pub mod OneHearing
+pub mod ReadingLemmas
+pub mod RequestLemmas

@@ -1,0 +1,7 @@
+pub mod Asked
+pub mod Asking
+pub mod Hearing
+pub mod Faults
+pub mod View
+pub mod Reading
+pub mod Requests

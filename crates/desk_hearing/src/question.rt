@@ -1,0 +1,113 @@
+//! What a route asks with its query and its body.
+
+ghost use Rattle.std.specs.Prelude.{◌≡◌, MatchResult, [], Err, Ok};
+ghost use Rattle.desk_routes.specs.Views.{route_view};
+ghost use Rattle.desk_hearing.specs.Asking.{HasNoPair};
+ghost use Rattle.desk_hearing.specs.View.{question_seen, AnswersQuery, AnswersBody};
+
+use crate::ask::Ask;
+use crate::fault::JudgingFault;
+use desk_forms::{
+    DepositQuery, HoldBody, check_no_body, check_no_query, decode_path, read_deposit_query,
+    read_hold, read_listing, read_years,
+};
+use desk_routes::{DeskRefusal, Route};
+use office_core::OwnedName;
+use std::alloc::Global;
+
+/// What is asked, as far as the route and its query say it.
+#[derive(Debug, Drop)]
+pub(crate) enum Question {
+    /// A class, whose years are in the body.
+    Class(OwnedName),
+    /// A deposit, whose bag is the body.
+    Deposit(DepositQuery),
+    /// A hold, which the body says.
+    Hold,
+    /// All that is asked: there is no body.
+    Whole(Ask),
+}
+
+/// The question, where its route has a query without pairs.
+fn without_query(query: &[u8], question: Question) -> Result<Question, JudgingFault>
+    ensures { MatchResult result (λ same. (same ≡ question) × HasNoPair query.now)
+        (λ fault. (fault ≡ JudgingFault.Refused DeskRefusal.BadQuery) × (HasNoPair query.now → ⊥)) }
+{
+    check_no_query(query)?;
+    Ok(question)
+}
+
+/// What the route asks with this query.
+pub(crate) fn question_of(
+    alloc: Global,
+    route: Route<'_>,
+    query: &[u8],
+) -> Result<Question, JudgingFault>
+    ensures { AnswersQuery (route_view route.entry) query.now result }
+{
+    match route {
+        Route::DefineClass(name) => without_query(query, Question::Class(name.to_owned(alloc)?)),
+        Route::DefineCollection(name) => {
+            let name = name.to_owned(alloc)?;
+            without_query(query, Question::Whole(Ask::DefineCollection { name }))
+        }
+        Route::Deposit => Ok(Question::Deposit(read_deposit_query(alloc, query)?)),
+        Route::List => {
+            let listing = read_listing(alloc, query)?;
+            Ok(Question::Whole(Ask::List {
+                collection: listing.collection,
+                class: listing.class,
+            }))
+        }
+        Route::Record(deposit) => without_query(query, Question::Whole(Ask::Record { deposit })),
+        Route::Dispose(deposit) => without_query(query, Question::Whole(Ask::Dispose { deposit })),
+        Route::Holds(deposit) => without_query(query, Question::Whole(Ask::Holds { deposit })),
+        Route::DownloadBag(deposit) => {
+            without_query(query, Question::Whole(Ask::DownloadBag { deposit }))
+        }
+        Route::DownloadFile { deposit, path } => {
+            let path = decode_path(alloc, path)?;
+            without_query(query, Question::Whole(Ask::DownloadFile { deposit, path }))
+        }
+        Route::Audit(deposit) => without_query(query, Question::Whole(Ask::Audit { deposit })),
+        Route::PlaceHold => without_query(query, Question::Hold),
+        Route::Release(hold) => without_query(query, Question::Whole(Ask::Release { hold })),
+        Route::DueList => without_query(query, Question::Whole(Ask::DueList)),
+    }
+}
+
+/// What the body says of a hold.
+fn hold_of(alloc: Global, body: &[u8]) -> Result<Ask, JudgingFault>
+    ensures { AnswersBody (question_seen Question.Hold) body.now result }
+{
+    match read_hold(alloc, body)? {
+        HoldBody::Deposit { deposit, matter } => Ok(Ask::HoldDeposit { deposit, matter }),
+        HoldBody::Collection { collection, matter } => Ok(Ask::HoldCollection {
+            collection,
+            matter,
+        }),
+    }
+}
+
+/// What the question asks with this body.
+pub(crate) fn ask_of(alloc: Global, question: Question, body: &[u8]) -> Result<Ask, JudgingFault>
+    ensures { AnswersBody (question_seen question) body.now result }
+{
+    match question {
+        Question::Class(name) => Ok(Ask::DefineClass {
+            name,
+            years: read_years(alloc, body)?,
+        }),
+        Question::Deposit(query) => Ok(Ask::Deposit {
+            collection: query.collection,
+            class: query.class,
+            accession: query.accession,
+            closed: query.closed,
+        }),
+        Question::Hold => hold_of(alloc, body),
+        Question::Whole(ask) => {
+            check_no_body(body)?;
+            Ok(ask)
+        }
+    }
+}
