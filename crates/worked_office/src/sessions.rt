@@ -23,6 +23,8 @@ pub enum Way {
 /// again.
 #[derive(Clone, Copy)]
 pub enum Part<'a> {
+    /// The office is given the policy, the classes and the collections.
+    Opening,
     /// Rows are put to the office.
     Rows(&'a [Row]),
     /// On that day these are the deposits that `anna` may destroy.
@@ -51,31 +53,43 @@ pub fn take<O: AnyOffice>(
     agree(differs)
 }
 
-/// A plain office with the policy, the classes and the collections, and room for so many deposits and
-/// as many holds.
-pub fn plain_office(alloc: Global, most: u32) -> Result<plain::Office, Fail> {
-    let limits = Limits::new(most, most).ok_or("limits")?;
+/// A plain office with the policy, the classes and the collections.
+pub fn plain_office(alloc: Global, limits: Limits) -> Result<plain::Office, Fail> {
     let mut office = plain::Office::create(alloc, limits);
     agree(open(alloc, &mut office)?)?;
     Ok(office)
 }
 
-/// Makes such an office in the database, and gives the connection back.
-fn made<S: Alter + Drop>(
+/// Puts the part to the office.
+fn put<S: Alter>(
     alloc: Global,
-    conn: Connection<S>,
-    most: u32,
-) -> Result<Connection<S>, Fail> {
-    if !conn.is_autocommit() {
-        Err("a transaction is open")?;
+    office: &mut Office<S>,
+    way: Way,
+    part: Part<'_>,
+) -> Result<(), Fail> {
+    match part {
+        Part::Opening => agree(open(alloc, office)?),
+        Part::Rows(rows) => take(alloc, office, way, rows),
+        Part::Due(day, numbers) => {
+            let day = Day::read(day).ok_or("day")?;
+            let due = office.due_list(alloc, day, "anna")?;
+            if due.as_slice() != numbers {
+                Err("another due list")?;
+            }
+            Ok(())
+        }
     }
-    let limits = Limits::new(most, most).ok_or("limits")?;
-    let mut office = match Office::create(conn, limits) {
-        Ok(office) => office,
-        Err((_, fault)) => return Err(Fail::from(fault)),
-    };
-    agree(open(alloc, &mut office)?)?;
-    Ok(office.into_connection())
+}
+
+/// Makes an office in the database, and gives the connection back.
+fn made<S: Alter + Drop>(conn: Connection<S>, limits: Limits) -> Result<Connection<S>, Fail> {
+    if !conn.is_autocommit() {
+        return Err(Fail::new("a transaction is open"));
+    }
+    match Office::create(conn, limits) {
+        Ok(office) => Ok(office.into_connection()),
+        Err((_, fault)) => Err(Fail::from(fault)),
+    }
 }
 
 /// Puts the part to the office of the connection, which is given back.
@@ -86,23 +100,15 @@ fn taken<S: Alter + Drop>(
     part: Part<'_>,
 ) -> Result<Connection<S>, Fail> {
     if !conn.is_autocommit() {
-        Err("a transaction is open")?;
+        return Err(Fail::new("a transaction is open"));
     }
-    let mut office = match Office::adopt(conn) {
-        Ok(office) => office,
-        Err((_, fault)) => return Err(Fail::from(fault)),
-    };
-    match part {
-        Part::Rows(rows) => take(alloc, &mut office, way, rows)?,
-        Part::Due(day, numbers) => {
-            let day = Day::read(day).ok_or("day")?;
-            let due = office.due_list(alloc, day, "anna")?;
-            if due.as_slice() != numbers {
-                Err("another due list")?;
-            }
-        }
+    match Office::adopt(conn) {
+        Ok(mut office) => match put(alloc, &mut office, way, part) {
+            Ok(()) => Ok(office.into_connection()),
+            Err(fail) => Err(fail),
+        },
+        Err((_, fault)) => Err(Fail::from(fault)),
     }
-    Ok(office.into_connection())
 }
 
 /// Puts the parts to the office of the connection, which is given back. The office is made first
@@ -110,12 +116,12 @@ fn taken<S: Alter + Drop>(
 fn take_over<S: Alter + Drop>(
     alloc: Global,
     conn: Connection<S>,
-    most: Option<u32>,
+    limits: Option<Limits>,
     way: Way,
     parts: &[Part<'_>],
 ) -> Result<Connection<S>, Fail> {
-    let mut conn = match most {
-        Some(most) => made(alloc, conn, most)?,
+    let mut conn = match limits {
+        Some(limits) => taken(alloc, made(conn, limits)?, way, Part::Opening)?,
         None => conn,
     };
     for part in parts {
@@ -125,8 +131,8 @@ fn take_over<S: Alter + Drop>(
 }
 
 /// Puts the parts to a plain office.
-fn take_plain(alloc: Global, most: u32, way: Way, parts: &[Part<'_>]) -> Result<(), Fail> {
-    let mut office = plain_office(alloc, most)?;
+fn take_plain(alloc: Global, limits: Limits, way: Way, parts: &[Part<'_>]) -> Result<(), Fail> {
+    let mut office = plain_office(alloc, limits)?;
     for part in parts {
         if let Part::Rows(rows) = *part {
             take(alloc, &mut office, way, rows)?;
@@ -136,20 +142,20 @@ fn take_plain(alloc: Global, most: u32, way: Way, parts: &[Part<'_>]) -> Result<
 }
 
 /// Puts the parts to an office over a database in memory.
-fn take_in_memory(alloc: Global, most: u32, way: Way, parts: &[Part<'_>]) -> Result<(), Fail> {
+fn take_in_memory(alloc: Global, limits: Limits, way: Way, parts: &[Part<'_>]) -> Result<(), Fail> {
     let conn = Connection::open_in_memory(alloc)?;
-    let _conn = take_over(alloc, conn, Some(most), way, parts)?;
+    let _conn = take_over(alloc, conn, Some(limits), way, parts)?;
     Ok(())
 }
 
 /// Puts the parts to an office over files, which are closed and opened again between them.
 pub fn take_in_files(
     alloc: Global,
-    most: u32,
+    limits: Limits,
     way: Way,
     parts: &[Part<'_>],
 ) -> Result<Files<Memory>, Fail> {
-    let mut new = Some(most);
+    let mut new = Some(limits);
     let mut files = empty(alloc);
     for part in parts {
         let conn = open_files(alloc, files)?;
@@ -159,17 +165,22 @@ pub fn take_in_files(
     Ok(files)
 }
 
+/// Room for so many deposits and as many holds.
+pub fn room_for(most: u32) -> Result<Limits, Fail> {
+    Ok(Limits::new(most, most).ok_or("limits")?)
+}
+
 /// Puts the parts to each office, by steps and by runs.
-pub fn take_all(alloc: Global, most: u32, parts: &[Part<'_>]) -> Result<(), Fail> {
+pub fn take_all(alloc: Global, limits: Limits, parts: &[Part<'_>]) -> Result<(), Fail> {
     for way in [Way::Steps, Way::OneRun] {
-        take_plain(alloc, most, way, parts)?;
-        take_in_memory(alloc, most, way, parts)?;
-        let _files = take_in_files(alloc, most, way, parts)?;
+        take_plain(alloc, limits, way, parts)?;
+        take_in_memory(alloc, limits, way, parts)?;
+        let _files = take_in_files(alloc, limits, way, parts)?;
     }
     Ok(())
 }
 
 /// Puts the rows to each office, by steps and in one run.
 pub fn take_rows(alloc: Global, rows: &[Row]) -> Result<(), Fail> {
-    take_all(alloc, 1_000_000, &[Part::Rows(rows)])
+    take_all(alloc, room_for(1_000_000)?, &[Part::Rows(rows)])
 }

@@ -1,6 +1,6 @@
 //! Rows worked out by hand from `docs/OFFICE.md`.
 
-use crate::sessions::{Part, take_all, take_rows};
+use crate::sessions::{Part, room_for, take_all, take_rows};
 use std::test::*;
 use worked_sessions::{Asked, BAG, PERCENT, Row};
 
@@ -225,7 +225,7 @@ static DUE_AS_YEARS_CHANGE: [Row; 7] = [
 fn due_lists_follow_holds_disposals_and_years(rt: HostRuntime) -> Result<(), Fail> {
     take_all(
         rt.alloc(),
-        1_000_000,
+        room_for(1_000_000)?,
         &[
             Part::Rows(&DUE_AS_HOLDS_GO),
             Part::Due("2025-02-27", &[]),

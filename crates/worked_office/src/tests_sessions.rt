@@ -1,6 +1,6 @@
 //! Sessions with an office, worked out by hand from `docs/OFFICE.md`.
 
-use crate::sessions::{Part, Way, plain_office, take, take_all, take_rows};
+use crate::sessions::{Part, Way, plain_office, room_for, take, take_all, take_rows};
 use office_history::Stock;
 use std::test::*;
 use worked_sessions::{Asked, BAG, BAG_0_97, Row};
@@ -188,7 +188,7 @@ static BOTH_DESTROYED: [Row; 1] = [(
 #[test]
 fn a_content_counts_once_and_while_it_is_kept(rt: HostRuntime) -> Result<(), Fail> {
     let alloc = rt.alloc();
-    let mut office = plain_office(alloc, 1_000_000)?;
+    let mut office = plain_office(alloc, room_for(1_000_000)?)?;
     take(alloc, &mut office, Way::Steps, &TWO_BAGS)?;
     assert_eq!(rt;
         office.stock(alloc)?,
@@ -215,7 +215,7 @@ fn a_content_counts_once_and_while_it_is_kept(rt: HostRuntime) -> Result<(), Fai
     );
     take_all(
         alloc,
-        1_000_000,
+        room_for(1_000_000)?,
         &[
             Part::Rows(&TWO_BAGS),
             Part::Rows(&ONE_DESTROYED),
@@ -279,7 +279,7 @@ static FULL: [Row; 7] = [
 
 #[test]
 fn a_full_office_takes_no_more(rt: HostRuntime) -> Result<(), Fail> {
-    take_all(rt.alloc(), 1, &[Part::Rows(&FULL)])
+    take_all(rt.alloc(), room_for(1)?, &[Part::Rows(&FULL)])
 }
 
 #[test]

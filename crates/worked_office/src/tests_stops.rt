@@ -1,7 +1,7 @@
 //! A stop in a request and in a run, and what is found again in the files.
 
 use crate::files::SMALL;
-use crate::sessions::{Part, Way, take, take_in_files};
+use crate::sessions::{Part, Way, room_for, take, take_in_files};
 use office_core::Day;
 use office_engine::{Office, reopen, stop_in, stop_in_run};
 use sqlite::{FileStore, Files};
@@ -71,6 +71,11 @@ fn stop_twice<D: Disk + Drop>(alloc: Global, files: Files<D>) -> Result<(), Fail
 
 #[test]
 fn a_stop_leaves_the_office_after_its_last_request(rt: HostRuntime) -> Result<(), Fail> {
-    let files = take_in_files(rt.alloc(), 1_000_000, Way::Steps, &[Part::Rows(&BEFORE)])?;
+    let files = take_in_files(
+        rt.alloc(),
+        room_for(1_000_000)?,
+        Way::Steps,
+        &[Part::Rows(&BEFORE)],
+    )?;
     stop_twice(rt.alloc(), files)
 }

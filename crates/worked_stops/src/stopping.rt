@@ -12,14 +12,14 @@ use worked_sessions::{AnyOffice, Asked, Row, said};
 
 /// What is asked, and the answers to it: to begin with, after the install, and after each row of the
 /// session. It changes nothing.
-pub type Sight = (&'static str, &'static str, Asked, [&'static str; 8]);
+pub type Sight = (&'static str, &'static str, Asked, &'static [&'static str]);
 
-/// A policy that is installed, and six rows that are then put to the office, with what is seen in
+/// A policy that is installed, and rows that are then put to the office, with what is seen in
 /// between.
 pub struct Session {
     pub policy: &'static str,
-    pub rows: [Row; 6],
-    pub sights: [Sight; 6],
+    pub rows: &'static [Row],
+    pub sights: &'static [Sight],
 }
 
 /// How many steps a session has: the install, and its rows.

@@ -32,7 +32,7 @@ const VALID: &str = "audit 1 valid 1.0 files 1 bytes 3 manifests 1";
 
 static SESSION: Session = Session {
     policy: POLICY,
-    rows: [
+    rows: &[
         (
             "2024-03-01",
             "anna",
@@ -56,12 +56,12 @@ static SESSION: Session = Session {
         ),
     ],
     // The answers before the install, after it, and after each row.
-    sights: [
+    sights: &[
         (
             "2024-03-01",
             "carl",
             Asked::Class("z", 1),
-            [
+            &[
                 "Denied default",
                 "Denied rule 2",
                 "Denied rule 2",
@@ -76,7 +76,7 @@ static SESSION: Session = Session {
             "2024-03-01",
             "anna",
             NO_BAG,
-            [
+            &[
                 "NoSuch collection",
                 "NoSuch collection",
                 "NoSuch class",
@@ -91,7 +91,7 @@ static SESSION: Session = Session {
             "2024-03-01",
             "anna",
             Asked::Record(1),
-            [
+            &[
                 "NoSuch deposit",
                 "NoSuch deposit",
                 "NoSuch deposit",
@@ -106,7 +106,7 @@ static SESSION: Session = Session {
             "2024-03-01",
             "anna",
             Asked::Audit(1),
-            [
+            &[
                 "NoSuch deposit",
                 "NoSuch deposit",
                 "NoSuch deposit",
@@ -121,7 +121,7 @@ static SESSION: Session = Session {
             "2024-03-01",
             "anna",
             Asked::Holds(1),
-            [
+            &[
                 "NoSuch deposit",
                 "NoSuch deposit",
                 "NoSuch deposit",
@@ -137,7 +137,7 @@ static SESSION: Session = Session {
             "2024-03-01",
             "carl",
             Asked::Release(1),
-            [
+            &[
                 "NoSuch hold",
                 "NoSuch hold",
                 "NoSuch hold",

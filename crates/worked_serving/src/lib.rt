@@ -1,0 +1,7 @@
+//! Requests as bytes, put to an office over its tables, and the bytes that answer them.
+#![tactic(auto)]
+
+#[cfg(test)]
+mod office;
+#[cfg(test)]
+mod tests;
