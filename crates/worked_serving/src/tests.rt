@@ -2,6 +2,9 @@
 
 use crate::office::{Case, opened, served, take};
 use http_desk::DeskFault;
+use office_engine::Office;
+use sqlite::Alter;
+use std::alloc::Global;
 use std::test::*;
 
 static DAY: [Case; 28] = [
@@ -262,45 +265,42 @@ static REFUSED: [Case; 14] = [
     },
 ];
 
-/// A day of an office. The reader fails behind the last byte of each request, and is not asked for
-/// more.
-#[test]
-fn a_day_of_an_office(rt: HostRuntime) -> Result<(), Fail> {
-    let mut office = opened(rt.alloc())?;
-    take(rt.alloc(), &mut office, &DAY)
-}
-
-#[test]
-fn what_the_desk_refuses(rt: HostRuntime) -> Result<(), Fail> {
-    let mut office = opened(rt.alloc())?;
-    take(rt.alloc(), &mut office, &REFUSED)
-}
-
 /// A request of which a beginning is given alone, before the reader fails, is not heard.
-#[test]
-fn a_reader_that_fails_too_early(rt: HostRuntime) -> Result<(), Fail> {
-    let alloc = rt.alloc();
-    let mut office = opened(alloc)?;
+fn take_beginnings<S: Alter>(alloc: Global, office: &mut Office<S>) -> Result<(), Fail> {
     for length in 0..52_usize {
         let request = &DAY[0].request.as_bytes()[..length];
-        let (ended, written) = served(alloc, &mut office, request, u64::MAX)?;
-        assert_eq!(rt; ended, Err(DeskFault::Read), "of {length} bytes");
-        assert!(rt; written.is_empty());
+        let (ended, written) = served(alloc, office, request, u64::MAX)?;
+        if ended != Err(DeskFault::Read) || !written.is_empty() {
+            return Err(Fail::new(format_args!("{length} bytes are heard")));
+        }
     }
     Ok(())
 }
 
 /// A writer that fails after some bytes has a beginning of the answer, and the office has the change.
+fn take_failed_writes<S: Alter>(alloc: Global, office: &mut Office<S>) -> Result<(), Fail> {
+    let (ended, written) = served(alloc, office, DAY[5].request.as_bytes(), 17)?;
+    if ended != Err(DeskFault::Write { done: true })
+        || written.as_slice() != "HTTP/1.1 201 Crea".as_bytes()
+    {
+        return Err("a deposit whose answer failed".into());
+    }
+    let (ended, _) = served(alloc, office, REFUSED[3].request.as_bytes(), 0)?;
+    if ended != Err(DeskFault::Write { done: false }) {
+        return Err("a refusal that failed".into());
+    }
+    take(alloc, office, &DAY[6..8])
+}
+
+/// What the desk refuses, what it doesn't hear, a day of an office, and writers that fail. The reader
+/// fails behind the last byte of each request, and is not asked for more.
 #[test]
-fn a_writer_that_fails(rt: HostRuntime) -> Result<(), Fail> {
+fn bytes_put_to_an_office(rt: HostRuntime) -> Result<(), Fail> {
     let alloc = rt.alloc();
     let mut office = opened(alloc)?;
-    let request = DAY[5].request.as_bytes();
-    let (ended, written) = served(alloc, &mut office, request, 17)?;
-    assert_eq!(rt; ended, Err(DeskFault::Write { done: true }));
-    assert_eq!(rt; written.as_slice(), "HTTP/1.1 201 Crea".as_bytes());
-    let refused = REFUSED[3].request.as_bytes();
-    let (ended, _) = served(alloc, &mut office, refused, 0)?;
-    assert_eq!(rt; ended, Err(DeskFault::Write { done: false }));
-    take(alloc, &mut office, &DAY[6..8])
+    take(alloc, &mut office, &REFUSED)?;
+    take_beginnings(alloc, &mut office)?;
+    take(alloc, &mut office, &DAY[..5])?;
+    take_failed_writes(alloc, &mut office)?;
+    take(alloc, &mut office, &DAY[6..])
 }
