@@ -50,7 +50,7 @@ impl Model for Routes {
 }
 
 impl Routes {
-    /// The table. Fails only for want of memory.
+    /// The table. Fails where memory runs out.
     pub fn new(alloc: Global) -> Result<Routes, AllocError> {
         match pattern_router(alloc) {
             Ok(router) => Ok(Routes { router }),
