@@ -4,7 +4,7 @@
 ghost use Rattle.std.specs.Prelude.{◌≡◌, IfErr, IfOk, option_map};
 ghost use Rattle.jiff.specs.Words.{epoch_day};
 ghost use Rattle.office_tables.specs.Faults.{IsFailure};
-ghost use Rattle.office_history.specs.Pictures.{years_back};
+ghost use Rattle.office_history.specs.Pictures.{years_back, years_number};
 
 use office_core::{Day, Years};
 use office_tables::TableFault;
@@ -36,6 +36,7 @@ pub fn optional_day_numbered(number: Option<i64>) -> Result<Option<Day>, TableFa
 
 /// The years that the number of a class's row stands for.
 pub fn years_numbered(number: i64) -> Result<Years, TableFault>
+    ensures number { IfOk result (λ years. years_number years ≡ number) }
     ensures years { IfOk result (λ years. years ≡ years_back number) }
     ensures failure { IfErr result IsFailure }
 {

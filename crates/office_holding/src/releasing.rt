@@ -7,14 +7,16 @@ ghost use Rattle.office_core.specs.declared.request.Request.TheVariants as reque
 ghost use Rattle.office_tables.specs.Faults.{IsFailure};
 ghost use Rattle.office_tables.specs.Calls.{CommitsNothing, Continues};
 ghost use Rattle.office_tables.specs.ShownHolds.{held_collection, held_deposit};
-ghost use Rattle.office_history.specs.Histories.{OnDeposit, ReleasedHold, hold_numbered, release_day};
+ghost use Rattle.office_history.specs.Histories.{OnCollection, OnDeposit, ReleasedHold, hold_numbered, release_day};
 ghost use Rattle.office_history.specs.Refusals.{of_hold, release_denial, release_refusals};
 ghost use Rattle.office_asking.specs.Serving.{Accepts, Decides, Finds};
 ghost use Rattle.office_holding.specs.Holds.{target_of};
 
 use office_asking::{denial, optional_day_numbered};
 use office_core::{Action, Answer, Day, Refusal, Subject};
-use office_tables::{HoldRow, HoldTarget, TableFault, deposit_row, end_hold, hold_row};
+use office_tables::{
+    HoldRow, HoldTarget, TableFault, deposit_row, end_hold, has_collection, hold_row,
+};
 use sqlite::{Alter, Transaction};
 use std::alloc::Global;
 
@@ -59,6 +61,26 @@ fn deposit_release_denial<S: Alter>(
     )
 }
 
+/// The refusal where the caller may not release a hold of the collection of that name.
+fn collection_release_denial<S: Alter>(
+    alloc: Global,
+    tx: &mut Transaction<'_, S>,
+    caller: &str,
+    collection: &str,
+) -> Result<Option<Refusal>, TableFault>
+    ensures same_reference { tx.new.conn.ghost_name ≡ tx.old.conn.ghost_name }
+    ensures stays { CommitsNothing S.Store tx.old.conn.now tx.new.conn.now }
+    ensures goes_on { Continues S.Store tx.old.conn.now tx.new.conn.now result }
+    ensures failure { IfErr result IsFailure }
+    ensures denied { Finds S.Store tx.old.conn.now tx.new.conn.now result (λ h why.
+        why ≡ release_denial h caller.now (OnCollection collection.now)) }
+{
+    if !has_collection(tx, collection)? {
+        return Err(TableFault::Store);
+    }
+    denial(alloc, tx, caller, Action::Release, Some(collection), None)
+}
+
 /// The refusal where the caller may not release a hold of what is named.
 fn release_denial<S: Alter>(
     alloc: Global,
@@ -75,9 +97,7 @@ fn release_denial<S: Alter>(
 {
     match target {
         HoldTarget::Deposit(number) => deposit_release_denial(alloc, tx, caller, number),
-        HoldTarget::Collection(name) => {
-            denial(alloc, tx, caller, Action::Release, Some(name), None)
-        }
+        HoldTarget::Collection(name) => collection_release_denial(alloc, tx, caller, name),
     }
 }
 

@@ -422,7 +422,7 @@ fn an_effect_that_is_none_is_met_where_its_rule_decides(rt: HostRuntime) -> Resu
 
 /// A hold names nothing, two things, or what isn't there; its days, its matter and its number are
 /// none.
-static HOLDS: [Case; 7] = [
+static HOLDS: [Case; 8] = [
     (
         "UPDATE hold SET deposit = NULL WHERE number = 1",
         "UPDATE hold SET deposit = 3 WHERE number = 1",
@@ -467,6 +467,14 @@ static HOLDS: [Case; 7] = [
                 Asked::Holds(2),
                 "holds: 2 on collection placed 2024-03-02 for Case 7;",
             ),
+        ],
+    ),
+    (
+        "UPDATE hold SET collection = 'seals' WHERE number = 2",
+        "UPDATE hold SET collection = 'tax' WHERE number = 2",
+        &[
+            ("2030-01-01", "anna", Asked::Release(2), "Store"),
+            ("2030-01-01", "anna", Asked::Holds(2), "holds:"),
         ],
     ),
     (
