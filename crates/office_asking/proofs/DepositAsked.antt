@@ -1,5 +1,5 @@
 -- A deposit that is asked for, by its row.
-use Rattle.std.proofs.Common.{◌≡◌, ℕ, ℤ, pos, List, [], ◌∷◌, Option, Some, None, Ok, Err, option_map, refl, sym, ap, subst, ◌∙◌}
+use Rattle.std.proofs.Common.{◌≡◌, ℕ, pos, List, [], ◌∷◌, Option, Some, None, Ok, Err, option_map, refl, sym, ap, ◌∙◌}
 use Rattle.std.proofs.lemmas.Option.{same_Some}
 use Rattle.jiff.specs.Types.{Date}
 use Rattle.jiff.specs.Words.{epoch_day}
@@ -18,7 +18,7 @@ use Rattle.office_history.specs.Pictures.{deposit_row}
 use Rattle.office_history.specs.Refusals.{refusal_in, of_deposit, denial, kept_refusals}
 use Rattle.office_history.proofs.Pictured.{same_days}
 use Rattle.office_asking.specs.Pictures.{Pictures}
-use Rattle.office_asking.specs.Deposits.{IsAsked, IsThere}
+use Rattle.office_asking.specs.Deposits.{IsAsked}
 use Rattle.office_asking.proofs.DepositTold.{deposit_told}
 use Rattle.office_asking.proofs.Readings.{in_picture}
 

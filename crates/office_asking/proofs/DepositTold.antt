@@ -1,10 +1,9 @@
 -- The rows of deposits, and the history that they picture.
-use Rattle.std.proofs.Common.{◌≡◌, ℕ, ℤ, pos, List, Option, option_map, refl, sym, ap, ◌∙◌}
-use Rattle.jiff.specs.Types.{Date}
-use Rattle.office_rows.specs.Rows.{DepositRow, deposit_numbered}
+use Rattle.std.proofs.Common.{◌≡◌, ℕ, pos, option_map, refl, ap, ◌∙◌}
+use Rattle.office_rows.specs.Rows.{deposit_numbered}
 use Rattle.office_history.specs.Histories as histories
 use Rattle.office_history.specs.Histories.{History, deposits}
-use Rattle.office_history.specs.Pictures.{deposit_row, deposit_rows, row_of_deposit}
+use Rattle.office_history.specs.Pictures.{deposit_row, deposit_rows}
 use Rattle.office_asking.proofs.NumberedRows.{rows_from, rows_are, found_at}
 
 pub deposit_rows_are : (h : History) → deposit_rows h ≡ rows_from (deposit_row h) 1 (deposits h)

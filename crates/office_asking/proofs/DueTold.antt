@@ -1,8 +1,8 @@
 -- The years of a class, by its row.
 use Rattle.std.proofs.Common.{◌≡◌, ℕ, ℤ, Bool, true, false, List, [], ◌∷◌, Option, Some, None, option_map, refl, sym, ap, ◌∙◌, cond, if◌then◌else◌}
-use Rattle.std.specs.Prelude.{bytes_eq, find}
+use Rattle.std.specs.Prelude.{bytes_eq}
 use Rattle.std.specs.Option.{option_or}
-use Rattle.office_rows.specs.Rows.{ClassRow, class_named, is_class}
+use Rattle.office_rows.specs.Rows.{ClassRow, class_named}
 use Rattle.std.specs.Option.{option_map_or}
 use Rattle.jiff.specs.Types.{Date}
 use Rattle.sqlite.specs.Effect.{Database}

@@ -1,5 +1,5 @@
 -- The rows of holds, and the history that they picture.
-use Rattle.std.proofs.Common.{◌≡◌, ℕ, zero, suc, ◌+◌, ◌==◌, ℤ, pos, Bool, true, false, not, ◌&&◌, ◌||◌, List, [], ◌∷◌, length, map, filter, Option, Some, None, option_map, unwrap_or, slice_get, is_none, is_some, refl, sym, ap, subst, ◌∙◌, arith, cond, true≢false}
+use Rattle.std.proofs.Common.{◌≡◌, ℕ, suc, ◌+◌, ◌==◌, ℤ, pos, Bool, true, false, not, ◌&&◌, ◌||◌, List, [], ◌∷◌, length, map, filter, Option, Some, None, option_map, unwrap_or, slice_get, is_none, is_some, refl, sym, ap, subst, ◌∙◌, arith, cond, true≢false}
 use Rattle.std.specs.Prelude.{bytes_eq}
 use Rattle.std.specs.List.{range_with_len}
 use Rattle.std.specs.Option.{option_map_or}
@@ -13,7 +13,7 @@ use Rattle.office_tables.specs.Tables.{tables_of}
 use Rattle.sqlite.specs.Effect.{Database}
 use Rattle.office_asking.specs.Pictures.{Pictures}
 use Rattle.office_asking.proofs.Readings.{in_picture}
-use Rattle.office_history.specs.Lists.{item_numbered, numbers}
+use Rattle.office_history.specs.Lists.{numbers}
 use Rattle.office_history.specs.Histories as histories
 use Rattle.office_history.specs.Histories.{History, Hold, Target, OnDeposit, OnCollection, Deposit, holds, release_day, reaches, covers}
 use Rattle.office_history.specs.Pictures.{held_deposit, held_collection, hold_row, hold_rows, picture}

@@ -1,5 +1,5 @@
 -- What is read of the tables, by the history that they picture.
-use Rattle.std.proofs.Common.{◌≡◌, ℕ, List, Option, map, option_map, string_bytes, refl, sym, ap, subst, ◌∙◌}
+use Rattle.std.proofs.Common.{◌≡◌, ℕ, List, Option, option_map, string_bytes, sym, ap, subst, ◌∙◌}
 use Rattle.sqlite.specs.Effect.{Database}
 use Rattle.office_core.specs.Policies.{role_of}
 use Rattle.office_core.specs.declared.action.Action.{Action}

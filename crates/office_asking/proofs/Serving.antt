@@ -1,5 +1,5 @@
 -- Refused and allowed requests inside a transaction.
-use Rattle.std.proofs.Common.{◌≡◌, List, [], ◌∷◌, ◌++◌, ℕ, Option, Some, None, refl, sym, ap, subst, ◌∙◌, append-nil}
+use Rattle.std.proofs.Common.{◌≡◌, List, [], ◌∷◌, ℕ, Option, Some, None, refl, sym, ap, subst, ◌∙◌, append-nil}
 use Rattle.jiff.specs.Types.{Date}
 use Rattle.sqlite.specs.Effect.{Database}
 use Rattle.office_core.specs.FirstOf.{first_some}
@@ -10,9 +10,9 @@ use Rattle.office_core.specs.declared.request.Request.{Request}
 use Rattle.office_rows.specs.Rows.{Tables, this_version}
 use Rattle.office_history.specs.Pictures.{picture}
 use Rattle.office_tables.specs.Tables.{Becomes, tables_of}
-use Rattle.office_history.specs.Histories.{History, Change, with_changes}
+use Rattle.office_history.specs.Histories.{History, with_changes}
 use Rattle.office_history.specs.Refusals.{refusal}
-use Rattle.office_history.specs.Answers.{answer_unless, changes_unless, allowed_answer, allowed_change, answer, change, after}
+use Rattle.office_history.specs.Answers.{answer_unless, changes_unless, allowed_answer, allowed_change, change}
 use Rattle.office_asking.specs.Pictures.{Pictures}
 use Rattle.office_asking.specs.Serving.{IsServed}
 

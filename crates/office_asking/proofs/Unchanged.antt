@@ -1,18 +1,16 @@
 -- Which rows a longer history leaves as they were.
-use Rattle.std.proofs.Common.{◌≡◌, ℕ, ℤ, pos, List, [], ◌∷◌, ◌++◌, map, filter, length, Option, Some, None, option_map, unwrap_or, is_none, refl, sym, ap, ◌∙◌, append-nil}
+use Rattle.std.proofs.Common.{◌≡◌, ℕ, pos, List, [], ◌++◌, map, filter, length, Option, None, option_map, unwrap_or, is_none, ap, ◌∙◌, append-nil}
 use Rattle.std.specs.List.{filter_map, flat_map}
 use Rattle.std.specs.Option.{option_or, option_map_or}
 use Rattle.std.proofs.lemmas.List.Elements.{filter_map-append}
 use Rattle.jiff.specs.Types.{Date}
 use Rattle.jiff.specs.Words.{epoch_day}
 use Rattle.bag_check.specs.Validity.{payload_files, payload_bytes}
-use Rattle.office_rows.specs.Rows.{Tables, DepositRow, HoldRow}
+use Rattle.office_rows.specs.Rows.{DepositRow, HoldRow}
 use Rattle.office_history.specs.Lists.{first_said, last_said, item_numbered, numbers, in_first_places}
-use Rattle.office_history.specs.Histories.{History, Change, Deposit, Hold, with_changes, installed_in, policy, years_in, years_of, collection_in, deposit_in, deposits, deposit_numbered, destroyed_in, destruction_day, kept_numbers, hold_in, holds, hold_numbered, released_in, release_day}
-use Rattle.office_history.specs.Stocks.{files_of}
-use Rattle.office_history.specs.Pictures.{class_in, class_row, row_of_class, class_rows, held_deposit, held_collection, collection_rows, deposit_row, row_of_deposit, deposit_rows, file_row, file_rows, hold_row, row_of_hold, hold_rows, caller_row, rule_rows, office_row, picture}
+use Rattle.office_history.specs.Histories.{History, Change, Deposit, Hold, with_changes, installed_in, policy, years_in, years_of, collection_in, deposit_in, deposits, destroyed_in, destruction_day, hold_in, holds, released_in, release_day}
+use Rattle.office_history.specs.Pictures.{class_in, class_row, class_rows, held_deposit, held_collection, collection_rows, deposit_rows, file_row, file_rows, hold_rows}
 use Rattle.office_history.proofs.Alike.{or_none, last_said-append, policy_grown, gone_grown, released_grown}
-use Rattle.office_history.proofs.HistoryLemmas.{deposits_grown, holds_grown}
 
 -- a deposit's row by the day on which it was destroyed, and a hold's by the day on which it was released
 abbrev pub row_by_gone : ℕ → Option Date → Date × Deposit → DepositRow

@@ -1,6 +1,6 @@
 -- What is asked, changed and served inside a transaction, by whichever legal history the tables picture. `old` is the connection
 -- before it and `new` the connection after it. An Err says nothing of the history: its transaction is rolled back.
-use Rattle.std.specs.Prelude.{◌≡◌, List, [], ◌∷◌, ℕ, Result, IfOk, OnOk}
+use Rattle.std.specs.Prelude.{◌≡◌, List, ℕ, Result, IfOk, OnOk}
 use Rattle.jiff.specs.Types.{Date}
 use Rattle.sqlite.specs.Effect.{Database}
 use Rattle.sqlite.specs.Store.{Ghosts}

@@ -3,7 +3,6 @@ use Rattle.std.proofs.Common.{◌≡◌, ℕ, Bool, true, false, List, [], ◌�
 use Rattle.std.specs.List.{filter_map}
 use Rattle.std.proofs.lemmas.List.Elements.{filter_map-append}
 use Rattle.jiff.specs.Types.{Date}
-use Rattle.office_rows.specs.Rows as rows
 use Rattle.office_rows.specs.Rows.{with_collection, with_new_collection, this_version}
 use Rattle.office_history.specs.Lists.{in_first_places}
 use Rattle.office_history.specs.Histories.{History, Change, DefinedCollection, with_changes, has_collection, collection_in}

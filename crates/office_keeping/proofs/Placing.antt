@@ -1,26 +1,13 @@
 -- Whether a deposit may be made, by the rows.
-use Rattle.std.proofs.Common.{◌≡◌, ℕ, ◌<◌, ◌≤◌, ℤ, pos, Bool, true, false, not, ◌||◌, List, [], ◌∷◌, length, Option, Some, None, option_map, is_some, refl, sym, ap, ◌∙◌, arith, inl, inr, true≢false}
-use Rattle.std.specs.Prelude.{bytes_eq, nat_le}
-use Rattle.std.specs.List.{list_any, filter_map}
-use Rattle.std.proofs.lemmas.Bool.{cases_Bool}
-use Rattle.std.proofs.lemmas.Bool.Decides.{nat_tests}
-use Rattle.std.proofs.lemmas.Option.{same_Some}
-use Rattle.std.proofs.lemmas.Slice.Eq.{bytes_eq-Decides}
-use Rattle.sqlite.specs.Effect.{Database}
+use Rattle.std.proofs.Common.{◌≡◌, ℕ, ℤ, pos, true, false, not, List, [], ◌∷◌, Option, Some, None, option_map, is_some, refl, ap, ◌∙◌}
 use Rattle.office_core.specs.FirstOf.{first_some, answer_if}
 use Rattle.office_core.specs.declared.refusal.Refusal.{Refusal}
-use Rattle.office_core.specs.declared.refusal.Refusal.TheVariants.{NoSuch, Taken, Full}
+use Rattle.office_core.specs.declared.refusal.Refusal.TheVariants.{NoSuch, Taken}
 use Rattle.office_core.specs.declared.refusal.Subject.TheVariants as subjects
-use Rattle.office_rows.specs.Rows as rows
-use Rattle.office_rows.specs.Rows.{Limits, limits_of, this_version}
-use Rattle.office_tables.specs.Tables.{tables_of}
-use Rattle.office_history.specs.Histories.{History, collection_in, has_collection, has_class, years_of, deposits}
-use Rattle.office_history.specs.Pictures.{collection_rows, years_back}
-use Rattle.office_history.specs.Refusals.{place_refusals, denial, full_of_deposits}
-use Rattle.office_history.proofs.AlikeAnswers.{among_first_places}
+use Rattle.office_history.specs.Histories.{History, has_collection, has_class, years_of}
+use Rattle.office_history.specs.Pictures.{years_back}
+use Rattle.office_history.specs.Refusals.{place_refusals, denial}
 use Rattle.office_core.specs.declared.action.Action.TheVariants as acts
-use Rattle.office_asking.specs.Pictures.{Pictures}
-use Rattle.office_asking.proofs.Readings.{in_picture}
 use Rattle.office_asking.proofs.Serving.{one_refusal}
 
 pub class_there : (h : History) (class : List ℕ) (found : Option ℤ) → option_map years_back found ≡ years_of h class → is_some found ≡ has_class h class

@@ -1,4 +1,4 @@
-use Rattle.std.proofs.Common.{rules, ◌≡◌, arith, refl, ap, sym, subst, ◌∙◌, pos, Option, Some, None, option_map}
+use Rattle.std.proofs.Common.{rules, ◌≡◌, arith, sym, subst, ◌∙◌, Some, None, option_map}
 use Rattle.sqlite.specs.State.{HasCleanDisk}
 use Rattle.sqlite.specs.Held.{state}
 use Rattle.office_tables.specs.Tables.{IsOffice}

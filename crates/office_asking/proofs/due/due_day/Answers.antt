@@ -1,4 +1,4 @@
-use Rattle.std.proofs.Common.{rules, ◌≡◌, w64, refl, ap, sym, subst, ◌∙◌, Option, Some, None, option_map}
+use Rattle.std.proofs.Common.{rules, ◌≡◌, w64, ap, sym, ◌∙◌, option_map}
 use mir.Val.{SFits}
 use Rattle.std.proofs.lemmas.Int.{to_z-of_z}
 use Rattle.std.specs.Option.{option_map_or}

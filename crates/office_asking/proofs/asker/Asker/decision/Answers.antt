@@ -1,7 +1,5 @@
-use Rattle.std.proofs.Common.{rules, ◌≡◌, ℕ, ℤ, Option, option_copied, option_map, string_bytes, subst}
+use Rattle.std.proofs.Common.{rules, option_copied}
 use Rattle.sql_meaning.proofs.Results.{if_ok}
-use Rattle.office_core.specs.Rules.{Question, question_of}
-use Rattle.office_asking.specs.Asking.{or_stranger, row_decision, as_row}
 use Rattle.office_asking.proofs.Readings.{asker_decides}
 use Rattle.office_asking.proofs.asker.Asker.decision.Goals as goal
 
