@@ -19,7 +19,7 @@ from pathlib import Path
 from answering import Request, records
 
 TOP = Path(__file__).resolve().parent.parent
-PROGRAM = TOP / "crates/depot/out/depot"
+PROGRAM = TOP / "crates/depot/out/depot-program"
 POLICY = TOP / "examples/policy.toml"
 RUNS = int(os.environ.get("RUNS", "7"))
 
