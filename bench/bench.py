@@ -15,7 +15,7 @@ import tempfile
 import time
 
 TOP = pathlib.Path(__file__).resolve().parent.parent
-DEPOT = TOP / "crates" / "depot" / "out" / "depot"
+DEPOT = TOP / "crates" / "depot" / "out" / "depot-program"
 LIMIT = 16_777_216
 RUNS = int(os.environ.get("RUNS", "15"))
 DECLARATION = b"BagIt-Version: 1.0\nTag-File-Character-Encoding: UTF-8\n"
