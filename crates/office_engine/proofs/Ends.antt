@@ -1,22 +1,21 @@
 -- How a transaction ends.
-use Rattle.std.proofs.Common.{◌≡◌, ◌≢◌, ◌⊎◌, inl, inr, ℕ, List, [], Bool, true, false, IsTrue, refl, sym, ap, subst, ◌∙◌, arith}
+use Rattle.std.proofs.Common.{◌≡◌, inl, inr, true, false, IsTrue, refl, sym, ap, subst, ◌∙◌}
 use Rattle.sqlite.specs.Store.{Ghosts}
 use Rattle.sqlite.specs.Tree.{Trees}
 use Rattle.sqlite.specs.Effect.{Database}
 use Rattle.sqlite.specs.Held.{Held, state}
 use Rattle.sqlite.specs.Steps.{FailsToCommit}
 use Rattle.sqlite.specs.declared.error.Error.{Error}
-use Rattle.sqlite.specs.State.{State, HasCleanDisk, Survives, KeepsCommit, IsRolledBack, Shows}
+use Rattle.sqlite.specs.State.{State, HasCleanDisk, Survives, IsRolledBack, Shows}
 use Rattle.sql_meaning.specs.Inside.{Stays, GoesOn}
 use Rattle.office_tables.specs.Opening.{IsKept}
 use Rattle.office_core.specs.declared.answer.Answer.{Answer}
 use Rattle.office_history.specs.Histories.{History, with_changes}
-use Rattle.office_history.specs.Answers.{change, after}
-use Rattle.office_history.specs.Runs.{IsLegal, IsFailure, Item, IsItem, Step, serve}
+use Rattle.office_history.specs.Runs.{IsLegal, IsFailure, Item, IsItem, serve}
 use Rattle.office_asking.specs.Pictures.{Pictures}
 use Rattle.office_asking.specs.Serving.{IsServed}
 use Rattle.office_asking.proofs.Serving.{grown_none}
-use Rattle.office_engine.specs.Keeping.{IsKeptBy, IsLeftOf, IsReached, Serves, CommitsTo, Lasts, LeavesEither, after_item, is_accepted}
+use Rattle.office_engine.specs.Keeping.{IsKeptBy, IsLeftOf, Serves, CommitsTo, Lasts, LeavesEither, after_item, is_accepted}
 use Rattle.office_engine.proofs.Accepted.{no_change}
 
 module _ {S : Type 0} (g : Ghosts S) (first : Held S) (last end : State) (stays : Stays (state g (record first { in_transaction = true })) last) where

@@ -1,8 +1,8 @@
 -- Histories and the rows that are kept or left of them.
-use Rattle.std.proofs.Common.{◌≡◌, ◌≤◌, ◌&&◌, IsTrue, Bool, true, Some, ℕ, pos, nat_le, refl, arith}
+use Rattle.std.proofs.Common.{◌≡◌, true, Some, ℕ, pos, nat_le, refl, arith}
 use Rattle.std.proofs.lemmas.Bool.Decides.{nat_tests}
 use Rattle.sqlite.specs.Tree.{Trees}
-use Rattle.sqlite.specs.State.{State, HasCleanDisk, Survives}
+use Rattle.sqlite.specs.State.{State, Survives}
 use Rattle.sqlite.proofs.StateLemmas.{survives_weaker}
 use Rattle.office_rows.specs.Rows.{empty_office, is_in_range, this_version, version_of}
 use Rattle.office_tables.specs.Opening.{IsLeft}
@@ -10,7 +10,7 @@ use Rattle.office_history.specs.Histories.{History}
 use Rattle.office_history.specs.Pictures.{picture}
 use Rattle.office_history.specs.Runs.{IsLegal, IsLimit, new_history}
 use Rattle.office_history.proofs.RangeLemmas.{limits_hold}
-use Rattle.office_recovery.specs.Found.{GoesOnAs, IsKeptAs}
+use Rattle.office_recovery.specs.Found.{GoesOnAs}
 use Rattle.office_engine.specs.Keeping.{IsKeptBy, IsLeftOf}
 
 pub rows_left : (h : History) (left : Trees) → IsLeftOf h left → IsLeft (picture this_version h) left

@@ -1,5 +1,5 @@
 -- Items of a run in turn.
-use Rattle.std.proofs.Common.{◌≡◌, ◌⊎◌, inl, inr, ◌≤◌, ◌<◌, refl, ℕ, zero, suc, ◌+◌, List, [], ◌∷◌, ◌++◌, take, length, get_or, IsTrue, subst, sym, ap, ◌∙◌, arith}
+use Rattle.std.proofs.Common.{◌≡◌, inl, inr, ◌≤◌, ◌<◌, refl, ℕ, zero, suc, ◌+◌, List, [], ◌∷◌, ◌++◌, take, length, get_or, IsTrue, subst, sym, ap, ◌∙◌, arith}
 use Rattle.std.proofs.lemmas.List.{take_more}
 use Rattle.sqlite.specs.Tree.{Trees}
 use Rattle.sqlite.specs.Effect.{Database}
@@ -9,7 +9,7 @@ use Rattle.office_core.specs.declared.answer.Answer.{Answer}
 use Rattle.office_history.specs.Histories.{History}
 use Rattle.office_history.specs.Answers.{answer}
 use Rattle.office_history.specs.Runs.{IsLegal, Item, Step, Run}
-use Rattle.office_engine.specs.Keeping.{IsKeptBy, IsLeftOf, IsLeftOfRun, IsReached, CommitsTo, CommitsRun, LeavesRun, Serves, after_item}
+use Rattle.office_engine.specs.Keeping.{IsKeptBy, IsLeftOfRun, IsReached, CommitsTo, CommitsRun, LeavesRun, after_item}
 
 -- a run, and one item more
 pub run_more : (items : List Item) (told : List Answer) (h mid next : History) (item : Item) (given : Answer) → Run h items told mid → Step mid item given next → Run h (items ++ item ∷ []) (told ++ given ∷ []) next

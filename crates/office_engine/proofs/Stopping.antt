@@ -1,5 +1,5 @@
 -- What is found again after a stop.
-use Rattle.std.proofs.Common.{◌≡◌, ◌⊎◌, IsTrue, inl, inr, List}
+use Rattle.std.proofs.Common.{◌⊎◌, inl, inr, List}
 use Rattle.std.proofs.Math.Logic.{∥∥₁_map}
 use Rattle.sqlite.specs.Tree.{Trees}
 use Rattle.sqlite.specs.Recovery.{Image}

@@ -1,10 +1,8 @@
 use Rattle.std.proofs.Common.{◌≡◌, arith, rules, subst}
 use Rattle.sqlite.specs.State.{HasCleanDisk}
 use Rattle.sqlite.specs.Held.{state}
-use Rattle.office_history.specs.Histories.{History}
 use Rattle.office_history.specs.Runs as runs
 use Rattle.office_history.specs.Runs.{IsLegal}
-use Rattle.office_asking.specs.Pictures.{Pictures}
 use Rattle.office_engine.specs.Keeping.{IsReached, InstallLasts, with_policy}
 use Rattle.office_engine.proofs.Ends.{makes_kept, makes_lasting}
 use Rattle.office_engine.proofs.installing.install.Goals as goal

@@ -1,11 +1,10 @@
-use Rattle.std.proofs.Common.{◌≡◌, false, refl, arith, rules, subst, sym}
+use Rattle.std.proofs.Common.{◌≡◌, false, arith, rules, subst}
 use Rattle.sqlite.specs.State.{HasCleanDisk, Survives}
 use Rattle.sqlite.specs.Held.{state}
 use Rattle.sql_meaning.proofs.Inside.{survives_commit}
-use Rattle.office_tables.specs.Opening.{IsKept}
 use Rattle.office_history.specs.Runs.{Item, IsItem}
 use Rattle.office_engine.specs.Keeping.{Serves, CommitsTo, Lasts, after_item, is_accepted}
-use Rattle.office_engine.proofs.Ends.{serves_same, serves_change, lasts_change, lasts_same, commits, pictures_after, serves_failure, failed_back, lasts_failure}
+use Rattle.office_engine.proofs.Ends.{serves_same, serves_change, lasts_change, lasts_same, commits, pictures_after, serves_failure, failed_back}
 use Rattle.office_engine.proofs.serving.serve.Goals as goal
 
 pub returns-then-not-is_accepted-clause-served : goal.returns-then-not-is_accepted-clause-served
