@@ -10,7 +10,8 @@ use Rattle.desk_records.specs.Records.{IsRecord, record_text, answer_text, Begin
 use Rattle.desk_records.specs.RecordLists.{RequestRecord, AreRecords, HasRecords, request_texts, answer_texts, max_records}
 use Rattle.desk_records.proofs.FoundLemmas.{wanted_none, wanted_short}
 use Rattle.desk_records.proofs.ListLemmas.{texts_more, are_all, rest_shorter}
-use Rattle.http_desk.specs.Replaying.{AnswersRecord, AnswersEach, AnswersNext, HasAnswered, HasDone, IsNoRecord, IsBegun, ReadsMore, Replayed, Stopped, fault_behind}
+use Rattle.http_desk.specs.Replaying.{AnswersRecord, AnswersEach, HasAnswered, HasDone, Replayed}
+use Rattle.http_desk.specs.ReplaySteps.{AnswersNext, ReadsMore, fault_behind}
 use Rattle.http_desk.specs.declared.answering.Unwritten.{Unwritten}
 use Rattle.http_desk.specs.declared.answering.Unwritten.TheVariants as unwritten
 use Rattle.http_desk.specs.declared.replaying.ReplayStop.{ReplayStop}

@@ -11,7 +11,7 @@ use Rattle.desk_hearing.specs.Asked.{HeardValue}
 use Rattle.desk_hearing.specs.Hearing.{Hears}
 use Rattle.desk_answers.specs.Answers.{answer_text}
 use Rattle.http_desk.specs.Serving.{IsAnswered, IsServed, ServesBytes}
-use Rattle.http_desk.specs.Replaying.{AnswersNext}
+use Rattle.http_desk.specs.ReplaySteps.{AnswersNext}
 use Rattle.http_desk.specs.declared.answering.Unwritten.TheVariants.{Memory}
 
 pub whole_answer : {S : Type 0} (g : Ghosts S) (old new : Held S) (day : Date) (all : Option (List ℕ)) (heard : HeardValue) (answer : Answer) (text : List ℕ)

@@ -2,7 +2,7 @@
 
 ghost use Rattle.std.specs.Prelude.{◌≡◌, ◌≢◌, Err};
 ghost use Rattle.desk_devices.specs.Devices.{HasFailed};
-ghost use Rattle.http_desk.specs.Replaying.{AnswersNext};
+ghost use Rattle.http_desk.specs.ReplaySteps.{AnswersNext};
 
 use crate::serving::{Unanswered, respond};
 use desk_devices::{Counted, write_whole};

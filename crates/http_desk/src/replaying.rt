@@ -2,7 +2,8 @@
 
 ghost use Rattle.std.specs.Prelude.{◌≡◌, ◌≢◌, ◌≤◌, ◌<◌, ◌+◌, ℕ, List, length, Err, Ok, IfErr, OnOk, MatchResult};
 ghost use Rattle.desk_devices.specs.Devices.{HasFailed};
-ghost use Rattle.http_desk.specs.Replaying.{FoundBehind, ReadsMore, Replayed, fault_behind};
+ghost use Rattle.http_desk.specs.Replaying.{Replayed};
+ghost use Rattle.http_desk.specs.ReplaySteps.{FoundBehind, ReadsMore, fault_behind};
 
 use crate::answering::{Unwritten, answer_next};
 use desk_devices::Counted;

@@ -7,7 +7,7 @@ use Rattle.desk_records.specs.Records.{record_text, WantsMore, CanNotBegin}
 use Rattle.desk_records.specs.RecordLists.{max_records}
 use Rattle.desk_records.proofs.FoundLemmas.{wanted_short}
 use Rattle.desk_records.proofs.ListLemmas.{rest_shorter}
-use Rattle.http_desk.specs.Replaying.{ReadsMore}
+use Rattle.http_desk.specs.ReplaySteps.{ReadsMore}
 use Rattle.http_desk.proofs.ReplayLemmas.{Progress, started, read_on, answered_on, ended, bad_at_end, bad_stop, stopped_by, unremembered, unread, unwritten_stop}
 use Rattle.http_desk.proofs.replaying.replay.Goals as goal
 
