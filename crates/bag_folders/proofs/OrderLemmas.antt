@@ -1,9 +1,6 @@
 -- The order of files.
-use Rattle.std.proofs.Common.{◌≡◌, List}
 use Rattle.std.specs.Prelude.{string_bytes}
-use Rattle.std.specs.Ordering.{nat_cmp, is_lt}
 use Rattle.std.specs.Cmp.{IsStrictWeakOrder}
-use Rattle.std.specs.Cmp.Lexicographic.{slice_cmp}
 use Rattle.std.proofs.lemmas.Cmp.{nat_list_cmp_total}
 use Rattle.std.proofs.lemmas.List.MinMax.{ranks_by}
 use Rattle.bag_text.specs.Paths.{comes_before}

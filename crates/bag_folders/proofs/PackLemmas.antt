@@ -1,5 +1,5 @@
 -- What is told of a folder that is refused.
-use Rattle.std.proofs.Common.{◌≡◌, ◌⊎◌, inl, inr, ℕ, List, [], ◌∷◌, length, replicate, map, refl, ◌∙◌, sym}
+use Rattle.std.proofs.Common.{◌≡◌, false, inl, inr, ℕ, List, [], ◌∷◌, length, replicate, map, refl, ◌∙◌}
 use Rattle.std.specs.Prelude.{Result, Ok, Err, IfErr, string_bytes}
 use Rattle.std.proofs.Math.ListN.{length-replicate}
 use Rattle.bag_text.specs.TransferForm.{File}
@@ -25,12 +25,12 @@ some_files (l ∷ ls) = (refl, length-replicate l.size 0, some_files ls)
 
 -- ---- what is refused
 
-pub plan_refused : (found : Found) (listed : List Listed) (fault : PackFault) → AreInOrder found.files.items listed → AllFilesOf listed (λ files. HasNoForm files fault) → IsRefused found fault
-plan_refused found listed Name order none = absurd (none (map filled listed) (some_files listed))
-plan_refused found listed (Set fault) order none = (listed, order, none)
-plan_refused found listed Size order none = (listed, order, none)
-plan_refused found listed (Device trouble) order none = none (map filled listed) (some_files listed)
-plan_refused found listed Memory order none = tt
+pub plan_refused : (found : Found) (listed : List Listed) (fault : PackFault) → found.has_odd_entry ≡ false → AreInOrder found.files.items listed → AllFilesOf listed (λ files. HasNoForm files fault) → IsRefused found fault
+plan_refused found listed Name odd order none = absurd (none (map filled listed) (some_files listed))
+plan_refused found listed (Set fault) odd order none = (odd, (listed, order, none))
+plan_refused found listed Size odd order none = (odd, (listed, order, none))
+plan_refused found listed (Device trouble) odd order none = none (map filled listed) (some_files listed)
+plan_refused found listed Memory odd order none = tt
 
 pub memory_may_be : MayBeRefused Memory
 memory_may_be = inr ([], tt)

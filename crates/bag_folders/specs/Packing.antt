@@ -1,6 +1,6 @@
 -- What packing a folder comes to: its files in the order of their paths, and of these the form, or
 -- the first fault.
-use Rattle.std.specs.Prelude.{◌≡◌, ◌⊎◌, ℕ, ◌<◌, ◌≤◌, true, List, [], ◌∷◌, length, map, string_bytes}
+use Rattle.std.specs.Prelude.{◌≡◌, ◌⊎◌, ℕ, ◌<◌, ◌≤◌, true, false, List, [], ◌∷◌, length, string_bytes}
 use Rattle.std.specs.List.Sorted.{IsPermutation, IsSortedBy}
 use Rattle.bag_text.specs.Paths.{comes_before}
 use Rattle.bag_text.specs.TransferForm.{File, IsBag, set_text}
@@ -51,12 +51,14 @@ HasNoForm files fault = ⊥
 abbrev pub AllFilesOf : List Listed → (List File → Type 0) → Type 0
 AllFilesOf listed P = (files : List File) → AreFilesOf listed files → P files
 
--- why a folder in which this was found isn't packed, as far as the paths and sizes tell
+-- why a folder in which this was found isn't packed, as far as the paths and sizes tell: an odd entry comes
+-- first
 abbrev pub IsRefused : Found → PackFault → Type 0
 IsRefused found Name = found.has_odd_entry ≡ true
 IsRefused found Memory = Unit {0}
 IsRefused found (Device trouble) = ⊥
-IsRefused found fault = (listed : List Listed) × AreInOrder found.files.items listed × AllFilesOf listed (λ files. HasNoForm files fault)
+IsRefused found fault =
+    (found.has_odd_entry ≡ false) × ((listed : List Listed) × AreInOrder found.files.items listed × AllFilesOf listed (λ files. HasNoForm files fault))
 
 -- ---- what is told of a folder, of which no contract says what it holds
 

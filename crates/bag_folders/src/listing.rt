@@ -21,10 +21,12 @@ pub fn path_under(alloc: Global, folder: &str, path: &str) -> Result<String, All
     format!(in alloc; "{folder}/{path}")
 }
 
-/// The path from the first folder on of a name in this folder. The first folder is the empty text.
+/// The path of a name in this folder. An empty text stands for no folder and for no name.
 fn path_in(alloc: Global, folder: &str, name: &str) -> Result<String, AllocError> {
     if folder.is_empty() {
         String::from_str(alloc, name)
+    } else if name.is_empty() {
+        String::from_str(alloc, folder)
     } else {
         path_under(alloc, folder, name)
     }

@@ -22,11 +22,10 @@ pub struct Loaded<'a> {
 
 /// Reads a file to its end, or one byte past this size.
 fn read_up_to<R: Files + AllocGlobal>(rt: &R, path: &str, size: u64) -> io::Result<Vec<u8>> {
-    let mut content = Vec::new(rt.alloc());
+    let most = size.saturating_add(1);
+    let mut content = Vec::with_capacity(rt.alloc(), most as usize)?;
     let mut file = fs::open(rt, path)?;
-    (&mut file)
-        .take(size.saturating_add(1))
-        .read_to_end(&mut content)?;
+    (&mut file).take(most).read_to_end(&mut content)?;
     Ok(content)
 }
 

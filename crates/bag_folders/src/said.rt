@@ -1,6 +1,6 @@
 //! What the program says of a folder that was packed, and of a form that was unpacked.
 
-ghost use Rattle.std.specs.Prelude.{◌≡◌, ◌⊎◌, IfOk, IfErr, string_bytes};
+ghost use Rattle.std.specs.Prelude.{◌≡◌, IfOk, IfErr, string_bytes};
 ghost use Rattle.bag_folders.specs.Saying.{SaysOfPack, SaysOfUnpack, PackFails, UnpackFails, packed_text, unpacked_text};
 
 use crate::failed::Failed;
@@ -38,8 +38,10 @@ fn unpacked_line(alloc: Global, unpacked: Unpacked) -> Result<String, AllocError
 
 /// What is said of a folder that was to be packed; or what failed, of which standard error is told.
 pub fn pack_said(alloc: Global, packing: Result<Packed, PackFault>) -> Result<Said, Failed>
+    // What is said is so.
     ensures said { IfOk result (SaysOfPack packing) }
-    ensures failed { IfErr result (λ failed. (failed ≡ Failed.Memory) ⊎ PackFails packing failed) }
+    // What fails is the device that is told of, or memory.
+    ensures failed { IfErr result (PackFails packing) }
 {
     let text = match packing {
         Ok(packed) => {
@@ -62,8 +64,10 @@ pub fn pack_said(alloc: Global, packing: Result<Packed, PackFault>) -> Result<Sa
 
 /// What is said of a form that was to be unpacked; or what failed, of which standard error is told.
 pub fn unpack_said(alloc: Global, unpacking: Result<Unpacked, UnpackFault>) -> Result<Said, Failed>
+    // What is said is so.
     ensures said { IfOk result (SaysOfUnpack unpacking) }
-    ensures failed { IfErr result (λ failed. (failed ≡ Failed.Memory) ⊎ UnpackFails unpacking failed) }
+    // What fails is the device that is told of, or memory.
+    ensures failed { IfErr result (UnpackFails unpacking) }
 {
     let text = match unpacking {
         Ok(unpacked) => {

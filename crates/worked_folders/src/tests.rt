@@ -1,19 +1,31 @@
 //! What comes of small folders and forms.
 
-use super::*;
-use bag_folders::{PackFault, Said, UnpackFault, pack, pack_said, unpack, unpack_said};
+use super::{BAG, BAG_FILES, File, PACKED, UNPACKED, UNREADABLE, WORKED_FOLDERS};
+use bag_folders::{
+    PackFault, Packed, Said, UnpackFault, Unpacked, pack, pack_said, unpack, unpack_said,
+};
 use std::os::unix::fs::symlink;
 use std::test::*;
 use std::{fs, io};
 
+/// Packs over the files of the host.
+pub fn pack_here(rt: &HostRuntime, folder: &str, file: &str) -> Result<Packed, PackFault> {
+    pack(rt, folder, file)
+}
+
+/// Unpacks over the files of the host.
+pub fn unpack_here(rt: &HostRuntime, file: &str, folder: &str) -> Result<Unpacked, UnpackFault> {
+    unpack(rt, file, folder)
+}
+
 /// What is said of a folder that is packed.
 pub fn pack_line(rt: &HostRuntime, folder: &str, file: &str) -> Result<Said, Fail> {
-    Ok(pack_said(rt.alloc(), pack(rt, folder, file))?)
+    Ok(pack_said(rt.alloc(), pack_here(rt, folder, file))?)
 }
 
 /// What is said of a form that is unpacked.
 pub fn unpack_line(rt: &HostRuntime, file: &str, folder: &str) -> Result<Said, Fail> {
-    Ok(unpack_said(rt.alloc(), unpack(rt, file, folder))?)
+    Ok(unpack_said(rt.alloc(), unpack_here(rt, file, folder))?)
 }
 
 /// Makes a folder with these files.
@@ -39,7 +51,7 @@ fn packs_and_unpacks_a_bag(rt: HostRuntime) -> Result<(), Fail> {
     let said = unpack_line(&rt, "bag-a.bagset", "copy")?;
     assert_eq!(rt; said.text.as_str(), "unpacked 3 files\n");
     assert!(rt; said.is_done);
-    assert_eq!(rt; pack(&rt, "copy", "copy.bagset")?, PACKED);
+    assert_eq!(rt; pack_here(&rt, "copy", "copy.bagset")?, PACKED);
     assert_eq!(rt; fs::read(&rt, "copy.bagset")?.as_slice(), BAG);
     // What stands there isn't touched.
     let said = unpack_line(&rt, "bag-a.bagset", "copy")?;
@@ -48,7 +60,7 @@ fn packs_and_unpacks_a_bag(rt: HostRuntime) -> Result<(), Fail> {
     let said = unpack_line(&rt, "bag-a.bagset", "copy.bagset")?;
     assert_eq!(rt; said.text.as_str(), "exists\n");
     assert_eq!(rt; fs::read(&rt, "copy.bagset")?.as_slice(), BAG);
-    assert_eq!(rt; unpack(&rt, "copy.bagset", "other")?, UNPACKED);
+    assert_eq!(rt; unpack_here(&rt, "copy.bagset", "other")?, UNPACKED);
     Ok(())
 }
 
@@ -66,8 +78,8 @@ fn packs_what_was_worked_out(rt: HostRuntime) -> Result<(), Fail> {
             "{line}"
         );
         // A folder may be named with a slash behind it.
-        unpack(&rt, "worked.bagset", "unpacked")?;
-        pack(&rt, "unpacked/", "again.bagset")?;
+        unpack_here(&rt, "worked.bagset", "unpacked")?;
+        pack_here(&rt, "unpacked/", "again.bagset")?;
         assert_eq!(rt;
             fs::read(&rt, "again.bagset")?.as_slice(),
             worked.form,
@@ -129,7 +141,7 @@ fn refuses_what_is_no_form(rt: HostRuntime) -> Result<(), Fail> {
 
 #[test]
 fn tells_what_failed(rt: HostRuntime) -> Result<(), Fail> {
-    let Err(PackFault::Device(trouble)) = pack(&rt, "no folder", "no.bagset") else {
+    let Err(PackFault::Device(trouble)) = pack_here(&rt, "no folder", "no.bagset") else {
         return Err(Fail::new("a folder that isn't there"));
     };
     let text = format!(in rt.alloc(); "{trouble}")?;
@@ -137,7 +149,7 @@ fn tells_what_failed(rt: HostRuntime) -> Result<(), Fail> {
         text.as_str(),
         "cannot list no%20folder: No such file or directory (os error 2)"
     );
-    let Err(UnpackFault::Device(trouble)) = unpack(&rt, "no.bagset", "no folder") else {
+    let Err(UnpackFault::Device(trouble)) = unpack_here(&rt, "no.bagset", "no folder") else {
         return Err(Fail::new("a file that isn't there"));
     };
     let text = format!(in rt.alloc(); "{trouble}")?;

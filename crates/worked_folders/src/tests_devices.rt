@@ -1,20 +1,20 @@
 //! What a file system that fails leaves.
 
 use super::failing::{Failing, Fault};
-use super::tests::lay;
+use super::tests::{lay, pack_here};
 use super::{BAG, BAG_FILES};
 use bag_folders::{PackFault, Packed, UnpackFault, Unpacked, pack, unpack};
 use std::fs;
 use std::test::*;
 
 /// Packs over files with this fault.
-fn pack_with(failing: &Failing<'_>) -> Result<Packed, PackFault> {
-    pack(failing, "failing", "out/failing.bagset")
+fn pack_with(failing: &Failing<'_>, folder: &str, file: &str) -> Result<Packed, PackFault> {
+    pack(failing, folder, file)
 }
 
 /// Unpacks over files with this fault.
 fn unpack_with(failing: &Failing<'_>) -> Result<Unpacked, UnpackFault> {
-    unpack(failing, "failing.bagset", "unpacked")
+    unpack(failing, "failing.bagset", "half")
 }
 
 /// How many names are in the folder.
@@ -34,7 +34,7 @@ fn no_half_of_a_form_is_left(rt: HostRuntime) -> Result<(), Fail> {
     let mut failed = 0u32;
     for number in 0..100 {
         let failing = Failing::new(&rt, Fault::Call(number));
-        match pack_with(&failing) {
+        match pack_with(&failing, "failing", "out/failing.bagset") {
             Err(PackFault::Device(_)) => {
                 assert!(rt; failing.has_failed());
                 assert_eq!(rt; names_in(&rt, "out")?, 0, "{number}");
@@ -50,7 +50,9 @@ fn no_half_of_a_form_is_left(rt: HostRuntime) -> Result<(), Fail> {
     // What stood there stays.
     fs::remove_file(&rt, "failing/data/a")?;
     for fault in [Fault::Write, Fault::Sync, Fault::Call(9)] {
-        let Err(PackFault::Device(_)) = pack_with(&Failing::new(&rt, fault)) else {
+        let failing = Failing::new(&rt, fault);
+        let packed = pack_with(&failing, "failing", "out/failing.bagset");
+        let Err(PackFault::Device(_)) = packed else {
             return Err(Fail::new("a file that can't be written"));
         };
         assert_eq!(rt; fs::read(&rt, "out/failing.bagset")?.as_slice(), BAG);
@@ -58,7 +60,7 @@ fn no_half_of_a_form_is_left(rt: HostRuntime) -> Result<(), Fail> {
     }
     // A name that is taken is left alone.
     fs::write(&rt, "out/.depot-pack-0", b"taken")?;
-    assert_eq!(rt; pack(&rt, "failing", "out/failing.bagset")?.files, 2);
+    assert_eq!(rt; pack_here(&rt, "failing", "out/failing.bagset")?.files, 2);
     assert_eq!(rt;
         fs::read(&rt, "out/.depot-pack-0")?.as_slice(),
         b"taken".as_slice()
@@ -71,11 +73,11 @@ fn no_half_of_a_form_is_left(rt: HostRuntime) -> Result<(), Fail> {
 fn only_a_file_is_written_over(rt: HostRuntime) -> Result<(), Fail> {
     lay(&rt, "kept", BAG_FILES.as_slice())?;
     for place in ["kept/data", "/dev/null", "kept/no/form"] {
-        let Err(PackFault::Device(_)) = pack(&rt, "kept", place) else {
+        let Err(PackFault::Device(_)) = pack_here(&rt, "kept", place) else {
             return Err(Fail::new(place));
         };
     }
-    assert_eq!(rt; pack(&rt, "kept", "kept.bagset")?.files, 3);
+    assert_eq!(rt; pack_here(&rt, "kept", "kept.bagset")?.files, 3);
     Ok(())
 }
 
@@ -85,8 +87,8 @@ fn unpacking_may_fail_anywhere(rt: HostRuntime) -> Result<(), Fail> {
     for number in 0..100 {
         let failing = Failing::new(&rt, Fault::Call(number));
         let unpacked = unpack_with(&failing);
-        if fs::exists(&rt, "unpacked")? {
-            fs::remove_dir_all(&rt, "unpacked")?;
+        if fs::exists(&rt, "half")? {
+            fs::remove_dir_all(&rt, "half")?;
         }
         match unpacked {
             Err(UnpackFault::Device(_)) => assert!(rt; failing.has_failed()),
@@ -102,18 +104,19 @@ fn unpacking_may_fail_anywhere(rt: HostRuntime) -> Result<(), Fail> {
 
 #[test]
 fn names_and_sizes_are_those_that_are_found(rt: HostRuntime) -> Result<(), Fail> {
-    lay(&rt, "failing", BAG_FILES.as_slice())?;
-    fs::create_dir_all(&rt, "out")?;
-    let Err(PackFault::Name) = pack_with(&Failing::new(&rt, Fault::Name)) else {
+    lay(&rt, "found", BAG_FILES.as_slice())?;
+    let failing = Failing::new(&rt, Fault::Name);
+    let Err(PackFault::Name) = pack_with(&failing, "found", "found.bagset") else {
         return Err(Fail::new("a name that isn't UTF-8"));
     };
-    let Err(PackFault::Device(trouble)) = pack_with(&Failing::new(&rt, Fault::Size)) else {
+    let failing = Failing::new(&rt, Fault::Size);
+    let Err(PackFault::Device(trouble)) = pack_with(&failing, "found", "found.bagset") else {
         return Err(Fail::new("a file that has changed"));
     };
     let text = format!(in rt.alloc(); "{trouble}")?;
     assert_eq!(rt;
         text.as_str(),
-        "cannot read failing/bagit.txt: it changed while it was packed"
+        "cannot read found/bagit.txt: it changed while it was packed"
     );
     Ok(())
 }

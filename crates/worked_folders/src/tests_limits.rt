@@ -1,7 +1,6 @@
 //! Folders and forms at their limits.
 
-use super::tests::{lay, pack_line, unpack_line};
-use bag_folders::pack;
+use super::tests::{lay, pack_here, pack_line, unpack_line};
 use std::fs::File;
 use std::test::*;
 use std::{fs, io};
@@ -41,7 +40,7 @@ fn packs_up_to_the_limit(rt: HostRuntime) -> Result<(), Fail> {
 fn unpacks_up_to_the_limit(rt: HostRuntime) -> Result<(), Fail> {
     lay(&rt, "whole", [].as_slice())?;
     make_sparse(&rt, "whole/b", 16_777_185)?;
-    assert_eq!(rt; pack(&rt, "whole", "whole.bagset")?.bytes, 16_777_216);
+    assert_eq!(rt; pack_here(&rt, "whole", "whole.bagset")?.bytes, 16_777_216);
     let said = unpack_line(&rt, "whole.bagset", "whole-again")?;
     assert_eq!(rt; said.text.as_str(), "unpacked 1 files\n");
     // One byte more, whatever it is.
@@ -62,7 +61,7 @@ fn packs_no_more_than_2000_files(rt: HostRuntime) -> Result<(), Fail> {
         let path = format!(in rt.alloc(); "many/{number}")?;
         fs::write(&rt, path, b"")?;
     }
-    assert_eq!(rt; pack(&rt, "many", "many.bagset")?.files, 2000);
+    assert_eq!(rt; pack_here(&rt, "many", "many.bagset")?.files, 2000);
     fs::write(&rt, "many/a", b"")?;
     let said = pack_line(&rt, "many", "many.bagset")?;
     assert_eq!(rt; said.text.as_str(), "unpackable S6\n");
@@ -86,7 +85,7 @@ fn packs_no_path_of_more_than_1024_bytes(rt: HostRuntime) -> Result<(), Fail> {
     fs::create_dir_all(&rt, folder.as_str())?;
     let path = format!(in rt.alloc(); "{folder}/{name}")?;
     fs::write(&rt, path.as_str(), b"")?;
-    assert_eq!(rt; pack(&rt, "deep", "deep.bagset")?.files, 1);
+    assert_eq!(rt; pack_here(&rt, "deep", "deep.bagset")?.files, 1);
     let path = format!(in rt.alloc(); "{folder}/{name}d")?;
     fs::write(&rt, path.as_str(), b"")?;
     let said = pack_line(&rt, "deep", "deep.bagset")?;

@@ -1,4 +1,4 @@
-use Rattle.std.proofs.Common.{List, [], map, take, sym, ap, subst, ◌∙◌}
+use Rattle.std.proofs.Common.{List, [], map, sym, ap, subst, ◌∙◌}
 use Rattle.std.specs.Prelude.{string_bytes}
 use Rattle.bag_folders.specs.declared.listed.Listed.{Listed}
 use Rattle.bag_folders.specs.declared.loading.Loaded.{Loaded}
