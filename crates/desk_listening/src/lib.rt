@@ -2,8 +2,10 @@
 #![tactic(auto)]
 
 mod draining;
+mod listening;
 mod patience;
 mod stream;
 
 pub use draining::{Drained, drain};
+pub use listening::{Served, serve_connections, serve_stream};
 pub use patience::Patience;
