@@ -1,14 +1,13 @@
 -- What came of one connection, and of several in turn.
-use Rattle.std.proofs.Common.{◌≡◌, ℕ, List, [], ◌∷◌, ◌++◌, Bool, true, false, cond, ◌+◌, ◌<◌, ◌≤◌, Option, Result, Ok, Err, OnOk, is_ok, length, take, count_by, length-append, refl, sym, ap, subst, ◌∙◌, arith}
+use Rattle.std.proofs.Common.{◌≡◌, ℕ, List, [], ◌∷◌, ◌++◌, Bool, true, false, cond, ◌+◌, ◌<◌, ◌≤◌, Option, Result, Ok, Err, OnOk, is_ok, length, take, count_by, length-append, refl, sym, ap, subst, arith}
 use mir.Val.{bool_byte}
 use Rattle.jiff.specs.Types.{Date}
 use Rattle.sqlite.specs.Held.{Held, state}
 use Rattle.sqlite.specs.State.{State, HasCleanDisk}
 use Rattle.sqlite.specs.Store.{Ghosts}
 use Rattle.office_core.specs.declared.answer.Answer.{Answer}
-use Rattle.office_history.specs.Histories.{History}
-use Rattle.office_history.specs.Runs.{IsLegal, Item, Step, Run}
-use Rattle.office_engine.specs.Keeping.{IsKeptBy, IsReached, Runs, Serves}
+use Rattle.office_history.specs.Runs.{Item}
+use Rattle.office_engine.specs.Keeping.{IsKeptBy, Runs, Serves}
 use Rattle.std.proofs.lemmas.List.Sums.{sum_by-append}
 use Rattle.std.specs.Io.KnownBytes.{Appends, Consumes}
 use Rattle.desk_routes.specs.declared.refusal.DeskRefusal.TheVariants.{Truncated}
@@ -114,7 +113,7 @@ module _ {S : Type 0} (g : Ghosts S) (day : Date) where
       record {
         clean = it.clean rest.clean;
         runs = subst (λ (x : Item). Runs (state g old) (state g new) (x ∷ items_of more) (answer ∷ answers_of more)) all.1.3
-        (step_runs (state g old) (state g all.0) (state g new) it.item (items_of more) answer (answers_of more) (it.serves rest.clean) rest.runs);
+            (step_runs (state g old) (state g all.0) (state g new) it.item (items_of more) answer (answers_of more) (it.serves rest.clean) rest.runs);
       }
   ran (refused bytes refusal ∷ more) old new all clean =
       let rest = subst (λ (x : Held S). Ran more x new) all.1.1 (ran more all.0 new all.2 clean) in

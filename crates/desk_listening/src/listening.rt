@@ -34,10 +34,12 @@ pub fn serve_stream<S: Alter, C: Read + Write + OpenStream + Drop>(
 ) -> Result<(), DeskFault>
     ensures { (connection : Connection) × IsAfter S.Store day connection office.old office.new × Tells result connection }
 {
-    let Ok(Ends {
-        mut reader,
-        mut writer,
-    }) = Ends::of(stream, patience.talk)
+    let Ok(
+        Ends {
+            mut reader,
+            mut writer,
+        },
+    ) = Ends::of(stream, patience.talk)
     else {
         return Err(DeskFault::Read);
     };
@@ -66,7 +68,11 @@ fn serve_next<S: Alter, C: Read + Write + OpenStream + Drop, L: OpenListener<Str
 
 /// Serves so many connections on that day, one request each, one after the other. What fails in one
 /// ends that one alone.
-pub fn serve_connections<S: Alter, C: Read + Write + OpenStream + Drop, L: OpenListener<Stream = C>>(
+pub fn serve_connections<
+    S: Alter,
+    C: Read + Write + OpenStream + Drop,
+    L: OpenListener<Stream = C>,
+>(
     alloc: Global,
     office: &mut Office<S>,
     day: Day,
