@@ -2,8 +2,7 @@
 
 use std::alloc::Global;
 use std::io::{Read, Write};
-use std::net::{SocketAddr, Shutdown, TcpListener, TcpStream};
-use std::runtime::HostRuntime;
+use std::net::{Shutdown, SocketAddr, TcpListener, TcpStream};
 use std::test::Fail;
 use std::time::Duration;
 

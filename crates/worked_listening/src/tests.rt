@@ -2,7 +2,8 @@
 
 use crate::office::{opened, served};
 use crate::peers::{Peer, Then, all_of, listener};
-use desk_listening::{Counted, Drained, FailAt, Patience, Portion, Served, drain};
+use desk_listening::{Drained, Patience, Served, drain};
+use http_desk::{Counted, FailAt, Portion};
 use std::test::*;
 use std::time::Duration;
 
