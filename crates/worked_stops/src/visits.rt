@@ -63,35 +63,30 @@ fn go_over<S: Alter + Drop>(
 /// Fails where the rows are then others than after the steps that were accepted.
 fn visit_over<S: Alter + Drop>(
     alloc: Global,
-    conn: Connection<S>,
+    mut conn: Connection<S>,
     session: &Session,
 ) -> Result<(Option<Visit>, Connection<S>), Fail> {
-    let mut conn = conn;
     let Some(found) = place(alloc, &mut conn, session)? else {
         return Ok((None, conn));
     };
-    let (reached, conn) = go_over(alloc, conn, session, found)?;
+    let (reached, mut conn) = go_over(alloc, conn, session, found)?;
     let Some(reached) = reached else {
         return Ok((None, conn));
     };
-    let mut conn = conn;
     let shown = place(alloc, &mut conn, session)?;
-    let is_open = shown.is_some();
     if shown.unwrap_or(reached) != reached {
         return Err(Fail::new(format_args!("other rows after {reached} steps")));
     }
-    Ok((
-        Some(Visit {
-            found,
-            reached,
-            is_open,
-        }),
-        conn,
-    ))
+    let visit = Visit {
+        found,
+        reached,
+        is_open: shown.is_some(),
+    };
+    Ok((Some(visit), conn))
 }
 
-/// Opens the files, finds the office in them and goes on with the session; hands the files back as
-/// they are left, which are closed where the session comes to its end. `None` where the store fails
+/// Opens the files, finds the office in them and goes on with the session; hands the files back,
+/// closed where the rows can still be read, and else as they are left. `None` where the store fails
 /// before the next step.
 pub fn take<D: Disk + Drop>(
     alloc: Global,
