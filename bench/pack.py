@@ -44,11 +44,11 @@ def round_trip(folder, name, files):
     if pathlib.Path(written).read_bytes() != text.read_bytes():
         sys.exit(f"{name}: another form")
     memory = max(bench.peak(pack) for _ in range(3)) - 2 * size
-    print(f"pack {name}: {found:.2f} times tar -cf and sync (at most 1.5); memory: twice the form and {memory / 2**20:.1f} MiB (at most 8)")
+    print(f"pack {name}: {found:.2f} times tar -cf and sync (at most 2); memory: twice the form and {memory / 2**20:.1f} MiB (at most 8)")
     found = turns(unpack, [["tar", "-xf", archive, "-C", str(other)]], clear)
     clear()
     memory = bench.peak(unpack) - size
-    print(f"unpack {name}: {found:.2f} times tar -xf (at most 1.5); memory: the form and {memory / 2**20:.1f} MiB (at most 8)")
+    print(f"unpack {name}: {found:.2f} times tar -xf (at most 2); memory: the form and {memory / 2**20:.1f} MiB (at most 8)")
 
 
 def one_large_file(folder):

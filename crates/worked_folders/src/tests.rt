@@ -28,6 +28,14 @@ pub fn unpack_line(rt: &HostRuntime, file: &str, folder: &str) -> Result<Said, F
     Ok(unpack_said(rt.alloc(), unpack_here(rt, file, folder))?)
 }
 
+/// Makes the folder of a test, anew where an earlier run left one.
+pub fn begin(rt: &HostRuntime, folder: &str) -> io::Result<()> {
+    if fs::exists(rt, folder)? {
+        fs::remove_dir_all(rt, folder)?;
+    }
+    fs::create_dir(rt, folder)
+}
+
 /// Makes a folder with these files.
 pub fn lay(rt: &HostRuntime, folder: &str, files: &[File]) -> io::Result<()> {
     fs::create_dir_all(rt, folder)?;
@@ -43,62 +51,78 @@ pub fn lay(rt: &HostRuntime, folder: &str, files: &[File]) -> io::Result<()> {
 
 #[test]
 fn packs_and_unpacks_a_bag(rt: HostRuntime) -> Result<(), Fail> {
-    lay(&rt, "bag-a", BAG_FILES.as_slice())?;
-    let said = pack_line(&rt, "bag-a", "bag-a.bagset")?;
+    begin(&rt, "bag-and-back")?;
+    lay(&rt, "bag-and-back/bag-a", BAG_FILES.as_slice())?;
+    let said = pack_line(&rt, "bag-and-back/bag-a", "bag-and-back/bag-a.bagset")?;
     assert_eq!(rt; said.text.as_str(), "packed 3 files 210 bytes\n");
     assert!(rt; said.is_done);
-    assert_eq!(rt; fs::read(&rt, "bag-a.bagset")?.as_slice(), BAG);
-    let said = unpack_line(&rt, "bag-a.bagset", "copy")?;
+    assert_eq!(rt; fs::read(&rt, "bag-and-back/bag-a.bagset")?.as_slice(), BAG);
+    let said = unpack_line(&rt, "bag-and-back/bag-a.bagset", "bag-and-back/copy")?;
     assert_eq!(rt; said.text.as_str(), "unpacked 3 files\n");
     assert!(rt; said.is_done);
-    assert_eq!(rt; pack_here(&rt, "copy", "copy.bagset")?, PACKED);
-    assert_eq!(rt; fs::read(&rt, "copy.bagset")?.as_slice(), BAG);
+    assert_eq!(rt;
+        pack_here(&rt, "bag-and-back/copy", "bag-and-back/copy.bagset")?,
+        PACKED
+    );
+    assert_eq!(rt; fs::read(&rt, "bag-and-back/copy.bagset")?.as_slice(), BAG);
     // What stands there isn't touched.
-    let said = unpack_line(&rt, "bag-a.bagset", "copy")?;
+    let said = unpack_line(&rt, "bag-and-back/bag-a.bagset", "bag-and-back/copy")?;
     assert_eq!(rt; said.text.as_str(), "exists\n");
     assert!(rt; !said.is_done);
-    let said = unpack_line(&rt, "bag-a.bagset", "copy.bagset")?;
+    let said = unpack_line(&rt, "bag-and-back/bag-a.bagset", "bag-and-back/copy.bagset")?;
     assert_eq!(rt; said.text.as_str(), "exists\n");
-    assert_eq!(rt; fs::read(&rt, "copy.bagset")?.as_slice(), BAG);
-    assert_eq!(rt; unpack_here(&rt, "copy.bagset", "other")?, UNPACKED);
+    assert_eq!(rt; fs::read(&rt, "bag-and-back/copy.bagset")?.as_slice(), BAG);
+    assert_eq!(rt;
+        unpack_here(&rt, "bag-and-back/copy.bagset", "bag-and-back/other")?,
+        UNPACKED
+    );
+    fs::remove_dir_all(&rt, "bag-and-back")?;
     Ok(())
 }
 
 #[test]
 fn packs_what_was_worked_out(rt: HostRuntime) -> Result<(), Fail> {
+    begin(&rt, "folders")?;
     for worked in &WORKED_FOLDERS {
         let line = worked.line;
-        lay(&rt, "worked", worked.files)?;
-        fs::create_dir_all(&rt, "worked/empty/.folder")?;
-        let said = pack_line(&rt, "worked", "worked.bagset")?;
+        lay(&rt, "folders/worked", worked.files)?;
+        fs::create_dir_all(&rt, "folders/worked/empty/.folder")?;
+        let said = pack_line(&rt, "folders/worked", "folders/worked.bagset")?;
         assert_eq!(rt; said.text.as_str(), line);
         assert_eq!(rt;
-            fs::read(&rt, "worked.bagset")?.as_slice(),
+            fs::read(&rt, "folders/worked.bagset")?.as_slice(),
             worked.form,
             "{line}"
         );
         // A folder may be named with a slash behind it.
-        unpack_here(&rt, "worked.bagset", "unpacked")?;
-        pack_here(&rt, "unpacked/", "again.bagset")?;
+        unpack_here(&rt, "folders/worked.bagset", "folders/unpacked")?;
+        pack_here(&rt, "folders/unpacked/", "folders/again.bagset")?;
         assert_eq!(rt;
-            fs::read(&rt, "again.bagset")?.as_slice(),
+            fs::read(&rt, "folders/again.bagset")?.as_slice(),
             worked.form,
             "{line}"
         );
-        fs::remove_dir_all(&rt, "worked")?;
-        fs::remove_dir_all(&rt, "unpacked")?;
+        fs::remove_dir_all(&rt, "folders/worked")?;
+        fs::remove_dir_all(&rt, "folders/unpacked")?;
     }
+    fs::remove_dir_all(&rt, "folders")?;
     Ok(())
 }
 
 #[test]
 fn the_form_may_stand_in_the_folder(rt: HostRuntime) -> Result<(), Fail> {
-    lay(&rt, "inside", [("a", b"1".as_slice())].as_slice())?;
-    let said = pack_line(&rt, "inside", "inside/form")?;
+    begin(&rt, "form-inside")?;
+    lay(
+        &rt,
+        "form-inside/inside",
+        [("a", b"1".as_slice())].as_slice(),
+    )?;
+    let said = pack_line(&rt, "form-inside/inside", "form-inside/inside/form")?;
     assert_eq!(rt; said.text.as_str(), "packed 1 files 25 bytes\n");
     // Now it is one of the files.
-    let said = pack_line(&rt, "inside", "inside/form")?;
+    let said = pack_line(&rt, "form-inside/inside", "form-inside/inside/form")?;
     assert_eq!(rt; said.text.as_str(), "packed 2 files 65 bytes\n");
+    fs::remove_dir_all(&rt, "form-inside")?;
     Ok(())
 }
 
@@ -107,35 +131,39 @@ static TARGETS: [&str; 3] = ["data", "..", "nowhere"];
 
 #[test]
 fn follows_no_link(rt: HostRuntime) -> Result<(), Fail> {
+    begin(&rt, "links")?;
     // A file `data` clashes, which comes behind a name.
-    lay(&rt, "linked", [("data", b"".as_slice())].as_slice())?;
-    let said = pack_line(&rt, "linked", "linked.bagset")?;
+    lay(&rt, "links/linked", [("data", b"".as_slice())].as_slice())?;
+    let said = pack_line(&rt, "links/linked", "links/linked.bagset")?;
     assert_eq!(rt; said.text.as_str(), "unpackable S8\n");
     assert!(rt; !said.is_done);
-    fs::create_dir(&rt, "linked/folder")?;
+    fs::create_dir(&rt, "links/linked/folder")?;
     for target in &TARGETS {
-        symlink(&rt, *target, "linked/folder/link")?;
-        let said = pack_line(&rt, "linked", "linked.bagset")?;
+        symlink(&rt, *target, "links/linked/folder/link")?;
+        let said = pack_line(&rt, "links/linked", "links/linked.bagset")?;
         assert_eq!(rt; said.text.as_str(), "unpackable NAME\n", "{target}");
         assert!(rt; !said.is_done);
-        fs::remove_file(&rt, "linked/folder/link")?;
+        fs::remove_file(&rt, "links/linked/folder/link")?;
     }
-    assert!(rt; !fs::exists(&rt, "linked.bagset")?);
+    assert!(rt; !fs::exists(&rt, "links/linked.bagset")?);
+    fs::remove_dir_all(&rt, "links")?;
     Ok(())
 }
 
 #[test]
 fn refuses_what_is_no_form(rt: HostRuntime) -> Result<(), Fail> {
+    begin(&rt, "no-forms")?;
     for (text, line) in &UNREADABLE {
-        fs::write(&rt, "none.bagset", *text)?;
-        let said = unpack_line(&rt, "none.bagset", "none")?;
+        fs::write(&rt, "no-forms/none.bagset", *text)?;
+        let said = unpack_line(&rt, "no-forms/none.bagset", "no-forms/none")?;
         assert_eq!(rt; said.text.as_str(), *line);
         assert!(rt; !said.is_done);
-        assert!(rt; !fs::exists(&rt, "none")?, "{line}");
+        assert!(rt; !fs::exists(&rt, "no-forms/none")?, "{line}");
         // That comes before what stands there.
-        let said = unpack_line(&rt, "none.bagset", "none.bagset")?;
+        let said = unpack_line(&rt, "no-forms/none.bagset", "no-forms/none.bagset")?;
         assert_eq!(rt; said.text.as_str(), *line);
     }
+    fs::remove_dir_all(&rt, "no-forms")?;
     Ok(())
 }
 
