@@ -7,13 +7,17 @@ use http_desk::{Counted, FailAt, Portion};
 use std::test::*;
 use std::time::Duration;
 
-const NO_SUCH: &str = "HTTP/1.1 404 Not Found\r\nContent-Type: application/json\r\nContent-Length: 35\r\nConnection: close\r\n\r\n{\"error\":\"NoSuch\",\"what\":\"deposit\"}";
+const NO_SUCH: &str =
+    "HTTP/1.1 404 Not Found\r\nContent-Type: application/json\r\nContent-Length: 35\r\nConnection: close\r\n\r\n{\"error\":\"NoSuch\",\"what\":\"deposit\"}";
 
-const TRUNCATED: &str = "HTTP/1.1 400 Bad Request\r\nContent-Type: application/json\r\nContent-Length: 21\r\nConnection: close\r\n\r\n{\"error\":\"Truncated\"}";
+const TRUNCATED: &str =
+    "HTTP/1.1 400 Bad Request\r\nContent-Type: application/json\r\nContent-Length: 21\r\nConnection: close\r\n\r\n{\"error\":\"Truncated\"}";
 
-const TOO_LARGE: &str = "HTTP/1.1 413 Content Too Large\r\nContent-Type: application/json\r\nContent-Length: 20\r\nConnection: close\r\n\r\n{\"error\":\"TooLarge\"}";
+const TOO_LARGE: &str =
+    "HTTP/1.1 413 Content Too Large\r\nContent-Type: application/json\r\nContent-Length: 20\r\nConnection: close\r\n\r\n{\"error\":\"TooLarge\"}";
 
-const COLLECTION: &str = "HTTP/1.1 200 OK\r\nContent-Type: application/json\r\nContent-Length: 21\r\nConnection: close\r\n\r\n{\"collection\":\"maps\"}";
+const COLLECTION: &str =
+    "HTTP/1.1 200 OK\r\nContent-Type: application/json\r\nContent-Length: 21\r\nConnection: close\r\n\r\n{\"collection\":\"maps\"}";
 
 /// Asks for a deposit that isn't there.
 const ASKS: Peer = Peer {
@@ -67,10 +71,7 @@ const STOPS: Peer = Peer {
     ..SENDS_HALF
 };
 
-const SAYS_NOTHING: Peer = Peer {
-    sends: "",
-    ..STOPS
-};
+const SAYS_NOTHING: Peer = Peer { sends: "", ..STOPS };
 
 /// Goes on sending, though its answer is decided.
 const SENDS_TOO_MUCH: Peer = Peer {
@@ -86,21 +87,26 @@ const SENDS_MORE: Peer = Peer {
     ..STAYS
 };
 
-/// Peers that connect in this order, and how many of them are answered.
-static CALLS: [(&str, &[Peer], u32); 13] = [
-    ("nobody", &[], 0),
-    ("one asks", &[ASKS], 1),
-    ("one waits for its answer", &[STAYS], 1),
-    ("two in a row", &[DEFINES, ASKS], 2),
-    ("one goes without its answer", &[GOES, ASKS], 2),
-    ("one goes at once", &[GOES_AT_ONCE, ASKS], 2),
-    ("half a request", &[SENDS_HALF, ASKS], 2),
-    ("an input of nothing", &[SENDS_NOTHING, ASKS], 2),
-    ("one stops in mid-request", &[STOPS, ASKS], 1),
-    ("one says nothing", &[SAYS_NOTHING, ASKS], 1),
-    ("two say nothing", &[SAYS_NOTHING, ASKS, STOPS, DEFINES], 2),
-    ("a body too large", &[SENDS_TOO_MUCH, ASKS], 2),
-    ("more than a request", &[SENDS_MORE, ASKS], 2),
+/// Peers that connect in this order, how many of them are answered, and how many aren't.
+static CALLS: [(&str, &[Peer], u32, u32); 13] = [
+    ("nobody", &[], 0, 0),
+    ("one asks", &[ASKS], 1, 0),
+    ("one waits for its answer", &[STAYS], 1, 0),
+    ("two in a row", &[DEFINES, ASKS], 2, 0),
+    ("one goes without its answer", &[GOES, ASKS], 2, 0),
+    ("one goes at once", &[GOES_AT_ONCE, ASKS], 2, 0),
+    ("half a request", &[SENDS_HALF, ASKS], 2, 0),
+    ("an input of nothing", &[SENDS_NOTHING, ASKS], 2, 0),
+    ("one stops in mid-request", &[STOPS, ASKS], 1, 1),
+    ("one says nothing", &[SAYS_NOTHING, ASKS], 1, 1),
+    (
+        "two say nothing",
+        &[SAYS_NOTHING, ASKS, STOPS, DEFINES],
+        2,
+        2,
+    ),
+    ("a body too large", &[SENDS_TOO_MUCH, ASKS], 2, 0),
+    ("more than a request", &[SENDS_MORE, ASKS], 2, 0),
 ];
 
 /// Waits of a twentieth of a second.
@@ -117,7 +123,7 @@ fn peers_get_what_was_worked_out(rt: HostRuntime) -> Result<(), Fail> {
     let mut office = opened(rt.alloc())?;
     let listener = listener(&rt)?;
     let address = listener.local_addr()?;
-    for (name, peers, answered) in &CALLS {
+    for (name, peers, answered, failed) in &CALLS {
         let mut streams = Vec::new(rt.alloc());
         for peer in *peers {
             streams.push(peer.call(&rt, address)?)?;
@@ -126,7 +132,7 @@ fn peers_get_what_was_worked_out(rt: HostRuntime) -> Result<(), Fail> {
         let summary = served(rt.alloc(), &mut office, &listener, count, &short_patience())?;
         let want = Served {
             answered: *answered,
-            failed: count - *answered,
+            failed: *failed,
         };
         assert_eq!(rt; summary, want, "{name}");
         for (peer, stream) in peers.iter().zip(streams) {
