@@ -3,17 +3,17 @@
 
 Each case is measured beside the SQL statements alone that the request makes, in their order and in
 one transaction, through Python's sqlite3 (WAL, synchronous FULL). Prints a ratio for each case: of
-the medians of runs that take turns (RUNS=n, 7 if left out). `due` is a figure alone, and `large` a
-ratio of peak memory. The program crates/office_file, which makes the requests, has to be built; it
-doesn't count the opening of the file, and nor does the other side. Words behind `requests.py` name
-the cases that are run; with none, all are.
+the medians of runs that take turns (RUNS=n, 7 if left out). `due` is a figure alone, and `large`,
+`several` and `many` are ratios of peak memory. The program crates/office_file, which makes the
+requests, has to be built; it doesn't count the opening of the file, and nor does the other side.
+Words behind `requests.py` name the cases that are run; with none, all are.
 """
-import os
+import subprocess
 import sys
 import time
 
-from office_file import FILES, PROGRAM, copy, filled, main, opened, ours, put_bag, say, turns
-from office_file import PUT_DEPOSIT, PUT_FILE
+from office_file import FILE_OF, FILES, PROGRAM, PUT_DEPOSIT, PUT_FILE
+from office_file import copy, filled, main, opened, ours, put_bag, say, turns
 
 DEPOSIT = "SELECT number, accession, collection, class, closed, deposited, files, bytes, gone FROM deposit"
 HOLDS_ON_DEPOSIT = (
@@ -68,7 +68,8 @@ class Statements:
     def bag(self, number):
         self.row(number)
         self.asker()
-        self.rows("SELECT deposit, path, content FROM file WHERE deposit = ?1 ORDER BY path", number)
+        for (path,) in self.rows("SELECT path FROM file WHERE deposit = ?1 ORDER BY path", number):
+            self.rows(FILE_OF, number, path)
 
     def list(self, _number):
         self.asker()
@@ -136,37 +137,77 @@ def due(folder):
     print(f"due: {took / 1e6:.2f} seconds", flush=True)
 
 
+# Runs the program that its words name, and prints the most memory that it took, in bytes.
+WAIT = """
+import os, sys
+child = os.posix_spawn(
+    sys.argv[1],
+    sys.argv[1:],
+    os.environ,
+    file_actions=[(os.POSIX_SPAWN_OPEN, 1, os.devnull, os.O_WRONLY, 0)],
+)
+_, status, used = os.wait4(child, 0)
+if status != 0:
+    sys.exit(f"{sys.argv[2:]} ended with {status}")
+print(used.ru_maxrss * 1024)
+"""
+
+
 def peak(*words):
-    """The most memory that the program takes, in bytes."""
-    child = os.posix_spawn(
-        str(PROGRAM),
-        [str(PROGRAM), *map(str, words)],
-        os.environ,
-        file_actions=[(os.POSIX_SPAWN_OPEN, 1, os.devnull, os.O_WRONLY, 0)],
+    """The most memory that the program takes, in bytes. A small process starts it, since a process
+    counts as its own what the one that starts it holds."""
+    found = subprocess.run(
+        [sys.executable, "-c", WAIT, str(PROGRAM), *map(str, words)],
+        capture_output=True,
+        text=True,
     )
-    _, status, used = os.wait4(child, 0)
-    if status != 0:
-        sys.exit(f"{words} ended with {status}")
-    return used.ru_maxrss * 1024
+    if found.returncode != 0:
+        sys.exit(found.stderr)
+    return int(found.stdout)
 
 
-def large(folder):
-    """A download of 16 MiB: peak memory beside the same program's once it had opened the file."""
-    file = filled(folder, 100)
-    file = copy(file, "large.db")
+def peak_of(folder, name, count):
+    """A download of a bag of 16 MiB in so many payload files: peak memory beside the same program's
+    once it had opened the file."""
+    file = copy(filled(folder, 100), f"{name}.db")
     size = 16 * 1024 * 1024
-    content = b"r" * (size - sum(len(path) + len(it) for path, it in FILES) + len(FILES[1][1]) - 200)
+    tags = [it for it in FILES if it[0] != "data/record"]
+    # What is left for the contents of the payload, with some room for the headers of the form.
+    left = size - sum(len(path) + len(it) for path, it in tags) - 200 - 40 * count
+    content = b"r" * (left // count)
     conn = opened(file)
     conn.execute("DELETE FROM file")
     conn.execute("DELETE FROM deposit")
-    conn.execute(PUT_DEPOSIT, (1, "2026-0000001", "tax", "y10", 20454, 20500, 1, len(content)))
-    for path, it in FILES:
-        conn.execute(PUT_FILE, (1, path, content if path == "data/record" else it))
+    conn.execute(
+        PUT_DEPOSIT,
+        (1, "2026-0000001", "tax", "y10", 20454, 20500, count, count * len(content)),
+    )
+    for path, it in tags + [(f"data/record{n:04}", content) for n in range(count)]:
+        conn.execute(PUT_FILE, (1, path, it))
     conn.execute("PRAGMA wal_checkpoint(TRUNCATE)").fetchall()
     conn.close()
     opening = peak("ask-records", file, 0)
     whole = peak("ask-bags", file, 1)
-    print(f"large: {(whole - opening) / size:.2f} times 16 MiB above {opening / 2**20:.1f} MiB (at most 3)")
+    print(
+        f"{name}: {(whole - opening) / size:.2f} times 16 MiB above {opening / 2**20:.1f} MiB"
+        " (at most 3)",
+        flush=True,
+    )
+
+
+def large(folder):
+    """The peak memory of a download of 16 MiB in one file."""
+    peak_of(folder, "large", 1)
+
+
+def several(folder):
+    """The peak memory of a download of 16 MiB in sixteen files."""
+    peak_of(folder, "several", 16)
+
+
+def many(folder):
+    """The peak memory of a download of 16 MiB in 1,998 files."""
+    peak_of(folder, "many", 1_998)
 
 
 CASES = {
@@ -177,6 +218,8 @@ CASES = {
     "list": whole_list,
     "due": due,
     "large": large,
+    "several": several,
+    "many": many,
 }
 
 main(CASES)

@@ -1,0 +1,4 @@
+pub mod ServingLemmas
+pub mod ReplayLemmas
+pub mod RunLemmas
+pub mod RefusalLemmas

@@ -1,14 +1,17 @@
 -- What the statements on files do to the rows of an office.
-use Rattle.std.proofs.Common.{arith, ◌≡◌, ◌&&◌, ◌⊎◌, ap₂, not, bytes_eq, ℕ, ℤ, List, [], ◌∷◌, map, filter, slice_get, slice_index_or, ◌+◌, option_map, codes, Bool, true, false, None, Ok, Equal, Less, refl, sym, ap, subst, subst₂, ◌∙◌, inl, inr}
+use Rattle.std.proofs.Common.{arith, ◌≡◌, ◌&&◌, ◌⊎◌, ap₂, not, bytes_eq, ℕ, ℤ, List, [], ◌∷◌, ◌++◌, ◌<◌, map, filter, take, length, get_or, slice_get, slice_index_or, ◌+◌, option_map, codes, Bool, true, false, Option, None, Some, Ok, Ordering, Equal, Less, refl, sym, ap, subst, subst₂, ◌∙◌, inl, inr}
 use Rattle.std.specs.List.{AllByRecursion}
 use Rattle.std.specs.Ordering.{is_lt, is_eq, int_eq}
 use Rattle.std.specs.Cmp.{IsTotalOrder}
-use Rattle.std.specs.Cmp.Lexicographic.{on_texts}
+use Rattle.std.specs.Ordering.{nat_cmp}
+use Rattle.std.specs.Cmp.Lexicographic.{on_texts, slice_cmp}
+use Rattle.std.proofs.lemmas.List.{map_push, map_more}
 use Rattle.std.specs.List.Sorted.{IsPermutation, IsSorted}
 use Rattle.std.proofs.lemmas.Bool.{cases_Bool}
 use Rattle.std.proofs.lemmas.Cmp.{tied_itself}
 use Rattle.std.proofs.lemmas.Map.Text.{is_eq-slice_cmp}
-use Rattle.std.proofs.lemmas.List.Sorted.{IsPermutation-map, All-permutation}
+use Rattle.std.proofs.lemmas.List.Sorted.{IsPermutation-map, IsPermutation-sym, All-permutation}
+use Rattle.std.proofs.lemmas.Slice.Eq.{bytes_eq-Decides}
 use Rattle.std.proofs.lemmas.List.Elements.{recursion_from_All, All-from_recursion}
 use Rattle.sqlite.specs.declared.types.Value.TheVariants.{Null, Int, Text, Blob}
 use Rattle.sqlite.specs.Order.{Row, column, value_cmp}
@@ -28,11 +31,13 @@ use Rattle.sqlite_value.specs.Keys.{first_key, plain}
 use Rattle.sqlite_value.proofs.OrderLemmas.{then-Equal, value_cmp-Text, value_cmp_total}
 use Rattle.sqlite_exec.proofs.RowsLemmas.{IsSorted-map}
 use Rattle.sqlite_keyed.specs.Lists.{sort_by}
-use Rattle.sqlite_keyed.proofs.SortLemmas.{sorted_is-sort_by}
+use Rattle.sqlite_keyed.proofs.SortLemmas.{sorted_is-sort_by, sort_by-map, IsPermutation-sort_by}
+use Rattle.sqlite_keyed.proofs.KeyedLemmas.{same_int as same_number}
+use Rattle.sqlite_trees.proofs.ListLemmas.{all-permutation}
 use Rattle.sqlite_keyed.proofs.ListLemmas.{ascending-map, ascending-filter, all_map, map-map, filter-map}
 use Rattle.sqlite_rules.specs.Lists.{Has}
 use Rattle.sqlite_rules.specs.Calls.{ids_of}
-use Rattle.sqlite_rules.proofs.ListLemmas.{all_has, all_from, has_filtered}
+use Rattle.sqlite_rules.proofs.ListLemmas.{all_has, all_from, has_filtered, has_kept, has_found}
 use Rattle.sqlite_rules.proofs.KeyLemmas.{agree_back, agree_chain}
 use Rattle.sqlite_schema.specs.declared.schema.Constraint.TheVariants.{Datatype, NotNull, Unique}
 use Rattle.sqlite_schema.specs.declared.schema.Keys.TheVariants.{Enforced}
@@ -50,9 +55,9 @@ use Rattle.sql_meaning.proofs.Changing.{drops}
 use Rattle.office_tables.specs.Schema.{office_schema, file_table, needed}
 use Rattle.office_rows.specs.Rows.{FileRow, is_file_of, is_file_at, file_at, with_file, without_files}
 use Rattle.office_tables.specs.Tables.{IsOffice, Becomes, tables_of, file_in}
-use Rattle.office_tables.specs.Deposits.{shown_file, path_cmp, files_by_path}
+use Rattle.office_tables.specs.Deposits.{shown_path, path_cmp, files_by_path}
 use Rattle.office_tables.proofs.Frames.{idle, becomes}
-use Rattle.office_tables.proofs.FileTexts.{by_deposit, by_place, by_path, content_text, content_column, asks_content, files_text, file_columns, asks_files, put_text, put_terms, put_means, drop_text, rowid_column, drop_means}
+use Rattle.office_tables.proofs.FileTexts.{by_deposit, by_place, by_path, content_text, content_column, asks_content, paths_text, path_column, asks_paths, put_text, put_terms, put_means, drop_text, rowid_column, drop_means}
 
 -- a stored file, as the rules of its table leave it
 abbrev IsFileRow : Row → Type 0
@@ -173,42 +178,51 @@ drops_files old new n count office h =
     let others_stay = sym (filter-map (λ f. not (is_file_of n f)) file_in (db 10)) in
     becomes old new (edit_of db file_table (ids_of done.answer) Given 0 []) count _ office.shaped done.change _ (ap (λ rows. record (tables_of old.now) { files = rows }) (ap (map file_in) done.made ∙ others_stay))
 
--- ---- the files of a deposit, by path
+-- ---- the paths of the files of a deposit
 
 ascending_has : (R S : Row → Row → Type 0) (xs : List Row) → ((a b : Row) → Has xs a → Has xs b → R a b → S a b) → IsAscending R xs → IsAscending S xs
 ascending_has R S [] each up = tt
 ascending_has R S (x ∷ xs) each up = (all_from _ xs (λ y there. each x y (inl refl) (inr there) (all_has _ xs y up.0 there)), ascending_has R S xs (λ a b ha hb. each a b (inr ha) (inr hb)) up.1)
 
-abbrev shown_by : Row × Row → FileRow
-shown_by o = shown_file o.1
+abbrev text_cmp : List ℕ → List ℕ → Ordering
+text_cmp = slice_cmp nat_cmp
+
+abbrev path_in : Row → List ℕ
+path_in r = bytes_at r 2
+
+abbrev shown_by : Row × Row → List ℕ
+shown_by o = shown_path o.1
 
 -- what the row is sorted by is its path
 abbrev IsByPath : Row × Row → Type 0
-IsByPath o = column o.0 0 ≡ Text (shown_by o).path
+IsByPath o = column o.0 0 ≡ Text (shown_by o)
 
-sorted_paths : (os : List (Row × Row)) → AllByRecursion IsByPath os → IsSorted (output_cmp (scan 10 by_deposit file_columns by_path)) os → IsSorted path_cmp (map shown_by os)
+sorted_paths : (os : List (Row × Row)) → AllByRecursion IsByPath os → IsSorted (output_cmp (scan 10 by_deposit path_column by_path)) os → IsSorted text_cmp (map shown_by os)
 sorted_paths os typed up = sorted_map (λ k d low high.
     let a = slice_index_or os (k + 1) d in
     let b = slice_index_or os k d in
     let ta : IsByPath a = All-from_recursion IsByPath os typed (k + 1) d (omega arith) in
     let tb : IsByPath b = All-from_recursion IsByPath os typed k d (omega arith) in
-    let same : output_cmp (scan 10 by_deposit file_columns by_path) a b ≡ path_cmp (shown_by a) (shown_by b) =
-    then-Equal (value_cmp (column a.0 0) (column b.0 0)) ∙ subst₂ (λ v w. value_cmp v w ≡ path_cmp (shown_by a) (shown_by b)) (sym ta) (sym tb) (value_cmp-Text (shown_by a).path (shown_by b).path) in
+    let same : output_cmp (scan 10 by_deposit path_column by_path) a b ≡ text_cmp (shown_by a) (shown_by b) =
+    then-Equal (value_cmp (column a.0 0) (column b.0 0)) ∙ subst₂ (λ v w. value_cmp v w ≡ text_cmp (shown_by a) (shown_by b)) (sym ta) (sym tb) (value_cmp-Text (shown_by a) (shown_by b)) in
     subst (λ o. is_lt o ≡ false) same (up k d low high))
   where
-    sorted_map : IsSorted (λ a b. path_cmp (shown_by a) (shown_by b)) os → IsSorted path_cmp (map shown_by os)
-    sorted_map = IsSorted-map path_cmp shown_by os
+    sorted_map : IsSorted (λ a b. text_cmp (shown_by a) (shown_by b)) os → IsSorted text_cmp (map shown_by os)
+    sorted_map = IsSorted-map text_cmp shown_by os
+
+text_total : IsTotalOrder text_cmp
+text_total = on_texts (λ (t : List ℕ). t)
 
 path_total : IsTotalOrder path_cmp
 path_total = on_texts (λ (f : FileRow). f.path)
 
 -- two files of one deposit have two paths
 untied : (db : Database) → IsOffice db → (n : ℤ) (a b : Row) → Has (db.trees 10) a × (has_deposit n a ≡ true) → Has (db.trees 10) b × (has_deposit n b ≡ true) → value_cmp (rowid a) (rowid b) ≡ Less
-    → is_eq (path_cmp (file_in a) (file_in b)) ≡ false
-untied db office n a b ha hb below = elim (cases_Bool (is_eq (path_cmp (file_in a) (file_in b)))) [
+    → is_eq (text_cmp (path_in a) (path_in b)) ≡ false
+untied db office n a b ha hb below = elim (cases_Bool (is_eq (text_cmp (path_in a) (path_in b)))) [
   | inl tie ↦ absurd (
       let alike : bytes_eq (bytes_at a 2) (bytes_at b 2) ≡ true = sym (is_eq-slice_cmp (bytes_at a 2) (bytes_at b 2)) ∙ tie in
-      let itself : bytes_eq (bytes_at b 2) (bytes_at b 2) ≡ true = sym (is_eq-slice_cmp (bytes_at b 2) (bytes_at b 2)) ∙ ap is_eq (sym (value_cmp-Text (bytes_at b 2) (bytes_at b 2)) ∙ tied_itself value_cmp_total (Text (bytes_at b 2))) in
+      let itself : bytes_eq (bytes_at b 2) (bytes_at b 2) ≡ true = bytes_itself (bytes_at b 2) in
       let one : a ≡ b = one_file db office n (bytes_at b 2) a b ha.0 hb.0 (rw (ha.1, alike) refl) (rw (hb.1, itself) refl) in
       let equal_is : value_cmp (rowid a) (rowid a) ≡ Equal = tied_itself value_cmp_total (rowid a) in
       let less : value_cmp (rowid a) (rowid a) ≡ Less = subst (λ x. value_cmp (rowid a) (rowid x) ≡ Less) (sym one) below in
@@ -216,13 +230,13 @@ untied db office n a b ha hb below = elim (cases_Bool (is_eq (path_cmp (file_in 
   | inr apart ↦ apart
 ]
 
-pub lists_files : (old new : State) (n : ℤ) (rows : List Row) → IsOffice old.now → Shown files_text (Int n ∷ []) old new rows
-    → (new.now ≡ old.now) × (files_by_path n (tables_of old.now) ≡ map shown_file rows)
-lists_files old new n rows office h =
+pub lists_paths : (old new : State) (n : ℤ) (rows : List Row) → IsOffice old.now → Shown paths_text (Int n ∷ []) old new rows
+    → (new.now ≡ old.now) × (map (λ (f : FileRow). f.path) (files_by_path n (tables_of old.now)) ≡ map shown_path rows)
+lists_paths old new n rows office h =
     let params : Row = Int n ∷ [] in
     let db = old.now.trees in
-    let q = scan 10 by_deposit file_columns by_path in
-    let found = reads_scan office_schema files_text 10 by_deposit file_columns by_path asks_files params old new office.schema_is rows h in
+    let q = scan 10 by_deposit path_column by_path in
+    let found = reads_scan office_schema paths_text 10 by_deposit path_column by_path asks_paths params old new office.schema_is rows h in
     let typed = file_rows old.now office in
     let keep = has_deposit n in
     let kept = filter keep (db 10) in
@@ -232,15 +246,93 @@ lists_files old new n rows office h =
     let typed_out : AllByRecursion IsByPath (map out kept) = all_map IsByPath out kept (all_from (λ r. IsByPath (out r)) kept (λ r there. (all_has IsFileRow (db 10) r typed (has_filtered keep (db 10) r there).0).1)) in
     let typed_ordered : AllByRecursion IsByPath found.ordered = recursion_from_All IsByPath found.ordered (All-permutation IsByPath (map out kept) found.ordered same (All-from_recursion IsByPath (map out kept) typed_out)) in
     let up = sorted_paths found.ordered typed_ordered found.sorted in
-    let as_files : map shown_by (map out kept) ≡ map file_in kept = map-map shown_by out kept in
-    let moved : IsPermutation (map file_in kept) (map shown_by found.ordered) = subst (λ xs. IsPermutation xs (map shown_by found.ordered)) as_files (IsPermutation-map shown_by (map out kept) found.ordered same) in
-    let apart : IsAscending (λ a b. is_eq (path_cmp (file_in a) (file_in b)) ≡ false) kept = ascending_has (λ a b. value_cmp (rowid a) (rowid b) ≡ Less) (λ a b. is_eq (path_cmp (file_in a) (file_in b)) ≡ false) kept
+    let as_paths : map shown_by (map out kept) ≡ map path_in kept = map-map shown_by out kept in
+    let moved : IsPermutation (map path_in kept) (map shown_by found.ordered) = subst (λ xs. IsPermutation xs (map shown_by found.ordered)) as_paths (IsPermutation-map shown_by (map out kept) found.ordered same) in
+    let apart : IsAscending (λ a b. is_eq (text_cmp (path_in a) (path_in b)) ≡ false) kept = ascending_has (λ a b. value_cmp (rowid a) (rowid b) ≡ Less) (λ a b. is_eq (text_cmp (path_in a) (path_in b)) ≡ false) kept
     (λ a b ha hb below. untied old.now office n a b (has_filtered keep (db 10) a ha) (has_filtered keep (db 10) b hb) below)
     (ascending-filter (λ a b. value_cmp (rowid a) (rowid b) ≡ Less) keep (db 10) office.shaped.1.1.1.1.1.1.0.0) in
-    let distinct = ascending-map (λ f g. is_eq (path_cmp f g) ≡ false) file_in kept apart in
-    let sorted_is : map shown_by found.ordered ≡ sort_by path_cmp (map file_in kept) = sorted_is-sort_by path_cmp path_total (map file_in kept) (map shown_by found.ordered) distinct moved up in
-    let typed_list : filter (is_file_of n) (map file_in (db 10)) ≡ map file_in kept = filter-map (is_file_of n) file_in (db 10) in
-    let rows_are : map shown_file rows ≡ map shown_by found.ordered = ap (map shown_file) found.shown ∙ map-map shown_file (λ (o : Row × Row). o.1) found.ordered in (
-      reads_same office_schema files_text 10 by_deposit file_columns by_path asks_files params old new office.schema_is rows h,
-      ap (sort_by path_cmp) typed_list ∙ sym sorted_is ∙ sym rows_are,
+    let distinct = ascending-map (λ s t. is_eq (text_cmp s t) ≡ false) path_in kept apart in
+    let sorted_is : map shown_by found.ordered ≡ sort_by text_cmp (map path_in kept) = sorted_is-sort_by text_cmp text_total (map path_in kept) (map shown_by found.ordered) distinct moved up in
+    let files = filter (is_file_of n) (map file_in (db 10)) in
+    let paths_are : map (λ (f : FileRow). f.path) files ≡ map path_in kept = ap (map (λ (f : FileRow). f.path)) (filter-map (is_file_of n) file_in (db 10)) ∙ map-map (λ (f : FileRow). f.path) file_in kept in
+    let in_order : map (λ (f : FileRow). f.path) (sort_by path_cmp files) ≡ sort_by text_cmp (map path_in kept) = sym (sort_by-map text_cmp (λ (f : FileRow). f.path) files) ∙ ap (sort_by text_cmp) paths_are in
+    let rows_are : map shown_path rows ≡ map shown_by found.ordered = ap (map shown_path) found.shown ∙ map-map shown_path (λ (o : Row × Row). o.1) found.ordered in (
+      reads_same office_schema paths_text 10 by_deposit path_column by_path asks_paths params old new office.schema_is rows h,
+      in_order ∙ sym sorted_is ∙ sym rows_are,
     )
+
+-- ---- the files at these paths
+
+same_file : (d e : ℤ) (p q b c : List ℕ) → d ≡ e → p ≡ q → b ≡ c → ◌≡◌ {A = FileRow} (record { deposit = d; path = p; content = b }) (record { deposit = e; path = q; content = c })
+same_file d e p q b c number place content = rw (number, place, content) refl
+
+is_found : (n : ℤ) (path : List ℕ) (files : List FileRow) (x : FileRow) (found : Option FileRow) → file_at n path files ≡ found → x.deposit ≡ n → x.path ≡ path
+    → Some x.content ≡ option_map (λ (f : FileRow). f.content) found → Some x ≡ found
+is_found n path files x None is number place content = absurd cc
+is_found n path files x (Some f) is number place content =
+    let its_content : x.content ≡ f.content = cc in
+    let passed : is_file_at n path f ≡ true = (has_found (is_file_at n path) files f is).1 in
+    let its_number : f.deposit ≡ n = same_number f.deposit n (first_of (is_file_of n f) (bytes_eq f.path path) passed) in
+    let its_path : f.path ≡ path = (bytes_eq-Decides f.path path).0 (second_of (is_file_of n f) (bytes_eq f.path path) passed) in
+    ap Some (same_file x.deposit f.deposit x.path f.path x.content f.content (number ∙ sym its_number) (place ∙ sym its_path) its_content)
+
+-- a file of that number, that path and the content that is found there is the one that is there
+pub finds_file : (n : ℤ) (path : List ℕ) (files : List FileRow) (x : FileRow) → x.deposit ≡ n → x.path ≡ path
+    → Some x.content ≡ option_map (λ (f : FileRow). f.content) (file_at n path files) → Some x ≡ file_at n path files
+finds_file n path files x number place content = is_found n path files x (file_at n path files) refl number place content
+
+-- one path more
+pub finds_next : (find : Row → Option FileRow) (rows : List Row) (i : ℕ) (row : Row) (files : List FileRow) (x : FileRow) → row ≡ get_or rows i row → i < length rows
+    → map Some files ≡ map find (take i rows) → Some x ≡ find row → map Some (files ++ x ∷ []) ≡ map find (take (i + 1) rows)
+finds_next find rows i row files x is low before here =
+    map_push Some files x ∙ ap₂ (λ xs y. xs ++ y ∷ []) before (here ∙ ap find is) ∙ sym (map_more find rows i row low)
+
+some_back : (xs ys : List FileRow) → map Some xs ≡ map Some ys → xs ≡ ys
+some_back [] [] h = refl
+some_back [] (y ∷ ys) h = absurd cc
+some_back (x ∷ xs) [] h = absurd cc
+some_back (x ∷ xs) (y ∷ ys) h =
+    let same : x ≡ y = cc in
+    let rest : map Some xs ≡ map Some ys = cc in
+    ap₂ ◌∷◌ same (some_back xs ys rest)
+
+map_each : (f g : FileRow → Option FileRow) (xs : List FileRow) → AllByRecursion (λ x. f x ≡ g x) xs → map f xs ≡ map g xs
+map_each f g [] all = refl
+map_each f g (x ∷ xs) all = ap₂ ◌∷◌ all.0 (map_each f g xs all.1)
+
+module _ (db : Database) (office : IsOffice db) (n : ℤ) where
+  abbrev stored : List Row
+  stored = db.trees 10
+
+  abbrev IsFound : FileRow → Type 0
+  IsFound f = file_at n f.path (tables_of db).files ≡ Some f
+
+  -- a file of the deposit is the one at its path
+  found_there : (r : Row) → Has stored r → has_deposit n r ≡ true → IsFound (file_in r)
+  found_there r there keeps =
+      let path = bytes_at r 2 in
+      let its_path : bytes_eq path path ≡ true = bytes_itself path in
+      let placed : has_place n path r ≡ true = rw (keeps, its_path) refl in
+      let first = found_by (is_file_at n path) (has_place n path) file_in stored (all_from _ stored (λ r there. refl)) in
+      elim (few_files db office n path) [
+        | inl none ↦ absurd (subst (λ rs. Has rs r) none (has_kept (has_place n path) stored r there placed))
+        | inr (other, kept, passes, only) ↦ first ∙ ap (λ rs. option_map file_in (slice_get rs 0)) only ∙ ap (λ x. Some (file_in x)) (one_file db office n path other r kept there passes placed)
+      ]
+
+  each_found : AllByRecursion IsFound (files_by_path n (tables_of db))
+  each_found =
+      let kept = filter (has_deposit n) stored in
+      let files = filter (is_file_of n) (map file_in stored) in
+      let all_kept : AllByRecursion IsFound (map file_in kept) = all_map IsFound file_in kept (all_from (λ r. IsFound (file_in r)) kept (λ r there. let it = has_filtered (has_deposit n) stored r there in found_there r it.0 it.1)) in
+      let all_files : AllByRecursion IsFound files = subst (AllByRecursion IsFound) (sym (filter-map (is_file_of n) file_in stored)) all_kept in
+      all-permutation IsFound files (sort_by path_cmp files) (IsPermutation-sym (sort_by path_cmp files) files (IsPermutation-sort_by path_cmp path_total files)) all_files
+
+  -- the files at the paths of the deposit's files are these files
+  pub gathers_files : (rows : List Row) (files : List FileRow) → map (λ (f : FileRow). f.path) (files_by_path n (tables_of db)) ≡ map shown_path rows
+      → map Some files ≡ map (λ row. file_at n (shown_path row) (tables_of db).files) rows → files ≡ files_by_path n (tables_of db)
+  gathers_files rows files paths found =
+      let all = files_by_path n (tables_of db) in
+      let at : List ℕ → Option FileRow = λ path. file_at n path (tables_of db).files in
+      let by_rows : map at (map shown_path rows) ≡ map (λ row. at (shown_path row)) rows = map-map at shown_path rows in
+      let by_paths : map at (map (λ (f : FileRow). f.path) all) ≡ map (λ f. at f.path) all = map-map at (λ (f : FileRow). f.path) all in
+      some_back files all (found ∙ sym by_rows ∙ ap (map at) (sym paths) ∙ by_paths ∙ map_each (λ f. at f.path) Some all each_found)

@@ -38,15 +38,15 @@ pub asks_content : Asks office_schema content_text 10 by_place content_column []
 unfolding understood everything
 asks_content = record { names = codes "content" ∷ []; command = refl; unlisted = refl; plain = (refl, refl) }
 
-abbrev pub files_text : List ℕ
-files_text = codes "SELECT deposit, path, content FROM file WHERE deposit = ?1 ORDER BY path"
+abbrev pub paths_text : List ℕ
+paths_text = codes "SELECT path FROM file WHERE deposit = ?1 ORDER BY path"
 
-abbrev pub file_columns : List Term
-file_columns = col 1 1 ∷ col 1 2 ∷ col 1 3 ∷ []
+abbrev pub path_column : List Term
+path_column = col 1 2 ∷ []
 
-pub asks_files : Asks office_schema files_text 10 by_deposit file_columns by_path
+pub asks_paths : Asks office_schema paths_text 10 by_deposit path_column by_path
 unfolding understood everything
-asks_files = record { names = codes "deposit" ∷ codes "path" ∷ codes "content" ∷ []; command = refl; unlisted = refl; plain = (refl, refl) }
+asks_paths = record { names = codes "path" ∷ []; command = refl; unlisted = refl; plain = (refl, refl) }
 
 -- ---- writes
 

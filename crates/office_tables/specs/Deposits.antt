@@ -1,5 +1,5 @@
 -- The rows that the queries on deposits and files show, the order of paths, and what a deposit that was added tells.
-use Rattle.std.specs.Prelude.{ℤ, pos, List, None, IsTrue, ◌≡◌}
+use Rattle.std.specs.Prelude.{ℕ, ℤ, pos, List, None, IsTrue, ◌≡◌}
 use Rattle.std.specs.Ordering.{nat_cmp}
 use Rattle.std.specs.Cmp.Lexicographic.{slice_cmp}
 use Rattle.std.specs.declared.cmp.Ordering.{Ordering}
@@ -24,8 +24,8 @@ shown_deposit row = record {
   gone = maybe_int_at row 8;
 }
 
-abbrev pub shown_file : Row → FileRow
-shown_file row = record { deposit = int_at row 0; path = bytes_at row 1; content = bytes_at row 2 }
+abbrev pub shown_path : Row → List ℕ
+shown_path row = bytes_at row 0
 
 -- byte by byte
 abbrev pub path_cmp : FileRow → FileRow → Ordering

@@ -1,11 +1,11 @@
 //! The files of deposits.
 
-ghost use Rattle.std.specs.Prelude.{◌≡◌, IfOk, IfErr, None, pos, map, option_map, slice_get};
+ghost use Rattle.std.specs.Prelude.{◌≡◌, IfErr, None, Some, pos, map, option_map, slice_get};
 ghost use Rattle.sql_meaning.specs.Columns.{bytes_at};
 ghost use Rattle.office_tables.specs.Faults.{IsFailure};
 ghost use Rattle.office_rows.specs.Rows.{file_at, with_file, without_files};
-ghost use Rattle.office_tables.specs.Calls.{CommitsNothing, Continues, Keeps, Tells, Shows, Writes};
-ghost use Rattle.office_tables.specs.Deposits.{shown_file, files_by_path};
+ghost use Rattle.office_tables.specs.Calls.{CommitsNothing, Continues, ContinuesInTurn, Keeps, Tells, Shows, Writes};
+ghost use Rattle.office_tables.specs.Deposits.{shown_path, files_by_path};
 
 use crate::fault::TableFault;
 use crate::run::{ask, change};
@@ -116,44 +116,67 @@ pub fn drop_files<S: Alter>(tx: &mut Transaction<'_, S>, number: u32) -> Result<
     Ok(())
 }
 
-/// The file that a row shows.
-fn file_in(row: &Row) -> Result<FileRow, TableFault>
-    ensures shown { IfOk result (λ file. file ≡ shown_file row.now) }
-    ensures failure { IfErr result IsFailure }
-{
-    Ok(FileRow {
-        deposit: row.get(0)?,
-        path: row.get(1)?,
-        content: row.get(2)?,
-    })
-}
-
-/// The files that the rows show.
-fn files_in(alloc: Global, rows: &[Row]) -> Result<Vec<FileRow>, TableFault>
-    ensures shown { IfOk result (λ all. all.items ≡ map shown_file rows.now) }
-    ensures failure { IfErr result IsFailure }
-{
-    let mut all = Vec::new(alloc);
-    for row in rows {
-        all.push(file_in(row)?)?;
-    }
-    Ok(all)
-}
-
-/// The rows that show the files of the deposit, ascending by path.
-fn rows_of_files<S: Alter>(tx: &mut Transaction<'_, S>, number: u32) -> Result<Vec<Row>, TableFault>
+/// The rows that show the paths of the files of the deposit, ascending.
+fn rows_of_paths<S: Alter>(tx: &mut Transaction<'_, S>, number: u32) -> Result<Vec<Row>, TableFault>
     ensures same_reference { tx.new.conn.ghost_name ≡ tx.old.conn.ghost_name }
     ensures stays { CommitsNothing S.Store tx.old.conn.now tx.new.conn.now }
     ensures goes_on { Continues S.Store tx.old.conn.now tx.new.conn.now result }
     ensures failure { IfErr result IsFailure }
     ensures found { Shows S.Store tx.old.conn.now tx.new.conn.now result (λ tables rows.
-        files_by_path (pos number) tables ≡ map shown_file rows.items) }
+        map (λ f. f.path) (files_by_path (pos number) tables) ≡ map shown_path rows.items) }
 {
     ask(
         tx,
-        "SELECT deposit, path, content FROM file WHERE deposit = ?1 ORDER BY path",
+        "SELECT path FROM file WHERE deposit = ?1 ORDER BY path",
         params![number],
     )
+}
+
+/// The file of the deposit at the path that a row shows.
+fn file_at<S: Alter>(
+    tx: &mut Transaction<'_, S>,
+    number: u32,
+    row: &Row,
+) -> Result<FileRow, TableFault>
+    ensures same_reference { tx.new.conn.ghost_name ≡ tx.old.conn.ghost_name }
+    ensures stays { CommitsNothing S.Store tx.old.conn.now tx.new.conn.now }
+    ensures goes_on { Continues S.Store tx.old.conn.now tx.new.conn.now result }
+    ensures failure { IfErr result IsFailure }
+    ensures same { Keeps S.Store tx.old.conn.now tx.new.conn.now result }
+    ensures found { Tells S.Store tx.old.conn.now tx.new.conn.now result (λ tables file.
+        Some file ≡ file_at (pos number) (shown_path row.now) tables.files) }
+{
+    let path: String = row.get(0)?;
+    match file_of(tx, number, &path)? {
+        Some(content) => Ok(FileRow {
+            deposit: number,
+            path,
+            content,
+        }),
+        None => Err(TableFault::Store),
+    }
+}
+
+/// The files of the deposit at the paths that the rows show, read one after another: the store holds
+/// a row that it shows several times over.
+fn files_at<S: Alter>(
+    alloc: Global,
+    tx: &mut Transaction<'_, S>,
+    number: u32,
+    rows: &[Row],
+) -> Result<Vec<FileRow>, TableFault>
+    ensures same_reference { tx.new.conn.ghost_name ≡ tx.old.conn.ghost_name }
+    ensures stays { CommitsNothing S.Store tx.old.conn.now tx.new.conn.now }
+    ensures goes_on { ContinuesInTurn S.Store tx.old.conn.now tx.new.conn.now result }
+    ensures failure { IfErr result IsFailure }
+    ensures found { Shows S.Store tx.old.conn.now tx.new.conn.now result (λ tables files.
+        map Some files.items ≡ map (λ row. file_at (pos number) (shown_path row) tables.files) rows.now) }
+{
+    let mut files = Vec::with_capacity(alloc, rows.len())?;
+    for row in rows {
+        files.push(file_at(tx, number, row)?)?;
+    }
+    Ok(files)
 }
 
 /// The files of the deposit of that number, ascending by path, byte by byte.
@@ -172,6 +195,6 @@ pub fn files_of<S: Alter>(
     ensures found { Tells S.Store tx.old.conn.now tx.new.conn.now result (λ tables all.
         all.items ≡ files_by_path (pos number) tables) }
 {
-    let rows = rows_of_files(tx, number)?;
-    files_in(alloc, &rows)
+    let rows = rows_of_paths(tx, number)?;
+    files_at(alloc, tx, number, &rows)
 }

@@ -1,0 +1,36 @@
+//! Laws of the definitions alone.
+
+ghost use Rattle.std.specs.Prelude.{◌≡◌, ℕ, Bool, List, Err};
+ghost use Rattle.jiff.specs.Types.{Date};
+ghost use Rattle.sqlite.specs.Held.{Held};
+ghost use Rattle.desk_records.specs.RecordLists.{RequestRecord};
+ghost use Rattle.desk_routes.specs.declared.refusal.DeskRefusal.{DeskRefusal};
+ghost use Rattle.desk_hearing.specs.Hearing.{Hears};
+ghost use Rattle.desk_answers.specs.Answers.{refusal_text};
+ghost use Rattle.http_desk.specs.Replaying.{AnswersEach};
+ghost use Rattle.http_desk.specs.ReplayRuns.{RunsEach};
+ghost use Rattle.http_desk.specs.Serving.{IsAnswered};
+
+use sqlite::Alter;
+
+pub use desk_answers::laws::{
+    allowed_methods, ascending_keys, content_lengths, responses, statuses,
+};
+pub use desk_hearing::laws::{longer_input, one_hearing, spelled_requests};
+pub use desk_records::laws::{last_record, one_list, one_reading, wanted_bytes};
+
+/// Bytes that the desk refuses are answered by the text of that refusal, and leave the office as it
+/// is.
+pub fn refusals_change_nothing<S: Alter>()
+    ensures { (done : Bool) (day : Date) (bytes text : List ℕ) (refusal : DeskRefusal) (old new : Held S)
+        → Hears bytes (Err refusal) → IsAnswered S.Store done day bytes old new text
+        → (new ≡ old) × (text ≡ refusal_text refusal) }
+{}
+
+/// Records that are answered, one after the other, are a run of the office that asks what is heard of
+/// them: whichever legal history the tables picture before, they picture the history that this run
+/// makes of it behind the last record.
+pub fn replays_are_runs<S: Alter>()
+    ensures { (old new : Held S) (items : List RequestRecord) (texts : List (List ℕ))
+        → AnswersEach S.Store old items texts new → RunsEach S.Store old new items texts }
+{}

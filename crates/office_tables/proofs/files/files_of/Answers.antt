@@ -1,0 +1,22 @@
+use Rattle.std.proofs.Common.{◌≡◌, arith, pos, map, Some, sym, subst}
+use Rattle.sqlite.specs.Effect.{Database}
+use Rattle.sqlite.specs.State.{HasCleanDisk}
+use Rattle.sqlite.specs.Held.{state}
+use Rattle.sql_meaning.proofs.Results.{if_ok}
+use Rattle.office_rows.specs.Rows.{file_at}
+use Rattle.office_tables.specs.Tables.{IsOffice, tables_of}
+use Rattle.office_tables.specs.Deposits.{shown_path}
+use Rattle.office_tables.proofs.FileLemmas.{gathers_files}
+use Rattle.office_tables.proofs.files.files_of.Goals as goal
+
+pub returns-clause-found : goal.returns-clause-found
+returns-clause-found g c clean office =
+    let old = state g.S.Store c.args.tx.now.conn.now in
+    let mid = state g.S.Store c.rows_of_paths.new.tx.conn.now in
+    let clean_mid : HasCleanDisk mid = omega (arith, clean, c.files_at.ensures.stays.survives.clean) in
+    let paths = c.in_ok-rows.ensures.found clean_mid office in
+    let found = rw c.deref.ensures.value at (c.files_at.ensures.found clean (subst IsOffice (sym paths.0) office)) in
+    let n = pos c.args.number in
+    let rows = c.in_ok-rows.rows.items in
+    if_ok c.files_at.result (λ files h. gathers_files old.now office n rows files.items paths.1
+    (subst (λ (db : Database). map Some files.items ≡ map (λ row. file_at n (shown_path row) (tables_of db).files) rows) paths.0 h.1)) found
