@@ -168,7 +168,7 @@ const MANIFEST: &str = "manifest-sha256.txt";
 
 const TAG_MANIFEST: &str = "tagmanifest-sha512.txt";
 
-static BAGS: [(BagFault<'static>, &str); 15] = [
+const BAGS: [(BagFault<'static>, &str); 15] = [
     (BagFault::NoDeclaration, "the bag has no bagit.txt (B1)"),
     (
         BagFault::FetchNotSupported,
@@ -250,7 +250,8 @@ static BAGS: [(BagFault<'static>, &str); 15] = [
 
 #[test]
 fn bags_in_words(rt: HostRuntime) -> Result<(), Fail> {
-    for (fault, want) in BAGS.iter() {
+    let bags = BAGS;
+    for (fault, want) in bags.iter() {
         let said = said_of(rt.alloc(), fault)?;
         assert_eq!(rt; said.as_str(), *want);
     }
