@@ -1,0 +1,19 @@
+use Rattle.std.proofs.Common.{ℕ, ◌-◌, ◌≤◌, Bool, false, List, ◌≡◌, ◌∙◌, sym, ap, length, take, drop, nat_lt, arith, length-drop}
+use Rattle.std.specs.Prelude.{codes}
+use Rattle.std.proofs.lemmas.List.{at_drop_all, take_all}
+use Rattle.std.proofs.lemmas.Bool.Decides.{nat_tests}
+use Rattle.fault_words.specs.OtherFiles.{begins}
+use Rattle.fault_words.proofs.other_file.has_tar_mark.Goals as goal
+
+-- all that is left behind a place is the rest
+whole_rest : (n : ℕ) (bs : List ℕ) → take (length bs - n) (drop n bs) ≡ drop n bs
+whole_rest n bs = take_all (length bs - n) (drop n bs) (omega (arith, length-drop n bs))
+
+pub returns-then-bytes-gt257 : goal.returns-then-bytes-gt257
+returns-then-bytes-gt257 c = c.starts_with.ensures.value ∙ ap (λ (bs : List ℕ). begins bs (codes "ustar")) (whole_rest 257 c.args.bytes.now)
+
+-- bytes that end before have no such mark
+pub returns-else-bytes-gt257 : goal.returns-else-bytes-gt257
+returns-else-bytes-gt257 c =
+    let short : nat_lt 257 (length c.args.bytes.now) ≡ false = grind (arith, nat_tests) in
+    short ∙ sym (at_drop_all (λ (bs : List ℕ). begins bs (codes "ustar")) c.args.bytes.now 257 c.if-bytes-gt257.false)

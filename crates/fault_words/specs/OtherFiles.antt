@@ -1,0 +1,31 @@
+-- What bytes look like that are handed in for a transfer form, and what is said of it.
+use Rattle.std.specs.Prelude.{ℕ, Bool, List, [], ◌∷◌, ◌++◌, Option, Some, None, codes, drop, nat_eq, if◌then◌else◌}
+use Rattle.std.specs.List.{starts_with}
+use Rattle.fault_words.specs.declared.other_file.OtherFile.{OtherFile}
+use Rattle.fault_words.specs.declared.other_file.OtherFile.TheVariants.{Folder, Zip, Gzip, Tar, Declaration, ChangedForm}
+
+-- the bytes begin with these
+abbrev pub begins : List ℕ → List ℕ → Bool
+begins bytes front = starts_with nat_eq bytes front
+
+-- `ustar` stands at byte 257
+abbrev pub has_tar_mark : List ℕ → Bool
+has_tar_mark bytes = begins (drop 257 bytes) (codes "ustar")
+
+-- The first of these that the bytes look like, by the marks that each kind of file has.
+abbrev pub likeness : List ℕ → Option OtherFile
+likeness bytes =
+    if begins bytes (codes "PK" ++ 3 ∷ 4 ∷ []) then Some Zip
+    else if begins bytes (31 ∷ 139 ∷ []) then Some Gzip
+    else if begins bytes (codes "BagIt-Version:") then Some Declaration
+    else if begins bytes (codes "BAGSET 1" ++ 13 ∷ 10 ∷ []) then Some ChangedForm
+    else if has_tar_mark bytes then Some Tar
+    else None
+
+abbrev pub other_file_words : OtherFile → List ℕ
+other_file_words Folder = codes "this is a folder; depot check wants a bag's transfer form, which depot pack makes of it"
+other_file_words Zip = codes "this looks like a zip file; depot check wants a bag's transfer form, which depot pack makes of a folder"
+other_file_words Gzip = codes "this looks like a gzip file; depot check wants a bag's transfer form, which depot pack makes of a folder"
+other_file_words Tar = codes "this looks like a tar file; depot check wants a bag's transfer form, which depot pack makes of a folder"
+other_file_words Declaration = codes "this looks like a bag's bagit.txt; depot check wants a bag's transfer form, which depot pack makes of a folder"
+other_file_words ChangedForm = codes "this looks like a transfer form whose line ends were changed; a form is carried byte for byte"

@@ -1,0 +1,50 @@
+//! Why a text is no transfer form, in words.
+
+ghost use Rattle.std.specs.Prelude.{◌≡◌, Some};
+ghost use Rattle.fault_words.specs.FaultWords.{form_words, too_long_words};
+
+use crate::in_words::InWords;
+use bag_text::SetFault;
+use std::fmt;
+
+/// What is said of an input that is longer than any that is judged.
+pub fn too_long_words() -> &'static str
+    ensures { result.now ≡ too_long_words }
+{
+    "the form is longer than 16,777,216 bytes, the most that is judged (SIZE)"
+}
+
+impl<'a> fmt::Display for InWords<'a, SetFault> {
+    ghost output = { λ words. Some (form_words words.0.now) };
+
+    fn fmt<W: fmt::Write>(&self, f: &mut fmt::Formatter<W>) -> fmt::Result {
+        match self.0 {
+            SetFault::BadOpening => f.write_str(
+                "this is no transfer form: it does not begin with the line BAGSET 1 (S1)",
+            ),
+            SetFault::BadEntry(offset) => write!(
+                f,
+                "the entry at byte {offset} is neither the line END nor a file with the lengths that its header gives (S2)"
+            ),
+            SetFault::Truncated => f.write_str(
+                "the form ends too early: it stops before the end of the line END (S3)",
+            ),
+            SetFault::OutOfOrder(offset) => write!(
+                f,
+                "the entry at byte {offset} is out of order: its path does not come after the one before it, byte for byte (S4)"
+            ),
+            SetFault::BadPath(offset) => write!(
+                f,
+                "the entry at byte {offset} has no good path: it is not UTF-8, has a NUL, or has a segment that is empty, . or .. (S5)"
+            ),
+            SetFault::TooManyFiles => f.write_str(
+                "the form has more files than the 2,000 that a bag may have (S6)",
+            ),
+            SetFault::TrailingBytes => f.write_str("the form goes on behind its line END (S7)"),
+            SetFault::PathClash => f.write_str(
+                "a path of the form is data, or names both a file and a folder (S8)",
+            ),
+            SetFault::Memory => f.write_str("memory ran out (S9)"),
+        }
+    }
+}

@@ -1,0 +1,38 @@
+//! Why a file is no policy, in words.
+
+ghost use Rattle.std.specs.Prelude.{Some};
+ghost use Rattle.fault_words.specs.FaultWords.{policy_words};
+
+use crate::in_words::InWords;
+use office_core::PolicyFault;
+use std::fmt;
+
+impl<'a> fmt::Display for InWords<'a, PolicyFault> {
+    ghost output = { λ words. Some (policy_words words.0.now) };
+
+    fn fmt<W: fmt::Write>(&self, f: &mut fmt::Formatter<W>) -> fmt::Result {
+        match self.0 {
+            PolicyFault::NotToml => f.write_str("the policy is no text in TOML (Y1)"),
+            PolicyFault::BadVersion => f.write_str(
+                "the policy has no version, or one that is not the whole number 1 (Y2)",
+            ),
+            PolicyFault::UnknownKey => f.write_str(
+                "the policy has a key at the top other than version, callers and rule (Y3)",
+            ),
+            PolicyFault::BadCaller => f.write_str(
+                "the callers of the policy are no table, or a caller or a role is no name (Y4)",
+            ),
+            PolicyFault::BadRule(0) => f.write_str(
+                "the rules of the policy are no array: each begins with the line [[rule]] (Y5)",
+            ),
+            PolicyFault::BadRule(number) => write!(
+                f,
+                "rule {number} of the policy is not well formed: it is effect, role, action, collection and class, each with a value that it may have (Y5)"
+            ),
+            PolicyFault::TooMany => f.write_str(
+                "the policy has more than 200 rules or more than 1,000 callers (Y6)",
+            ),
+            PolicyFault::Memory => f.write_str("memory ran out (Y7)"),
+        }
+    }
+}
