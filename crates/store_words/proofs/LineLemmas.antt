@@ -7,7 +7,7 @@ use Rattle.clap.specs.Words.{App, Text}
 use Rattle.commands.specs.CommandLine.{texts, value_of}
 use Rattle.commands.specs.declared.use_fault.UseFault.{UseFault}
 use Rattle.commands.specs.declared.use_fault.UseFault.TheVariants.{Memory}
-use Rattle.store_words.specs.StoreLine.{AskNothing, Asks, Finds, HasValues, HaveValues, Names, NamesOne, name_text, subcommand_of}
+use Rattle.store_words.specs.StoreLine.{AskNothing, Asks, Finds, HasValues, HaveValues, Names, name_text, subcommand_of}
 use Rattle.store_words.specs.declared.store_line.StoreLine.{StoreLine}
 use Rattle.store_words.specs.declared.store_line.StoreLine.TheVariants as lines
 use Rattle.store_words.specs.declared.subcommand.Subcommand.{Subcommand}
@@ -80,9 +80,8 @@ nothing_asked : (words : List Text) (subcommand : Subcommand) → Names words su
 nothing_asked words subcommand first none line asks =
     none (subst (λ s. HaveValues s words) (one_name words (subcommand_of line) subcommand asks.first first) (some_values words line asks.values))
 
-pub words_refused : (words : List Text) (subcommand : Subcommand) (r : Result (Option StoreLine) UseFault) (fault : UseFault) → Names words subcommand
-    → IsErrAnd r (λ x. x ≡ fault) → (fault ≡ Memory) ⊎ (HaveValues subcommand words → ⊥)
-    → IfErr r (λ x. NamesOne words × ((x ≡ Memory) ⊎ AskNothing words))
-words_refused words subcommand (Ok x) fault first none why = absurd none
-words_refused words subcommand (Err x) fault first is (inl memory) = ((subcommand, first), inl (is ∙ memory))
-words_refused words subcommand (Err x) fault first is (inr none) = ((subcommand, first), inr (nothing_asked words subcommand first none))
+pub words_refused : (words : List Text) (subcommand : Subcommand) (r : Result StoreLine UseFault) → Names words subcommand
+    → IfErr r (λ fault. (fault ≡ Memory) ⊎ (HaveValues subcommand words → ⊥)) → IfErr r (λ fault. (fault ≡ Memory) ⊎ AskNothing words)
+words_refused words subcommand (Ok x) first why = tt
+words_refused words subcommand (Err x) first (inl memory) = inl memory
+words_refused words subcommand (Err x) first (inr none) = inr (nothing_asked words subcommand first none)

@@ -1,6 +1,6 @@
 //! The words of a command line on folders or a store.
 
-ghost use Rattle.std.specs.Prelude.{◌≡◌, ◌⊎◌, [], IfOk, IfErr, MatchOption, true, is_some};
+ghost use Rattle.std.specs.Prelude.{◌≡◌, ◌⊎◌, [], IfOk, IfErr, IfSome, MatchOption, true, is_some};
 ghost use Rattle.std.specs.List.{All};
 ghost use Rattle.clap.specs.Words.{Text, fault_of, first_value, found_of, is_simple_and_free};
 ghost use Rattle.commands.specs.CommandBuilding.{are_names, command_for, names_of, needed_names, rules_for};
@@ -171,19 +171,16 @@ fn read_values<'a>(
 pub fn read_store_line<'a>(
     alloc: Global,
     words: &'a [&'a str],
-) -> Result<Option<StoreLine<'a>>, UseFault>
-    // A line is what the words ask for; none is given where they name no such subcommand.
-    ensures taken { IfOk result (λ given. MatchOption given
-        (NamesNone (texts words.entry.now)) (Asks (texts words.entry.now))) }
-    // Words that are refused name one, and ask nothing of it.
-    ensures refused { IfErr result (λ fault. NamesOne (texts words.entry.now)
-        × ((fault ≡ Memory) ⊎ AskNothing (texts words.entry.now))) }
+) -> Option<Result<StoreLine<'a>, UseFault>>
+    // Words are read exactly where the first names such a subcommand.
+    ensures named { MatchOption result (NamesNone (texts words.entry.now))
+        (λ _. NamesOne (texts words.entry.now)) }
+    // A line is what the words ask for.
+    ensures taken { IfSome result (λ read. IfOk read (Asks (texts words.entry.now))) }
+    // Words that are refused ask for nothing.
+    ensures refused { IfSome result (λ read. IfErr read (λ fault.
+        (fault ≡ Memory) ⊎ AskNothing (texts words.entry.now))) }
 {
-    let Some(word) = words.first() else {
-        return Ok(None);
-    };
-    let Some(subcommand) = Subcommand::read(word) else {
-        return Ok(None);
-    };
-    Ok(Some(read_values(alloc, subcommand, words)?))
+    let subcommand = Subcommand::read(words.first()?)?;
+    Some(read_values(alloc, subcommand, words))
 }

@@ -1,0 +1,33 @@
+-- What standard error is told of a command on folders or a store that comes to no end, and how the program ends.
+use Rattle.std.specs.Prelude.{◌≡◌, ◌⊎◌, ℕ, List, Option, string_bytes}
+use Rattle.commands.specs.Failing.{BeginsWith, IsCutShort, message_of}
+use Rattle.commands.specs.declared.ending.Ending.{Ending}
+use Rattle.commands.specs.declared.ending.Ending.TheVariants as endings
+use Rattle.commands.specs.declared.program.Failure.TheVariants as failures
+use Rattle.commands.specs.declared.use_fault.UseFault.{UseFault}
+use Rattle.commands.specs.declared.use_fault.UseFault.TheVariants as faults
+use Rattle.program.specs.declared.stopped.Stopped.{Stopped}
+use Rattle.program.specs.declared.stopped.Stopped.TheVariants.{Failed}
+
+-- the line that is told first
+abbrev pub line_of : Stopped → List ℕ
+line_of (Failed failure) = message_of failure
+
+-- how the program ends then
+abbrev pub ending_of : Stopped → Ending
+ending_of (Failed failure) = endings.Failed
+
+-- standard error, where its bytes are known, goes on with this text, and the program ends in this way; or standard error fails, and has a
+-- beginning of the text
+abbrev pub Tells : List ℕ → Ending → Option (List ℕ) → Option (List ℕ) → Ending → Type 0
+Tells text end told tells ending = ((ending ≡ end) × BeginsWith text told tells) ⊎ ((ending ≡ endings.Unsaid) × IsCutShort text told tells)
+
+-- it is told of this, or that there was no memory to tell of it
+abbrev pub IsToldOf : Stopped → Option (List ℕ) → Option (List ℕ) → Ending → Type 0
+IsToldOf stopped told tells ending =
+    Tells (line_of stopped) (ending_of stopped) told tells ending ⊎ Tells (message_of failures.Memory) endings.Failed told tells ending
+
+-- it is told why words are no use of the program, or that there was no memory to read them
+abbrev pub IsToldOfUse : UseFault → Option (List ℕ) → Option (List ℕ) → Ending → Type 0
+IsToldOfUse (faults.Use reason) told tells ending = Tells (string_bytes reason) endings.Misused told tells ending
+IsToldOfUse faults.Memory told tells ending = Tells (message_of failures.Memory) endings.Failed told tells ending
