@@ -189,4 +189,5 @@ def main():
             CASES[name](folder)
 
 
-main()
+if __name__ == "__main__":
+    main()

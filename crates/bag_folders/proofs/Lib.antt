@@ -1,0 +1,4 @@
+pub mod OrderLemmas
+pub mod SizeLemmas
+pub mod LoadLemmas
+pub mod PackLemmas

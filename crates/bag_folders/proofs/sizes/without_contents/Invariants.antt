@@ -1,0 +1,7 @@
+use Rattle.std.proofs.Common.{◌≡◌, map, take}
+use Rattle.bag_text.specs.TransferReading.{files_of}
+use Rattle.bag_folders.specs.Sizes.{emptied}
+use Rattle.bag_folders.proofs.sizes.without_contents.Given as goal
+
+abbrev pub invariant-loop-file : goal.invariant-loop-file
+invariant-loop-file l = files_of l.list.items ≡ map emptied (take l.file-index l.files)

@@ -1,0 +1,5 @@
+pub mod Packing
+pub mod Unpacking
+pub mod Saying
+pub mod Sizes
+pub mod Loading

@@ -1,0 +1,29 @@
+//! Folders and transfer forms: a folder's files become one form, and the files of a form become a folder.
+#![tactic(auto)]
+
+mod failed;
+mod form;
+mod listed;
+mod listing;
+mod loading;
+mod order;
+mod pack_fault;
+mod packing;
+mod planning;
+mod putting;
+mod reading;
+mod said;
+mod sizes;
+mod unpack_fault;
+mod unpacking;
+
+pub use failed::{Failed, Tried, Trouble};
+pub use form::{MAX_FORM, form_of};
+pub use listed::{Found, Listed};
+pub use pack_fault::PackFault;
+pub use packing::{Packed, pack};
+pub use planning::plan;
+pub use reading::bag_of;
+pub use said::{Said, pack_said, unpack_said};
+pub use unpack_fault::UnpackFault;
+pub use unpacking::{Unpacked, unpack};

@@ -1,0 +1,57 @@
+//! A folder becomes a form.
+
+ghost use Rattle.std.specs.Prelude.{◌≡◌, IfOk, IfErr, length, List, ℕ};
+ghost use Rattle.bag_text.specs.TransferForm.{File, set_text};
+ghost use Rattle.bag_folders.specs.Packing.{AreFilesOf, IsFormOf, IsPacked, MayBeRefused};
+
+use crate::failed::Failed;
+use crate::form::form_of;
+use crate::listed::Listed;
+use crate::listing::list_folder;
+use crate::loading::{lend, load};
+use crate::pack_fault::PackFault;
+use crate::planning::plan;
+use crate::putting::put;
+use std::rt::Files;
+
+/// What was packed.
+#[derive(Clone, Copy, Debug, PartialEq, Eq)]
+pub struct Packed {
+    /// How many files.
+    pub files: usize,
+    /// How many bytes the form has.
+    pub bytes: usize,
+}
+
+/// The form of the files that are listed.
+fn form_of_folder<R: Files + AllocGlobal>(
+    rt: &R,
+    folder: &str,
+    files: &[Listed],
+) -> Result<Vec<u8>, PackFault>
+    ensures form { IfOk result (λ form. (list : List File)
+        × AreFilesOf files.now list × IsFormOf list form.items) }
+    ensures refused { IfErr result MayBeRefused }
+{
+    let loaded = load(rt, folder, files)?;
+    let list = lend(rt.alloc(), loaded.as_slice())?;
+    form_of(rt.alloc(), list.as_slice())
+}
+
+/// Writes the transfer form of all files under the folder to the file. The form is made of what was
+/// found before the file is made.
+pub fn pack<R: Files + AllocGlobal>(rt: &R, folder: &str, file: &str) -> Result<Packed, PackFault>
+    // What is packed is the form of some bag, of so many files and bytes.
+    ensures packed { IfOk result IsPacked }
+    // What is refused is so for files that have the fault that is named.
+    ensures refused { IfErr result MayBeRefused }
+{
+    let found = list_folder(rt, folder)?;
+    let files = plan(rt.alloc(), found)?;
+    let form = form_of_folder(rt, folder, files.as_slice())?;
+    put(rt, file, form.as_slice())?;
+    Ok(Packed {
+        files: files.len(),
+        bytes: form.len(),
+    })
+}

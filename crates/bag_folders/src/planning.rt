@@ -1,0 +1,30 @@
+//! What is to be packed.
+
+ghost use Rattle.std.specs.Prelude.{◌≡◌, false, IfOk, IfErr};
+ghost use Rattle.bag_text.specs.TransferForm.{IsBag};
+ghost use Rattle.bag_folders.specs.Packing.{AllFilesOf, AreInOrder, IsRefused};
+
+use crate::listed::{Found, Listed};
+use crate::order::in_order;
+use crate::pack_fault::PackFault;
+use crate::sizes::judge;
+use std::alloc::Global;
+
+/// The files to be packed, in the order of their paths; or the first fault of what was found, as far as
+/// paths and sizes tell. An entry without a place in a form comes before any fault of the files.
+pub fn plan(alloc: Global, found: Found) -> Result<Vec<Listed>, PackFault>
+    // All entries are files, and these are they, in order.
+    ensures order { IfOk result (λ files.
+        (found.has_odd_entry ≡ false) × AreInOrder found.files.items files.items) }
+    // Whatever bytes they have, they are a bag.
+    ensures bag { IfOk result (λ files. AllFilesOf files.items IsBag) }
+    // What is refused has the fault that is named.
+    ensures refused { IfErr result (IsRefused found) }
+{
+    if found.has_odd_entry {
+        return Err(PackFault::Name);
+    }
+    let files = in_order(found.files);
+    judge(alloc, files.as_slice())?;
+    Ok(files)
+}

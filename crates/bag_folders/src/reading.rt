@@ -1,0 +1,23 @@
+//! Reading a form that is to be unpacked.
+
+ghost use Rattle.std.specs.Prelude.{◌≡◌, IfOk, IfErr};
+ghost use Rattle.bag_folders.specs.Packing.{IsFormOf};
+ghost use Rattle.bag_folders.specs.Unpacking.{IsUnreadable};
+
+use crate::form::MAX_FORM;
+use crate::unpack_fault::UnpackFault;
+use bag_text::{BagSet, read_bagset};
+use std::alloc::Global;
+
+/// The bag whose form the text is, or why the text isn't unpacked.
+pub fn bag_of<'a>(alloc: Global, text: &'a [u8]) -> Result<BagSet<'a>, UnpackFault>
+    // What is read is the bag whose form the text is.
+    ensures bag { IfOk result (λ bag. IsFormOf bag text.now) }
+    // A text that is refused has the fault that is named.
+    ensures refused { IfErr result (IsUnreadable text.now) }
+{
+    if text.len() as u64 > MAX_FORM {
+        return Err(UnpackFault::Size);
+    }
+    Ok(read_bagset(alloc, text)?)
+}

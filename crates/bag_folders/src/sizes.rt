@@ -1,0 +1,103 @@
+//! What the paths and sizes of files tell, before a content is read.
+
+ghost use Rattle.std.specs.Prelude.{◌≡◌, ◌<◌, ◌↔◌, IsTrue, IfOk, IfErr, map};
+ghost use Rattle.std.specs.List.{position_from, sum_by};
+ghost use Rattle.bag_text.specs.BagList.{list_fault};
+ghost use Rattle.bag_text.specs.TransferForm.{IsBag};
+ghost use Rattle.bag_text.specs.TransferReading.{files_of};
+ghost use Rattle.bag_folders.specs.Packing.{AllFilesOf, HasNoForm, max_form};
+ghost use Rattle.bag_folders.specs.Sizes.{Judged, emptied, is_too_long, with_long};
+
+use crate::form::MAX_FORM;
+use crate::listed::Listed;
+use crate::pack_fault::PackFault;
+use bag_text::{BagSet, MAX_CONTENT, SetFault};
+use std::alloc::{AllocError, Global};
+
+/// The place of the first file whose content is too long for a bag.
+fn first_too_long(files: &[Listed]) -> Option<usize>
+    ensures { result ≡ position_from is_too_long 0 files.now }
+{
+    files.iter().position(|file| file.size > MAX_CONTENT as u64)
+}
+
+/// The files, without their contents.
+fn without_contents<'a>(
+    alloc: Global,
+    files: &'a [Listed],
+) -> Result<Vec<(&'a str, &'a [u8])>, AllocError>
+    ensures { IfOk result (λ list. files_of list.items ≡ map emptied files.now) }
+{
+    let mut list: Vec<(&'a str, &'a [u8])> = Vec::with_capacity(alloc, files.len())?;
+    for file in files {
+        list.push((file.path.as_str(), &[]))?;
+    }
+    Ok(list)
+}
+
+/// The first fault of a list of files.
+fn judge_list(alloc: Global, list: &[(&str, &[u8])]) -> Result<(), SetFault>
+    ensures { Judged (list_fault (files_of list.now)) result }
+{
+    BagSet::of(alloc, list)?;
+    Ok(())
+}
+
+/// The first fault of the paths, where none of the files is too long.
+fn judge_paths(alloc: Global, files: &[Listed]) -> Result<(), SetFault>
+    ensures { Judged (list_fault (map emptied files.now)) result }
+{
+    match without_contents(alloc, files) {
+        Ok(list) => judge_list(alloc, list.as_slice()),
+        Err(_) => Err(SetFault::Memory),
+    }
+}
+
+/// The first fault of files, of which the one at this place is too long, and those before it have this
+/// fault.
+fn with_long(place: usize, front: Result<(), SetFault>) -> Result<(), SetFault>
+    ensures { result ≡ with_long place front }
+{
+    match front {
+        Ok(()) => Err(SetFault::BadEntry(place)),
+        Err(SetFault::PathClash) => Err(SetFault::BadEntry(place)),
+        Err(fault) => Err(fault),
+    }
+}
+
+/// The first fault of the files, as far as paths and sizes tell.
+fn judge_files(alloc: Global, files: &[Listed]) -> Result<(), SetFault>
+    ensures { AllFilesOf files.now (λ list. Judged (list_fault list) result) }
+{
+    match first_too_long(files) {
+        Some(place) => with_long(place, judge_paths(alloc, &files[..place])),
+        None => judge_paths(alloc, files),
+    }
+}
+
+/// Whether the contents alone have more bytes than a form may have.
+fn is_too_large(files: &[Listed]) -> bool
+    ensures { IsTrue result ↔ max_form < sum_by (λ file. file.size) files.now }
+{
+    let mut total = 0;
+    for file in files {
+        if file.size > MAX_FORM - total {
+            return true;
+        }
+        total += file.size;
+    }
+    false
+}
+
+/// Judges the files by their paths and sizes, in this order. The form may still be too long, where the
+/// contents alone aren't.
+pub fn judge(alloc: Global, files: &[Listed]) -> Result<(), PackFault>
+    ensures bag { IfOk result (λ _. AllFilesOf files.now IsBag) }
+    ensures refused { IfErr result (λ fault. AllFilesOf files.now (λ list. HasNoForm list fault)) }
+{
+    judge_files(alloc, files)?;
+    if is_too_large(files) {
+        return Err(PackFault::Size);
+    }
+    Ok(())
+}

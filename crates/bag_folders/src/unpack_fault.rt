@@ -1,0 +1,67 @@
+//! Why a form isn't unpacked.
+
+ghost use Rattle.std.specs.Prelude.{◌≡◌};
+ghost use Rattle.bag_folders.specs.Unpacking.{unpack_fault_of, unpack_failed};
+ghost use Rattle.bag_folders.specs.declared.unpack_fault.UnpackFault.TheVariants.{Memory};
+
+use crate::failed::{Failed, Trouble};
+use bag_text::SetFault;
+use std::alloc::{AllocError, AllocFailed};
+
+/// Why a form isn't unpacked.
+#[derive(Debug, Drop, thiserror::Error)]
+pub enum UnpackFault {
+    /// The text is the form of no bag.
+    #[error("{0}")]
+    Set(SetFault),
+    /// The text has too many bytes.
+    #[error("SIZE")]
+    Size,
+    /// Something already stands where the folder is to be made.
+    #[error("exists")]
+    Exists,
+    /// A file, a folder or another device failed.
+    #[error("{0}")]
+    Device(Trouble),
+    /// A growth was refused.
+    #[error("memory")]
+    Memory,
+}
+
+impl From<SetFault> for UnpackFault {
+    ghost from_gives = { λ fault unpacked. unpacked ≡ unpack_fault_of fault };
+
+    fn from(fault: SetFault) -> UnpackFault {
+        match fault {
+            SetFault::Memory => UnpackFault::Memory,
+            other => UnpackFault::Set(other),
+        }
+    }
+}
+
+impl From<Failed> for UnpackFault {
+    ghost from_gives = { λ failed unpacked. unpacked ≡ unpack_failed failed };
+
+    fn from(failed: Failed) -> UnpackFault {
+        match failed {
+            Failed::Device(trouble) => UnpackFault::Device(trouble),
+            Failed::Memory => UnpackFault::Memory,
+        }
+    }
+}
+
+impl From<AllocError> for UnpackFault {
+    ghost from_gives = { λ _ unpacked. unpacked ≡ Memory };
+
+    fn from(_: AllocError) -> UnpackFault {
+        UnpackFault::Memory
+    }
+}
+
+impl<T: Drop> From<AllocFailed<T>> for UnpackFault {
+    ghost from_gives = { λ _ unpacked. unpacked ≡ Memory };
+
+    fn from(_: AllocFailed<T>) -> UnpackFault {
+        UnpackFault::Memory
+    }
+}

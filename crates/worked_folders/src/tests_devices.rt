@@ -1,0 +1,122 @@
+//! What a file system that fails leaves.
+
+use super::failing::{Failing, Fault};
+use super::tests::{lay, pack_here};
+use super::{BAG, BAG_FILES};
+use bag_folders::{PackFault, Packed, UnpackFault, Unpacked, pack, unpack};
+use std::fs;
+use std::test::*;
+
+/// Packs over files with this fault.
+fn pack_with(failing: &Failing<'_>, folder: &str, file: &str) -> Result<Packed, PackFault> {
+    pack(failing, folder, file)
+}
+
+/// Unpacks over files with this fault.
+fn unpack_with(failing: &Failing<'_>) -> Result<Unpacked, UnpackFault> {
+    unpack(failing, "failing.bagset", "half")
+}
+
+/// How many names are in the folder.
+fn names_in(rt: &HostRuntime, folder: &str) -> Result<usize, Fail> {
+    let mut count = 0;
+    for entry in fs::read_dir(rt, folder)? {
+        entry?;
+        count = usize::saturating_add(count, 1);
+    }
+    Ok(count)
+}
+
+#[test]
+fn no_half_of_a_form_is_left(rt: HostRuntime) -> Result<(), Fail> {
+    lay(&rt, "failing", BAG_FILES.as_slice())?;
+    fs::create_dir(&rt, "out")?;
+    let mut failed = 0u32;
+    for number in 0..100 {
+        let failing = Failing::new(&rt, Fault::Call(number));
+        match pack_with(&failing, "failing", "out/failing.bagset") {
+            Err(PackFault::Device(_)) => {
+                assert!(rt; failing.has_failed());
+                assert_eq!(rt; names_in(&rt, "out")?, 0, "{number}");
+                failed = number;
+            }
+            Ok(_) => break,
+            Err(fault) => return Err(Fail::new(fault)),
+        }
+    }
+    // Two folders, four entries, three files, the name, the file beside it, its last name.
+    assert_eq!(rt; failed, 11);
+    assert_eq!(rt; fs::read(&rt, "out/failing.bagset")?.as_slice(), BAG);
+    // What stood there stays.
+    fs::remove_file(&rt, "failing/data/a")?;
+    for fault in [Fault::Write, Fault::Sync, Fault::Call(9)] {
+        let failing = Failing::new(&rt, fault);
+        let packed = pack_with(&failing, "failing", "out/failing.bagset");
+        let Err(PackFault::Device(_)) = packed else {
+            return Err(Fail::new("a file that can't be written"));
+        };
+        assert_eq!(rt; fs::read(&rt, "out/failing.bagset")?.as_slice(), BAG);
+        assert_eq!(rt; names_in(&rt, "out")?, 1);
+    }
+    // A name that is taken is left alone.
+    fs::write(&rt, "out/.depot-pack-0", b"taken")?;
+    assert_eq!(rt; pack_here(&rt, "failing", "out/failing.bagset")?.files, 2);
+    assert_eq!(rt;
+        fs::read(&rt, "out/.depot-pack-0")?.as_slice(),
+        b"taken".as_slice()
+    );
+    assert_eq!(rt; names_in(&rt, "out")?, 2);
+    Ok(())
+}
+
+#[test]
+fn only_a_file_is_written_over(rt: HostRuntime) -> Result<(), Fail> {
+    lay(&rt, "kept", BAG_FILES.as_slice())?;
+    for place in ["kept/data", "/dev/null", "kept/no/form"] {
+        let Err(PackFault::Device(_)) = pack_here(&rt, "kept", place) else {
+            return Err(Fail::new(place));
+        };
+    }
+    assert_eq!(rt; pack_here(&rt, "kept", "kept.bagset")?.files, 3);
+    Ok(())
+}
+
+#[test]
+fn unpacking_may_fail_anywhere(rt: HostRuntime) -> Result<(), Fail> {
+    fs::write(&rt, "failing.bagset", BAG)?;
+    for number in 0..100 {
+        let failing = Failing::new(&rt, Fault::Call(number));
+        let unpacked = unpack_with(&failing);
+        if fs::exists(&rt, "half")? {
+            fs::remove_dir_all(&rt, "half")?;
+        }
+        match unpacked {
+            Err(UnpackFault::Device(_)) => assert!(rt; failing.has_failed()),
+            Ok(_) => break,
+            Err(fault) => return Err(Fail::new(fault)),
+        }
+    }
+    let Err(UnpackFault::Device(_)) = unpack_with(&Failing::new(&rt, Fault::Write)) else {
+        return Err(Fail::new("a file that can't be written"));
+    };
+    Ok(())
+}
+
+#[test]
+fn names_and_sizes_are_those_that_are_found(rt: HostRuntime) -> Result<(), Fail> {
+    lay(&rt, "found", BAG_FILES.as_slice())?;
+    let failing = Failing::new(&rt, Fault::Name);
+    let Err(PackFault::Name) = pack_with(&failing, "found", "found.bagset") else {
+        return Err(Fail::new("a name that isn't UTF-8"));
+    };
+    let failing = Failing::new(&rt, Fault::Size);
+    let Err(PackFault::Device(trouble)) = pack_with(&failing, "found", "found.bagset") else {
+        return Err(Fail::new("a file that has changed"));
+    };
+    let text = format!(in rt.alloc(); "{trouble}")?;
+    assert_eq!(rt;
+        text.as_str(),
+        "cannot read found/bagit.txt: it changed while it was packed"
+    );
+    Ok(())
+}

@@ -1,0 +1,95 @@
+//! Folders and forms at their limits.
+
+use super::tests::{lay, pack_here, pack_line, unpack_line};
+use std::fs::File;
+use std::test::*;
+use std::{fs, io};
+
+/// Makes a file of so many bytes, all of them zero, of which no disk keeps any.
+fn make_sparse(rt: &HostRuntime, path: &str, size: u64) -> io::Result<()> {
+    File::create(rt, path)?.set_len(size)
+}
+
+/// How long a file `b` is, and what is said of a folder with it and an empty file `a`.
+static SIZES: [(u64, &str); 5] = [
+    (16_777_174, "packed 2 files 16777216 bytes\n"),
+    (16_777_175, "unpackable SIZE\n"),
+    (16_777_216, "unpackable SIZE\n"),
+    (16_777_217, "unpackable S2 1\n"),
+    (1_099_511_627_776, "unpackable S2 1\n"),
+];
+
+#[test]
+fn packs_up_to_the_limit(rt: HostRuntime) -> Result<(), Fail> {
+    lay(&rt, "large", [("a", b"".as_slice())].as_slice())?;
+    for (size, line) in &SIZES {
+        make_sparse(&rt, "large/b", *size)?;
+        let said = pack_line(&rt, "large", "large.bagset")?;
+        assert_eq!(rt; said.text.as_str(), *line);
+    }
+    // Its place is that in the order of paths, and it comes before names that clash.
+    fs::write(&rt, "large/a0", b"")?;
+    fs::write(&rt, "large/data", b"")?;
+    let said = pack_line(&rt, "large", "large.bagset")?;
+    assert_eq!(rt; said.text.as_str(), "unpackable S2 2\n");
+    fs::remove_dir_all(&rt, "large")?;
+    Ok(())
+}
+
+#[test]
+fn unpacks_up_to_the_limit(rt: HostRuntime) -> Result<(), Fail> {
+    lay(&rt, "whole", [].as_slice())?;
+    make_sparse(&rt, "whole/b", 16_777_185)?;
+    assert_eq!(rt; pack_here(&rt, "whole", "whole.bagset")?.bytes, 16_777_216);
+    let said = unpack_line(&rt, "whole.bagset", "whole-again")?;
+    assert_eq!(rt; said.text.as_str(), "unpacked 1 files\n");
+    // One byte more, whatever it is.
+    let mut file = fs::OpenOptions::new()
+        .append(true)
+        .open(&rt, "whole.bagset")?;
+    io::Write::write_all(&mut file, b"\n")?;
+    let said = unpack_line(&rt, "whole.bagset", "too-long")?;
+    assert_eq!(rt; said.text.as_str(), "unreadable SIZE\n");
+    assert!(rt; !fs::exists(&rt, "too-long")?);
+    Ok(())
+}
+
+#[test]
+fn packs_no_more_than_2000_files(rt: HostRuntime) -> Result<(), Fail> {
+    fs::create_dir(&rt, "many")?;
+    for number in 0..2000 {
+        let path = format!(in rt.alloc(); "many/{number}")?;
+        fs::write(&rt, path, b"")?;
+    }
+    assert_eq!(rt; pack_here(&rt, "many", "many.bagset")?.files, 2000);
+    fs::write(&rt, "many/a", b"")?;
+    let said = pack_line(&rt, "many", "many.bagset")?;
+    assert_eq!(rt; said.text.as_str(), "unpackable S6\n");
+    // A file too long at the 2,001st place, in the order of paths.
+    make_sparse(&rt, "many/a", 16_777_217)?;
+    let said = pack_line(&rt, "many", "many.bagset")?;
+    assert_eq!(rt; said.text.as_str(), "unpackable S2 2000\n");
+    make_sparse(&rt, "many/b", 16_777_217)?;
+    fs::write(&rt, "many/a", b"")?;
+    let said = pack_line(&rt, "many", "many.bagset")?;
+    assert_eq!(rt; said.text.as_str(), "unpackable S6\n");
+    fs::remove_dir_all(&rt, "many")?;
+    Ok(())
+}
+
+#[test]
+fn packs_no_path_of_more_than_1024_bytes(rt: HostRuntime) -> Result<(), Fail> {
+    // Four names of 204 bytes and slashes are 820 bytes, and with a name of 204 more 1,024.
+    let name = "d".repeat(rt.alloc(), 204)?;
+    let folder = format!(in rt.alloc(); "deep/{name}/{name}/{name}/{name}")?;
+    fs::create_dir_all(&rt, folder.as_str())?;
+    let path = format!(in rt.alloc(); "{folder}/{name}")?;
+    fs::write(&rt, path.as_str(), b"")?;
+    assert_eq!(rt; pack_here(&rt, "deep", "deep.bagset")?.files, 1);
+    let path = format!(in rt.alloc(); "{folder}/{name}d")?;
+    fs::write(&rt, path.as_str(), b"")?;
+    let said = pack_line(&rt, "deep", "deep.bagset")?;
+    assert_eq!(rt; said.text.as_str(), "unpackable S5 1\n");
+    fs::remove_dir_all(&rt, "deep")?;
+    Ok(())
+}

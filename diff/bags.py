@@ -1,0 +1,201 @@
+#!/usr/bin/env python3
+"""Bags as the usual Python tool lays them out (RFC 8493: `bagit.txt`, `bag-info.txt`, manifests of both
+algorithms, tag manifests of both), with odd names, through `depot pack`, `depot check`, `depot
+unpack` and `depot pack` again. The form is compared with one that this file writes, the line of
+`check` with one that it works out, the folder that was unpacked with the one that was packed.
+
+Words: the first seed and the last, 1 and 500 if left out. DEPOT names another program than the one
+in `crates/depot/out`, which has to be built (`./depot check examples/bag-a.bagset` does).
+"""
+import hashlib
+import os
+import pathlib
+import random
+import shutil
+import socket
+import subprocess
+import sys
+import tempfile
+
+TOP = pathlib.Path(__file__).resolve().parent.parent
+DEPOT = os.environ.get("DEPOT", str(TOP / "crates" / "depot" / "out" / "depot"))
+ALGORITHMS = ("sha256", "sha512")
+PIECES = ["a", "b", "Z", "0", "-", "_", ".", " ", "  ", "%", "%%", "%2", "%41", "\n", "\r", "\r\n", "\t", "'", '"', "\\",
+          "*", ":", "~", "\x01", "\x7f", "é", "e\u0301", "ß", "中", "\u2028", "\x85", "😀", "Ω"]
+
+
+def call(*words):
+    """What the program prints on standard output, and how it ends. It prints nothing else."""
+    run = subprocess.run([DEPOT, *words], capture_output=True)
+    if run.stderr:
+        sys.exit(f"{words}: {run.stderr!r}")
+    return run.stdout, run.returncode
+
+
+def want(line, status, *words):
+    """Ends where the program says anything else."""
+    found = call(*words)
+    if found != (line.encode() + b"\n", status):
+        sys.exit(f"{words}: {found}, and not {line!r} with {status}")
+
+
+def form(files):
+    """The transfer form of a bag, of a map from paths to contents."""
+    parts = [b"BAGSET 1\n"]
+    for path in sorted(files):
+        parts += [b"FILE %d %d\n" % (len(path), len(files[path])), path, files[path], b"\n"]
+    parts.append(b"END\n")
+    return b"".join(parts)
+
+
+def spelled(path, version):
+    """A path as a manifest of this version spells it."""
+    if version == "1.0":
+        path = path.replace(b"%", b"%25")
+    return path.replace(b"\r", b"%0D").replace(b"\n", b"%0A")
+
+
+def manifest(algorithm, files, version):
+    """The lines that list these files."""
+    lines = [hashlib.new(algorithm, files[p]).hexdigest().encode() + b"  " + spelled(p, version) + b"\n" for p in sorted(files)]
+    return b"".join(lines)
+
+
+def drawn_name(draw):
+    """A name in a folder: short, or as long as a file system takes it."""
+    text = "".join(draw.choices(PIECES, k=draw.choice([1, 2, 3, 5, 8, 255])))
+    name = text.encode()[:255].decode(errors="ignore").encode()
+    return b"a" + name[:254].decode(errors="ignore").encode() if name in (b".", b"..", b"") else name
+
+
+def drawn_path(draw):
+    """A path of the payload, of at most 1,024 bytes."""
+    path = b"data"
+    for _ in range(draw.choice([1, 1, 1, 2, 3, 12])):
+        longer = path + b"/" + drawn_name(draw)
+        if len(longer) > 1024:
+            break
+        path = longer
+    return path
+
+
+def drawn_payload(draw, version):
+    """The files of a payload, whose paths don't clash."""
+    files, folders = {}, {b"data"}
+    for _ in range(draw.choice([0, 1, 2, 5, 10])):
+        path = drawn_path(draw)
+        above = {path[:at] for at in range(len(path)) if path[at:at + 1] == b"/"}
+        # In version 0.97 such a name can't be told from a coded one.
+        coded = version == "0.97" and (b"%0A" in path.upper() or b"%0D" in path.upper())
+        if coded or path in folders or above & files.keys() or path == b"data":
+            continue
+        folders |= above
+        files[path] = draw.randbytes(draw.choice([0, 1, 10, 1000, 100_000]))
+    return files
+
+
+def drawn_bag(draw):
+    """A bag, its version and its payload."""
+    version = draw.choice(["0.97", "1.0"])
+    payload = drawn_payload(draw, version)
+    oxum = f"{sum(map(len, payload.values()))}.{len(payload)}"
+    tags = {
+        b"bagit.txt": f"BagIt-Version: {version}\nTag-File-Character-Encoding: UTF-8\n".encode(),
+        b"bag-info.txt": f"Bag-Software-Agent: a test\nBagging-Date: 2024-03-01\nPayload-Oxum: {oxum}\n".encode(),
+    }
+    for algorithm in ALGORITHMS:
+        tags[b"manifest-%s.txt" % algorithm.encode()] = manifest(algorithm, payload, version)
+    if draw.random() < 0.3:
+        tags[b"notes/.hidden " + drawn_name(draw).replace(b"%", b"")[:200].decode(errors="ignore").encode()] = b"x"
+    tagged = {b"tagmanifest-%s.txt" % a.encode(): manifest(a, tags, version) for a in ALGORITHMS}
+    return {**payload, **tags, **tagged}, version, payload
+
+
+def lay(folder, files, draw):
+    """Writes the files below the folder, in any order."""
+    paths = list(files)
+    draw.shuffle(paths)
+    os.makedirs(os.path.join(folder, b"data", b"empty folder"))
+    for path in paths:
+        whole = os.path.join(folder, path)
+        os.makedirs(os.path.dirname(whole), exist_ok=True)
+        with open(whole, "wb") as file:
+            file.write(files[path])
+
+
+def found_in(folder):
+    """The files below a folder, as a map from paths to contents."""
+    files = {}
+    for above, _, names in os.walk(folder):
+        for name in names:
+            whole = os.path.join(above, name)
+            with open(whole, "rb") as file:
+                files[os.path.relpath(whole, folder)] = file.read()
+    return files
+
+
+def go_round(seed, folder):
+    """One bag through the program. Gives its number of files."""
+    draw = random.Random(seed)
+    files, version, payload = drawn_bag(draw)
+    here, text, there, again = (os.path.join(folder, name) for name in (b"here", b"text", b"there", b"again"))
+    lay(here, files, draw)
+    whole = form(files)
+    want(f"packed {len(files)} files {len(whole)} bytes", 0, "pack", here, text)
+    if pathlib.Path(os.fsdecode(text)).read_bytes() != whole:
+        sys.exit(f"seed {seed}: another form")
+    size = sum(map(len, payload.values()))
+    want(f"valid {version} files {len(payload)} bytes {size} manifests 4", 0, "check", text)
+    want(f"unpacked {len(files)} files", 0, "unpack", text, there)
+    if found_in(there) != files:
+        sys.exit(f"seed {seed}: other files")
+    want(f"packed {len(files)} files {len(whole)} bytes", 0, "pack", there, again)
+    if pathlib.Path(os.fsdecode(again)).read_bytes() != whole:
+        sys.exit(f"seed {seed}: another form of what was unpacked")
+    want("exists", 1, "unpack", text, there)
+    return len(files)
+
+
+def refused(folder):
+    """Folders with an entry that has no place in a form. Gives how many there are."""
+    out = os.path.join(folder, b"out")
+
+    def listens(path):
+        with socket.socket(socket.AF_UNIX) as server:
+            server.bind(path)
+
+    makers = {
+        "a name that is no UTF-8": lambda path: open(path + b"\xff", "wb").close(),
+        "a folder's name that is no UTF-8": lambda path: os.mkdir(path + b"\xc3\x28"),
+        "a link": lambda path: os.symlink("nowhere", path),
+        "a link to a folder": lambda path: os.symlink(".", path),
+        "a pipe": os.mkfifo,
+        "a socket": listens,
+    }
+    for name, make in makers.items():
+        odd = os.path.join(folder, b"odd")
+        os.makedirs(os.path.join(odd, b"deep"))
+        # This alone is S8.
+        open(os.path.join(odd, b"data"), "wb").close()
+        make(os.path.join(odd, b"deep", b"x"))
+        if call("pack", odd, out) != (b"unpackable NAME\n", 1) or os.path.exists(out):
+            sys.exit(f"{name} is packed")
+        shutil.rmtree(odd)
+    return len(makers)
+
+
+def main():
+    first, last = (int(word) for word in (sys.argv[1:3] + ["1", "500"][len(sys.argv) - 1:]))
+    if not os.access(DEPOT, os.X_OK):
+        sys.exit(f"{DEPOT} isn't there: ./depot check examples/bag-a.bagset builds it")
+    count = 0
+    for seed in range(first, last + 1):
+        with tempfile.TemporaryDirectory() as folder:
+            count += go_round(seed, os.fsencode(folder))
+    with tempfile.TemporaryDirectory() as folder:
+        odd = refused(os.fsencode(folder))
+    print(f"seeds {first} to {last}: {last + 1 - first} bags of {count} files packed, checked, unpacked and packed again: "
+          f"the same bytes; {odd} folders refused for an entry")
+
+
+main()
