@@ -8,11 +8,14 @@ use Rattle.commands.specs.declared.program.Failure.TheVariants as failures
 use Rattle.store_words.specs.StoreLine.{Asks}
 use Rattle.store_words.specs.declared.store_line.StoreLine.{StoreLine}
 use Rattle.store_words.specs.declared.store_line.StoreLine.TheVariants.{Pack, Unpack, Policy, Ask, Replay, Serve}
+use Rattle.program.specs.Folders.{Packs, Unpacks}
 use Rattle.program.specs.Stopping.{IsToldOf, Tells}
 use Rattle.program.specs.declared.stopped.Stopped.{Stopped}
 
 -- what the line asks for is done: this is written behind what the output held, and the program ends so
 abbrev pub IsDone : StoreLine → Option (List ℕ) → Option (List ℕ) → Ending → Type 0
+IsDone (Pack folder file) held holds ending = Packs held holds ending
+IsDone (Unpack file folder) held holds ending = Unpacks held holds ending
 IsDone line held holds ending = Unit {0}
 
 -- what the line asks for is done, and standard error is told nothing; or it comes to no end, and standard error is told why

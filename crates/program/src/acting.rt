@@ -3,8 +3,9 @@
 ghost use Rattle.std.specs.Prelude.{IfOk};
 ghost use Rattle.program.specs.Running.{IsDone};
 
+use crate::folders::{pack_folder, unpack_form};
 use crate::stopped::Stopped;
-use commands::{Ending, Failure};
+use commands::Ending;
 use desk_devices::Counted;
 use sqlite::Start;
 use std::io::{Read, Write};
@@ -19,7 +20,12 @@ pub fn perform<S: Start, R: Read, O: Write>(
     input: &mut Counted<R>,
     out: &mut Counted<O>,
 ) -> Result<Ending, Stopped>
-    ensures { IfOk result (IsDone line.now (O.contents out.old.device) (O.contents out.new.device)) }
+    ensures { IfOk result
+        (IsDone line.now (O.contents out.old.device) (O.contents out.new.device)) }
 {
-    Err(Stopped::Failed(Failure::Device))
+    match line {
+        StoreLine::Pack { folder, file } => pack_folder(rt, folder, file, out),
+        StoreLine::Unpack { file, folder } => unpack_form(rt, file, folder, out),
+        _ => Err(Stopped::Absent),
+    }
 }
