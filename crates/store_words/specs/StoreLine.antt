@@ -1,9 +1,9 @@
 -- The words of the subcommands on folders and stores, and the values that they give.
-use Rattle.std.specs.Prelude.{◌≡◌, ◌≤◌, ◌∷◌, [], ℕ, List, Option, Some, codes, option_map, slice_get}
+use Rattle.std.specs.Prelude.{◌≡◌, ◌≤◌, ◌∷◌, [], ℕ, List, None, Option, Some, codes, decimal, option_map, slice_get}
 use Rattle.std.specs.Str.Parse.{IsNumeral, digits_value}
 use Rattle.clap.specs.Words.{App, Rule, Text, fault_of, new_rule}
 use Rattle.clap.specs.declared.builder.ArgAction.TheVariants.{Set}
-use Rattle.commands.specs.CommandLine.{command_of, value_of, wanted_word}
+use Rattle.commands.specs.CommandLine.{IsPlainWord, command_of, value_of, wanted_word}
 use Rattle.jiff.specs.Types.{Date}
 use Rattle.office_core.specs.Days.{IsDay, day_text}
 use Rattle.store_words.specs.declared.store_line.StoreLine.{StoreLine}
@@ -160,3 +160,26 @@ pub record Asks (words : List Text) (line : StoreLine) : Type 0 where
 -- the words ask for nothing that a line says
 abbrev pub AskNothing : List Text → Type 0
 AskNothing words = (line : StoreLine) → Asks words line → ⊥
+
+-- ---- plain words
+
+-- the words that are written for a line
+abbrev pub words_of : StoreLine → List Text
+words_of (lines.Pack folder file) = codes "pack" ∷ folder.now ∷ file.now ∷ []
+words_of (lines.Unpack file folder) = codes "unpack" ∷ file.now ∷ folder.now ∷ []
+words_of (lines.Policy store policy) = codes "policy" ∷ store.now ∷ policy.now ∷ []
+words_of (lines.Ask store day) = codes "ask" ∷ store.now ∷ day_text day ∷ []
+words_of (lines.Replay None store) = codes "replay" ∷ store.now ∷ []
+words_of (lines.Replay (Some policy) store) = codes "replay" ∷ codes "--policy" ∷ policy.now ∷ store.now ∷ []
+words_of (lines.Serve port count store day) =
+    codes "serve" ∷ codes "--port" ∷ decimal port ∷ codes "--count" ∷ decimal count ∷ store.now ∷ day_text day ∷ []
+
+-- the line can be written in plain words: its texts are such words, its day is a day, and its numbers are in range
+abbrev pub IsPlainLine : StoreLine → Type 0
+IsPlainLine (lines.Pack folder file) = IsPlainWord folder.now × IsPlainWord file.now
+IsPlainLine (lines.Unpack file folder) = IsPlainWord file.now × IsPlainWord folder.now
+IsPlainLine (lines.Policy store policy) = IsPlainWord store.now × IsPlainWord policy.now
+IsPlainLine (lines.Ask store day) = IsPlainWord store.now × IsDay day
+IsPlainLine (lines.Replay None store) = IsPlainWord store.now
+IsPlainLine (lines.Replay (Some policy) store) = IsPlainWord policy.now × IsPlainWord store.now
+IsPlainLine (lines.Serve port count store day) = (port ≤ 65_535) × (1 ≤ count) × (count ≤ 1_000_000) × IsPlainWord store.now × IsDay day

@@ -1,12 +1,13 @@
 //! The words of a command line on folders or a store.
 
-ghost use Rattle.std.specs.Prelude.{◌≡◌, ◌⊎◌, [], IfOk, IfErr, IfSome, MatchOption, true, is_some};
+ghost use Rattle.std.specs.Prelude.{◌≡◌, ◌⊎◌, [], IfOk, IfErr, IfSome, IsSomeAnd, MatchOption, true, is_some};
 ghost use Rattle.std.specs.List.{All};
 ghost use Rattle.clap.specs.Words.{Text, fault_of, first_value, found_of, is_simple_and_free};
 ghost use Rattle.commands.specs.CommandBuilding.{are_names, command_for, names_of, needed_names, rules_for};
 ghost use Rattle.commands.specs.CommandLine.{texts, value_of};
 ghost use Rattle.commands.specs.declared.use_fault.UseFault.TheVariants.{Memory};
-ghost use Rattle.store_words.specs.StoreLine.{AskNothing, Asks, HasValues, HaveValues, NamesNone, NamesOne, subcommand_of};
+ghost use Rattle.store_words.specs.StoreLine.{AskNothing, Asks, HasValues, HaveValues, IsPlainLine, NamesNone, NamesOne, subcommand_of, words_of};
+ghost use Rattle.store_words.specs.declared.store_line.StoreLine.{StoreLine};
 ghost use Rattle.store_words.specs.declared.subcommand.Subcommand.TheVariants.{Ask, Pack, Policy, Replay, Serve, Unpack};
 
 use crate::number::{read_count, read_port};
@@ -167,6 +168,18 @@ fn read_values<'a>(
     }
 }
 
+/// Reads the words, where the first names a subcommand on folders or a store.
+fn read_named<'a>(alloc: Global, words: &'a [&'a str]) -> Option<Result<StoreLine<'a>, UseFault>>
+    ensures named { MatchOption result (NamesNone (texts words.entry.now))
+        (λ _. NamesOne (texts words.entry.now)) }
+    ensures taken { IfSome result (λ read. IfOk read (Asks (texts words.entry.now))) }
+    ensures refused { IfSome result (λ read. IfErr read (λ fault.
+        (fault ≡ Memory) ⊎ AskNothing (texts words.entry.now))) }
+{
+    let subcommand = Subcommand::read(words.first()?)?;
+    Some(read_values(alloc, subcommand, words))
+}
+
 /// Reads the words after the program's name, where the first names a subcommand on folders or a store.
 pub fn read_store_line<'a>(
     alloc: Global,
@@ -180,7 +193,10 @@ pub fn read_store_line<'a>(
     // Words that are refused ask for nothing.
     ensures refused { IfSome result (λ read. IfErr read (λ fault.
         (fault ≡ Memory) ⊎ AskNothing (texts words.entry.now))) }
+    // Each line that can be written in plain words is read of them, memory aside.
+    ensures plain { (line : StoreLine) → IsPlainLine line → texts words.entry.now ≡ words_of line
+        → Asks (texts words.entry.now) line
+        × IsSomeAnd result (λ read. IfErr read (λ fault. fault ≡ Memory)) }
 {
-    let subcommand = Subcommand::read(words.first()?)?;
-    Some(read_values(alloc, subcommand, words))
+    read_named(alloc, words)
 }

@@ -8,6 +8,7 @@ use std::test::Fail;
 
 /// A run: its words and its input, what it prints on standard output, how standard error begins, and
 /// how it ends.
+#[derive(Clone, Copy)]
 pub struct Run {
     pub words: &'static [&'static str],
     pub input: &'static [u8],

@@ -1,9 +1,7 @@
-use Rattle.std.proofs.Common.{rules}
 use Rattle.commands.specs.CommandLine.{texts}
-use Rattle.store_words.proofs.LineLemmas.{first_named, words_refused}
+use Rattle.store_words.proofs.PlainLineLemmas.{plain_is_read}
 use Rattle.store_words.proofs.lines.read_store_line.Goals as goal
 
-pub returns-clause-refused : goal.returns-clause-refused
-returns-clause-refused c =
-    words_refused (texts c.args.words.now) c.in_ok-subcommand.subcommand c.read_values.result
-    (first_named c.args.words.now c.in_ok-first.field-0.now _ (search rules) c.in_ok-subcommand.ensures) c.read_values.ensures.refused
+pub returns-clause-plain : goal.returns-clause-plain
+returns-clause-plain c = λ line plain are.
+    plain_is_read (texts c.args.words.now) c.read_named.result line plain are c.read_named.ensures.named c.read_named.ensures.refused
