@@ -1,6 +1,6 @@
 #!/usr/bin/env bash
-# refuse-memory.sh GROUP [FROM [TO]]: runs the cases of a group (bags, office, tables, stored) with one of their allocations refused, for
-# each allocation from FROM (else the first) to TO (else the last).
+# refuse-memory.sh GROUP [FROM [TO [STEP]]]: runs the cases of a group (bags, office, tables, stored) with one of their allocations
+# refused, for each allocation from FROM (else the first) to TO (else the last), or for every STEP-th of them.
 # `rt try` refuses one allocation of a run, here always that of number $room; so each run makes fewer of its own before the cases.
 set -eu
 cd "$(dirname "$0")"
@@ -9,7 +9,7 @@ case $group in
 bags) room=600 ;;
 office) room=200 ;;
 tables) room=4000 ;;
-stored) room=20000 ;;
+stored) room=8000 ;;
 *)
     echo "refuse-memory.sh: bags, office, tables or stored" >&2
     exit 2
@@ -17,13 +17,14 @@ stored) room=20000 ;;
 esac
 from=${2:-1}
 to=${3:-$room}
+step=${4:-1}
 runs=$(mktemp -d)
 trap 'rm -rf "$runs"' EXIT
 
 # The run that makes none of its own has its cases' last allocations before the one that is refused: there nothing is wanting.
 mkdir "$runs/cases"
 echo "$group 0" >"$runs/cases/$room"
-for ((number = from; number <= to; number++)); do
+for ((number = from; number <= to; number += step)); do
     echo "$group $((room - number))" >"$runs/cases/$number"
 done
 rt try --steps 1 --cases "$runs/cases" --fail-alloc "$room" >"$runs/said" 2>&1 || {

@@ -3,3 +3,4 @@ pub mod Unpacking
 pub mod Saying
 pub mod Sizes
 pub mod Loading
+pub mod Listing

@@ -1,5 +1,9 @@
 //! Listing what is under a folder.
 
+ghost use Rattle.std.specs.Prelude.{◌≡◌, ◌++◌, ◌∷◌, IfOk, OnOk, string_bytes};
+ghost use Rattle.std.specs.Fs.{IsDir, IsFile, file_type, metadata_len};
+ghost use Rattle.bag_folders.specs.Listing.{AddsFile, AddsFolder, AddsOdd, joined};
+
 use crate::failed::{Failed, Tried, failed_at};
 use crate::listed::{Found, Listed};
 use std::alloc::{AllocError, Global};
@@ -17,12 +21,16 @@ struct Walk {
 }
 
 /// The path of a file of a bag in the file system.
-pub fn path_under(alloc: Global, folder: &str, path: &str) -> Result<String, AllocError> {
+pub fn path_under(alloc: Global, folder: &str, path: &str) -> Result<String, AllocError>
+    ensures { IfOk result (λ whole. string_bytes whole ≡ folder.now ++ 47 ∷ path.now) }
+{
     format!(in alloc; "{folder}/{path}")
 }
 
 /// The path of a name in this folder. An empty text stands for no folder and for no name.
-fn path_in(alloc: Global, folder: &str, name: &str) -> Result<String, AllocError> {
+fn path_in(alloc: Global, folder: &str, name: &str) -> Result<String, AllocError>
+    ensures { IfOk result (λ whole. string_bytes whole ≡ joined folder.now name.now) }
+{
     if folder.is_empty() {
         String::from_str(alloc, name)
     } else if name.is_empty() {
@@ -33,7 +41,14 @@ fn path_in(alloc: Global, folder: &str, name: &str) -> Result<String, AllocError
 }
 
 /// Takes up an entry: a file, a folder that is still to be listed, or one without a place in a form.
-fn take_up(walk: &mut Walk, path: String, metadata: &Metadata) -> Result<(), AllocError> {
+fn take_up(walk: &mut Walk, path: String, metadata: &Metadata) -> Result<(), AllocError>
+    ensures folder { OnOk result (IsDir (file_type metadata.now)
+        → AddsFolder walk.old walk.new path) }
+    ensures file { OnOk result (IsFile (file_type metadata.now)
+        → AddsFile walk.old walk.new (record { path = path; size = metadata_len metadata.now })) }
+    ensures odd { OnOk result (¬ (IsDir (file_type metadata.now)) → ¬ (IsFile (file_type metadata.now))
+        → AddsOdd walk.old walk.new) }
+{
     if metadata.is_dir() {
         walk.waiting.push(path)?;
     } else if metadata.is_file() {

@@ -10,7 +10,7 @@ use std::{fs, io};
 /// The most names that are tried for the file that is written first.
 const MOST_NAMES: u32 = 100;
 
-/// The name of a file beside this one, in the same folder.
+/// The name of a file beside this one, in the same folder, or this name itself.
 fn name_beside(alloc: Global, file: &str, number: u32) -> Result<String, AllocError> {
     match file.rsplit_once('/') {
         Some((folder, _)) => format!(in alloc; "{folder}/.depot-pack-{number}"),
@@ -69,6 +69,9 @@ pub fn put<R: Files + AllocGlobal>(rt: &R, file: &str, bytes: &[u8]) -> Result<(
     check_place(rt, file)?;
     for number in 0..MOST_NAMES {
         let beside = name_beside(rt.alloc(), file, number)?;
+        if beside.as_str() == file {
+            continue;
+        }
         let opened = OpenOptions::new()
             .write(true)
             .create_new(true)

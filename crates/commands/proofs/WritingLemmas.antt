@@ -10,7 +10,7 @@ pub record HasTaken (text rest : List ℕ) (old new : Option (List ℕ)) : Type 
   pub left : rest ≡ drop count text
   pub front : Appends old new (take count text)
 
-appends_both : (old mid new : Option (List ℕ)) (a b : List ℕ) → Appends old mid a → Appends mid new b → Appends old new (a ++ b)
+pub appends_both : (old mid new : Option (List ℕ)) (a b : List ℕ) → Appends old mid a → Appends mid new b → Appends old new (a ++ b)
 appends_both None mid new a b first then = tt
 appends_both (Some xs) None new a b first then = absurd first
 appends_both (Some xs) (Some ys) None a b first then = absurd then

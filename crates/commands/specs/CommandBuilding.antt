@@ -1,31 +1,55 @@
--- How a command that wants words is built.
-use Rattle.std.specs.Prelude.{◌≡◌, ◌&&◌, ◌==◌, [], ◌∷◌, List, Bool, true, false, not, length, codes}
+-- How a command that takes arguments is built.
+use Rattle.std.specs.Prelude.{◌≡◌, ◌&&◌, ◌==◌, [], ◌∷◌, List, Bool, Some, true, false, not, length, codes, map, option_map, if◌then◌else◌}
 use Rattle.std.specs.List.{list_any}
 use Rattle.std.specs.Str.{bytes_eq}
-use Rattle.clap.specs.Words.{AddsArg, AddsInTurn, IsPlainArg, Text, app_of, args_of, groups_of, new_app, rule_of}
+use Rattle.clap.specs.Words.{AddsArg, AddsInTurn, App, IsPlainArg, Rule, Text, app_of, args_of, groups_of, new_app, new_rule, rule_of}
 use Rattle.clap.specs.Built.{TakesValue}
+use Rattle.clap.specs.declared.builder.ArgAction.TheVariants.{Set}
 use Rattle.clap.specs.declared.builder.arg.Arg.{Arg}
 use Rattle.clap.specs.declared.builder.command.Command.{Command}
 use Rattle.clap.specs.declared.builder.command.Command.TheViews.{out-Command}
-use Rattle.commands.specs.CommandLine.{wanted_word}
+use Rattle.commands.specs.CommandLine.{command_of}
+use Rattle.commands.specs.declared.words.Argument.{Argument}
+use Rattle.commands.specs.declared.words.Usage.{Usage}
 
--- the argument is a required word with this name
-pub record IsWord (name : Text) (arg : Arg) : Type 0 where
-  pub id : arg.id.now ≡ name
-  pub rule : rule_of arg ≡ wanted_word name
+-- ---- what is asked of clap
+
+-- how an argument is read: as a word in its place, or behind its option
+abbrev pub rule_for : Argument → Rule
+rule_for argument =
+    record (new_rule argument.name.now) { long = option_map (λ option. option.now) argument.option; required = argument.is_required; action = Some Set }
+
+abbrev pub rules_for : List Argument → List Rule
+rules_for = map rule_for
+
+-- the command that reads the words of a subcommand
+abbrev pub command_for : Usage → App
+command_for usage = command_of usage.name.now (rules_for usage.arguments.now)
+
+-- the names of the arguments that have to stand
+abbrev pub needed_names : List Rule → List Text
+needed_names [] = []
+needed_names (rule ∷ rules) = if rule.required then rule.id ∷ needed_names rules else needed_names rules
+
+-- ---- how it is built
+
+-- the argument is read by this rule, and has a value where it has to stand
+pub record IsReadBy (wanted : Rule) (arg : Arg) : Type 0 where
+  pub id : arg.id.now ≡ wanted.id
+  pub rule : rule_of arg ≡ wanted
   pub plain : IsPlainArg arg
   pub own : arg.global ≡ false
-  pub takes : TakesValue arg
+  pub takes : wanted.required ≡ true → TakesValue arg
 
--- the arguments are required words with these names, in this order
-abbrev pub AreWords : List Text → List Arg → Type 0
-AreWords [] [] = Unit {0}
-AreWords [] (arg ∷ args) = ⊥
-AreWords (name ∷ names) [] = ⊥
-AreWords (name ∷ names) (arg ∷ args) = IsWord name arg × AreWords names args
+-- the arguments are read by these rules, in this order
+abbrev pub AreReadBy : List Rule → List Arg → Type 0
+AreReadBy [] [] = Unit {0}
+AreReadBy [] (arg ∷ args) = ⊥
+AreReadBy (rule ∷ rules) [] = ⊥
+AreReadBy (rule ∷ rules) (arg ∷ args) = IsReadBy rule arg × AreReadBy rules args
 
--- the command is a new one, to which required words with these names were added in turn
-pub record Wants (name : Text) (names : List Text) (command : Command) : Type 0 where
+-- the command is a new one, to which arguments with these rules were added in turn
+pub record Takes (name : Text) (rules : List Rule) (command : Command) : Type 0 where
   pub start : Command
   pub args : List Arg
   pub app : app_of start ≡ new_app name
@@ -33,7 +57,7 @@ pub record Wants (name : Text) (names : List Text) (command : Command) : Type 0 
   pub no_groups : groups_of start ≡ []
   pub no_globals : (out-Command start).has_globals ≡ false
   pub negates : (out-Command start).subcommand_negates_reqs ≡ false
-  pub words : AreWords names args
+  pub read : AreReadBy rules args
   pub added : AddsInTurn AddsArg start args command
 
 -- names that clap doesn't give to flags of its own
@@ -44,3 +68,7 @@ is_own_name name = not (length name == 0) && not (bytes_eq name (codes "help")) 
 abbrev pub are_names : List Text → Bool
 are_names [] = true
 are_names (name ∷ names) = is_own_name name && not (list_any (bytes_eq name) names) && are_names names
+
+-- the names of the arguments
+abbrev pub names_of : List Rule → List Text
+names_of = map (λ rule. rule.id)

@@ -25,23 +25,23 @@ texts = map (λ word. word.now)
 abbrev pub wanted_word : Text → Rule
 wanted_word name = record (new_rule name) { required = true; action = Some Set }
 
--- the command of this name that wants words with these names, in this order
-abbrev pub command_of : Text → List Text → App
-command_of name names = fold (λ command word. with_rule command (wanted_word word)) (new_app name) names
+-- the command of this name that takes arguments with these rules, in this order
+abbrev pub command_of : Text → List Rule → App
+command_of name rules = fold with_rule (new_app name) rules
 
 -- `check` wants one word, FILE
 abbrev pub check_names : List Text
 check_names = codes "FILE" ∷ []
 
 unfoldable pub check_command : App
-check_command = command_of (codes "check") check_names
+check_command = command_of (codes "check") (map wanted_word check_names)
 
 -- `explain` wants five: POLICY, CALLER, ACTION, COLLECTION and CLASS
 abbrev pub explain_names : List Text
 explain_names = codes "POLICY" ∷ codes "CALLER" ∷ codes "ACTION" ∷ codes "COLLECTION" ∷ codes "CLASS" ∷ []
 
 unfoldable pub explain_command : App
-explain_command = command_of (codes "explain") explain_names
+explain_command = command_of (codes "explain") (map wanted_word explain_names)
 
 -- the command that reads the words of the subcommand with this name
 abbrev pub command_named : Text → Option App
@@ -110,9 +110,13 @@ pub record AsksToCheck (words : List Text) (name : Text) : Type 0 where
 abbrev pub command_in : List Text → Option App
 command_in words = option_and_then command_named (slice_get words 0)
 
--- what is said of them
+-- what is said of them: all subcommands of the program
 abbrev pub uses_text : List ℕ
-uses_text = codes "Usage: depot check FILE" ++ 10 ∷ codes "       depot explain POLICY CALLER ACTION COLLECTION CLASS" ++ 10 ∷ []
+uses_text =
+    codes "Usage: depot check FILE" ++ 10 ∷ codes "       depot pack DIR FILE" ++ 10 ∷ codes "       depot unpack FILE DIR" ++ 10
+    ∷ codes "       depot explain POLICY CALLER ACTION COLLECTION CLASS" ++ 10 ∷ codes "       depot policy STORE POLICY" ++ 10
+    ∷ codes "       depot ask STORE DAY" ++ 10 ∷ codes "       depot replay [--policy POLICY] STORE" ++ 10
+    ∷ codes "       depot serve --port P --count N STORE DAY" ++ 10 ∷ []
 
 -- ---- plain words
 

@@ -7,7 +7,7 @@ ghost use Rattle.commands.specs.AskingReading.{AreGiven, Reads, are_good};
 ghost use Rattle.commands.specs.declared.use_fault.UseFault.TheVariants.{Memory};
 
 use crate::use_fault::{UseFault, fault_of_use};
-use crate::words::{matches_of, word_at};
+use crate::words::{Argument, Usage, matches_of, word_at};
 use clap::Error;
 use office_core::{Action, Name};
 use std::alloc::Global;
@@ -35,8 +35,43 @@ pub struct Given<'a> {
     pub class: &'a str,
 }
 
-/// The names of the words that `explain` wants.
-static NAMES: [&str; 5] = ["POLICY", "CALLER", "ACTION", "COLLECTION", "CLASS"];
+/// `explain`.
+static EXPLAIN: Usage<'static> = Usage {
+    name: "explain",
+    about: "Says what a policy allows, and which of its rules decides.",
+    arguments: &[
+        Argument {
+            name: "POLICY",
+            option: None,
+            is_required: true,
+            help: "the file of the policy",
+        },
+        Argument {
+            name: "CALLER",
+            option: None,
+            is_required: true,
+            help: "who asks, any text",
+        },
+        Argument {
+            name: "ACTION",
+            option: None,
+            is_required: true,
+            help: "what is asked for, such as list or dispose",
+        },
+        Argument {
+            name: "COLLECTION",
+            option: None,
+            is_required: true,
+            help: "the name of a collection, or - for none",
+        },
+        Argument {
+            name: "CLASS",
+            option: None,
+            is_required: true,
+            help: "the name of a retention class, or - for none",
+        },
+    ],
+};
 
 const ACTION: &str =
     "ACTION is one of class, collection, deposit, list, record, holds, download, audit, hold, release, dispose\n";
@@ -52,7 +87,7 @@ pub fn given_words<'a>(alloc: Global, words: &'a [&'a str]) -> Result<Given<'a>,
     ensures values { IfOk result (AreGiven (texts words.entry.now)) }
     ensures faults { FailsBy (fault_of explain_command (texts words.entry.now)) result }
 {
-    let matches = matches_of(alloc, "explain", NAMES.as_slice(), words)?;
+    let matches = matches_of(alloc, &EXPLAIN, words)?;
     Ok(Given {
         policy: word_at(&matches, "POLICY"),
         caller: word_at(&matches, "CALLER"),

@@ -9,7 +9,7 @@ ghost use Rattle.commands.specs.declared.use_fault.UseFault.TheVariants.{Memory}
 
 use crate::asking::{Asked, given_words, question_of};
 use crate::use_fault::{UseFault, clap_fault, fault_of_use};
-use crate::words::{matches_of, word_at};
+use crate::words::{Argument, Usage, matches_of, word_at};
 use clap::Error;
 use std::alloc::Global;
 
@@ -22,11 +22,27 @@ pub enum Line<'a> {
     Explain(Asked<'a>),
 }
 
-const USES: &str =
-    "Usage: depot check FILE\n       depot explain POLICY CALLER ACTION COLLECTION CLASS\n";
+const USES: &str = "Usage: depot check FILE
+       depot pack DIR FILE
+       depot unpack FILE DIR
+       depot explain POLICY CALLER ACTION COLLECTION CLASS
+       depot policy STORE POLICY
+       depot ask STORE DAY
+       depot replay [--policy POLICY] STORE
+       depot serve --port P --count N STORE DAY
+";
 
-/// The names of the words that `check` wants.
-static NAMES: [&str; 1] = ["FILE"];
+/// `check`.
+static CHECK: Usage<'static> = Usage {
+    name: "check",
+    about: "Says whether a bag is valid, or its first fault.",
+    arguments: &[Argument {
+        name: "FILE",
+        option: None,
+        is_required: true,
+        help: "the transfer form of the bag, or - for standard input",
+    }],
+};
 
 /// The file that the words of `check` name.
 fn checked_file<'a>(alloc: Global, words: &'a [&'a str]) -> Result<&'a str, Error>
@@ -34,7 +50,7 @@ fn checked_file<'a>(alloc: Global, words: &'a [&'a str]) -> Result<&'a str, Erro
         value_of check_command (codes "FILE") (texts words.entry.now) ≡ Some file.now) }
     ensures faults { FailsBy (fault_of check_command (texts words.entry.now)) result }
 {
-    let matches = matches_of(alloc, "check", NAMES.as_slice(), words)?;
+    let matches = matches_of(alloc, &CHECK, words)?;
     Ok(word_at(&matches, "FILE"))
 }
 

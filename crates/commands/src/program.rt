@@ -84,7 +84,7 @@ fn read_all<R: Read>(alloc: Global, input: &mut R) -> Result<Vec<u8>, Failure>
 
 /// Writes a text, which ends with a line's end. A writer that fails has taken a beginning of it, which
 /// `write_all` doesn't say.
-fn write_text<W: Write>(text: &str, out: &mut W) -> io::Result<()>
+pub fn write_text<W: Write>(text: &str, out: &mut W) -> io::Result<()>
     ensures whole { OnOk result (Appends (W.contents out.old) (W.contents out.new) text.now) }
     ensures front { IsCutShort text.now (W.contents out.old) (W.contents out.new) }
 {
@@ -194,7 +194,7 @@ fn perform<F: Files + AllocGlobal, R: Read, O: Write>(
 
 /// Tells standard error the text, and ends so. Where it doesn't take all of it, the status alone says
 /// that something failed.
-fn tell<E: Write>(text: &str, ending: Ending, err: &mut E) -> Ending
+pub fn tell<E: Write>(text: &str, ending: Ending, err: &mut E) -> Ending
     ensures ends { (result ≡ ending) ⊎ (result ≡ Unsaid) }
     ensures whole { result ≢ Unsaid
         → BeginsWith text.now (E.contents err.old) (E.contents err.new) }
@@ -207,7 +207,7 @@ fn tell<E: Write>(text: &str, ending: Ending, err: &mut E) -> Ending
 }
 
 /// Says why the words are no use of the program.
-fn refuse<E: Write>(reason: &str, err: &mut E) -> Ending
+pub fn refuse<E: Write>(reason: &str, err: &mut E) -> Ending
     ensures ends { (result ≡ Misused) ⊎ (result ≡ Unsaid) }
     ensures reason { result ≡ Misused
         → BeginsWith reason.now (E.contents err.old) (E.contents err.new) }
@@ -217,7 +217,7 @@ fn refuse<E: Write>(reason: &str, err: &mut E) -> Ending
 }
 
 /// Says that the program failed.
-fn fail<E: Write>(failure: Failure, err: &mut E) -> Ending
+pub fn fail<E: Write>(failure: Failure, err: &mut E) -> Ending
     ensures ends { (result ≡ Failed) ⊎ (result ≡ Unsaid) }
     ensures message { result ≡ Failed
         → BeginsWith (message_of failure) (E.contents err.old) (E.contents err.new) }

@@ -1,7 +1,11 @@
-//! Judges BagIt bags (RFC 8493), and says which rule of a policy decides, from the command line.
+//! Judges, packs and unpacks BagIt bags (RFC 8493), and says which rule of a policy decides, from the
+//! command line.
 #![tactic(auto)]
 
-use commands::{Ending, refuse_words, run};
+use commands::{Ending, refuse_words};
+use desk_devices::Counted;
+use program::run;
+use sqlite::Unknown;
 use std::io;
 use std::process::ExitCode;
 
@@ -18,10 +22,16 @@ fn run_on_process(rt: &HostRuntime) -> io::Result<Ending> {
     for word in words.iter() {
         texts.push(word.as_str())?;
     }
-    let mut input = rt.stdin();
-    let mut out = rt.stdout();
-    let mut err = rt.stderr();
-    Ok(run(rt, texts.as_slice(), &mut input, &mut out, &mut err))
+    let mut input = Counted::new(rt.stdin());
+    let mut out = Counted::new(rt.stdout());
+    Ok(run(
+        rt,
+        Unknown,
+        texts.as_slice(),
+        &mut input,
+        &mut out,
+        &mut rt.stderr(),
+    ))
 }
 
 fn main(rt: HostRuntime) -> ExitCode {

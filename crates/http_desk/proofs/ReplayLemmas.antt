@@ -1,14 +1,14 @@
 -- One record more, and what a replay comes to.
-use Rattle.std.proofs.Common.{◌≡◌, ◌≢◌, ℕ, ◌+◌, ◌-◌, ◌*◌, ◌<◌, ◌≤◌, ◌⊎◌, List, [], ◌∷◌, ◌++◌, Bool, true, false, Option, inl, inr, length, take, refl, sym, ap, ◌∙◌, subst, arith, length-append, append_assoc, append-nil, take_all}
-use Rattle.std.specs.Prelude.{Result, Ok, Err}
+use Rattle.std.proofs.Common.{◌≡◌, ◌≢◌, ℕ, ◌+◌, ◌<◌, ◌≤◌, ◌⊎◌, List, [], ◌∷◌, ◌++◌, true, false, Option, inl, inr, length, take, refl, sym, ap, ◌∙◌, subst, arith, length-append, append_assoc, append-nil, take_all}
+use Rattle.std.specs.Prelude.{Ok, Err}
 use Rattle.std.specs.Io.KnownBytes.{Appends, Consumes, IsAtEnd}
 use Rattle.std.proofs.KnownBytes.{Appends-nil, Appends-trans, Consumes-nil, Consumes-trans}
 use Rattle.sqlite.specs.Held.{Held}
 use Rattle.sqlite.specs.Store.{Ghosts}
 use Rattle.jiff.specs.Types.{Date}
 use Rattle.desk_records.specs.Records.{IsRecord, record_text, answer_text, BeginsWithNone, CanNotBegin, WantsMore}
-use Rattle.desk_records.specs.RecordLists.{RequestRecord, AreRecords, HasRecords, request_texts, answer_texts, max_records}
-use Rattle.desk_records.proofs.FoundLemmas.{wanted_none, wanted_short}
+use Rattle.desk_records.specs.RecordLists.{RequestRecord, AreRecords, request_texts, answer_texts, max_records}
+use Rattle.desk_records.proofs.FoundLemmas.{wanted_none}
 use Rattle.desk_records.proofs.ListLemmas.{texts_more, are_all, rest_shorter}
 use Rattle.http_desk.specs.Replaying.{AnswersRecord, AnswersEach, HasAnswered, HasDone, Replayed}
 use Rattle.http_desk.specs.ReplaySteps.{AnswersNext, ReadsMore, fault_behind}

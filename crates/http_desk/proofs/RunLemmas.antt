@@ -1,17 +1,12 @@
 -- Records that are answered one after the other are a run.
-use Rattle.std.proofs.Common.{◌≡◌, ℕ, List, [], ◌∷◌, Bool, true, false, refl, sym, subst}
-use Rattle.std.specs.Prelude.{Result, Ok, Err}
+use Rattle.std.proofs.Common.{ℕ, List, [], ◌∷◌, Bool, true, false, refl, sym, subst}
 use Rattle.sqlite.specs.Held.{Held, state}
 use Rattle.sqlite.specs.State.{HasCleanDisk}
 use Rattle.sqlite.specs.Store.{Ghosts}
-use Rattle.office_core.specs.declared.answer.Answer.{Answer}
-use Rattle.office_history.specs.Histories.{History}
-use Rattle.office_history.specs.Runs.{IsLegal, Item, Run}
-use Rattle.office_engine.specs.Keeping.{IsKeptBy, IsReached}
+use Rattle.office_engine.specs.Keeping.{IsKeptBy}
 use Rattle.desk_records.specs.RecordLists.{RequestRecord}
-use Rattle.desk_answers.specs.Answers.{answer_text, refusal_text}
 use Rattle.http_desk.specs.Serving.{IsAnswered}
-use Rattle.http_desk.specs.Replaying.{AnswersRecord, AnswersEach}
+use Rattle.http_desk.specs.Replaying.{AnswersEach}
 use Rattle.http_desk.specs.ReplayRuns.{IsRunOf, none, served, refused, RunsEach}
 
 -- a disk that is honest behind a record was so before it

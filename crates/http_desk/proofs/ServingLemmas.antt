@@ -1,6 +1,6 @@
 -- What is answered, of all the bytes that there are.
 use Rattle.std.proofs.Common.{◌≡◌, ℕ, List, Bool, true, false, Option, Some, None, refl, sym, subst}
-use Rattle.std.specs.Prelude.{Result, Ok, Err, IfSome}
+use Rattle.std.specs.Prelude.{Ok, Err, IfSome}
 use Rattle.std.proofs.KnownBytes.{Appends-nil}
 use Rattle.jiff.specs.Types.{Date}
 use Rattle.sqlite.specs.Held.{Held, state}

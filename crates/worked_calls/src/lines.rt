@@ -206,8 +206,23 @@ fn devices_fail(rt: HostRuntime) -> Result<(), Fail> {
     Ok(())
 }
 
-const USES: &str =
-    "Usage: depot check FILE\n       depot explain POLICY CALLER ACTION COLLECTION CLASS\n";
+const USES: &str = "Usage: depot check FILE
+       depot pack DIR FILE
+       depot unpack FILE DIR
+       depot explain POLICY CALLER ACTION COLLECTION CLASS
+       depot policy STORE POLICY
+       depot ask STORE DAY
+       depot replay [--policy POLICY] STORE
+       depot serve --port P --count N STORE DAY
+";
+
+const HELP: &str = "Says whether a bag is valid, or its first fault.
+
+Usage: depot check <FILE>
+
+Arguments:
+  <FILE>  the transfer form of the bag, or - for standard input
+";
 
 static FAULTS_OF_USE: [Run; 2] = [
     (&["judge"], USES, Ending::Misused),
@@ -215,10 +230,11 @@ static FAULTS_OF_USE: [Run; 2] = [
 ];
 
 /// The words come first: the policy isn't there.
-static FAULTS_WITH_REASONS: [Run; 4] = [
+static FAULTS_WITH_REASONS: [Run; 5] = [
+    (&["check", "--help"], HELP, Ending::Misused),
     (
-        &["check", "--help"],
-        "Usage: check <FILE>\n",
+        &["check", "a", "b"],
+        "error: unexpected argument 'b' found\n\nUsage: depot check <FILE>\n",
         Ending::Misused,
     ),
     (

@@ -84,6 +84,9 @@ fn no_half_of_a_form_is_left(rt: HostRuntime) -> Result<(), Fail> {
         b"taken".as_slice()
     );
     assert_eq!(rt; names_in(&rt, "half-forms/out")?, 2);
+    // Such a name may be the one that is wanted.
+    pack_here(&rt, "half-forms/failing", "half-forms/out/.depot-pack-1")?;
+    assert_eq!(rt; names_in(&rt, "half-forms/out")?, 3);
     fs::remove_dir_all(&rt, "half-forms")?;
     Ok(())
 }

@@ -1,35 +1,39 @@
-use Rattle.std.proofs.Common.{◌+◌, ◌≡◌, ℕ, List, length, take, Result, Ok, Err, IfOk, sym, subst, arith, ap, ◌∙◌}
+use Rattle.std.proofs.Common.{◌+◌, ◌≡◌, ◌∙◌, ℕ, List, length, take, Result, Ok, Err, IfOk, sym, subst, arith, ap}
 use Rattle.std.proofs.Math.Seq.{take-length}
 use Rattle.std.specs.declared.alloc.AllocError.{AllocError}
 use Rattle.clap.specs.Words.{AddsArg, AddsInTurn}
+use Rattle.clap.specs.Simple.{app_of_fields}
 use Rattle.clap.specs.declared.builder.arg.Arg.{Arg}
 use Rattle.clap.specs.declared.builder.command.Command.{Command}
-use Rattle.commands.specs.CommandLine.{texts}
-use Rattle.commands.specs.CommandBuilding.{AreWords, Wants}
-use Rattle.commands.proofs.CommandBuildingLemmas.{words_so_far}
+use Rattle.clap.specs.declared.builder.command.Command.TheOpen.{Command-F}
+use Rattle.commands.specs.CommandBuilding.{AreReadBy, Takes, rules_for}
+use Rattle.commands.proofs.CommandBuildingLemmas.{rules_so_far}
 use Rattle.commands.proofs.words.command_of.Goals as goal
 
-pub loop-word-preserved : goal.loop-word-preserved
-loop-word-preserved c =
-    subst (λ (args : List Arg). AreWords (texts (take (c.loop-word.word-index + 1) c.args.names.now)) args) (sym c.in_ok-push.ensures.items)
-    (words_so_far c.args.names.now c.loop-word.word-index _ c.loop-word.words.items c.wanted_word.result (omega arith) c.loop-word.invariant c.wanted_word.ensures)
+pub loop-argument-preserved : goal.loop-argument-preserved
+loop-argument-preserved c =
+    subst (λ (args : List Arg). AreReadBy (rules_for (take (c.loop-argument.argument-index + 1) c.args.usage.now.arguments.now)) args) (sym c.in_ok-push.ensures.items)
+    (rules_so_far c.args.usage.now.arguments.now c.loop-argument.argument-index _ c.loop-argument.args.items c.arg_of.result (omega arith) c.loop-argument.invariant c.arg_of.ensures)
 
 added : (r : Result Command AllocError) (P Q : Command → Type 0) → IfOk r P → ((command : Command) → P command → Q command) → IfOk r Q
 added (Ok command) P Q is then = then command is
 added (Err e) P Q is then = tt
 
+-- the help text and the name in usage change nothing that clap reads of a command
 pub returns : goal.returns
 returns c =
-    let end : take c.loop-word.word-index c.args.names.now ≡ c.args.names.now =
-    ap (λ (n : ℕ). take n c.args.names.now) (let same : c.loop-word.word-index ≡ length c.args.names.now = omega arith in same) ∙ take-length c.args.names.now in
-    added c.args-2.result (AddsInTurn AddsArg c.new.result c.loop-word.words.items) (Wants c.args.name.now (texts c.args.names.now)) c.args-2.ensures (λ command chain. record {
-      start = c.new.result;
-      args = c.loop-word.words.items;
-      app = c.new.ensures.app;
-      no_args = c.new.ensures.empty.0;
-      no_groups = c.new.ensures.empty.1;
-      no_globals = c.new.ensures.local;
-      negates = c.new.ensures.negates;
-      words = subst (λ names. AreWords (texts names) c.loop-word.words.items) end c.loop-word.invariant;
+    let end : take c.loop-argument.argument-index c.args.usage.now.arguments.now ≡ c.args.usage.now.arguments.now =
+    ap (λ (n : ℕ). take n c.args.usage.now.arguments.now) (let same : c.loop-argument.argument-index ≡ length c.args.usage.now.arguments.now = omega arith in same)
+    ∙ take-length c.args.usage.now.arguments.now in
+    let name = c.in_ok-bin_name.ensures.0 in
+    added c.args-2.result (AddsInTurn AddsArg c.in_ok-bin_name.field-0 c.loop-argument.args.items) (Takes c.args.usage.now.name.now (rules_for c.args.usage.now.arguments.now)) c.args-2.ensures (λ command chain. record {
+      start = c.in_ok-bin_name.field-0;
+      args = c.loop-argument.args.items;
+      app = ap app_of_fields name ∙ ap app_of_fields c.about.ensures ∙ c.new.ensures.app;
+      no_args = ap (λ (f : Command-F Command). f.args.items) name ∙ ap (λ (f : Command-F Command). f.args.items) c.about.ensures ∙ c.new.ensures.empty.0;
+      no_groups = ap (λ (f : Command-F Command). f.groups.items) name ∙ ap (λ (f : Command-F Command). f.groups.items) c.about.ensures ∙ c.new.ensures.empty.1;
+      no_globals = ap (λ (f : Command-F Command). f.has_globals) name ∙ ap (λ (f : Command-F Command). f.has_globals) c.about.ensures ∙ c.new.ensures.local;
+      negates = ap (λ (f : Command-F Command). f.subcommand_negates_reqs) name ∙ ap (λ (f : Command-F Command). f.subcommand_negates_reqs) c.about.ensures ∙ c.new.ensures.negates;
+      read = subst (λ arguments. AreReadBy (rules_for arguments) c.loop-argument.args.items) end c.loop-argument.invariant;
       added = chain;
     })

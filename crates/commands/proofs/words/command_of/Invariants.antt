@@ -1,7 +1,6 @@
 use Rattle.std.proofs.Common.{take}
-use Rattle.commands.specs.CommandLine.{texts}
-use Rattle.commands.specs.CommandBuilding.{AreWords}
+use Rattle.commands.specs.CommandBuilding.{AreReadBy, rules_for}
 use Rattle.commands.proofs.words.command_of.Given as goal
 
-abbrev pub invariant-loop-word : goal.invariant-loop-word
-invariant-loop-word l = AreWords (texts (take l.word-index l.fn.names)) l.words.items
+abbrev pub invariant-loop-argument : goal.invariant-loop-argument
+invariant-loop-argument l = AreReadBy (rules_for (take l.argument-index l.fn.usage.arguments.now)) l.args.items

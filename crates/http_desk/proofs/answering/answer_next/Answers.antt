@@ -1,6 +1,5 @@
-use Rattle.std.proofs.Common.{◌≡◌, sym, ap, subst}
+use Rattle.std.proofs.Common.{◌≡◌, ap, subst}
 use Rattle.sqlite.specs.Held.{state}
-use Rattle.office_core.specs.declared.answer.Answer.{Answer}
 use Rattle.http_desk.specs.Serving.{ServesBytes}
 use Rattle.http_desk.proofs.ServingLemmas.{unserved}
 use Rattle.http_desk.proofs.answering.answer_next.Goals as goal

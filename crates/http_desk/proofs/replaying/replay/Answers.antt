@@ -1,5 +1,5 @@
-use Rattle.std.proofs.Common.{◌≡◌, ◌≢◌, ◌⊎◌, ◌++◌, ◌<◌, ◌≤◌, ℕ, List, [], length, refl, sym, ap, ◌∙◌, subst, arith, length-append, Bool, true, false, inl, inr}
-use Rattle.std.specs.Prelude.{Result, Ok, Err}
+use Rattle.std.proofs.Common.{◌≡◌, ◌≢◌, ◌⊎◌, ◌++◌, [], length, refl, sym, ap, ◌∙◌, subst, arith, length-append}
+use Rattle.std.specs.Prelude.{Ok}
 use Rattle.std.proofs.lemmas.Grind.{common_steps}
 use Rattle.std.proofs.lemmas.List.{nil_from_length}
 use Rattle.std.proofs.KnownBytes.{Appends-nil, Consumes-nil}
@@ -8,7 +8,7 @@ use Rattle.desk_records.specs.RecordLists.{max_records}
 use Rattle.desk_records.proofs.FoundLemmas.{wanted_short}
 use Rattle.desk_records.proofs.ListLemmas.{rest_shorter}
 use Rattle.http_desk.specs.ReplaySteps.{ReadsMore}
-use Rattle.http_desk.proofs.ReplayLemmas.{Progress, started, read_on, answered_on, ended, bad_at_end, bad_stop, stopped_by, unremembered, unread, unwritten_stop}
+use Rattle.http_desk.proofs.ReplayLemmas.{started, read_on, answered_on, ended, bad_at_end, bad_stop, stopped_by, unremembered, unread, unwritten_stop}
 use Rattle.http_desk.proofs.replaying.replay.Goals as goal
 
 pub records-init : goal.records-init

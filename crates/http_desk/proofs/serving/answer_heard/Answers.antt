@@ -1,4 +1,4 @@
-use Rattle.std.proofs.Common.{rules, arith, refl}
+use Rattle.std.proofs.Common.{arith, refl}
 use Rattle.http_desk.proofs.serving.answer_heard.Goals as goal
 
 pub returns : goal.returns

@@ -1,0 +1,3 @@
+pub mod Folders
+pub mod Stopping
+pub mod Running

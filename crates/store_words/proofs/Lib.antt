@@ -1,0 +1,10 @@
+pub mod AskWordLemmas
+pub mod LineLemmas
+pub mod OptionWordLemmas
+pub mod PackWordLemmas
+pub mod PlainLineLemmas
+pub mod PolicyReplayWordLemmas
+pub mod PolicyWordLemmas
+pub mod ReplayWordLemmas
+pub mod ServeWordLemmas
+pub mod UnpackWordLemmas

@@ -1,0 +1,20 @@
+use Rattle.std.proofs.Common.{◌∙◌, codes, refl, sym}
+use Rattle.store_words.specs.StoreLine.{replay_command}
+use Rattle.store_words.proofs.LineLemmas.{handed_on}
+use Rattle.store_words.proofs.lines.read_replay.Goals as goal
+
+pub returns-in_err-matches-clause-refused : goal.returns-in_err-matches-clause-refused
+unfolding replay_command
+returns-in_err-matches-clause-refused c =
+    handed_on c.from_residual.result _ _ _ c.from_residual.ensures.1 c.in_err-matches.ensures.refused (λ have. have.2.taken)
+
+pub returns-clause-values : goal.returns-clause-values
+unfolding replay_command
+returns-clause-values c = (
+  refl,
+  record {
+    taken = c.in_ok-matches.ensures.taken;
+    at_policy = sym (c.get_str.ensures ∙ c.in_ok-matches.ensures.values (codes "POLICY"));
+    at_store = sym (c.word_at.ensures ∙ c.in_ok-matches.ensures.values (codes "STORE"));
+  },
+)

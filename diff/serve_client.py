@@ -1,0 +1,303 @@
+"""What `depot serve` does with peers that cut, dribble, stop and go on, and with being killed.
+
+Words: the program, a folder of its own, a policy, how many times the office is killed. Called by
+`serve.sh`. Fails at the first thing that is otherwise than `docs/HTTP.md` says.
+"""
+
+import hashlib
+import json
+import os
+import random
+import shutil
+import signal
+import socket
+import subprocess
+import sys
+import time
+
+PROGRAM, FOLDER, POLICY, KILLS = sys.argv[1], sys.argv[2], sys.argv[3], int(sys.argv[4])
+DAY = "2024-03-01"
+
+
+class Office:
+    """An office that serves over a file, until it is killed."""
+
+    def __init__(self, store):
+        words = [PROGRAM, "serve", "--port", "0", "--count", "1000000", store, DAY]
+        self.process = subprocess.Popen(words, stdout=subprocess.PIPE, stderr=subprocess.DEVNULL)
+        line = self.process.stdout.readline().decode()
+        assert line.startswith("listening "), line
+        self.port = int(line.split()[1])
+
+    def connect(self, patience=120):
+        peer = socket.create_connection(("127.0.0.1", self.port), timeout=patience)
+        peer.setsockopt(socket.IPPROTO_TCP, socket.TCP_NODELAY, 1)
+        return peer
+
+    def kill(self):
+        self.process.send_signal(signal.SIGKILL)
+        self.process.wait()
+        self.process.stdout.close()
+
+
+def made(name):
+    """The path of a new office."""
+    store = os.path.join(FOLDER, name)
+    subprocess.run([PROGRAM, "policy", store, POLICY], check=True, stdout=subprocess.DEVNULL)
+    return store
+
+
+def request(method, target, body=b""):
+    head = f"{method} {target} HTTP/1.1\r\nDepot-Caller: anna\r\nContent-Length: {len(body)}\r\n\r\n"
+    return head.encode() + body
+
+
+def heard(peer):
+    """All that a peer gets: the status, and the body in full."""
+    got = b""
+    while chunk := peer.recv(65536):
+        got += chunk
+    head, body = got.split(b"\r\n\r\n", 1)
+    lines = head.decode().split("\r\n")
+    lengths = [line.split(": ")[1] for line in lines if line.startswith("Content-Length: ")]
+    assert lengths == [str(len(body))] and "Connection: close" in lines, lines
+    return int(lines[0].split()[1]), body
+
+
+def ask(office, method, target, body=b""):
+    with office.connect() as peer:
+        peer.sendall(request(method, target, body))
+        return heard(peer)
+
+
+def wants(found, status, body):
+    if isinstance(body, str):
+        body = body.encode()
+    assert found == (status, body), (found[0], found[1][:200], status, body[:200])
+
+
+def bag(payload):
+    """The transfer form of a bag of one file."""
+    files = {
+        "bagit.txt": b"BagIt-Version: 1.0\nTag-File-Character-Encoding: UTF-8\n",
+        "data/a": payload,
+        "manifest-sha256.txt": hashlib.sha256(payload).hexdigest().encode() + b"  data/a\n",
+    }
+    form = b"BAGSET 1\n"
+    for path, content in sorted(files.items()):
+        form += f"FILE {len(path)} {len(content)}\n{path}".encode() + content + b"\n"
+    return form + b"END\n"
+
+
+def deposit_target(accession):
+    return f"/deposits?collection=maps&class=y0&accession={accession}&closed=2024-02-29"
+
+
+def opened(name):
+    office = Office(made(name))
+    wants(ask(office, "PUT", "/classes/y0", b'{"years":0}'), 200, '{"class":"y0","years":0}')
+    wants(ask(office, "PUT", "/collections/maps"), 200, '{"collection":"maps"}')
+    return office
+
+
+def cut_and_dribbled():
+    """Requests that end early, and requests of one byte at a time."""
+    office = opened("cut.db")
+    tried = 0
+    whole = request("GET", "/deposits/7")
+    form = request("POST", deposit_target("A-1"), bag(b"abc"))
+    for text in (whole, form):
+        for end in range(0, len(text), 1 if text is whole else 17):
+            with office.connect() as peer:
+                peer.sendall(text[:end])
+                peer.shutdown(socket.SHUT_WR)
+                wants(heard(peer), 400, '{"error":"Truncated"}')
+                tried += 1
+    rows = [
+        (whole, 404, '{"error":"NoSuch","what":"deposit"}'),
+        (form, 201, '{"deposit":1}'),
+        (b"GET  HTTP\r\n\r\n", 400, '{"error":"BadHead"}'),
+        (b"\r\n\r\n", 400, '{"error":"BadHead"}'),
+        (request("GET", "/deposits/1/bag"), 200, bag(b"abc")),
+        (request("PUT", "/classes/y1", b'{"years":1}'), 200, '{"class":"y1","years":1}'),
+        (request("PUT", "/classes/y1", b'{"years":1.0}'), 400, '{"error":"BadBody"}'),
+    ]
+    for text, status, body in rows:
+        with office.connect() as peer:
+            for byte in text:
+                peer.sendall(bytes([byte]))
+            wants(heard(peer), status, body)
+            tried += 1
+    office.kill()
+    print(f"cut or dribbled: {tried} requests answered as worked out")
+
+
+def going_away():
+    """A hundred peers that go after a tenth of a second, one that says nothing, and bodies that are large."""
+    office = opened("away.db")
+    texts = [b"", request("GET", "/due")[:20], request("GET", "/due"), request("POST", deposit_target("A-1"), bag(b"abc"))[:-3]]
+    peers = [office.connect() for _ in range(100)]
+    for index, peer in enumerate(peers):
+        peer.sendall(texts[index % 4])
+    time.sleep(0.1)
+    for peer in peers:
+        peer.close()
+    began = time.monotonic()
+    wants(ask(office, "GET", "/due"), 200, '{"day":"2024-03-01","deposits":[]}')
+    assert time.monotonic() - began < 20
+    wants(ask(office, "POST", deposit_target("A-1"), b"x" * 16777216), 422, '{"error":"BadBag","fault":"S1"}')
+    for length in (16777217, 20000000):
+        with office.connect() as peer:
+            peer.sendall(request("POST", deposit_target("A-1"), b"")[:-5] + f"{length}\r\n\r\n".encode())
+            peer.sendall(b"x" * 16700000)
+            wants(heard(peer), 413, '{"error":"TooLarge"}')
+    silent = office.connect()
+    slow = office.connect()
+    slow.sendall(request("GET", "/due")[:-1])
+    began = time.monotonic()
+    wants(ask(office, "GET", "/due"), 200, '{"day":"2024-03-01","deposits":[]}')
+    waited = time.monotonic() - began
+    assert 55 < waited < 70, waited
+    assert silent.recv(1) == b"" and slow.recv(1) == b""
+    office.kill()
+    print("100 peers that went, 2 that stopped, bodies of 16 MiB and more: the next is served")
+
+
+class Kept:
+    """What an office has to have: what was answered, and what may have been done."""
+
+    def __init__(self):
+        self.bags = {}
+        self.gone = set()
+        self.holds = {}
+        self.released = set()
+        self.last = 0
+        self.asked = 0
+
+    def next_request(self, chance):
+        """A request, and what it does where it is served."""
+        kept = [n for n in self.bags if n not in self.gone]
+        live = [k for k in self.holds if k not in self.released]
+        free = [n for n in kept if n not in {self.holds[k] for k in live}]
+        pick = chance.random()
+        if pick < 0.15 and kept:
+            number = chance.choice(kept)
+            body = json.dumps({"deposit": number, "matter": f"Case {len(self.holds)}"}).encode()
+            return ("POST", "/holds", body), ("hold", len(self.holds) + 1, number)
+        if pick < 0.25 and live:
+            return ("DELETE", f"/holds/{(hold := chance.choice(live))}", b""), ("release", hold, None)
+        if pick < 0.40 and free:
+            return ("DELETE", f"/deposits/{(number := chance.choice(free))}", b""), ("dispose", number, None)
+        self.asked += 1
+        form = bag(chance.randbytes(chance.choice((3, 4000, 100000))))
+        return ("POST", deposit_target(f"B-{self.asked}"), form), ("deposit", self.last + 1, form)
+
+    def done(self, change):
+        kind, number, more = change
+        if kind == "deposit":
+            self.bags[number] = more
+            self.last = number
+        elif kind == "hold":
+            self.holds[number] = more
+        elif kind == "release":
+            self.released.add(number)
+        else:
+            self.gone.add(number)
+
+
+ANSWERS = {
+    "deposit": (201, '{{"deposit":{0}}}'),
+    "hold": (201, '{{"hold":{0}}}'),
+    "release": (200, '{{"hold":{0},"released":"2024-03-01"}}'),
+    "dispose": (200, '{{"day":"2024-03-01","destroyed":{0}}}'),
+}
+
+
+def holds_over(office, number):
+    found = json.loads(ask(office, "GET", f"/deposits/{number}/holds")[1])["holds"]
+    return {hold["hold"] for hold in found}
+
+
+def was_done(office, kept, change):
+    """Whether the office did what was asked when it was killed."""
+    kind, number, more = change
+    if kind == "hold":
+        return number in holds_over(office, more)
+    if kind == "release":
+        return number not in holds_over(office, kept.holds[number])
+    status, _ = ask(office, "GET", f"/deposits/{number}")
+    return status == (200 if kind == "deposit" else 410)
+
+
+def compare(office, kept, numbers):
+    """The office has just what is kept; of these deposits the bags too."""
+    listed = json.loads(ask(office, "GET", "/deposits")[1])["deposits"]
+    assert [record["deposit"] for record in listed] == sorted(set(kept.bags) - kept.gone)
+    for number in kept.gone:
+        wants(ask(office, "GET", f"/deposits/{number}"), 410, '{"day":"2024-03-01","error":"Gone"}')
+    covered = {n for k, n in kept.holds.items()} - kept.gone
+    for number in covered:
+        live = {k for k, n in kept.holds.items() if n == number and k not in kept.released}
+        assert holds_over(office, number) == live, (number, live)
+    for number in numbers:
+        if number in kept.bags and number not in kept.gone:
+            wants(ask(office, "GET", f"/deposits/{number}/bag"), 200, kept.bags[number])
+
+
+def is_whole(store):
+    """SQLite finds a copy of the file and its log whole."""
+    folder = os.path.join(FOLDER, "copy")
+    shutil.rmtree(folder, ignore_errors=True)
+    os.mkdir(folder)
+    for name in os.listdir(FOLDER):
+        if name.startswith(os.path.basename(store)):
+            shutil.copy(os.path.join(FOLDER, name), folder)
+    copy = os.path.join(folder, os.path.basename(store))
+    said = subprocess.run(["sqlite3", "-batch", copy, "PRAGMA integrity_check"], capture_output=True, text=True)
+    assert said.stdout == "ok\n", said
+
+
+def killed():
+    """Kills the office between requests and in them, and looks what is there after each restart."""
+    chance = random.Random(1)
+    kept = Kept()
+    store = os.path.join(FOLDER, "killed.db")
+    office = opened("killed.db")
+    answered, found_done, found_undone = 0, 0, 0
+    for turn in range(KILLS):
+        for _ in range(chance.randrange(1, 5)):
+            (method, target, body), change = kept.next_request(chance)
+            status, text = ANSWERS[change[0]]
+            wants(ask(office, method, target, body), status, text.format(change[1]))
+            kept.done(change)
+            answered += 1
+        pending = None
+        if turn % 2:
+            (method, target, body), pending = kept.next_request(chance)
+            text = request(method, target, body)
+            peer = office.connect()
+            peer.sendall(text[: chance.choice((len(text) // 2, len(text), len(text)))])
+            time.sleep(chance.random() * 0.006)
+        office.kill()
+        is_whole(store)
+        office = Office(store)
+        if pending:
+            peer.close()
+            if was_done(office, kept, pending):
+                kept.done(pending)
+                found_done += 1
+            else:
+                found_undone += 1
+        compare(office, kept, set(list(kept.bags)[-5:]) | set(chance.sample(sorted(kept.bags), min(3, len(kept.bags)))))
+    compare(office, kept, kept.bags)
+    office.kill()
+    print(
+        f"killed {KILLS} times: {answered} answers were kept, and of the requests that it was killed in "
+        f"{found_done} were done and {found_undone} not"
+    )
+
+
+cut_and_dribbled()
+going_away()
+killed()
+print(f"serve: curl, cut and dribbled requests, peers that stop, and {KILLS} kills: as docs/HTTP.md says")
