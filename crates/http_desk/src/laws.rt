@@ -11,13 +11,12 @@ ghost use Rattle.http_desk.specs.Replaying.{AnswersEach};
 ghost use Rattle.http_desk.specs.ReplayRuns.{RunsEach};
 ghost use Rattle.http_desk.specs.Serving.{IsAnswered};
 
-use sqlite::Alter;
-
 pub use desk_answers::laws::{
     allowed_methods, ascending_keys, content_lengths, responses, statuses,
 };
 pub use desk_hearing::laws::{longer_input, one_hearing, spelled_requests};
 pub use desk_records::laws::{last_record, one_list, one_reading, wanted_bytes};
+use sqlite::Alter;
 
 /// Bytes that the desk refuses are answered by the text of that refusal, and leave the office as it
 /// is.
