@@ -1,0 +1,33 @@
+-- What the commands on a store print, and how the program ends.
+use Rattle.std.specs.Prelude.{◌++◌, ◌∷◌, [], ℕ, List, codes, decimal}
+use Rattle.commands.specs.Explaining.{bad_policy_text}
+use Rattle.commands.specs.declared.ending.Ending.{Ending}
+use Rattle.commands.specs.declared.ending.Ending.TheVariants as endings
+use Rattle.office_commands.specs.declared.fault.CommandFault.{CommandFault}
+use Rattle.office_commands.specs.declared.fault.CommandFault.TheVariants.{Policy, BadRecord, Failed}
+use Rattle.office_commands.specs.declared.fault.StoreFault.{StoreFault}
+use Rattle.office_commands.specs.declared.fault.StoreFault.TheVariants.{NotAnOffice, OtherVersion, Memory, Store, Device}
+
+-- the line of a failure
+abbrev pub message_of : StoreFault → List ℕ
+message_of NotAnOffice = codes "store Q1" ++ 10 ∷ []
+message_of OtherVersion = codes "store Q2" ++ 10 ∷ []
+message_of Memory = codes "memory" ++ 10 ∷ []
+message_of Store = codes "store Q4" ++ 10 ∷ []
+message_of Device = codes "device" ++ 10 ∷ []
+
+-- the line of a bad record
+abbrev pub bad_record_text : ℕ → List ℕ
+bad_record_text index = codes "record " ++ decimal index ++ 10 ∷ []
+
+-- the line that standard error is told
+abbrev pub fault_text : CommandFault → List ℕ
+fault_text (Policy fault) = bad_policy_text fault
+fault_text (BadRecord index) = bad_record_text index
+fault_text (Failed fault cause) = message_of fault
+
+-- how the program ends then
+abbrev pub ending_of : CommandFault → Ending
+ending_of (Policy fault) = endings.Refused
+ending_of (BadRecord index) = endings.Refused
+ending_of (Failed fault cause) = endings.Failed
