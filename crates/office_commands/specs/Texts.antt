@@ -3,6 +3,11 @@ use Rattle.std.specs.Prelude.{◌++◌, ◌∷◌, [], ℕ, List, codes, decimal
 use Rattle.commands.specs.Explaining.{bad_policy_text}
 use Rattle.commands.specs.declared.ending.Ending.{Ending}
 use Rattle.commands.specs.declared.ending.Ending.TheVariants as endings
+use Rattle.std.specs.Prelude.{None}
+use Rattle.office_tables.specs.declared.fault.TableFault.{TableFault}
+use Rattle.office_tables.specs.declared.fault.TableFault.TheVariants as tables
+use Rattle.http_desk.specs.declared.serving.DeskFault.{DeskFault}
+use Rattle.http_desk.specs.declared.serving.DeskFault.TheVariants as desk
 use Rattle.office_commands.specs.declared.fault.CommandFault.{CommandFault}
 use Rattle.office_commands.specs.declared.fault.CommandFault.TheVariants.{Policy, BadRecord, Failed}
 use Rattle.office_commands.specs.declared.fault.StoreFault.{StoreFault}
@@ -31,3 +36,19 @@ abbrev pub ending_of : CommandFault → Ending
 ending_of (Policy fault) = endings.Refused
 ending_of (BadRecord index) = endings.Refused
 ending_of (Failed fault cause) = endings.Failed
+
+-- ---- what the faults of the layers below come to
+
+abbrev pub fails : StoreFault → CommandFault
+fails fault = Failed fault None
+
+abbrev pub table_failure : TableFault → CommandFault
+table_failure tables.NotAnOffice = fails NotAnOffice
+table_failure tables.OtherVersion = fails OtherVersion
+table_failure tables.Memory = fails Memory
+table_failure tables.Store = fails Store
+
+abbrev pub desk_failure : DeskFault → CommandFault
+desk_failure desk.Read = fails Device
+desk_failure (desk.Write done) = fails Device
+desk_failure (desk.Memory done) = fails Memory

@@ -1,7 +1,8 @@
 //! Why a command on a store doesn't come to its end, and what standard error is told of it.
 
-ghost use Rattle.std.specs.Prelude.{◌≡◌, IfOk, string_bytes};
+ghost use Rattle.std.specs.Prelude.{◌≡◌, IfOk, None, Some, string_bytes};
 ghost use Rattle.office_commands.specs.Texts.{ending_of, fault_text, message_of};
+ghost use Rattle.office_commands.specs.declared.fault.CommandFault.TheVariants.{Failed};
 
 use commands::Ending;
 use office_core::PolicyFault;
@@ -79,7 +80,24 @@ pub enum CommandFault {
     },
 }
 
+/// A failure, and what it came from.
+pub(crate) fn failed_by(fault: StoreFault, cause: Cause) -> CommandFault
+    ensures { result ≡ Failed fault (Some cause) }
+{
+    CommandFault::Failed {
+        fault,
+        cause: Some(cause),
+    }
+}
+
 impl CommandFault {
+    /// A failure of which no more is known.
+    pub(crate) fn failed(fault: StoreFault) -> CommandFault
+        ensures { result ≡ Failed fault None }
+    {
+        CommandFault::Failed { fault, cause: None }
+    }
+
     /// The line that says so on standard error.
     pub fn line(&self, alloc: Global) -> Result<String, AllocError>
         ensures { IfOk result (λ text. string_bytes text ≡ fault_text self.now) }

@@ -3,7 +3,13 @@
 #![tactic(auto)]
 
 mod fault;
+mod policy_file;
+mod printing;
 mod running;
+mod stores;
+mod task;
+mod working;
 
 pub use fault::{Cause, CommandFault, StoreFault};
-pub use running::{ask_command, policy_command, replay_command, serve_command};
+pub use running::{ask_command, policy_command};
+pub use working::{ask_office, install_policy};

@@ -1,11 +1,43 @@
 //! The commands on a store.
 
+
+
 use crate::fault::{CommandFault, StoreFault};
+use crate::policy_file::policy_in_file;
+use crate::printing::{installed_line, print, refused_line};
+use crate::stores::in_store;
+use crate::task::Task;
 use commands::Ending;
-use office_core::Day;
+use http_desk::Counted;
+use office_core::{Day, Policy};
 use sqlite::Start;
+use std::alloc::{AllocError, Global};
 use std::io::{Read, Write};
 use std::rt::HostRuntime;
+
+/// Prints a line, where there was memory for it.
+fn print_line<O: Write>(
+    line: Result<String, AllocError>,
+    out: &mut Counted<O>,
+) -> Result<(), CommandFault> {
+    match line {
+        Ok(text) => print(text.as_str(), out),
+        Err(_) => Err(CommandFault::failed(StoreFault::Memory)),
+    }
+}
+
+/// Installs the policy in the store, and says so.
+fn install_in<S: Start, O: Write>(
+    rt: &HostRuntime,
+    start: S,
+    store: &str,
+    policy: &Policy,
+    out: &mut Counted<O>,
+) -> Result<(), CommandFault> {
+    let mut nothing = Counted::new(b"".as_slice());
+    in_store(rt, start, store, &Task::Install(policy), &mut nothing, out)?;
+    print_line(installed_line(rt.alloc(), policy), out)
+}
 
 /// `policy STORE POLICY`: installs the policy, and makes the office first where there is no store.
 ///
@@ -15,9 +47,18 @@ pub fn policy_command<S: Start, O: Write>(
     start: S,
     store: &str,
     policy: &str,
-    out: &mut O,
+    out: &mut Counted<O>,
 ) -> Result<Ending, CommandFault> {
-    Err(CommandFault::Failed { fault: StoreFault::Device, cause: None })
+    match policy_in_file(rt, policy)? {
+        Ok(policy) => {
+            install_in(rt, start, store, &policy, out)?;
+            Ok(Ending::Accepted)
+        }
+        Err(fault) => {
+            print_line(refused_line(rt.alloc(), fault), out)?;
+            Ok(Ending::Refused)
+        }
+    }
 }
 
 /// `ask STORE DAY`: answers the one request that the input gives, on that day.
@@ -26,37 +67,9 @@ pub fn ask_command<S: Start, R: Read, O: Write>(
     start: S,
     store: &str,
     day: Day,
-    input: &mut R,
-    out: &mut O,
+    input: &mut Counted<R>,
+    out: &mut Counted<O>,
 ) -> Result<Ending, CommandFault> {
-    Err(CommandFault::Failed { fault: StoreFault::Device, cause: None })
-}
-
-/// `replay [--policy POLICY] STORE`: installs the policy, where there is one, and answers the
-/// records that the input gives.
-pub fn replay_command<S: Start, R: Read, O: Write>(
-    rt: &HostRuntime,
-    start: S,
-    store: &str,
-    policy: Option<&str>,
-    input: &mut R,
-    out: &mut O,
-) -> Result<Ending, CommandFault> {
-    Err(CommandFault::Failed { fault: StoreFault::Device, cause: None })
-}
-
-/// `serve --port P --count N STORE DAY`: serves so many connections to that port of 127.0.0.1, one
-/// after the other, on that day. With the port 0 the machine picks one.
-///
-/// Prints `listening P` before the first.
-pub fn serve_command<S: Start, O: Write>(
-    rt: &HostRuntime,
-    start: S,
-    store: &str,
-    day: Day,
-    port: u16,
-    count: u32,
-    out: &mut O,
-) -> Result<Ending, CommandFault> {
-    Err(CommandFault::Failed { fault: StoreFault::Device, cause: None })
+    in_store(rt, start, store, &Task::Ask(day), input, out)?;
+    Ok(Ending::Accepted)
 }
