@@ -65,7 +65,7 @@ pub made_where_none : {A E : Type 0} (r : Result A E) (shown : A → State) (ima
     → (HasCleanDisk s → Opens s × IsLive s) → (HasCleanDisk s → FindsIn image s)
     → IfOk r (λ o. HasCleanDisk (shown o) → (h : History) → HoldsWhere (IsLeftOf h) image → IsKeptBy h (shown o))
 made_where_none (Err e) shown image s cleans empty opened found = tt
-made_where_none (Ok o) shown image s cleans empty opened found clean h holds =
+made_where_none (Ok o) shown image s cleans empty opened found = λ clean h holds.
     let was = cleans clean in
     let left = found_of image s (opened was).0 (opened was).1 (found was) h holds in
     let never : false ≡ true = empty (shows_more s (opened was).1 (opened was).0.is_open h left) in
@@ -77,7 +77,7 @@ pub taken_as_held : {A E : Type 0} (r : Result A E) (shown : A → State) (image
     → (HasCleanDisk s → Opens s × IsLive s) → (HasCleanDisk s → FindsIn image s)
     → IfOk r (λ o. HasCleanDisk (shown o) → (h : History) → HoldsWhere (IsLeftOf h) image → IsKeptBy h (shown o))
 taken_as_held (Err e) shown image s cleans goes_on opened found = tt
-taken_as_held (Ok o) shown image s cleans goes_on opened found clean h holds =
+taken_as_held (Ok o) shown image s cleans goes_on opened found = λ clean h holds.
     let was = cleans clean in goes_on clean h (found_of image s (opened was).0 (opened was).1 (found was) h holds)
 
 -- ---- closed
@@ -87,7 +87,7 @@ pub done_on_files : {D E : Type 0} (g : Ghosts D) (r : Result (Files D) E) (task
     → IfOk r (λ files. AreClean g files.log files.db → (h : History) → IsLegal h → IsKeptBy h (file_state first)
     → (next : History) × DoesFrom task h next was_left left held holds × IsLegal next × HoldsWhere (IsLeftOf next) (image_of g files))
 done_on_files g (Err e) task first last was_left left held holds does copied = tt
-done_on_files g (Ok files) task first last was_left left held holds does copied clean h legal keeps =
+done_on_files g (Ok files) task first last was_left left held holds does copied = λ clean h legal keeps.
     let it = copied clean in
     let at = done_from over_files task first last was_left left held holds does it.was_clean h legal keeps in
     (at.0, at.1, at.2.legal, held_of (image_of g files) (file_state last) it.was_open it.seen.both at.0 at.2)

@@ -4,3 +4,4 @@ pub mod AnsweringLemmas
 pub mod AskingLemmas
 pub mod TaskLemmas
 pub mod FileLemmas
+pub mod ReplayingLemmas

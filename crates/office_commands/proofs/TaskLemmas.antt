@@ -1,5 +1,5 @@
 -- What a task does over a store that keeps a history, it does from that history.
-use Rattle.std.proofs.Common.{◌≡◌, ◌≤◌, ℕ, List, Option, Some, None, Result, Ok, Err, OnOk, refl, arith, subst, ap₂}
+use Rattle.std.proofs.Common.{◌≡◌, ◌≤◌, ℕ, List, Option, Some, None, Result, Ok, Err, OnOk, refl, arith, subst, ap₂, option_copied}
 use Rattle.std.specs.Io.KnownBytes.{Keeps}
 use Rattle.sqlite.specs.Held.{Held, state}
 use Rattle.sqlite.specs.State.{State, HasCleanDisk, Survives}
@@ -15,8 +15,9 @@ use Rattle.office_engine.specs.Keeping.{CommitsTo, Installs, IsKeptBy, IsReached
 use Rattle.office_commands.specs.Answering.{made_office}
 use Rattle.office_commands.specs.Tasks.{Does, DoesFrom}
 use Rattle.office_commands.specs.declared.task.Task.{Task}
-use Rattle.office_commands.specs.declared.task.Task.TheVariants.{Install, Ask}
-use Rattle.office_commands.proofs.AnsweringLemmas.{answered_from, was_clean}
+use Rattle.office_commands.specs.declared.task.Task.TheVariants.{Install, Ask, Replay}
+use Rattle.office_commands.proofs.AnsweringLemmas.{answered_from}
+use Rattle.office_commands.proofs.ReplayingLemmas.{replays_from}
 
 pub keeps_same : (known : Option (List ℕ)) → Keeps known known
 keeps_same None = tt
@@ -37,10 +38,7 @@ done_from g (Ask day) first last was_left left held holds does clean h legal kee
     let it = answered_from g asked.1 day asked.0 does.0 first last asked.3 clean h legal keeps in
     (it.0, (asked.0, does.0, asked.2, it.1, does.2), it.2)
 
-pub was_clean_before : {S : Type 0} (g : Ghosts S) (task : Task) (first last : Held S) (was_left left held holds : Option (List ℕ)) → Does g task first last was_left left held holds
-    → HasCleanDisk (state g last) → HasCleanDisk (state g first)
-was_clean_before g (Install policy) first last was_left left held holds does clean = does.0 clean
-was_clean_before g (Ask day) first last was_left left held holds does clean = let asked = does.1 in was_clean g asked.1 day asked.0 does.0 first last asked.3 clean
+done_from g (Replay policy) first last was_left left held holds does clean h legal keeps = replays_from g (option_copied policy) first last was_left left held holds does clean h legal keeps
 
 pub made_is_legal : IsLegal made_office
 made_is_legal = new max_limit max_limit (omega arith, omega arith) (omega arith, omega arith)

@@ -8,6 +8,8 @@ use Rattle.office_tables.specs.declared.fault.TableFault.{TableFault}
 use Rattle.office_tables.specs.declared.fault.TableFault.TheVariants as tables
 use Rattle.http_desk.specs.declared.serving.DeskFault.{DeskFault}
 use Rattle.http_desk.specs.declared.serving.DeskFault.TheVariants as desk
+use Rattle.http_desk.specs.declared.replaying.ReplayStop.{ReplayStop}
+use Rattle.http_desk.specs.declared.replaying.ReplayStop.TheVariants as stops
 use Rattle.office_commands.specs.declared.fault.CommandFault.{CommandFault}
 use Rattle.office_commands.specs.declared.fault.CommandFault.TheVariants.{Policy, BadRecord, Failed}
 use Rattle.office_commands.specs.declared.fault.StoreFault.{StoreFault}
@@ -52,3 +54,9 @@ abbrev pub desk_failure : DeskFault → CommandFault
 desk_failure desk.Read = fails Device
 desk_failure (desk.Write done) = fails Device
 desk_failure (desk.Memory done) = fails Memory
+
+abbrev pub replay_failure : ReplayStop → CommandFault
+replay_failure (stops.BadRecord index) = BadRecord index
+replay_failure stops.Read = fails Device
+replay_failure stops.Write = fails Device
+replay_failure stops.Memory = fails Memory

@@ -1,10 +1,12 @@
 //! What is printed on standard output.
 
-ghost use Rattle.std.specs.Prelude.{◌≡◌, IfOk, OnErr, OnOk, string_bytes};
+ghost use Rattle.std.specs.Prelude.{◌≡◌, IfErr, IfOk, OnOk, string_bytes};
 ghost use Rattle.std.specs.Io.KnownBytes.{Appends, Keeps};
 ghost use Rattle.commands.specs.Explaining.{bad_policy_text};
 ghost use Rattle.commands.specs.Failing.{IsCutShort};
 ghost use Rattle.office_commands.specs.Policies.{installed_text};
+ghost use Rattle.office_commands.specs.Texts.{fails};
+ghost use Rattle.office_commands.specs.declared.fault.StoreFault.TheVariants.{Device};
 
 use crate::fault::{CommandFault, StoreFault};
 use desk_devices::{Counted, write_whole};
@@ -14,7 +16,8 @@ use std::io::Write;
 
 /// Hands on what was written.
 pub fn flush<W: Write>(out: &mut Counted<W>) -> Result<(), CommandFault>
-    ensures { Keeps (W.contents out.old.device) (W.contents out.new.device) }
+    ensures kept { Keeps (W.contents out.old.device) (W.contents out.new.device) }
+    ensures fault { IfErr result (λ fault. fault ≡ fails Device) }
 {
     match out.flush() {
         Ok(()) => Ok(()),

@@ -1,6 +1,6 @@
 //! The stores: an office in memory, or in a file.
 
-ghost use Rattle.std.specs.Prelude.{◌≡◌, ◌≢◌, false, IfOk, IsErr, OnOk};
+ghost use Rattle.std.specs.Prelude.{◌≡◌, ◌≢◌, false, IfOk, IsErr, OnOk, codes};
 ghost use Rattle.sqlite.specs.Closing.{IsCopied};
 ghost use Rattle.sqlite.specs.Files.{IsOpened, file_state, image_of};
 ghost use Rattle.sqlite.specs.Start.{FindsIn};
@@ -210,7 +210,11 @@ pub fn in_store<S: Start, R: Read, O: Write>(
     task: &Task<'_>,
     input: &mut Counted<R>,
     out: &mut Counted<O>,
-) -> Result<(), CommandFault> {
+) -> Result<(), CommandFault>
+    ensures memory { store.now ≡ codes ":memory:" → OnOk result ((next : History) × DoesFrom task.now made_office next
+        (R.remaining input.old.device) (R.remaining input.new.device)
+        (O.contents out.old.device) (O.contents out.new.device)) }
+{
     if store == ":memory:" {
         return in_memory(rt.alloc(), task, input, out);
     }

@@ -4,7 +4,7 @@ ghost use Rattle.std.specs.Prelude.{OnOk};
 ghost use Rattle.office_commands.specs.Tasks.{Does};
 
 use crate::fault::CommandFault;
-use crate::working::{ask_office, install_policy};
+use crate::working::{ask_office, install_policy, replay_under};
 use http_desk::Counted;
 use office_core::{Day, Policy};
 use office_engine::Office;
@@ -19,12 +19,14 @@ pub enum Task<'a> {
     Install(&'a Policy),
     /// Answer one request on that day.
     Ask(Day),
+    /// Replay records, behind an install of the policy where there is one.
+    Replay(Option<&'a Policy>),
 }
 
 impl Task<'_> {
     /// Whether the office is made where there is none: only where a policy comes with the task.
     pub fn makes_office(&self) -> bool {
-        matches!(self, Task::Install(_))
+        matches!(self, Task::Install(_) | Task::Replay(Some(_)))
     }
 }
 
@@ -43,5 +45,6 @@ pub fn perform<S: Alter, R: Read, O: Write>(
     match task {
         Task::Install(policy) => install_policy(alloc, office, policy),
         Task::Ask(day) => ask_office(alloc, office, *day, input, out),
+        Task::Replay(policy) => replay_under(alloc, office, *policy, input, out),
     }
 }

@@ -1,16 +1,16 @@
 //! What is done with an open office, over any store.
 
-ghost use Rattle.std.specs.Prelude.{◌≡◌, IfErr, OnErr, OnOk};
+ghost use Rattle.std.specs.Prelude.{◌≡◌, OnErr, OnOk, option_copied};
 ghost use Rattle.sqlite.specs.Held.{state};
 ghost use Rattle.sqlite.specs.State.{HasCleanDisk, Survives};
 ghost use Rattle.office_tables.specs.Opening.{IsKept};
 ghost use Rattle.office_engine.specs.Keeping.{CommitsTo, InstallLasts, Installs, LeavesEither, with_policy};
-ghost use Rattle.office_commands.specs.Texts.{desk_failure, table_failure};
-ghost use Rattle.office_commands.specs.Working.{Asks, AsksInPart};
+ghost use Rattle.office_commands.specs.Texts.{desk_failure, replay_failure, table_failure};
+ghost use Rattle.office_commands.specs.Working.{Asks, AsksInPart, EndsReplay, InstallsFirst, ReplaysUnder};
 
 use crate::fault::{CommandFault, StoreFault};
 use crate::printing::flush;
-use http_desk::{Counted, DeskFault, serve_one};
+use http_desk::{Counted, DeskFault, ReplayStop, replay, serve_one};
 use office_core::{Day, Policy};
 use office_engine::Office;
 use office_tables::TableFault;
@@ -84,4 +84,63 @@ pub fn ask_office<S: Alter, R: Read, W: Write>(
         Ok(()) => flush(out),
         Err(fault) => Err(desk_failure(fault)),
     }
+}
+
+/// What a replay that stopped comes to.
+fn replay_failure(stop: ReplayStop) -> CommandFault
+    ensures { result ≡ replay_failure stop }
+{
+    match stop {
+        ReplayStop::BadRecord { index } => CommandFault::BadRecord { index },
+        ReplayStop::Read | ReplayStop::Write => CommandFault::failed(StoreFault::Device),
+        ReplayStop::Memory => CommandFault::failed(StoreFault::Memory),
+    }
+}
+
+/// Answers the records that the input gives, one after the other, to its end.
+pub fn replay_office<S: Alter, R: Read, W: Write>(
+    alloc: Global,
+    office: &mut Office<S>,
+    input: &mut Counted<R>,
+    out: &mut Counted<W>,
+) -> Result<(), CommandFault>
+    ensures { EndsReplay S.Store office.old office.new
+        (R.remaining input.old.device) (R.remaining input.new.device)
+        (W.contents out.old.device) (W.contents out.new.device) result }
+{
+    match replay(alloc, office, input, out) {
+        Ok(_) => flush(out),
+        Err(fault) => Err(replay_failure(fault.stop)),
+    }
+}
+
+/// Installs the policy, where there is one.
+#[tactic(auto, using(crate::proofs::ReplayingLemmas::installed_first))]
+fn install_first<S: Alter>(
+    alloc: Global,
+    office: &mut Office<S>,
+    policy: Option<&Policy>,
+) -> Result<(), CommandFault>
+    ensures { OnOk result (InstallsFirst S.Store (option_copied policy.entry) office.old office.new) }
+{
+    match policy {
+        Some(policy) => install_policy(alloc, office, policy),
+        None => Ok(()),
+    }
+}
+
+/// Installs the policy, where there is one, and then answers the records.
+pub fn replay_under<S: Alter, R: Read, W: Write>(
+    alloc: Global,
+    office: &mut Office<S>,
+    policy: Option<&Policy>,
+    input: &mut Counted<R>,
+    out: &mut Counted<W>,
+) -> Result<(), CommandFault>
+    ensures { OnOk result (ReplaysUnder S.Store (option_copied policy.entry) office.old office.new
+        (R.remaining input.old.device) (R.remaining input.new.device)
+        (W.contents out.old.device) (W.contents out.new.device)) }
+{
+    install_first(alloc, office, policy)?;
+    replay_office(alloc, office, input, out)
 }

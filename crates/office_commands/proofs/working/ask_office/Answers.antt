@@ -4,7 +4,7 @@ use Rattle.office_commands.proofs.working.ask_office.Goals as goal
 pub returns-in-Ok-clause-failed : goal.returns-in-Ok-clause-failed
 returns-in-Ok-clause-failed g c =
     let it = c.in-Ok.ensures.answered in
-    not_handed_on c.flush.result g.S.Store c.args.day c.args.office.now c.serve_one.new.office _ _ _ _ _ it.0 it.1 it.2 it.3 it.4 it.5 c.flush.ensures
+    not_handed_on c.flush.result g.S.Store c.args.day c.args.office.now c.serve_one.new.office _ _ _ _ _ it.0 it.1 it.2 it.3 it.4 it.5 c.flush.ensures.kept
 
 pub returns-in-Err-clause-failed : goal.returns-in-Err-clause-failed
 returns-in-Err-clause-failed g c =
