@@ -1,0 +1,3 @@
+pub mod ServingLemmas
+pub mod ReplayLemmas
+pub mod RunLemmas

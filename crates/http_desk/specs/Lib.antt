@@ -1,1 +1,4 @@
 pub mod Serving
+pub mod Replaying
+pub mod ReplaySteps
+pub mod ReplayRuns

@@ -1,6 +1,6 @@
 //! One request, heard, served and answered.
 
-ghost use Rattle.std.specs.Prelude.{◌≡◌, ◌<◌, ℕ, Bool, List, length, take, true, false, Err, OnOk, IfOk, IfErr};
+ghost use Rattle.std.specs.Prelude.{◌≡◌, ◌<◌, ℕ, Bool, List, length, take, true, false, Err, OnOk, IfOk, IfErr, IfSome};
 ghost use Rattle.std.specs.Io.KnownBytes.{Appends, Consumes};
 ghost use Rattle.sqlite.specs.Held.{state};
 ghost use Rattle.office_core.specs.declared.answer.Answer.{Answer};
@@ -89,6 +89,11 @@ pub(crate) fn respond<S: Alter, R: Read>(
         × Consumes (R.remaining reader.old.device) (R.remaining reader.new.device) given
         × ServesBytes day given (state S.Store office.old) (state S.Store office.new) answer }
     ensures not_served { result ≡ Err (Unanswered.Memory false) → office.new ≡ office.old }
+    // Where all that the reader has is known, it is all that is heard.
+    ensures whole { IfSome (R.remaining reader.old.device) (λ input. IfOk result (λ response.
+        IsAnswered S.Store response.done day input office.old office.new response.bytes.items)) }
+    ensures whole_served { result ≡ Err (Unanswered.Memory true) → IfSome (R.remaining reader.old.device) (λ input.
+        (answer : Answer) × ServesBytes day input (state S.Store office.old) (state S.Store office.new) answer) }
 {
     match hear_request(alloc, routes, reader) {
         Ok(heard) => match answer_heard(alloc, office, day, &heard) {

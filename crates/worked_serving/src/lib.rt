@@ -4,4 +4,6 @@
 #[cfg(test)]
 mod office;
 #[cfg(test)]
+mod replays;
+#[cfg(test)]
 mod tests;

@@ -2,6 +2,7 @@ use Rattle.std.proofs.Common.{rules, ◌≡◌, Err, refl, subst}
 use Rattle.desk_answers.specs.Answers.{refusal_text}
 use Rattle.desk_hearing.specs.Reading.{HeardOf}
 use Rattle.desk_hearing.specs.declared.fault.HeardFault.TheVariants.{Refused}
+use Rattle.http_desk.proofs.ServingLemmas.{whole_answer}
 use Rattle.http_desk.proofs.serving.respond.Goals as goal
 
 pub returns-in-Ok-answer_heard-clause-answered : goal.returns-in-Ok-answer_heard-clause-answered
@@ -22,3 +23,8 @@ returns-in-Ok-refusal_bytes-clause-answered g c =
     let refused : HeardOf h.0 (Err (Refused c.in-Err-Refused.refusal)) = subst (λ f. HeardOf h.0 (Err f)) c.in-Err-Refused.field-0-is h.2 in
     let said : c.in-Ok-refusal_bytes.bytes.items ≡ refusal_text c.in-Err-Refused.refusal = search rules in
     (h.0, h.1, (c.in-Err-Refused.refusal, refused, refl, said))
+
+pub returns-in-Ok-answer_heard-clause-whole : goal.returns-in-Ok-answer_heard-clause-whole
+returns-in-Ok-answer_heard-clause-whole g c =
+    let s = c.in-Ok-answer_heard.ensures in
+    whole_answer g.S.Store c.args.office.now c.answer_heard.new.office _ _ c.in-Ok.heard s.0 _ c.in-Ok.ensures.whole s.1 s.2

@@ -1,0 +1,45 @@
+-- Records that are answered one after the other are a run.
+use Rattle.std.proofs.Common.{◌≡◌, ℕ, List, [], ◌∷◌, Bool, true, false, refl, sym, subst}
+use Rattle.std.specs.Prelude.{Result, Ok, Err}
+use Rattle.sqlite.specs.Held.{Held, state}
+use Rattle.sqlite.specs.State.{HasCleanDisk}
+use Rattle.sqlite.specs.Store.{Ghosts}
+use Rattle.office_core.specs.declared.answer.Answer.{Answer}
+use Rattle.office_history.specs.Histories.{History}
+use Rattle.office_history.specs.Runs.{IsLegal, Item, Run}
+use Rattle.office_engine.specs.Keeping.{IsKeptBy, IsReached}
+use Rattle.desk_records.specs.RecordLists.{RequestRecord}
+use Rattle.desk_answers.specs.Answers.{answer_text, refusal_text}
+use Rattle.http_desk.specs.Serving.{IsAnswered}
+use Rattle.http_desk.specs.Replaying.{AnswersRecord, AnswersEach}
+use Rattle.http_desk.specs.ReplayRuns.{IsRunOf, none, served, refused, RunsEach}
+
+-- a disk that is honest behind a record was so before it
+clean_before : {S : Type 0} (g : Ghosts S) (done : Bool) (item : RequestRecord) (old new : Held S) (text : List ℕ)
+    → IsAnswered g done item.day item.bytes old new text → HasCleanDisk (state g new) → HasCleanDisk (state g old)
+clean_before g true item old new text a clean = a.1.2.clean clean
+clean_before g false item old new text a clean = subst (λ o. HasCleanDisk (state g o)) a.2 clean
+
+clean_at : {S : Type 0} (g : Ghosts S) (old new : Held S) (items : List RequestRecord) (texts : List (List ℕ)) → AnswersEach g old items texts new → HasCleanDisk (state g new) → HasCleanDisk (state g old)
+clean_at g old new [] [] each clean = subst (λ o. HasCleanDisk (state g o)) each clean
+clean_at g old new [] (text ∷ texts) each clean = absurd each
+clean_at g old new (item ∷ items) [] each clean = absurd each
+clean_at g old new (item ∷ items) (text ∷ texts) each clean = clean_before g each.1.0 item old each.0 text each.1.1 (clean_at g each.0 new items texts each.2 clean)
+
+one_more : {S : Type 0} (g : Ghosts S) (done : Bool) (old mid new : Held S) (item : RequestRecord) (text : List ℕ) (items : List RequestRecord) (texts : List (List ℕ))
+    → IsAnswered g done item.day item.bytes old mid text → HasCleanDisk (state g mid) → RunsEach g mid new items texts → RunsEach g old new (item ∷ items) (text ∷ texts)
+one_more g true old mid new item text items texts a at_mid later clean h legal kept =
+    let s = a.1.2 in
+    let step = s.serves at_mid h legal kept in
+    let run = later clean step.0 step.2.legal step.2.kept in
+    (s.item ∷ run.0, a.0 ∷ run.1, run.2, subst (λ t. IsRunOf (item ∷ items) (t ∷ texts) (s.item ∷ run.0) (a.0 ∷ run.1)) (sym a.2) (served item a.1.0 s.item a.0 items texts run.0 run.1 a.1.1 s.asks run.3), (step.0, step.1, run.4), run.5)
+one_more g false old mid new item text items texts a at_mid later clean h legal kept =
+    let run = later clean h legal (subst (λ o. IsKeptBy h (state g o)) (sym a.2) kept) in
+    (run.0, run.1, run.2, subst (λ t. IsRunOf (item ∷ items) (t ∷ texts) run.0 run.1) (sym a.3) (refused item a.0 items texts run.0 run.1 a.1 run.3), run.4, run.5)
+
+pub runs_each : {S : Type 0} (g : Ghosts S) (old new : Held S) (items : List RequestRecord) (texts : List (List ℕ)) → AnswersEach g old items texts new → RunsEach g old new items texts
+runs_each g old new [] [] each clean h legal kept = ([], [], h, none, refl, record { legal = legal; kept = subst (λ o. IsKeptBy h (state g o)) (sym each) kept })
+runs_each g old new [] (text ∷ texts) each clean h legal kept = absurd each
+runs_each g old new (item ∷ items) [] each clean h legal kept = absurd each
+runs_each g old new (item ∷ items) (text ∷ texts) each clean h legal kept =
+    one_more g each.1.0 old each.0 new item text items texts each.1.1 (clean_at g each.0 new items texts each.2 clean) (runs_each g each.0 new items texts each.2) clean h legal kept

@@ -1,0 +1,31 @@
+-- A replay as a run of the office: what is heard of each record is an item of the run, and what the desk refuses is none.
+use Rattle.std.specs.Prelude.{ℕ, List, [], ◌∷◌, Ok, Err}
+use Rattle.sqlite.specs.Held.{Held, state}
+use Rattle.sqlite.specs.State.{HasCleanDisk}
+use Rattle.sqlite.specs.Store.{Ghosts}
+use Rattle.office_core.specs.declared.answer.Answer.{Answer}
+use Rattle.office_history.specs.Histories.{History}
+use Rattle.office_history.specs.Runs.{IsLegal, Item, Run}
+use Rattle.office_engine.specs.Keeping.{IsKeptBy, IsReached}
+use Rattle.desk_records.specs.RecordLists.{RequestRecord}
+use Rattle.desk_routes.specs.declared.refusal.DeskRefusal.{DeskRefusal}
+use Rattle.desk_hearing.specs.Asked.{HeardValue}
+use Rattle.desk_hearing.specs.Hearing.{Hears}
+use Rattle.desk_answers.specs.Answers.{answer_text, refusal_text}
+use Rattle.http_desk.specs.Serving.{IsItemOf}
+
+-- the run asks what is heard of the records, in their order; each text is that of its answer, or of the desk's refusal
+pub data IsRunOf : List RequestRecord → List (List ℕ) → List Item → List Answer → Type 0 where
+  none : IsRunOf [] [] [] []
+  served : (item : RequestRecord) (heard : HeardValue) (asked : Item) (answer : Answer) (items : List RequestRecord) (texts : List (List ℕ)) (run : List Item) (answers : List Answer)
+      → Hears item.bytes (Ok heard) → IsItemOf item.day heard asked → IsRunOf items texts run answers
+      → IsRunOf (item ∷ items) (answer_text answer ∷ texts) (asked ∷ run) (answer ∷ answers)
+  refused : (item : RequestRecord) (refusal : DeskRefusal) (items : List RequestRecord) (texts : List (List ℕ)) (run : List Item) (answers : List Answer)
+      → Hears item.bytes (Err refusal) → IsRunOf items texts run answers → IsRunOf (item ∷ items) (refusal_text refusal ∷ texts) run answers
+
+-- whichever legal history was kept, the texts are those of a run from it that asks what is heard of the records, and the history that it
+-- leads to is kept
+abbrev pub RunsEach : {S : Type 0} → Ghosts S → Held S → Held S → List RequestRecord → List (List ℕ) → Type 0
+RunsEach g old new items texts =
+    HasCleanDisk (state g new) → (h : History) → IsLegal h → IsKeptBy h (state g old)
+    → (run : List Item) × (answers : List Answer) × (next : History) × IsRunOf items texts run answers × Run h run answers next × IsReached next (state g new)

@@ -1,0 +1,45 @@
+-- What one step of a replay does: a record is found, the reader is called once more, a record is answered. No clause of a public call names
+-- these. `input`, `left`, `output` and `written` are as in Replaying.
+use Rattle.std.specs.Prelude.{◌≡◌, ◌≢◌, ◌⊎◌, ◌<◌, ◌≤◌, ◌+◌, ℕ, List, [], ◌++◌, Bool, true, false, Option, Result, Ok, Err, length, take}
+use Rattle.std.specs.Io.KnownBytes.{Appends, Consumes, IsAtEnd}
+use Rattle.sqlite.specs.Held.{Held}
+use Rattle.sqlite.specs.Store.{Ghosts}
+use Rattle.desk_records.specs.Records.{IsRecord, record_text, answer_text, CanNotBegin, WantsMore}
+use Rattle.desk_records.specs.RecordLists.{RequestRecord, max_records}
+use Rattle.desk_records.specs.declared.record.Found.{Found}
+use Rattle.desk_records.specs.declared.record.Found.TheVariants as found
+use Rattle.http_desk.specs.Replaying.{AnswersRecord}
+use Rattle.http_desk.specs.declared.answering.Unwritten.{Unwritten}
+use Rattle.http_desk.specs.declared.answering.Unwritten.TheVariants as unwritten
+use Rattle.http_desk.specs.declared.replaying.ReplayStop.{ReplayStop}
+use Rattle.http_desk.specs.declared.replaying.ReplayStop.TheVariants as stops
+use Rattle.http_desk.specs.declared.replaying.ReplayFault.{ReplayFault}
+
+-- what stands behind so many records: a record; nothing, or a beginning; or what is no record, whatever follows
+abbrev pub FoundBehind : ℕ → Found → List ℕ → Type 0
+FoundBehind count (found.Whole day bytes rest) input = IsRecord day bytes.now × (input ≡ record_text day bytes.now ++ rest.now) × (count < max_records)
+FoundBehind count found.More input = WantsMore input
+FoundBehind count found.Bad input = (input ≢ []) × (CanNotBegin input ⊎ (count ≡ max_records))
+
+-- one more call of the reader: what it gives is added, and it gives nothing only at the end of the input
+abbrev pub ReadsMore : Option (List ℕ) → Option (List ℕ) → List ℕ → List ℕ → Result Bool ReplayStop → Type 0
+ReadsMore input left pending now (Ok true) = (more : List ℕ) × Consumes input left more × (now ≡ pending ++ more) × (0 < length more) × (length more ≤ 4096)
+ReadsMore input left pending now (Ok false) = Consumes input left [] × IsAtEnd left × (now ≡ pending)
+ReadsMore input left pending now (Err stops.Read) = Consumes input left []
+ReadsMore input left pending now (Err stops.Memory) = (more : List ℕ) × Consumes input left more
+ReadsMore input left pending now (Err stops.Write) = ⊥
+ReadsMore input left pending now (Err (stops.BadRecord index)) = ⊥
+
+-- one record: its answer is written whole, or a beginning of it, or nothing
+abbrev pub AnswersNext : {S T : Type 0} → Ghosts S → Held S → Held S → RequestRecord → Option (List ℕ) → Option (List ℕ) → Result T Unwritten → Type 0
+AnswersNext g old new item output written (Ok _) = (text : List ℕ) × AnswersRecord g old item text new × Appends output written (answer_text text)
+AnswersNext g old new item output written (Err unwritten.Write) =
+    (text : List ℕ) × (n : ℕ) × AnswersRecord g old item text new × (n < length (answer_text text)) × Appends output written (take n (answer_text text))
+AnswersNext g old new item output written (Err (unwritten.Memory true)) = (text : List ℕ) × AnswersRecord g old item text new × Appends output written []
+AnswersNext g old new item output written (Err (unwritten.Memory false)) = (new ≡ old) × Appends output written []
+
+-- the fault of a stop at the record behind so many
+abbrev pub fault_behind : ℕ → Unwritten → ReplayFault
+fault_behind count unwritten.Write = record { stop = stops.Write; done = count + 1; answered = count }
+fault_behind count (unwritten.Memory true) = record { stop = stops.Memory; done = count + 1; answered = count }
+fault_behind count (unwritten.Memory false) = record { stop = stops.Memory; done = count; answered = count }

@@ -1,0 +1,77 @@
+-- What replaying records does. `old` is the office before a call and `new` the office after it; `input` is what the reader had left before
+-- a call and `left` what it has left after it, `output` what the writer held before a call and `written` what it holds after it, where
+-- these are known. The rules are Depot's own.
+use Rattle.std.specs.Prelude.{◌≡◌, ◌≢◌, ◌⊎◌, ◌<◌, ◌≤◌, ◌+◌, ℕ, List, [], ◌∷◌, ◌++◌, Bool, Option, Result, Ok, Err, length, take}
+use Rattle.std.specs.Io.KnownBytes.{Appends, Consumes, IsAtEnd}
+use Rattle.sqlite.specs.Held.{Held}
+use Rattle.sqlite.specs.Store.{Ghosts}
+use Rattle.desk_records.specs.Records.{answer_text, BeginsWithNone, CanNotBegin}
+use Rattle.desk_records.specs.RecordLists.{RequestRecord, AreRecords, HasRecords, request_texts, answer_texts, max_records}
+use Rattle.http_desk.specs.Serving.{IsAnswered}
+use Rattle.http_desk.specs.declared.replaying.ReplayStop.{ReplayStop}
+use Rattle.http_desk.specs.declared.replaying.ReplayStop.TheVariants as stops
+use Rattle.http_desk.specs.declared.replaying.ReplayFault.{ReplayFault}
+
+-- ---- records that are answered
+
+-- a record is answered with this text: by the office, or by the desk, which refuses what it asks
+abbrev pub AnswersRecord : {S : Type 0} → Ghosts S → Held S → RequestRecord → List ℕ → Held S → Type 0
+AnswersRecord g old item text new = (done : Bool) × IsAnswered g done item.day item.bytes old new text
+
+-- records are answered one after the other, with these texts
+abbrev pub AnswersEach : {S : Type 0} → Ghosts S → Held S → List RequestRecord → List (List ℕ) → Held S → Type 0
+AnswersEach g old [] [] new = new ≡ old
+AnswersEach {S} g old (item ∷ items) (text ∷ texts) new = (mid : Held S) × AnswersRecord g old item text mid × AnswersEach g mid items texts new
+AnswersEach g old [] (text ∷ texts) new = ⊥
+AnswersEach g old (item ∷ items) [] new = ⊥
+
+-- ---- what a replay comes to
+
+-- these are the records of what was read, `rest` follows them, and exactly the records of their answers were written
+pub record HasAnswered {S : Type 0} (g : Ghosts S) (old new : Held S) (input left output written : Option (List ℕ)) (items : List RequestRecord) (rest : List ℕ) : Type 0 where
+  pub given : List ℕ
+  pub texts : List (List ℕ)
+  pub reads : Consumes input left given
+  pub records : HasRecords given items rest
+  pub answers : AnswersEach g old items texts new
+  pub writes : Appends output written (answer_texts texts)
+
+-- what was read begins with these records, which are no more than there may be; all are done, and of their answers' records the first
+-- `answered` were written, and `part` behind them
+pub record HasDone {S : Type 0} (g : Ghosts S) (old new : Held S) (input left output written : Option (List ℕ)) (items : List RequestRecord) (texts : List (List ℕ)) (answered : ℕ) (part : List ℕ) : Type 0 where
+  pub rest : List ℕ
+  pub reads : Consumes input left (request_texts items ++ rest)
+  pub each : AreRecords items
+  pub few : length items ≤ max_records
+  pub answers : AnswersEach g old items texts new
+  pub writes : Appends output written (answer_texts (take answered texts) ++ part)
+
+-- what follows so many records is no record: the input ended there, or no bytes that follow would make one, or there are as many records
+-- as there may be
+abbrev pub IsNoRecord : Option (List ℕ) → ℕ → List ℕ → Type 0
+IsNoRecord left count rest = (rest ≢ []) × (IsAtEnd left ⊎ (CanNotBegin rest ⊎ (count ≡ max_records)))
+
+-- the part is a beginning of the record of the last answer, and not all of it
+abbrev pub IsBegun : List (List ℕ) → List ℕ → Type 0
+IsBegun texts part = (before : List (List ℕ)) × (last : List ℕ) × (n : ℕ) × (texts ≡ before ++ last ∷ []) × (n < length (answer_text last)) × (part ≡ take n (answer_text last))
+
+-- a replay stopped: of a bad record, a reader, a writer, or memory that failed
+abbrev pub Stopped : {S : Type 0} → Ghosts S → Held S → Held S → Option (List ℕ) → Option (List ℕ) → Option (List ℕ) → Option (List ℕ) → ReplayFault → ReplayStop → Type 0
+Stopped g old new input left output written fault (stops.BadRecord index) =
+    (items : List RequestRecord) × (rest : List ℕ) × HasAnswered g old new input left output written items rest × IsNoRecord left (length items) rest
+    × (index ≡ length items + 1) × (fault.done ≡ length items) × (fault.answered ≡ length items)
+Stopped g old new input left output written fault stops.Read =
+    (items : List RequestRecord) × (rest : List ℕ) × HasAnswered g old new input left output written items rest × BeginsWithNone rest
+    × (fault.done ≡ length items) × (fault.answered ≡ length items)
+Stopped g old new input left output written fault stops.Write =
+    (items : List RequestRecord) × (texts : List (List ℕ)) × (part : List ℕ) × HasDone g old new input left output written items texts fault.answered part × IsBegun texts part
+    × (fault.done ≡ length items) × (fault.done ≡ fault.answered + 1)
+Stopped g old new input left output written fault stops.Memory =
+    (items : List RequestRecord) × (texts : List (List ℕ)) × HasDone g old new input left output written items texts fault.answered []
+    × (fault.done ≡ length items) × ((fault.done ≡ fault.answered) ⊎ (fault.done ≡ fault.answered + 1))
+
+-- a replay came to the end of the input, or stopped
+abbrev pub Replayed : {S : Type 0} → Ghosts S → Held S → Held S → Option (List ℕ) → Option (List ℕ) → Option (List ℕ) → Option (List ℕ) → Result ℕ ReplayFault → Type 0
+Replayed g old new input left output written (Ok count) =
+    (items : List RequestRecord) × HasAnswered g old new input left output written items [] × IsAtEnd left × (count ≡ length items)
+Replayed g old new input left output written (Err fault) = Stopped g old new input left output written fault fault.stop

@@ -1,0 +1,5 @@
+pub mod Texts
+pub mod Policies
+pub mod Working
+pub mod Answering
+pub mod Tasks
