@@ -9,20 +9,23 @@ use Rattle.commands.specs.declared.ending.Ending.TheVariants as endings
 use Rattle.commands.specs.declared.program.Failure.TheVariants as failures
 use Rattle.commands.specs.declared.use_fault.UseFault.{UseFault}
 use Rattle.commands.specs.declared.use_fault.UseFault.TheVariants as faults
+use Rattle.office_commands.specs.Texts.{ending_of as store_ending, fault_text as store_fault_text}
 use Rattle.program.specs.declared.stopped.Stopped.{Stopped}
-use Rattle.program.specs.declared.stopped.Stopped.TheVariants.{Absent, Folder, Output}
+use Rattle.program.specs.declared.stopped.Stopped.TheVariants.{Absent, Folder, Output, Store}
 
 -- the line that is told first
 abbrev pub line_of : Stopped → List ℕ
 line_of (Folder (folders.Device trouble)) = message_of failures.Device
 line_of (Folder folders.Memory) = message_of failures.Memory
 line_of (Output error) = message_of (failure_of (error_kind error))
+line_of (Store fault) = store_fault_text fault
 line_of Absent = codes "this subcommand isn't there yet" ++ 10 ∷ []
 
 -- how the program ends then
 abbrev pub ending_of : Stopped → Ending
 ending_of (Folder failed) = endings.Failed
 ending_of (Output error) = endings.Failed
+ending_of (Store fault) = store_ending fault
 ending_of Absent = endings.Misused
 
 -- standard error, where its bytes are known, goes on with this text, and the program ends in this way; or standard error fails, and has a
@@ -30,9 +33,10 @@ ending_of Absent = endings.Misused
 abbrev pub Tells : List ℕ → Ending → Option (List ℕ) → Option (List ℕ) → Ending → Type 0
 Tells text end told tells ending = ((ending ≡ end) × BeginsWith text told tells) ⊎ ((ending ≡ endings.Unsaid) × IsCutShort text told tells)
 
--- it is told of this
+-- it is told of this, or that there was no memory to tell of it
 abbrev pub IsToldOf : Stopped → Option (List ℕ) → Option (List ℕ) → Ending → Type 0
-IsToldOf stopped told tells ending = Tells (line_of stopped) (ending_of stopped) told tells ending
+IsToldOf stopped told tells ending =
+    Tells (line_of stopped) (ending_of stopped) told tells ending ⊎ Tells (message_of failures.Memory) endings.Failed told tells ending
 
 -- it is told why words are no use of the program, or that there was no memory to read them
 abbrev pub IsToldOfUse : UseFault → Option (List ℕ) → Option (List ℕ) → Ending → Type 0
