@@ -11,7 +11,8 @@ ghost use Rattle.office_commands.specs.Policies.{SaysOfPolicy, installed_text};
 use crate::fault::{CommandFault, StoreFault};
 use crate::policy_file::policy_in_file;
 use crate::printing::{installed_line, print, refused_line};
-use crate::stores::in_store;
+use crate::listening::desk_at;
+use crate::stores::{in_store, serve_store};
 use crate::task::Task;
 use commands::Ending;
 use http_desk::Counted;
@@ -157,4 +158,24 @@ pub fn replay_command<S: Start, R: Read, O: Write>(
         Ok(policy) => replay_in(rt, start, store, Some(&policy), input, out),
         Err(fault) => Err(CommandFault::Policy(fault)),
     }
+}
+
+/// `serve --port P --count N STORE DAY`: serves so many connections to that port of 127.0.0.1, one
+/// after the other, on that day. With the port 0 the machine picks one.
+///
+/// Prints `listening P` once the store is open, before the first connection is taken.
+pub fn serve_command<S: Start, O: Write>(
+    rt: &HostRuntime,
+    start: S,
+    store: &str,
+    day: Day,
+    port: u16,
+    count: u32,
+    out: &mut Counted<O>,
+) -> Result<Ending, CommandFault>
+    ensures { IfOk result (λ ending. ending ≡ Accepted) }
+{
+    let desk = desk_at(rt, port)?;
+    serve_store(rt, start, store, day, &desk, count, out)?;
+    Ok(Ending::Accepted)
 }

@@ -17,9 +17,10 @@ ghost use Rattle.office_commands.specs.Answering.{made_office};
 ghost use Rattle.office_commands.specs.Tasks.{DoesFrom};
 
 use crate::fault::{Cause, CommandFault, StoreFault, failed_by};
+use crate::listening::{Desk, serve_office};
 use crate::task::{Task, perform};
 use crate::working::table_failure;
-use office_core::{Limits, MAX_LIMIT};
+use office_core::{Day, Limits, MAX_LIMIT};
 use http_desk::Counted;
 use office_engine::Office;
 use sqlite::{Connection, Error, ErrorCode, FileFrom, FileStore, Files, Start};
@@ -219,4 +220,54 @@ pub fn in_store<S: Start, R: Read, O: Write>(
         return in_memory(rt.alloc(), task, input, out);
     }
     in_file(rt, start, store, task, input, out)
+}
+
+/// Serves connections with a new office in memory.
+fn serve_in_memory<O: Write>(
+    alloc: Global,
+    day: Day,
+    desk: &Desk,
+    count: u32,
+    out: &mut Counted<O>,
+) -> Result<(), CommandFault> {
+    let Ok(conn) = Connection::open_in_memory(alloc) else {
+        return Err(CommandFault::failed(StoreFault::Memory));
+    };
+    match Office::create(conn, limits()) {
+        Ok(mut office) => serve_office(alloc, &mut office, day, desk, count, out),
+        Err((_, fault)) => Err(table_failure(fault)),
+    }
+}
+
+/// Serves connections with an open office, and closes it.
+fn serve_on_files<D: Disk + Drop, O: Write>(
+    alloc: Global,
+    mut office: Office<FileStore<D>>,
+    day: Day,
+    desk: &Desk,
+    count: u32,
+    out: &mut Counted<O>,
+) -> Result<Files<D>, CommandFault> {
+    let served = serve_office(alloc, &mut office, day, desk, count, out);
+    let closed = close_office(office);
+    served?;
+    closed
+}
+
+/// Serves connections with the office of the store; `:memory:` is a new one in memory.
+pub fn serve_store<S: Start, O: Write>(
+    rt: &HostRuntime,
+    start: S,
+    store: &str,
+    day: Day,
+    desk: &Desk,
+    count: u32,
+    out: &mut Counted<O>,
+) -> Result<(), CommandFault> {
+    if store == ":memory:" {
+        return serve_in_memory(rt.alloc(), day, desk, count, out);
+    }
+    let office = open_office(rt, start, store, false)?;
+    serve_on_files(rt.alloc(), office, day, desk, count, out)?;
+    Ok(())
 }

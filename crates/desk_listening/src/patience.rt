@@ -1,0 +1,27 @@
+//! How long the desk waits for a peer.
+
+use std::time::Duration;
+
+/// How long the desk waits for a peer, and how much it takes that it doesn't need.
+///
+/// A wait of no time is refused by the socket, and the connection ends there.
+#[derive(Clone, Copy, Debug, PartialEq, Eq)]
+pub struct Patience {
+    /// The longest wait of one read or write, until the answer is written.
+    pub talk: Duration,
+    /// The longest wait of one read after that.
+    pub rest: Duration,
+    /// The most bytes that are read and dropped after that.
+    pub rest_bytes: usize,
+}
+
+impl Default for Patience {
+    /// 30 seconds for a read or a write, 1 second for a read behind the answer, and 16 MiB there.
+    fn default() -> Patience {
+        Patience {
+            talk: Duration::from_secs(30),
+            rest: Duration::from_secs(1),
+            rest_bytes: 16_777_216,
+        }
+    }
+}
