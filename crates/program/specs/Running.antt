@@ -29,7 +29,7 @@ IsDone (Ask store day) was_left left held holds ending =
     (ending ≡ endings.Accepted) × (IsMemory store.now → (next : History) × AsksFrom made_office day next was_left left held holds)
 IsDone (Replay policy store) was_left left held holds ending =
     (ending ≡ endings.Accepted) × (IsMemory store.now → ReplaysInMemory policy was_left left held holds)
-IsDone (Serve port count store day) was_left left held holds ending = ⊥
+IsDone (Serve port count store day) was_left left held holds ending = ending ≡ endings.Accepted
 
 -- what the line asks for is done, and standard error is told nothing; or it comes to no end, and standard error is told why
 abbrev pub Comes : StoreLine → Option (List ℕ) → Option (List ℕ) → Option (List ℕ) → Option (List ℕ) → Option (List ℕ) → Option (List ℕ) → Type 0 → Ending → Type 0

@@ -1,5 +1,5 @@
 -- What standard error is told of a command on folders or a store that comes to no end, and how the program ends.
-use Rattle.std.specs.Prelude.{◌≡◌, ◌⊎◌, ◌++◌, ◌∷◌, [], ℕ, List, Option, codes, string_bytes}
+use Rattle.std.specs.Prelude.{◌≡◌, ◌⊎◌, ℕ, List, Option, string_bytes}
 use Rattle.std.specs.Io.KnownBytes.{Appends}
 use Rattle.std.specs.IoError.{error_kind}
 use Rattle.bag_folders.specs.declared.failed.Failed.TheVariants as folders
@@ -11,7 +11,7 @@ use Rattle.commands.specs.declared.use_fault.UseFault.{UseFault}
 use Rattle.commands.specs.declared.use_fault.UseFault.TheVariants as faults
 use Rattle.office_commands.specs.Texts.{ending_of as store_ending, fault_text as store_fault_text}
 use Rattle.program.specs.declared.stopped.Stopped.{Stopped}
-use Rattle.program.specs.declared.stopped.Stopped.TheVariants.{Absent, Folder, Output, Store}
+use Rattle.program.specs.declared.stopped.Stopped.TheVariants.{Folder, Output, Store}
 
 -- the line that is told first
 abbrev pub line_of : Stopped → List ℕ
@@ -19,14 +19,12 @@ line_of (Folder (folders.Device trouble)) = message_of failures.Device
 line_of (Folder folders.Memory) = message_of failures.Memory
 line_of (Output error) = message_of (failure_of (error_kind error))
 line_of (Store fault) = store_fault_text fault
-line_of Absent = codes "this subcommand isn't there yet" ++ 10 ∷ []
 
 -- how the program ends then
 abbrev pub ending_of : Stopped → Ending
 ending_of (Folder failed) = endings.Failed
 ending_of (Output error) = endings.Failed
 ending_of (Store fault) = store_ending fault
-ending_of Absent = endings.Misused
 
 -- standard error, where its bytes are known, goes on with this text, and the program ends in this way; or standard error fails, and has a
 -- beginning of the text

@@ -7,7 +7,7 @@ use crate::folders::{pack_folder, unpack_form};
 use crate::stopped::Stopped;
 use commands::Ending;
 use desk_devices::Counted;
-use office_commands::{CommandFault, ask_command, policy_command, replay_command};
+use office_commands::{CommandFault, ask_command, policy_command, replay_command, serve_command};
 use sqlite::Start;
 use std::io::{Read, Write};
 use std::rt::HostRuntime;
@@ -44,6 +44,11 @@ pub fn perform<S: Start, R: Read, O: Write>(
         StoreLine::Replay { policy, store } => {
             stored(replay_command(rt, start, store, policy, input, out))
         }
-        StoreLine::Serve { .. } => Err(Stopped::Absent),
+        StoreLine::Serve {
+            port,
+            count,
+            store,
+            day,
+        } => stored(serve_command(rt, start, store, day, port, count, out)),
     }
 }

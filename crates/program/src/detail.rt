@@ -77,7 +77,6 @@ impl fmt::Display for Detail<'_> {
             Stopped::Folder(Failed::Memory) => f.write_str("out of memory"),
             Stopped::Output(error) => write!(f, "cannot write standard output: {error}"),
             Stopped::Store(fault) => self.write_command_fault(fault, f),
-            Stopped::Absent => f.write_str("all but serve are there"),
         }
     }
 }

@@ -18,8 +18,6 @@ pub enum Stopped {
     Output(io::Error),
     /// The store, its policy, its records, or what they stand on.
     Store(CommandFault),
-    /// The subcommand isn't there yet.
-    Absent,
 }
 
 impl Stopped {
@@ -32,7 +30,6 @@ impl Stopped {
             Stopped::Folder(Failed::Memory) => Failure::Memory.message(),
             Stopped::Output(error) => Failure::from(*error).message(),
             Stopped::Store(fault) => return fault.line(alloc),
-            Stopped::Absent => "this subcommand isn't there yet\n",
         };
         String::from_str(alloc, line)
     }
@@ -44,7 +41,6 @@ impl Stopped {
         match self {
             Stopped::Folder(_) | Stopped::Output(_) => Ending::Failed,
             Stopped::Store(fault) => fault.ending(),
-            Stopped::Absent => Ending::Misused,
         }
     }
 }
