@@ -6,4 +6,6 @@ mod folders;
 #[cfg(test)]
 mod runs;
 #[cfg(test)]
+mod stores;
+#[cfg(test)]
 mod words;
