@@ -1,11 +1,10 @@
 -- What a command that takes arguments has, once it is built.
-use Rattle.std.proofs.Common.{zero, suc, ◌≡◌, ◌∙◌, ◌<◌, ◌++◌, not, ap, ap₂, sym, subst, ℕ, Bool, true, false, List, [], ◌∷◌, length, is_some, refl, inl, inr, arith, fold, map, take, get_or, ◌+◌, codes, Ok, Err, Result, IfOk}
+use Rattle.std.proofs.Common.{zero, suc, ◌≡◌, ◌∙◌, ◌<◌, ◌++◌, not, ap, ap₂, sym, subst, ℕ, Bool, true, false, List, [], ◌∷◌, length, is_some, refl, inl, inr, arith, fold, take, get_or, ◌+◌, codes, Ok, Err, Result, IfOk}
 use Rattle.std.specs.List.{All, list_any, slice_index_or}
 use Rattle.std.specs.Str.{bytes_eq}
 use Rattle.std.proofs.lemmas.Bool.{and_parts, false≢true}
 use Rattle.std.proofs.lemmas.List.{map-append, take_more}
 use Rattle.std.proofs.lemmas.List.Elements.{All-cons, All-nil}
-use Rattle.std.proofs.lemmas.List.Folds.{list_any_at}
 use Rattle.std.proofs.lemmas.Slice.Eq.{bytes_eq-Decides}
 use Rattle.clap.specs.Words.{AddsArg, AddsInTurn, App, FailsBy, HasMatchesOf, IsParsedFrom, Rule, Text, app_of, fault_of, first_of, first_value, found_of, is_simple, is_simple_and_free, matches_of, with_rule}
 use Rattle.clap.specs.declared.error.Error.{Error}

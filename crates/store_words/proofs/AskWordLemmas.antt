@@ -1,9 +1,9 @@
 -- What clap makes of the words of `ask`, where they are plain.
-use Rattle.std.proofs.Common.{◌≡◌, ◌∷◌, ◌∙◌, [], List, Option, None, Some, fold, refl, ap, codes, is_some}
+use Rattle.std.proofs.Common.{◌≡◌, ◌∷◌, ◌∙◌, [], Some, refl, ap, codes, is_some}
 use Rattle.clap.specs.Words.{Text, built, fault_of, first_of}
 use Rattle.clap.specs.Kinds.{Kinds, or_else}
 use Rattle.clap.specs.Simple.{Shape, entered}
-use Rattle.clap.specs.Walk.{Held, Walk, finished, nothing_held, pushed, settled, walk, walk_from, walked}
+use Rattle.clap.specs.Walk.{Held, Walk, finished, nothing_held, settled, walk, walk_from}
 use Rattle.clap.specs.Faults.{check_fault, defaults_fault, entered_fault, settle_fault, walk_fault}
 use Rattle.commands.specs.CommandLine.{IsPlainWord, value_of}
 use Rattle.commands.proofs.PlainWordLemmas.{after, before, plain_fault, plain_walk}

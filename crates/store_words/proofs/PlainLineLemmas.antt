@@ -1,6 +1,6 @@
 -- Lines that are written in plain words.
-use Rattle.std.proofs.Common.{◌≡◌, ◌⊎◌, ◌∷◌, ◌^◌, ◌<◌, ◌≤◌, [], ℕ, List, Option, Some, None, Result, Ok, Err, IfErr, IfSome, IsSomeAnd, MatchOption, ap, arith, decimal, inl, inr, refl, slice_get, subst, sym, unwrap_or}
-use Rattle.std.specs.Str.Parse.{IsNumeral, digits_value}
+use Rattle.std.proofs.Common.{◌≡◌, ◌⊎◌, ◌∷◌, ◌^◌, ◌<◌, [], ℕ, List, Option, Some, None, Result, Ok, Err, IfErr, IfSome, IsSomeAnd, MatchOption, ap, arith, decimal, inl, inr, refl, subst, sym, unwrap_or}
+use Rattle.std.specs.Str.Parse.{IsNumeral}
 use Rattle.std.proofs.lemmas.Fmt.{decimal_is_IsNumeral}
 use Rattle.clap.specs.Words.{Text}
 use Rattle.commands.specs.CommandLine.{IsPlainWord}

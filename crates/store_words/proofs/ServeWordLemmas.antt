@@ -1,5 +1,5 @@
 -- What clap makes of the words of `serve`, where they are plain.
-use Rattle.std.proofs.Common.{◌≡◌, ◌∷◌, ◌∙◌, [], List, Option, None, Some, fold, refl, ap, codes, is_some}
+use Rattle.std.proofs.Common.{◌≡◌, ◌∷◌, ◌∙◌, [], List, Some, fold, refl, ap, codes, is_some}
 use Rattle.clap.specs.Words.{Text, built, fault_of, first_of}
 use Rattle.clap.specs.Kinds.{Kinds, or_else}
 use Rattle.clap.specs.Simple.{Shape, entered}
@@ -7,7 +7,7 @@ use Rattle.clap.specs.Walk.{Held, Walk, finished, nothing_held, pushed, settled,
 use Rattle.clap.specs.Faults.{check_fault, defaults_fault, entered_fault, settle_fault, walk_fault}
 use Rattle.commands.specs.CommandLine.{IsPlainWord, value_of}
 use Rattle.commands.proofs.PlainWordLemmas.{after, before, plain_fault, plain_walk}
-use Rattle.store_words.proofs.OptionWordLemmas.{awaiting, option_fault, option_step, valued}
+use Rattle.store_words.proofs.OptionWordLemmas.{awaiting, option_fault, option_step}
 use Rattle.store_words.specs.StoreLine.{serve_command}
 
 -- what may fail after the walk, where it ends like this
