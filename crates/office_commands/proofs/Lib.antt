@@ -5,3 +5,4 @@ pub mod AskingLemmas
 pub mod TaskLemmas
 pub mod FileLemmas
 pub mod ReplayingLemmas
+pub mod ListeningLemmas

@@ -37,7 +37,6 @@ done_from g (Ask day) first last was_left left held holds does clean h legal kee
     let asked = does.1 in
     let it = answered_from g asked.1 day asked.0 does.0 first last asked.3 clean h legal keeps in
     (it.0, (asked.0, does.0, asked.2, it.1, does.2), it.2)
-
 done_from g (Replay policy) first last was_left left held holds does clean h legal keeps = replays_from g (option_copied policy) first last was_left left held holds does clean h legal keeps
 
 pub made_is_legal : IsLegal made_office

@@ -71,7 +71,9 @@ pub enum CommandFault {
     /// The policy that is to be installed before a replay is refused.
     Policy(PolicyFault),
     /// The record with this number, from 1, is none. Those before it are answered.
-    BadRecord { index: u64 },
+    BadRecord {
+        index: u64,
+    },
     /// The store, memory or a device failed.
     Failed {
         fault: StoreFault,

@@ -65,6 +65,7 @@ fn say_listening<O: Write>(
 }
 
 /// Says where the desk listens, and serves so many connections on that day, one after the other.
+#[tactic(auto, using(crate::proofs::ListeningLemmas::listens))]
 pub fn serve_office<S: Alter, O: Write>(
     alloc: Global,
     office: &mut Office<S>,

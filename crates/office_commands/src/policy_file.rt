@@ -8,9 +8,9 @@ ghost use Rattle.office_commands.specs.Policies.{IsRead};
 use crate::fault::{Cause, CommandFault, StoreFault, failed_by};
 use office_core::{Policy, PolicyFault, read_policy};
 use std::alloc::Global;
+use std::fs;
 use std::io::{Error, ErrorKind, Read};
 use std::rt::Files;
-use std::fs;
 
 /// The policy that the bytes of a file are, or their first fault.
 fn policy_of_bytes(alloc: Global, bytes: &[u8]) -> Result<Policy, PolicyFault>

@@ -9,9 +9,9 @@ ghost use Rattle.office_commands.specs.Answering.{AsksFrom, ReplaysFrom, Replays
 ghost use Rattle.office_commands.specs.Policies.{SaysOfPolicy, installed_text};
 
 use crate::fault::{CommandFault, StoreFault};
+use crate::listening::desk_at;
 use crate::policy_file::policy_in_file;
 use crate::printing::{installed_line, print, refused_line};
-use crate::listening::desk_at;
 use crate::stores::{in_store, serve_store};
 use crate::task::Task;
 use commands::Ending;

@@ -1,11 +1,9 @@
 //! Steps, each a command on a store, and what it prints.
 
-use crate::texts::{
-    ANSWERS, DENIED_ANSWER, FIRST_ANSWER, MAPS, MAPS_ANSWER, RECORDS, TORN,
-};
+use crate::texts::{ANSWERS, DENIED_ANSWER, FIRST_ANSWER, MAPS, MAPS_ANSWER, RECORDS, TORN};
 use commands::Ending;
-use office_commands::{CommandFault, ask_command, policy_command, replay_command};
 use http_desk::Counted;
+use office_commands::{CommandFault, ask_command, policy_command, replay_command};
 use office_core::Day;
 use sqlite::Unknown;
 use std::test::Fail;
