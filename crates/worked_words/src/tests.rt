@@ -164,95 +164,116 @@ fn tag_files_in_words(rt: HostRuntime) -> Result<(), Fail> {
     Ok(())
 }
 
-const MANIFEST: &str = "manifest-sha256.txt";
+/// The fault of this number, with this manifest and path where it names such.
+fn bag_fault<'a>(number: u8, manifest: &'a str, path: &'a str) -> BagFault<'a> {
+    let path = CowStr::Borrowed(path);
+    match number {
+        1 => BagFault::NoDeclaration,
+        3 => BagFault::FetchNotSupported,
+        4 => BagFault::UnsupportedAlgorithm { manifest },
+        5 => BagFault::NoPayloadManifest,
+        7 => BagFault::OutsidePayload { manifest, path },
+        8 => BagFault::TagManifestListed { manifest, path },
+        9 => BagFault::PayloadInTagManifest { manifest, path },
+        10 => BagFault::PayloadManifestUnlisted { manifest, path },
+        11 => BagFault::Missing { manifest, path },
+        12 => BagFault::Unlisted { manifest, path },
+        14 => BagFault::OxumForm,
+        15 => BagFault::OxumTwice,
+        16 => BagFault::OxumWrong,
+        17 => BagFault::ChecksumWrong { manifest, path },
+        _ => BagFault::Memory,
+    }
+}
 
-const TAG_MANIFEST: &str = "tagmanifest-sha512.txt";
-
-const BAGS: [(BagFault<'static>, &str); 15] = [
-    (BagFault::NoDeclaration, "the bag has no bagit.txt (B1)"),
+/// The number of a fault, the manifest and the path that it names, or empty texts, and its sentence.
+static BAGS: [(u8, &str, &str, &str); 15] = [
+    (1, "", "", "the bag has no bagit.txt (B1)"),
     (
-        BagFault::FetchNotSupported,
+        3,
+        "",
+        "",
         "the bag has a fetch.txt, and a bag must hold all its files itself (B3)",
     ),
     (
-        BagFault::UnsupportedAlgorithm {
-            manifest: "manifest-m d%.txt",
-        },
+        4,
+        "manifest-m d%.txt",
+        "",
         "manifest-m%20d%25.txt is of an algorithm other than sha256 and sha512 (B4)",
     ),
     (
-        BagFault::NoPayloadManifest,
+        5,
+        "",
+        "",
         "the bag has neither manifest-sha256.txt nor manifest-sha512.txt (B5)",
     ),
     (
-        BagFault::OutsidePayload {
-            manifest: MANIFEST,
-            path: CowStr::Borrowed("bagit.txt"),
-        },
+        7,
+        "manifest-sha256.txt",
+        "bagit.txt",
         "manifest-sha256.txt lists bagit.txt, but a payload manifest lists files in data/ alone (B7)",
     ),
     (
-        BagFault::TagManifestListed {
-            manifest: TAG_MANIFEST,
-            path: CowStr::Borrowed("tagmanifest-sha256.txt"),
-        },
+        8,
+        "tagmanifest-sha512.txt",
+        "tagmanifest-sha256.txt",
         "tagmanifest-sha512.txt lists tagmanifest-sha256.txt, but a tag manifest lists no tag manifest (B8)",
     ),
     (
-        BagFault::PayloadInTagManifest {
-            manifest: TAG_MANIFEST,
-            path: CowStr::Borrowed("data/a"),
-        },
+        9,
+        "tagmanifest-sha512.txt",
+        "data/a",
         "tagmanifest-sha512.txt lists data/a, but a tag manifest lists no payload file (B9)",
     ),
     (
-        BagFault::PayloadManifestUnlisted {
-            manifest: TAG_MANIFEST,
-            path: CowStr::Borrowed(MANIFEST),
-        },
+        10,
+        "tagmanifest-sha512.txt",
+        "manifest-sha256.txt",
         "tagmanifest-sha512.txt does not list manifest-sha256.txt, but a tag manifest lists every payload manifest (B10)",
     ),
     (
-        BagFault::Missing {
-            manifest: MANIFEST,
-            path: CowStr::Borrowed("data/\u{e9} \n%"),
-        },
+        11,
+        "manifest-sha256.txt",
+        "data/\u{e9} \n%",
         "manifest-sha256.txt lists data/%C3%A9%20%0A%25, but the bag has no such file (B11)",
     ),
     (
-        BagFault::Unlisted {
-            manifest: MANIFEST,
-            path: CowStr::Borrowed("data/a"),
-        },
+        12,
+        "manifest-sha256.txt",
+        "data/a",
         "data/a is in the payload, but manifest-sha256.txt does not list it (B12)",
     ),
     (
-        BagFault::OxumForm,
+        14,
+        "",
+        "",
         "the Payload-Oxum of bag-info.txt is not two numbers of 1 to 20 digits with a full stop between them (B14)",
     ),
     (
-        BagFault::OxumTwice,
+        15,
+        "",
+        "",
         "bag-info.txt has more than one Payload-Oxum (B15)",
     ),
     (
-        BagFault::OxumWrong,
+        16,
+        "",
+        "",
         "the bytes and files that Payload-Oxum in bag-info.txt names are not those of the payload (B16)",
     ),
     (
-        BagFault::ChecksumWrong {
-            manifest: MANIFEST,
-            path: CowStr::Borrowed("data/a"),
-        },
+        17,
+        "manifest-sha256.txt",
+        "data/a",
         "the digest of data/a is not the checksum in manifest-sha256.txt (B17)",
     ),
-    (BagFault::Memory, "memory ran out (B18)"),
+    (18, "", "", "memory ran out (B18)"),
 ];
 
 #[test]
 fn bags_in_words(rt: HostRuntime) -> Result<(), Fail> {
-    let bags = BAGS;
-    for (fault, want) in bags.iter() {
-        let said = said_of(rt.alloc(), fault)?;
+    for (number, manifest, path, want) in BAGS.iter() {
+        let said = said_of(rt.alloc(), &bag_fault(*number, *manifest, *path))?;
         assert_eq!(rt; said.as_str(), *want);
     }
     Ok(())
