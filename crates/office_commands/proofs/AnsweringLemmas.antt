@@ -1,5 +1,5 @@
 -- What answers bytes over a store that keeps a history answers them from that history.
-use Rattle.std.proofs.Common.{◌≡◌, ◌∙◌, ℕ, List, Bool, true, false, refl, sym, ap, subst, arith}
+use Rattle.std.proofs.Common.{ℕ, List, Bool, true, false, refl, sym, subst}
 use Rattle.jiff.specs.Types.{Date}
 use Rattle.sqlite.specs.Held.{Held, state}
 use Rattle.sqlite.specs.State.{HasCleanDisk}

@@ -1,6 +1,6 @@
 -- An office that is found in files, and copied into them.
 use Rattle.std.proofs.Common.{◌≡◌, ◌≢◌, ◌∙◌, ℕ, List, [], ◌∷◌, Option, Result, Ok, Err, IfOk, IsErr, IsTrue, true, false, refl, sym, ap, subst}
-use Rattle.std.proofs.Math.Logic.{∥∥₁_map, ∥∥₁_elim}
+use Rattle.std.proofs.Math.Logic.{∥∥₁_map}
 use Rattle.sqlite.specs.Recovery.{Image}
 use Rattle.sqlite.specs.Schema.{Schema}
 use Rattle.sqlite.specs.Table.{Table}
@@ -11,11 +11,11 @@ use Rattle.sqlite_wal.specs.Reads.{AreClean}
 use Rattle.sqlite.specs.Closing.{IsCopied}
 use Rattle.sqlite.specs.Held.{Held}
 use Rattle.sqlite.specs.Tree.{Trees}
-use Rattle.sqlite.specs.Effect.{Database, IsDatabase}
+use Rattle.sqlite.specs.Effect.{Database}
 use Rattle.sqlite.specs.State.{State, HasCleanDisk, Opens, IsLive}
 use Rattle.sqlite.specs.Start.{FindsIn}
 use Rattle.sqlite.specs.Files.{HoldsDatabase, file_state, image_of, over_files}
-use Rattle.office_rows.specs.Rows.{Tables, this_version}
+use Rattle.office_rows.specs.Rows.{this_version}
 use Rattle.office_tables.specs.Opening.{IsLeft}
 use Rattle.office_tables.specs.Schema.{no_schema, office_schema}
 use Rattle.office_history.specs.Histories.{History}

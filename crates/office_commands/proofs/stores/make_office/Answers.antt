@@ -1,4 +1,4 @@
-use Rattle.std.proofs.Common.{◌≡◌, ◌∙◌, sym}
+use Rattle.std.proofs.Common.{◌∙◌, sym}
 use Rattle.office_commands.proofs.stores.make_office.Goals as goal
 
 pub returns-in-Ok-clause-not_empty : goal.returns-in-Ok-clause-not_empty
