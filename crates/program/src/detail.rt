@@ -46,7 +46,11 @@ impl Detail<'_> {
         }
     }
 
-    fn write_fault<W: fmt::Write>(&self, fault: StoreFault, f: &mut fmt::Formatter<W>) -> fmt::Result {
+    fn write_fault<W: fmt::Write>(
+        &self,
+        fault: StoreFault,
+        f: &mut fmt::Formatter<W>,
+    ) -> fmt::Result {
         let store = utf8_percent_encode(self.store, ESCAPED);
         match fault {
             StoreFault::NotAnOffice => write!(f, "{store} is no office"),
@@ -57,14 +61,21 @@ impl Detail<'_> {
         }
     }
 
-    fn write_command_fault<W: fmt::Write>(&self, fault: &CommandFault, f: &mut fmt::Formatter<W>) -> fmt::Result {
+    fn write_command_fault<W: fmt::Write>(
+        &self,
+        fault: &CommandFault,
+        f: &mut fmt::Formatter<W>,
+    ) -> fmt::Result {
         match fault {
             CommandFault::Policy(_) => {
                 let policy = utf8_percent_encode(self.policy, ESCAPED);
                 write!(f, "{policy} is no policy")
             }
             CommandFault::BadRecord { index } => write!(f, "record {index} of the input is none"),
-            CommandFault::Failed { cause: Some(cause), .. } => self.write_cause(cause, f),
+            CommandFault::Failed {
+                cause: Some(cause),
+                ..
+            } => self.write_cause(cause, f),
             CommandFault::Failed { fault, cause: None } => self.write_fault(*fault, f),
         }
     }

@@ -20,8 +20,7 @@ const CUT_RECORDS: &[u8] =
     b"REQ 2024-03-01 48\nGET /deposits/7 HTTP/1.1\r\nDepot-Caller: anna\r\n\r\n\nREQ 2024-03-01 48\nGET /deposits/7 HTTP/1.1\r\nDepot-Caller: anna\r\n\r\n";
 
 /// A request that defines a collection.
-const DEFINES: &[u8] =
-    b"PUT /collections/maps HTTP/1.1\r\nDepot-Caller: anna\r\n\r\n";
+const DEFINES: &[u8] = b"PUT /collections/maps HTTP/1.1\r\nDepot-Caller: anna\r\n\r\n";
 
 /// The answer that there is no such deposit, as a record.
 const NO_SUCH_RECORD: &[u8] =
@@ -281,7 +280,10 @@ fn what_is_no_office(rt: HostRuntime) -> Result<(), Fail> {
     // Nothing is made or changed.
     assert!(rt; fs::metadata(&rt, "missing.db").is_err());
     assert!(rt; fs::read(&rt, "empty.db")?.is_empty());
-    assert_eq!(rt; fs::read(&rt, "text.db")?.as_slice(), b"a text and no database\n".as_slice());
+    assert_eq!(rt;
+        fs::read(&rt, "text.db")?.as_slice(),
+        b"a text and no database\n".as_slice()
+    );
     assert_eq!(rt; fs::read(&rt, "other.db")?.as_slice(), other.as_slice());
     remove_policies(&rt)
 }
