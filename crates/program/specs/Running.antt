@@ -10,7 +10,7 @@ use Rattle.office_commands.specs.Policies.{SaysOfPolicy}
 use Rattle.office_history.specs.Histories.{History}
 use Rattle.store_words.specs.StoreLine.{Asks}
 use Rattle.store_words.specs.declared.store_line.StoreLine.{StoreLine}
-use Rattle.store_words.specs.declared.store_line.StoreLine.TheVariants.{Pack, Unpack}
+use Rattle.store_words.specs.declared.store_line.StoreLine.TheVariants.{Pack, Unpack, Policy, Ask, Replay, Serve}
 use Rattle.program.specs.Folders.{Packs, Unpacks}
 use Rattle.program.specs.Stopping.{IsToldOf, Tells}
 use Rattle.program.specs.declared.stopped.Stopped.{Stopped}

@@ -10,6 +10,7 @@ use store_words::StoreLine;
 const ESCAPED: AsciiSet = percent_encoding::ascii_set!(CONTROLS.add(b' ').add(b'%'));
 
 /// Why a command on these files came to no end.
+#[derive(Clone, Copy)]
 pub struct Detail<'a> {
     /// The store.
     store: &'a str,
