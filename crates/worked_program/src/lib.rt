@@ -6,6 +6,4 @@ mod folders;
 #[cfg(test)]
 mod runs;
 #[cfg(test)]
-mod stores;
-#[cfg(test)]
 mod words;
