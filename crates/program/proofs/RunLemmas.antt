@@ -37,8 +37,8 @@ tells_more text end ending told mid tells (inr unsaid) said begins more = absurd
 pub told_of : (stopped : Stopped) (text : List ℕ) (end ending : Ending) (told mid tells : Option (List ℕ)) → text ≡ line_of stopped → end ≡ ending_of stopped
     → (ending ≡ end) ⊎ (ending ≡ Unsaid) → (ending ≡ Unsaid → ⊥) → ((ending ≡ Unsaid → ⊥) → BeginsWith text told mid) → MayGrow mid tells → IsToldOf stopped told tells ending
 told_of stopped text end ending told mid tells line ends is said begins more =
-    subst (λ t. Tells t (ending_of stopped) told tells ending) line
-    (subst (λ e. Tells text e told tells ending) ends (tells_more text end ending told mid tells is said begins more))
+    inl (subst (λ t. Tells t (ending_of stopped) told tells ending) line
+    (subst (λ e. Tells text e told tells ending) ends (tells_more text end ending told mid tells is said begins more)))
 
 -- ---- what is done
 
@@ -57,11 +57,11 @@ unpacks unpacking said (Ok ending) held holds may says printed = (unpacking, sai
 unpacks unpacking said (Err stopped) held holds may says printed = tt
 
 -- what words that name a subcommand come to
-pub asked : (words : List Text) (read : Result StoreLine UseFault) (line : StoreLine) (held holds told tells : Option (List ℕ)) (quiet left unread : Type 0)
+pub asked : (words : List Text) (read : Result StoreLine UseFault) (line : StoreLine) (was_left left held holds told tells : Option (List ℕ)) (quiet unwritten unread : Type 0)
     (ending : Ending) → Asks words line → IfOk read (Asks words) → IfErr read (λ fault. (fault ≡ Memory) ⊎ AskNothing words)
-    → IfOk read (λ line. Comes line held holds told tells quiet ending) → IfErr read (λ fault. IsToldOfUse fault told tells ending × left × unread)
-    → ComesOfWords words held holds told tells quiet ending
-asked words (Ok read) line held holds told tells quiet left unread ending asks taken refused comes why = inl (read, taken, comes)
-asked words (Err fault) line held holds told tells quiet left unread ending asks taken (inl memory) comes why =
+    → IfOk read (λ line. Comes line was_left left held holds told tells quiet ending) → IfErr read (λ fault. IsToldOfUse fault told tells ending × unwritten × unread)
+    → ComesOfWords words was_left left held holds told tells quiet ending
+asked words (Ok read) line was_left left held holds told tells quiet unwritten unread ending asks taken refused comes why = inl (read, taken, comes)
+asked words (Err fault) line was_left left held holds told tells quiet unwritten unread ending asks taken (inl memory) comes why =
     inr (subst (λ f. IsToldOfUse f told tells ending) memory why.0)
-asked words (Err fault) line held holds told tells quiet left unread ending asks taken (inr none) comes why = absurd (none line asks)
+asked words (Err fault) line was_left left held holds told tells quiet unwritten unread ending asks taken (inr none) comes why = absurd (none line asks)

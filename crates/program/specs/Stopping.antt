@@ -1,5 +1,5 @@
 -- What standard error is told of a command on folders or a store that comes to no end, and how the program ends.
-use Rattle.std.specs.Prelude.{◌≡◌, ◌⊎◌, ◌++◌, ◌∷◌, [], ℕ, List, Option, codes, string_bytes}
+use Rattle.std.specs.Prelude.{◌≡◌, ◌⊎◌, ℕ, List, Option, string_bytes}
 use Rattle.std.specs.Io.KnownBytes.{Appends}
 use Rattle.std.specs.IoError.{error_kind}
 use Rattle.bag_folders.specs.declared.failed.Failed.TheVariants as folders
@@ -9,30 +9,32 @@ use Rattle.commands.specs.declared.ending.Ending.TheVariants as endings
 use Rattle.commands.specs.declared.program.Failure.TheVariants as failures
 use Rattle.commands.specs.declared.use_fault.UseFault.{UseFault}
 use Rattle.commands.specs.declared.use_fault.UseFault.TheVariants as faults
+use Rattle.office_commands.specs.Texts.{ending_of as store_ending, fault_text as store_fault_text}
 use Rattle.program.specs.declared.stopped.Stopped.{Stopped}
-use Rattle.program.specs.declared.stopped.Stopped.TheVariants.{Absent, Folder, Output}
+use Rattle.program.specs.declared.stopped.Stopped.TheVariants.{Folder, Output, Store}
 
 -- the line that is told first
 abbrev pub line_of : Stopped → List ℕ
 line_of (Folder (folders.Device trouble)) = message_of failures.Device
 line_of (Folder folders.Memory) = message_of failures.Memory
 line_of (Output error) = message_of (failure_of (error_kind error))
-line_of Absent = codes "this subcommand isn't there yet" ++ 10 ∷ []
+line_of (Store fault) = store_fault_text fault
 
 -- how the program ends then
 abbrev pub ending_of : Stopped → Ending
 ending_of (Folder failed) = endings.Failed
 ending_of (Output error) = endings.Failed
-ending_of Absent = endings.Misused
+ending_of (Store fault) = store_ending fault
 
 -- standard error, where its bytes are known, goes on with this text, and the program ends in this way; or standard error fails, and has a
 -- beginning of the text
 abbrev pub Tells : List ℕ → Ending → Option (List ℕ) → Option (List ℕ) → Ending → Type 0
 Tells text end told tells ending = ((ending ≡ end) × BeginsWith text told tells) ⊎ ((ending ≡ endings.Unsaid) × IsCutShort text told tells)
 
--- it is told of this
+-- it is told of this, or that there was no memory to tell of it
 abbrev pub IsToldOf : Stopped → Option (List ℕ) → Option (List ℕ) → Ending → Type 0
-IsToldOf stopped told tells ending = Tells (line_of stopped) (ending_of stopped) told tells ending
+IsToldOf stopped told tells ending =
+    Tells (line_of stopped) (ending_of stopped) told tells ending ⊎ Tells (message_of failures.Memory) endings.Failed told tells ending
 
 -- it is told why words are no use of the program, or that there was no memory to read them
 abbrev pub IsToldOfUse : UseFault → Option (List ℕ) → Option (List ℕ) → Ending → Type 0

@@ -2,6 +2,7 @@
 #![tactic(auto)]
 
 mod acting;
+mod detail;
 mod folders;
 mod reporting;
 mod running;

@@ -40,12 +40,13 @@ fn run_line<S: Start, R: Read, O: Write, E: Write>(
     out: &mut Counted<O>,
     err: &mut E,
 ) -> Ending
-    ensures { Comes line.now (O.contents out.old.device) (O.contents out.new.device)
+    ensures { Comes line.now (R.remaining input.old.device) (R.remaining input.new.device)
+        (O.contents out.old.device) (O.contents out.new.device)
         (E.contents err.old) (E.contents err.new) (err.new ≡ err.old) result }
 {
     match perform(rt, start, line, input, out) {
         Ok(ending) => ending,
-        Err(stopped) => report(rt.alloc(), &stopped, err),
+        Err(stopped) => report(rt.alloc(), line, &stopped, err),
     }
 }
 
@@ -58,7 +59,8 @@ fn run_named<S: Start, R: Read, O: Write, E: Write>(
     out: &mut Counted<O>,
     err: &mut E,
 ) -> Ending
-    ensures line { IfOk read.entry (λ line. Comes line (O.contents out.old.device) (O.contents out.new.device)
+    ensures line { IfOk read.entry (λ line. Comes line (R.remaining input.old.device)
+        (R.remaining input.new.device) (O.contents out.old.device) (O.contents out.new.device)
         (E.contents err.old) (E.contents err.new) (err.new ≡ err.old) result) }
     ensures refused { IfErr read.entry (λ fault. IsToldOfUse fault (E.contents err.old) (E.contents err.new) result
         × (out.new ≡ out.old) × (input.new ≡ input.old)) }
@@ -87,7 +89,8 @@ pub fn run<S: Start, R: Read, O: Write, E: Write>(
     // What such words ask for is done, and standard error told nothing, or it comes to no end, and
     // standard error is told why.
     ensures asked { (line : StoreLine) → Asks (texts words.now) line
-        → ComesOfWords (texts words.now) (O.contents out.old.device) (O.contents out.new.device)
+        → ComesOfWords (texts words.now) (R.remaining input.old.device)
+        (R.remaining input.new.device) (O.contents out.old.device) (O.contents out.new.device)
         (E.contents err.old) (E.contents err.new) (err.new ≡ err.old) result }
 
     // Of words that name none of them this holds. Words that are no use of the program end as such,

@@ -1,11 +1,13 @@
 //! Why a command on folders or a store doesn't come to its end.
 
-ghost use Rattle.std.specs.Prelude.{◌≡◌};
+ghost use Rattle.std.specs.Prelude.{◌≡◌, IfOk, string_bytes};
 ghost use Rattle.program.specs.Stopping.{ending_of, line_of};
 
 use bag_folders::Failed;
 use commands::{Ending, Failure};
-use std::{fmt, io};
+use office_commands::CommandFault;
+use std::alloc::{AllocError, Global};
+use std::io;
 
 /// Why a command on folders or a store doesn't come to its end.
 #[derive(Debug, Drop)]
@@ -14,21 +16,22 @@ pub enum Stopped {
     Folder(Failed),
     /// Standard output.
     Output(io::Error),
-    /// The subcommand isn't there yet.
-    Absent,
+    /// The store, its policy, its records, or what they stand on.
+    Store(CommandFault),
 }
 
 impl Stopped {
     /// The line that standard error is told first.
-    pub fn line(&self) -> &'static str
-        ensures { result.now ≡ line_of self.now }
+    pub fn line(&self, alloc: Global) -> Result<String, AllocError>
+        ensures { IfOk result (λ text. string_bytes text ≡ line_of self.now) }
     {
-        match self {
+        let line = match self {
             Stopped::Folder(Failed::Device(_)) => Failure::Device.message(),
             Stopped::Folder(Failed::Memory) => Failure::Memory.message(),
             Stopped::Output(error) => Failure::from(*error).message(),
-            Stopped::Absent => "this subcommand isn't there yet\n",
-        }
+            Stopped::Store(fault) => return fault.line(alloc),
+        };
+        String::from_str(alloc, line)
     }
 
     /// How the program ends, once standard error was told.
@@ -37,19 +40,7 @@ impl Stopped {
     {
         match self {
             Stopped::Folder(_) | Stopped::Output(_) => Ending::Failed,
-            Stopped::Absent => Ending::Misused,
-        }
-    }
-}
-
-impl fmt::Display for Stopped {
-    /// What was tried, on what and why it failed.
-    fn fmt<W: fmt::Write>(&self, f: &mut fmt::Formatter<W>) -> fmt::Result {
-        match self {
-            Stopped::Folder(Failed::Device(trouble)) => write!(f, "{trouble}"),
-            Stopped::Output(error) => write!(f, "cannot write standard output: {error}"),
-            Stopped::Folder(Failed::Memory) => f.write_str("out of memory"),
-            Stopped::Absent => f.write_str("check, explain, pack and unpack are there"),
+            Stopped::Store(fault) => fault.ending(),
         }
     }
 }

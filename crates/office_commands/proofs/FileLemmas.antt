@@ -1,0 +1,93 @@
+-- An office that is found in files, and copied into them.
+use Rattle.std.proofs.Common.{◌≡◌, ◌≢◌, ◌∙◌, ℕ, List, [], ◌∷◌, Option, Result, Ok, Err, IfOk, IsErr, IsTrue, true, false, refl, sym, ap, subst}
+use Rattle.std.proofs.Math.Logic.{∥∥₁_map}
+use Rattle.sqlite.specs.Recovery.{Image}
+use Rattle.sqlite.specs.Schema.{Schema}
+use Rattle.sqlite.specs.Table.{Table}
+use Rattle.sqlite.specs.declared.FileStore.{FileStore}
+use Rattle.sqlite_disk.specs.declared.Disk.{Ghosts}
+use Rattle.sqlite_disk.specs.declared.Files.{Files}
+use Rattle.sqlite_wal.specs.Reads.{AreClean}
+use Rattle.sqlite.specs.Closing.{IsCopied}
+use Rattle.sqlite.specs.Held.{Held}
+use Rattle.sqlite.specs.Tree.{Trees}
+use Rattle.sqlite.specs.Effect.{Database}
+use Rattle.sqlite.specs.State.{State, HasCleanDisk, Opens, IsLive}
+use Rattle.sqlite.specs.Start.{FindsIn}
+use Rattle.sqlite.specs.Files.{HoldsDatabase, file_state, image_of, over_files}
+use Rattle.office_rows.specs.Rows.{this_version}
+use Rattle.office_tables.specs.Opening.{IsLeft}
+use Rattle.office_tables.specs.Schema.{no_schema, office_schema}
+use Rattle.office_history.specs.Histories.{History}
+use Rattle.office_history.specs.Pictures.{picture}
+use Rattle.office_history.specs.Runs.{IsLegal}
+use Rattle.office_recovery.specs.Found.{HoldsWhere}
+use Rattle.office_recovery.proofs.FoundAgain.{becomes_again}
+use Rattle.office_recovery.proofs.Settled.{left_from}
+use Rattle.office_engine.specs.Keeping.{IsKeptBy, IsLeftOf, IsReached}
+use Rattle.office_engine.proofs.Kept.{rows_left}
+use Rattle.office_commands.specs.Tasks.{Does, DoesFrom}
+use Rattle.office_commands.specs.declared.task.Task.{Task}
+use Rattle.office_commands.proofs.TaskLemmas.{done_from}
+
+-- what is left with the rows of a history is left of the history
+left_of : (h : History) (left : Trees) → IsLeft (picture this_version h) left → IsLeftOf h left
+left_of h left it = (it.0, record { office = it.1.office; are = it.1.are }, it.2)
+
+-- an open of files that hold an office shows what is left of it
+pub found_of : (image : Image) (s : State) → Opens s → IsLive s → FindsIn image s → (h : History) → HoldsWhere (IsLeftOf h) image → IsLeftOf h s.now.trees
+found_of image s opens live finds h holds =
+    let shown : s.now.trees ≡ s.committed.trees = ap (λ (d : Database). d.trees) opens.clean in
+    let found : ∥ IsLeft (picture this_version h) s.now.trees ∥₁ = ∥∥₁_map holds (λ d. subst (IsLeft (picture this_version h)) (sym (shown ∙ finds.holds d.0 d.2)) (rows_left h d.0 d.1)) in
+    left_of h s.now.trees (left_from (picture this_version h) s.now (live opens.is_open).0 found)
+
+some_tables : (x : Table) (xs : List Table) → x ∷ xs ≡ [] → ⊥
+some_tables x xs same = cc
+
+no_office : office_schema ≢ no_schema
+no_office same = some_tables _ _ (ap (λ (s : Schema). s.tables) same)
+
+-- what shows an office isn't empty
+pub shows_more : (s : State) → IsLive s → IsTrue s.is_open → (h : History) → IsLeftOf h s.now.trees → s.now.schema ≢ no_schema
+shows_more s live is_open h left same =
+    let it = becomes_again (picture this_version h) s.now.trees s.now (rows_left h s.now.trees left) (live is_open).0 refl in no_office (sym it.office.schema_is ∙ same)
+
+-- what the files hold that a connection was copied into
+pub held_of : (image : Image) (s : State) → IsTrue s.is_open → ∥ HoldsDatabase image s.committed.trees ∥₁ → (next : History) → IsReached next s → HoldsWhere (IsLeftOf next) image
+held_of image s is_open holds next reached =
+    let kept = reached.kept is_open in
+    ∥∥₁_map holds (λ d. (s.committed.trees, (s.now, kept.0, ap (λ (x : Database). x.trees) kept.1), d))
+
+-- ---- opened
+
+-- an office that is made is made where the files hold none
+pub made_where_none : {A E : Type 0} (r : Result A E) (shown : A → State) (image : Image) (s : State) → IfOk r (λ o. HasCleanDisk (shown o) → HasCleanDisk s) → (s.now.schema ≢ no_schema → IsErr r)
+    → (HasCleanDisk s → Opens s × IsLive s) → (HasCleanDisk s → FindsIn image s)
+    → IfOk r (λ o. HasCleanDisk (shown o) → (h : History) → HoldsWhere (IsLeftOf h) image → IsKeptBy h (shown o))
+made_where_none (Err e) shown image s cleans empty opened found = tt
+made_where_none (Ok o) shown image s cleans empty opened found = λ clean h holds.
+    let was = cleans clean in
+    let left = found_of image s (opened was).0 (opened was).1 (found was) h holds in
+    let never : false ≡ true = empty (shows_more s (opened was).1 (opened was).0.is_open h left) in
+    absurd (cc)
+
+-- one that is taken is the one that they hold
+pub taken_as_held : {A E : Type 0} (r : Result A E) (shown : A → State) (image : Image) (s : State) → IfOk r (λ o. HasCleanDisk (shown o) → HasCleanDisk s)
+    → IfOk r (λ o. HasCleanDisk (shown o) → (h : History) → IsLeftOf h s.now.trees → IsKeptBy h (shown o))
+    → (HasCleanDisk s → Opens s × IsLive s) → (HasCleanDisk s → FindsIn image s)
+    → IfOk r (λ o. HasCleanDisk (shown o) → (h : History) → HoldsWhere (IsLeftOf h) image → IsKeptBy h (shown o))
+taken_as_held (Err e) shown image s cleans goes_on opened found = tt
+taken_as_held (Ok o) shown image s cleans goes_on opened found = λ clean h holds.
+    let was = cleans clean in goes_on clean h (found_of image s (opened was).0 (opened was).1 (found was) h holds)
+
+-- ---- closed
+
+pub done_on_files : {D E : Type 0} (g : Ghosts D) (r : Result (Files D) E) (task : Task) (first last : Held (FileStore D g)) (was_left left held holds : Option (List ℕ))
+    → Does over_files task first last was_left left held holds → IfOk r (λ files. AreClean g files.log files.db → IsCopied last files)
+    → IfOk r (λ files. AreClean g files.log files.db → (h : History) → IsLegal h → IsKeptBy h (file_state first)
+    → (next : History) × DoesFrom task h next was_left left held holds × IsLegal next × HoldsWhere (IsLeftOf next) (image_of g files))
+done_on_files g (Err e) task first last was_left left held holds does copied = tt
+done_on_files g (Ok files) task first last was_left left held holds does copied = λ clean h legal keeps.
+    let it = copied clean in
+    let at = done_from over_files task first last was_left left held holds does it.was_clean h legal keeps in
+    (at.0, at.1, at.2.legal, held_of (image_of g files) (file_state last) it.was_open it.seen.both at.0 at.2)

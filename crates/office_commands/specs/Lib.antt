@@ -1,0 +1,6 @@
+pub mod Texts
+pub mod Policies
+pub mod Working
+pub mod Answering
+pub mod Listening
+pub mod Tasks

@@ -1,0 +1,62 @@
+-- What the commands on a store print, and how the program ends.
+use Rattle.std.specs.Prelude.{◌++◌, ◌∷◌, [], ℕ, List, codes, decimal}
+use Rattle.commands.specs.Explaining.{bad_policy_text}
+use Rattle.commands.specs.declared.ending.Ending.{Ending}
+use Rattle.commands.specs.declared.ending.Ending.TheVariants as endings
+use Rattle.std.specs.Prelude.{None}
+use Rattle.office_tables.specs.declared.fault.TableFault.{TableFault}
+use Rattle.office_tables.specs.declared.fault.TableFault.TheVariants as tables
+use Rattle.http_desk.specs.declared.serving.DeskFault.{DeskFault}
+use Rattle.http_desk.specs.declared.serving.DeskFault.TheVariants as desk
+use Rattle.http_desk.specs.declared.replaying.ReplayStop.{ReplayStop}
+use Rattle.http_desk.specs.declared.replaying.ReplayStop.TheVariants as stops
+use Rattle.office_commands.specs.declared.fault.CommandFault.{CommandFault}
+use Rattle.office_commands.specs.declared.fault.CommandFault.TheVariants.{Policy, BadRecord, Failed}
+use Rattle.office_commands.specs.declared.fault.StoreFault.{StoreFault}
+use Rattle.office_commands.specs.declared.fault.StoreFault.TheVariants.{NotAnOffice, OtherVersion, Memory, Store, Device}
+
+-- the line of a failure
+abbrev pub message_of : StoreFault → List ℕ
+message_of NotAnOffice = codes "store Q1" ++ 10 ∷ []
+message_of OtherVersion = codes "store Q2" ++ 10 ∷ []
+message_of Memory = codes "memory" ++ 10 ∷ []
+message_of Store = codes "store Q4" ++ 10 ∷ []
+message_of Device = codes "device" ++ 10 ∷ []
+
+-- the line of a bad record
+abbrev pub bad_record_text : ℕ → List ℕ
+bad_record_text index = codes "record " ++ decimal index ++ 10 ∷ []
+
+-- the line that standard error is told
+abbrev pub fault_text : CommandFault → List ℕ
+fault_text (Policy fault) = bad_policy_text fault
+fault_text (BadRecord index) = bad_record_text index
+fault_text (Failed fault cause) = message_of fault
+
+-- how the program ends then
+abbrev pub ending_of : CommandFault → Ending
+ending_of (Policy fault) = endings.Refused
+ending_of (BadRecord index) = endings.Refused
+ending_of (Failed fault cause) = endings.Failed
+
+-- ---- what the faults of the layers below come to
+
+abbrev pub fails : StoreFault → CommandFault
+fails fault = Failed fault None
+
+abbrev pub table_failure : TableFault → CommandFault
+table_failure tables.NotAnOffice = fails NotAnOffice
+table_failure tables.OtherVersion = fails OtherVersion
+table_failure tables.Memory = fails Memory
+table_failure tables.Store = fails Store
+
+abbrev pub desk_failure : DeskFault → CommandFault
+desk_failure desk.Read = fails Device
+desk_failure (desk.Write done) = fails Device
+desk_failure (desk.Memory done) = fails Memory
+
+abbrev pub replay_failure : ReplayStop → CommandFault
+replay_failure (stops.BadRecord index) = BadRecord index
+replay_failure stops.Read = fails Device
+replay_failure stops.Write = fails Device
+replay_failure stops.Memory = fails Memory

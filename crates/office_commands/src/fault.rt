@@ -1,0 +1,123 @@
+//! Why a command on a store doesn't come to its end, and what standard error is told of it.
+
+ghost use Rattle.std.specs.Prelude.{◌≡◌, IfOk, None, Some, string_bytes};
+ghost use Rattle.office_commands.specs.Texts.{ending_of, fault_text, message_of};
+ghost use Rattle.office_commands.specs.declared.fault.CommandFault.TheVariants.{Failed};
+
+use commands::Ending;
+use office_core::PolicyFault;
+use std::alloc::{AllocError, Global};
+use std::{fmt, io};
+
+/// A failure of a store, or of what the program stands on.
+#[derive(Clone, Copy, Debug, PartialEq, Eq)]
+pub enum StoreFault {
+    /// There is no office: nothing is there, or it is another database.
+    NotAnOffice,
+    /// An office of another version.
+    OtherVersion,
+    /// A growth was refused.
+    Memory,
+    /// The store can't be opened or closed, or refused a statement, for another cause than memory.
+    Store,
+    /// The policy's file, a standard stream or another device failed.
+    Device,
+}
+
+impl StoreFault {
+    /// The line that says so on standard error.
+    pub fn message(self) -> &'static str
+        ensures { result.now ≡ message_of self }
+    {
+        match self {
+            StoreFault::NotAnOffice => "store Q1\n",
+            StoreFault::OtherVersion => "store Q2\n",
+            StoreFault::Memory => "memory\n",
+            StoreFault::Store => "store Q4\n",
+            StoreFault::Device => "device\n",
+        }
+    }
+}
+
+/// What a failure came from.
+#[derive(Clone, Copy, Debug)]
+pub enum Cause {
+    /// The policy's file could not be read.
+    Policy(io::Error),
+    /// Where the store is to be, the host's files could not be asked.
+    Search(io::Error),
+    /// The store could not be opened.
+    Open(sqlite::Error),
+    /// The log could not be copied into the store. What was changed stands in the log.
+    Close(sqlite::Error),
+    /// The address of the desk could not be had.
+    Listen(io::Error),
+}
+
+impl fmt::Display for Cause {
+    fn fmt<W: fmt::Write>(&self, f: &mut fmt::Formatter<W>) -> fmt::Result {
+        match self {
+            Cause::Policy(error) | Cause::Search(error) | Cause::Listen(error) => {
+                write!(f, "{error}")
+            }
+            Cause::Open(error) | Cause::Close(error) => write!(f, "{error}"),
+        }
+    }
+}
+
+/// Why a command on a store doesn't come to its end.
+#[derive(Clone, Copy, Debug)]
+pub enum CommandFault {
+    /// The policy that is to be installed before a replay is refused.
+    Policy(PolicyFault),
+    /// The record with this number, from 1, is none. Those before it are answered.
+    BadRecord {
+        index: u64,
+    },
+    /// The store, memory or a device failed.
+    Failed {
+        fault: StoreFault,
+        /// What it came from, where that is known.
+        cause: Option<Cause>,
+    },
+}
+
+/// A failure, and what it came from.
+pub(crate) fn failed_by(fault: StoreFault, cause: Cause) -> CommandFault
+    ensures { result ≡ Failed fault (Some cause) }
+{
+    CommandFault::Failed {
+        fault,
+        cause: Some(cause),
+    }
+}
+
+impl CommandFault {
+    /// A failure of which no more is known.
+    pub(crate) fn failed(fault: StoreFault) -> CommandFault
+        ensures { result ≡ Failed fault None }
+    {
+        CommandFault::Failed { fault, cause: None }
+    }
+
+    /// The line that says so on standard error.
+    pub fn line(&self, alloc: Global) -> Result<String, AllocError>
+        ensures { IfOk result (λ text. string_bytes text ≡ fault_text self.now) }
+    {
+        match self {
+            CommandFault::Policy(fault) => format!(in alloc; "policy {fault}\n"),
+            CommandFault::BadRecord { index } => format!(in alloc; "record {index}\n"),
+            CommandFault::Failed { fault, .. } => String::from_str(alloc, fault.message()),
+        }
+    }
+
+    /// How the program ends, once standard error was told.
+    pub fn ending(&self) -> Ending
+        ensures { result ≡ ending_of self.now }
+    {
+        match self {
+            CommandFault::Policy(_) | CommandFault::BadRecord { .. } => Ending::Refused,
+            CommandFault::Failed { .. } => Ending::Failed,
+        }
+    }
+}

@@ -1,0 +1,84 @@
+//! The desk behind a listening socket.
+
+ghost use Rattle.std.specs.Prelude.{◌≡◌, IfOk, OnOk, string_bytes};
+ghost use Rattle.std.specs.Io.KnownBytes.{Appends};
+ghost use Rattle.office_commands.specs.Listening.{Listens, listening_text};
+
+use crate::fault::{Cause, CommandFault, StoreFault, failed_by};
+use crate::printing::print;
+use desk_listening::{Patience, serve_connections};
+use http_desk::Counted;
+use office_core::Day;
+use office_engine::Office;
+use sqlite::Alter;
+use std::alloc::{AllocError, Global};
+use std::io::{Error, Write};
+use std::net::{Ipv4Addr, TcpListener};
+use std::rt::HostRuntime;
+
+/// A listening socket and its port.
+#[derive(Drop)]
+pub struct Desk {
+    pub listener: TcpListener,
+    pub port: u16,
+}
+
+/// A port that can't be had.
+fn unheard(error: Error) -> CommandFault {
+    failed_by(StoreFault::Device, Cause::Listen(error))
+}
+
+/// The desk at that port of 127.0.0.1. With the port 0 the machine picks one.
+pub fn desk_at(rt: &HostRuntime, port: u16) -> Result<Desk, CommandFault> {
+    let listener = match TcpListener::bind(rt, (Ipv4Addr::LOCALHOST, port)) {
+        Ok(listener) => listener,
+        Err(error) => return Err(unheard(error)),
+    };
+    match listener.local_addr() {
+        Ok(address) => Ok(Desk {
+            port: address.port(),
+            listener,
+        }),
+        Err(error) => Err(unheard(error)),
+    }
+}
+
+/// The line that says where the desk listens.
+fn listening_line(alloc: Global, port: u16) -> Result<String, AllocError>
+    ensures { IfOk result (λ text. string_bytes text ≡ listening_text port) }
+{
+    format!(in alloc; "listening {port}\n")
+}
+
+/// Says where the desk listens, and hands that on.
+fn say_listening<O: Write>(
+    alloc: Global,
+    port: u16,
+    out: &mut Counted<O>,
+) -> Result<(), CommandFault>
+    ensures { OnOk result (Appends (O.contents out.old.device) (O.contents out.new.device) (listening_text port)) }
+{
+    match listening_line(alloc, port) {
+        Ok(line) => print(line.as_str(), out),
+        Err(_) => Err(CommandFault::failed(StoreFault::Memory)),
+    }
+}
+
+/// Says where the desk listens, and serves so many connections on that day, one after the other.
+#[tactic(auto, using(crate::proofs::ListeningLemmas::listens))]
+pub fn serve_office<S: Alter, O: Write>(
+    alloc: Global,
+    office: &mut Office<S>,
+    day: Day,
+    desk: &Desk,
+    count: u32,
+    out: &mut Counted<O>,
+) -> Result<(), CommandFault>
+    ensures { OnOk result (Listens S.Store day count desk.now.port office.old office.new
+        (O.contents out.old.device) (O.contents out.new.device)) }
+{
+    say_listening(alloc, desk.port, out)?;
+    let patience = Patience::default();
+    let _served = serve_connections(alloc, office, day, &desk.listener, count, &patience);
+    Ok(())
+}

@@ -1,0 +1,273 @@
+//! The stores: an office in memory, or in a file.
+
+ghost use Rattle.std.specs.Prelude.{◌≡◌, ◌≢◌, false, IfOk, IsErr, OnOk, codes};
+ghost use Rattle.sqlite.specs.Closing.{IsCopied};
+ghost use Rattle.sqlite.specs.Files.{IsOpened, file_state, image_of};
+ghost use Rattle.sqlite.specs.Start.{FindsIn};
+ghost use Rattle.sqlite.specs.State.{HasCleanDisk};
+ghost use Rattle.sqlite.specs.WalFiles.{image_at};
+ghost use Rattle.sqlite_wal.specs.Reads.{AreClean};
+ghost use Rattle.office_core.specs.Bounds.{max_limit};
+ghost use Rattle.office_tables.specs.Schema.{no_schema};
+ghost use Rattle.office_history.specs.Histories.{History};
+ghost use Rattle.office_history.specs.Runs.{IsLegal};
+ghost use Rattle.office_recovery.specs.Found.{HoldsWhere};
+ghost use Rattle.office_engine.specs.Keeping.{IsKeptBy, IsLeftOf};
+ghost use Rattle.office_commands.specs.Answering.{made_office};
+ghost use Rattle.office_commands.specs.Tasks.{DoesFrom};
+
+use crate::fault::{Cause, CommandFault, StoreFault, failed_by};
+use crate::listening::{Desk, serve_office};
+use crate::task::{Task, perform};
+use crate::working::table_failure;
+use http_desk::Counted;
+use office_core::{Day, Limits, MAX_LIMIT};
+use office_engine::Office;
+use sqlite::{Connection, Error, ErrorCode, FileFrom, FileStore, Files, Start};
+use sqlite_disk::Disk;
+use std::alloc::Global;
+use std::fs;
+use std::io::{self, ErrorKind, Read, Write};
+use std::rt::HostRuntime;
+
+/// The limits of an office that the program makes.
+fn limits() -> Limits
+    ensures { (result.deposits ≡ max_limit) × (result.holds ≡ max_limit) }
+{
+    Limits::new(MAX_LIMIT, MAX_LIMIT).unwrap()
+}
+
+/// Does the task with a new office in memory.
+fn in_memory<R: Read, O: Write>(
+    alloc: Global,
+    task: &Task<'_>,
+    input: &mut Counted<R>,
+    out: &mut Counted<O>,
+) -> Result<(), CommandFault>
+    ensures { OnOk result ((next : History) × DoesFrom task.now made_office next
+        (R.remaining input.old.device) (R.remaining input.new.device)
+        (O.contents out.old.device) (O.contents out.new.device)) }
+{
+    let Ok(conn) = Connection::open_in_memory(alloc) else {
+        return Err(CommandFault::failed(StoreFault::Memory));
+    };
+    match Office::create(conn, limits()) {
+        Ok(mut office) => perform(alloc, &mut office, task, input, out),
+        Err((_, fault)) => Err(table_failure(fault)),
+    }
+}
+
+/// A search that failed.
+fn search_failure(error: io::Error) -> CommandFault {
+    match error.kind() {
+        ErrorKind::OutOfMemory => failed_by(StoreFault::Memory, Cause::Search(error)),
+        _ => failed_by(StoreFault::Store, Cause::Search(error)),
+    }
+}
+
+/// What the store said as it was opened or closed.
+fn store_fault(error: Error) -> StoreFault {
+    match error {
+        Error::SqliteFailure(ErrorCode::OutOfMemory) => StoreFault::Memory,
+        _ => StoreFault::Store,
+    }
+}
+
+/// Whether there is no file at the path. An empty one is no office, and stays empty.
+fn is_missing(rt: &HostRuntime, store: &str) -> Result<bool, CommandFault> {
+    match fs::metadata(rt, store) {
+        Ok(found) if found.is_file() && found.len() == 0 => {
+            Err(CommandFault::failed(StoreFault::NotAnOffice))
+        }
+        Ok(_) => Ok(false),
+        Err(error) if error.kind() == ErrorKind::NotFound => Ok(true),
+        Err(error) => Err(search_failure(error)),
+    }
+}
+
+/// Opens the file of the store, or makes it.
+fn open_store<S: Start>(
+    rt: &HostRuntime,
+    start: S,
+    store: &str,
+) -> Result<Connection<FileStore<FileFrom<S>>>, CommandFault>
+    ensures fresh { IfOk result (λ conn. (file_state conn).in_transaction ≡ false) }
+    ensures opened { IfOk result (λ conn. HasCleanDisk (file_state conn) → IsOpened conn) }
+    ensures found { IfOk result (λ conn. HasCleanDisk (file_state conn)
+        → FindsIn (image_at S.Start) (file_state conn)) }
+{
+    match Connection::open_from(rt, store, false, start) {
+        Ok(conn) => Ok(conn),
+        Err((error, _)) => Err(failed_by(store_fault(error), Cause::Open(error))),
+    }
+}
+
+/// Makes an office in a file that was just made.
+fn make_office<D: Disk + Drop>(
+    conn: Connection<FileStore<D>>,
+) -> Result<Office<FileStore<D>>, CommandFault>
+    requires outside { (file_state conn).in_transaction ≡ false }
+    ensures clean { IfOk result (λ office. HasCleanDisk (file_state office) → HasCleanDisk (file_state conn)) }
+    ensures not_empty { (file_state conn).now.schema ≢ no_schema → IsErr result }
+{
+    match Office::create(conn, limits()) {
+        Ok(office) => Ok(office),
+        Err((_, fault)) => Err(table_failure(fault)),
+    }
+}
+
+/// Takes the office that the connection shows.
+fn take_office<D: Disk + Drop>(
+    conn: Connection<FileStore<D>>,
+) -> Result<Office<FileStore<D>>, CommandFault>
+    requires outside { (file_state conn).in_transaction ≡ false }
+    ensures clean { IfOk result (λ office. HasCleanDisk (file_state office) → HasCleanDisk (file_state conn)) }
+    ensures goes_on { IfOk result (λ office. HasCleanDisk (file_state office)
+        → (h : History) → IsLeftOf h (file_state conn).now.trees → IsKeptBy h (file_state office)) }
+{
+    match Office::adopt(conn) {
+        Ok(office) => Ok(office),
+        Err((_, fault)) => Err(table_failure(fault)),
+    }
+}
+
+/// Opens the office of the store. Where nothing is there, it is made if that is asked for.
+fn open_office<S: Start>(
+    rt: &HostRuntime,
+    start: S,
+    store: &str,
+    makes: bool,
+) -> Result<Office<FileStore<FileFrom<S>>>, CommandFault>
+    // Where the files hold an office, it is that office.
+    ensures found { IfOk result (λ office. HasCleanDisk (file_state office)
+        → (h : History) → HoldsWhere (IsLeftOf h) (image_at S.Start) → IsKeptBy h (file_state office)) }
+{
+    let is_new = is_missing(rt, store)?;
+    if is_new && !makes {
+        return Err(CommandFault::failed(StoreFault::NotAnOffice));
+    }
+    let conn = open_store(rt, start, store)?;
+    if is_new {
+        make_office(conn)
+    } else {
+        take_office(conn)
+    }
+}
+
+/// Copies the log into the file of the store, and hands both back.
+fn close_office<D: Disk + Drop>(office: Office<FileStore<D>>) -> Result<Files<D>, CommandFault>
+    ensures copied { IfOk result (λ files. AreClean D.Disk files.log files.db → IsCopied office files) }
+{
+    match office.into_connection().close_files() {
+        Ok(files) => Ok(files),
+        Err((error, store)) => {
+            drop(store.close());
+            Err(failed_by(store_fault(error), Cause::Close(error)))
+        }
+    }
+}
+
+/// Does the task with an open office, and closes it: the files.
+fn on_files<D: Disk + Drop, R: Read, O: Write>(
+    alloc: Global,
+    mut office: Office<FileStore<D>>,
+    task: &Task<'_>,
+    input: &mut Counted<R>,
+    out: &mut Counted<O>,
+) -> Result<Files<D>, CommandFault>
+    // The task is done with the office that was open, and the files hold the office that it leads to.
+    ensures done { IfOk result (λ files. AreClean D.Disk files.log files.db
+        → (h : History) → IsLegal h → IsKeptBy h (file_state office)
+        → (next : History) × DoesFrom task.now h next
+        (R.remaining input.old.device) (R.remaining input.new.device)
+        (O.contents out.old.device) (O.contents out.new.device)
+        × IsLegal next × HoldsWhere (IsLeftOf next) (image_of D.Disk files)) }
+{
+    let done = perform(alloc, &mut office, task, input, out);
+    let closed = close_office(office);
+    done?;
+    closed
+}
+
+/// Does the task with the office in the file of the store.
+fn in_file<S: Start, R: Read, O: Write>(
+    rt: &HostRuntime,
+    start: S,
+    store: &str,
+    task: &Task<'_>,
+    input: &mut Counted<R>,
+    out: &mut Counted<O>,
+) -> Result<(), CommandFault> {
+    let office = open_office(rt, start, store, task.makes_office())?;
+    on_files(rt.alloc(), office, task, input, out)?;
+    Ok(())
+}
+
+/// Does the task with the office of the store; `:memory:` is a new one in memory.
+pub fn in_store<S: Start, R: Read, O: Write>(
+    rt: &HostRuntime,
+    start: S,
+    store: &str,
+    task: &Task<'_>,
+    input: &mut Counted<R>,
+    out: &mut Counted<O>,
+) -> Result<(), CommandFault>
+    ensures memory { store.now ≡ codes ":memory:" → OnOk result ((next : History) × DoesFrom task.now made_office next
+        (R.remaining input.old.device) (R.remaining input.new.device)
+        (O.contents out.old.device) (O.contents out.new.device)) }
+{
+    if store == ":memory:" {
+        return in_memory(rt.alloc(), task, input, out);
+    }
+    in_file(rt, start, store, task, input, out)
+}
+
+/// Serves connections with a new office in memory.
+fn serve_in_memory<O: Write>(
+    alloc: Global,
+    day: Day,
+    desk: &Desk,
+    count: u32,
+    out: &mut Counted<O>,
+) -> Result<(), CommandFault> {
+    let Ok(conn) = Connection::open_in_memory(alloc) else {
+        return Err(CommandFault::failed(StoreFault::Memory));
+    };
+    match Office::create(conn, limits()) {
+        Ok(mut office) => serve_office(alloc, &mut office, day, desk, count, out),
+        Err((_, fault)) => Err(table_failure(fault)),
+    }
+}
+
+/// Serves connections with an open office, and closes it.
+fn serve_on_files<D: Disk + Drop, O: Write>(
+    alloc: Global,
+    mut office: Office<FileStore<D>>,
+    day: Day,
+    desk: &Desk,
+    count: u32,
+    out: &mut Counted<O>,
+) -> Result<Files<D>, CommandFault> {
+    let served = serve_office(alloc, &mut office, day, desk, count, out);
+    let closed = close_office(office);
+    served?;
+    closed
+}
+
+/// Serves connections with the office of the store; `:memory:` is a new one in memory.
+pub fn serve_store<S: Start, O: Write>(
+    rt: &HostRuntime,
+    start: S,
+    store: &str,
+    day: Day,
+    desk: &Desk,
+    count: u32,
+    out: &mut Counted<O>,
+) -> Result<(), CommandFault> {
+    if store == ":memory:" {
+        return serve_in_memory(rt.alloc(), day, desk, count, out);
+    }
+    let office = open_office(rt, start, store, false)?;
+    serve_on_files(rt.alloc(), office, day, desk, count, out)?;
+    Ok(())
+}
