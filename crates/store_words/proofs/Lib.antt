@@ -8,3 +8,4 @@ pub mod PolicyWordLemmas
 pub mod ReplayWordLemmas
 pub mod ServeWordLemmas
 pub mod UnpackWordLemmas
+pub mod WordWalkLemmas

@@ -1,22 +1,14 @@
 -- What clap makes of the words of `replay`, where they are plain.
-use Rattle.std.proofs.Common.{◌≡◌, ◌∷◌, ◌∙◌, [], List, Some, fold, refl, ap, codes, is_some}
-use Rattle.clap.specs.Words.{Text, built, fault_of, first_of}
-use Rattle.clap.specs.Kinds.{Kinds, or_else}
-use Rattle.clap.specs.Simple.{Shape, entered}
-use Rattle.clap.specs.Walk.{Held, Walk, finished, nothing_held, pushed, settled, walk, walk_from, walked}
-use Rattle.clap.specs.Faults.{check_fault, defaults_fault, entered_fault, settle_fault, walk_fault}
+use Rattle.std.proofs.Common.{◌≡◌, ◌∷◌, ◌∙◌, [], List, Some, fold, refl, ap, codes}
+use Rattle.clap.specs.Words.{Text, built, fault_of}
+use Rattle.clap.specs.Simple.{Shape}
+use Rattle.clap.specs.Walk.{Held, Walk, nothing_held, pushed, settled, walk, walk_from, walked}
+use Rattle.clap.specs.Faults.{defaults_fault, walk_fault}
 use Rattle.commands.specs.CommandLine.{IsPlainWord, value_of}
 use Rattle.commands.proofs.PlainWordLemmas.{after, before, plain_fault, plain_walk}
 use Rattle.store_words.proofs.OptionWordLemmas.{awaiting, option_fault, option_step}
 use Rattle.store_words.specs.StoreLine.{replay_command}
-
--- what may fail after the walk, where it ends like this
-abbrev faults_after : Shape → Walk → Kinds
-faults_after s end =
-    or_else (entered_fault (record { top = s; subs = [] }) end.stopped)
-    (or_else (settle_fault s.rules s.args_override_self end.held)
-    (or_else (defaults_fault (settled s.rules end.held).rows s.rules)
-    (check_fault s (finished s.rules end.held) (is_some (entered (record { top = s; subs = [] }) end.stopped)))))
+use Rattle.store_words.proofs.WordWalkLemmas.{Ends, is_found, nothing_fails}
 
 abbrev shape : Shape
 shape = (built replay_command).top
@@ -58,35 +50,20 @@ faults_over p s p_is s_is =
     ∙ option_fault shape held_1 1 (codes "POLICY") p (s ∷ []) p_is
     ∙ plain_fault shape (held_2 p) 1 s ([]) s_is
 
-nothing_after : (p s : Text) → faults_after shape (before (held_3 p s) 2) ≡ []
+ends : (p s : Text) → IsPlainWord p → IsPlainWord s → Ends shape (codes "--policy" ∷ p ∷ s ∷ []) (held_3 p s) 2
 unfolding replay_command defaults_fault
-nothing_after p s = refl
+ends p s p_is s_is = record { walks = walk_over p s p_is s_is; passes = faults_over p s p_is s_is; clear = refl }
 
 -- clap takes them
 pub pass : (p s : Text) → IsPlainWord p → IsPlainWord s → fault_of replay_command (codes "replay" ∷ codes "--policy" ∷ p ∷ s ∷ []) ≡ []
 unfolding replay_command
-pass p s p_is s_is =
-    ap (λ (end : Walk). or_else (walk_fault shape [] (walk_from nothing_held) (codes "--policy" ∷ p ∷ s ∷ [])) (faults_after shape end)) (walk_over p s p_is s_is)
-    ∙ ap (λ (kinds : Kinds). or_else kinds (faults_after shape (before (held_3 p s) 2))) (faults_over p s p_is s_is)
-    ∙ nothing_after p s
+pass p s p_is s_is = nothing_fails shape (codes "--policy" ∷ p ∷ s ∷ []) (held_3 p s) 2 (ends p s p_is s_is)
 
 -- and finds their values
-value_over : (value : Text) (p s : Text) → IsPlainWord p → IsPlainWord s
-    → value_of replay_command value (codes "replay" ∷ codes "--policy" ∷ p ∷ s ∷ []) ≡ first_of value (finished shape.rules (held_3 p s))
-unfolding replay_command
-value_over value p s p_is s_is =
-    ap (λ (end : Walk). first_of value (finished shape.rules end.held)) (walk_over p s p_is s_is)
-
-at_policy : (p s : Text) → first_of (codes "POLICY") (finished shape.rules (held_3 p s)) ≡ Some p
-unfolding replay_command
-at_policy p s = refl
-
 pub policy_found : (p s : Text) → IsPlainWord p → IsPlainWord s → value_of replay_command (codes "POLICY") (codes "replay" ∷ codes "--policy" ∷ p ∷ s ∷ []) ≡ Some p
-policy_found p s p_is s_is = value_over (codes "POLICY") p s p_is s_is ∙ at_policy p s
-
-at_store : (p s : Text) → first_of (codes "STORE") (finished shape.rules (held_3 p s)) ≡ Some s
 unfolding replay_command
-at_store p s = refl
+policy_found p s p_is s_is = is_found shape (codes "--policy" ∷ p ∷ s ∷ []) (held_3 p s) 2 (ends p s p_is s_is) (codes "POLICY") (Some p) refl
 
 pub store_found : (p s : Text) → IsPlainWord p → IsPlainWord s → value_of replay_command (codes "STORE") (codes "replay" ∷ codes "--policy" ∷ p ∷ s ∷ []) ≡ Some s
-store_found p s p_is s_is = value_over (codes "STORE") p s p_is s_is ∙ at_store p s
+unfolding replay_command
+store_found p s p_is s_is = is_found shape (codes "--policy" ∷ p ∷ s ∷ []) (held_3 p s) 2 (ends p s p_is s_is) (codes "STORE") (Some s) refl

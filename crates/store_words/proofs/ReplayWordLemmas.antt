@@ -1,21 +1,13 @@
 -- What clap makes of the words of `replay`, where they are plain.
-use Rattle.std.proofs.Common.{◌≡◌, ◌∷◌, ◌∙◌, [], None, Some, refl, ap, codes, is_some}
-use Rattle.clap.specs.Words.{Text, built, fault_of, first_of}
-use Rattle.clap.specs.Kinds.{Kinds, or_else}
-use Rattle.clap.specs.Simple.{Shape, entered}
-use Rattle.clap.specs.Walk.{Held, Walk, finished, nothing_held, settled, walk, walk_from}
-use Rattle.clap.specs.Faults.{check_fault, defaults_fault, entered_fault, settle_fault, walk_fault}
+use Rattle.std.proofs.Common.{◌≡◌, ◌∷◌, [], None, Some, refl, codes}
+use Rattle.clap.specs.Words.{Text, built, fault_of}
+use Rattle.clap.specs.Simple.{Shape}
+use Rattle.clap.specs.Walk.{Held, nothing_held, walk, walk_from}
+use Rattle.clap.specs.Faults.{defaults_fault, walk_fault}
 use Rattle.commands.specs.CommandLine.{IsPlainWord, value_of}
 use Rattle.commands.proofs.PlainWordLemmas.{after, before, plain_fault, plain_walk}
 use Rattle.store_words.specs.StoreLine.{replay_command}
-
--- what may fail after the walk, where it ends like this
-abbrev faults_after : Shape → Walk → Kinds
-faults_after s end =
-    or_else (entered_fault (record { top = s; subs = [] }) end.stopped)
-    (or_else (settle_fault s.rules s.args_override_self end.held)
-    (or_else (defaults_fault (settled s.rules end.held).rows s.rules)
-    (check_fault s (finished s.rules end.held) (is_some (entered (record { top = s; subs = [] }) end.stopped)))))
+use Rattle.store_words.proofs.WordWalkLemmas.{Ends, is_found, nothing_fails}
 
 abbrev shape : Shape
 shape = (built replay_command).top
@@ -36,35 +28,20 @@ unfolding replay_command walk_fault
 faults_over s s_is =
     plain_fault shape nothing_held 1 s ([]) s_is
 
-nothing_after : (s : Text) → faults_after shape (before (held_1 s) 2) ≡ []
+ends : (s : Text) → IsPlainWord s → Ends shape (s ∷ []) (held_1 s) 2
 unfolding replay_command defaults_fault
-nothing_after s = refl
+ends s s_is = record { walks = walk_over s s_is; passes = faults_over s s_is; clear = refl }
 
 -- clap takes them
 pub pass : (s : Text) → IsPlainWord s → fault_of replay_command (codes "replay" ∷ s ∷ []) ≡ []
 unfolding replay_command
-pass s s_is =
-    ap (λ (end : Walk). or_else (walk_fault shape [] (walk_from nothing_held) (s ∷ [])) (faults_after shape end)) (walk_over s s_is)
-    ∙ ap (λ (kinds : Kinds). or_else kinds (faults_after shape (before (held_1 s) 2))) (faults_over s s_is)
-    ∙ nothing_after s
+pass s s_is = nothing_fails shape (s ∷ []) (held_1 s) 2 (ends s s_is)
 
 -- and finds their values
-value_over : (value : Text) (s : Text) → IsPlainWord s
-    → value_of replay_command value (codes "replay" ∷ s ∷ []) ≡ first_of value (finished shape.rules (held_1 s))
-unfolding replay_command
-value_over value s s_is =
-    ap (λ (end : Walk). first_of value (finished shape.rules end.held)) (walk_over s s_is)
-
-at_policy : (s : Text) → first_of (codes "POLICY") (finished shape.rules (held_1 s)) ≡ None
-unfolding replay_command
-at_policy s = refl
-
 pub policy_found : (s : Text) → IsPlainWord s → value_of replay_command (codes "POLICY") (codes "replay" ∷ s ∷ []) ≡ None
-policy_found s s_is = value_over (codes "POLICY") s s_is ∙ at_policy s
-
-at_store : (s : Text) → first_of (codes "STORE") (finished shape.rules (held_1 s)) ≡ Some s
 unfolding replay_command
-at_store s = refl
+policy_found s s_is = is_found shape (s ∷ []) (held_1 s) 2 (ends s s_is) (codes "POLICY") None refl
 
 pub store_found : (s : Text) → IsPlainWord s → value_of replay_command (codes "STORE") (codes "replay" ∷ s ∷ []) ≡ Some s
-store_found s s_is = value_over (codes "STORE") s s_is ∙ at_store s
+unfolding replay_command
+store_found s s_is = is_found shape (s ∷ []) (held_1 s) 2 (ends s s_is) (codes "STORE") (Some s) refl

@@ -1,22 +1,14 @@
 -- What clap makes of the words of `serve`, where they are plain.
-use Rattle.std.proofs.Common.{◌≡◌, ◌∷◌, ◌∙◌, [], List, Some, fold, refl, ap, codes, is_some}
-use Rattle.clap.specs.Words.{Text, built, fault_of, first_of}
-use Rattle.clap.specs.Kinds.{Kinds, or_else}
-use Rattle.clap.specs.Simple.{Shape, entered}
-use Rattle.clap.specs.Walk.{Held, Walk, finished, nothing_held, pushed, settled, walk, walk_from, walked}
-use Rattle.clap.specs.Faults.{check_fault, defaults_fault, entered_fault, settle_fault, walk_fault}
+use Rattle.std.proofs.Common.{◌≡◌, ◌∷◌, ◌∙◌, [], List, Some, fold, refl, ap, codes}
+use Rattle.clap.specs.Words.{Text, built, fault_of}
+use Rattle.clap.specs.Simple.{Shape}
+use Rattle.clap.specs.Walk.{Held, Walk, nothing_held, pushed, settled, walk, walk_from, walked}
+use Rattle.clap.specs.Faults.{defaults_fault, walk_fault}
 use Rattle.commands.specs.CommandLine.{IsPlainWord, value_of}
 use Rattle.commands.proofs.PlainWordLemmas.{after, before, plain_fault, plain_walk}
 use Rattle.store_words.proofs.OptionWordLemmas.{awaiting, option_fault, option_step}
 use Rattle.store_words.specs.StoreLine.{serve_command}
-
--- what may fail after the walk, where it ends like this
-abbrev faults_after : Shape → Walk → Kinds
-faults_after s end =
-    or_else (entered_fault (record { top = s; subs = [] }) end.stopped)
-    (or_else (settle_fault s.rules s.args_override_self end.held)
-    (or_else (defaults_fault (settled s.rules end.held).rows s.rules)
-    (check_fault s (finished s.rules end.held) (is_some (entered (record { top = s; subs = [] }) end.stopped)))))
+use Rattle.store_words.proofs.WordWalkLemmas.{Ends, is_found, nothing_fails}
 
 abbrev shape : Shape
 shape = (built serve_command).top
@@ -85,49 +77,28 @@ faults_over p n s d p_is n_is s_is d_is =
     ∙ plain_fault shape (held_4 p n) 1 s (d ∷ []) s_is
     ∙ plain_fault shape (held_5 p n s) 2 d ([]) d_is
 
-nothing_after : (p n s d : Text) → faults_after shape (before (held_6 p n s d) 3) ≡ []
+ends : (p n s d : Text) → IsPlainWord p → IsPlainWord n → IsPlainWord s → IsPlainWord d → Ends shape (codes "--port" ∷ p ∷ codes "--count" ∷ n ∷ s ∷ d ∷ []) (held_6 p n s d) 3
 unfolding serve_command defaults_fault
-nothing_after p n s d = refl
+ends p n s d p_is n_is s_is d_is = record { walks = walk_over p n s d p_is n_is s_is d_is; passes = faults_over p n s d p_is n_is s_is d_is; clear = refl }
 
 -- clap takes them
 pub pass : (p n s d : Text) → IsPlainWord p → IsPlainWord n → IsPlainWord s → IsPlainWord d → fault_of serve_command (codes "serve" ∷ codes "--port" ∷ p ∷ codes "--count" ∷ n ∷ s ∷ d ∷ []) ≡ []
 unfolding serve_command
-pass p n s d p_is n_is s_is d_is =
-    ap (λ (end : Walk). or_else (walk_fault shape [] (walk_from nothing_held) (codes "--port" ∷ p ∷ codes "--count" ∷ n ∷ s ∷ d ∷ [])) (faults_after shape end)) (walk_over p n s d p_is n_is s_is d_is)
-    ∙ ap (λ (kinds : Kinds). or_else kinds (faults_after shape (before (held_6 p n s d) 3))) (faults_over p n s d p_is n_is s_is d_is)
-    ∙ nothing_after p n s d
+pass p n s d p_is n_is s_is d_is = nothing_fails shape (codes "--port" ∷ p ∷ codes "--count" ∷ n ∷ s ∷ d ∷ []) (held_6 p n s d) 3 (ends p n s d p_is n_is s_is d_is)
 
 -- and finds their values
-value_over : (value : Text) (p n s d : Text) → IsPlainWord p → IsPlainWord n → IsPlainWord s → IsPlainWord d
-    → value_of serve_command value (codes "serve" ∷ codes "--port" ∷ p ∷ codes "--count" ∷ n ∷ s ∷ d ∷ []) ≡ first_of value (finished shape.rules (held_6 p n s d))
-unfolding serve_command
-value_over value p n s d p_is n_is s_is d_is =
-    ap (λ (end : Walk). first_of value (finished shape.rules end.held)) (walk_over p n s d p_is n_is s_is d_is)
-
-at_port : (p n s d : Text) → first_of (codes "P") (finished shape.rules (held_6 p n s d)) ≡ Some p
-unfolding serve_command
-at_port p n s d = refl
-
 pub port_found : (p n s d : Text) → IsPlainWord p → IsPlainWord n → IsPlainWord s → IsPlainWord d → value_of serve_command (codes "P") (codes "serve" ∷ codes "--port" ∷ p ∷ codes "--count" ∷ n ∷ s ∷ d ∷ []) ≡ Some p
-port_found p n s d p_is n_is s_is d_is = value_over (codes "P") p n s d p_is n_is s_is d_is ∙ at_port p n s d
-
-at_count : (p n s d : Text) → first_of (codes "N") (finished shape.rules (held_6 p n s d)) ≡ Some n
 unfolding serve_command
-at_count p n s d = refl
+port_found p n s d p_is n_is s_is d_is = is_found shape (codes "--port" ∷ p ∷ codes "--count" ∷ n ∷ s ∷ d ∷ []) (held_6 p n s d) 3 (ends p n s d p_is n_is s_is d_is) (codes "P") (Some p) refl
 
 pub count_found : (p n s d : Text) → IsPlainWord p → IsPlainWord n → IsPlainWord s → IsPlainWord d → value_of serve_command (codes "N") (codes "serve" ∷ codes "--port" ∷ p ∷ codes "--count" ∷ n ∷ s ∷ d ∷ []) ≡ Some n
-count_found p n s d p_is n_is s_is d_is = value_over (codes "N") p n s d p_is n_is s_is d_is ∙ at_count p n s d
-
-at_store : (p n s d : Text) → first_of (codes "STORE") (finished shape.rules (held_6 p n s d)) ≡ Some s
 unfolding serve_command
-at_store p n s d = refl
+count_found p n s d p_is n_is s_is d_is = is_found shape (codes "--port" ∷ p ∷ codes "--count" ∷ n ∷ s ∷ d ∷ []) (held_6 p n s d) 3 (ends p n s d p_is n_is s_is d_is) (codes "N") (Some n) refl
 
 pub store_found : (p n s d : Text) → IsPlainWord p → IsPlainWord n → IsPlainWord s → IsPlainWord d → value_of serve_command (codes "STORE") (codes "serve" ∷ codes "--port" ∷ p ∷ codes "--count" ∷ n ∷ s ∷ d ∷ []) ≡ Some s
-store_found p n s d p_is n_is s_is d_is = value_over (codes "STORE") p n s d p_is n_is s_is d_is ∙ at_store p n s d
-
-at_day : (p n s d : Text) → first_of (codes "DAY") (finished shape.rules (held_6 p n s d)) ≡ Some d
 unfolding serve_command
-at_day p n s d = refl
+store_found p n s d p_is n_is s_is d_is = is_found shape (codes "--port" ∷ p ∷ codes "--count" ∷ n ∷ s ∷ d ∷ []) (held_6 p n s d) 3 (ends p n s d p_is n_is s_is d_is) (codes "STORE") (Some s) refl
 
 pub day_found : (p n s d : Text) → IsPlainWord p → IsPlainWord n → IsPlainWord s → IsPlainWord d → value_of serve_command (codes "DAY") (codes "serve" ∷ codes "--port" ∷ p ∷ codes "--count" ∷ n ∷ s ∷ d ∷ []) ≡ Some d
-day_found p n s d p_is n_is s_is d_is = value_over (codes "DAY") p n s d p_is n_is s_is d_is ∙ at_day p n s d
+unfolding serve_command
+day_found p n s d p_is n_is s_is d_is = is_found shape (codes "--port" ∷ p ∷ codes "--count" ∷ n ∷ s ∷ d ∷ []) (held_6 p n s d) 3 (ends p n s d p_is n_is s_is d_is) (codes "DAY") (Some d) refl
