@@ -9,3 +9,4 @@ pub mod Serving
 pub mod Unchanged
 pub mod CollectionTold
 pub mod LimitsTold
+pub mod InTurn

@@ -1,4 +1,4 @@
-use Rattle.std.proofs.Common.{rules, ◌≡◌, arith, sym, subst, ◌∙◌, Some, None, option_map}
+use Rattle.std.proofs.Common.{rules, ◌≡◌, sym, subst, ◌∙◌, Some, None, option_map}
 use Rattle.sqlite.specs.State.{HasCleanDisk}
 use Rattle.sqlite.specs.Held.{state}
 use Rattle.office_tables.specs.Tables.{IsOffice}
@@ -7,6 +7,8 @@ use Rattle.office_history.specs.Pictures.{deposit_row}
 use Rattle.office_history.specs.Refusals.{denial, kept_refusals}
 use Rattle.office_asking.proofs.Readings.{pictured_still}
 use Rattle.office_asking.proofs.DepositAsked.{deposit_read, none_there, asked_denied, asked_gone, asked_kept}
+use Rattle.office_asking.proofs.InTurn.{clean_before, goes_twice, same_twice}
+use Rattle.sql_meaning.proofs.Inside.{stays_then}
 use Rattle.office_asking.proofs.deposits.kept_deposit.Goals as goal
 
 pub returns-in_default-clause-asked : goal.returns-in_default-clause-asked
@@ -23,7 +25,7 @@ returns-in-Some-denied-clause-asked g c clean h legal pictured =
     let a = c.args in
     let old = state g.S.Store a.tx.now.conn.now in
     let mid = state g.S.Store c.deposit_row.new.tx.conn.now in
-    let early : HasCleanDisk mid = omega (arith, clean, c.denial.ensures.stays.survives.clean) in
+    let early : HasCleanDisk mid = clean_before mid (state g.S.Store c.denial.new.tx.conn.now) c.denial.ensures.stays clean in
     let read = deposit_read h old.now pictured a.number c.in_ok-deposit.field-0 (c.in_ok-deposit.ensures.found early pictured.office) in
     let still = pictured_still h old.now pictured mid.now (c.in_ok-deposit.ensures.same early pictured.office) in
     let row = c.in-Some.deposit in
@@ -39,7 +41,7 @@ returns-in-Some-gone-clause-asked g c clean h legal pictured =
     let a = c.args in
     let old = state g.S.Store a.tx.now.conn.now in
     let mid = state g.S.Store c.deposit_row.new.tx.conn.now in
-    let early : HasCleanDisk mid = omega (arith, clean, c.denial.ensures.stays.survives.clean) in
+    let early : HasCleanDisk mid = clean_before mid (state g.S.Store c.denial.new.tx.conn.now) c.denial.ensures.stays clean in
     let read = deposit_read h old.now pictured a.number c.in_ok-deposit.field-0 (c.in_ok-deposit.ensures.found early pictured.office) in
     let still = pictured_still h old.now pictured mid.now (c.in_ok-deposit.ensures.same early pictured.office) in
     let row = c.in-Some.deposit in
@@ -56,7 +58,7 @@ returns-in-None-clause-asked g c clean h legal pictured =
     let a = c.args in
     let old = state g.S.Store a.tx.now.conn.now in
     let mid = state g.S.Store c.deposit_row.new.tx.conn.now in
-    let early : HasCleanDisk mid = omega (arith, clean, c.denial.ensures.stays.survives.clean) in
+    let early : HasCleanDisk mid = clean_before mid (state g.S.Store c.denial.new.tx.conn.now) c.denial.ensures.stays clean in
     let read = deposit_read h old.now pictured a.number c.in_ok-deposit.field-0 (c.in_ok-deposit.ensures.found early pictured.office) in
     let still = pictured_still h old.now pictured mid.now (c.in_ok-deposit.ensures.same early pictured.office) in
     let row = c.in-Some.deposit in
@@ -68,23 +70,32 @@ returns-in-None-clause-asked g c clean h legal pictured =
     let said : None ≡ denial h a.caller.now a.action (Some row.collection) (Some row.class) = allowed ∙ asked.1 ∙ (λ i. denial h a.caller.now a.action (Some (collection i)) (Some (class i))) in
     (asked.0, asked_kept h a.caller.now a.action a.number row some said (search rules))
 
+pub returns-in_err-denied-clause-stays : goal.returns-in_err-denied-clause-stays
+returns-in_err-denied-clause-stays g c = stays_then (state g.S.Store c.args.tx.now.conn.now) (state g.S.Store c.deposit_row.new.tx.conn.now) (state g.S.Store c.denial.new.tx.conn.now) c.deposit_row.ensures.stays c.in_ok-deposit.ensures.goes_on c.denial.ensures.stays
+
+pub returns-in-Some-denied-clause-stays : goal.returns-in-Some-denied-clause-stays
+returns-in-Some-denied-clause-stays g c = stays_then (state g.S.Store c.args.tx.now.conn.now) (state g.S.Store c.deposit_row.new.tx.conn.now) (state g.S.Store c.denial.new.tx.conn.now) c.deposit_row.ensures.stays c.in_ok-deposit.ensures.goes_on c.denial.ensures.stays
+
+pub returns-in-Some-denied-clause-goes_on : goal.returns-in-Some-denied-clause-goes_on
+returns-in-Some-denied-clause-goes_on g c = goes_twice (state g.S.Store c.args.tx.now.conn.now) (state g.S.Store c.deposit_row.new.tx.conn.now) (state g.S.Store c.denial.new.tx.conn.now) c.denial.ensures.stays c.in_ok-deposit.ensures.goes_on c.in_ok-denied.ensures.goes_on
+
 pub returns-in-Some-denied-clause-same : goal.returns-in-Some-denied-clause-same
-returns-in-Some-denied-clause-same g c clean office =
-    let mid = state g.S.Store c.deposit_row.new.tx.conn.now in
-    let early : HasCleanDisk mid = omega (arith, clean, c.denial.ensures.stays.survives.clean) in
-    let same = c.in_ok-deposit.ensures.same early office in
-    c.in_ok-denied.ensures.same clean (subst IsOffice (sym same) office) ∙ same
+returns-in-Some-denied-clause-same g c = same_twice (state g.S.Store c.args.tx.now.conn.now) (state g.S.Store c.deposit_row.new.tx.conn.now) (state g.S.Store c.denial.new.tx.conn.now) c.denial.ensures.stays c.in_ok-deposit.ensures.same c.in_ok-denied.ensures.same
+
+pub returns-in-Some-gone-clause-stays : goal.returns-in-Some-gone-clause-stays
+returns-in-Some-gone-clause-stays g c = stays_then (state g.S.Store c.args.tx.now.conn.now) (state g.S.Store c.deposit_row.new.tx.conn.now) (state g.S.Store c.denial.new.tx.conn.now) c.deposit_row.ensures.stays c.in_ok-deposit.ensures.goes_on c.denial.ensures.stays
+
+pub returns-in-Some-gone-clause-goes_on : goal.returns-in-Some-gone-clause-goes_on
+returns-in-Some-gone-clause-goes_on g c = goes_twice (state g.S.Store c.args.tx.now.conn.now) (state g.S.Store c.deposit_row.new.tx.conn.now) (state g.S.Store c.denial.new.tx.conn.now) c.denial.ensures.stays c.in_ok-deposit.ensures.goes_on c.in_ok-denied.ensures.goes_on
 
 pub returns-in-Some-gone-clause-same : goal.returns-in-Some-gone-clause-same
-returns-in-Some-gone-clause-same g c clean office =
-    let mid = state g.S.Store c.deposit_row.new.tx.conn.now in
-    let early : HasCleanDisk mid = omega (arith, clean, c.denial.ensures.stays.survives.clean) in
-    let same = c.in_ok-deposit.ensures.same early office in
-    c.in_ok-denied.ensures.same clean (subst IsOffice (sym same) office) ∙ same
+returns-in-Some-gone-clause-same g c = same_twice (state g.S.Store c.args.tx.now.conn.now) (state g.S.Store c.deposit_row.new.tx.conn.now) (state g.S.Store c.denial.new.tx.conn.now) c.denial.ensures.stays c.in_ok-deposit.ensures.same c.in_ok-denied.ensures.same
+
+pub returns-in-None-clause-stays : goal.returns-in-None-clause-stays
+returns-in-None-clause-stays g c = stays_then (state g.S.Store c.args.tx.now.conn.now) (state g.S.Store c.deposit_row.new.tx.conn.now) (state g.S.Store c.denial.new.tx.conn.now) c.deposit_row.ensures.stays c.in_ok-deposit.ensures.goes_on c.denial.ensures.stays
+
+pub returns-in-None-clause-goes_on : goal.returns-in-None-clause-goes_on
+returns-in-None-clause-goes_on g c = goes_twice (state g.S.Store c.args.tx.now.conn.now) (state g.S.Store c.deposit_row.new.tx.conn.now) (state g.S.Store c.denial.new.tx.conn.now) c.denial.ensures.stays c.in_ok-deposit.ensures.goes_on c.in_ok-denied.ensures.goes_on
 
 pub returns-in-None-clause-same : goal.returns-in-None-clause-same
-returns-in-None-clause-same g c clean office =
-    let mid = state g.S.Store c.deposit_row.new.tx.conn.now in
-    let early : HasCleanDisk mid = omega (arith, clean, c.denial.ensures.stays.survives.clean) in
-    let same = c.in_ok-deposit.ensures.same early office in
-    c.in_ok-denied.ensures.same clean (subst IsOffice (sym same) office) ∙ same
+returns-in-None-clause-same g c = same_twice (state g.S.Store c.args.tx.now.conn.now) (state g.S.Store c.deposit_row.new.tx.conn.now) (state g.S.Store c.denial.new.tx.conn.now) c.denial.ensures.stays c.in_ok-deposit.ensures.same c.in_ok-denied.ensures.same

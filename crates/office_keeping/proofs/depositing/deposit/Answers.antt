@@ -1,4 +1,4 @@
-use Rattle.std.proofs.Common.{◌≡◌, arith, Some, sym, ap, subst, ◌∙◌}
+use Rattle.std.proofs.Common.{◌≡◌, Some, sym, ap, subst, ◌∙◌}
 use Rattle.sqlite.specs.State.{HasCleanDisk}
 use Rattle.sqlite.specs.Held.{state}
 use Rattle.office_core.specs.FirstOf.{first_some}
@@ -10,6 +10,8 @@ use Rattle.office_history.specs.Refusals.{refusals}
 use Rattle.office_asking.specs.Pictures.{Pictures}
 use Rattle.office_asking.proofs.Serving.{refused_serves, allowed_serves}
 use Rattle.office_keeping.specs.Depositing.{IsAskedFor, IsNext}
+use Rattle.office_asking.proofs.InTurn.{clean_before, goes_twice}
+use Rattle.sql_meaning.proofs.Inside.{stays_then}
 use Rattle.office_keeping.proofs.depositing.deposit.Goals as goal
 
 pub returns-in-Err-clause-decides : goal.returns-in-Err-clause-decides
@@ -30,7 +32,7 @@ returns-clause-decides g c clean h legal pictured =
     let a = c.args in
     let mid = state g.S.Store c.new_bag.new.tx.conn.now in
     let new = state g.S.Store c.keep.new.tx.conn.now in
-    let early : HasCleanDisk mid = omega (arith, clean, c.keep.ensures.stays.survives.clean) in
+    let early : HasCleanDisk mid = clean_before mid new c.keep.ensures.stays clean in
     let collection = c.as_str-collection.ensures.text in
     let class = c.as_str-class.ensures.text in
     let accession = c.as_str-accession.ensures.text in
@@ -42,3 +44,12 @@ returns-clause-decides g c clean h legal pictured =
     (sym next.free ∙ (λ i. first_some (refusals h a.day a.caller.now (requests.Deposit (collection i) (class i) (accession i) a.closed a.bag))))
     (ap answers.Deposited next.number)
     (subst (λ (x : History). Pictures x new.now) (λ i. with_changes h (deposit_change a.day (collection i) (class i) (accession i) a.closed (sym next.bag i))) kept)
+
+pub returns-in_err-keep-clause-stays : goal.returns-in_err-keep-clause-stays
+returns-in_err-keep-clause-stays g c = stays_then (state g.S.Store c.args.tx.now.conn.now) (state g.S.Store c.new_bag.new.tx.conn.now) (state g.S.Store c.keep.new.tx.conn.now) c.new_bag.ensures.stays c.in_ok-asked.ensures.goes_on c.keep.ensures.stays
+
+pub returns-clause-stays : goal.returns-clause-stays
+returns-clause-stays g c = stays_then (state g.S.Store c.args.tx.now.conn.now) (state g.S.Store c.new_bag.new.tx.conn.now) (state g.S.Store c.keep.new.tx.conn.now) c.new_bag.ensures.stays c.in_ok-asked.ensures.goes_on c.keep.ensures.stays
+
+pub returns-clause-goes_on : goal.returns-clause-goes_on
+returns-clause-goes_on g c = goes_twice (state g.S.Store c.args.tx.now.conn.now) (state g.S.Store c.new_bag.new.tx.conn.now) (state g.S.Store c.keep.new.tx.conn.now) c.keep.ensures.stays c.in_ok-asked.ensures.goes_on c.in_ok-keep.ensures.goes_on

@@ -1,11 +1,13 @@
-use Rattle.std.proofs.Common.{rules, ◌≡◌, true, false, arith, ◌∙◌, is_some}
+use Rattle.std.proofs.Common.{rules, ◌≡◌, true, false, ◌∙◌, is_some}
 use Rattle.sqlite.specs.State.{HasCleanDisk}
 use Rattle.sqlite.specs.Held.{state}
-use Rattle.sql_meaning.proofs.Results.{if_ok}
+use Rattle.sql_meaning.proofs.Results.{if_ok, ok_then}
 use Rattle.office_asking.proofs.Readings.{pictured_still}
 use Rattle.office_asking.proofs.DueTold.{years_read_back}
 use Rattle.office_asking.proofs.CollectionTold.{collection_told}
 use Rattle.office_keeping.proofs.Placing.{class_there, no_collection, no_class, both_there}
+use Rattle.office_asking.proofs.InTurn.{clean_before, goes_twice}
+use Rattle.sql_meaning.proofs.Inside.{stays_then, goes_then}
 use Rattle.office_keeping.proofs.depositing.place_refusal.Goals as goal
 
 pub returns-then-not-branch-clause-refusal : goal.returns-then-not-branch-clause-refusal
@@ -24,7 +26,7 @@ returns-then-is_none-clause-refusal g c clean h legal pictured =
     let old = state g.S.Store a.tx.now.conn.now in
     let mid = state g.S.Store c.has_collection.new.tx.conn.now in
     let new = state g.S.Store c.class_of.new.tx.conn.now in
-    let early : HasCleanDisk mid = omega (arith, clean, c.class_of.ensures.stays.survives.clean) in
+    let early : HasCleanDisk mid = clean_before mid new c.class_of.ensures.stays clean in
     let still = pictured_still h old.now pictured mid.now (c.in_ok-has_collection.ensures.same early pictured.office) in
     let some : true ≡ c.in_ok-has_collection.field-0 = search rules in
     let none : false ≡ is_some c.in_ok-class_of.field-0 = search rules in (
@@ -39,8 +41,8 @@ returns-clause-refusal g c clean h legal pictured =
     let old = state g.S.Store a.tx.now.conn.now in
     let s1 = state g.S.Store c.has_collection.new.tx.conn.now in
     let s2 = state g.S.Store c.class_of.new.tx.conn.now in
-    let clean2 : HasCleanDisk s2 = omega (arith, clean, c.denial.ensures.stays.survives.clean) in
-    let clean1 : HasCleanDisk s1 = omega (arith, clean2, c.class_of.ensures.stays.survives.clean) in
+    let clean2 : HasCleanDisk s2 = clean_before s2 (state g.S.Store c.denial.new.tx.conn.now) c.denial.ensures.stays clean in
+    let clean1 : HasCleanDisk s1 = clean_before s1 s2 c.class_of.ensures.stays clean2 in
     let p1 = pictured_still h old.now pictured s1.now (c.in_ok-has_collection.ensures.same clean1 pictured.office) in
     let p2 = pictured_still h s1.now p1 s2.now (c.in_ok-class_of.ensures.same clean2 p1.office) in
     let there : true ≡ c.in_ok-has_collection.field-0 = search rules in
@@ -48,3 +50,28 @@ returns-clause-refusal g c clean h legal pictured =
     let collection = there ∙ c.in_ok-has_collection.ensures.found clean1 pictured.office ∙ collection_told h old.now pictured a.collection.now in
     let class = some ∙ class_there h a.class.now c.in_ok-class_of.field-0 (years_read_back h s1.now p1 a.class.now c.in_ok-class_of.field-0 (c.in_ok-class_of.ensures.found clean2 p1.office)) in
     if_ok c.denial.result (λ why p. (p.0, both_there h a.caller.now a.collection.now a.class.now collection class why p.1)) (c.denial.ensures.denied clean h legal p2)
+
+pub returns-in_err-class_of-clause-stays : goal.returns-in_err-class_of-clause-stays
+returns-in_err-class_of-clause-stays g c = stays_then (state g.S.Store c.args.tx.now.conn.now) (state g.S.Store c.has_collection.new.tx.conn.now) (state g.S.Store c.class_of.new.tx.conn.now) c.has_collection.ensures.stays c.in_ok-has_collection.ensures.goes_on c.class_of.ensures.stays
+
+pub returns-then-is_none-clause-stays : goal.returns-then-is_none-clause-stays
+returns-then-is_none-clause-stays g c = stays_then (state g.S.Store c.args.tx.now.conn.now) (state g.S.Store c.has_collection.new.tx.conn.now) (state g.S.Store c.class_of.new.tx.conn.now) c.has_collection.ensures.stays c.in_ok-has_collection.ensures.goes_on c.class_of.ensures.stays
+
+pub returns-then-is_none-clause-goes_on : goal.returns-then-is_none-clause-goes_on
+returns-then-is_none-clause-goes_on g c = goes_twice (state g.S.Store c.args.tx.now.conn.now) (state g.S.Store c.has_collection.new.tx.conn.now) (state g.S.Store c.class_of.new.tx.conn.now) c.class_of.ensures.stays c.in_ok-has_collection.ensures.goes_on c.in_ok-class_of.ensures.goes_on
+
+pub returns-clause-stays : goal.returns-clause-stays
+returns-clause-stays g c =
+    let s0 = state g.S.Store c.args.tx.now.conn.now in
+    let s1 = state g.S.Store c.has_collection.new.tx.conn.now in
+    let s2 = state g.S.Store c.class_of.new.tx.conn.now in
+    stays_then s0 s2 (state g.S.Store c.denial.new.tx.conn.now) (stays_then s0 s1 s2 c.has_collection.ensures.stays c.in_ok-has_collection.ensures.goes_on c.class_of.ensures.stays) (goes_twice s0 s1 s2 c.class_of.ensures.stays c.in_ok-has_collection.ensures.goes_on c.in_ok-class_of.ensures.goes_on) c.denial.ensures.stays
+
+pub returns-clause-goes_on : goal.returns-clause-goes_on
+returns-clause-goes_on g c clean =
+    let s0 = state g.S.Store c.args.tx.now.conn.now in
+    let s1 = state g.S.Store c.has_collection.new.tx.conn.now in
+    let s2 = state g.S.Store c.class_of.new.tx.conn.now in
+    let s3 = state g.S.Store c.denial.new.tx.conn.now in
+    let p = goes_twice s0 s1 s2 c.class_of.ensures.stays c.in_ok-has_collection.ensures.goes_on c.in_ok-class_of.ensures.goes_on (clean_before s2 s3 c.denial.ensures.stays clean) in
+    ok_then c.denial.result (goes_then s0 s2 s3 p) (c.denial.ensures.goes_on clean)

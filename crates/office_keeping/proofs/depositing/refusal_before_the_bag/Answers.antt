@@ -1,10 +1,12 @@
-use Rattle.std.proofs.Common.{rules, ◌≡◌, arith, [], ◌∷◌, Some, None, sym, ◌∙◌}
+use Rattle.std.proofs.Common.{rules, ◌≡◌, [], ◌∷◌, Some, None, sym, ◌∙◌}
 use Rattle.sqlite.specs.State.{HasCleanDisk}
 use Rattle.sqlite.specs.Held.{state}
 use Rattle.office_core.specs.FirstOf.{first_some}
 use Rattle.office_history.specs.Refusals.{place_refusals, taken_refusal, closed_ahead_refusal}
 use Rattle.office_asking.proofs.Serving.{one_refusal}
 use Rattle.office_keeping.proofs.AskedFor.{first_stands, first_later}
+use Rattle.office_asking.proofs.InTurn.{clean_before, goes_twice}
+use Rattle.sql_meaning.proofs.Inside.{stays_then}
 use Rattle.office_keeping.proofs.depositing.refusal_before_the_bag.Goals as goal
 
 pub returns-in-Some-clause-refusal : goal.returns-in-Some-clause-refusal
@@ -18,7 +20,7 @@ pub returns-clause-refusal : goal.returns-clause-refusal
 returns-clause-refusal g c clean h legal pictured =
     let a = c.args in
     let mid = state g.S.Store c.place_refusal.new.tx.conn.now in
-    let early : HasCleanDisk mid = omega (arith, clean, c.taken_refusal.ensures.stays.survives.clean) in
+    let early : HasCleanDisk mid = clean_before mid (state g.S.Store c.taken_refusal.new.tx.conn.now) c.taken_refusal.ensures.stays clean in
     let place = c.in_ok-why.ensures.refusal early h legal pictured in
     let asked = c.in_ok-why-2.ensures.taken clean h legal place.0 in
     let free : None ≡ first_some (place_refusals h a.caller.now a.collection.now a.class.now) = search (rules, place.1) in
@@ -28,3 +30,18 @@ returns-clause-refusal g c clean h legal pictured =
       one_refusal c.closed_ahead.result ∙ (λ i. first_some (untaken i ∷ ahead i ∷ []))
           ∙ first_later (place_refusals h a.caller.now a.collection.now a.class.now) (taken_refusal h a.accession.now ∷ closed_ahead_refusal a.day a.closed ∷ []) free,
     )
+
+pub returns-in_err-why-2-clause-stays : goal.returns-in_err-why-2-clause-stays
+returns-in_err-why-2-clause-stays g c = stays_then (state g.S.Store c.args.tx.now.conn.now) (state g.S.Store c.place_refusal.new.tx.conn.now) (state g.S.Store c.taken_refusal.new.tx.conn.now) c.place_refusal.ensures.stays c.in_ok-why.ensures.goes_on c.taken_refusal.ensures.stays
+
+pub returns-in-Some-2-clause-stays : goal.returns-in-Some-2-clause-stays
+returns-in-Some-2-clause-stays g c = stays_then (state g.S.Store c.args.tx.now.conn.now) (state g.S.Store c.place_refusal.new.tx.conn.now) (state g.S.Store c.taken_refusal.new.tx.conn.now) c.place_refusal.ensures.stays c.in_ok-why.ensures.goes_on c.taken_refusal.ensures.stays
+
+pub returns-in-Some-2-clause-goes_on : goal.returns-in-Some-2-clause-goes_on
+returns-in-Some-2-clause-goes_on g c = goes_twice (state g.S.Store c.args.tx.now.conn.now) (state g.S.Store c.place_refusal.new.tx.conn.now) (state g.S.Store c.taken_refusal.new.tx.conn.now) c.taken_refusal.ensures.stays c.in_ok-why.ensures.goes_on c.in_ok-why-2.ensures.goes_on
+
+pub returns-clause-stays : goal.returns-clause-stays
+returns-clause-stays g c = stays_then (state g.S.Store c.args.tx.now.conn.now) (state g.S.Store c.place_refusal.new.tx.conn.now) (state g.S.Store c.taken_refusal.new.tx.conn.now) c.place_refusal.ensures.stays c.in_ok-why.ensures.goes_on c.taken_refusal.ensures.stays
+
+pub returns-clause-goes_on : goal.returns-clause-goes_on
+returns-clause-goes_on g c = goes_twice (state g.S.Store c.args.tx.now.conn.now) (state g.S.Store c.place_refusal.new.tx.conn.now) (state g.S.Store c.taken_refusal.new.tx.conn.now) c.taken_refusal.ensures.stays c.in_ok-why.ensures.goes_on c.in_ok-why-2.ensures.goes_on

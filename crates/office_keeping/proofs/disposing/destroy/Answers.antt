@@ -1,14 +1,15 @@
-use Rattle.std.proofs.Common.{rules, w32, w64, pos, arith}
+use Rattle.std.proofs.Common.{rules, w32, w64, pos}
 use mir.Val.{SFits}
 use Rattle.std.proofs.lemmas.Int.{to_z-of_z}
 use Rattle.jiff.specs.Words.{epoch_day}
 use Rattle.sqlite.specs.State.{HasCleanDisk}
 use Rattle.sqlite.specs.Held.{state}
-use Rattle.sql_meaning.proofs.Inside.{stays_then}
+use Rattle.sql_meaning.proofs.Inside.{stays_then, goes_then}
 use Rattle.office_rows.specs.Rows.{with_gone}
 use Rattle.office_tables.specs.Tables.{Becomes, tables_of}
 use Rattle.office_keeping.proofs.GoneTold.{destroyed}
 use Rattle.sql_meaning.proofs.Results.{ok_then}
+use Rattle.office_asking.proofs.InTurn.{clean_before}
 use Rattle.office_keeping.proofs.disposing.destroy.Goals as goal
 
 pub returns-clause-stays : goal.returns-clause-stays
@@ -21,8 +22,15 @@ returns-clause-destroyed g c clean h legal pictured kept =
     let old = state g.S.Store a.tx.now.conn.now in
     let mid = state g.S.Store c.mark_gone.new.tx.conn.now in
     let new = state g.S.Store c.drop_files.new.tx.conn.now in
-    let early : HasCleanDisk mid = omega (arith, clean, c.drop_files.ensures.stays.survives.clean) in
+    let early : HasCleanDisk mid = clean_before mid new c.drop_files.ensures.stays clean in
     let small : SFits w32 c.number.result = search rules in
     let fits : SFits w64 c.number.result = search rules in
     let marked : Becomes mid.now (with_gone (pos a.number) (epoch_day a.day) (tables_of old.now)) = rw (to_z-of_z w32 c.number.result small, to_z-of_z w64 c.number.result fits, c.number.ensures.value) at (c.in_ok-mark_gone.ensures.becomes early pictured.office) in
     ok_then c.drop_files.result (destroyed h a.day a.number kept old.now mid.now new.now pictured marked) (c.drop_files.ensures.becomes clean marked.office)
+
+pub returns-clause-goes_on : goal.returns-clause-goes_on
+returns-clause-goes_on g c clean =
+    let s0 = state g.S.Store c.args.tx.now.conn.now in
+    let s1 = state g.S.Store c.mark_gone.new.tx.conn.now in
+    let s2 = state g.S.Store c.drop_files.new.tx.conn.now in
+    ok_then c.drop_files.result (goes_then s0 s1 s2 (c.in_ok-mark_gone.ensures.goes_on (clean_before s1 s2 c.drop_files.ensures.stays clean))) (c.drop_files.ensures.goes_on clean)

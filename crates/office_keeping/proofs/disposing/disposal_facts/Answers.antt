@@ -1,13 +1,13 @@
-use Rattle.std.proofs.Common.{rules, ◌≡◌, arith, ap, sym, ◌∙◌, Some}
+use Rattle.std.proofs.Common.{rules, ◌≡◌, ap, sym, ◌∙◌, Some}
 use Rattle.sqlite.specs.State.{HasCleanDisk}
 use Rattle.sqlite.specs.Held.{state}
 use Rattle.jiff.specs.Words.{epoch_day}
-use Rattle.sql_meaning.specs.Inside.{GoesOn, Stays}
-use Rattle.sql_meaning.proofs.Inside.{goes_then, stays_then}
+use Rattle.sql_meaning.proofs.Inside.{stays_then}
 use Rattle.office_core.specs.declared.action.Action.TheVariants as acts
 use Rattle.office_rows.specs.Rows.{DepositRow}
 use Rattle.office_history.specs.Refusals.{deciding_rule}
 use Rattle.office_keeping.proofs.Disposals.{same_facts, closed_is}
+use Rattle.office_asking.proofs.InTurn.{clean_before, goes_twice}
 use Rattle.office_keeping.proofs.disposing.disposal_facts.Goals as goal
 
 pub returns-clause-facts : goal.returns-clause-facts
@@ -15,8 +15,8 @@ returns-clause-facts g c clean h legal pictured =
     let a = c.args in
     let s1 = state g.S.Store c.read.new.tx.conn.now in
     let s2 = state g.S.Store c.least_hold.new.tx.conn.now in
-    let clean2 : HasCleanDisk s2 = omega (arith, clean, c.due_day.ensures.stays.survives.clean) in
-    let clean1 : HasCleanDisk s1 = omega (arith, clean2, c.least_hold.ensures.stays.survives.clean) in
+    let clean2 : HasCleanDisk s2 = clean_before s2 (state g.S.Store c.due_day.new.tx.conn.now) c.due_day.ensures.stays clean in
+    let clean1 : HasCleanDisk s1 = clean_before s1 s2 c.least_hold.ensures.stays clean2 in
     let p1 = c.in_ok-asker.ensures.asker clean1 h legal pictured in
     let p2 = c.in_ok-hold.ensures.least clean2 h legal p1.0 in
     let p3 = c.in_ok-due.ensures.due clean h legal p2.0 in
@@ -40,24 +40,18 @@ returns-in_err-due-clause-stays g c =
     let s0 = state g.S.Store c.args.tx.now.conn.now in
     let s1 = state g.S.Store c.read.new.tx.conn.now in
     let s2 = state g.S.Store c.least_hold.new.tx.conn.now in
-    let twice : Stays s0 s2 = stays_then s0 s1 s2 c.read.ensures.stays c.in_ok-asker.ensures.goes_on c.least_hold.ensures.stays in
-    let goes : HasCleanDisk s2 → GoesOn s0 s2 = λ clean. goes_then s0 s1 s2 (c.in_ok-asker.ensures.goes_on (omega (arith, clean, c.least_hold.ensures.stays.survives.clean))) (c.in_ok-hold.ensures.goes_on clean) in
-    stays_then s0 s2 (state g.S.Store c.due_day.new.tx.conn.now) twice goes c.due_day.ensures.stays
+    stays_then s0 s2 (state g.S.Store c.due_day.new.tx.conn.now) (stays_then s0 s1 s2 c.read.ensures.stays c.in_ok-asker.ensures.goes_on c.least_hold.ensures.stays) (goes_twice s0 s1 s2 c.least_hold.ensures.stays c.in_ok-asker.ensures.goes_on c.in_ok-hold.ensures.goes_on) c.due_day.ensures.stays
 
 pub returns-clause-stays : goal.returns-clause-stays
 returns-clause-stays g c =
     let s0 = state g.S.Store c.args.tx.now.conn.now in
     let s1 = state g.S.Store c.read.new.tx.conn.now in
     let s2 = state g.S.Store c.least_hold.new.tx.conn.now in
-    let twice : Stays s0 s2 = stays_then s0 s1 s2 c.read.ensures.stays c.in_ok-asker.ensures.goes_on c.least_hold.ensures.stays in
-    let goes : HasCleanDisk s2 → GoesOn s0 s2 = λ clean. goes_then s0 s1 s2 (c.in_ok-asker.ensures.goes_on (omega (arith, clean, c.least_hold.ensures.stays.survives.clean))) (c.in_ok-hold.ensures.goes_on clean) in
-    stays_then s0 s2 (state g.S.Store c.due_day.new.tx.conn.now) twice goes c.due_day.ensures.stays
+    stays_then s0 s2 (state g.S.Store c.due_day.new.tx.conn.now) (stays_then s0 s1 s2 c.read.ensures.stays c.in_ok-asker.ensures.goes_on c.least_hold.ensures.stays) (goes_twice s0 s1 s2 c.least_hold.ensures.stays c.in_ok-asker.ensures.goes_on c.in_ok-hold.ensures.goes_on) c.due_day.ensures.stays
 
 pub returns-clause-goes_on : goal.returns-clause-goes_on
-returns-clause-goes_on g c clean =
+returns-clause-goes_on g c =
     let s0 = state g.S.Store c.args.tx.now.conn.now in
     let s1 = state g.S.Store c.read.new.tx.conn.now in
     let s2 = state g.S.Store c.least_hold.new.tx.conn.now in
-    let clean2 : HasCleanDisk s2 = omega (arith, clean, c.due_day.ensures.stays.survives.clean) in
-    let clean1 : HasCleanDisk s1 = omega (arith, clean2, c.least_hold.ensures.stays.survives.clean) in
-    goes_then s0 s2 (state g.S.Store c.due_day.new.tx.conn.now) (goes_then s0 s1 s2 (c.in_ok-asker.ensures.goes_on clean1) (c.in_ok-hold.ensures.goes_on clean2)) (c.in_ok-due.ensures.goes_on clean)
+    goes_twice s0 s2 (state g.S.Store c.due_day.new.tx.conn.now) c.due_day.ensures.stays (goes_twice s0 s1 s2 c.least_hold.ensures.stays c.in_ok-asker.ensures.goes_on c.in_ok-hold.ensures.goes_on) c.in_ok-due.ensures.goes_on

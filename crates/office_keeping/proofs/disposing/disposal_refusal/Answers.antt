@@ -1,4 +1,4 @@
-use Rattle.std.proofs.Common.{rules, ◌≡◌, arith, ap, sym, ◌∙◌, Some, None, option_map}
+use Rattle.std.proofs.Common.{rules, ◌≡◌, ap, sym, ◌∙◌, Some, None, option_map}
 use Rattle.sqlite.specs.State.{HasCleanDisk}
 use Rattle.sqlite.specs.Held.{state}
 use Rattle.office_core.specs.Verdicts.{verdict_of}
@@ -8,6 +8,8 @@ use Rattle.office_history.specs.Pictures.{deposit_row}
 use Rattle.office_history.specs.Refusals.{refusal_of, disposal_refusals}
 use Rattle.office_asking.proofs.Readings.{pictured_still}
 use Rattle.office_asking.proofs.DepositAsked.{deposit_read, none_there, there}
+use Rattle.office_asking.proofs.InTurn.{clean_before, goes_twice}
+use Rattle.sql_meaning.proofs.Inside.{stays_then}
 use Rattle.office_keeping.proofs.disposing.disposal_refusal.Goals as goal
 
 pub returns-in_default-clause-refusal : goal.returns-in_default-clause-refusal
@@ -24,7 +26,7 @@ returns-clause-refusal g c clean h legal pictured =
     let a = c.args in
     let old = state g.S.Store a.tx.now.conn.now in
     let mid = state g.S.Store c.deposit_row.new.tx.conn.now in
-    let early : HasCleanDisk mid = omega (arith, clean, c.disposal_facts.ensures.stays.survives.clean) in
+    let early : HasCleanDisk mid = clean_before mid (state g.S.Store c.disposal_facts.new.tx.conn.now) c.disposal_facts.ensures.stays clean in
     let read = deposit_read h old.now pictured a.number c.in_ok-deposit.field-0 (c.in_ok-deposit.ensures.found early pictured.office) in
     let still = pictured_still h old.now pictured mid.now (c.in_ok-deposit.ensures.same early pictured.office) in
     let row = c.in-Some.deposit in
@@ -34,3 +36,12 @@ returns-clause-refusal g c clean h legal pictured =
     let facts = known.1 found.0 found.2 in
     let told : c.refusal_of.result ≡ refusal_of (verdict_of c.in_ok-facts.facts a.day) = search rules in
     (known.0, told ∙ ap (λ f. refusal_of (verdict_of f a.day)) facts ∙ sym (c.verdicts_decide.ensures.disposal h a.day a.caller.now a.number found.0 found.1))
+
+pub returns-in_err-facts-clause-stays : goal.returns-in_err-facts-clause-stays
+returns-in_err-facts-clause-stays g c = stays_then (state g.S.Store c.args.tx.now.conn.now) (state g.S.Store c.deposit_row.new.tx.conn.now) (state g.S.Store c.disposal_facts.new.tx.conn.now) c.deposit_row.ensures.stays c.in_ok-deposit.ensures.goes_on c.disposal_facts.ensures.stays
+
+pub returns-clause-stays : goal.returns-clause-stays
+returns-clause-stays g c = stays_then (state g.S.Store c.args.tx.now.conn.now) (state g.S.Store c.deposit_row.new.tx.conn.now) (state g.S.Store c.disposal_facts.new.tx.conn.now) c.deposit_row.ensures.stays c.in_ok-deposit.ensures.goes_on c.disposal_facts.ensures.stays
+
+pub returns-clause-goes_on : goal.returns-clause-goes_on
+returns-clause-goes_on g c = goes_twice (state g.S.Store c.args.tx.now.conn.now) (state g.S.Store c.deposit_row.new.tx.conn.now) (state g.S.Store c.disposal_facts.new.tx.conn.now) c.disposal_facts.ensures.stays c.in_ok-deposit.ensures.goes_on c.in_ok-facts.ensures.goes_on

@@ -1,4 +1,4 @@
-use Rattle.std.proofs.Common.{rules, ◌≡◌, arith, refl, sym, ◌∙◌, None}
+use Rattle.std.proofs.Common.{rules, ◌≡◌, refl, sym, ◌∙◌, None}
 use Rattle.sqlite.specs.State.{HasCleanDisk}
 use Rattle.sqlite.specs.Held.{state}
 use Rattle.office_core.specs.declared.answer.Answer.TheVariants as answers
@@ -6,6 +6,8 @@ use Rattle.office_core.specs.declared.request.Request.TheVariants as requests
 use Rattle.office_history.specs.Refusals.{refusal}
 use Rattle.office_history.proofs.Accepted.{disposable}
 use Rattle.office_asking.proofs.Serving.{refused_serves, allowed_serves}
+use Rattle.office_asking.proofs.InTurn.{clean_before, goes_twice}
+use Rattle.sql_meaning.proofs.Inside.{stays_then}
 use Rattle.office_keeping.proofs.disposing.dispose.Goals as goal
 
 pub returns-in-Some-clause-decides : goal.returns-in-Some-clause-decides
@@ -20,8 +22,17 @@ returns-clause-decides g c clean h legal pictured =
     let a = c.args in
     let mid = state g.S.Store c.disposal_refusal.new.tx.conn.now in
     let new = state g.S.Store c.destroy.new.tx.conn.now in
-    let early : HasCleanDisk mid = omega (arith, clean, c.destroy.ensures.stays.survives.clean) in
+    let early : HasCleanDisk mid = clean_before mid new c.destroy.ensures.stays clean in
     let asked = c.in_ok-why.ensures.refusal early h legal pictured in
     let none : None ≡ refusal h a.day a.caller.now (requests.Dispose a.number) = search (rules, asked.1) in
     let kept = (disposable h a.day a.caller.now a.number (sym none)).kept in
     allowed_serves h a.day a.caller.now (requests.Dispose a.number) new.now (answers.Destroyed a.number a.day) none refl (c.in_ok-destroy.ensures.destroyed clean h legal asked.0 kept)
+
+pub returns-in_err-destroy-clause-stays : goal.returns-in_err-destroy-clause-stays
+returns-in_err-destroy-clause-stays g c = stays_then (state g.S.Store c.args.tx.now.conn.now) (state g.S.Store c.disposal_refusal.new.tx.conn.now) (state g.S.Store c.destroy.new.tx.conn.now) c.disposal_refusal.ensures.stays c.in_ok-why.ensures.goes_on c.destroy.ensures.stays
+
+pub returns-clause-stays : goal.returns-clause-stays
+returns-clause-stays g c = stays_then (state g.S.Store c.args.tx.now.conn.now) (state g.S.Store c.disposal_refusal.new.tx.conn.now) (state g.S.Store c.destroy.new.tx.conn.now) c.disposal_refusal.ensures.stays c.in_ok-why.ensures.goes_on c.destroy.ensures.stays
+
+pub returns-clause-goes_on : goal.returns-clause-goes_on
+returns-clause-goes_on g c = goes_twice (state g.S.Store c.args.tx.now.conn.now) (state g.S.Store c.disposal_refusal.new.tx.conn.now) (state g.S.Store c.destroy.new.tx.conn.now) c.destroy.ensures.stays c.in_ok-why.ensures.goes_on c.in_ok-destroy.ensures.goes_on

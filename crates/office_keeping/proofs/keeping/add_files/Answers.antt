@@ -1,9 +1,10 @@
-use Rattle.std.proofs.Common.{arith, rules, pos}
+use Rattle.std.proofs.Common.{rules, pos}
 use Rattle.sqlite.specs.State.{HasCleanDisk}
 use Rattle.sqlite.specs.Held.{state}
 use Rattle.sql_meaning.proofs.Inside.{stays_on}
 use Rattle.office_tables.specs.Tables.{tables_of}
 use Rattle.office_keeping.proofs.DepositedTold.{next_file}
+use Rattle.office_asking.proofs.InTurn.{clean_before}
 use Rattle.office_keeping.proofs.keeping.add_files.Goals as goal
 
 pub loop-file-preserved : goal.loop-file-preserved
@@ -12,7 +13,7 @@ loop-file-preserved g c =
     let now = state g.S.Store c.loop-file.tx.conn.now in
     let new = state g.S.Store c.add_file.new.tx.conn.now in
     let inv = c.loop-file.invariant in
-    let early = λ (clean : HasCleanDisk new). let e : HasCleanDisk now = omega (arith, clean, c.add_file.ensures.stays.survives.clean) in e in
+    let early = λ (clean : HasCleanDisk new). let e : HasCleanDisk now = clean_before now new c.add_file.ensures.stays clean in e in
     record {
       same_reference = search rules;
       stays = stays_on old now new inv.stays inv.goes_on c.add_file.ensures.stays;

@@ -1,4 +1,4 @@
-use Rattle.std.proofs.Common.{rules, pos, arith, subst, None, OnOk}
+use Rattle.std.proofs.Common.{rules, pos, subst, None, OnOk}
 use Rattle.office_keeping.specs.Depositing.{with_files}
 use Rattle.sqlite.specs.State.{HasCleanDisk}
 use Rattle.sqlite.specs.Held.{state}
@@ -9,6 +9,7 @@ use Rattle.office_tables.specs.Tables.{Becomes, tables_of}
 use Rattle.office_history.specs.Histories.{Deposit}
 use Rattle.office_asking.proofs.Unchanged.{row_by_gone}
 use Rattle.office_keeping.proofs.DepositedTold.{kept_deposit}
+use Rattle.office_asking.proofs.InTurn.{clean_before}
 use Rattle.office_keeping.proofs.keeping.keep.Goals as goal
 
 pub returns-clause-stays : goal.returns-clause-stays
@@ -18,7 +19,7 @@ returns-clause-stays g c =
 pub returns-clause-goes_on : goal.returns-clause-goes_on
 returns-clause-goes_on g c clean =
     let mid = state g.S.Store c.put_deposit.new.tx.conn.now in
-    let early : HasCleanDisk mid = omega (arith, clean, c.add_files.ensures.stays.survives.clean) in
+    let early : HasCleanDisk mid = clean_before mid (state g.S.Store c.add_files.new.tx.conn.now) c.add_files.ensures.stays clean in
     let p = c.in_ok-put_deposit.ensures.goes_on early in
     ok_then c.add_files.result (λ s. record { was_open = p.was_open; is_open = s.is_open p.is_open; inside = λ i. s.inside (p.inside i) }) (c.add_files.ensures.goes_on clean)
 
@@ -28,7 +29,7 @@ returns-clause-kept g c clean h legal pictured next =
     let old = state g.S.Store a.tx.now.conn.now in
     let mid = state g.S.Store c.put_deposit.new.tx.conn.now in
     let new = state g.S.Store c.add_files.new.tx.conn.now in
-    let early : HasCleanDisk mid = omega (arith, clean, c.add_files.ensures.stays.survives.clean) in
+    let early : HasCleanDisk mid = clean_before mid new c.add_files.ensures.stays clean in
     let d : Deposit = record { collection = a.collection.now; class = a.class.now; accession = a.accession.now; closed = a.closed; bag = a.bag.now } in
     let put = c.in_ok-put_deposit.ensures.becomes early pictured.office in
     let added : Becomes mid.now (with_deposit (row_by_gone a.number None (a.day, d)) (tables_of old.now)) = search (rules, put) in

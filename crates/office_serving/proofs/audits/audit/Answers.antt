@@ -1,4 +1,4 @@
-use Rattle.std.proofs.Common.{rules, ◌≡◌, arith, refl, ap, subst, ◌∙◌, map}
+use Rattle.std.proofs.Common.{rules, ◌≡◌, refl, ap, subst, ◌∙◌, map, sym, pos}
 use Rattle.sqlite.specs.State.{HasCleanDisk}
 use Rattle.sqlite.specs.Held.{state}
 use Rattle.office_core.specs.declared.action.Action.TheVariants as acts
@@ -15,6 +15,10 @@ use Rattle.office_serving.specs.Audits.{verdict_on}
 use Rattle.office_serving.proofs.AuditTold.{on_a_bag}
 use Rattle.office_serving.proofs.FilesTold.{bag_read}
 use Rattle.office_serving.proofs.Told.{is_kept, told_serves}
+use Rattle.office_asking.proofs.InTurn.{clean_before, goes_twice}
+use Rattle.sql_meaning.proofs.Inside.{stays_then}
+use Rattle.office_tables.specs.Tables.{IsOffice, tables_of}
+use Rattle.office_tables.specs.Deposits.{files_by_path}
 use Rattle.office_serving.proofs.audits.audit.Goals as goal
 
 pub returns-in-Ok-clause-decides : goal.returns-in-Ok-clause-decides
@@ -22,7 +26,7 @@ returns-in-Ok-clause-decides g c clean h legal pictured =
     let a = c.args in
     let mid = state g.S.Store c.kept_deposit.new.tx.conn.now in
     let new = state g.S.Store c.files_of.new.tx.conn.now in
-    let early : HasCleanDisk mid = omega (arith, clean, c.files_of.ensures.stays.survives.clean) in
+    let early : HasCleanDisk mid = clean_before mid new c.files_of.ensures.stays clean in
     let asked = c.in_ok-kept_deposit.ensures.asked early h legal pictured in
     let row = c.in-Ok.field-0 in
     let it : IsThere h a.number (kept_refusals h a.caller.now acts.Audit a.number) row = subst (IsAsked h a.number (kept_refusals h a.caller.now acts.Audit a.number)) c.in-Ok.is asked.1 in
@@ -43,3 +47,27 @@ returns-clause-decides g c clean h legal pictured =
     let asked = c.in_ok-kept_deposit.ensures.asked clean h legal pictured in
     let said = subst (IsAsked h a.number (kept_refusals h a.caller.now acts.Audit a.number)) c.in-Err.is asked.1 in
     refused_serves h a.day a.caller.now (requests.Audit a.number) new.now c.in-Err.why said asked.0
+
+pub returns-in_err-rows-in-Ok-clause-stays : goal.returns-in_err-rows-in-Ok-clause-stays
+returns-in_err-rows-in-Ok-clause-stays g c = stays_then (state g.S.Store c.args.tx.now.conn.now) (state g.S.Store c.kept_deposit.new.tx.conn.now) (state g.S.Store c.files_of.new.tx.conn.now) c.kept_deposit.ensures.stays c.in_ok-kept_deposit.ensures.goes_on c.files_of.ensures.stays
+
+pub returns-in_err-verdict_on-in-Ok-clause-stays : goal.returns-in_err-verdict_on-in-Ok-clause-stays
+returns-in_err-verdict_on-in-Ok-clause-stays g c = stays_then (state g.S.Store c.args.tx.now.conn.now) (state g.S.Store c.kept_deposit.new.tx.conn.now) (state g.S.Store c.files_of.new.tx.conn.now) c.kept_deposit.ensures.stays c.in_ok-kept_deposit.ensures.goes_on c.files_of.ensures.stays
+
+pub returns-in-Ok-clause-stays : goal.returns-in-Ok-clause-stays
+returns-in-Ok-clause-stays g c = stays_then (state g.S.Store c.args.tx.now.conn.now) (state g.S.Store c.kept_deposit.new.tx.conn.now) (state g.S.Store c.files_of.new.tx.conn.now) c.kept_deposit.ensures.stays c.in_ok-kept_deposit.ensures.goes_on c.files_of.ensures.stays
+
+pub returns-in-Ok-clause-goes_on : goal.returns-in-Ok-clause-goes_on
+returns-in-Ok-clause-goes_on g c = goes_twice (state g.S.Store c.args.tx.now.conn.now) (state g.S.Store c.kept_deposit.new.tx.conn.now) (state g.S.Store c.files_of.new.tx.conn.now) c.files_of.ensures.stays c.in_ok-kept_deposit.ensures.goes_on c.in_ok-rows-in-Ok.ensures.goes_on
+
+pub returns-in-Ok-clause-audited : goal.returns-in-Ok-clause-audited
+returns-in-Ok-clause-audited g c clean office =
+    let a = c.args in
+    let old = state g.S.Store a.tx.now.conn.now in
+    let mid = state g.S.Store c.kept_deposit.new.tx.conn.now in
+    let new = state g.S.Store c.files_of.new.tx.conn.now in
+    let same = c.in_ok-kept_deposit.ensures.same (clean_before mid new c.files_of.ensures.stays clean) office in
+    let rows = c.in_ok-rows-in-Ok.rows.items in
+    let verdict : c.in_ok-verdict_on-in-Ok.field-0 ≡ verdict_on (map file_in rows) = search rules in
+    let stored = c.in_ok-rows-in-Ok.ensures.found clean (subst IsOffice (sym same) office) in
+    (refl, verdict ∙ ap (λ rs. verdict_on (map file_in rs)) (stored ∙ ap (λ db. files_by_path (pos a.number) (tables_of db)) same))

@@ -1,4 +1,4 @@
-use Rattle.std.proofs.Common.{rules, ◌≡◌, arith, ap, sym, ◌∙◌, pos, Some, option_map}
+use Rattle.std.proofs.Common.{rules, ◌≡◌, ap, sym, ◌∙◌, pos, Some, option_map}
 use Rattle.sqlite.specs.State.{HasCleanDisk}
 use Rattle.sqlite.specs.Held.{state}
 use Rattle.jiff.specs.Words.{epoch_day}
@@ -8,13 +8,15 @@ use Rattle.office_history.specs.Histories.{least_hold}
 use Rattle.office_history.specs.Refusals.{deciding_rule}
 use Rattle.office_serving.proofs.DueListTold.{same_facts}
 use Rattle.office_serving.proofs.RecordTold.{closed_is, same_count}
+use Rattle.office_asking.proofs.InTurn.{clean_before, goes_twice}
+use Rattle.sql_meaning.proofs.Inside.{stays_then}
 use Rattle.office_serving.proofs.due_lists.disposal_facts.Goals as goal
 
 pub returns-clause-facts : goal.returns-clause-facts
 returns-clause-facts g c clean h legal pictured =
     let a = c.args in
     let mid = state g.S.Store c.least_hold.new.tx.conn.now in
-    let early : HasCleanDisk mid = omega (arith, clean, c.due_day.ensures.stays.survives.clean) in
+    let early : HasCleanDisk mid = clean_before mid (state g.S.Store c.due_day.new.tx.conn.now) c.due_day.ensures.stays clean in
     let held = c.in_ok-hold.ensures.least early h legal pictured in
     let due = c.in_ok-due.ensures.due clean h legal held.0 in
     let row = a.row.now in
@@ -33,3 +35,12 @@ returns-clause-facts g c clean h legal pictured =
           (held.1 found.1 (sym (ap (λ (r : DepositRow). r.collection) row_is) ∙ sym covered) ∙ ap (λ m. least_hold h m found.1) (same_count c.row.inside.number n (count ∙ ap (λ (r : DepositRow). r.number) row_is)))
           (due.1 found.1 (sym (ap (λ (r : DepositRow). r.class) row_is) ∙ sym kept) (closed_is h n found row row_is c.in_ok-closed.closed closed)),
     )
+
+pub returns-in_err-due-clause-stays : goal.returns-in_err-due-clause-stays
+returns-in_err-due-clause-stays g c = stays_then (state g.S.Store c.args.tx.now.conn.now) (state g.S.Store c.least_hold.new.tx.conn.now) (state g.S.Store c.due_day.new.tx.conn.now) c.least_hold.ensures.stays c.in_ok-hold.ensures.goes_on c.due_day.ensures.stays
+
+pub returns-clause-stays : goal.returns-clause-stays
+returns-clause-stays g c = stays_then (state g.S.Store c.args.tx.now.conn.now) (state g.S.Store c.least_hold.new.tx.conn.now) (state g.S.Store c.due_day.new.tx.conn.now) c.least_hold.ensures.stays c.in_ok-hold.ensures.goes_on c.due_day.ensures.stays
+
+pub returns-clause-goes_on : goal.returns-clause-goes_on
+returns-clause-goes_on g c = goes_twice (state g.S.Store c.args.tx.now.conn.now) (state g.S.Store c.least_hold.new.tx.conn.now) (state g.S.Store c.due_day.new.tx.conn.now) c.due_day.ensures.stays c.in_ok-hold.ensures.goes_on c.in_ok-due.ensures.goes_on

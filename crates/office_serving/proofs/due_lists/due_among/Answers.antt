@@ -7,6 +7,7 @@ use Rattle.office_history.specs.Lists.{numbers}
 use Rattle.office_serving.specs.Listing.{is_due}
 use Rattle.office_serving.proofs.DueListTold.{due_next, due_of_rows}
 use Rattle.office_serving.proofs.due_lists.due_among.Goals.{then-branch+in_ok-push, else-branch}
+use Rattle.office_asking.proofs.InTurn.{clean_before}
 use Rattle.office_serving.proofs.due_lists.due_among.Goals as goal
 
 pub loop-row-preserved : goal.loop-row-preserved
@@ -20,7 +21,7 @@ loop-row-preserved g c =
     let row = c.row-item.result in
     let item : row ≡ get_or a.rows.now place row = search rules in
     let number : pos c.row.inside.number ≡ row.number = search rules in
-    let early = λ (clean : HasCleanDisk new). let e : HasCleanDisk now = omega (arith, clean, c.is_due.ensures.stays.survives.clean) in e in
+    let early = λ (clean : HasCleanDisk new). let e : HasCleanDisk now = clean_before now new c.is_due.ensures.stays clean in e in
     record {
       same_reference = search rules;
       stays = stays_on old now new inv.stays inv.goes_on c.is_due.ensures.stays;

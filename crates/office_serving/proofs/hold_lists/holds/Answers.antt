@@ -1,4 +1,4 @@
-use Rattle.std.proofs.Common.{rules, ◌≡◌, arith, refl, ap, sym, ◌∙◌, subst}
+use Rattle.std.proofs.Common.{rules, ◌≡◌, refl, ap, sym, ◌∙◌, subst}
 use Rattle.sqlite.specs.State.{HasCleanDisk}
 use Rattle.sqlite.specs.Held.{state}
 use Rattle.office_core.specs.declared.action.Action.TheVariants as acts
@@ -10,6 +10,8 @@ use Rattle.office_history.specs.Answers.{told_holds}
 use Rattle.office_asking.specs.Deposits.{IsAsked, IsThere}
 use Rattle.office_asking.proofs.Serving.{refused_serves}
 use Rattle.office_serving.proofs.Told.{told_serves}
+use Rattle.office_asking.proofs.InTurn.{clean_before, goes_twice}
+use Rattle.sql_meaning.proofs.Inside.{stays_then}
 use Rattle.office_serving.proofs.hold_lists.holds.Goals as goal
 
 pub returns-in_ok-told_holds-in-Ok-clause-decides : goal.returns-in_ok-told_holds-in-Ok-clause-decides
@@ -17,7 +19,7 @@ returns-in_ok-told_holds-in-Ok-clause-decides g c clean h legal pictured =
     let a = c.args in
     let mid = state g.S.Store c.kept_deposit.new.tx.conn.now in
     let new = state g.S.Store c.told_holds.new.tx.conn.now in
-    let early : HasCleanDisk mid = omega (arith, clean, c.told_holds.ensures.stays.survives.clean) in
+    let early : HasCleanDisk mid = clean_before mid new c.told_holds.ensures.stays clean in
     let asked = c.in_ok-row.ensures.asked early h legal pictured in
     let row = c.in-Ok.row in
     let it : IsThere h a.number (kept_refusals h a.caller.now acts.Holds a.number) row = subst (IsAsked h a.number (kept_refusals h a.caller.now acts.Holds a.number)) c.in-Ok.is asked.1 in
@@ -34,3 +36,12 @@ returns-in-Err-clause-decides g c clean h legal pictured =
     let asked = c.in_ok-row.ensures.asked clean h legal pictured in
     let said = subst (IsAsked h a.number (kept_refusals h a.caller.now acts.Holds a.number)) c.in-Err.is asked.1 in
     refused_serves h a.day a.caller.now (requests.Holds a.number) new.now c.in-Err.why said asked.0
+
+pub returns-in_err-told_holds-in-Ok-clause-stays : goal.returns-in_err-told_holds-in-Ok-clause-stays
+returns-in_err-told_holds-in-Ok-clause-stays g c = stays_then (state g.S.Store c.args.tx.now.conn.now) (state g.S.Store c.kept_deposit.new.tx.conn.now) (state g.S.Store c.told_holds.new.tx.conn.now) c.kept_deposit.ensures.stays c.in_ok-row.ensures.goes_on c.told_holds.ensures.stays
+
+pub returns-in_ok-told_holds-in-Ok-clause-stays : goal.returns-in_ok-told_holds-in-Ok-clause-stays
+returns-in_ok-told_holds-in-Ok-clause-stays g c = stays_then (state g.S.Store c.args.tx.now.conn.now) (state g.S.Store c.kept_deposit.new.tx.conn.now) (state g.S.Store c.told_holds.new.tx.conn.now) c.kept_deposit.ensures.stays c.in_ok-row.ensures.goes_on c.told_holds.ensures.stays
+
+pub returns-in_ok-told_holds-in-Ok-clause-goes_on : goal.returns-in_ok-told_holds-in-Ok-clause-goes_on
+returns-in_ok-told_holds-in-Ok-clause-goes_on g c = goes_twice (state g.S.Store c.args.tx.now.conn.now) (state g.S.Store c.kept_deposit.new.tx.conn.now) (state g.S.Store c.told_holds.new.tx.conn.now) c.told_holds.ensures.stays c.in_ok-row.ensures.goes_on c.in_ok-told_holds-in-Ok.ensures.goes_on

@@ -1,9 +1,10 @@
-use Rattle.std.proofs.Common.{arith, rules, ◌∙◌}
+use Rattle.std.proofs.Common.{rules, ◌∙◌}
 use Rattle.sqlite.specs.State.{HasCleanDisk}
 use Rattle.sqlite.specs.Held.{state}
 use Rattle.sql_meaning.proofs.Inside.{stays_on}
 use Rattle.office_history.specs.Answers.{told_hold}
 use Rattle.office_serving.proofs.HoldsTold.{next_told}
+use Rattle.office_asking.proofs.InTurn.{clean_before}
 use Rattle.office_serving.proofs.hold_lists.told_each.Goals as goal
 
 pub loop-number-preserved : goal.loop-number-preserved
@@ -13,7 +14,7 @@ loop-number-preserved g c =
     let now = state g.S.Store c.loop-number.tx.conn.now in
     let new = state g.S.Store c.told_hold.new.tx.conn.now in
     let inv = c.loop-number.invariant in
-    let early = λ (clean : HasCleanDisk new). let e : HasCleanDisk now = omega (arith, clean, c.told_hold.ensures.stays.survives.clean) in e in
+    let early = λ (clean : HasCleanDisk new). let e : HasCleanDisk now = clean_before now new c.told_hold.ensures.stays clean in e in
     record {
       same_reference = search rules;
       stays = stays_on old now new inv.stays inv.goes_on c.told_hold.ensures.stays;

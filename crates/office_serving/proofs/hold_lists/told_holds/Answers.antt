@@ -1,11 +1,13 @@
-use Rattle.std.proofs.Common.{arith, ap, ◌∙◌}
+use Rattle.std.proofs.Common.{ap, ◌∙◌}
 use Rattle.std.specs.List.{filter_map}
 use Rattle.sqlite.specs.State.{HasCleanDisk}
 use Rattle.sqlite.specs.Held.{state}
-use Rattle.sql_meaning.proofs.Results.{if_ok}
+use Rattle.sql_meaning.proofs.Results.{if_ok, ok_then}
 use Rattle.office_history.specs.Answers.{told_hold}
 use Rattle.office_asking.proofs.HoldTold.{live_read}
 use Rattle.office_asking.proofs.Readings.{pictured_still}
+use Rattle.office_asking.proofs.InTurn.{clean_before}
+use Rattle.sql_meaning.proofs.Inside.{stays_then}
 use Rattle.office_serving.proofs.hold_lists.told_holds.Goals as goal
 
 pub returns-clause-told : goal.returns-clause-told
@@ -13,7 +15,7 @@ returns-clause-told g c clean h legal pictured =
     let a = c.args in
     let old = state g.S.Store a.tx.now.conn.now in
     let mid = state g.S.Store c.live_holds.new.tx.conn.now in
-    let early : HasCleanDisk mid = omega (arith, clean, c.told_each.ensures.stays.survives.clean) in
+    let early : HasCleanDisk mid = clean_before mid (state g.S.Store c.told_each.new.tx.conn.now) c.told_each.ensures.stays clean in
     let still = pictured_still h old.now pictured mid.now (c.in_ok-numbers.ensures.same early pictured.office) in
     let ks = c.in_ok-numbers.numbers.items in
     if_ok c.told_each.result (λ told says. (
@@ -22,3 +24,13 @@ returns-clause-told g c clean h legal pictured =
           says.1 ∙ ap (filter_map (told_hold h)) (c.deref.ensures.value ∙ live_read h old.now pictured a.number a.collection.now ks (c.in_ok-numbers.ensures.found early pictured.office) deposit is),
     ))
     (c.told_each.ensures.told clean h legal still)
+
+pub returns-clause-stays : goal.returns-clause-stays
+returns-clause-stays g c = stays_then (state g.S.Store c.args.tx.now.conn.now) (state g.S.Store c.live_holds.new.tx.conn.now) (state g.S.Store c.told_each.new.tx.conn.now) c.live_holds.ensures.stays c.in_ok-numbers.ensures.goes_on c.told_each.ensures.stays
+
+pub returns-clause-goes_on : goal.returns-clause-goes_on
+returns-clause-goes_on g c clean =
+    let s1 = state g.S.Store c.live_holds.new.tx.conn.now in
+    let s2 = state g.S.Store c.told_each.new.tx.conn.now in
+    let p = c.in_ok-numbers.ensures.goes_on (clean_before s1 s2 c.told_each.ensures.stays clean) in
+    ok_then c.told_each.result (λ q. record { was_open = p.was_open; is_open = q.is_open p.is_open; inside = λ i. q.inside (p.inside i) }) (c.told_each.ensures.goes_on clean)

@@ -7,6 +7,7 @@ use Rattle.office_history.specs.Lists.{numbers}
 use Rattle.office_serving.specs.Listing.{shown_record}
 use Rattle.office_serving.proofs.ShownTold.{shown_next, shown_of_rows}
 use Rattle.office_serving.proofs.lists.shown_among.Goals.{in-Some+in_ok-push, in_default}
+use Rattle.office_asking.proofs.InTurn.{clean_before}
 use Rattle.office_serving.proofs.lists.shown_among.Goals as goal
 
 pub loop-row-preserved : goal.loop-row-preserved
@@ -19,7 +20,7 @@ loop-row-preserved g c =
     let place = c.loop-row.row-index in
     let row = c.row-item.result in
     let item : row ≡ get_or a.rows.now place row = search rules in
-    let early = λ (clean : HasCleanDisk new). let e : HasCleanDisk now = omega (arith, clean, c.shown_record.ensures.stays.survives.clean) in e in
+    let early = λ (clean : HasCleanDisk new). let e : HasCleanDisk now = clean_before now new c.shown_record.ensures.stays clean in e in
     record {
       same_reference = search rules;
       stays = stays_on old now new inv.stays inv.goes_on c.shown_record.ensures.stays;

@@ -1,4 +1,4 @@
-use Rattle.std.proofs.Common.{arith, refl, ap, subst}
+use Rattle.std.proofs.Common.{refl, ap, subst}
 use Rattle.sqlite.specs.State.{HasCleanDisk}
 use Rattle.sqlite.specs.Held.{state}
 use Rattle.office_core.specs.declared.action.Action.TheVariants as acts
@@ -9,6 +9,8 @@ use Rattle.office_history.specs.Answers.{record_of}
 use Rattle.office_asking.specs.Deposits.{IsAsked, IsThere}
 use Rattle.office_asking.proofs.Serving.{refused_serves}
 use Rattle.office_serving.proofs.Told.{told_serves}
+use Rattle.office_asking.proofs.InTurn.{clean_before, goes_twice}
+use Rattle.sql_meaning.proofs.Inside.{stays_then}
 use Rattle.office_serving.proofs.records.record.Goals as goal
 
 pub returns-in_ok-record_of-in-Ok-clause-decides : goal.returns-in_ok-record_of-in-Ok-clause-decides
@@ -16,7 +18,7 @@ returns-in_ok-record_of-in-Ok-clause-decides g c clean h legal pictured =
     let a = c.args in
     let mid = state g.S.Store c.kept_deposit.new.tx.conn.now in
     let new = state g.S.Store c.record_of.new.tx.conn.now in
-    let early : HasCleanDisk mid = omega (arith, clean, c.record_of.ensures.stays.survives.clean) in
+    let early : HasCleanDisk mid = clean_before mid new c.record_of.ensures.stays clean in
     let asked = c.in_ok-row.ensures.asked early h legal pictured in
     let row = c.in-Ok.row in
     let it : IsThere h a.number (kept_refusals h a.caller.now acts.Record a.number) row = subst (IsAsked h a.number (kept_refusals h a.caller.now acts.Record a.number)) c.in-Ok.is asked.1 in
@@ -31,3 +33,12 @@ returns-in-Err-clause-decides g c clean h legal pictured =
     let asked = c.in_ok-row.ensures.asked clean h legal pictured in
     let said = subst (IsAsked h a.number (kept_refusals h a.caller.now acts.Record a.number)) c.in-Err.is asked.1 in
     refused_serves h a.day a.caller.now (requests.Record a.number) new.now c.in-Err.why said asked.0
+
+pub returns-in_err-record_of-in-Ok-clause-stays : goal.returns-in_err-record_of-in-Ok-clause-stays
+returns-in_err-record_of-in-Ok-clause-stays g c = stays_then (state g.S.Store c.args.tx.now.conn.now) (state g.S.Store c.kept_deposit.new.tx.conn.now) (state g.S.Store c.record_of.new.tx.conn.now) c.kept_deposit.ensures.stays c.in_ok-row.ensures.goes_on c.record_of.ensures.stays
+
+pub returns-in_ok-record_of-in-Ok-clause-stays : goal.returns-in_ok-record_of-in-Ok-clause-stays
+returns-in_ok-record_of-in-Ok-clause-stays g c = stays_then (state g.S.Store c.args.tx.now.conn.now) (state g.S.Store c.kept_deposit.new.tx.conn.now) (state g.S.Store c.record_of.new.tx.conn.now) c.kept_deposit.ensures.stays c.in_ok-row.ensures.goes_on c.record_of.ensures.stays
+
+pub returns-in_ok-record_of-in-Ok-clause-goes_on : goal.returns-in_ok-record_of-in-Ok-clause-goes_on
+returns-in_ok-record_of-in-Ok-clause-goes_on g c = goes_twice (state g.S.Store c.args.tx.now.conn.now) (state g.S.Store c.kept_deposit.new.tx.conn.now) (state g.S.Store c.record_of.new.tx.conn.now) c.record_of.ensures.stays c.in_ok-row.ensures.goes_on c.in_ok-record_of-in-Ok.ensures.goes_on
