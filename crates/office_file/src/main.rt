@@ -1,13 +1,17 @@
-//! Writes an office into a file, which the `sqlite3` command can read, and times calls of the tables
-//! and requests to the office.
+//! Writes an office into a file, which the `sqlite3` command can read, times calls of the tables and
+//! requests to the office, and compares its answers with those of the plain office.
 #![tactic(auto)]
 
 mod changes;
+mod comparing;
+mod drawing;
 mod office;
 mod requests;
+mod texts;
 mod timed;
 
 use anyhow::{Context, Result, bail};
+use comparing::{Tally, compare};
 use office_engine::Office;
 use requests::Asked;
 use sqlite::{Alter, Connection};
@@ -15,7 +19,7 @@ use std::time::{Duration, Instant};
 use timed::Call;
 
 const USAGE: &str =
-    "words: write FILE, make FILE, or FILE and COUNT behind one of deposits, read, live, last, ask-deposits, ask-records, ask-disposals, ask-bags, ask-lists and ask-due";
+    "words: write FILE, make FILE, draw FILE COUNT SEED, or FILE and COUNT behind one of deposits, read, live, last, ask-deposits, ask-records, ask-disposals, ask-bags, ask-lists and ask-due";
 
 /// What the words ask for.
 #[derive(Clone, Copy)]
@@ -26,6 +30,18 @@ enum Task {
     Time(Call, u32),
     /// A request to the office, so many times.
     Ask(Asked, u32),
+    /// So many requests, drawn by a seed, to two offices.
+    Draw(u32, u64),
+}
+
+/// What a task comes to.
+#[derive(Clone, Copy)]
+enum Outcome {
+    Done,
+    /// The time of the calls or requests: the opening of the file doesn't count.
+    Took(Duration),
+    /// Two offices gave the same answers.
+    Agreed(Tally),
 }
 
 fn read_task(word: &str) -> Option<Task> {
@@ -48,6 +64,13 @@ fn read_timed_task(word: &str, count: u32) -> Option<Task> {
         "ask-bags" => Some(Task::Ask(Asked::Bag, count)),
         "ask-lists" => Some(Task::Ask(Asked::List, count)),
         "ask-due" => Some(Task::Ask(Asked::DueList, count)),
+        _ => None,
+    }
+}
+
+fn read_draw(word: &str, count: u32, seed: u64) -> Option<Task> {
+    match word {
+        "draw" => Some(Task::Draw(count, seed)),
         _ => None,
     }
 }
@@ -85,26 +108,29 @@ fn ask<S: Alter + Drop>(
     Ok((office.into_connection(), took))
 }
 
-/// Does the task over the open file. The connection again, and the time of the calls or requests,
-/// where they are timed: the opening of the file doesn't count.
+/// Does the task over the open file. The connection again, and what the task comes to.
 fn perform<S: Alter + Drop>(
     rt: &HostRuntime,
     mut conn: Connection<S>,
     task: Task,
-) -> Result<(Connection<S>, Option<Duration>)> {
+) -> Result<(Connection<S>, Outcome)> {
     match task {
         Task::Write => office::write(rt.alloc(), &mut conn)?,
         Task::Make => timed::make(rt.alloc(), &mut conn)?,
         Task::Time(call, count) => {
             let took = time(rt, &mut conn, call, count)?;
-            return Ok((conn, Some(took)));
+            return Ok((conn, Outcome::Took(took)));
         }
         Task::Ask(asked, count) => {
             let (conn, took) = ask(rt, conn, asked, count)?;
-            return Ok((conn, Some(took)));
+            return Ok((conn, Outcome::Took(took)));
+        }
+        Task::Draw(count, seed) => {
+            let (conn, tally) = compare(rt.alloc(), conn, seed, count)?;
+            return Ok((conn, Outcome::Agreed(tally)));
         }
     }
-    Ok((conn, None))
+    Ok((conn, Outcome::Done))
 }
 
 /// The task and the file that the words after the program's name ask for.
@@ -112,23 +138,36 @@ fn read_words(words: &[String]) -> Result<(Task, &str)> {
     let (Some(task), Some(file)) = (words.get(1), words.get(2)) else {
         bail!("{USAGE}");
     };
-    let task = match words.get(3) {
-        None => read_task(task),
-        Some(count) => read_timed_task(task, count.parse::<u32>().context("COUNT")?),
+    let task = match (words.get(3), words.get(4)) {
+        (None, _) => read_task(task),
+        (Some(count), None) => read_timed_task(task, count.parse::<u32>().context("COUNT")?),
+        (Some(count), Some(seed)) => {
+            let count = count.parse::<u32>().context("COUNT")?;
+            read_draw(task, count, seed.parse::<u64>().context("SEED")?)
+        }
     };
     Ok((task.context(USAGE)?, file.as_str()))
+}
+
+/// Prints what the task comes to.
+fn say(rt: &HostRuntime, outcome: Outcome) -> Result<()> {
+    match outcome {
+        Outcome::Done => {}
+        Outcome::Took(took) => println!(rt; "{}", took.as_micros())?,
+        Outcome::Agreed(tally) => {
+            println!(rt; "{} accepted {} refused", tally.accepted, tally.refused)?
+        }
+    }
+    Ok(())
 }
 
 /// Does what the words after the program's name ask for.
 fn run(rt: &HostRuntime, words: &[String]) -> Result<()> {
     let (task, file) = read_words(words)?;
     let conn = Connection::open(rt, file).context("opening the file")?;
-    let (conn, took) = perform(rt, conn, task)?;
+    let (conn, outcome) = perform(rt, conn, task)?;
     conn.close().context("closing the file")?;
-    if let Some(took) = took {
-        println!(rt; "{}", took.as_micros())?;
-    }
-    Ok(())
+    say(rt, outcome)
 }
 
 fn main(rt: HostRuntime) -> Result<()> {

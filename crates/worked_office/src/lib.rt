@@ -1,12 +1,19 @@
-//! Worked sessions, put to the plain office and to the office over its tables.
+//! Worked sessions, put to the plain office and to the office over its tables, also where rows of the
+//! tables are altered behind its back.
 #![tactic(auto)]
 
+#[cfg(test)]
+mod altering;
 #[cfg(test)]
 mod files;
 #[cfg(test)]
 mod sessions;
 #[cfg(test)]
 mod tests;
+#[cfg(test)]
+mod tests_openings;
+#[cfg(test)]
+mod tests_rows;
 #[cfg(test)]
 mod tests_sessions;
 #[cfg(test)]

@@ -32,7 +32,7 @@ pub enum Part<'a> {
 }
 
 /// Fails where a row was answered otherwise.
-fn agree(differs: Option<String>) -> Result<(), Fail> {
+pub fn agree(differs: Option<String>) -> Result<(), Fail> {
     match differs {
         None => Ok(()),
         Some(text) => Err(Fail::new(text)),

@@ -1,4 +1,5 @@
-//! Tests of the calls of `office_tables` over files, and in memory.
+//! Tests of the calls of `office_tables` over files, and in memory. Other tests use `held`, what the
+//! tables of an office hold.
 #![tactic(auto)]
 
 #[cfg(test)]
@@ -9,8 +10,7 @@ mod changes;
 mod files;
 #[cfg(test)]
 mod sessions;
-#[cfg(test)]
-mod shown;
+mod showing;
 #[cfg(test)]
 mod steps;
 #[cfg(test)]
@@ -23,3 +23,5 @@ mod tests_refusals;
 mod tests_sizes;
 #[cfg(test)]
 mod tests_stops;
+
+pub use showing::{held, shown};
