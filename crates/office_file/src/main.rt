@@ -1,12 +1,20 @@
 //! Writes an office into a file, which the `sqlite3` command can read, times calls of the tables and
-//! requests to the office, and compares its answers with those of the plain office.
+//! requests to the office, and compares its answers with those of the plain office. With no words it
+//! runs the cases of want of memory.
 #![tactic(auto)]
 
+mod calls;
+mod cases;
 mod changes;
 mod comparing;
 mod drawing;
+mod groups;
+mod lines;
 mod office;
+mod offices;
+mod outcome;
 mod requests;
+mod tables;
 mod texts;
 mod timed;
 
@@ -15,11 +23,12 @@ use comparing::{Tally, compare};
 use office_engine::Office;
 use requests::Asked;
 use sqlite::{Alter, Connection};
+use std::env::{Env, FillError};
 use std::time::{Duration, Instant};
 use timed::Call;
 
 const USAGE: &str =
-    "words: write FILE, make FILE, draw FILE COUNT SEED, or FILE and COUNT behind one of deposits, read, live, last, ask-deposits, ask-records, ask-disposals, ask-bags, ask-lists and ask-due";
+    "words: none, write FILE, make FILE, draw FILE COUNT SEED, or FILE and COUNT behind one of deposits, read, live, last, ask-deposits, ask-records, ask-disposals, ask-bags, ask-lists and ask-due";
 
 /// What the words ask for.
 #[derive(Clone, Copy)]
@@ -36,7 +45,7 @@ enum Task {
 
 /// What a task comes to.
 #[derive(Clone, Copy)]
-enum Outcome {
+enum Report {
     Done,
     /// The time of the calls or requests: the opening of the file doesn't count.
     Took(Duration),
@@ -113,24 +122,24 @@ fn perform<S: Alter + Drop>(
     rt: &HostRuntime,
     mut conn: Connection<S>,
     task: Task,
-) -> Result<(Connection<S>, Outcome)> {
+) -> Result<(Connection<S>, Report)> {
     match task {
         Task::Write => office::write(rt.alloc(), &mut conn)?,
         Task::Make => timed::make(rt.alloc(), &mut conn)?,
         Task::Time(call, count) => {
             let took = time(rt, &mut conn, call, count)?;
-            return Ok((conn, Outcome::Took(took)));
+            return Ok((conn, Report::Took(took)));
         }
         Task::Ask(asked, count) => {
             let (conn, took) = ask(rt, conn, asked, count)?;
-            return Ok((conn, Outcome::Took(took)));
+            return Ok((conn, Report::Took(took)));
         }
         Task::Draw(count, seed) => {
             let (conn, tally) = compare(rt.alloc(), conn, seed, count)?;
-            return Ok((conn, Outcome::Agreed(tally)));
+            return Ok((conn, Report::Agreed(tally)));
         }
     }
-    Ok((conn, Outcome::Done))
+    Ok((conn, Report::Done))
 }
 
 /// The task and the file that the words after the program's name ask for.
@@ -150,27 +159,48 @@ fn read_words(words: &[String]) -> Result<(Task, &str)> {
 }
 
 /// Prints what the task comes to.
-fn say(rt: &HostRuntime, outcome: Outcome) -> Result<()> {
-    match outcome {
-        Outcome::Done => {}
-        Outcome::Took(took) => println!(rt; "{}", took.as_micros())?,
-        Outcome::Agreed(tally) => {
+fn say(rt: &HostRuntime, report: Report) -> Result<()> {
+    match report {
+        Report::Done => {}
+        Report::Took(took) => println!(rt; "{}", took.as_micros())?,
+        Report::Agreed(tally) => {
             println!(rt; "{} accepted {} refused", tally.accepted, tally.refused)?
         }
     }
     Ok(())
 }
 
+/// Does the task over the file, and says what it comes to.
+fn take(rt: &HostRuntime, file: &str, task: Task) -> Result<()> {
+    let conn = Connection::open(rt, file).context("opening the file")?;
+    let (conn, report) = perform(rt, conn, task)?;
+    conn.close().context("closing the file")?;
+    say(rt, report)
+}
+
 /// Does what the words after the program's name ask for.
 fn run(rt: &HostRuntime, words: &[String]) -> Result<()> {
     let (task, file) = read_words(words)?;
-    let conn = Connection::open(rt, file).context("opening the file")?;
-    let (conn, outcome) = perform(rt, conn, task)?;
-    conn.close().context("closing the file")?;
-    say(rt, outcome)
+    take(rt, file, task)
+}
+
+/// Runs the cases of want of memory, and where all are wanted draws requests.
+fn run_cases(rt: &HostRuntime) -> Result<()> {
+    if cases::answer(rt)? {
+        take(rt, "office.db", Task::Draw(100, 7))?;
+    }
+    Ok(())
+}
+
+/// Whether there is a word behind the program's name. Takes no memory.
+fn has_words(rt: &HostRuntime) -> bool {
+    !matches!(rt.arg(1, &mut []), Err(FillError::NotPresent))
 }
 
 fn main(rt: HostRuntime) -> Result<()> {
+    if !has_words(&rt) {
+        return run_cases(&rt);
+    }
     let words: Vec<String> = std::env::args(&rt)?.collect(rt.alloc())?;
     run(&rt, words.as_slice())
 }

@@ -6,8 +6,7 @@ use office_engine::Office;
 use sqlite::{Alter, Connection};
 use std::alloc::Global;
 use std::test::Fail;
-use worked_sessions::{Asked, Row, differs, open, words};
-use worked_tables::held;
+use worked_sessions::{Asked, Row, differs, held, open, words};
 
 /// SQL that alters rows, SQL that takes that back, and what is asked in between. Nothing of what is
 /// asked changes a row.

@@ -1,5 +1,5 @@
 //! Worked sessions, put to the plain office and to the office over its tables, also where rows of the
-//! tables are altered behind its back.
+//! tables are altered behind its back; and the calls of the tables themselves.
 #![tactic(auto)]
 
 #[cfg(test)]
@@ -8,6 +8,8 @@ mod altering;
 mod files;
 #[cfg(test)]
 mod sessions;
+#[cfg(test)]
+mod tables;
 #[cfg(test)]
 mod tests;
 #[cfg(test)]

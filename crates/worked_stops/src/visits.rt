@@ -10,7 +10,7 @@ use sqlite::{Alter, Connection, Files};
 use sqlite_disk::Disk;
 use std::alloc::Global;
 use std::test::Fail;
-use worked_tables::held;
+use worked_sessions::held;
 
 /// A visit, by numbers of steps that are done.
 #[derive(Clone, Copy, Drop)]

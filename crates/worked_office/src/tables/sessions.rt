@@ -1,7 +1,7 @@
 //! Sessions: steps over files in memory, each with its answer.
 
 use crate::files::{Disks, MANY, close, empty, open};
-use crate::steps::{Step, said};
+use crate::tables::steps::{Step, said};
 use sqlite::{Alter, Connection, Files};
 use sqlite_disk::Disk;
 use std::alloc::Global;
@@ -39,7 +39,10 @@ fn take_once<D: Disk + Drop>(
     match open(alloc, files) {
         Err((_, left)) => (not_opened(alloc), left),
         Ok(mut conn) => match differs(alloc, &mut conn, rows) {
-            Ok(text) if text.is_empty() => (Ok(text), close(conn)),
+            Ok(text) if text.is_empty() => match close(conn) {
+                Ok(files) => (Ok(text), files),
+                Err((_, files)) => (Ok(text), files),
+            },
             said => (said, conn.into_store().close()),
         },
     }

@@ -3,13 +3,13 @@
 ghost use Rattle.sqlite.specs.Held.{state};
 ghost use Rattle.std.specs.Prelude.{◌≡◌, false};
 
-use crate::answers::{Read, answer};
-use crate::changes::{Change, make};
-use crate::showing::{held, shown};
+use crate::tables::answers::{Read, answer};
+use crate::tables::changes::{Change, make};
 use office_tables::{TableFault, create, open_tables};
 use sqlite::{Alter, Connection};
 use std::alloc::Global;
 use std::test::Fail;
+use worked_sessions::{held, shown};
 
 /// A step of a session.
 #[derive(Clone, Copy)]
