@@ -44,7 +44,7 @@ pub fn copied(alloc: Global, from: &Disks) -> Result<Disks, Fail> {
 }
 
 /// Opens the files with small caches.
-pub fn open<D: Disk + Drop>(
+pub fn open_files<D: Disk + Drop>(
     alloc: Global,
     files: Files<D>,
 ) -> Result<Connection<FileStore<D>>, (Error, Files<D>)> {

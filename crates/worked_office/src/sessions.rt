@@ -1,6 +1,6 @@
 //! Sessions, put to each office.
 
-use crate::files::{Disks, MANY, close, empty, open};
+use crate::files::{Disks, MANY, close, empty, open_files};
 use office_core::{Day, Limits};
 use office_engine::Office;
 use office_history::plain;
@@ -156,7 +156,7 @@ fn take_once<D: Disk + Drop>(
     way: Way,
     parts: &[Part<'_>],
 ) -> Result<Files<D>, Fail> {
-    let conn = match open(alloc, files) {
+    let conn = match open_files(alloc, files) {
         Ok(conn) => conn,
         Err((error, _)) => return Err(Fail::from(error)),
     };

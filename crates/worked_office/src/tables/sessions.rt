@@ -1,6 +1,6 @@
 //! Sessions: steps over files in memory, each with its answer.
 
-use crate::files::{Disks, MANY, close, empty, open};
+use crate::files::{Disks, MANY, close, empty, open_files};
 use crate::tables::steps::{Step, said};
 use sqlite::{Alter, Connection, Files};
 use sqlite_disk::Disk;
@@ -36,7 +36,7 @@ fn take_once<D: Disk + Drop>(
     files: Files<D>,
     rows: &[Row<'_>],
 ) -> (Result<String, Fail>, Files<D>) {
-    match open(alloc, files) {
+    match open_files(alloc, files) {
         Err((_, left)) => (not_opened(alloc), left),
         Ok(mut conn) => match differs(alloc, &mut conn, rows) {
             Ok(text) if text.is_empty() => match close(conn) {
