@@ -1,0 +1,73 @@
+//! Want of memory: each case has the answer that was worked out, or want of memory, and nothing else.
+//!
+//! Standard input may name one group of cases, and then says how many allocations are made first, so that
+//! `refuse-memory.sh` can have one allocation of the cases after the other refused.
+
+use crate::groups;
+use std::io::{self, Read};
+
+/// A group of cases.
+#[derive(Clone, Copy, PartialEq, Eq)]
+enum Group {
+    Bags,
+    Tables,
+    Office,
+    Stored,
+}
+
+/// All groups, in the order in which they are run.
+const GROUPS: [Group; 4] = [Group::Bags, Group::Tables, Group::Office, Group::Stored];
+
+impl Group {
+    fn read(word: &str) -> Option<Group> {
+        match word {
+            "bags" => Some(Group::Bags),
+            "tables" => Some(Group::Tables),
+            "office" => Some(Group::Office),
+            "stored" => Some(Group::Stored),
+            _ => None,
+        }
+    }
+
+    /// Prints how each case of the group comes out.
+    fn run(self, rt: &HostRuntime) -> io::Result<()> {
+        match self {
+            Group::Bags => groups::bags(rt),
+            Group::Tables => groups::tables(rt),
+            Group::Office => groups::office(rt),
+            Group::Stored => groups::stored(rt),
+        }
+    }
+}
+
+/// The one group that is asked for, if one is, and the number of allocations before its cases.
+fn said_first(said: &[u8]) -> (Option<Group>, u16) {
+    let text = str::from_utf8(said).unwrap_or("").trim();
+    match text.split_once(' ') {
+        Some((group, count)) => (Group::read(group), count.parse().unwrap_or(0)),
+        None => (Group::read(text), 0),
+    }
+}
+
+/// Makes that many allocations.
+fn allocate(rt: &HostRuntime, count: u16) {
+    for number in 0..count {
+        if Box::new(rt.alloc(), number).is_err() {
+            let _ = println!(rt; "refused before the cases");
+        }
+    }
+}
+
+/// Reads what is wanted, and prints how each case comes out. Whether all groups were wanted.
+pub fn answer(rt: &HostRuntime) -> io::Result<bool> {
+    let mut room = [0_u8; 16];
+    let length = rt.stdin().read(&mut room)?;
+    let (only, count) = said_first(room.get(..length).unwrap_or(&[]));
+    allocate(rt, count);
+    for group in GROUPS {
+        if only.is_none() || only == Some(group) {
+            group.run(rt)?;
+        }
+    }
+    Ok(only.is_none())
+}

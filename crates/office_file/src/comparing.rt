@@ -1,0 +1,137 @@
+//! The same requests, put to both offices.
+
+use crate::drawing::{Drawn, Draws};
+use crate::texts::{FIRST_CLASSES, FIRST_COLLECTIONS, POLICIES};
+use anyhow::{Context, Result, bail};
+use office_core::{Answer, Day, Limits, Name, Request, Years, read_policy};
+use office_engine::Office;
+use office_history::plain;
+use sqlite::{Alter, Connection};
+use std::alloc::Global;
+
+/// How many requests were accepted, and how many refused.
+#[derive(Clone, Copy)]
+pub struct Tally {
+    pub accepted: u64,
+    pub refused: u64,
+}
+
+/// The two offices.
+#[derive(Drop)]
+struct Offices<S: Alter> {
+    plain: plain::Office,
+    kept: Office<S>,
+}
+
+impl<S: Alter + Drop> Offices<S> {
+    /// Two new offices, with room for a few deposits and holds, one of them in the empty database.
+    fn create(alloc: Global, conn: Connection<S>) -> Result<Offices<S>> {
+        let limits = Limits::new(5, 6).context("limits")?;
+        if !conn.is_autocommit() {
+            bail!("a transaction is open");
+        }
+        let Ok(kept) = Office::create(conn, limits) else {
+            bail!("no office could be made");
+        };
+        Ok(Offices {
+            plain: plain::Office::create(alloc, limits),
+            kept,
+        })
+    }
+
+    fn install(&mut self, alloc: Global, policy: &str) -> Result<()> {
+        self.kept.install(alloc, &read_policy(alloc, policy)?)?;
+        self.plain.install(read_policy(alloc, policy)?)?;
+        Ok(())
+    }
+
+    /// Whether the request is accepted. Fails where the answers differ.
+    fn step(
+        &mut self,
+        alloc: Global,
+        day: Day,
+        caller: &str,
+        request: &Request<'_>,
+    ) -> Result<bool> {
+        let wanted = self.plain.step(alloc, day, caller, request);
+        let found = self.kept.step(alloc, day, caller, request);
+        let wanted_text = format!(in alloc; "{wanted:?}")?;
+        let found_text = format!(in alloc; "{found:?}")?;
+        if wanted_text != found_text {
+            bail!(
+                "{request:?} on {day} by {caller:?} is answered {found_text}, by the plain office {wanted_text}"
+            );
+        }
+        Ok(!matches!(wanted, Answer::Refused(_)))
+    }
+
+    /// Defines what is there from the beginning.
+    fn define(&mut self, alloc: Global) -> Result<()> {
+        let day = Day::read("2024-02-28").context("the first day")?;
+        for name in FIRST_CLASSES {
+            let request = Request::DefineClass {
+                name: Name::read(name).context("a class")?,
+                years: Years::new(1).context("years")?,
+            };
+            self.step(alloc, day, "anna", &request)?;
+        }
+        for name in FIRST_COLLECTIONS {
+            let request = Request::DefineCollection {
+                name: Name::read(name).context("a collection")?,
+            };
+            self.step(alloc, day, "anna", &request)?;
+        }
+        Ok(())
+    }
+
+    /// Compares what either office lists as due.
+    fn compare_due(&mut self, alloc: Global, day: Day, caller: &str) -> Result<()> {
+        let found = self.kept.due_list(alloc, day, caller)?;
+        if let Answer::DueList { deposits, .. } = self
+            .plain
+            .step(alloc, day, caller, &Request::DueList)
+        {
+            if deposits.as_slice() == found.as_slice() {
+                return Ok(());
+            }
+        }
+        bail!("the due list on {day} for {caller:?} is another one")
+    }
+}
+
+/// Puts so many requests, drawn by the seed, to two new offices, one of them in the empty database, and
+/// installs between them. Fails where an answer of the one isn't the answer of the other. The
+/// connection again, and how many were accepted and refused.
+pub fn compare<S: Alter + Drop>(
+    alloc: Global,
+    conn: Connection<S>,
+    seed: u64,
+    count: u32,
+) -> Result<(Connection<S>, Tally)> {
+    let mut draws = Draws::new(seed);
+    let mut offices = Offices::create(alloc, conn)?;
+    offices.install(alloc, POLICIES[0])?;
+    offices.define(alloc)?;
+    let mut tally = Tally {
+        accepted: 0,
+        refused: 0,
+    };
+    for _ in 0..count {
+        match draws.next().context("a draw")? {
+            Drawn::Install(policy) => offices.install(alloc, policy)?,
+            Drawn::Request {
+                day,
+                caller,
+                request,
+            } => {
+                if offices.step(alloc, day, caller, &request)? {
+                    tally.accepted = tally.accepted.saturating_add(1);
+                    offices.compare_due(alloc, day, caller)?;
+                } else {
+                    tally.refused = tally.refused.saturating_add(1);
+                }
+            }
+        }
+    }
+    Ok((offices.kept.into_connection(), tally))
+}
