@@ -1,45 +1,38 @@
--- How a run ends, and what it writes.
-use Rattle.std.proofs.Common.{◌≡◌, ℕ, List, Option, Some, None, Result, Ok, Err, IfOk, IfSome, subst, take}
-use Rattle.commands.specs.Explaining.{Explains}
-use Rattle.commands.specs.Running.{Answers, Ends, Judges}
-use Rattle.commands.specs.Checking.{Says, too_many}
+-- What is said of what was read, and how a run ends.
+use Rattle.std.proofs.Common.{◌≡◌, ℕ, List, Option, Some, None, IfSome, inl, inr, subst}
+use Rattle.commands.specs.Checking.{Says, SaysOfBag, too_long, unreadable, of_bag, valid, invalid}
+use Rattle.commands.specs.Explaining.{Explains, allowed, denied, by_default, refused}
+use Rattle.commands.specs.Printing.{IsAnswer}
+use Rattle.commands.specs.Running.{SaysOf}
+use Rattle.commands.specs.declared.line.Line.{Line}
+use Rattle.commands.specs.declared.line.Line.TheVariants.{Check, Explain}
 use Rattle.commands.specs.declared.asking.Asked.{Asked}
-use Rattle.commands.specs.declared.ending.Ending.{Ending}
-use Rattle.commands.specs.declared.program.Failure.{Failure}
 use Rattle.commands.specs.declared.outcome.Outcome.{Outcome}
+use Rattle.bag_text.specs.TransferForm.{File}
 
-abbrev Run : Type 0
-Run = Result Ending Failure
+-- what holds of the bytes that were read holds of those that the reader gave, where they are known
+pub of_known : (known : Option (List ℕ)) (bytes : List ℕ) (part : List ℕ → List ℕ) (P : List ℕ → Type 0) → IfSome known (λ given. bytes ≡ part given) → P bytes
+    → IfSome known (λ given. P (part given))
+of_known None bytes part P read holds = tt
+of_known (Some given) bytes part P read holds = subst P read holds
 
--- ---- what is said is written
+-- ---- what is said is an answer
 
-pub judged : (bytes : List ℕ) (outcome : Outcome) (r : Run) (old new : Option (List ℕ)) → Says bytes outcome → IfOk r (Ends outcome old new) → IfOk r (Judges bytes old new)
-judged bytes outcome (Ok ending) old new says ends = (outcome, says, ends)
-judged bytes outcome (Err e) old new says ends = tt
+bag_answer : (files : List File) (outcome : Outcome) → SaysOfBag files outcome → IsAnswer outcome.ending
+bag_answer files outcome (valid v is prints) = inl prints.2
+bag_answer files outcome (invalid fault first prints) = inr prints.2
 
-pub judged_something : (bytes : List ℕ) (r : Run) (old new : Option (List ℕ)) → IfOk r (Judges bytes old new)
-    → IfOk r (λ ending. (read : List ℕ) × Judges read old new ending)
-judged_something bytes (Ok ending) old new judges = (bytes, judges)
-judged_something bytes (Err e) old new judges = tt
+check_answer : (bytes : List ℕ) (outcome : Outcome) → Says bytes outcome → IsAnswer outcome.ending
+check_answer bytes outcome (too_long long prints) = inr prints.2
+check_answer bytes outcome (unreadable fault few is prints) = inr prints.2
+check_answer bytes outcome (of_bag files of says) = bag_answer files outcome says
 
-pub answered : (asked : Asked) (bytes : List ℕ) (outcome : Outcome) (r : Run) (old new : Option (List ℕ)) → Explains bytes asked outcome → IfOk r (Ends outcome old new)
-    → IfOk r (Answers asked bytes old new)
-answered asked bytes outcome (Ok ending) old new explains ends = (outcome, explains, ends)
-answered asked bytes outcome (Err e) old new explains ends = tt
+explain_answer : (bytes : List ℕ) (asked : Asked) (outcome : Outcome) → Explains bytes asked outcome → IsAnswer outcome.ending
+explain_answer bytes asked outcome (allowed policy rule of by prints) = inl prints.2
+explain_answer bytes asked outcome (denied policy rule of by prints) = inr prints.2
+explain_answer bytes asked outcome (by_default policy of by prints) = inr prints.2
+explain_answer bytes asked outcome (refused fault has prints) = inr prints.2
 
-pub answered_something : (asked : Asked) (bytes : List ℕ) (r : Run) (old new : Option (List ℕ)) → IfOk r (Answers asked bytes old new)
-    → IfOk r (λ ending. (read : List ℕ) × Answers asked read old new ending)
-answered_something asked bytes (Ok ending) old new answers = (bytes, answers)
-answered_something asked bytes (Err e) old new answers = tt
-
--- ---- by the bytes of the input, where they are known
-
-pub judged_input : (known : Option (List ℕ)) (bytes : List ℕ) (r : Run) (old new : Option (List ℕ)) → IfSome known (λ given. bytes ≡ take too_many given)
-    → IfOk r (Judges bytes old new) → IfSome known (λ given. IfOk r (Judges (take too_many given) old new))
-judged_input None bytes r old new read judges = tt
-judged_input (Some given) bytes r old new read judges = subst (λ (b : List ℕ). IfOk r (Judges b old new)) read judges
-
-pub answered_policy : (asked : Asked) (known : Option (List ℕ)) (bytes : List ℕ) (r : Run) (old new : Option (List ℕ)) → IfSome known (λ given. bytes ≡ given)
-    → IfOk r (Answers asked bytes old new) → IfSome known (λ given. IfOk r (Answers asked given old new))
-answered_policy asked None bytes r old new read answers = tt
-answered_policy asked (Some given) bytes r old new read answers = subst (λ (b : List ℕ). IfOk r (Answers asked b old new)) read answers
+pub is_answer : (line : Line) (outcome : Outcome) → SaysOf line outcome → IsAnswer outcome.ending
+is_answer (Check file) outcome says = check_answer says.0 outcome says.1
+is_answer (Explain asked) outcome says = explain_answer says.0 asked outcome says.1

@@ -130,12 +130,19 @@ fn a_decision_in_words(rt: HostRuntime) -> Result<(), Fail> {
         b"version = 1\n[[rule]]\neffect = \"allow\"\nrole = \"stranger\"\naction = \"*\"\ncollection = \"*\"\nclass = \"y1\"\n";
     let outcome = explain_outcome(rt.alloc(), rule.as_slice(), &asked)?;
     assert_eq!(rt; outcome.text.as_str(), "allow rule 1\n");
+    let reason = outcome.reason.ok_or("a reason")?;
+    assert_eq!(rt;
+        reason.as_str(),
+        "the caller eve is not in the policy, and has the role stranger\n"
+    );
     assert_eq!(rt; outcome.ending, Ending::Accepted);
     let outcome = explain_outcome(rt.alloc(), b"version = 1".as_slice(), &asked)?;
     assert_eq!(rt; outcome.text.as_str(), "deny default\n");
     assert_eq!(rt; outcome.ending, Ending::Refused);
     let outcome = explain_outcome(rt.alloc(), b"version = 1 # \xff".as_slice(), &asked)?;
     assert_eq!(rt; outcome.text.as_str(), "policy Y1\n");
+    let reason = outcome.reason.ok_or("a reason")?;
+    assert_eq!(rt; reason.as_str(), "the policy is no text in TOML (Y1)\n");
     assert_eq!(rt; outcome.ending, Ending::Refused);
     Ok(())
 }
@@ -156,7 +163,10 @@ fn printed<R: Read>(
 fn too_long_an_input(rt: HostRuntime) -> Result<(), Fail> {
     let (out, err, ending) = printed(&rt, ["check", "-"].as_slice(), &mut io::repeat(b'x'))?;
     assert_eq!(rt; out.as_slice(), b"unreadable SIZE\n".as_slice());
-    assert_eq!(rt; err.as_slice(), b"".as_slice());
+    assert_eq!(rt;
+        err.as_slice(),
+        b"the form is longer than 16,777,216 bytes, the most that is judged (SIZE)\n".as_slice()
+    );
     assert_eq!(rt; ending, Ending::Refused);
     Ok(())
 }

@@ -1,5 +1,5 @@
 use Rattle.std.proofs.Common.{◌≡◌, codes, subst, sym}
-use Rattle.std.specs.Prelude.{IfOk}
+use Rattle.std.specs.Prelude.{IfOk, option_map, string_bytes}
 use Rattle.program.specs.Running.{IsDone}
 use Rattle.office_history.specs.Histories.{History}
 use Rattle.office_commands.specs.Answering.{AsksFrom, made_office}
@@ -13,4 +13,4 @@ returns-in-Ask g c =
     let held = g.O.Write.contents c.args.out.now.device in
     let holds = g.O.Write.contents c.ask_command.new.out.device in
     let done = asked (c.in-Ask.store.now ≡ codes ":memory:") ((next : History) × AsksFrom made_office c.in-Ask.day next was_left left held holds) c.ask_command.result c.stored-in-Ask.result c.stored-in-Ask.ensures c.ask_command.ensures.accepted c.ask_command.ensures.memory in
-    subst (λ line. IfOk c.stored-in-Ask.result (IsDone line was_left left held holds)) (sym c.in-Ask.is) done
+    subst (λ line. IfOk c.stored-in-Ask.result (λ d. IsDone line was_left left held holds (option_map string_bytes d.reason) d.ending)) (sym c.in-Ask.is) done
