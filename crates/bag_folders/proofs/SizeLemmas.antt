@@ -2,10 +2,12 @@
 use Rattle.std.proofs.Common.{◌≡◌, ◌≢◌, ℕ, zero, suc, ◌+◌, ◌<◌, ◌≤◌, Bool, true, false, ltb, leb, not, cond, ◌||◌, List, [], ◌∷◌, ◌++◌, length, take, map, refl, sym, ap, ap₂, subst, ◌∙◌, arith}
 use Rattle.std.specs.Prelude.{Option, Some, None, Result, Ok, Err, bytes_eq, codes, string_bytes}
 use Rattle.std.specs.List.{list_any, position_from, sum_by, flat_map}
+use Rattle.std.specs.Borrow.{Bor}
 use Rattle.std.proofs.lemmas.List.{length-append, length-take-le}
 use Rattle.std.proofs.lemmas.List.Sums.{sum_by-cons}
 use Rattle.bag_text.specs.Paths.{is_good, comes_before, lies_under}
 use Rattle.bag_text.specs.TransferForm.{File, IsBag, max_content, max_files, clashes, header, entry, opening, ending, set_text}
+use Rattle.bag_text.specs.TransferReading.{files_of}
 use Rattle.bag_text.specs.BagList.{ListFault, file_fault, or_else, fault_from, clash_fault, list_fault}
 use Rattle.bag_text.specs.declared.set_fault.SetFault.{SetFault}
 use Rattle.bag_text.specs.declared.set_fault.SetFault.TheVariants.{BadOpening, BadEntry, Truncated, OutOfOrder, BadPath, TooManyFiles, TrailingBytes, PathClash, Memory}
@@ -246,6 +248,11 @@ no_form files fault path (packing.Set found own) stands at is =
 no_form files fault path packing.Size stands at is = absurd is
 no_form files fault path (packing.Device trouble) stands at is = absurd is
 no_form files fault path packing.Memory stands at is = tt
+
+-- the paths of files that are lent
+pub lent_paths : (files : List (Bor (List ℕ) × Bor (List ℕ))) → map (λ (file : Bor (List ℕ) × Bor (List ℕ)). file.0.now) files ≡ paths_of (files_of files)
+lent_paths [] = refl
+lent_paths (file ∷ files) = ap (λ (ps : List (List ℕ)). file.0.now ∷ ps) (lent_paths files)
 
 same_paths : (ls : List Listed) (fs : List File) → AreFilesOf ls fs → listed_paths ls ≡ paths_of fs
 same_paths [] [] h = refl

@@ -1,8 +1,8 @@
 //! The form of files.
 
-ghost use Rattle.std.specs.Prelude.{◌≡◌, ◌≤◌, List, ℕ, Ok, IfOk, IfErr, option_copied};
+ghost use Rattle.std.specs.Prelude.{◌≡◌, ◌≤◌, List, ℕ, Ok, IfOk, IfErr, map, option_copied};
 ghost use Rattle.bag_text.specs.TransferReading.{files_of};
-ghost use Rattle.bag_folders.specs.Packing.{HasNoForm, IsFormOf, max_form, path_at_fault, paths_of};
+ghost use Rattle.bag_folders.specs.Packing.{HasNoForm, IsFormOf, max_form, path_at_fault};
 
 use crate::pack_fault::{PackFault, named_fault, place_of};
 use bag_text::{BagSet, SetFault, write_bagset};
@@ -13,7 +13,7 @@ pub const MAX_FORM: u64 = 16_777_216;
 
 /// The path of the file at fault, where the fault is one file's.
 fn path_at_fault<'a>(files: &'a [(&'a str, &'a [u8])], fault: SetFault) -> Option<&'a str>
-    ensures { option_copied result ≡ path_at_fault fault (paths_of (files_of files.now)) }
+    ensures { option_copied result ≡ path_at_fault fault (map (λ file. file.0.now) files.now) }
 {
     let file = files.get(place_of(fault)?)?;
     Some(file.0)

@@ -42,6 +42,15 @@ text_is_explained bytes text asked (Ok outcome) same utf8 policies faults = go (
         by_decision bytes asked outcome policy (decision_on policy asked) (record { utf8 = utf8; read = ap policy_of (sym same) ∙ is }) refl (policies policy is)
     go (Err fault) is = refused fault (inr (utf8, ap policy_of (sym same) ∙ is)) (faults fault is)
 
+-- a text spells one policy
+pub said_of_policy : (text : List ℕ) (asked : Asked) (r : Answer) (found policy : Contents) → policy_of text ≡ Ok found → IfOk r (SaysOn found asked (decision_on found asked))
+    → policy_of text ≡ Ok policy → IfOk r (SaysOn policy asked (decision_on policy asked))
+said_of_policy text asked r found policy is says read =
+    let first : Result Contents PolicyFault = Ok found in
+    let same : first ≡ Ok policy = sym is ∙ read in
+    let one : found ≡ policy = cc in
+    subst (λ (p : Contents). IfOk r (SaysOn p asked (decision_on p asked))) one says
+
 pub no_text_is_explained : (bytes : List ℕ) (asked : Asked) (r : Answer) → ¬ (IsUtf8 bytes) → IfOk r (SaysBadPolicy NotToml)
     → IfOk r (Explains bytes asked)
 no_text_is_explained bytes asked (Err e) none prints = tt

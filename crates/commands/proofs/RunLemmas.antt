@@ -1,14 +1,14 @@
 -- What is said of what was read, and how a run ends.
-use Rattle.std.proofs.Common.{◌≡◌, ℕ, List, Option, Some, None, IfSome, inl, inr, subst}
-use Rattle.commands.specs.Checking.{Says, SaysOfBag, too_long, unreadable, of_bag, valid, invalid}
-use Rattle.commands.specs.Explaining.{Explains, allowed, denied, by_default, refused}
-use Rattle.commands.specs.Printing.{IsAnswer}
-use Rattle.commands.specs.Running.{SaysOf}
+use Rattle.std.proofs.Common.{◌≡◌, ◌∙◌, ℕ, List, Option, Some, None, IfSome, inl, inr, sym, subst, take, codes, true}
+use Rattle.std.proofs.lemmas.Bool.{false≢true}
+use Rattle.clap.specs.Words.{Text}
+use Rattle.commands.specs.Checking.{Says, too_many}
+use Rattle.commands.specs.CommandLine.{AsksToCheck, HasValues, IsCheckOf, is_taken}
+use Rattle.commands.specs.Running.{DoesWords, Ends, IsToBeSaid, IsToBeTold, Judges, SaysOf, UnlessFailed, of_failure, of_outcome}
+use Rattle.commands.specs.declared.ending.Ending.{Ending}
 use Rattle.commands.specs.declared.line.Line.{Line}
 use Rattle.commands.specs.declared.line.Line.TheVariants.{Check, Explain}
-use Rattle.commands.specs.declared.asking.Asked.{Asked}
 use Rattle.commands.specs.declared.outcome.Outcome.{Outcome}
-use Rattle.bag_text.specs.TransferForm.{File}
 
 -- what holds of the bytes that were read holds of those that the reader gave, where they are known
 pub of_known : (known : Option (List ℕ)) (bytes : List ℕ) (part : List ℕ → List ℕ) (P : List ℕ → Type 0) → IfSome known (λ given. bytes ≡ part given) → P bytes
@@ -16,23 +16,35 @@ pub of_known : (known : Option (List ℕ)) (bytes : List ℕ) (part : List ℕ �
 of_known None bytes part P read holds = tt
 of_known (Some given) bytes part P read holds = subst P read holds
 
--- ---- what is said is an answer
+-- ---- what words ask for
 
-bag_answer : (files : List File) (outcome : Outcome) → SaysOfBag files outcome → IsAnswer outcome.ending
-bag_answer files outcome (valid v is prints) = inl prints.2
-bag_answer files outcome (invalid fault first prints) = inr prints.2
+pub does_words : (words : List Text) (line : Line) (outcome : Outcome) (old new told tells : Option (List ℕ)) (alone : Type 0) (ending : Ending) → HasValues words line
+    → SaysOf line outcome → UnlessFailed ending (Ends outcome old new told tells alone ending) → UnlessFailed ending (DoesWords words old new told tells alone ending)
+does_words words line outcome old new told tells alone ending values says (inl failed) = inl failed
+does_words words line outcome old new told tells alone ending values says (inr ends) = inr (line, outcome, values, says, ends)
 
-check_answer : (bytes : List ℕ) (outcome : Outcome) → Says bytes outcome → IsAnswer outcome.ending
-check_answer bytes outcome (too_long long prints) = inr prints.2
-check_answer bytes outcome (unreadable fault few is prints) = inr prints.2
-check_answer bytes outcome (of_bag files of says) = bag_answer files outcome says
+judges : (bytes : List ℕ) (outcome : Outcome) (old new told tells : Option (List ℕ)) (alone : Type 0) (ending : Ending) → Says bytes outcome
+    → UnlessFailed ending (Ends outcome old new told tells alone ending) → UnlessFailed ending (Judges bytes old new told tells alone ending)
+judges bytes outcome old new told tells alone ending says (inl failed) = inl failed
+judges bytes outcome old new told tells alone ending says (inr ends) = inr (outcome, says, ends)
 
-explain_answer : (bytes : List ℕ) (asked : Asked) (outcome : Outcome) → Explains bytes asked outcome → IsAnswer outcome.ending
-explain_answer bytes asked outcome (allowed policy rule of by prints) = inl prints.2
-explain_answer bytes asked outcome (denied policy rule of by prints) = inr prints.2
-explain_answer bytes asked outcome (by_default policy of by prints) = inr prints.2
-explain_answer bytes asked outcome (refused fault has prints) = inr prints.2
+pub judges_known : (known : Option (List ℕ)) (outcome : Outcome) (old new told tells : Option (List ℕ)) (alone : Type 0) (ending : Ending)
+    → IfSome known (λ given. Says (take too_many given) outcome) → UnlessFailed ending (Ends outcome old new told tells alone ending)
+    → IfSome known (λ given. UnlessFailed ending (Judges (take too_many given) old new told tells alone ending))
+judges_known None outcome old new told tells alone ending says ends = tt
+judges_known (Some given) outcome old new told tells alone ending says ends =
+    judges (take too_many given) outcome old new told tells alone ending says ends
 
-pub is_answer : (line : Line) (outcome : Outcome) → SaysOf line outcome → IsAnswer outcome.ending
-is_answer (Check file) outcome says = check_answer says.0 outcome says.1
-is_answer (Explain asked) outcome says = explain_answer says.0 asked outcome says.1
+pub to_be_said : (words : List Text) (line : Line) (outcome : Outcome) (text : List ℕ) → HasValues words line → is_taken words ≡ true → SaysOf line outcome
+    → IsToBeTold outcome text → IsToBeSaid words text
+to_be_said words line outcome text values taken says (inl (failure, is)) = of_failure failure (λ no. absurd (false≢true (sym no ∙ taken))) is
+to_be_said words line outcome text values taken says (inr is) = of_outcome line outcome values says is
+
+-- words that ask for a check of the input are read as that
+pub asks_check : (words : List Text) (line : Line) (file : Text) → HasValues words line → AsksToCheck words file → IsCheckOf file line
+asks_check words (Check named) file values asks =
+    let same : Some named.now ≡ Some file = sym values.1 ∙ asks.file in
+    cc
+asks_check words (Explain asked) file values asks =
+    let same : Some (codes "explain") ≡ Some (codes "check") = sym values.0 ∙ asks.first in
+    absurd cc

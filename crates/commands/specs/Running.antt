@@ -9,23 +9,17 @@ use Rattle.commands.specs.declared.ending.Ending.TheVariants.{Failed, Unsaid}
 use Rattle.commands.specs.declared.outcome.Outcome.{Outcome}
 use Rattle.commands.specs.declared.program.Failure.{Failure}
 use Rattle.commands.specs.declared.program.Failure.TheVariants.{Memory}
-use Rattle.commands.specs.Failing.{message_of}
+use Rattle.commands.specs.Failing.{IsToldWhy, message_of}
 use Rattle.commands.specs.Printing.{reason_of}
 use Rattle.commands.specs.declared.line.Line.{Line}
 use Rattle.commands.specs.declared.line.Line.TheVariants.{Check, Explain}
 use Rattle.commands.specs.CommandLine.{HasValues, command_in, is_taken, uses_text}
 use Rattle.clap.specs.Words.{Text}
 
--- standard error is left alone, where there is no reason to tell; else the reason comes behind what it held, where that is known
-abbrev pub IsTold : Option (List ℕ) → Option (List ℕ) → Option (List ℕ) → Type 0 → Type 0
-IsTold None told tells alone = alone
-IsTold (Some reason) told tells alone = Appends told tells reason
-
--- the text comes behind what the output held, where that is known; the reason is told, and nothing else; and the program ends as is said
+-- the text comes behind what the output held, where that is known; the reason is told, and the program ends as is said
 pub record Ends (outcome : Outcome) (old new told tells : Option (List ℕ)) (alone : Type 0) (ending : Ending) : Type 0 where
   pub text : Appends old new (string_bytes outcome.text)
-  pub reason : IsTold (reason_of outcome) told tells alone
-  pub end : ending ≡ outcome.ending
+  pub reason : IsToldWhy (reason_of outcome) outcome.ending told tells alone ending
 
 -- what `check` says of these bytes is written and told, and the program ends so
 abbrev pub Judges : List ℕ → Option (List ℕ) → Option (List ℕ) → Option (List ℕ) → Option (List ℕ) → Type 0 → Ending → Type 0

@@ -4,7 +4,7 @@ use crate::ending::Ending;
 
 /// What goes to standard output, a line with its end; why the answer is no, where a person is told
 /// that on standard error, in lines with their ends; and how the program ends.
-#[derive(Debug, Drop)]
+#[derive(Drop)]
 pub struct Outcome {
     pub text: String,
     pub reason: Option<String>,

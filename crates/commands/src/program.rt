@@ -1,11 +1,11 @@
 //! The program's whole work, over words, a reader and two writers.
 
 ghost use Rattle.std.specs.Io.KnownBytes.{Appends};
-ghost use Rattle.std.specs.Prelude.{◌≡◌, ◌≢◌, ◌⊎◌, ℕ, List, None, OnOk, true, false, IfOk, IfSome, codes, take};
+ghost use Rattle.std.specs.Prelude.{◌≡◌, ◌≢◌, ◌⊎◌, ℕ, List, None, OnOk, true, false, IfOk, IfSome, codes, option_map, string_bytes, take};
 ghost use Rattle.std.specs.IoError.{error_kind};
 ghost use Rattle.std.specs.declared.io.ErrorKind.TheVariants.{InvalidData};
 ghost use Rattle.commands.specs.CommandLine.{AsksToCheck, IsCheckOf, command_in, is_taken, texts, uses_text};
-ghost use Rattle.commands.specs.Failing.{BeginsWith, IsCutShort, failure_of, message_of, refusal_text};
+ghost use Rattle.commands.specs.Failing.{BeginsWith, IsCutShort, IsToldWhy, failure_of, message_of, refusal_text};
 ghost use Rattle.commands.specs.Printing.{IsAnswer};
 ghost use Rattle.commands.specs.Running.{CanFail, DoesWords, Ends, HasFailed, IsToBeSaid, IsToBeTold, Judges, SaysOf, UnlessFailed};
 ghost use Rattle.commands.specs.Checking.{Says, too_many};
@@ -190,6 +190,17 @@ pub fn tell<E: Write>(text: &str, ending: Ending, err: &mut E) -> Ending
     }
 }
 
+/// Tells standard error why the answer is what it is, where there is something to tell, and ends so.
+pub fn tell_why<E: Write>(reason: &Option<String>, ending: Ending, err: &mut E) -> Ending
+    ensures { IsToldWhy (option_map string_bytes reason.now) ending
+        (E.contents err.old) (E.contents err.new) (err.new ≡ err.old) result }
+{
+    match reason {
+        Some(reason) => tell(reason.as_str(), ending, err),
+        None => ending,
+    }
+}
+
 /// Says why the words are no use of the program.
 pub fn refuse<E: Write>(reason: &str, err: &mut E) -> Ending
     ensures ends { (result ≡ Misused) ⊎ (result ≡ Unsaid) }
@@ -221,12 +232,9 @@ fn say<O: Write, E: Write>(outcome: &Outcome, out: &mut O, err: &mut E) -> Endin
     ensures unsaid { result ≡ Unsaid → (text : List ℕ) × IsToBeTold outcome.now text
         × IsCutShort text (E.contents err.old) (E.contents err.new) }
 {
-    if let Err(error) = write_text(outcome.text.as_str(), out) {
-        return fail(Failure::from(error), err);
-    }
-    match &outcome.reason {
-        Some(reason) => tell(reason.as_str(), outcome.ending, err),
-        None => outcome.ending,
+    match write_text(outcome.text.as_str(), out) {
+        Ok(()) => tell_why(&outcome.reason, outcome.ending, err),
+        Err(error) => fail(Failure::from(error), err),
     }
 }
 

@@ -1,7 +1,7 @@
 -- What a run of the program on words that name a subcommand on folders or a store does, and how it ends.
 use Rattle.std.specs.Prelude.{◌≡◌, ◌⊎◌, ℕ, List, None, Option, codes}
 use Rattle.clap.specs.Words.{Text}
-use Rattle.commands.specs.Failing.{message_of}
+use Rattle.commands.specs.Failing.{IsToldWhy, message_of}
 use Rattle.commands.specs.declared.ending.Ending.{Ending}
 use Rattle.commands.specs.declared.ending.Ending.TheVariants as endings
 use Rattle.commands.specs.declared.program.Failure.TheVariants as failures
@@ -12,7 +12,7 @@ use Rattle.store_words.specs.StoreLine.{Asks}
 use Rattle.store_words.specs.declared.store_line.StoreLine.{StoreLine}
 use Rattle.store_words.specs.declared.store_line.StoreLine.TheVariants.{Pack, Unpack, Policy, Ask, Replay, Serve}
 use Rattle.program.specs.Folders.{Packs, Unpacks}
-use Rattle.program.specs.Stopping.{IsToldOf, IsToldWhy, Tells}
+use Rattle.program.specs.Stopping.{IsToldOf, Tells}
 use Rattle.program.specs.declared.stopped.Stopped.{Stopped}
 
 -- the text names a new office in memory

@@ -1,5 +1,5 @@
 -- What standard error is told of a command on folders or a store that comes to no end, and how the program ends.
-use Rattle.std.specs.Prelude.{◌≡◌, ◌⊎◌, ℕ, List, Option, Some, None, string_bytes}
+use Rattle.std.specs.Prelude.{◌≡◌, ◌⊎◌, ℕ, List, Option, string_bytes}
 use Rattle.std.specs.Io.KnownBytes.{Appends}
 use Rattle.std.specs.IoError.{error_kind}
 use Rattle.bag_folders.specs.declared.failed.Failed.TheVariants as folders
@@ -30,13 +30,6 @@ ending_of (Store fault) = store_ending fault
 -- beginning of the text
 abbrev pub Tells : List ℕ → Ending → Option (List ℕ) → Option (List ℕ) → Ending → Type 0
 Tells text end told tells ending = ((ending ≡ end) × BeginsWith text told tells) ⊎ ((ending ≡ endings.Unsaid) × IsCutShort text told tells)
-
--- it is told this reason, and nothing else, and the program ends in this way, or it fails, and has a beginning of the reason; where there is no
--- reason, it is left alone
-abbrev pub IsToldWhy : Option (List ℕ) → Ending → Option (List ℕ) → Option (List ℕ) → Type 0 → Ending → Type 0
-IsToldWhy None end told tells alone ending = (ending ≡ end) × alone
-IsToldWhy (Some reason) end told tells alone ending =
-    ((ending ≡ end) × Appends told tells reason) ⊎ ((ending ≡ endings.Unsaid) × IsCutShort reason told tells)
 
 -- it is told of this, or that there was no memory to tell of it
 abbrev pub IsToldOf : Stopped → Option (List ℕ) → Option (List ℕ) → Ending → Type 0

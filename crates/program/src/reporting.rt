@@ -1,26 +1,13 @@
 //! What standard error is told of a command that doesn't come to its end.
 
-ghost use Rattle.std.specs.Prelude.{◌≡◌, option_map, string_bytes};
-ghost use Rattle.program.specs.Stopping.{IsToldOf, IsToldWhy, MayGrow};
+ghost use Rattle.program.specs.Stopping.{IsToldOf, MayGrow};
 
 use crate::detail::detail_of;
-use crate::done::Done;
 use crate::stopped::Stopped;
 use commands::{Ending, Failure, fail, tell, write_text};
 use std::alloc::Global;
 use std::io::Write;
 use store_words::StoreLine;
-
-/// Tells standard error why the answer is no, where that is so, and ends as is to be.
-pub fn conclude<E: Write>(done: &Done, err: &mut E) -> Ending
-    ensures { IsToldWhy (option_map string_bytes done.now.reason) done.now.ending
-        (E.contents err.old) (E.contents err.new) (err.new ≡ err.old) result }
-{
-    match &done.reason {
-        Some(reason) => tell(reason.as_str(), done.ending, err),
-        None => done.ending,
-    }
-}
 
 /// Tells standard error what was tried, on what and why it failed, where there is memory for it. The
 /// line before it has said what there was to say, so that nothing hangs on this one.

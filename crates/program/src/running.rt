@@ -13,8 +13,8 @@ ghost use Rattle.program.specs.Running.{Comes, ComesOfWords};
 ghost use Rattle.program.specs.Stopping.{IsToldOfUse};
 
 use crate::acting::perform;
-use crate::reporting::{conclude, report};
-use commands::{Ending, Failure, UseFault, fail, refuse};
+use crate::reporting::report;
+use commands::{Ending, Failure, UseFault, fail, refuse, tell_why};
 use desk_devices::Counted;
 use sqlite::Start;
 use std::io::{Read, Write};
@@ -46,7 +46,7 @@ fn run_line<S: Start, R: Read, O: Write, E: Write>(
         (E.contents err.old) (E.contents err.new) (err.new ≡ err.old) result }
 {
     match perform(rt, start, line, input, out) {
-        Ok(done) => conclude(&done, err),
+        Ok(done) => tell_why(&done.reason, done.ending, err),
         Err(stopped) => report(rt.alloc(), line, &stopped, err),
     }
 }
