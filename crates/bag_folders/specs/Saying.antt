@@ -37,10 +37,14 @@ exists_text = codes "exists" ++ 10 ∷ []
 abbrev pub line_of : List ℕ → List ℕ
 line_of words = words ++ 10 ∷ []
 
--- of the files of a folder, with the path of the file at fault in front, where there is one
+-- of a file at fault: what is said of it behind its path
+abbrev pub file_reason : SetFault → List ℕ → List ℕ
+file_reason fault path = (printed_text path ++ codes " ") ++ line_of (folder_words fault)
+
+-- of the files of a folder, or of the one at fault, where there is one
 abbrev pub files_reason : SetFault → Option (List ℕ) → List ℕ
 files_reason fault None = line_of (folder_words fault)
-files_reason fault (Some path) = printed_text path ++ codes " " ++ folder_words fault ++ 10 ∷ []
+files_reason fault (Some path) = file_reason fault path
 
 -- ---- which is said
 

@@ -1,7 +1,7 @@
 //! What the program says of a folder that was packed, and of a form that was unpacked.
 
 ghost use Rattle.std.specs.Prelude.{◌≡◌, IfOk, IfErr, None, option_map, string_bytes};
-ghost use Rattle.bag_folders.specs.Saying.{SaysOfPack, SaysOfUnpack, SaysWhy, PackFails, UnpackFails, files_reason, line_of, packed_text, unpacked_text};
+ghost use Rattle.bag_folders.specs.Saying.{SaysOfPack, SaysOfUnpack, SaysWhy, PackFails, UnpackFails, file_reason, files_reason, line_of, packed_text, unpacked_text};
 
 use crate::failed::Failed;
 use crate::pack_fault::PackFault;
@@ -42,17 +42,27 @@ fn unpacked_line(alloc: Global, unpacked: Unpacked) -> Result<String, AllocError
     format!(in alloc; "unpacked {files} files\n")
 }
 
+/// Why a file isn't packed, with its path in front.
+fn file_reason(alloc: Global, fault: SetFault, path: &str) -> Result<String, AllocError>
+    ensures { IfOk result (λ line. string_bytes line ≡ file_reason fault path.now) }
+{
+    let path = Escaped(path);
+    let words = folder_words(fault);
+    let mut line = format!(in alloc; "{path} ")?;
+    write!(line, "{words}\n")?;
+    Ok(line)
+}
+
 /// Why the files of a folder aren't packed, with the path of the one at fault in front.
 fn files_reason(alloc: Global, fault: SetFault, path: &Option<String>) -> Result<String, AllocError>
     ensures { IfOk result (λ line. string_bytes line ≡ files_reason fault (option_map string_bytes path.now)) }
 {
-    let words = folder_words(fault);
     match path {
-        Some(path) => {
-            let path = Escaped(path.as_str());
-            format!(in alloc; "{path} {words}\n")
+        Some(path) => file_reason(alloc, fault, path.as_str()),
+        None => {
+            let words = folder_words(fault);
+            format!(in alloc; "{words}\n")
         }
-        None => format!(in alloc; "{words}\n"),
     }
 }
 
