@@ -1,5 +1,5 @@
 -- What standard error is told, and what a run comes to.
-use Rattle.std.proofs.Common.{◌≡◌, ◌⊎◌, ◌++◌, ℕ, List, Option, Result, Ok, Err, IfErr, IfOk, MatchResult, append_assoc, inl, inr, subst}
+use Rattle.std.proofs.Common.{◌≡◌, ◌⊎◌, ℕ, List, Option, Result, Ok, Err, IfErr, IfOk, MatchResult, inl, inr, subst}
 use Rattle.std.specs.Prelude.{option_map, string_bytes}
 use Rattle.std.specs.Io.KnownBytes.{Appends}
 use Rattle.clap.specs.Words.{Text}

@@ -14,3 +14,9 @@ pub asked : (Memory Asked : Type 0) (ended : Result Ending CommandFault) (result
 asked Memory Asked ended (Ok done) is accepted memory =
     ((subst (λ d. IfOk d (λ it. it ≡ Accepted)) is.0 accepted, λ named. subst (λ d. OnOk d Asked) is.0 (memory named)), ap (option_map string_bytes) is.1)
 asked Memory Asked ended (Err stopped) is accepted memory = tt
+
+-- what holds of the ending is handed on, and there is no reason to tell
+pub stored_done : (P : Ending → Type 0) (ended : Result Ending CommandFault) (result : Result Done Stopped) → IfOk result (λ done. (ended ≡ Ok done.ending) × (done.reason ≡ None))
+    → IfOk ended P → IfOk result (λ done. IsStored (option_map string_bytes done.reason) (P done.ending))
+stored_done P ended (Ok done) is holds = (subst (λ d. IfOk d P) is.0 holds, ap (option_map string_bytes) is.1)
+stored_done P ended (Err stopped) is holds = tt

@@ -1,6 +1,7 @@
 //! `pack` and `unpack`: what they do, and what they print.
 
-ghost use Rattle.std.specs.Prelude.{IfOk, option_map, string_bytes};
+ghost use Rattle.std.specs.Prelude.{◌≡◌, IfOk, if◌then◌else◌, option_map, string_bytes};
+ghost use Rattle.commands.specs.declared.ending.Ending.TheVariants.{Accepted, Refused};
 ghost use Rattle.program.specs.Folders.{IsPrinted, Packs, Unpacks};
 
 use crate::done::Done;
@@ -10,23 +11,34 @@ use commands::{Ending, write_text};
 use std::io::Write;
 use std::rt::Files;
 
+/// How the program is to end, by whether the work was done.
+fn ending_by(is_done: bool) -> Ending
+    ensures { result ≡ (if is_done then Accepted else Refused) }
+{
+    if is_done {
+        Ending::Accepted
+    } else {
+        Ending::Refused
+    }
+}
+
 /// Prints what is said, and says how the program is to end and why.
 fn print<O: Write>(said: Said, out: &mut O) -> Result<Done, Stopped>
     ensures { IfOk result (λ done. IsPrinted said (O.contents out.old) (O.contents out.new)
         (option_map string_bytes done.reason) done.ending) }
 {
-    if let Err(error) = write_text(said.text.as_str(), out) {
-        return Err(Stopped::Output(error));
+    let Said {
+        text,
+        reason,
+        is_done,
+    } = said;
+    match write_text(text.as_str(), out) {
+        Ok(()) => Ok(Done {
+            reason,
+            ending: ending_by(is_done),
+        }),
+        Err(error) => Err(Stopped::Output(error)),
     }
-    let ending = if said.is_done {
-        Ending::Accepted
-    } else {
-        Ending::Refused
-    };
-    Ok(Done {
-        reason: said.reason,
-        ending,
-    })
 }
 
 /// `pack DIR FILE`: the folder's files become a transfer form in the file.
