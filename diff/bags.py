@@ -25,9 +25,9 @@ PIECES = ["a", "b", "Z", "0", "-", "_", ".", " ", "  ", "%", "%%", "%2", "%41", 
 
 
 def call(*words):
-    """What the program prints on standard output, and how it ends. It prints nothing else."""
+    """What the program prints on standard output, and how it ends. It says why on standard error where it refuses, and nothing else."""
     run = subprocess.run([DEPOT, *words], capture_output=True)
-    if run.stderr:
+    if bool(run.stderr) != run.stdout.startswith((b"invalid ", b"unreadable ", b"unpackable ")):
         sys.exit(f"{words}: {run.stderr!r}")
     return run.stdout, run.returncode
 

@@ -10,13 +10,13 @@ import sys
 from pathlib import Path
 
 top = Path(sys.argv[1])
-PLACES = {"{manifest}": "NAME", "{path}": "PATH", "{line}": "LINE", "{offset}": "OFFSET", "{number}": "N"}
+PLACES = {"{manifest}": "NAME", "{path}": "PATH", "{line}": "LINE", "{offset}": "OFFSET", "{number}": "N", "{caller}": "CALLER"}
 CODE = re.compile(r"\((?:[A-Z]+\d* )?([A-Z]+\d*)\)$")
 
 
-# Whether a text is a sentence of a fault, or of a file that is no form.
+# Whether a text is a sentence of a fault, of a file that is no form, or of a caller whom no policy lists.
 def is_sentence(text):
-    return bool(CODE.search(text) or text.startswith("this "))
+    return bool(CODE.search(text) or text.startswith(("this ", "the caller CALLER ")))
 
 
 coded = set()
@@ -25,6 +25,8 @@ for file in sorted((top / "crates/fault_words/src").glob("*.rt")):
     for text in re.findall(r'"((?:[^"\\]|\\.)*)"', code):
         for place, name in PLACES.items():
             text = text.replace(place, name)
+        if file.name == "folder.rt" and not text.startswith(("a ", "an ", "the ")):
+            text = "PATH " + text  # what is said of a file stands behind its path
         if is_sentence(text):
             coded.add(text)
 

@@ -1,17 +1,21 @@
 -- The fault of files, told by their paths and sizes.
-use Rattle.std.proofs.Common.{◌≡◌, ◌≢◌, ℕ, zero, suc, ◌+◌, ◌<◌, ◌≤◌, Bool, true, false, ltb, leb, not, cond, ◌||◌, List, [], ◌∷◌, ◌++◌, length, take, map, refl, sym, ap, subst, ◌∙◌, arith}
+use Rattle.std.proofs.Common.{◌≡◌, ◌≢◌, ℕ, zero, suc, ◌+◌, ◌<◌, ◌≤◌, Bool, true, false, ltb, leb, not, cond, ◌||◌, List, [], ◌∷◌, ◌++◌, length, take, map, refl, sym, ap, ap₂, subst, ◌∙◌, arith}
 use Rattle.std.specs.Prelude.{Option, Some, None, Result, Ok, Err, bytes_eq, codes, string_bytes}
 use Rattle.std.specs.List.{list_any, position_from, sum_by, flat_map}
+use Rattle.std.specs.Borrow.{Bor}
 use Rattle.std.proofs.lemmas.List.{length-append, length-take-le}
 use Rattle.std.proofs.lemmas.List.Sums.{sum_by-cons}
 use Rattle.bag_text.specs.Paths.{is_good, comes_before, lies_under}
 use Rattle.bag_text.specs.TransferForm.{File, IsBag, max_content, max_files, clashes, header, entry, opening, ending, set_text}
+use Rattle.bag_text.specs.TransferReading.{files_of}
 use Rattle.bag_text.specs.BagList.{ListFault, file_fault, or_else, fault_from, clash_fault, list_fault}
 use Rattle.bag_text.specs.declared.set_fault.SetFault.{SetFault}
 use Rattle.bag_text.specs.declared.set_fault.SetFault.TheVariants.{BadOpening, BadEntry, Truncated, OutOfOrder, BadPath, TooManyFiles, TrailingBytes, PathClash, Memory}
 use Rattle.bag_text.proofs.ListLemmas.{list_fault_law, list_bag_law}
 use Rattle.bag_folders.specs.declared.listed.Listed.{Listed}
-use Rattle.bag_folders.specs.Packing.{AreFilesOf, HasNoForm, pack_fault_of}
+use Rattle.bag_folders.specs.declared.pack_fault.PackFault.{PackFault}
+use Rattle.bag_folders.specs.declared.pack_fault.PackFault.TheVariants as packing
+use Rattle.bag_folders.specs.Packing.{AreFilesOf, HasNoForm, IsNamedAs, listed_paths, path_at_fault, paths_of}
 use Rattle.bag_folders.specs.Sizes.{Judged, emptied, is_too_long, with_long}
 
 abbrev some : SetFault → Option SetFault
@@ -223,17 +227,44 @@ judged_err X files (BadPath n) h = (list_fault_law files (BadPath n)).1 (h (λ e
 judged_err X files TooManyFiles h = (list_fault_law files TooManyFiles).1 (h (λ e. absurd cc))
 judged_err X files TrailingBytes h = (list_fault_law files TrailingBytes).1 (h (λ e. absurd cc))
 
--- what is judged is why there is no form
-pub no_form : (X : Type 0) (files : List File) (fault : SetFault) → Judged {X = X} (list_fault files) (Err fault) → HasNoForm files (pack_fault_of fault)
-no_form X files Memory j = tt
-no_form X files PathClash j = (list_fault_law files PathClash).0 j
-no_form X files BadOpening j = (list_fault_law files BadOpening).0 j
-no_form X files (BadEntry n) j = (list_fault_law files (BadEntry n)).0 j
-no_form X files Truncated j = (list_fault_law files Truncated).0 j
-no_form X files (OutOfOrder n) j = (list_fault_law files (OutOfOrder n)).0 j
-no_form X files (BadPath n) j = (list_fault_law files (BadPath n)).0 j
-no_form X files TooManyFiles j = (list_fault_law files TooManyFiles).0 j
-no_form X files TrailingBytes j = (list_fault_law files TrailingBytes).0 j
+-- what is judged is the list's fault
+judged_fault : (X : Type 0) (files : List File) (fault : SetFault) → Judged {X = X} (list_fault files) (Err fault) → fault ≢ Memory → ListFault files fault
+judged_fault X files Memory j out = absurd (out refl)
+judged_fault X files PathClash j out = (list_fault_law files PathClash).0 j
+judged_fault X files BadOpening j out = (list_fault_law files BadOpening).0 j
+judged_fault X files (BadEntry n) j out = (list_fault_law files (BadEntry n)).0 j
+judged_fault X files Truncated j out = (list_fault_law files Truncated).0 j
+judged_fault X files (OutOfOrder n) j out = (list_fault_law files (OutOfOrder n)).0 j
+judged_fault X files (BadPath n) j out = (list_fault_law files (BadPath n)).0 j
+judged_fault X files TooManyFiles j out = (list_fault_law files TooManyFiles).0 j
+judged_fault X files TrailingBytes j out = (list_fault_law files TrailingBytes).0 j
+
+-- the list's fault, as it is named, is why there is no form
+pub no_form : (files : List File) (fault : SetFault) (path : Option (List ℕ)) (named : PackFault) → (fault ≢ Memory → ListFault files fault)
+    → path ≡ path_at_fault fault (paths_of files) → IsNamedAs fault path named → HasNoForm files named
+no_form files fault path packing.Name stands at is = absurd is
+no_form files fault path (packing.Set found own) stands at is =
+    (subst (λ (f : SetFault). ListFault files f) (sym is.0) (stands is.1), is.2 ∙ at ∙ ap (λ (f : SetFault). path_at_fault f (paths_of files)) (sym is.0))
+no_form files fault path packing.Size stands at is = absurd is
+no_form files fault path (packing.Device trouble) stands at is = absurd is
+no_form files fault path packing.Memory stands at is = tt
+
+-- the paths of files that are lent
+pub lent_paths : (files : List (Bor (List ℕ) × Bor (List ℕ))) → map (λ (file : Bor (List ℕ) × Bor (List ℕ)). file.0.now) files ≡ paths_of (files_of files)
+lent_paths [] = refl
+lent_paths (file ∷ files) = ap (λ (ps : List (List ℕ)). file.0.now ∷ ps) (lent_paths files)
+
+same_paths : (ls : List Listed) (fs : List File) → AreFilesOf ls fs → listed_paths ls ≡ paths_of fs
+same_paths [] [] h = refl
+same_paths [] (f ∷ fs) h = absurd h
+same_paths (l ∷ ls) [] h = absurd h
+same_paths (l ∷ ls) (f ∷ fs) h = ap₂ (λ (p : List ℕ) (ps : List (List ℕ)). p ∷ ps) (sym h.0) (same_paths ls fs h.2)
+
+-- and so it is for files that are listed
+pub no_form_listed : (X : Type 0) (ls : List Listed) (files : List File) (fault : SetFault) (path : Option (List ℕ)) (named : PackFault) → AreFilesOf ls files
+    → Judged {X = X} (list_fault files) (Err fault) → path ≡ path_at_fault fault (listed_paths ls) → IsNamedAs fault path named → HasNoForm files named
+no_form_listed X ls files fault path named are judged at is =
+    no_form files fault path named (judged_fault X files fault judged) (at ∙ ap (path_at_fault fault) (same_paths ls files are)) is
 
 pub is_bag : (files : List File) → list_fault files ≡ None → IsBag files
 is_bag files e = (list_bag_law files).0 e

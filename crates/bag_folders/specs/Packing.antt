@@ -1,6 +1,6 @@
 -- What packing a folder comes to: its files in the order of their paths, and of these the form, or
 -- the first fault.
-use Rattle.std.specs.Prelude.{◌≡◌, ◌⊎◌, ℕ, ◌<◌, ◌≤◌, true, false, List, [], ◌∷◌, length, string_bytes}
+use Rattle.std.specs.Prelude.{◌≡◌, ◌≢◌, ◌⊎◌, ℕ, ◌<◌, ◌≤◌, true, false, List, [], ◌∷◌, Option, Some, None, length, map, option_and_then, option_map, slice_get, string_bytes}
 use Rattle.std.specs.List.Sorted.{IsPermutation, IsSortedBy}
 use Rattle.bag_text.specs.Paths.{comes_before}
 use Rattle.bag_text.specs.TransferForm.{File, IsBag, set_text}
@@ -32,6 +32,26 @@ pub record AreInOrder (found listed : List Listed) : Type 0 where
   pub same : IsPermutation found listed
   pub order : IsSortedBy (λ a b. comes_before (string_bytes a.path) (string_bytes b.path)) listed
 
+-- ---- the file at fault
+
+-- its place, where the fault is one file's
+abbrev pub place_of : SetFault → Option ℕ
+place_of (sets.BadEntry place) = Some place
+place_of (sets.OutOfOrder place) = Some place
+place_of (sets.BadPath place) = Some place
+place_of fault = None
+
+-- its path
+abbrev pub path_at_fault : SetFault → List (List ℕ) → Option (List ℕ)
+path_at_fault fault paths = option_and_then (slice_get paths) (place_of fault)
+
+-- the paths of the files, and of files that are listed
+abbrev pub paths_of : List File → List (List ℕ)
+paths_of = map (λ f. f.path)
+
+abbrev pub listed_paths : List Listed → List (List ℕ)
+listed_paths = map (λ l. string_bytes l.path)
+
 -- ---- what comes of them
 
 -- the text is the form of these files, which are a bag, and isn't too long
@@ -40,9 +60,9 @@ pub record IsFormOf (files : List File) (text : List ℕ) : Type 0 where
   pub form : text ≡ set_text files
   pub short : length text ≤ max_form
 
--- why there is no form of these files in this order: the first fault of the list, or else its length
+-- why there is no form of these files in this order: the first fault of the list, with the path of the file at fault, or else its length
 abbrev pub HasNoForm : List File → PackFault → Type 0
-HasNoForm files (Set fault) = ListFault files fault
+HasNoForm files (Set fault path) = ListFault files fault × (option_map string_bytes path ≡ path_at_fault fault (paths_of files))
 HasNoForm files Size = IsBag files × (max_form < length (set_text files))
 HasNoForm files Memory = Unit {0}
 HasNoForm files fault = ⊥
@@ -74,9 +94,11 @@ MayBeRefused fault = ((found : Found) × IsRefused found fault) ⊎ ((files : Li
 
 -- ---- faults of what lies below
 
-abbrev pub pack_fault_of : SetFault → PackFault
-pack_fault_of sets.Memory = Memory
-pack_fault_of fault = Set fault
+-- the fault of the files is named with this path, unless memory ran out
+abbrev pub IsNamedAs : SetFault → Option (List ℕ) → PackFault → Type 0
+IsNamedAs fault path (Set named own) = (named ≡ fault) × (fault ≢ sets.Memory) × (option_map string_bytes own ≡ path)
+IsNamedAs fault path Memory = Unit {0}
+IsNamedAs fault path other = ⊥
 
 abbrev pub pack_failed : Failed → PackFault
 pack_failed (failures.Device trouble) = Device trouble

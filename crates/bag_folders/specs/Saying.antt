@@ -1,6 +1,10 @@
 -- What the program says of a folder that was packed and of a form that was unpacked.
-use Rattle.std.specs.Prelude.{◌≡◌, ℕ, ◌++◌, ◌∷◌, [], Bool, true, false, List, Result, Ok, Err, codes, decimal, string_bytes}
+use Rattle.std.specs.Prelude.{◌≡◌, ℕ, ◌++◌, ◌∷◌, [], Bool, true, false, List, Option, Some, None, Result, Ok, Err, codes, decimal, option_map, string_bytes}
 use Rattle.bag_text.specs.FaultTexts.{set_fault_text}
+use Rattle.bag_text.specs.declared.set_fault.SetFault.{SetFault}
+use Rattle.bag_check.specs.FaultTexts.{printed_text}
+use Rattle.fault_words.specs.FaultWords.{folder_words, odd_entry_words, too_large_words, too_long_words}
+use Rattle.fault_words.specs.OtherFiles.{form_lines}
 use Rattle.bag_folders.specs.declared.failed.Failed.{Failed}
 use Rattle.bag_folders.specs.declared.failed.Failed.TheVariants as failures
 use Rattle.bag_folders.specs.declared.packing.Packed.{Packed}
@@ -28,24 +32,44 @@ unreadable_text fault = codes "unreadable " ++ fault ++ 10 ∷ []
 abbrev pub exists_text : List ℕ
 exists_text = codes "exists" ++ 10 ∷ []
 
+-- ---- the reasons that standard error is told, each in lines with their ends
+
+abbrev pub line_of : List ℕ → List ℕ
+line_of words = words ++ 10 ∷ []
+
+-- of a file at fault: what is said of it behind its path
+abbrev pub file_reason : SetFault → List ℕ → List ℕ
+file_reason fault path = (printed_text path ++ codes " ") ++ line_of (folder_words fault)
+
+-- of the files of a folder, or of the one at fault, where there is one
+abbrev pub files_reason : SetFault → Option (List ℕ) → List ℕ
+files_reason fault None = line_of (folder_words fault)
+files_reason fault (Some path) = file_reason fault path
+
 -- ---- which is said
 
--- this line, and that the work was done or wasn't
-abbrev pub Says : List ℕ → Bool → Said → Type 0
-Says text done said = (string_bytes said.text ≡ text) × (said.is_done ≡ done)
+-- this line, and that the work was done
+abbrev pub SaysDone : List ℕ → Said → Type 0
+SaysDone text said = (string_bytes said.text ≡ text) × (said.reason ≡ None) × (said.is_done ≡ true)
+
+-- this line, this reason, and that the work wasn't done
+abbrev pub SaysWhy : List ℕ → List ℕ → Said → Type 0
+SaysWhy text reason said = (string_bytes said.text ≡ text) × (option_map string_bytes said.reason ≡ Some reason) × (said.is_done ≡ false)
 
 abbrev pub SaysOfPack : Result Packed PackFault → Said → Type 0
-SaysOfPack (Ok packed) said = Says (packed_text packed) true said
-SaysOfPack (Err packing.Name) said = Says (unpackable_text (codes "NAME")) false said
-SaysOfPack (Err (packing.Set fault)) said = Says (unpackable_text (set_fault_text fault)) false said
-SaysOfPack (Err packing.Size) said = Says (unpackable_text (codes "SIZE")) false said
+SaysOfPack (Ok packed) said = SaysDone (packed_text packed) said
+SaysOfPack (Err packing.Name) said = SaysWhy (unpackable_text (codes "NAME")) (line_of odd_entry_words) said
+SaysOfPack (Err (packing.Set fault path)) said =
+    SaysWhy (unpackable_text (set_fault_text fault)) (files_reason fault (option_map string_bytes path)) said
+SaysOfPack (Err packing.Size) said = SaysWhy (unpackable_text (codes "SIZE")) (line_of too_large_words) said
 SaysOfPack (Err fault) said = ⊥
 
+-- that something stands where the folder is to be made needs no other words
 abbrev pub SaysOfUnpack : Result Unpacked UnpackFault → Said → Type 0
-SaysOfUnpack (Ok unpacked) said = Says (unpacked_text unpacked) true said
-SaysOfUnpack (Err (unpacking.Set fault)) said = Says (unreadable_text (set_fault_text fault)) false said
-SaysOfUnpack (Err unpacking.Size) said = Says (unreadable_text (codes "SIZE")) false said
-SaysOfUnpack (Err unpacking.Exists) said = Says exists_text false said
+SaysOfUnpack (Ok unpacked) said = SaysDone (unpacked_text unpacked) said
+SaysOfUnpack (Err (unpacking.Set fault other)) said = SaysWhy (unreadable_text (set_fault_text fault)) (form_lines fault other) said
+SaysOfUnpack (Err unpacking.Size) said = SaysWhy (unreadable_text (codes "SIZE")) (line_of too_long_words) said
+SaysOfUnpack (Err unpacking.Exists) said = (string_bytes said.text ≡ exists_text) × (said.reason ≡ None) × (said.is_done ≡ false)
 SaysOfUnpack (Err fault) said = ⊥
 
 -- ---- what failed: the device that is told of, or memory

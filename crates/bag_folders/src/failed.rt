@@ -5,7 +5,7 @@ ghost use Rattle.std.specs.IoError.{error_kind};
 ghost use Rattle.std.specs.declared.io.ErrorKind.TheVariants.{OutOfMemory};
 ghost use Rattle.bag_folders.specs.declared.failed.Failed.TheVariants.{Memory};
 
-use percent_encoding::{AsciiSet, CONTROLS, utf8_percent_encode};
+use fault_words::Escaped;
 use std::alloc::{AllocError, AllocFailed, Global};
 use std::error::Error;
 use std::io::ErrorKind;
@@ -50,14 +50,12 @@ pub struct Trouble {
     pub error: io::Error,
 }
 
-const ESCAPED: AsciiSet = percent_encoding::ascii_set!(CONTROLS.add(b' ').add(b'%'));
-
 impl fmt::Display for Trouble {
     fn fmt<W: fmt::Write>(&self, f: &mut fmt::Formatter<W>) -> fmt::Result {
         let tried = self.tried;
         write!(f, "cannot {tried}")?;
         if let Some(path) = &self.path {
-            let path = utf8_percent_encode(path.as_str(), ESCAPED);
+            let path = Escaped(path.as_str());
             write!(f, " {path}")?;
         }
         write!(f, ": {}", self.error)

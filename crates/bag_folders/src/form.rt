@@ -1,15 +1,23 @@
 //! The form of files.
 
-ghost use Rattle.std.specs.Prelude.{◌≡◌, ◌≤◌, List, ℕ, Ok, IfOk, IfErr};
+ghost use Rattle.std.specs.Prelude.{◌≡◌, ◌≤◌, List, ℕ, Ok, IfOk, IfErr, map, option_copied};
 ghost use Rattle.bag_text.specs.TransferReading.{files_of};
-ghost use Rattle.bag_folders.specs.Packing.{HasNoForm, IsFormOf, max_form};
+ghost use Rattle.bag_folders.specs.Packing.{HasNoForm, IsFormOf, max_form, path_at_fault};
 
-use crate::pack_fault::PackFault;
-use bag_text::{BagSet, write_bagset};
+use crate::pack_fault::{PackFault, named_fault, place_of};
+use bag_text::{BagSet, SetFault, write_bagset};
 use std::alloc::Global;
 
 /// The most bytes of a form that is written or read: 16 MiB.
 pub const MAX_FORM: u64 = 16_777_216;
+
+/// The path of the file at fault, where the fault is one file's.
+fn path_at_fault<'a>(files: &'a [(&'a str, &'a [u8])], fault: SetFault) -> Option<&'a str>
+    ensures { option_copied result ≡ path_at_fault fault (map (λ file. file.0.now) files.now) }
+{
+    let file = files.get(place_of(fault)?)?;
+    Some(file.0)
+}
 
 /// The transfer form of these files, in this order, or why there is none: the first fault of the list,
 /// or else that the form is too long.
@@ -19,7 +27,10 @@ pub fn form_of(alloc: Global, files: &[(&str, &[u8])]) -> Result<Vec<u8>, PackFa
     // What is refused has the fault that is named.
     ensures refused { IfErr result (HasNoForm (files_of files.now)) }
 {
-    let bag = BagSet::of(alloc, files)?;
+    let bag = match BagSet::of(alloc, files) {
+        Ok(bag) => bag,
+        Err(fault) => return Err(named_fault(alloc, fault, path_at_fault(files, fault))),
+    };
     let form = write_bagset(alloc, &bag)?;
     if form.len() as u64 > MAX_FORM {
         return Err(PackFault::Size);

@@ -1,12 +1,12 @@
 //! Why a folder isn't packed.
 
-ghost use Rattle.std.specs.Prelude.{◌≡◌};
-ghost use Rattle.bag_folders.specs.Packing.{pack_fault_of, pack_failed};
+ghost use Rattle.std.specs.Prelude.{◌≡◌, IfOk, option_copied, option_map, string_bytes};
+ghost use Rattle.bag_folders.specs.Packing.{IsNamedAs, pack_failed, place_of};
 ghost use Rattle.bag_folders.specs.declared.pack_fault.PackFault.TheVariants.{Memory};
 
 use crate::failed::{Failed, Trouble};
 use bag_text::SetFault;
-use std::alloc::{AllocError, AllocFailed};
+use std::alloc::{AllocError, AllocFailed, Global};
 
 /// Why a folder isn't packed.
 #[derive(Debug, Drop, thiserror::Error)]
@@ -14,9 +14,13 @@ pub enum PackFault {
     /// An entry is neither a file nor a folder, or has a name that isn't UTF-8.
     #[error("NAME")]
     Name,
-    /// The files, in the order of their paths, are no bag.
-    #[error("{0}")]
-    Set(SetFault),
+    /// The files, in the order of their paths, are no bag. The path is that of the file at fault, where
+    /// the fault is one file's.
+    #[error("{fault}")]
+    Set {
+        fault: SetFault,
+        path: Option<String>,
+    },
     /// The form has too many bytes.
     #[error("SIZE")]
     Size,
@@ -26,17 +30,6 @@ pub enum PackFault {
     /// A growth was refused.
     #[error("memory")]
     Memory,
-}
-
-impl From<SetFault> for PackFault {
-    ghost from_gives = { λ fault packed. packed ≡ pack_fault_of fault };
-
-    fn from(fault: SetFault) -> PackFault {
-        match fault {
-            SetFault::Memory => PackFault::Memory,
-            other => PackFault::Set(other),
-        }
-    }
 }
 
 impl From<Failed> for PackFault {
@@ -63,5 +56,40 @@ impl<T: Drop> From<AllocFailed<T>> for PackFault {
 
     fn from(_: AllocFailed<T>) -> PackFault {
         PackFault::Memory
+    }
+}
+
+/// The place of the file at fault, where the fault is one file's.
+pub fn place_of(fault: SetFault) -> Option<usize>
+    ensures { result ≡ place_of fault }
+{
+    match fault {
+        SetFault::BadEntry(place) | SetFault::OutOfOrder(place) | SetFault::BadPath(place) => {
+            Some(place)
+        }
+        _ => None,
+    }
+}
+
+/// The path as a text of its own.
+fn own_path(alloc: Global, path: Option<&str>) -> Result<Option<String>, AllocError>
+    ensures { IfOk result (λ own. option_map string_bytes own ≡ option_copied path.entry) }
+{
+    match path {
+        Some(path) => Ok(Some(String::from_str(alloc, path)?)),
+        None => Ok(None),
+    }
+}
+
+/// The fault of files, with the path of the file at fault, where there is one.
+pub fn named_fault(alloc: Global, fault: SetFault, path: Option<&str>) -> PackFault
+    ensures { IsNamedAs fault (option_copied path.entry) result }
+{
+    if fault == SetFault::Memory {
+        return PackFault::Memory;
+    }
+    match own_path(alloc, path) {
+        Ok(path) => PackFault::Set { fault, path },
+        Err(_) => PackFault::Memory,
     }
 }

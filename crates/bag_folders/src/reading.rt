@@ -5,7 +5,7 @@ ghost use Rattle.bag_folders.specs.Packing.{IsFormOf};
 ghost use Rattle.bag_folders.specs.Unpacking.{IsUnreadable};
 
 use crate::form::MAX_FORM;
-use crate::unpack_fault::UnpackFault;
+use crate::unpack_fault::{UnpackFault, unreadable};
 use bag_text::{BagSet, read_bagset};
 use std::alloc::Global;
 
@@ -19,5 +19,8 @@ pub fn bag_of<'a>(alloc: Global, text: &'a [u8]) -> Result<BagSet<'a>, UnpackFau
     if text.len() as u64 > MAX_FORM {
         return Err(UnpackFault::Size);
     }
-    Ok(read_bagset(alloc, text)?)
+    match read_bagset(alloc, text) {
+        Ok(bag) => Ok(bag),
+        Err(fault) => Err(unreadable(fault, text)),
+    }
 }

@@ -1,20 +1,26 @@
 //! What the program says of a folder that was packed, and of a form that was unpacked.
 
-ghost use Rattle.std.specs.Prelude.{◌≡◌, IfOk, IfErr, string_bytes};
-ghost use Rattle.bag_folders.specs.Saying.{SaysOfPack, SaysOfUnpack, PackFails, UnpackFails, packed_text, unpacked_text};
+ghost use Rattle.std.specs.Prelude.{◌≡◌, IfOk, IfErr, None, option_map, string_bytes};
+ghost use Rattle.bag_folders.specs.Saying.{SaysOfPack, SaysOfUnpack, SaysWhy, PackFails, UnpackFails, file_reason, files_reason, line_of, packed_text, unpacked_text};
 
 use crate::failed::Failed;
 use crate::pack_fault::PackFault;
 use crate::packing::Packed;
 use crate::unpack_fault::UnpackFault;
 use crate::unpacking::Unpacked;
+use bag_text::SetFault;
+use fault_words::{
+    Escaped, folder_words, form_lines, odd_entry_words, too_large_words, too_long_words,
+};
 use std::alloc::{AllocError, Global};
 use std::fmt::Write;
 
-/// What is said on standard output, a line with its end, and whether the work was done.
+/// What is said on standard output, a line with its end; why the work wasn't done, where a person is
+/// told that on standard error, in lines with their ends; and whether it was done.
 #[derive(Debug, Drop)]
 pub struct Said {
     pub text: String,
+    pub reason: Option<String>,
     pub is_done: bool,
 }
 
@@ -36,6 +42,41 @@ fn unpacked_line(alloc: Global, unpacked: Unpacked) -> Result<String, AllocError
     format!(in alloc; "unpacked {files} files\n")
 }
 
+/// Why a file isn't packed, with its path in front.
+fn file_reason(alloc: Global, fault: SetFault, path: &str) -> Result<String, AllocError>
+    ensures { IfOk result (λ line. string_bytes line ≡ file_reason fault path.now) }
+{
+    let path = Escaped(path);
+    let words = folder_words(fault);
+    let mut line = format!(in alloc; "{path} ")?;
+    write!(line, "{words}\n")?;
+    Ok(line)
+}
+
+/// Why the files of a folder aren't packed, with the path of the one at fault in front.
+fn files_reason(alloc: Global, fault: SetFault, path: &Option<String>) -> Result<String, AllocError>
+    ensures { IfOk result (λ line. string_bytes line ≡ files_reason fault (option_map string_bytes path.now)) }
+{
+    match path {
+        Some(path) => file_reason(alloc, fault, path.as_str()),
+        None => {
+            let words = folder_words(fault);
+            format!(in alloc; "{words}\n")
+        }
+    }
+}
+
+/// What is said where the work wasn't done: this line, and why in these words.
+fn refused(alloc: Global, line: &str, words: &str) -> Result<Said, AllocError>
+    ensures { IfOk result (SaysWhy line.now (line_of words.now)) }
+{
+    Ok(Said {
+        text: String::from_str(alloc, line)?,
+        reason: Some(format!(in alloc; "{words}\n")?),
+        is_done: false,
+    })
+}
+
 /// What is said of a folder that was to be packed; or what failed, of which standard error is told.
 pub fn pack_said(alloc: Global, packing: Result<Packed, PackFault>) -> Result<Said, Failed>
     // What is said is so.
@@ -43,23 +84,22 @@ pub fn pack_said(alloc: Global, packing: Result<Packed, PackFault>) -> Result<Sa
     // What fails is the device that is told of, or memory.
     ensures failed { IfErr result (PackFails packing) }
 {
-    let text = match packing {
-        Ok(packed) => {
-            return Ok(Said {
-                text: packed_line(alloc, packed)?,
-                is_done: true,
-            });
-        }
-        Err(PackFault::Name) => String::from_str(alloc, "unpackable NAME\n")?,
-        Err(PackFault::Set(fault)) => format!(in alloc; "unpackable {fault}\n")?,
-        Err(PackFault::Size) => String::from_str(alloc, "unpackable SIZE\n")?,
-        Err(PackFault::Device(trouble)) => return Err(Failed::Device(trouble)),
-        Err(PackFault::Memory) => return Err(Failed::Memory),
-    };
-    Ok(Said {
-        text,
-        is_done: false,
-    })
+    match packing {
+        Ok(packed) => Ok(Said {
+            text: packed_line(alloc, packed)?,
+            reason: None,
+            is_done: true,
+        }),
+        Err(PackFault::Name) => Ok(refused(alloc, "unpackable NAME\n", odd_entry_words())?),
+        Err(PackFault::Set { fault, path }) => Ok(Said {
+            text: format!(in alloc; "unpackable {fault}\n")?,
+            reason: Some(files_reason(alloc, fault, &path)?),
+            is_done: false,
+        }),
+        Err(PackFault::Size) => Ok(refused(alloc, "unpackable SIZE\n", too_large_words())?),
+        Err(PackFault::Device(trouble)) => Err(Failed::Device(trouble)),
+        Err(PackFault::Memory) => Err(Failed::Memory),
+    }
 }
 
 /// What is said of a form that was to be unpacked; or what failed, of which standard error is told.
@@ -69,21 +109,24 @@ pub fn unpack_said(alloc: Global, unpacking: Result<Unpacked, UnpackFault>) -> R
     // What fails is the device that is told of, or memory.
     ensures failed { IfErr result (UnpackFails unpacking) }
 {
-    let text = match unpacking {
-        Ok(unpacked) => {
-            return Ok(Said {
-                text: unpacked_line(alloc, unpacked)?,
-                is_done: true,
-            });
-        }
-        Err(UnpackFault::Set(fault)) => format!(in alloc; "unreadable {fault}\n")?,
-        Err(UnpackFault::Size) => String::from_str(alloc, "unreadable SIZE\n")?,
-        Err(UnpackFault::Exists) => String::from_str(alloc, "exists\n")?,
-        Err(UnpackFault::Device(trouble)) => return Err(Failed::Device(trouble)),
-        Err(UnpackFault::Memory) => return Err(Failed::Memory),
-    };
-    Ok(Said {
-        text,
-        is_done: false,
-    })
+    match unpacking {
+        Ok(unpacked) => Ok(Said {
+            text: unpacked_line(alloc, unpacked)?,
+            reason: None,
+            is_done: true,
+        }),
+        Err(UnpackFault::Set { fault, other }) => Ok(Said {
+            text: format!(in alloc; "unreadable {fault}\n")?,
+            reason: Some(form_lines(alloc, fault, other)?),
+            is_done: false,
+        }),
+        Err(UnpackFault::Size) => Ok(refused(alloc, "unreadable SIZE\n", too_long_words())?),
+        Err(UnpackFault::Exists) => Ok(Said {
+            text: String::from_str(alloc, "exists\n")?,
+            reason: None,
+            is_done: false,
+        }),
+        Err(UnpackFault::Device(trouble)) => Err(Failed::Device(trouble)),
+        Err(UnpackFault::Memory) => Err(Failed::Memory),
+    }
 }

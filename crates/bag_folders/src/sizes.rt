@@ -1,16 +1,16 @@
 //! What the paths and sizes of files tell, before a content is read.
 
-ghost use Rattle.std.specs.Prelude.{◌≡◌, ◌<◌, ◌↔◌, IsTrue, IfOk, IfErr, map};
+ghost use Rattle.std.specs.Prelude.{◌≡◌, ◌<◌, ◌↔◌, IsTrue, IfOk, IfErr, map, option_copied};
 ghost use Rattle.std.specs.List.{position_from, sum_by};
 ghost use Rattle.bag_text.specs.BagList.{list_fault};
 ghost use Rattle.bag_text.specs.TransferForm.{IsBag};
 ghost use Rattle.bag_text.specs.TransferReading.{files_of};
-ghost use Rattle.bag_folders.specs.Packing.{AllFilesOf, HasNoForm, max_form};
+ghost use Rattle.bag_folders.specs.Packing.{AllFilesOf, HasNoForm, listed_paths, max_form, path_at_fault};
 ghost use Rattle.bag_folders.specs.Sizes.{Judged, emptied, is_too_long, with_long};
 
 use crate::form::MAX_FORM;
 use crate::listed::Listed;
-use crate::pack_fault::PackFault;
+use crate::pack_fault::{PackFault, named_fault, place_of};
 use bag_text::{BagSet, MAX_CONTENT, SetFault};
 use std::alloc::{AllocError, Global};
 
@@ -89,13 +89,23 @@ fn is_too_large(files: &[Listed]) -> bool
     false
 }
 
+/// The path of the file at fault, where the fault is one file's.
+fn path_at_fault<'a>(files: &'a [Listed], fault: SetFault) -> Option<&'a str>
+    ensures { option_copied result ≡ path_at_fault fault (listed_paths files.now) }
+{
+    let file = files.get(place_of(fault)?)?;
+    Some(file.path.as_str())
+}
+
 /// Judges the files by their paths and sizes, in this order. The form may still be too long, where the
 /// contents alone aren't.
 pub fn judge(alloc: Global, files: &[Listed]) -> Result<(), PackFault>
     ensures bag { IfOk result (λ _. AllFilesOf files.now IsBag) }
     ensures refused { IfErr result (λ fault. AllFilesOf files.now (λ list. HasNoForm list fault)) }
 {
-    judge_files(alloc, files)?;
+    if let Err(fault) = judge_files(alloc, files) {
+        return Err(named_fault(alloc, fault, path_at_fault(files, fault)));
+    }
     if is_too_large(files) {
         return Err(PackFault::Size);
     }

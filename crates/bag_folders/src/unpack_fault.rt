@@ -1,19 +1,24 @@
 //! Why a form isn't unpacked.
 
 ghost use Rattle.std.specs.Prelude.{◌≡◌};
+ghost use Rattle.fault_words.specs.OtherFiles.{hint_for};
 ghost use Rattle.bag_folders.specs.Unpacking.{unpack_fault_of, unpack_failed};
 ghost use Rattle.bag_folders.specs.declared.unpack_fault.UnpackFault.TheVariants.{Memory};
 
 use crate::failed::{Failed, Trouble};
 use bag_text::SetFault;
+use fault_words::{OtherFile, hint_for};
 use std::alloc::{AllocError, AllocFailed};
 
 /// Why a form isn't unpacked.
 #[derive(Debug, Drop, thiserror::Error)]
 pub enum UnpackFault {
-    /// The text is the form of no bag.
-    #[error("{0}")]
-    Set(SetFault),
+    /// The text is the form of no bag. It may look like another file.
+    #[error("{fault}")]
+    Set {
+        fault: SetFault,
+        other: Option<OtherFile>,
+    },
     /// The text has too many bytes.
     #[error("SIZE")]
     Size,
@@ -28,14 +33,16 @@ pub enum UnpackFault {
     Memory,
 }
 
-impl From<SetFault> for UnpackFault {
-    ghost from_gives = { λ fault unpacked. unpacked ≡ unpack_fault_of fault };
-
-    fn from(fault: SetFault) -> UnpackFault {
-        match fault {
-            SetFault::Memory => UnpackFault::Memory,
-            other => UnpackFault::Set(other),
-        }
+/// The fault of a text that is no form, and what the text looks like.
+pub fn unreadable(fault: SetFault, text: &[u8]) -> UnpackFault
+    ensures { result ≡ unpack_fault_of fault (hint_for fault text.now) }
+{
+    match fault {
+        SetFault::Memory => UnpackFault::Memory,
+        fault => UnpackFault::Set {
+            fault,
+            other: hint_for(fault, text),
+        },
     }
 }
 

@@ -19,11 +19,8 @@ use Rattle.bag_check.specs.Answers.{named_fault, NamesFirst, report_seen}
 use Rattle.bag_check.proofs.FaultLemmas.{one_first_fault}
 use Rattle.bag_check.proofs.ValidLemmas.{none_stands}
 use Rattle.bag_check.proofs.JudgeLaws.{valid_judged}
-use Rattle.commands.specs.declared.ending.Ending.{Ending}
-use Rattle.commands.specs.declared.ending.Ending.TheVariants.{Accepted, Refused}
 use Rattle.commands.specs.declared.outcome.Outcome.{Outcome}
-use Rattle.commands.specs.Printing.{Prints}
-use Rattle.commands.specs.Checking.{too_many, valid_text, invalid_text, unreadable_text, too_long_text, IsFormOf, SaysOfBag, valid, invalid, Says, too_long, unreadable, of_bag}
+use Rattle.commands.specs.Checking.{too_many, IsFormOf, SaysValid, SaysInvalid, SaysUnreadable, SaysTooLong, SaysOfBag, valid, invalid, Says, too_long, unreadable, of_bag}
 
 abbrev Answer : Type 0
 Answer = Result Outcome AllocError
@@ -31,13 +28,13 @@ Answer = Result Outcome AllocError
 -- ---- what the steps say
 
 pub says_valid : (files : List File) (report : BagReport) (r : Answer) → Valid files report.version → report_seen report ≡ report_of report.version files
-    → IfOk r (λ outcome. Prints outcome (valid_text (report_seen report)) Accepted) → IfOk r (SaysOfBag files)
+    → IfOk r (SaysValid (report_seen report)) → IfOk r (SaysOfBag files)
 says_valid files report (Err e) is counts prints = tt
 says_valid files report (Ok outcome) is counts prints =
-    valid report.version is (subst (λ (counted : Report). Prints outcome (valid_text counted) Accepted) counts prints)
+    valid report.version is (subst (λ (counted : Report). SaysValid counted outcome) counts prints)
 
 pub says_invalid : (files : List File) (fault : BagFault) (r : Answer) → (fault ≡ faults.Memory) ⊎ NamesFirst files fault
-    → (fault ≡ faults.Memory → IsErr r) → IfOk r (λ outcome. (first : Fault) → named_fault fault ≡ Some first → Prints outcome (invalid_text first) Refused)
+    → (fault ≡ faults.Memory → IsErr r) → IfOk r (λ outcome. (first : Fault) → named_fault fault ≡ Some first → SaysInvalid first outcome)
     → IfOk r (SaysOfBag files)
 says_invalid files fault (Err e) named memory prints = tt
 says_invalid files fault (Ok outcome) (inl is) memory prints = let refused = memory is in absurd cc
@@ -49,16 +46,12 @@ says_of_bag bytes files (Err e) few is form says = tt
 says_of_bag bytes files (Ok outcome) few is form says = of_bag files (record { short = few; bag = is; form = form }) says
 
 pub says_unreadable : (bytes : List ℕ) (fault : SetFault) (r : Answer) → length bytes < too_many → (fault ≢ sets.Memory → FaultIs bytes fault)
-    → (fault ≡ sets.Memory → IsErr r) → IfOk r (λ outcome. Prints outcome (unreadable_text fault) Refused) → IfOk r (Says bytes)
+    → (fault ≡ sets.Memory → IsErr r) → IfOk r (SaysUnreadable bytes fault) → IfOk r (Says bytes)
 says_unreadable bytes fault (Err e) few is memory prints = tt
 says_unreadable bytes fault (Ok outcome) few is memory prints =
     unreadable fault few (is (λ out. let refused = memory out in absurd cc)) prints
 
 -- ---- only one thing is said
-
--- one line is said, and one ending
-abbrev Goes : Answer → List ℕ → Ending → Type 0
-Goes r line end = IfOk r (λ outcome. Prints outcome line end)
 
 -- judging gives one report
 one_report : (a b : Report) (judged : Result Report Fault) → judged ≡ Ok a → judged ≡ Ok b → a ≡ b
@@ -66,17 +59,17 @@ one_report a b (Ok c) e f = let one : c ≡ a = cc in let two : c ≡ b = cc in 
 one_report a b (Err g) e f = absurd cc
 
 valid_here : (files : List File) (v : Version) (outcome : Outcome) → IsBag files → Valid files v → SaysOfBag files outcome
-    → Prints outcome (valid_text (report_of v files)) Accepted
+    → SaysValid (report_of v files) outcome
 valid_here files v outcome is ok (valid w ok_too prints) =
     let report = one_report (report_of w files) (report_of v files) (judge files) (valid_judged files is w ok_too) (valid_judged files is v ok) in
-    subst (λ (counted : Report). Prints outcome (valid_text counted) Accepted) report prints
+    subst (λ (counted : Report). SaysValid counted outcome) report prints
 valid_here files v outcome is ok (invalid fault first prints) = absurd (none_stands files is v ok fault first.0)
 
 invalid_here : (files : List File) (fault : Fault) (outcome : Outcome) → IsBag files → FirstFault files fault → SaysOfBag files outcome
-    → Prints outcome (invalid_text fault) Refused
+    → SaysInvalid fault outcome
 invalid_here files fault outcome is first (valid w ok prints) = absurd (none_stands files is w ok fault first.0)
 invalid_here files fault outcome is first (invalid other first_too prints) =
-    subst (λ (f : Fault). Prints outcome (invalid_text f) Refused) (one_first_fault files is other fault first_too first) prints
+    subst (λ (f : Fault). SaysInvalid f outcome) (one_first_fault files is other fault first_too first) prints
 
 -- bytes are the form of one bag
 one_bag : (bytes : List ℕ) (a b : List File) → IsFormOf bytes a → IsFormOf bytes b → a ≡ b
@@ -86,7 +79,7 @@ never_both : (bytes : List ℕ) (files : List File) (fault : SetFault) → IsFor
 never_both bytes files fault of is = form_has_none files fault of.bag (subst (λ (t : List ℕ). FaultIs t fault) of.form is)
 
 pub valid_is_said : (bytes : List ℕ) (r : Answer) → IfOk r (Says bytes) → (files : List File) (v : Version) → IsFormOf bytes files → Valid files v
-    → Goes r (valid_text (report_of v files)) Accepted
+    → IfOk r (SaysValid (report_of v files))
 valid_is_said bytes (Err e) says files v of ok = tt
 valid_is_said bytes (Ok outcome) (too_long long prints) files v of ok = let short = of.short in absurd (omega arith)
 valid_is_said bytes (Ok outcome) (unreadable fault few is prints) files v of ok = absurd (never_both bytes files fault of is)
@@ -94,7 +87,7 @@ valid_is_said bytes (Ok outcome) (of_bag found found_of says) files v of ok =
     valid_here files v outcome of.bag ok (subst (λ (bag : List File). SaysOfBag bag outcome) (one_bag bytes found files found_of of) says)
 
 pub invalid_is_said : (bytes : List ℕ) (r : Answer) → IfOk r (Says bytes) → (files : List File) (fault : Fault) → IsFormOf bytes files → FirstFault files fault
-    → Goes r (invalid_text fault) Refused
+    → IfOk r (SaysInvalid fault)
 invalid_is_said bytes (Err e) says files fault of first = tt
 invalid_is_said bytes (Ok outcome) (too_long long prints) files fault of first = let short = of.short in absurd (omega arith)
 invalid_is_said bytes (Ok outcome) (unreadable other few is prints) files fault of first = absurd (never_both bytes files other of is)
@@ -102,14 +95,14 @@ invalid_is_said bytes (Ok outcome) (of_bag found found_of says) files fault of f
     invalid_here files fault outcome of.bag first (subst (λ (bag : List File). SaysOfBag bag outcome) (one_bag bytes found files found_of of) says)
 
 pub unreadable_is_said : (bytes : List ℕ) (r : Answer) → IfOk r (Says bytes) → (fault : SetFault) → length bytes < too_many → FaultIs bytes fault
-    → Goes r (unreadable_text fault) Refused
+    → IfOk r (SaysUnreadable bytes fault)
 unreadable_is_said bytes (Err e) says fault few is = tt
 unreadable_is_said bytes (Ok outcome) (too_long long prints) fault few is = absurd (omega arith)
 unreadable_is_said bytes (Ok outcome) (unreadable other less is_too prints) fault few is =
-    subst (λ (f : SetFault). Prints outcome (unreadable_text f) Refused) (one_fault_stands bytes other fault is_too is) prints
+    subst (λ (f : SetFault). SaysUnreadable bytes f outcome) (one_fault_stands bytes other fault is_too is) prints
 unreadable_is_said bytes (Ok outcome) (of_bag files of says) fault few is = absurd (never_both bytes files fault of is)
 
-pub too_long_is_said : (bytes : List ℕ) (r : Answer) → IfOk r (Says bytes) → too_many ≤ length bytes → Goes r too_long_text Refused
+pub too_long_is_said : (bytes : List ℕ) (r : Answer) → IfOk r (Says bytes) → too_many ≤ length bytes → IfOk r SaysTooLong
 too_long_is_said bytes (Err e) says long = tt
 too_long_is_said bytes (Ok outcome) (too_long again prints) long = prints
 too_long_is_said bytes (Ok outcome) (unreadable fault few is prints) long = absurd (omega arith)

@@ -7,30 +7,32 @@ use Rattle.office_core.specs.declared.policy_fault.PolicyFault.TheVariants.{NotT
 use Rattle.office_core.specs.declared.rule.Decision.{Decision}
 use Rattle.office_core.specs.declared.rule.Effect.{Effect}
 use Rattle.office_core.specs.declared.rule.Effect.TheVariants.{Allow, Deny}
-use Rattle.commands.specs.Printing.{Prints}
-use Rattle.commands.specs.Explaining.{Explains, allowed, denied, by_default, refused, HasFault, SaysDecision, SaysRule, Spells, decision_on, bad_policy_text}
+use Rattle.commands.specs.Explaining.{Explains, allowed, denied, by_default, refused, HasFault, SaysBadPolicy, SaysDecision, SaysRule, Spells, decision_on, unlisted_line}
 use Rattle.commands.specs.declared.asking.Asked.{Asked}
-use Rattle.commands.specs.declared.ending.Ending.TheVariants.{Refused}
 use Rattle.commands.specs.declared.outcome.Outcome.{Outcome}
 
 abbrev Answer : Type 0
 Answer = Result Outcome AllocError
 
+-- what is said on a policy where this decides
+abbrev SaysOn : Contents → Asked → Option Decision → Outcome → Type 0
+SaysOn policy asked decision outcome = SaysDecision (unlisted_line policy asked.caller.now) decision outcome
+
 -- ---- what the steps say
 
 by_rule : (bytes : List ℕ) (asked : Asked) (outcome : Outcome) (policy : Contents) (rule : ℕ) (effect : Effect) → Spells bytes policy
-    → decision_on policy asked ≡ Some (record { rule = rule; effect = effect }) → SaysRule rule effect outcome → Explains bytes asked outcome
+    → decision_on policy asked ≡ Some (record { rule = rule; effect = effect }) → SaysRule (unlisted_line policy asked.caller.now) rule effect outcome → Explains bytes asked outcome
 by_rule bytes asked outcome policy rule Allow spells by says = allowed policy rule spells by says
 by_rule bytes asked outcome policy rule Deny spells by says = denied policy rule spells by says
 
 by_decision : (bytes : List ℕ) (asked : Asked) (outcome : Outcome) (policy : Contents) (decision : Option Decision) → Spells bytes policy
-    → decision_on policy asked ≡ decision → SaysDecision decision outcome → Explains bytes asked outcome
+    → decision_on policy asked ≡ decision → SaysOn policy asked decision outcome → Explains bytes asked outcome
 by_decision bytes asked outcome policy None spells by says = by_default policy spells by says
 by_decision bytes asked outcome policy (Some decision) spells by says = by_rule bytes asked outcome policy decision.rule decision.effect spells by says
 
 pub text_is_explained : (bytes text : List ℕ) (asked : Asked) (r : Answer) → text ≡ bytes → IsUtf8 bytes
-    → ((policy : Contents) → policy_of text ≡ Ok policy → IfOk r (SaysDecision (decision_on policy asked)))
-    → ((fault : PolicyFault) → policy_of text ≡ Err fault → IfOk r (λ outcome. Prints outcome (bad_policy_text fault) Refused))
+    → ((policy : Contents) → policy_of text ≡ Ok policy → IfOk r (SaysOn policy asked (decision_on policy asked)))
+    → ((fault : PolicyFault) → policy_of text ≡ Err fault → IfOk r (SaysBadPolicy fault))
     → IfOk r (Explains bytes asked)
 text_is_explained bytes text asked (Err e) same utf8 policies faults = tt
 text_is_explained bytes text asked (Ok outcome) same utf8 policies faults = go (policy_of text) refl
@@ -40,7 +42,16 @@ text_is_explained bytes text asked (Ok outcome) same utf8 policies faults = go (
         by_decision bytes asked outcome policy (decision_on policy asked) (record { utf8 = utf8; read = ap policy_of (sym same) ∙ is }) refl (policies policy is)
     go (Err fault) is = refused fault (inr (utf8, ap policy_of (sym same) ∙ is)) (faults fault is)
 
-pub no_text_is_explained : (bytes : List ℕ) (asked : Asked) (r : Answer) → ¬ (IsUtf8 bytes) → IfOk r (λ outcome. Prints outcome (bad_policy_text NotToml) Refused)
+-- a text spells one policy
+pub said_of_policy : (text : List ℕ) (asked : Asked) (r : Answer) (found policy : Contents) → policy_of text ≡ Ok found → IfOk r (SaysOn found asked (decision_on found asked))
+    → policy_of text ≡ Ok policy → IfOk r (SaysOn policy asked (decision_on policy asked))
+said_of_policy text asked r found policy is says read =
+    let first : Result Contents PolicyFault = Ok found in
+    let same : first ≡ Ok policy = sym is ∙ read in
+    let one : found ≡ policy = cc in
+    subst (λ (p : Contents). IfOk r (SaysOn p asked (decision_on p asked))) one says
+
+pub no_text_is_explained : (bytes : List ℕ) (asked : Asked) (r : Answer) → ¬ (IsUtf8 bytes) → IfOk r (SaysBadPolicy NotToml)
     → IfOk r (Explains bytes asked)
 no_text_is_explained bytes asked (Err e) none prints = tt
 no_text_is_explained bytes asked (Ok outcome) none prints = refused NotToml (inl (none, refl)) prints
@@ -64,12 +75,12 @@ same_fault bytes a b (inr (utf8, is)) (inl (none, is_too)) = absurd (none utf8)
 same_fault bytes a b (inr (utf8, is)) (inr (utf8_too, is_too)) = let read : Result Contents PolicyFault = Err a in let same : read ≡ Err b = sym is ∙ is_too in cc
 
 decision_here : (bytes : List ℕ) (asked : Asked) (outcome : Outcome) (policy found : Contents) (decision : Option Decision) → Spells bytes found → Spells bytes policy
-    → decision_on found asked ≡ decision → SaysDecision decision outcome → SaysDecision (decision_on policy asked) outcome
+    → decision_on found asked ≡ decision → SaysOn found asked decision outcome → SaysOn policy asked (decision_on policy asked) outcome
 decision_here bytes asked outcome policy found decision of of_too by says =
-    let here : decision ≡ decision_on policy asked = sym by ∙ ap (λ (p : Contents). decision_on p asked) (same_policy bytes found policy of of_too) in
-    subst (λ (d : Option Decision). SaysDecision d outcome) here says
+    let here : SaysOn found asked (decision_on found asked) outcome = subst (λ (d : Option Decision). SaysOn found asked d outcome) (sym by) says in
+    subst (λ (p : Contents). SaysOn p asked (decision_on p asked) outcome) (same_policy bytes found policy of of_too) here
 
-says_decision : (bytes : List ℕ) (asked : Asked) (outcome : Outcome) (policy : Contents) → Spells bytes policy → Explains bytes asked outcome → SaysDecision (decision_on policy asked) outcome
+says_decision : (bytes : List ℕ) (asked : Asked) (outcome : Outcome) (policy : Contents) → Spells bytes policy → Explains bytes asked outcome → SaysOn policy asked (decision_on policy asked) outcome
 says_decision bytes asked outcome policy of (allowed found rule found_of by prints) =
     decision_here bytes asked outcome policy found (Some (record { rule = rule; effect = Allow })) found_of of by prints
 says_decision bytes asked outcome policy of (denied found rule found_of by prints) =
@@ -79,20 +90,20 @@ says_decision bytes asked outcome policy of (refused fault has prints) = absurd 
 
 -- the decision on the policy of the file is what is said
 pub decision_is_said : (bytes : List ℕ) (asked : Asked) (r : Answer) → IfOk r (Explains bytes asked) → (policy : Contents) (decision : Option Decision) → Spells bytes policy
-    → decision_on policy asked ≡ decision → IfOk r (SaysDecision decision)
+    → decision_on policy asked ≡ decision → IfOk r (SaysOn policy asked decision)
 decision_is_said bytes asked (Err e) explains policy decision of is = tt
 decision_is_said bytes asked (Ok outcome) explains policy decision of is =
-    subst (λ (d : Option Decision). SaysDecision d outcome) is (says_decision bytes asked outcome policy of explains)
+    subst (λ (d : Option Decision). SaysOn policy asked d outcome) is (says_decision bytes asked outcome policy of explains)
 
-says_fault : (bytes : List ℕ) (asked : Asked) (outcome : Outcome) (fault : PolicyFault) → HasFault bytes fault → Explains bytes asked outcome → Prints outcome (bad_policy_text fault) Refused
+says_fault : (bytes : List ℕ) (asked : Asked) (outcome : Outcome) (fault : PolicyFault) → HasFault bytes fault → Explains bytes asked outcome → SaysBadPolicy fault outcome
 says_fault bytes asked outcome fault has (allowed found rule found_of by prints) = absurd (never_both bytes found fault found_of has)
 says_fault bytes asked outcome fault has (denied found rule found_of by prints) = absurd (never_both bytes found fault found_of has)
 says_fault bytes asked outcome fault has (by_default found found_of by prints) = absurd (never_both bytes found fault found_of has)
 says_fault bytes asked outcome fault has (refused other has_too prints) =
-    subst (λ (f : PolicyFault). Prints outcome (bad_policy_text f) Refused) (same_fault bytes other fault has_too has) prints
+    subst (λ (f : PolicyFault). SaysBadPolicy f outcome) (same_fault bytes other fault has_too has) prints
 
 -- and so is the file's fault
 pub fault_is_said : (bytes : List ℕ) (asked : Asked) (r : Answer) → IfOk r (Explains bytes asked) → (fault : PolicyFault) → HasFault bytes fault
-    → IfOk r (λ outcome. Prints outcome (bad_policy_text fault) Refused)
+    → IfOk r (SaysBadPolicy fault)
 fault_is_said bytes asked (Err e) explains fault has = tt
 fault_is_said bytes asked (Ok outcome) explains fault has = says_fault bytes asked outcome fault has explains

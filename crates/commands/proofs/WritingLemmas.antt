@@ -1,8 +1,9 @@
 -- What a writer has taken of a text.
-use Rattle.std.proofs.Common.{◌≡◌, ◌∙◌, ◌++◌, ◌+◌, ℕ, List, Option, Some, None, length, sym, ap, ap₂, subst, take, drop, ◌-◌, arith, length-drop, append_assoc}
-use Rattle.std.proofs.lemmas.List.{drop-drop, drop-take, take-append-drop, take-take}
+use Rattle.std.proofs.Common.{◌≡◌, ◌∙◌, ◌++◌, ◌+◌, [], ℕ, List, Option, Some, None, length, sym, ap, ap₂, subst, take, drop, ◌-◌, arith, length-drop, append_assoc}
+use Rattle.std.proofs.lemmas.List.{append-nil, drop-drop, drop-take, take-append-drop, take-take}
 use Rattle.std.proofs.Math.Seq.{take-length}
 use Rattle.std.specs.Io.KnownBytes.{Appends, Keeps}
+use Rattle.commands.specs.Failing.{BeginsWith}
 
 -- a beginning of the text is taken, and the rest is left
 pub record HasTaken (text rest : List ℕ) (old new : Option (List ℕ)) : Type 0 where
@@ -42,3 +43,7 @@ slice_from k xs = ap (λ (n : ℕ). take n (drop k xs)) (sym (length-drop k xs))
 pub no_more_taken : (text rest : List ℕ) (old mid new : Option (List ℕ)) → HasTaken text rest old mid → Keeps mid new → HasTaken text rest old new
 no_more_taken text rest old mid new is kept =
     record { count = is.count; left = is.left; front = appends_kept old mid new (take is.count text) is.front kept }
+
+-- a text that was taken whole, with nothing behind it
+pub begins_with : (text : List ℕ) (old new : Option (List ℕ)) → Appends old new text → BeginsWith text old new
+begins_with text old new taken = ([], subst (Appends old new) (sym (append-nil text)) taken)

@@ -1,5 +1,5 @@
--- What `check` prints of the bytes that it read, and how it ends.
-use Rattle.std.specs.Prelude.{◌≡◌, ℕ, ◌<◌, ◌≤◌, List, [], ◌∷◌, ◌++◌, length, codes, decimal}
+-- What `check` prints of the bytes that it read, what it tells standard error, and how it ends.
+use Rattle.std.specs.Prelude.{◌≡◌, ℕ, ◌<◌, ◌≤◌, List, [], ◌∷◌, ◌++◌, Some, None, length, codes, decimal}
 use Rattle.bag_text.specs.TransferForm.{File, IsBag, set_text}
 use Rattle.bag_text.specs.TransferFaults.{FaultIs}
 use Rattle.bag_text.specs.Declaration.{version_text}
@@ -9,6 +9,8 @@ use Rattle.bag_text.specs.declared.set_fault.SetFault.{SetFault}
 use Rattle.bag_check.specs.Validity.{Report, Valid, report_of}
 use Rattle.bag_check.specs.Faults.{Fault, FirstFault}
 use Rattle.bag_check.specs.FaultTexts.{fault_text}
+use Rattle.fault_words.specs.FaultWords.{bag_words, too_long_words}
+use Rattle.fault_words.specs.OtherFiles.{form_lines, hint_for}
 use Rattle.commands.specs.declared.ending.Ending.TheVariants.{Accepted, Refused}
 use Rattle.commands.specs.declared.outcome.Outcome.{Outcome}
 use Rattle.commands.specs.Printing.{Prints}
@@ -33,7 +35,36 @@ unreadable_text fault = codes "unreadable " ++ set_fault_text fault ++ 10 ∷ []
 abbrev pub too_long_text : List ℕ
 too_long_text = codes "unreadable SIZE" ++ 10 ∷ []
 
--- ---- which is printed
+-- ---- the reasons that standard error is told: the fault in words, each a line with its end
+
+abbrev pub invalid_reason : Fault → List ℕ
+invalid_reason fault = bag_words fault ++ 10 ∷ []
+
+abbrev pub unreadable_reason : List ℕ → SetFault → List ℕ
+unreadable_reason bytes fault = form_lines fault (hint_for fault bytes)
+
+abbrev pub too_long_reason : List ℕ
+too_long_reason = too_long_words ++ 10 ∷ []
+
+-- ---- what is said
+
+-- of a valid bag, and nothing on standard error
+abbrev pub SaysValid : Report → Outcome → Type 0
+SaysValid report outcome = Prints outcome (valid_text report) None Accepted
+
+-- of a bag with this fault
+abbrev pub SaysInvalid : Fault → Outcome → Type 0
+SaysInvalid fault outcome = Prints outcome (invalid_text fault) (Some (invalid_reason fault)) Refused
+
+-- of bytes that are no form, and have this fault
+abbrev pub SaysUnreadable : List ℕ → SetFault → Outcome → Type 0
+SaysUnreadable bytes fault outcome = Prints outcome (unreadable_text fault) (Some (unreadable_reason bytes fault)) Refused
+
+-- of too many bytes
+abbrev pub SaysTooLong : Outcome → Type 0
+SaysTooLong outcome = Prints outcome too_long_text (Some too_long_reason) Refused
+
+-- ---- of which bytes
 
 -- the bytes are the one form of this bag
 pub record IsFormOf (bytes : List ℕ) (files : List File) : Type 0 where
@@ -43,11 +74,11 @@ pub record IsFormOf (bytes : List ℕ) (files : List File) : Type 0 where
 
 -- What is said of a bag: that it is valid, or its first fault.
 pub data SaysOfBag (files : List File) (outcome : Outcome) : Type 0 where
-  valid : (v : Version) → Valid files v → Prints outcome (valid_text (report_of v files)) Accepted → SaysOfBag files outcome
-  invalid : (fault : Fault) → FirstFault files fault → Prints outcome (invalid_text fault) Refused → SaysOfBag files outcome
+  valid : (v : Version) → Valid files v → SaysValid (report_of v files) outcome → SaysOfBag files outcome
+  invalid : (fault : Fault) → FirstFault files fault → SaysInvalid fault outcome → SaysOfBag files outcome
 
 -- What is said of bytes: that they are too many, that they are no form and why, or what is said of the bag.
 pub data Says (bytes : List ℕ) (outcome : Outcome) : Type 0 where
-  too_long : too_many ≤ length bytes → Prints outcome too_long_text Refused → Says bytes outcome
-  unreadable : (fault : SetFault) → length bytes < too_many → FaultIs bytes fault → Prints outcome (unreadable_text fault) Refused → Says bytes outcome
+  too_long : too_many ≤ length bytes → SaysTooLong outcome → Says bytes outcome
+  unreadable : (fault : SetFault) → length bytes < too_many → FaultIs bytes fault → SaysUnreadable bytes fault outcome → Says bytes outcome
   of_bag : (files : List File) → IsFormOf bytes files → SaysOfBag files outcome → Says bytes outcome

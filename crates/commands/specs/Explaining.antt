@@ -1,5 +1,7 @@
--- What `explain` prints of a policy file, and how it ends.
-use Rattle.std.specs.Prelude.{◌≡◌, ◌⊎◌, ℕ, List, [], ◌∷◌, ◌++◌, Option, Some, None, Ok, Err, IsUtf8, codes, decimal}
+-- What `explain` prints of a policy file, what it tells standard error, and how it ends.
+use Rattle.std.specs.Prelude.{◌≡◌, ◌⊎◌, ℕ, Bool, List, [], ◌∷◌, ◌++◌, Option, Some, None, Ok, Err, IsUtf8, bytes_eq, codes, decimal, if◌then◌else◌}
+use Rattle.std.specs.List.{list_any}
+use Rattle.fault_words.specs.FaultWords.{policy_words, unlisted_words}
 use Rattle.office_core.specs.FaultTexts.{policy_fault_text}
 use Rattle.office_core.specs.Policies.{Contents, policy_of, role_of}
 use Rattle.office_core.specs.Rules.{Question, decision_of}
@@ -26,6 +28,20 @@ default_text = codes "deny default" ++ 10 ∷ []
 
 abbrev pub bad_policy_text : PolicyFault → List ℕ
 bad_policy_text fault = codes "policy " ++ policy_fault_text fault ++ 10 ∷ []
+
+-- ---- what standard error is told, a line with its end
+
+-- the policy lists a caller of this name
+abbrev pub is_listed : Contents → List ℕ → Bool
+is_listed policy name = list_any (λ caller. bytes_eq caller.name name) policy.callers
+
+-- that the policy doesn't list the caller, where that is so
+abbrev pub unlisted_line : Contents → List ℕ → Option (List ℕ)
+unlisted_line policy name = if is_listed policy name then None else Some (unlisted_words name ++ 10 ∷ [])
+
+-- the file's fault in words
+abbrev pub bad_policy_reason : PolicyFault → List ℕ
+bad_policy_reason fault = policy_words fault ++ 10 ∷ []
 
 -- ---- the file
 
@@ -62,19 +78,23 @@ IsUndecided policy asked = decision_on policy asked ≡ None
 
 -- ---- what is said
 
--- what is said where a rule with this number decides by this effect
-abbrev pub SaysRule : ℕ → Effect → Outcome → Type 0
-SaysRule rule Allow outcome = Prints outcome (allow_text rule) Accepted
-SaysRule rule Deny outcome = Prints outcome (deny_text rule) Refused
+-- what is said where a rule with this number decides by this effect, with what standard error is told
+abbrev pub SaysRule : Option (List ℕ) → ℕ → Effect → Outcome → Type 0
+SaysRule told rule Allow outcome = Prints outcome (allow_text rule) told Accepted
+SaysRule told rule Deny outcome = Prints outcome (deny_text rule) told Refused
 
 -- what is said where this rule decides, or none
-abbrev pub SaysDecision : Option Decision → Outcome → Type 0
-SaysDecision None outcome = Prints outcome default_text Refused
-SaysDecision (Some decision) outcome = SaysRule decision.rule decision.effect outcome
+abbrev pub SaysDecision : Option (List ℕ) → Option Decision → Outcome → Type 0
+SaysDecision told None outcome = Prints outcome default_text told Refused
+SaysDecision told (Some decision) outcome = SaysRule told decision.rule decision.effect outcome
+
+-- what is said of a file that is none
+abbrev pub SaysBadPolicy : PolicyFault → Outcome → Type 0
+SaysBadPolicy fault outcome = Prints outcome (bad_policy_text fault) (Some (bad_policy_reason fault)) Refused
 
 -- What is said of a file: the rule that decides, that none does, or the file's fault.
 pub data Explains (bytes : List ℕ) (asked : Asked) (outcome : Outcome) : Type 0 where
-  allowed : (policy : Contents) (rule : ℕ) → Spells bytes policy → IsAllowedBy policy asked rule → Prints outcome (allow_text rule) Accepted → Explains bytes asked outcome
-  denied : (policy : Contents) (rule : ℕ) → Spells bytes policy → IsDeniedBy policy asked rule → Prints outcome (deny_text rule) Refused → Explains bytes asked outcome
-  by_default : (policy : Contents) → Spells bytes policy → IsUndecided policy asked → Prints outcome default_text Refused → Explains bytes asked outcome
-  refused : (fault : PolicyFault) → HasFault bytes fault → Prints outcome (bad_policy_text fault) Refused → Explains bytes asked outcome
+  allowed : (policy : Contents) (rule : ℕ) → Spells bytes policy → IsAllowedBy policy asked rule → Prints outcome (allow_text rule) (unlisted_line policy asked.caller.now) Accepted → Explains bytes asked outcome
+  denied : (policy : Contents) (rule : ℕ) → Spells bytes policy → IsDeniedBy policy asked rule → Prints outcome (deny_text rule) (unlisted_line policy asked.caller.now) Refused → Explains bytes asked outcome
+  by_default : (policy : Contents) → Spells bytes policy → IsUndecided policy asked → Prints outcome default_text (unlisted_line policy asked.caller.now) Refused → Explains bytes asked outcome
+  refused : (fault : PolicyFault) → HasFault bytes fault → SaysBadPolicy fault outcome → Explains bytes asked outcome

@@ -1,8 +1,10 @@
--- How a failure and a fault of use are printed, and what a device's error comes to.
-use Rattle.std.specs.Prelude.{◌≡◌, ◌++◌, ◌∷◌, [], ℕ, List, Option, codes, string_bytes, take}
+-- How a failure and a fault of use are printed, what a device's error comes to, and what standard error is told.
+use Rattle.std.specs.Prelude.{◌≡◌, ◌⊎◌, ◌++◌, ◌∷◌, [], ℕ, List, Option, Some, None, codes, string_bytes, take}
 use Rattle.std.specs.Io.KnownBytes.{Appends}
 use Rattle.std.specs.declared.io.ErrorKind.{ErrorKind}
 use Rattle.std.specs.declared.io.ErrorKind.TheVariants.{InvalidData, OutOfMemory}
+use Rattle.commands.specs.declared.ending.Ending.{Ending}
+use Rattle.commands.specs.declared.ending.Ending.TheVariants.{Unsaid}
 use Rattle.commands.specs.declared.program.Failure.{Failure}
 use Rattle.commands.specs.declared.program.Failure.TheVariants as failures
 use Rattle.commands.specs.declared.use_fault.UseFault.{UseFault}
@@ -41,3 +43,11 @@ BeginsWith text old new = (more : List ℕ) × Appends old new (text ++ more)
 -- a beginning of the text comes: nothing, a part or all of it
 abbrev pub IsCutShort : List ℕ → Option (List ℕ) → Option (List ℕ) → Type 0
 IsCutShort text old new = (count : ℕ) × Appends old new (take count text)
+
+-- ---- why an answer is what it is
+
+-- Where there is no reason, standard error is left alone, and the program ends in this way. Else the reason comes behind what standard error held,
+-- where that is known, and nothing else; or standard error fails, and has a beginning of it.
+abbrev pub IsToldWhy : Option (List ℕ) → Ending → Option (List ℕ) → Option (List ℕ) → Type 0 → Ending → Type 0
+IsToldWhy None end told tells alone ending = (ending ≡ end) × alone
+IsToldWhy (Some reason) end told tells alone ending = ((ending ≡ end) × Appends told tells reason) ⊎ ((ending ≡ Unsaid) × IsCutShort reason told tells)

@@ -1,8 +1,17 @@
 -- What the program prints.
-use Rattle.std.specs.Prelude.{◌≡◌, ℕ, List, string_bytes}
+use Rattle.std.specs.Prelude.{◌≡◌, ◌⊎◌, ℕ, List, Option, option_map, string_bytes}
 use Rattle.commands.specs.declared.ending.Ending.{Ending}
+use Rattle.commands.specs.declared.ending.Ending.TheVariants.{Accepted, Refused}
 use Rattle.commands.specs.declared.outcome.Outcome.{Outcome}
 
--- it prints this text, and ends in this way
-abbrev pub Prints : Outcome → List ℕ → Ending → Type 0
-Prints outcome text end = (string_bytes outcome.text ≡ text) × (outcome.ending ≡ end)
+-- what standard error is to be told, where there is something
+abbrev pub reason_of : Outcome → Option (List ℕ)
+reason_of outcome = option_map string_bytes outcome.reason
+
+-- it prints this text, tells standard error this reason, and ends in this way
+abbrev pub Prints : Outcome → List ℕ → Option (List ℕ) → Ending → Type 0
+Prints outcome text reason end = (string_bytes outcome.text ≡ text) × (reason_of outcome ≡ reason) × (outcome.ending ≡ end)
+
+-- the ending of an answer: yes or no
+abbrev pub IsAnswer : Ending → Type 0
+IsAnswer ending = (ending ≡ Accepted) ⊎ (ending ≡ Refused)

@@ -14,7 +14,7 @@ use std::alloc::Global;
 
 /// What `explain` is asked: may that caller do that, in that collection and class, where there are
 /// such?
-#[derive(Debug, Drop)]
+#[derive(Drop)]
 pub struct Asked<'a> {
     /// The file of the policy.
     pub policy: &'a str,
@@ -26,7 +26,7 @@ pub struct Asked<'a> {
 }
 
 /// The words of `explain`.
-#[derive(Clone, Copy, Debug)]
+#[derive(Clone, Copy)]
 pub struct Given<'a> {
     pub policy: &'a str,
     pub caller: &'a str,

@@ -1,6 +1,6 @@
 //! What is said of the bytes of a transfer form.
 
-ghost use Rattle.std.specs.Prelude.{◌≡◌, ◌<◌, ◌≤◌, IfOk, IsErr, List, length, Some};
+ghost use Rattle.std.specs.Prelude.{◌≡◌, ◌<◌, ◌≤◌, IfOk, IsErr, List, length, Some, string_bytes};
 ghost use Rattle.bag_text.specs.TransferForm.{File, IsBag, set_text};
 ghost use Rattle.bag_text.specs.TransferFaults.{FaultIs};
 ghost use Rattle.bag_text.specs.declared.declaration.Version.{Version};
@@ -8,16 +8,15 @@ ghost use Rattle.bag_text.specs.declared.set_fault.SetFault.{SetFault};
 ghost use Rattle.bag_check.specs.Validity.{Valid, report_of};
 ghost use Rattle.bag_check.specs.Faults.{Fault, FirstFault};
 ghost use Rattle.bag_check.specs.Answers.{report_seen, named_fault};
-ghost use Rattle.commands.specs.Printing.{Prints};
-ghost use Rattle.commands.specs.Checking.{too_many, valid_text, invalid_text, unreadable_text, too_long_text, IsFormOf, SaysOfBag, Says};
+ghost use Rattle.commands.specs.Checking.{too_many, IsFormOf, Says, SaysInvalid, SaysOfBag, SaysTooLong, SaysUnreadable, SaysValid};
 ghost use Rattle.bag_check.specs.declared.fault.BagFault.TheVariants.{Memory};
 ghost use Rattle.bag_text.specs.declared.set_fault.SetFault.TheVariants as sets;
-ghost use Rattle.commands.specs.declared.ending.Ending.TheVariants.{Accepted, Refused};
 
 use crate::ending::Ending;
 use crate::outcome::Outcome;
 use bag_check::{BagFault, BagReport, check_bag};
 use bag_text::{BagSet, SetFault, read_bagset};
+use fault_words::{InWords, form_lines, hint_for, too_long_words};
 use std::alloc::{AllocError, Global};
 use std::fmt::Write;
 
@@ -26,7 +25,7 @@ pub const MAX_BYTES: u64 = 16_777_216;
 
 /// The line of a valid bag.
 fn valid_outcome(alloc: Global, report: BagReport) -> Result<Outcome, AllocError>
-    ensures { IfOk result (λ outcome. Prints outcome (valid_text (report_seen report)) Accepted) }
+    ensures { IfOk result (SaysValid (report_seen report)) }
 {
     let BagReport {
         version,
@@ -40,6 +39,7 @@ fn valid_outcome(alloc: Global, report: BagReport) -> Result<Outcome, AllocError
     write!(text, " manifests {manifests}\n")?;
     Ok(Outcome {
         text,
+        reason: None,
         ending: Ending::Accepted,
     })
 }
@@ -47,23 +47,25 @@ fn valid_outcome(alloc: Global, report: BagReport) -> Result<Outcome, AllocError
 /// The line of a bag that isn't valid.
 fn invalid_outcome(alloc: Global, fault: &BagFault<'_>) -> Result<Outcome, AllocError>
     ensures memory { fault.now ≡ Memory → IsErr result }
-    ensures text { IfOk result (λ outcome. (first : Fault) → named_fault fault.now ≡ Some first
-        → Prints outcome (invalid_text first) Refused) }
+    ensures says { IfOk result (λ outcome. (first : Fault) → named_fault fault.now ≡ Some first
+        → SaysInvalid first outcome) }
 {
     if matches!(fault, BagFault::Memory) {
         return Err(AllocError);
     }
     let text = format!(in alloc; "invalid {fault}\n")?;
+    let words = InWords(fault);
     Ok(Outcome {
         text,
+        reason: Some(format!(in alloc; "{words}\n")?),
         ending: Ending::Refused,
     })
 }
 
 /// The line of bytes that are no form.
-fn unreadable_outcome(alloc: Global, fault: SetFault) -> Result<Outcome, AllocError>
+fn unreadable_outcome(alloc: Global, fault: SetFault, bytes: &[u8]) -> Result<Outcome, AllocError>
     ensures memory { fault ≡ sets.Memory → IsErr result }
-    ensures text { IfOk result (λ outcome. Prints outcome (unreadable_text fault) Refused) }
+    ensures says { IfOk result (SaysUnreadable bytes.now fault) }
 {
     if fault == SetFault::Memory {
         return Err(AllocError);
@@ -71,17 +73,20 @@ fn unreadable_outcome(alloc: Global, fault: SetFault) -> Result<Outcome, AllocEr
     let text = format!(in alloc; "unreadable {fault}\n")?;
     Ok(Outcome {
         text,
+        reason: Some(form_lines(alloc, fault, hint_for(fault, bytes))?),
         ending: Ending::Refused,
     })
 }
 
 /// The line of too many bytes.
 fn too_long_outcome(alloc: Global) -> Result<Outcome, AllocError>
-    ensures { IfOk result (λ outcome. Prints outcome too_long_text Refused) }
+    ensures { IfOk result SaysTooLong }
 {
     let text = String::from_str(alloc, "unreadable SIZE\n")?;
+    let words = too_long_words();
     Ok(Outcome {
         text,
+        reason: Some(format!(in alloc; "{words}\n")?),
         ending: Ending::Refused,
     })
 }
@@ -105,30 +110,29 @@ fn bytes_outcome(alloc: Global, bytes: &[u8]) -> Result<Outcome, AllocError>
     }
     match read_bagset(alloc, bytes) {
         Ok(bag) => bag_outcome(alloc, &bag),
-        Err(fault) => unreadable_outcome(alloc, fault),
+        Err(fault) => unreadable_outcome(alloc, fault, bytes),
     }
 }
 
-/// Judges the bytes that were read: the line that `check` prints, and how it ends.
+/// Judges the bytes that were read: the line that `check` prints, what standard error is told, and how
+/// it ends.
 pub fn check_outcome(alloc: Global, bytes: &[u8]) -> Result<Outcome, AllocError>
     // What is said is so.
     ensures says { IfOk result (Says bytes.now) }
 
     // Too many bytes are refused as such.
-    ensures too_long { too_many ≤ length bytes.now
-        → IfOk result (λ outcome. Prints outcome too_long_text Refused) }
+    ensures too_long { too_many ≤ length bytes.now → IfOk result SaysTooLong }
 
     // The form of a valid bag is accepted, unless memory runs out; that nothing else is follows from
     // what is said.
     ensures valid { (files : List File) (v : Version) → IsFormOf bytes.now files → Valid files v
-        → IfOk result (λ outcome. Prints outcome (valid_text (report_of v files)) Accepted) }
-    // A bag that isn't valid is refused with its first fault.
+        → IfOk result (SaysValid (report_of v files)) }
+    // A bag that isn't valid is refused with its first fault, and standard error is told it in words.
     ensures invalid { (files : List File) (fault : Fault)
-        → IsFormOf bytes.now files → FirstFault files fault
-        → IfOk result (λ outcome. Prints outcome (invalid_text fault) Refused) }
-    // Bytes that are no form are refused with their fault.
+        → IsFormOf bytes.now files → FirstFault files fault → IfOk result (SaysInvalid fault) }
+    // Bytes that are no form are refused with their fault, likewise.
     ensures unreadable { (fault : SetFault) → length bytes.now < too_many → FaultIs bytes.now fault
-        → IfOk result (λ outcome. Prints outcome (unreadable_text fault) Refused) }
+        → IfOk result (SaysUnreadable bytes.now fault) }
 {
     bytes_outcome(alloc, bytes)
 }

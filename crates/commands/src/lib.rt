@@ -17,6 +17,6 @@ pub use ending::Ending;
 pub use explain::explain_outcome;
 pub use line::{Line, read_line};
 pub use outcome::Outcome;
-pub use program::{Failure, fail, refuse, refuse_words, run, tell, write_text};
+pub use program::{Failure, fail, refuse, refuse_words, run, tell, tell_why, write_text};
 pub use use_fault::{UseFault, clap_fault, fault_of_use};
 pub use words::{Argument, Usage, matches_of, word_at};

@@ -14,7 +14,7 @@ use clap::Error;
 use std::alloc::Global;
 
 /// What a command line asks for.
-#[derive(Debug, Drop)]
+#[derive(Drop)]
 pub enum Line<'a> {
     /// Judge the bag in this file; `-` is standard input.
     Check { file: &'a str },

@@ -1,13 +1,16 @@
 //! The program's whole work, over words, a reader and two writers.
 
 ghost use Rattle.std.specs.Io.KnownBytes.{Appends};
-ghost use Rattle.std.specs.Prelude.{◌≡◌, ◌≢◌, ◌⊎◌, ℕ, List, None, OnOk, true, false, IfOk, IfSome, codes, take};
+ghost use Rattle.std.specs.Prelude.{◌≡◌, ◌≢◌, ◌⊎◌, ℕ, List, None, OnOk, true, false, IfOk, IfSome, codes, option_map, string_bytes, take};
 ghost use Rattle.std.specs.IoError.{error_kind};
 ghost use Rattle.std.specs.declared.io.ErrorKind.TheVariants.{InvalidData};
 ghost use Rattle.commands.specs.CommandLine.{AsksToCheck, IsCheckOf, command_in, is_taken, texts, uses_text};
-ghost use Rattle.commands.specs.Failing.{BeginsWith, IsCutShort, failure_of, message_of, refusal_text};
-ghost use Rattle.commands.specs.Running.{Answers, CanFail, Does, DoesWords, Ends, HasFailed, IsToBeSaid, Judges, UnlessFailed};
-ghost use Rattle.commands.specs.Checking.{too_many};
+ghost use Rattle.commands.specs.Failing.{BeginsWith, IsCutShort, IsToldWhy, failure_of, message_of, refusal_text};
+ghost use Rattle.commands.specs.Printing.{IsAnswer};
+ghost use Rattle.commands.specs.Running.{CanFail, DoesWords, Ends, HasFailed, IsToBeSaid, IsToBeTold, Judges, SaysOf, UnlessFailed};
+ghost use Rattle.commands.specs.Checking.{Says, too_many};
+ghost use Rattle.commands.specs.Explaining.{Explains};
+ghost use Rattle.commands.specs.declared.program.Failure.{Failure};
 ghost use Rattle.commands.specs.declared.ending.Ending.TheVariants.{Failed, Misused, Unsaid};
 ghost use Rattle.commands.specs.declared.program.Failure.TheVariants.{Memory};
 
@@ -106,89 +109,70 @@ pub fn write_text<W: Write>(text: &str, out: &mut W) -> io::Result<()>
     Err(Error::from(ErrorKind::WriteZero))
 }
 
-/// Prints what is said.
-fn say<W: Write>(outcome: Outcome, out: &mut W) -> Result<Ending, Failure>
-    ensures { IfOk result (Ends outcome (W.contents out.old) (W.contents out.new)) }
-{
-    write_text(outcome.text.as_str(), out)?;
-    Ok(outcome.ending)
-}
-
-/// Judges the bag whose form the reader gives, and prints the line.
-fn judge<R: Read, O: Write>(alloc: Global, form: &mut R, out: &mut O) -> Result<Ending, Failure>
-    ensures says { IfOk result (λ ending. (bytes : List ℕ)
-        × Judges bytes (O.contents out.old) (O.contents out.new) ending) }
-    ensures form { IfSome (R.remaining form.old) (λ given. IfOk result
-        (Judges (take too_many given) (O.contents out.old) (O.contents out.new))) }
+/// Judges the bag whose form the reader gives.
+fn judge<R: Read>(alloc: Global, form: &mut R) -> Result<Outcome, Failure>
+    ensures says { IfOk result (λ outcome. (bytes : List ℕ) × Says bytes outcome) }
+    ensures form { IfSome (R.remaining form.old) (λ given.
+        IfOk result (Says (take too_many given))) }
 {
     let bytes = read_bytes(alloc, form)?;
-    say(check_outcome(alloc, bytes.as_slice())?, out)
+    Ok(check_outcome(alloc, bytes.as_slice())?)
 }
 
 /// `check`: judges the bag in the file, or in the input where the file is `-`.
-fn check<F: Files + AllocGlobal, R: Read, O: Write>(
+fn check<F: Files + AllocGlobal, R: Read>(
     rt: &F,
     file: &str,
     input: &mut R,
-    out: &mut O,
-) -> Result<Ending, Failure>
-    ensures says { IfOk result (λ ending. (bytes : List ℕ)
-        × Judges bytes (O.contents out.old) (O.contents out.new) ending) }
+) -> Result<Outcome, Failure>
+    ensures says { IfOk result (λ outcome. (bytes : List ℕ) × Says bytes outcome) }
     ensures input { file.now ≡ codes "-" → IfSome (R.remaining input.old) (λ given.
-        IfOk result (Judges (take too_many given) (O.contents out.old) (O.contents out.new))) }
+        IfOk result (Says (take too_many given))) }
     ensures untouched { (file.now ≡ codes "-" → ⊥) → input.new ≡ input.old }
 {
     if file == "-" {
-        return judge(rt.alloc(), input, out);
+        return judge(rt.alloc(), input);
     }
     let mut form = fs::open(rt, file)?;
-    judge(rt.alloc(), &mut form, out)
+    judge(rt.alloc(), &mut form)
 }
 
 /// Says which rule of the policy that the reader gives decides.
-fn explain_policy<R: Read, O: Write>(
+fn explain_policy<R: Read>(
     alloc: Global,
     asked: &Asked<'_>,
     policy: &mut R,
-    out: &mut O,
-) -> Result<Ending, Failure>
-    ensures says { IfOk result (λ ending. (bytes : List ℕ)
-        × Answers asked.now bytes (O.contents out.old) (O.contents out.new) ending) }
+) -> Result<Outcome, Failure>
+    ensures says { IfOk result (λ outcome. (bytes : List ℕ) × Explains bytes asked.now outcome) }
     ensures policy { IfSome (R.remaining policy.old) (λ given.
-        IfOk result (Answers asked.now given (O.contents out.old) (O.contents out.new))) }
+        IfOk result (Explains given asked.now)) }
 {
     let bytes = read_all(alloc, policy)?;
-    say(explain_outcome(alloc, bytes.as_slice(), asked)?, out)
+    Ok(explain_outcome(alloc, bytes.as_slice(), asked)?)
 }
 
 /// `explain`: says which rule of the policy in the file decides.
-fn explain<F: Files + AllocGlobal, O: Write>(
-    rt: &F,
-    asked: &Asked<'_>,
-    out: &mut O,
-) -> Result<Ending, Failure>
-    ensures { IfOk result (λ ending. (bytes : List ℕ)
-        × Answers asked.now bytes (O.contents out.old) (O.contents out.new) ending) }
+fn explain<F: Files + AllocGlobal>(rt: &F, asked: &Asked<'_>) -> Result<Outcome, Failure>
+    ensures { IfOk result (λ outcome. (bytes : List ℕ) × Explains bytes asked.now outcome) }
 {
     let mut policy = fs::open(rt, asked.policy)?;
-    explain_policy(rt.alloc(), asked, &mut policy, out)
+    explain_policy(rt.alloc(), asked, &mut policy)
 }
 
-/// Does what the line asks for.
-fn perform<F: Files + AllocGlobal, R: Read, O: Write>(
+/// What is said of what the line asks about.
+fn answer<F: Files + AllocGlobal, R: Read>(
     rt: &F,
     line: Line<'_>,
     input: &mut R,
-    out: &mut O,
-) -> Result<Ending, Failure>
-    ensures does { IfOk result (Does line.entry (O.contents out.old) (O.contents out.new)) }
+) -> Result<Outcome, Failure>
+    ensures says { IfOk result (SaysOf line.entry) }
     ensures judged { IsCheckOf (codes "-") line.entry → IfSome (R.remaining input.old) (λ given.
-        IfOk result (Judges (take too_many given) (O.contents out.old) (O.contents out.new))) }
+        IfOk result (Says (take too_many given))) }
     ensures untouched { (IsCheckOf (codes "-") line.entry → ⊥) → input.new ≡ input.old }
 {
     match line {
-        Line::Check { file } => check(rt, file, input, out),
-        Line::Explain(asked) => explain(rt, &asked, out),
+        Line::Check { file } => check(rt, file, input),
+        Line::Explain(asked) => explain(rt, &asked),
     }
 }
 
@@ -197,12 +181,23 @@ fn perform<F: Files + AllocGlobal, R: Read, O: Write>(
 pub fn tell<E: Write>(text: &str, ending: Ending, err: &mut E) -> Ending
     ensures ends { (result ≡ ending) ⊎ (result ≡ Unsaid) }
     ensures whole { result ≢ Unsaid
-        → BeginsWith text.now (E.contents err.old) (E.contents err.new) }
+        → Appends (E.contents err.old) (E.contents err.new) text.now }
     ensures front { IsCutShort text.now (E.contents err.old) (E.contents err.new) }
 {
     match write_text(text, err) {
         Ok(()) => ending,
         Err(_) => Ending::Unsaid,
+    }
+}
+
+/// Tells standard error why the answer is what it is, where there is something to tell, and ends so.
+pub fn tell_why<E: Write>(reason: &Option<String>, ending: Ending, err: &mut E) -> Ending
+    ensures { IsToldWhy (option_map string_bytes reason.now) ending
+        (E.contents err.old) (E.contents err.new) (err.new ≡ err.old) result }
+{
+    match reason {
+        Some(reason) => tell(reason.as_str(), ending, err),
+        None => ending,
     }
 }
 
@@ -226,6 +221,23 @@ pub fn fail<E: Write>(failure: Failure, err: &mut E) -> Ending
     tell(failure.message(), Ending::Failed, err)
 }
 
+/// Prints what is said, and tells standard error why.
+fn say<O: Write, E: Write>(outcome: &Outcome, out: &mut O, err: &mut E) -> Ending
+    requires { IsAnswer outcome.now.ending }
+    ensures ends { UnlessFailed result (Ends outcome.now (O.contents out.old) (O.contents out.new)
+        (E.contents err.old) (E.contents err.new) (err.new ≡ err.old) result) }
+    ensures used { result ≢ Misused }
+    ensures failed { result ≡ Failed → (failure : Failure)
+        × BeginsWith (message_of failure) (E.contents err.old) (E.contents err.new) }
+    ensures unsaid { result ≡ Unsaid → (text : List ℕ) × IsToBeTold outcome.now text
+        × IsCutShort text (E.contents err.old) (E.contents err.new) }
+{
+    match write_text(outcome.text.as_str(), out) {
+        Ok(()) => tell_why(&outcome.reason, outcome.ending, err),
+        Err(error) => fail(Failure::from(error), err),
+    }
+}
+
 /// The program's whole work on the words after its name. A file `-` is the input.
 pub fn run<F: Files + AllocGlobal, R: Read, O: Write, E: Write>(
     rt: &F,
@@ -244,13 +256,17 @@ pub fn run<F: Files + AllocGlobal, R: Read, O: Write, E: Write>(
     ensures uses { command_in (texts words.now) ≡ None → result ≡ Misused
         → BeginsWith uses_text (E.contents err.old) (E.contents err.new) }
 
-    // What words ask for that are taken is done, unless a device or memory fails.
+    // What words ask for that are taken is done, unless a device or memory fails: what is said of it is
+    // written, and standard error is told why, and nothing else; nothing at all where there is nothing
+    // to tell.
     ensures does { is_taken (texts words.now) ≡ true → UnlessFailed result
-        (DoesWords (texts words.now) (O.contents out.old) (O.contents out.new) result) }
+        (DoesWords (texts words.now) (O.contents out.old) (O.contents out.new)
+        (E.contents err.old) (E.contents err.new) (err.new ≡ err.old) result) }
     // Where that is a check of the input, the bytes of the input are those that are judged.
     ensures judged { AsksToCheck (texts words.now) (codes "-")
         → IfSome (R.remaining input.old) (λ given. UnlessFailed result
-        (Judges (take too_many given) (O.contents out.old) (O.contents out.new) result)) }
+        (Judges (take too_many given) (O.contents out.old) (O.contents out.new)
+        (E.contents err.old) (E.contents err.new) (err.new ≡ err.old) result)) }
     // Nothing else touches the input.
     ensures untouched { (AsksToCheck (texts words.now) (codes "-") → ⊥) → input.new ≡ input.old }
 
@@ -260,12 +276,10 @@ pub fn run<F: Files + AllocGlobal, R: Read, O: Write, E: Write>(
     // Where standard error itself fails, it has a beginning of what there was to say.
     ensures unsaid { result ≡ Unsaid → (text : List ℕ) × IsToBeSaid (texts words.now) text
         × IsCutShort text (E.contents err.old) (E.contents err.new) }
-    // Where nothing fails, and the words are taken, nothing is said on it.
-    ensures quiet { is_taken (texts words.now) ≡ true → UnlessFailed result (err.new ≡ err.old) }
 {
     match read_line(rt.alloc(), words) {
-        Ok(line) => match perform(rt, line, input, out) {
-            Ok(ending) => ending,
+        Ok(line) => match answer(rt, line, input) {
+            Ok(outcome) => say(&outcome, out, err),
             Err(failure) => fail(failure, err),
         },
         Err(UseFault::Use(reason)) => refuse(reason.as_str(), err),

@@ -10,7 +10,7 @@ use clap::{Arg, ArgAction, ArgMatches, Command, Error};
 use std::alloc::{AllocError, Global};
 
 /// A value that a subcommand takes: a word in its place, or the value of an option.
-#[derive(Clone, Copy, Debug)]
+#[derive(Clone, Copy)]
 pub struct Argument<'a> {
     /// Its name in help and usage.
     pub name: &'a str,
@@ -22,7 +22,7 @@ pub struct Argument<'a> {
 }
 
 /// How a subcommand of the program is used.
-#[derive(Clone, Copy, Debug)]
+#[derive(Clone, Copy)]
 pub struct Usage<'a> {
     pub name: &'a str,
     /// What help says of it.

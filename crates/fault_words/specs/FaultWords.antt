@@ -34,6 +34,25 @@ form_words forms.Memory = codes "memory ran out (S9)"
 abbrev pub too_long_words : List ℕ
 too_long_words = codes "the form is longer than 16,777,216 bytes, the most that is judged (SIZE)"
 
+-- ---- of the files of a folder that is packed
+
+-- what is said of them, or of the file at fault behind its path
+abbrev pub folder_words : SetFault → List ℕ
+folder_words (forms.BadEntry place) = codes "has more than 16,777,216 bytes, the most that a file of a bag may have (S2)"
+folder_words (forms.OutOfOrder place) = codes "does not come after the path before it, byte for byte (S4)"
+folder_words (forms.BadPath place) = codes "is no good path: it is not UTF-8, has more than 1,024 bytes or a NUL, or has a segment that is empty, . or .. (S5)"
+folder_words forms.TooManyFiles = codes "the folder has more files than the 2,000 that a bag may have (S6)"
+folder_words forms.PathClash = codes "a path of the folder is data, or names both a file and a folder (S8)"
+folder_words fault = codes "the files of the folder are no bag"
+
+-- of an entry that has no place in a form
+abbrev pub odd_entry_words : List ℕ
+odd_entry_words = codes "an entry of the folder is neither a file nor a folder, such as a link, or has a name that is not UTF-8 (NAME)"
+
+-- of files whose form is longer than any that is written
+abbrev pub too_large_words : List ℕ
+too_large_words = codes "the form of the folder is longer than 16,777,216 bytes, the most that is written (SIZE)"
+
 -- ---- of the tag files of a bag
 
 abbrev pub declaration_words : DeclFault → List ℕ
@@ -112,3 +131,9 @@ policy_words policies.BadCaller = codes "the callers of the policy are no table,
 policy_words (policies.BadRule number) = policy_rule_words number
 policy_words policies.TooMany = codes "the policy has more than 200 rules or more than 1,000 callers (Y6)"
 policy_words policies.Memory = codes "memory ran out (Y7)"
+
+-- ---- of a caller
+
+-- of a caller whom a policy doesn't list
+abbrev pub unlisted_words : List ℕ → List ℕ
+unlisted_words caller = codes "the caller " ++ printed_text caller ++ codes " is not in the policy, and has the role stranger"

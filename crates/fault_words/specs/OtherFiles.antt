@@ -1,6 +1,9 @@
 -- What bytes look like that are handed in for a transfer form, and what is said of it.
 use Rattle.std.specs.Prelude.{ℕ, Bool, List, [], ◌∷◌, ◌++◌, Option, Some, None, codes, drop, nat_eq, if◌then◌else◌}
 use Rattle.std.specs.List.{starts_with}
+use Rattle.bag_text.specs.declared.set_fault.SetFault.{SetFault}
+use Rattle.bag_text.specs.declared.set_fault.SetFault.TheVariants.{BadOpening}
+use Rattle.fault_words.specs.FaultWords.{form_words}
 use Rattle.fault_words.specs.declared.other_file.OtherFile.{OtherFile}
 use Rattle.fault_words.specs.declared.other_file.OtherFile.TheVariants.{Folder, Zip, Gzip, Tar, Declaration, ChangedForm}
 
@@ -23,9 +26,21 @@ likeness bytes =
     else None
 
 abbrev pub other_file_words : OtherFile → List ℕ
-other_file_words Folder = codes "this is a folder; depot check wants a bag's transfer form, which depot pack makes of it"
-other_file_words Zip = codes "this looks like a zip file; depot check wants a bag's transfer form, which depot pack makes of a folder"
-other_file_words Gzip = codes "this looks like a gzip file; depot check wants a bag's transfer form, which depot pack makes of a folder"
-other_file_words Tar = codes "this looks like a tar file; depot check wants a bag's transfer form, which depot pack makes of a folder"
-other_file_words Declaration = codes "this looks like a bag's bagit.txt; depot check wants a bag's transfer form, which depot pack makes of a folder"
+other_file_words Folder = codes "this is a folder; a bag's transfer form is wanted, which depot pack makes of it"
+other_file_words Zip = codes "this looks like a zip file; a bag's transfer form is wanted, which depot pack makes of a folder"
+other_file_words Gzip = codes "this looks like a gzip file; a bag's transfer form is wanted, which depot pack makes of a folder"
+other_file_words Tar = codes "this looks like a tar file; a bag's transfer form is wanted, which depot pack makes of a folder"
+other_file_words Declaration = codes "this looks like a bag's bagit.txt; a bag's transfer form is wanted, which depot pack makes of a folder"
 other_file_words ChangedForm = codes "this looks like a transfer form whose line ends were changed; a form is carried byte for byte"
+
+-- ---- what is said of a form that is refused
+
+-- what the bytes look like, where they begin otherwise than a form
+abbrev pub hint_for : SetFault → List ℕ → Option OtherFile
+hint_for BadOpening bytes = likeness bytes
+hint_for fault bytes = None
+
+-- the fault's sentence, and what the bytes look like where that is known, each a line with its end
+abbrev pub form_lines : SetFault → Option OtherFile → List ℕ
+form_lines fault None = form_words fault ++ 10 ∷ []
+form_lines fault (Some other) = (form_words fault ++ 10 ∷ []) ++ (other_file_words other ++ 10 ∷ [])

@@ -1,11 +1,15 @@
 //! Why a text is no transfer form, in words.
 
-ghost use Rattle.std.specs.Prelude.{◌≡◌, Some};
+ghost use Rattle.std.specs.Prelude.{◌≡◌, IfOk, Some, string_bytes};
 ghost use Rattle.fault_words.specs.FaultWords.{form_words, too_long_words};
+ghost use Rattle.fault_words.specs.OtherFiles.{form_lines, hint_for};
 
 use crate::in_words::InWords;
+use crate::other_file::OtherFile;
 use bag_text::SetFault;
+use std::alloc::{AllocError, Global};
 use std::fmt;
+use std::fmt::Write;
 
 /// What is said of an input that is longer than any that is judged.
 pub fn too_long_words() -> &'static str
@@ -47,4 +51,32 @@ impl<'a> fmt::Display for InWords<'a, SetFault> {
             SetFault::Memory => f.write_str("memory ran out (S9)"),
         }
     }
+}
+
+/// What bytes look like that are refused for this fault, where they begin otherwise than a form.
+pub fn hint_for(fault: SetFault, bytes: &[u8]) -> Option<OtherFile>
+    ensures { result ≡ hint_for fault bytes.now }
+{
+    match fault {
+        SetFault::BadOpening => OtherFile::of(bytes),
+        _ => None,
+    }
+}
+
+/// The lines that say why a text is no form: the fault's sentence, and what the text looks like where
+/// that is known.
+pub fn form_lines(
+    alloc: Global,
+    fault: SetFault,
+    other: Option<OtherFile>,
+) -> Result<String, AllocError>
+    ensures { IfOk result (λ lines. string_bytes lines ≡ form_lines fault other) }
+{
+    let words = InWords(&fault);
+    let mut lines = format!(in alloc; "{words}\n")?;
+    let Some(other) = other else {
+        return Ok(lines);
+    };
+    write!(lines, "{other}\n")?;
+    Ok(lines)
 }

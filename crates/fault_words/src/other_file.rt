@@ -56,19 +56,19 @@ impl fmt::Display for OtherFile {
     fn fmt<W: fmt::Write>(&self, f: &mut fmt::Formatter<W>) -> fmt::Result {
         f.write_str(match self {
             OtherFile::Folder => {
-                "this is a folder; depot check wants a bag's transfer form, which depot pack makes of it"
+                "this is a folder; a bag's transfer form is wanted, which depot pack makes of it"
             }
             OtherFile::Zip => {
-                "this looks like a zip file; depot check wants a bag's transfer form, which depot pack makes of a folder"
+                "this looks like a zip file; a bag's transfer form is wanted, which depot pack makes of a folder"
             }
             OtherFile::Gzip => {
-                "this looks like a gzip file; depot check wants a bag's transfer form, which depot pack makes of a folder"
+                "this looks like a gzip file; a bag's transfer form is wanted, which depot pack makes of a folder"
             }
             OtherFile::Tar => {
-                "this looks like a tar file; depot check wants a bag's transfer form, which depot pack makes of a folder"
+                "this looks like a tar file; a bag's transfer form is wanted, which depot pack makes of a folder"
             }
             OtherFile::Declaration => {
-                "this looks like a bag's bagit.txt; depot check wants a bag's transfer form, which depot pack makes of a folder"
+                "this looks like a bag's bagit.txt; a bag's transfer form is wanted, which depot pack makes of a folder"
             }
             OtherFile::ChangedForm => {
                 "this looks like a transfer form whose line ends were changed; a form is carried byte for byte"

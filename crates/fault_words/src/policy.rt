@@ -1,8 +1,9 @@
-//! Why a file is no policy, in words.
+//! Why a file is no policy, and of whom a policy says nothing, in words.
 
 ghost use Rattle.std.specs.Prelude.{Some};
-ghost use Rattle.fault_words.specs.FaultWords.{policy_words};
+ghost use Rattle.fault_words.specs.FaultWords.{policy_words, unlisted_words};
 
+use crate::escaped::Escaped;
 use crate::in_words::InWords;
 use office_core::PolicyFault;
 use std::fmt;
@@ -34,5 +35,21 @@ impl<'a> fmt::Display for InWords<'a, PolicyFault> {
             ),
             PolicyFault::Memory => f.write_str("memory ran out (Y7)"),
         }
+    }
+}
+
+/// A caller whom a policy doesn't list, to be printed as a sentence that says so.
+#[derive(Clone, Copy)]
+pub struct Unlisted<'a>(pub &'a str);
+
+impl<'a> fmt::Display for Unlisted<'a> {
+    ghost output = { λ caller. Some (unlisted_words caller.0.now) };
+
+    fn fmt<W: fmt::Write>(&self, f: &mut fmt::Formatter<W>) -> fmt::Result {
+        let caller = Escaped(self.0);
+        write!(
+            f,
+            "the caller {caller} is not in the policy, and has the role stranger"
+        )
     }
 }

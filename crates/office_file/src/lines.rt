@@ -20,10 +20,12 @@ fn printed<R: Files + AllocGlobal>(
     Ok((out, err, ending))
 }
 
-/// The line that was worked out with its ending, or want of memory with nothing on standard output.
+/// The line that was worked out with its reason and its ending, or want of memory with nothing on
+/// standard output.
 fn outcome(
     found: Result<(Vec<u8>, Vec<u8>, Ending), AllocError>,
     line: &str,
+    reason: &str,
     ending: Ending,
 ) -> Outcome {
     match found {
@@ -32,15 +34,18 @@ fn outcome(
             Outcome::memory(out.is_empty() && err.as_slice() == b"memory\n".as_slice())
         }
         Ok((out, err, found)) => Outcome::expected(
-            out.as_slice() == line.as_bytes() && err.is_empty() && found == ending,
+            out.as_slice() == line.as_bytes()
+                && err.as_slice() == reason.as_bytes()
+                && found == ending,
         ),
     }
 }
 
 /// Judges a bag from standard input.
 pub fn judge<R: Files + AllocGlobal>(rt: &R, worked: WorkedBag) -> Outcome {
-    let (form, line, ending) = worked;
-    outcome(printed(rt, ["check", "-"].as_slice(), form), line, ending)
+    let (form, line, reason, ending) = worked;
+    let found = printed(rt, ["check", "-"].as_slice(), form);
+    outcome(found, line, reason, ending)
 }
 
 /// Asks a policy file, written for this, which rule decides.
@@ -58,5 +63,5 @@ pub fn explain<R: Files + AllocGlobal>(rt: &R, worked: WorkedQuestion) -> Outcom
     ];
     let found = printed(rt, words.as_slice(), b"");
     let _ = fs::remove_file(rt, "policy.toml");
-    outcome(found, worked.line, worked.ending)
+    outcome(found, worked.line, worked.reason, worked.ending)
 }

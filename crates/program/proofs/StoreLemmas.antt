@@ -1,14 +1,22 @@
 -- What a command on a store comes to, where it ends.
-use Rattle.std.proofs.Common.{◌≡◌, subst, rules}
-use Rattle.std.specs.Prelude.{Result, Ok, Err, IfOk, OnOk}
+use Rattle.std.proofs.Common.{◌≡◌, ap, subst}
+use Rattle.std.specs.Prelude.{Result, Ok, Err, None, IfOk, OnOk, option_map, string_bytes}
 use Rattle.commands.specs.declared.ending.Ending.{Ending}
 use Rattle.commands.specs.declared.ending.Ending.TheVariants.{Accepted}
 use Rattle.office_commands.specs.declared.fault.CommandFault.{CommandFault}
+use Rattle.program.specs.Running.{IsStored}
+use Rattle.program.specs.declared.done.Done.{Done}
 use Rattle.program.specs.declared.stopped.Stopped.{Stopped}
 
-pub asked : (Memory Asked : Type 0) (done : Result Ending CommandFault) (result : Result Ending Stopped)
-    → IfOk result (λ ending. done ≡ Ok ending) → IfOk done (λ ending. ending ≡ Accepted) → (Memory → OnOk done Asked)
-    → IfOk result (λ ending. (ending ≡ Accepted) × (Memory → Asked))
-asked Memory Asked done (Ok ending) same accepted memory =
-    (subst (λ d. IfOk d (λ it. it ≡ Accepted)) same accepted, λ named. subst (λ d. OnOk d Asked) same (memory named))
-asked Memory Asked done (Err stopped) same accepted memory = search rules
+pub asked : (Memory Asked : Type 0) (ended : Result Ending CommandFault) (result : Result Done Stopped)
+    → IfOk result (λ done. (ended ≡ Ok done.ending) × (done.reason ≡ None)) → IfOk ended (λ ending. ending ≡ Accepted) → (Memory → OnOk ended Asked)
+    → IfOk result (λ done. IsStored (option_map string_bytes done.reason) ((done.ending ≡ Accepted) × (Memory → Asked)))
+asked Memory Asked ended (Ok done) is accepted memory =
+    ((subst (λ d. IfOk d (λ it. it ≡ Accepted)) is.0 accepted, λ named. subst (λ d. OnOk d Asked) is.0 (memory named)), ap (option_map string_bytes) is.1)
+asked Memory Asked ended (Err stopped) is accepted memory = tt
+
+-- what holds of the ending is handed on, and there is no reason to tell
+pub stored_done : (P : Ending → Type 0) (ended : Result Ending CommandFault) (result : Result Done Stopped) → IfOk result (λ done. (ended ≡ Ok done.ending) × (done.reason ≡ None))
+    → IfOk ended P → IfOk result (λ done. IsStored (option_map string_bytes done.reason) (P done.ending))
+stored_done P ended (Ok done) is holds = (subst (λ d. IfOk d P) is.0 holds, ap (option_map string_bytes) is.1)
+stored_done P ended (Err stopped) is holds = tt

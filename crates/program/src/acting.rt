@@ -1,8 +1,9 @@
 //! What the subcommands on folders and stores do.
 
-ghost use Rattle.std.specs.Prelude.{◌≡◌, IfOk};
+ghost use Rattle.std.specs.Prelude.{◌≡◌, IfOk, None, option_map, string_bytes};
 ghost use Rattle.program.specs.Running.{IsDone};
 
+use crate::done::Done;
 use crate::folders::{pack_folder, unpack_form};
 use crate::stopped::Stopped;
 use commands::Ending;
@@ -14,11 +15,14 @@ use std::rt::HostRuntime;
 use store_words::StoreLine;
 
 /// What a command on a store comes to.
-fn stored(done: Result<Ending, CommandFault>) -> Result<Ending, Stopped>
-    ensures { IfOk result (λ ending. done ≡ Ok ending) }
+fn stored(ended: Result<Ending, CommandFault>) -> Result<Done, Stopped>
+    ensures { IfOk result (λ done. (ended ≡ Ok done.ending) × (done.reason ≡ None)) }
 {
-    match done {
-        Ok(ending) => Ok(ending),
+    match ended {
+        Ok(ending) => Ok(Done {
+            reason: None,
+            ending,
+        }),
         Err(fault) => Err(Stopped::Store(fault)),
     }
 }
@@ -30,9 +34,10 @@ pub fn perform<S: Start, R: Read, O: Write>(
     line: &StoreLine<'_>,
     input: &mut Counted<R>,
     out: &mut Counted<O>,
-) -> Result<Ending, Stopped>
-    ensures { IfOk result (IsDone line.now (R.remaining input.old.device)
-        (R.remaining input.new.device) (O.contents out.old.device) (O.contents out.new.device)) }
+) -> Result<Done, Stopped>
+    ensures { IfOk result (λ done. IsDone line.now (R.remaining input.old.device)
+        (R.remaining input.new.device) (O.contents out.old.device) (O.contents out.new.device)
+        (option_map string_bytes done.reason) done.ending) }
 {
     match *line {
         StoreLine::Pack { folder, file } => pack_folder(rt, folder, file, out),

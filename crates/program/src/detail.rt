@@ -1,94 +1,153 @@
 //! What was tried, on what and why it failed, for a person who reads standard error.
 
 use crate::stopped::Stopped;
-use bag_folders::Failed;
+use bag_folders::{Failed, Trouble};
+use fault_words::Escaped;
 use office_commands::{Cause, CommandFault, StoreFault};
-use percent_encoding::{AsciiSet, CONTROLS, utf8_percent_encode};
-use std::fmt;
+use std::{fmt, io};
 use store_words::StoreLine;
 
-const ESCAPED: AsciiSet = percent_encoding::ascii_set!(CONTROLS.add(b' ').add(b'%'));
-
-/// Why a command on these files came to no end.
+/// Why a command came to no end.
 #[derive(Clone, Copy)]
-pub struct Detail<'a> {
-    /// The store.
-    store: &'a str,
-    /// The policy.
-    policy: &'a str,
-    stopped: &'a Stopped,
+pub enum Detail<'a> {
+    /// A file or a folder failed.
+    Trouble(&'a Trouble),
+    /// The record with this number is none.
+    Record(u64),
+    Told(Told<'a>),
 }
 
-/// Why what the line asks for came to no end.
-pub fn detail_of<'a>(line: &StoreLine<'a>, stopped: &'a Stopped) -> Detail<'a> {
-    let (store, policy) = match *line {
+/// A text round a name, and what the layer below says of it.
+#[derive(Clone, Copy)]
+pub struct Told<'a> {
+    before: &'static str,
+    name: &'a str,
+    behind: &'static str,
+    why: Option<Why>,
+}
+
+/// What the layer below says.
+#[derive(Clone, Copy)]
+enum Why {
+    Device(io::Error),
+    Store(Cause),
+}
+
+/// The names of the store and of the policy, empty where the line has none.
+fn names_in<'a>(line: &StoreLine<'a>) -> (&'a str, &'a str) {
+    match *line {
         StoreLine::Pack { folder, .. } | StoreLine::Unpack { folder, .. } => (folder, ""),
         StoreLine::Policy { store, policy } => (store, policy),
         StoreLine::Replay { policy, store } => (store, policy.unwrap_or("")),
         StoreLine::Ask { store, .. } | StoreLine::Serve { store, .. } => (store, ""),
-    };
-    Detail {
-        store,
-        policy,
-        stopped,
     }
 }
 
-impl Detail<'_> {
-    fn write_cause<W: fmt::Write>(&self, cause: &Cause, f: &mut fmt::Formatter<W>) -> fmt::Result {
-        let store = utf8_percent_encode(self.store, ESCAPED);
-        let policy = utf8_percent_encode(self.policy, ESCAPED);
-        match cause {
-            Cause::Policy(error) => write!(f, "cannot read {policy}: {error}"),
-            Cause::Search(error) => write!(f, "cannot look at {store}: {error}"),
-            Cause::Open(error) => write!(f, "cannot open {store}: {error}"),
-            Cause::Close(error) => write!(f, "cannot close {store}: {error}"),
-            Cause::Listen(error) => write!(f, "cannot listen on 127.0.0.1: {error}"),
+/// A text alone.
+fn text(text: &'static str) -> Told<'static> {
+    Told {
+        before: text,
+        name: "",
+        behind: "",
+        why: None,
+    }
+}
+
+/// A name, and what is said of it.
+fn said_of<'a>(name: &'a str, behind: &'static str) -> Told<'a> {
+    Told {
+        before: "",
+        name,
+        behind,
+        why: None,
+    }
+}
+
+/// What was tried on this, and why it failed.
+fn failed_on<'a>(before: &'static str, name: &'a str, why: Why) -> Told<'a> {
+    Told {
+        before,
+        name,
+        behind: "",
+        why: Some(why),
+    }
+}
+
+fn cause_told<'a>(store: &'a str, policy: &'a str, cause: Cause) -> Told<'a> {
+    let why = Why::Store(cause);
+    match cause {
+        Cause::Policy(_) => failed_on("cannot read ", policy, why),
+        Cause::Search(_) => failed_on("cannot look at ", store, why),
+        Cause::Open(_) => failed_on("cannot open ", store, why),
+        Cause::Close(_) => failed_on("cannot close ", store, why),
+        Cause::Listen(_) => failed_on("cannot listen on ", "127.0.0.1", why),
+    }
+}
+
+fn fault_told<'a>(store: &'a str, fault: StoreFault) -> Told<'a> {
+    match fault {
+        StoreFault::NotAnOffice => said_of(store, " is no office"),
+        StoreFault::OtherVersion => said_of(store, " is an office of another version"),
+        StoreFault::Memory => text("out of memory"),
+        StoreFault::Store => said_of(store, " failed"),
+        StoreFault::Device => text("standard input or output failed"),
+    }
+}
+
+fn command_detail<'a>(line: &StoreLine<'a>, fault: &CommandFault) -> Detail<'a> {
+    let (store, policy) = names_in(line);
+    match *fault {
+        CommandFault::Policy(_) => Detail::Told(said_of(policy, " is no policy")),
+        CommandFault::BadRecord { index } => Detail::Record(index),
+        CommandFault::Failed {
+            cause: Some(cause),
+            ..
+        } => Detail::Told(cause_told(store, policy, cause)),
+        CommandFault::Failed { fault, cause: None } => Detail::Told(fault_told(store, fault)),
+    }
+}
+
+/// Why what the line asks for came to no end.
+pub fn detail_of<'a>(line: &StoreLine<'a>, stopped: &'a Stopped) -> Detail<'a> {
+    match stopped {
+        Stopped::Folder(Failed::Device(trouble)) => Detail::Trouble(trouble),
+        Stopped::Folder(Failed::Memory) => Detail::Told(text("out of memory")),
+        Stopped::Output(error) => Detail::Told(failed_on(
+            "cannot write standard output",
+            "",
+            Why::Device(*error),
+        )),
+        Stopped::Store(fault) => command_detail(line, fault),
+    }
+}
+
+impl fmt::Display for Why {
+    fn fmt<W: fmt::Write>(&self, f: &mut fmt::Formatter<W>) -> fmt::Result {
+        match self {
+            Why::Device(error) => write!(f, ": {error}"),
+            Why::Store(cause) => write!(f, ": {cause}"),
         }
     }
+}
 
-    fn write_fault<W: fmt::Write>(
-        &self,
-        fault: StoreFault,
-        f: &mut fmt::Formatter<W>,
-    ) -> fmt::Result {
-        let store = utf8_percent_encode(self.store, ESCAPED);
-        match fault {
-            StoreFault::NotAnOffice => write!(f, "{store} is no office"),
-            StoreFault::OtherVersion => write!(f, "{store} is an office of another version"),
-            StoreFault::Memory => f.write_str("out of memory"),
-            StoreFault::Store => write!(f, "{store} failed"),
-            StoreFault::Device => f.write_str("standard input or output failed"),
-        }
-    }
-
-    fn write_command_fault<W: fmt::Write>(
-        &self,
-        fault: &CommandFault,
-        f: &mut fmt::Formatter<W>,
-    ) -> fmt::Result {
-        match fault {
-            CommandFault::Policy(_) => {
-                let policy = utf8_percent_encode(self.policy, ESCAPED);
-                write!(f, "{policy} is no policy")
-            }
-            CommandFault::BadRecord { index } => write!(f, "record {index} of the input is none"),
-            CommandFault::Failed {
-                cause: Some(cause),
-                ..
-            } => self.write_cause(cause, f),
-            CommandFault::Failed { fault, cause: None } => self.write_fault(*fault, f),
+impl fmt::Display for Told<'_> {
+    fn fmt<W: fmt::Write>(&self, f: &mut fmt::Formatter<W>) -> fmt::Result {
+        let (before, behind) = (self.before, self.behind);
+        let name = Escaped(self.name);
+        write!(f, "{before}{name}{behind}")?;
+        match &self.why {
+            Some(why) => write!(f, "{why}"),
+            None => Ok(()),
         }
     }
 }
 
 impl fmt::Display for Detail<'_> {
     fn fmt<W: fmt::Write>(&self, f: &mut fmt::Formatter<W>) -> fmt::Result {
-        match self.stopped {
-            Stopped::Folder(Failed::Device(trouble)) => write!(f, "{trouble}"),
-            Stopped::Folder(Failed::Memory) => f.write_str("out of memory"),
-            Stopped::Output(error) => write!(f, "cannot write standard output: {error}"),
-            Stopped::Store(fault) => self.write_command_fault(fault, f),
+        match self {
+            Detail::Trouble(trouble) => write!(f, "{trouble}"),
+            Detail::Record(index) => write!(f, "record {index} of the input is none"),
+            Detail::Told(told) => write!(f, "{told}"),
         }
     }
 }

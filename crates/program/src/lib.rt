@@ -3,6 +3,7 @@
 
 mod acting;
 mod detail;
+mod done;
 mod folders;
 mod reporting;
 mod running;

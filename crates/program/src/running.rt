@@ -14,7 +14,7 @@ ghost use Rattle.program.specs.Stopping.{IsToldOfUse};
 
 use crate::acting::perform;
 use crate::reporting::report;
-use commands::{Ending, Failure, UseFault, fail, refuse};
+use commands::{Ending, Failure, UseFault, fail, refuse, tell_why};
 use desk_devices::Counted;
 use sqlite::Start;
 use std::io::{Read, Write};
@@ -31,7 +31,8 @@ fn refuse_use<E: Write>(fault: UseFault, err: &mut E) -> Ending
     }
 }
 
-/// Does what the line asks for, and tells standard error where that comes to no end.
+/// Does what the line asks for, and tells standard error why the answer is no, or why it comes to no
+/// end.
 fn run_line<S: Start, R: Read, O: Write, E: Write>(
     rt: &HostRuntime,
     start: S,
@@ -45,7 +46,7 @@ fn run_line<S: Start, R: Read, O: Write, E: Write>(
         (E.contents err.old) (E.contents err.new) (err.new ≡ err.old) result }
 {
     match perform(rt, start, line, input, out) {
-        Ok(ending) => ending,
+        Ok(done) => tell_why(&done.reason, done.ending, err),
         Err(stopped) => report(rt.alloc(), line, &stopped, err),
     }
 }
@@ -86,8 +87,8 @@ pub fn run<S: Start, R: Read, O: Write, E: Write>(
         → UnlessFailed result (result ≡ Misused) }
     ensures left { NamesOne (texts words.now) → AskNothing (texts words.now)
         → (out.new ≡ out.old) × (input.new ≡ input.old) }
-    // What such words ask for is done, and standard error told nothing, or it comes to no end, and
-    // standard error is told why.
+    // What such words ask for is done, and standard error told why the answer is no, where that is so,
+    // and nothing else; or it comes to no end, and standard error is told why.
     ensures asked { (line : StoreLine) → Asks (texts words.now) line
         → ComesOfWords (texts words.now) (R.remaining input.old.device)
         (R.remaining input.new.device) (O.contents out.old.device) (O.contents out.new.device)
@@ -104,27 +105,27 @@ pub fn run<S: Start, R: Read, O: Write, E: Write>(
         → out.new ≡ out.old }
     ensures uses { NamesNone (texts words.now) → command_in (texts words.now) ≡ None
         → result ≡ Misused → BeginsWith uses_text (E.contents err.old) (E.contents err.new) }
-    // What words ask for that are taken is done, unless a device or memory fails; where that is a check
-    // of the input, the bytes of the input are those that are judged, and nothing else touches it.
+    // What words ask for that are taken is done, unless a device or memory fails: what is said of it is
+    // written, and standard error is told why, and nothing else. Where that is a check of the input, the
+    // bytes of the input are those that are judged, and nothing else touches it.
     ensures does { NamesNone (texts words.now) → is_taken (texts words.now) ≡ true
         → UnlessFailed result (DoesWords (texts words.now) (O.contents out.old.device)
-        (O.contents out.new.device) result) }
+        (O.contents out.new.device) (E.contents err.old) (E.contents err.new) (err.new ≡ err.old)
+        result) }
     ensures judged { NamesNone (texts words.now) → AsksToCheck (texts words.now) (codes "-")
         → IfSome (R.remaining input.old.device) (λ given. UnlessFailed result
         (Judges (take too_many given) (O.contents out.old.device) (O.contents out.new.device)
-        result)) }
+        (E.contents err.old) (E.contents err.new) (err.new ≡ err.old) result)) }
     ensures untouched { NamesNone (texts words.now)
         → (AsksToCheck (texts words.now) (codes "-") → ⊥) → input.new ≡ input.old }
     // Where a device or memory fails, standard error says so, or has a beginning of what there was to
-    // say, where it fails itself. Where nothing fails, and the words are taken, nothing is said on it.
+    // say, where it fails itself.
     ensures failed { NamesNone (texts words.now) → result ≡ Failed
         → (failure : Failure) × CanFail (texts words.now) failure
         × BeginsWith (message_of failure) (E.contents err.old) (E.contents err.new) }
     ensures unsaid { NamesNone (texts words.now) → result ≡ Unsaid
         → (text : List ℕ) × IsToBeSaid (texts words.now) text
         × IsCutShort text (E.contents err.old) (E.contents err.new) }
-    ensures quiet { NamesNone (texts words.now) → is_taken (texts words.now) ≡ true
-        → UnlessFailed result (err.new ≡ err.old) }
 {
     match read_store_line(rt.alloc(), words) {
         Some(read) => run_named(rt, start, read, input, out, err),

@@ -10,7 +10,7 @@ use std::alloc::{AllocError, Global};
 use std::io;
 
 /// Why a command on folders or a store doesn't come to its end.
-#[derive(Debug, Drop)]
+#[derive(Drop)]
 pub enum Stopped {
     /// A folder or a file, or memory.
     Folder(Failed),

@@ -569,3 +569,189 @@ pub static PATH_CODES: [Coded; 10] = [
         "unreadable S7\n",
     ),
 ];
+
+/// What is handed to the program, the line that it prints, and what it tells standard error.
+pub type Told = (Given, &'static str, &'static str);
+
+/// The codes of `bagit.txt` and of manifests that the worked bags leave out, in words.
+pub static TAG_FILES_IN_WORDS: [Told; 14] = [
+    (
+        Given::Files(&[PAYLOAD, LISTED]),
+        "invalid B1\n",
+        "the bag has no bagit.txt (B1)\n",
+    ),
+    (
+        Given::Declared(b"BagIt-Version: 1.0\nTag-File-Character-Encoding: \xFF\n"),
+        "invalid B2 V1\n",
+        "bagit.txt is not UTF-8 text (B2 V1)\n",
+    ),
+    (
+        Given::Declared(b"\xEF\xBB\xBFBagIt-Version: 1.0\nTag-File-Character-Encoding: UTF-8\n"),
+        "invalid B2 V2\n",
+        "bagit.txt begins with a byte order mark, and must not (B2 V2)\n",
+    ),
+    (
+        Given::Declared(b"BagIt-Version: 1.0\nTag-File-Character-Encoding: UTF-8\n\n"),
+        "invalid B2 V3\n",
+        "bagit.txt does not have exactly two lines (B2 V3)\n",
+    ),
+    (
+        Given::Declared(b"Bagit-Version: 1.0\nTag-File-Character-Encoding: UTF-8\n"),
+        "invalid B2 V4\n",
+        "the first line of bagit.txt is not BagIt-Version: and a version such as 1.0 (B2 V4)\n",
+    ),
+    (
+        Given::Declared(b"BagIt-Version: 1.1\nTag-File-Character-Encoding: UTF-8\n"),
+        "invalid B2 V5\n",
+        "bagit.txt declares a version other than 1.0 and 0.97 (B2 V5)\n",
+    ),
+    (
+        Given::Declared(b"BagIt-Version: 1.0\nEncoding: UTF-8\n"),
+        "invalid B2 V6\n",
+        "the second line of bagit.txt is not Tag-File-Character-Encoding: and an encoding (B2 V6)\n",
+    ),
+    (
+        Given::Declared(b"BagIt-Version: 1.0\nTag-File-Character-Encoding: UTF-16\n"),
+        "invalid B2 V7\n",
+        "bagit.txt declares an encoding other than UTF-8 (B2 V7)\n",
+    ),
+    (
+        Given::Files(&[DECLARED, PAYLOAD]),
+        "invalid B5\n",
+        "the bag has neither manifest-sha256.txt nor manifest-sha512.txt (B5)\n",
+    ),
+    (
+        Given::Listed(
+            b"ba7816bf8f01cfea414140de5dae2223b00361a396177a9cb410ff61f20015ad  data/a\xFF\n",
+        ),
+        "invalid B6 manifest-sha256.txt L1\n",
+        "manifest-sha256.txt is not UTF-8 text (B6 L1)\n",
+    ),
+    (
+        Given::Listed(
+            b"\xEF\xBB\xBFba7816bf8f01cfea414140de5dae2223b00361a396177a9cb410ff61f20015ad  data/a\n",
+        ),
+        "invalid B6 manifest-sha256.txt L2\n",
+        "manifest-sha256.txt begins with a byte order mark, and must not (B6 L2)\n",
+    ),
+    (
+        Given::Listed(
+            b"ba7816bf8f01cfea414140de5dae2223b00361a396177a9cb410ff61f20015ad  data/a\na7816bf8f01cfea414140de5dae2223b00361a396177a9cb410ff61f20015ad *\n",
+        ),
+        "invalid B6 manifest-sha256.txt L3 2\n",
+        "line 2 of manifest-sha256.txt does not begin with a checksum of the right number of hex digits (B6 L3)\n",
+    ),
+    (
+        Given::Listed(b"ba7816bf8f01cfea414140de5dae2223b00361a396177a9cb410ff61f20015ad"),
+        "invalid B6 manifest-sha256.txt L4 1\n",
+        "line 1 of manifest-sha256.txt has no path behind its checksum (B6 L4)\n",
+    ),
+    (
+        Given::Listed(
+            b"ba7816bf8f01cfea414140de5dae2223b00361a396177a9cb410ff61f20015ad *data/a\n",
+        ),
+        "invalid B6 manifest-sha256.txt L5 1\n",
+        "line 1 of manifest-sha256.txt has no good path: it begins with *, has more than 1,024 bytes or a NUL, or has a segment that is empty, . or .. (B6 L5)\n",
+    ),
+];
+
+/// The others that they leave out.
+pub static OTHERS_IN_WORDS: [Told; 16] = [
+    (
+        Given::Listed(
+            b"ba7816bf8f01cfea414140de5dae2223b00361a396177a9cb410ff61f20015ad  data/a\n1712ecfb074bf29c4188ad3421032509159a09739fd604f8fe57038b4ddefcc9  bagit.txt\n",
+        ),
+        "invalid B7 manifest-sha256.txt bagit.txt\n",
+        "manifest-sha256.txt lists bagit.txt, but a payload manifest lists files in data/ alone (B7)\n",
+    ),
+    (
+        Given::Files(&[
+            DECLARED,
+            PAYLOAD,
+            LISTED,
+            (
+                "tagmanifest-sha256.txt",
+                b"229b690bb74c455dcf323fbf029f56af1d20b126231aa2b2047923926e7d99fe  manifest-sha256.txt\n620d4c992332517faae13bb83b9012d829af6484fe0dfc05798eba879baf3dc1  tagmanifest-sha512.txt\n",
+            ),
+            (
+                "tagmanifest-sha512.txt",
+                b"e0b9d6c4ef244b48ead23be41105908b37dcfddd6e1b7802c3a297d181c96ffb3ecf969c7399b8c220e632505d896bdc7f5420db0ff8ed84e8656651b1c90f62  manifest-sha256.txt\n",
+            ),
+        ]),
+        "invalid B8 tagmanifest-sha256.txt tagmanifest-sha512.txt\n",
+        "tagmanifest-sha256.txt lists tagmanifest-sha512.txt, but a tag manifest lists no tag manifest (B8)\n",
+    ),
+    (
+        Given::Tagged(
+            b"229b690bb74c455dcf323fbf029f56af1d20b126231aa2b2047923926e7d99fe  manifest-sha256.txt\nba7816bf8f01cfea414140de5dae2223b00361a396177a9cb410ff61f20015ad  data/a\n",
+        ),
+        "invalid B9 tagmanifest-sha256.txt data/a\n",
+        "tagmanifest-sha256.txt lists data/a, but a tag manifest lists no payload file (B9)\n",
+    ),
+    (
+        Given::Described(b"Title: \xFF\n"),
+        "invalid B13 I1\n",
+        "bag-info.txt is not UTF-8 text (B13 I1)\n",
+    ),
+    (
+        Given::Described(b"\xEF\xBB\xBFTitle: a\n"),
+        "invalid B13 I2\n",
+        "bag-info.txt begins with a byte order mark, and must not (B13 I2)\n",
+    ),
+    (
+        Given::Described(b"Title: a\n \t: b\n\t: c\n: d\n"),
+        "invalid B13 I4 4\n",
+        "line 4 of bag-info.txt has no label before its colon (B13 I4)\n",
+    ),
+    (
+        Given::Described(b"\r\n Title: a\n"),
+        "invalid B13 I5 2\n",
+        "line 2 of bag-info.txt continues a value, but no label stands before it (B13 I5)\n",
+    ),
+    (
+        Given::Described(b"Payload-Oxum: 3\n"),
+        "invalid B14\n",
+        "the Payload-Oxum of bag-info.txt is not two numbers of 1 to 20 digits with a full stop between them (B14)\n",
+    ),
+    (
+        Given::Described(b"Payload-Oxum: 3.1\nPAYLOAD-oxum: 3.1\n"),
+        "invalid B15\n",
+        "bag-info.txt has more than one Payload-Oxum (B15)\n",
+    ),
+    (
+        Given::Bytes(b"BAGSET 2\nEND\n"),
+        "unreadable S1\n",
+        "this is no transfer form: it does not begin with the line BAGSET 1 (S1)\n",
+    ),
+    (
+        Given::Bytes(b"BAGSET 1\nFILE 1 0\nb\nFILE 1 0\na\nEND\n"),
+        "unreadable S4 20\n",
+        "the entry at byte 20 is out of order: its path does not come after the one before it, byte for byte (S4)\n",
+    ),
+    (
+        Given::Bytes(b"BAGSET 1\nFILE 1 0\n\xFF\nEND\n"),
+        "unreadable S5 9\n",
+        "the entry at byte 9 has no good path: it is not UTF-8, has a NUL, or has a segment that is empty, . or .. (S5)\n",
+    ),
+    // What begins otherwise than a form may look like another file.
+    (
+        Given::Bytes(b"PK\x03\x04\x14\0"),
+        "unreadable S1\n",
+        "this is no transfer form: it does not begin with the line BAGSET 1 (S1)\nthis looks like a zip file; a bag's transfer form is wanted, which depot pack makes of a folder\n",
+    ),
+    (
+        Given::Bytes(b"\x1F\x8B\x08\0"),
+        "unreadable S1\n",
+        "this is no transfer form: it does not begin with the line BAGSET 1 (S1)\nthis looks like a gzip file; a bag's transfer form is wanted, which depot pack makes of a folder\n",
+    ),
+    (
+        Given::Bytes(b"BagIt-Version: 1.0\nTag-File-Character-Encoding: UTF-8\n"),
+        "unreadable S1\n",
+        "this is no transfer form: it does not begin with the line BAGSET 1 (S1)\nthis looks like a bag's bagit.txt; a bag's transfer form is wanted, which depot pack makes of a folder\n",
+    ),
+    (
+        Given::Bytes(b"BAGSET 1\r\nEND\r\n"),
+        "unreadable S1\n",
+        "this is no transfer form: it does not begin with the line BAGSET 1 (S1)\nthis looks like a transfer form whose line ends were changed; a form is carried byte for byte\n",
+    ),
+];

@@ -17,11 +17,11 @@ fn run_check<R: Read>(rt: &HostRuntime, file: &str, input: &mut R) -> (Vec<u8>, 
 
 #[test]
 fn says_what_was_worked_out(rt: HostRuntime) {
-    for (form, line, ending) in &WORKED_BAGS {
+    for (form, line, reason, ending) in &WORKED_BAGS {
         let mut input = *form;
         let (out, err, found) = run_check(&rt, "-", &mut input);
         assert_eq!(rt; out.as_slice(), line.as_bytes(), "{line}");
-        assert_eq!(rt; err.as_slice(), b"".as_slice(), "{line}");
+        assert_eq!(rt; err.as_slice(), reason.as_bytes(), "{line}");
         assert_eq!(rt; found, *ending, "{line}");
     }
 }
@@ -134,6 +134,13 @@ fn standard_error_may_fail(rt: HostRuntime) {
     let ending = run(&rt, words.as_slice(), &mut torn, &mut out, &mut Unflushed);
     assert_eq!(rt; out.as_slice(), b"".as_slice());
     assert_eq!(rt; ending, Ending::Unsaid);
+    // As it is told why a bag is refused, which standard output has been told.
+    let words = ["check", "-"];
+    let mut input = b"".as_slice();
+    let ending = run(&rt, words.as_slice(), &mut input, &mut out, &mut Unflushed);
+    assert_eq!(rt; out.as_slice(), b"unreadable S3\n".as_slice());
+    assert_eq!(rt; ending, Ending::Unsaid);
+    out.clear();
     // As it is told why words are no use.
     let words = ["judge", "-"];
     let ending = run(&rt, words.as_slice(), &mut &*BAG, &mut out, &mut Unflushed);
@@ -166,7 +173,7 @@ fn explains_what_was_worked_out(rt: HostRuntime) -> Result<(), Fail> {
         let (out, err, ending) = run_words(&rt, words.as_slice());
         let line = worked.line;
         assert_eq!(rt; out.as_slice(), line.as_bytes(), "{line}");
-        assert_eq!(rt; err.as_slice(), b"".as_slice(), "{line}");
+        assert_eq!(rt; err.as_slice(), worked.reason.as_bytes(), "{line}");
         assert_eq!(rt; ending, worked.ending, "{line}");
     }
     fs::remove_file(&rt, "policy.toml")?;

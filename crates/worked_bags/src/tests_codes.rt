@@ -2,13 +2,14 @@
 
 use crate::codes::{
     Coded, DECLARATION_CODES, DECLARED, ENTRY_CODES, FILE_CODES, File, Given, INFO_CODES,
-    LINE_CODES, LISTED, LISTING_CODES, OXUM_CODES, PATH_CODES, PAYLOAD, PAYLOAD_CODES,
+    LINE_CODES, LISTED, LISTING_CODES, OTHERS_IN_WORDS, OXUM_CODES, PATH_CODES, PAYLOAD,
+    PAYLOAD_CODES, TAG_FILES_IN_WORDS, Told,
 };
 use crate::strange_names::{
     LISTED_NAME, LISTED_NAME_0_97, MISSING_NAME, SPOILED_NAME, UNLISTED_NAME,
 };
 use crate::tool_bag::{SPOILED_TOOL_BAG, TOOL_BAG};
-use commands::{Ending, check_outcome};
+use commands::{Ending, check_outcome, run};
 use std::alloc::Global;
 use std::process::Abort;
 use std::test::*;
@@ -117,6 +118,38 @@ fn faults_of_paths_in_forms(rt: HostRuntime) -> Result<(), Fail> {
     says_each(&rt, &PATH_CODES)
 }
 
+/// What a check of these bytes prints on standard output and on standard error, and how it ends.
+fn told(rt: &HostRuntime, bytes: &[u8]) -> (Vec<u8>, Vec<u8>, Ending) {
+    let mut input = bytes;
+    let mut out = Vec::new(rt.alloc());
+    let mut err = Vec::new(rt.alloc());
+    let words = ["check", "-"];
+    let ending = run(rt, words.as_slice(), &mut input, &mut out, &mut err);
+    (out, err, ending)
+}
+
+/// Takes each line of the table on standard output, and why on standard error.
+fn tells_each(rt: &HostRuntime, table: &[Told]) -> Result<(), Fail> {
+    for (given, line, reason) in table {
+        let bytes = bytes_of(rt.alloc(), *given)?;
+        let (out, err, ending) = told(rt, bytes.as_slice());
+        assert_eq!(rt; out.as_slice(), line.as_bytes(), "{line}");
+        assert_eq!(rt; err.as_slice(), reason.as_bytes(), "{line}");
+        assert_eq!(rt; ending, Ending::Refused, "{line}");
+    }
+    Ok(())
+}
+
+#[test]
+fn faults_of_tag_files_in_words(rt: HostRuntime) -> Result<(), Fail> {
+    tells_each(&rt, &TAG_FILES_IN_WORDS)
+}
+
+#[test]
+fn other_faults_in_words(rt: HostRuntime) -> Result<(), Fail> {
+    tells_each(&rt, &OTHERS_IN_WORDS)
+}
+
 /// A form that lacks its `END`, of so many empty files with names of four digits.
 fn many_files(alloc: Global, count: u32) -> Result<Vec<u8>, Fail> {
     let mut form = Vec::new(alloc);
@@ -141,6 +174,11 @@ fn two_thousand_files_and_one_more(rt: HostRuntime) -> Result<(), Fail> {
         form.extend_from_slice(rest.as_bytes())?;
         says(&rt, form.as_slice(), line, Ending::Refused)?;
     }
+    let (_, err, _) = told(&rt, form.as_slice());
+    assert_eq!(rt;
+        err.as_slice(),
+        b"the form has more files than the 2,000 that a bag may have (S6)\n".as_slice()
+    );
     Ok(())
 }
 

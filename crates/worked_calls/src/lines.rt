@@ -1,6 +1,8 @@
 //! The calls of `commands`: the texts that are printed, and that calls succeed.
 
-use commands::{Asked, Ending, Line, UseFault, explain_outcome, read_line, refuse_words, run};
+use commands::{
+    Asked, Ending, Line, Outcome, UseFault, explain_outcome, read_line, refuse_words, run,
+};
 use office_core::{Action, Name};
 use std::io;
 use std::io::{Error, ErrorKind, Read, Write};
@@ -117,6 +119,14 @@ fn words_of_explain_that_are_no_use(rt: HostRuntime) {
     }
 }
 
+/// What standard error is to be told, or nothing.
+fn reason_of(outcome: &Outcome) -> &str {
+    match &outcome.reason {
+        Some(reason) => reason.as_str(),
+        None => "",
+    }
+}
+
 #[test]
 fn a_decision_in_words(rt: HostRuntime) -> Result<(), Fail> {
     let asked = Asked {
@@ -130,12 +140,17 @@ fn a_decision_in_words(rt: HostRuntime) -> Result<(), Fail> {
         b"version = 1\n[[rule]]\neffect = \"allow\"\nrole = \"stranger\"\naction = \"*\"\ncollection = \"*\"\nclass = \"y1\"\n";
     let outcome = explain_outcome(rt.alloc(), rule.as_slice(), &asked)?;
     assert_eq!(rt; outcome.text.as_str(), "allow rule 1\n");
+    assert_eq!(rt;
+        reason_of(&outcome),
+        "the caller eve is not in the policy, and has the role stranger\n"
+    );
     assert_eq!(rt; outcome.ending, Ending::Accepted);
     let outcome = explain_outcome(rt.alloc(), b"version = 1".as_slice(), &asked)?;
     assert_eq!(rt; outcome.text.as_str(), "deny default\n");
     assert_eq!(rt; outcome.ending, Ending::Refused);
     let outcome = explain_outcome(rt.alloc(), b"version = 1 # \xff".as_slice(), &asked)?;
     assert_eq!(rt; outcome.text.as_str(), "policy Y1\n");
+    assert_eq!(rt; reason_of(&outcome), "the policy is no text in TOML (Y1)\n");
     assert_eq!(rt; outcome.ending, Ending::Refused);
     Ok(())
 }
@@ -156,7 +171,10 @@ fn printed<R: Read>(
 fn too_long_an_input(rt: HostRuntime) -> Result<(), Fail> {
     let (out, err, ending) = printed(&rt, ["check", "-"].as_slice(), &mut io::repeat(b'x'))?;
     assert_eq!(rt; out.as_slice(), b"unreadable SIZE\n".as_slice());
-    assert_eq!(rt; err.as_slice(), b"".as_slice());
+    assert_eq!(rt;
+        err.as_slice(),
+        b"the form is longer than 16,777,216 bytes, the most that is judged (SIZE)\n".as_slice()
+    );
     assert_eq!(rt; ending, Ending::Refused);
     Ok(())
 }

@@ -73,20 +73,41 @@ pub static WORKED_FOLDERS: [WorkedFolder; 4] = [
     },
 ];
 
-/// A text that isn't unpacked, and the line that says so.
-pub type Unreadable = (&'static [u8], &'static str);
+/// A text that isn't unpacked, the line that says so, and why.
+pub type Unreadable = (&'static [u8], &'static str, &'static str);
 
 /// Texts that are no form.
 pub static UNREADABLE: [Unreadable; 6] = [
-    (b"", "unreadable S3\n"),
-    (b"BAGSET 2\nEND\n", "unreadable S1\n"),
-    (b"BAGSET 1\nFILE 4 0\n../a\nEND\n", "unreadable S5 9\n"),
-    (b"BAGSET 1\nFILE 2 0\n/a\nEND\n", "unreadable S5 9\n"),
+    (
+        b"",
+        "unreadable S3\n",
+        "the form ends too early: it stops before the end of the line END (S3)\n",
+    ),
+    (
+        b"BAGSET 2\nEND\n",
+        "unreadable S1\n",
+        "this is no transfer form: it does not begin with the line BAGSET 1 (S1)\n",
+    ),
+    (
+        b"BAGSET 1\nFILE 4 0\n../a\nEND\n",
+        "unreadable S5 9\n",
+        "the entry at byte 9 has no good path: it is not UTF-8, has a NUL, or has a segment that is empty, . or .. (S5)\n",
+    ),
+    (
+        b"BAGSET 1\nFILE 2 0\n/a\nEND\n",
+        "unreadable S5 9\n",
+        "the entry at byte 9 has no good path: it is not UTF-8, has a NUL, or has a segment that is empty, . or .. (S5)\n",
+    ),
     (
         b"BAGSET 1\nFILE 1 0\na\nFILE 3 0\na/b\nEND\n",
         "unreadable S8\n",
+        "a path of the form is data, or names both a file and a folder (S8)\n",
     ),
-    (b"BAGSET 1\nEND\n\n", "unreadable S7\n"),
+    (
+        b"BAGSET 1\nEND\n\n",
+        "unreadable S7\n",
+        "the form goes on behind its line END (S7)\n",
+    ),
 ];
 
 #[cfg(test)]

@@ -28,6 +28,14 @@ pub fn unpack_line(rt: &HostRuntime, file: &str, folder: &str) -> Result<Said, F
     Ok(unpack_said(rt.alloc(), unpack_here(rt, file, folder))?)
 }
 
+/// Why the work wasn't done, or nothing.
+pub fn reason_of(said: &Said) -> &str {
+    match &said.reason {
+        Some(reason) => reason.as_str(),
+        None => "",
+    }
+}
+
 /// Makes the folder of a test, anew where an earlier run left one.
 pub fn begin(rt: &HostRuntime, folder: &str) -> io::Result<()> {
     if fs::exists(rt, folder)? {
@@ -142,6 +150,7 @@ fn follows_no_link(rt: HostRuntime) -> Result<(), Fail> {
         symlink(&rt, *target, "links/linked/folder/link")?;
         let said = pack_line(&rt, "links/linked", "links/linked.bagset")?;
         assert_eq!(rt; said.text.as_str(), "unpackable NAME\n", "{target}");
+        assert!(rt; reason_of(&said).ends_with(" (NAME)\n"));
         assert!(rt; !said.is_done);
         fs::remove_file(&rt, "links/linked/folder/link")?;
     }
@@ -153,10 +162,11 @@ fn follows_no_link(rt: HostRuntime) -> Result<(), Fail> {
 #[test]
 fn refuses_what_is_no_form(rt: HostRuntime) -> Result<(), Fail> {
     begin(&rt, "no-forms")?;
-    for (text, line) in &UNREADABLE {
+    for (text, line, reason) in &UNREADABLE {
         fs::write(&rt, "no-forms/none.bagset", *text)?;
         let said = unpack_line(&rt, "no-forms/none.bagset", "no-forms/none")?;
         assert_eq!(rt; said.text.as_str(), *line);
+        assert_eq!(rt; reason_of(&said), *reason);
         assert!(rt; !said.is_done);
         assert!(rt; !fs::exists(&rt, "no-forms/none")?, "{line}");
         // That comes before what stands there.

@@ -1,6 +1,6 @@
 //! Folders and forms at their limits.
 
-use super::tests::{begin, lay, pack_here, pack_line, unpack_line};
+use super::tests::{begin, lay, pack_here, pack_line, reason_of, unpack_line};
 use std::fs::File;
 use std::test::*;
 use std::{fs, io};
@@ -10,23 +10,40 @@ fn make_sparse(rt: &HostRuntime, path: &str, size: u64) -> io::Result<()> {
     File::create(rt, path)?.set_len(size)
 }
 
-/// How long a file `b` is, and what is said of a folder with it and an empty file `a`.
-static SIZES: [(u64, &str); 5] = [
-    (16_777_174, "packed 2 files 16777216 bytes\n"),
-    (16_777_175, "unpackable SIZE\n"),
-    (16_777_216, "unpackable SIZE\n"),
-    (16_777_217, "unpackable S2 1\n"),
-    (1_099_511_627_776, "unpackable S2 1\n"),
+/// How long a file `b` is, what is said of a folder with it and an empty file `a`, and why.
+static SIZES: [(u64, &str, &str); 5] = [
+    (16_777_174, "packed 2 files 16777216 bytes\n", ""),
+    (
+        16_777_175,
+        "unpackable SIZE\n",
+        "the form of the folder is longer than 16,777,216 bytes, the most that is written (SIZE)\n",
+    ),
+    (
+        16_777_216,
+        "unpackable SIZE\n",
+        "the form of the folder is longer than 16,777,216 bytes, the most that is written (SIZE)\n",
+    ),
+    (
+        16_777_217,
+        "unpackable S2 1\n",
+        "b has more than 16,777,216 bytes, the most that a file of a bag may have (S2)\n",
+    ),
+    (
+        1_099_511_627_776,
+        "unpackable S2 1\n",
+        "b has more than 16,777,216 bytes, the most that a file of a bag may have (S2)\n",
+    ),
 ];
 
 #[test]
 fn packs_up_to_the_limit(rt: HostRuntime) -> Result<(), Fail> {
     begin(&rt, "sizes")?;
     lay(&rt, "sizes/large", [("a", b"".as_slice())].as_slice())?;
-    for (size, line) in &SIZES {
+    for (size, line, reason) in &SIZES {
         make_sparse(&rt, "sizes/large/b", *size)?;
         let said = pack_line(&rt, "sizes/large", "sizes/large.bagset")?;
         assert_eq!(rt; said.text.as_str(), *line);
+        assert_eq!(rt; reason_of(&said), *reason);
     }
     // Its place is that in the order of paths, and it comes before names that clash.
     fs::write(&rt, "sizes/large/a0", b"")?;
@@ -79,6 +96,7 @@ fn packs_no_more_than_2000_files(rt: HostRuntime) -> Result<(), Fail> {
     make_sparse(&rt, "many-files/many/a", 16_777_217)?;
     let said = pack_line(&rt, "many-files/many", "many-files/many.bagset")?;
     assert_eq!(rt; said.text.as_str(), "unpackable S2 2000\n");
+    assert!(rt; reason_of(&said).starts_with("a has more than "));
     make_sparse(&rt, "many-files/many/b", 16_777_217)?;
     fs::write(&rt, "many-files/many/a", b"")?;
     let said = pack_line(&rt, "many-files/many", "many-files/many.bagset")?;
@@ -104,6 +122,7 @@ fn packs_no_path_of_more_than_1024_bytes(rt: HostRuntime) -> Result<(), Fail> {
     fs::write(&rt, path.as_str(), b"")?;
     let said = pack_line(&rt, "long-paths/deep", "long-paths/deep.bagset")?;
     assert_eq!(rt; said.text.as_str(), "unpackable S5 1\n");
+    assert!(rt; reason_of(&said).contains("d is no good path: "));
     fs::remove_dir_all(&rt, "long-paths")?;
     Ok(())
 }

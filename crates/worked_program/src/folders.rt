@@ -3,6 +3,8 @@
 use crate::runs::{Run, run_all};
 use commands::Ending;
 use std::fs;
+use std::fs::File;
+use std::os::unix::fs::symlink;
 use std::test::Fail;
 use worked_bags::BAG;
 
@@ -46,7 +48,7 @@ static RUNS: [Run; 7] = [
         words: &["unpack", "bag/data/a", "other"],
         input: b"",
         out: b"unreadable S1\n",
-        err: "",
+        err: "this is no transfer form: it does not begin with the line BAGSET 1 (S1)\n",
         ending: Ending::Refused,
     },
     Run {
@@ -79,5 +81,100 @@ fn a_folder_becomes_a_form_and_a_folder_again(rt: HostRuntime) -> Result<(), Fai
     fs::remove_dir_all(&rt, "copy")?;
     fs::remove_file(&rt, "bag.bagset")?;
     fs::remove_file(&rt, "copy.bagset")?;
+    Ok(())
+}
+
+static REFUSALS: [Run; 10] = [
+    Run {
+        words: &["pack", "refused/linked", "refused/form"],
+        input: b"",
+        out: b"unpackable NAME\n",
+        err: "an entry of the folder is neither a file nor a folder, such as a link, or has a name that is not UTF-8 (NAME)\n",
+        ending: Ending::Refused,
+    },
+    Run {
+        words: &["pack", "refused/large", "refused/form"],
+        input: b"",
+        out: b"unpackable S2 1\n",
+        err: "a%20b has more than 16,777,216 bytes, the most that a file of a bag may have (S2)\n",
+        ending: Ending::Refused,
+    },
+    Run {
+        words: &["pack", "refused/clash", "refused/form"],
+        input: b"",
+        out: b"unpackable S8\n",
+        err: "a path of the folder is data, or names both a file and a folder (S8)\n",
+        ending: Ending::Refused,
+    },
+    Run {
+        words: &["pack", "refused/whole", "refused/form"],
+        input: b"",
+        out: b"unpackable SIZE\n",
+        err: "the form of the folder is longer than 16,777,216 bytes, the most that is written (SIZE)\n",
+        ending: Ending::Refused,
+    },
+    Run {
+        words: &["unpack", "refused/zip", "refused/none"],
+        input: b"",
+        out: b"unreadable S1\n",
+        err: "this is no transfer form: it does not begin with the line BAGSET 1 (S1)\nthis looks like a zip file; a bag's transfer form is wanted, which depot pack makes of a folder\n",
+        ending: Ending::Refused,
+    },
+    Run {
+        words: &["unpack", "refused/large/a b", "refused/none"],
+        input: b"",
+        out: b"unreadable SIZE\n",
+        err: "the form is longer than 16,777,216 bytes, the most that is judged (SIZE)\n",
+        ending: Ending::Refused,
+    },
+    Run {
+        words: &["check", "refused/zip"],
+        input: b"",
+        out: b"unreadable S1\n",
+        err: "this is no transfer form: it does not begin with the line BAGSET 1 (S1)\nthis looks like a zip file; a bag's transfer form is wanted, which depot pack makes of a folder\n",
+        ending: Ending::Refused,
+    },
+    Run {
+        words: &["check", "-"],
+        input: b"BAGSET 1\nEND\n",
+        out: b"invalid B1\n",
+        err: "the bag has no bagit.txt (B1)\n",
+        ending: Ending::Refused,
+    },
+    Run {
+        words: &["explain", "refused/policy", "eve", "list", "-", "-"],
+        input: b"",
+        out: b"deny default\n",
+        err: "the caller eve is not in the policy, and has the role stranger\n",
+        ending: Ending::Refused,
+    },
+    Run {
+        words: &["explain", "refused/zip", "eve", "list", "-", "-"],
+        input: b"",
+        out: b"policy Y1\n",
+        err: "the policy is no text in TOML (Y1)\n",
+        ending: Ending::Refused,
+    },
+];
+
+/// Makes a file of so many bytes, all of them zero, in a folder of its own.
+fn make_sparse(rt: &HostRuntime, folder: &str, name: &str, size: u64) -> Result<(), Fail> {
+    fs::create_dir_all(rt, folder)?;
+    let path = format!(in rt.alloc(); "{folder}/{name}")?;
+    Ok(File::create(rt, path.as_str())?.set_len(size)?)
+}
+
+#[test]
+fn refusals_are_told_in_words(rt: HostRuntime) -> Result<(), Fail> {
+    make_sparse(&rt, "refused/large", "a", 0)?;
+    make_sparse(&rt, "refused/large", "a b", 16_777_217)?;
+    make_sparse(&rt, "refused/whole", "a", 16_777_216)?;
+    make_sparse(&rt, "refused/clash", "data", 0)?;
+    make_sparse(&rt, "refused/linked", "a", 0)?;
+    symlink(&rt, "a", "refused/linked/b")?;
+    fs::write(&rt, "refused/zip", b"PK\x03\x04")?;
+    fs::write(&rt, "refused/policy", b"version = 1\n")?;
+    run_all(&rt, REFUSALS.as_slice())?;
+    fs::remove_dir_all(&rt, "refused")?;
     Ok(())
 }

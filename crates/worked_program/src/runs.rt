@@ -6,8 +6,8 @@ use program::run;
 use sqlite::Unknown;
 use std::test::Fail;
 
-/// A run: its words and its input, what it prints on standard output, how standard error begins, and
-/// how it ends.
+/// A run: its words and its input, what it prints on standard output, what it tells standard error, or
+/// how that begins where it is a failure or a fault of use, and how it ends.
 #[derive(Clone, Copy)]
 pub struct Run {
     pub words: &'static [&'static str],
@@ -26,16 +26,19 @@ fn printed(rt: &HostRuntime, words: &[&str], input: &[u8]) -> (Vec<u8>, Vec<u8>,
     (out.device, err, ending)
 }
 
-/// Whether standard error begins with the line; with no line nothing is told.
-fn is_told(err: &[u8], line: &str) -> bool {
-    err.starts_with(line.as_bytes()) && (err.is_empty() || !line.is_empty())
+/// Whether standard error was told what was expected.
+fn is_told(err: &[u8], expected: &Run) -> bool {
+    match expected.ending {
+        Ending::Accepted | Ending::Refused => err == expected.err.as_bytes(),
+        _ => err.starts_with(expected.err.as_bytes()),
+    }
 }
 
 /// Runs the program once.
 pub fn run_one(rt: &HostRuntime, expected: &Run) -> Result<(), Fail> {
     let (out, err, ending) = printed(rt, expected.words, expected.input);
     let is_right = out.as_slice() == expected.out
-        && is_told(err.as_slice(), expected.err)
+        && is_told(err.as_slice(), expected)
         && ending == expected.ending;
     if !is_right {
         let told = str::from_utf8(err.as_slice()).unwrap_or("no text");

@@ -2,7 +2,10 @@
 
 use bag_check::BagFault;
 use bag_text::{DeclFault, InfoFault, LineFault, SetFault};
-use fault_words::{InWords, OtherFile, too_long_words};
+use fault_words::{
+    InWords, OtherFile, Unlisted, folder_words, form_lines, hint_for, odd_entry_words,
+    too_large_words, too_long_words,
+};
 use office_core::PolicyFault;
 use std::alloc::Global;
 use std::borrow::CowStr;
@@ -53,6 +56,85 @@ fn forms_in_words(rt: HostRuntime) -> Result<(), Fail> {
     assert_eq!(rt;
         too_long_words(),
         "the form is longer than 16,777,216 bytes, the most that is judged (SIZE)"
+    );
+    Ok(())
+}
+
+/// Faults of a folder's files. Where one file is at fault, its path stands in front.
+static FOLDERS: [(SetFault, &str); 6] = [
+    (
+        SetFault::BadEntry(3),
+        "has more than 16,777,216 bytes, the most that a file of a bag may have (S2)",
+    ),
+    (
+        SetFault::OutOfOrder(1),
+        "does not come after the path before it, byte for byte (S4)",
+    ),
+    (
+        SetFault::BadPath(0),
+        "is no good path: it is not UTF-8, has more than 1,024 bytes or a NUL, or has a segment that is empty, . or .. (S5)",
+    ),
+    (
+        SetFault::TooManyFiles,
+        "the folder has more files than the 2,000 that a bag may have (S6)",
+    ),
+    (
+        SetFault::PathClash,
+        "a path of the folder is data, or names both a file and a folder (S8)",
+    ),
+    (SetFault::Truncated, "the files of the folder are no bag"),
+];
+
+#[test]
+fn folders_in_words(rt: HostRuntime) {
+    for (fault, want) in FOLDERS.iter() {
+        assert_eq!(rt; folder_words(*fault), *want);
+    }
+    assert_eq!(rt;
+        odd_entry_words(),
+        "an entry of the folder is neither a file nor a folder, such as a link, or has a name that is not UTF-8 (NAME)"
+    );
+    assert_eq!(rt;
+        too_large_words(),
+        "the form of the folder is longer than 16,777,216 bytes, the most that is written (SIZE)"
+    );
+}
+
+/// A fault, the bytes that have it, and the lines that say so.
+static LINES: [(SetFault, &[u8], &str); 3] = [
+    (
+        SetFault::BadOpening,
+        b"BAGSET 2\n",
+        "this is no transfer form: it does not begin with the line BAGSET 1 (S1)\n",
+    ),
+    (
+        SetFault::BadOpening,
+        b"PK\x03\x04",
+        "this is no transfer form: it does not begin with the line BAGSET 1 (S1)\nthis looks like a zip file; a bag's transfer form is wanted, which depot pack makes of a folder\n",
+    ),
+    // A hint is given of bytes that begin otherwise, and of no others.
+    (
+        SetFault::TrailingBytes,
+        b"PK\x03\x04",
+        "the form goes on behind its line END (S7)\n",
+    ),
+];
+
+#[test]
+fn refused_forms_in_lines(rt: HostRuntime) -> Result<(), Fail> {
+    for (fault, bytes, want) in LINES.iter() {
+        let lines = form_lines(rt.alloc(), *fault, hint_for(*fault, *bytes))?;
+        assert_eq!(rt; lines.as_str(), *want);
+    }
+    Ok(())
+}
+
+#[test]
+fn callers_whom_no_policy_lists(rt: HostRuntime) -> Result<(), Fail> {
+    let said = Unlisted("a b").to_string(rt.alloc())?;
+    assert_eq!(rt;
+        said.as_str(),
+        "the caller a%20b is not in the policy, and has the role stranger"
     );
     Ok(())
 }
@@ -320,23 +402,23 @@ fn policies_in_words(rt: HostRuntime) -> Result<(), Fail> {
 static OTHER_FILES: [(OtherFile, &str); 6] = [
     (
         OtherFile::Folder,
-        "this is a folder; depot check wants a bag's transfer form, which depot pack makes of it",
+        "this is a folder; a bag's transfer form is wanted, which depot pack makes of it",
     ),
     (
         OtherFile::Zip,
-        "this looks like a zip file; depot check wants a bag's transfer form, which depot pack makes of a folder",
+        "this looks like a zip file; a bag's transfer form is wanted, which depot pack makes of a folder",
     ),
     (
         OtherFile::Gzip,
-        "this looks like a gzip file; depot check wants a bag's transfer form, which depot pack makes of a folder",
+        "this looks like a gzip file; a bag's transfer form is wanted, which depot pack makes of a folder",
     ),
     (
         OtherFile::Tar,
-        "this looks like a tar file; depot check wants a bag's transfer form, which depot pack makes of a folder",
+        "this looks like a tar file; a bag's transfer form is wanted, which depot pack makes of a folder",
     ),
     (
         OtherFile::Declaration,
-        "this looks like a bag's bagit.txt; depot check wants a bag's transfer form, which depot pack makes of a folder",
+        "this looks like a bag's bagit.txt; a bag's transfer form is wanted, which depot pack makes of a folder",
     ),
     (
         OtherFile::ChangedForm,

@@ -10,4 +10,4 @@ returns c =
     let files : string_bytes c.write.new.self ≡ string_bytes c.in_ok-text.text ++ (codes " files " ++ decimal c.args.report.files) = search rules in
     let bytes : string_bytes c.write-2.new.self ≡ string_bytes c.write.new.self ++ (codes " bytes " ++ decimal c.args.report.bytes) = search rules in
     let manifests : string_bytes c.write-3.new.self ≡ string_bytes c.write-2.new.self ++ (codes " manifests " ++ decimal c.args.report.manifests ++ 10 ∷ []) = search rules in
-    (rw (manifests, bytes, files, front) (pieces (codes "valid " ++ version_text c.args.report.version) (codes " files ") (decimal c.args.report.files) (codes " bytes ") (decimal c.args.report.bytes) (codes " manifests ") (decimal c.args.report.manifests) (10 ∷ [])), refl)
+    (rw (manifests, bytes, files, front) (pieces (codes "valid " ++ version_text c.args.report.version) (codes " files ") (decimal c.args.report.files) (codes " bytes ") (decimal c.args.report.bytes) (codes " manifests ") (decimal c.args.report.manifests) (10 ∷ [])), refl, refl)

@@ -7,4 +7,4 @@ returns-in-Ok c =
     c.text_outcome.ensures.policy c.text_outcome.ensures.fault
 
 pub returns-in-Err : goal.returns-in-Err
-returns-in-Err c = no_text_is_explained c.args.bytes.now c.args.asked.now c.fault_outcome.result c.in-Err.ensures.cases.0 c.fault_outcome.ensures.text
+returns-in-Err c = no_text_is_explained c.args.bytes.now c.args.asked.now c.fault_outcome.result c.in-Err.ensures.cases.0 c.fault_outcome.ensures.says
