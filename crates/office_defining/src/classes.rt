@@ -41,14 +41,13 @@ pub fn define_class<S: Alter>(
     ensures failure { IfErr result IsFailure }
     ensures decides { Decides S.Store tx.old.conn.now tx.new.conn.now result day caller.now (requests.DefineClass name.now years) }
 {
-    let denied = denial(alloc, tx, caller, Action::Class, None, Some(name.as_str()))?;
-    if let Some(why) = denied {
+    if let Some(why) = denial(alloc, tx, caller, Action::Class, None, Some(name.as_str()))? {
         return Ok(Answer::Refused(why));
     }
-    let answer = Answer::Class {
-        name: name.to_owned(alloc)?,
-        years,
-    };
+    let defined = name.to_owned(alloc)?;
     put_class(tx, name.as_str(), years_number(years))?;
-    Ok(answer)
+    Ok(Answer::Class {
+        name: defined,
+        years,
+    })
 }

@@ -28,20 +28,17 @@ pub fn define_collection<S: Alter>(
     ensures failure { IfErr result IsFailure }
     ensures decides { Decides S.Store tx.old.conn.now tx.new.conn.now result day caller.now (requests.DefineCollection name.now) }
 {
-    let denied = denial(
+    if let Some(why) = denial(
         alloc,
         tx,
         caller,
         Action::Collection,
         Some(name.as_str()),
         None,
-    )?;
-    if let Some(why) = denied {
+    )? {
         return Ok(Answer::Refused(why));
     }
-    let answer = Answer::Collection {
-        name: name.to_owned(alloc)?,
-    };
+    let defined = name.to_owned(alloc)?;
     put_collection(tx, name.as_str())?;
-    Ok(answer)
+    Ok(Answer::Collection { name: defined })
 }

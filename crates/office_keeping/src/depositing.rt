@@ -1,12 +1,12 @@
 //! Deposits of bags.
 
-ghost use Rattle.std.specs.Prelude.{◌≡◌, IfErr, [], ◌∷◌, Some, None, MatchOption, ◌+◌, length};
+ghost use Rattle.std.specs.Prelude.{◌≡◌, IfErr, IfOk, [], ◌∷◌, Some, None, MatchOption, ◌+◌, length};
 ghost use Rattle.office_core.specs.FirstOf.{first_some};
 ghost use Rattle.office_core.specs.declared.refusal.Refusal.TheVariants.{Full};
 ghost use Rattle.office_core.specs.declared.request.Request.TheVariants as requests;
 ghost use Rattle.office_tables.specs.Faults.{IsFailure};
 ghost use Rattle.office_tables.specs.Calls.{CommitsNothing, Continues};
-ghost use Rattle.office_history.specs.Histories.{deposits};
+ghost use Rattle.office_history.specs.Histories.{History, deposits};
 ghost use Rattle.office_history.specs.Refusals as refusals;
 ghost use Rattle.office_history.specs.Refusals.{place_refusals, bad_bag, closed_ahead_refusal, full_of_deposits};
 ghost use Rattle.office_asking.specs.Serving.{Finds, Decides};
@@ -130,6 +130,28 @@ struct NewBag<'a> {
     number: u32,
 }
 
+/// The bag of the text with its number, or the refusal that stands first: a bad bag, or, where there
+/// is no number, a full office.
+fn judged_bag<'a>(
+    alloc: Global,
+    text: &'a [u8],
+    number: Option<u32>,
+) -> Result<Result<NewBag<'a>, Refusal>, TableFault>
+    ensures failure { IfErr result IsFailure }
+    ensures judged { IfOk result (λ asked. (h : History)
+        → MatchOption number (full_of_deposits h ≡ Some Full) (λ next. (full_of_deposits h ≡ None) × (next ≡ length (deposits h) + 1))
+        → IsAskedFor h text.entry.now (bad_bag text.entry.now ∷ full_of_deposits h ∷ []) asked) }
+{
+    let bag = match valid_bag(alloc, text)? {
+        Ok(bag) => bag,
+        Err(fault) => return Ok(Err(Refusal::BadBag(fault))),
+    };
+    match number {
+        Some(number) => Ok(Ok(NewBag { bag, number })),
+        None => Ok(Err(Refusal::Full)),
+    }
+}
+
 /// The bag of the text with the number of the next deposit, or the refusal of the bag or of the
 /// office that stands first: a bad bag, or a full office.
 fn numbered_bag<'a, S: Alter>(
@@ -145,14 +167,7 @@ fn numbered_bag<'a, S: Alter>(
         IsAskedFor h text.entry.now (bad_bag text.entry.now ∷ full_of_deposits h ∷ []) asked) }
 {
     let number = next_number(tx)?;
-    let bag = match valid_bag(alloc, text)? {
-        Ok(bag) => bag,
-        Err(fault) => return Ok(Err(Refusal::BadBag(fault))),
-    };
-    match number {
-        Some(number) => Ok(Ok(NewBag { bag, number })),
-        None => Ok(Err(Refusal::Full)),
-    }
+    judged_bag(alloc, text, number)
 }
 
 /// The bag that is to be kept, with its number, or the refusal that stands first.
@@ -174,10 +189,9 @@ fn new_bag<'a, S: Alter>(
     ensures asked { Finds S.Store tx.old.conn.now tx.new.conn.now result (λ h asked.
         IsAskedFor h text.entry.now (refusals.refusals h day caller.now (requests.Deposit collection.now class.now accession.now closed text.entry)) asked) }
 {
-    let refusal = refusal_before_the_bag(
+    if let Some(why) = refusal_before_the_bag(
         alloc, tx, day, caller, collection, class, accession, closed,
-    )?;
-    if let Some(why) = refusal {
+    )? {
         return Ok(Err(why));
     }
     numbered_bag(alloc, tx, text)
@@ -209,10 +223,9 @@ pub fn deposit<S: Alter>(
     let collection = collection.as_str();
     let class = class.as_str();
     let accession = accession.as_str();
-    let asked = new_bag(
+    let new = match new_bag(
         alloc, tx, day, caller, collection, class, accession, closed, bag,
-    )?;
-    let new = match asked {
+    )? {
         Ok(new) => new,
         Err(why) => return Ok(Answer::Refused(why)),
     };

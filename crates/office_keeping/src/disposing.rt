@@ -38,10 +38,10 @@ fn disposal_facts<S: Alter>(
     let closed = day_numbered(deposit.closed)?;
     let collection: &str = &deposit.collection;
     let class: &str = &deposit.class;
-    let asker = Asker::read(alloc, tx, caller)?;
-    let decision = asker.decision(Action::Dispose, Some(collection), Some(class))?;
     let hold = least_hold(alloc, tx, number, collection)?;
     let due = due_day(tx, class, closed)?;
+    let asker = Asker::read(alloc, tx, caller)?;
+    let decision = asker.decision(Action::Dispose, Some(collection), Some(class))?;
     Ok(Facts {
         action: Action::Dispose,
         decision,

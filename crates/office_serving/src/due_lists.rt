@@ -97,24 +97,6 @@ fn due_among<S: Alter>(
     Ok(numbers)
 }
 
-/// Reads every deposit, and tells the numbers of those that the caller may destroy.
-fn due_of_all<S: Alter>(
-    alloc: Global,
-    tx: &mut Transaction<'_, S>,
-    day: Day,
-    asker: &Asker,
-) -> Result<Vec<u32>, TableFault>
-    ensures same_reference { tx.new.conn.ghost_name ≡ tx.old.conn.ghost_name }
-    ensures stays { CommitsNothing S.Store tx.old.conn.now tx.new.conn.now }
-    ensures goes_on { Continues S.Store tx.old.conn.now tx.new.conn.now result }
-    ensures failure { IfErr result IsFailure }
-    ensures due { Finds S.Store tx.old.conn.now tx.new.conn.now result (λ h numbers.
-        (caller : List ℕ) → IsAsker h caller asker.now → numbers.items ≡ due_list h day caller) }
-{
-    let rows = deposit_rows(alloc, tx)?;
-    due_among(alloc, tx, day, asker, &rows)
-}
-
 /// The numbers of the deposits that the caller may destroy on that day, ascending: those whose
 /// disposal would be accepted.
 ///
@@ -132,7 +114,8 @@ pub fn due_numbers<S: Alter>(
     ensures due { Finds S.Store tx.old.conn.now tx.new.conn.now result (λ h numbers. numbers.items ≡ due_list h day caller.now) }
 {
     let asker = Asker::read(alloc, tx, caller)?;
-    due_of_all(alloc, tx, day, &asker)
+    let rows = deposit_rows(alloc, tx)?;
+    due_among(alloc, tx, day, &asker, &rows)
 }
 
 /// Answers the numbers of the deposits that the caller may destroy on that day.

@@ -104,25 +104,6 @@ fn shown_among<S: Alter>(
     Ok(told)
 }
 
-/// Reads every deposit, and tells the records of those that the caller may list.
-fn shown_of_all<S: Alter>(
-    alloc: Global,
-    tx: &mut Transaction<'_, S>,
-    asker: &Asker,
-    collection: Option<&Name<'_>>,
-    class: Option<&Name<'_>>,
-) -> Result<Vec<DepositRecord>, TableFault>
-    ensures same_reference { tx.new.conn.ghost_name ≡ tx.old.conn.ghost_name }
-    ensures stays { CommitsNothing S.Store tx.old.conn.now tx.new.conn.now }
-    ensures goes_on { Continues S.Store tx.old.conn.now tx.new.conn.now result }
-    ensures failure { IfErr result IsFailure }
-    ensures listed { Finds S.Store tx.old.conn.now tx.new.conn.now result (λ h told.
-        (caller : List ℕ) → IsAsker h caller asker.now → told.items ≡ listed_records h caller (option_copied collection.entry) (option_copied class.entry)) }
-{
-    let rows = deposit_rows(alloc, tx)?;
-    shown_among(alloc, tx, asker, collection, class, &rows)
-}
-
 /// Answers the records of the kept deposits that the caller may list, ascending: of that collection
 /// and that class, where one is named.
 ///
@@ -142,7 +123,8 @@ pub fn list<S: Alter>(
     ensures decides { Decides S.Store tx.old.conn.now tx.new.conn.now result day caller.now (requests.List (option_copied collection.entry) (option_copied class.entry)) }
 {
     let asker = Asker::read(alloc, tx, caller)?;
-    let told = shown_of_all(alloc, tx, &asker, collection, class)?;
+    let rows = deposit_rows(alloc, tx)?;
+    let told = shown_among(alloc, tx, &asker, collection, class, &rows)?;
     Ok(Answer::List {
         deposits: Sequence::of(told),
     })

@@ -23,15 +23,19 @@ fn record_in(alloc: Global, row: &DepositRow, due: Due) -> Result<DepositRecord,
     ensures told { IfOk result (λ told. IsRecordOf row.now due told) }
     ensures failure { IfErr result IsFailure }
 {
+    let closed = day_numbered(row.closed)?;
+    let deposited = day_numbered(row.deposited)?;
+    let files = count_in(row.files)?;
+    let bytes = count_in(row.bytes)?;
     Ok(DepositRecord {
         number: row.number,
         accession: accession_in(alloc, &row.accession)?,
         collection: name_in(alloc, &row.collection)?,
         class: name_in(alloc, &row.class)?,
-        closed: day_numbered(row.closed)?,
-        deposited: day_numbered(row.deposited)?,
-        files: count_in(row.files)?,
-        bytes: count_in(row.bytes)?,
+        closed,
+        deposited,
+        files,
+        bytes,
         due,
     })
 }

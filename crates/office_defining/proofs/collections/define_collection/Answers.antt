@@ -1,4 +1,4 @@
-use Rattle.std.proofs.Common.{rules, ◌≡◌, arith, ap, ◌∙◌, Some, None}
+use Rattle.std.proofs.Common.{rules, ◌≡◌, ap, ◌∙◌, Some, None}
 use Rattle.sqlite.specs.State.{HasCleanDisk}
 use Rattle.sqlite.specs.Held.{state}
 use Rattle.sql_meaning.proofs.Inside.{stays_then}
@@ -12,32 +12,36 @@ use Rattle.office_history.specs.Answers.{allowed_change}
 use Rattle.office_history.specs.Refusals.{denial}
 use Rattle.office_defining.proofs.CollectionTold.{collection_told}
 use Rattle.office_asking.proofs.Serving.{refused_serves, allowed_serves, one_refusal, pictures_grown}
+use Rattle.office_asking.proofs.InTurn.{clean_before, goes_twice}
 use Rattle.office_defining.proofs.collections.define_collection.Goals as goal
 
 pub returns-in-Some-clause-decides : goal.returns-in-Some-clause-decides
 returns-in-Some-clause-decides g c clean h legal pictured =
     let a = c.args in
-    let asked = c.in_ok-denied.ensures.denied clean h legal pictured in
+    let asked = c.in_ok-why.ensures.denied clean h legal pictured in
     let said : Some c.in-Some.why ≡ denial h a.caller.now acts.Collection (Some a.name.now) None = search (rules, asked.1) in
     refused_serves h a.day a.caller.now (requests.DefineCollection a.name.now) _ c.in-Some.why (said ∙ one_refusal _) asked.0
 
 pub returns-in_err-put_collection-clause-stays : goal.returns-in_err-put_collection-clause-stays
 returns-in_err-put_collection-clause-stays g c =
-    stays_then (state g.S.Store c.args.tx.now.conn.now) (state g.S.Store c.denial.new.tx.conn.now) (state g.S.Store c.put_collection.new.tx.conn.now) c.denial.ensures.stays c.in_ok-denied.ensures.goes_on c.put_collection.ensures.stays
+    stays_then (state g.S.Store c.args.tx.now.conn.now) (state g.S.Store c.denial.new.tx.conn.now) (state g.S.Store c.put_collection.new.tx.conn.now) c.denial.ensures.stays c.in_ok-why.ensures.goes_on c.put_collection.ensures.stays
 
 pub returns-clause-stays : goal.returns-clause-stays
 returns-clause-stays g c =
-    stays_then (state g.S.Store c.args.tx.now.conn.now) (state g.S.Store c.denial.new.tx.conn.now) (state g.S.Store c.put_collection.new.tx.conn.now) c.denial.ensures.stays c.in_ok-denied.ensures.goes_on c.put_collection.ensures.stays
+    stays_then (state g.S.Store c.args.tx.now.conn.now) (state g.S.Store c.denial.new.tx.conn.now) (state g.S.Store c.put_collection.new.tx.conn.now) c.denial.ensures.stays c.in_ok-why.ensures.goes_on c.put_collection.ensures.stays
 
 pub returns-clause-decides : goal.returns-clause-decides
 returns-clause-decides g c clean h legal pictured =
     let a = c.args in
     let mid = state g.S.Store c.denial.new.tx.conn.now in
     let new = state g.S.Store c.put_collection.new.tx.conn.now in
-    let early : HasCleanDisk mid = omega (arith, clean, c.put_collection.ensures.stays.survives.clean) in
-    let asked = c.in_ok-denied.ensures.denied early h legal pictured in
+    let early : HasCleanDisk mid = clean_before mid new c.put_collection.ensures.stays clean in
+    let asked = c.in_ok-why.ensures.denied early h legal pictured in
     let said : None ≡ denial h a.caller.now acts.Collection (Some a.name.now) None = search (rules, asked.1) in
     let name = c.as_str-2.ensures.text in
     let put : Becomes new.now (with_collection a.name.now (tables_of mid.now)) = rw name at (c.in_ok-put_collection.ensures.becomes clean asked.0.office) in
     let grew = pictures_grown h (with_changes h (allowed_change h a.day (requests.DefineCollection a.name.now))) (with_collection a.name.now) mid.now new.now (collection_told h a.day a.name.now) asked.0 put in
-    allowed_serves h a.day a.caller.now (requests.DefineCollection a.name.now) new.now _ (said ∙ one_refusal _) (ap answers.Collection c.in_ok-to_owned.ensures) grew
+    allowed_serves h a.day a.caller.now (requests.DefineCollection a.name.now) new.now _ (said ∙ one_refusal _) (ap answers.Collection c.in_ok-defined.ensures) grew
+
+pub returns-clause-goes_on : goal.returns-clause-goes_on
+returns-clause-goes_on g c = goes_twice (state g.S.Store c.args.tx.now.conn.now) (state g.S.Store c.denial.new.tx.conn.now) (state g.S.Store c.put_collection.new.tx.conn.now) c.put_collection.ensures.stays c.in_ok-why.ensures.goes_on c.in_ok-put_collection.ensures.goes_on

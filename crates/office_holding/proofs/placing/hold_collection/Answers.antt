@@ -1,4 +1,4 @@
-use Rattle.std.proofs.Common.{arith, ap, subst, Ok, Err, [], ◌∷◌}
+use Rattle.std.proofs.Common.{ap, subst, Ok, Err, [], ◌∷◌}
 use Rattle.sqlite.specs.State.{HasCleanDisk}
 use Rattle.sqlite.specs.Held.{state}
 use Rattle.office_core.specs.declared.answer.Answer.TheVariants as answers
@@ -8,6 +8,8 @@ use Rattle.office_history.specs.Refusals.{collection_hold_refusals}
 use Rattle.office_asking.specs.Pictures.{Pictures}
 use Rattle.office_asking.proofs.Serving.{allowed_serves, refused_serves}
 use Rattle.office_holding.specs.Holds.{IsPlace}
+use Rattle.office_asking.proofs.InTurn.{clean_before, goes_twice}
+use Rattle.sql_meaning.proofs.Inside.{stays_then}
 use Rattle.office_holding.proofs.placing.hold_collection.Goals as goal
 
 pub returns-in_ok-place-in-Ok-clause-decides : goal.returns-in_ok-place-in-Ok-clause-decides
@@ -15,7 +17,7 @@ returns-in_ok-place-in-Ok-clause-decides g c clean h legal pictured =
     let a = c.args in
     let mid = state g.S.Store c.place_for_collection.new.tx.conn.now in
     let new = state g.S.Store c.place.new.tx.conn.now in
-    let early : HasCleanDisk mid = omega (arith, clean, c.place.ensures.stays.survives.clean) in
+    let early : HasCleanDisk mid = clean_before mid new c.place.ensures.stays clean in
     let found = c.in_ok-hold.ensures.found early h legal pictured in
     let place = subst (λ name. IsPlace h (collection_hold_refusals h a.caller.now name) (Ok c.in-Ok.hold)) c.as_str.ensures.text (subst (IsPlace h (collection_hold_refusals h a.caller.now c.as_str.result.now)) c.in-Ok.is found.1) in
     let put : Pictures (with_changes h (PlacedHold a.day (record { target = OnCollection a.name.now; matter = a.matter.now }) ∷ [])) new.now =
@@ -29,3 +31,12 @@ returns-in-Err-clause-decides g c clean h legal pictured =
     let found = c.in_ok-hold.ensures.found clean h legal pictured in
     let said = subst (λ name. IsPlace h (collection_hold_refusals h a.caller.now name) (Err c.in-Err.why)) c.as_str.ensures.text (subst (IsPlace h (collection_hold_refusals h a.caller.now c.as_str.result.now)) c.in-Err.is found.1) in
     refused_serves h a.day a.caller.now (requests.HoldCollection a.name.now a.matter.now) new.now c.in-Err.why said found.0
+
+pub returns-in_err-place-in-Ok-clause-stays : goal.returns-in_err-place-in-Ok-clause-stays
+returns-in_err-place-in-Ok-clause-stays g c = stays_then (state g.S.Store c.args.tx.now.conn.now) (state g.S.Store c.place_for_collection.new.tx.conn.now) (state g.S.Store c.place.new.tx.conn.now) c.place_for_collection.ensures.stays c.in_ok-hold.ensures.goes_on c.place.ensures.stays
+
+pub returns-in_ok-place-in-Ok-clause-stays : goal.returns-in_ok-place-in-Ok-clause-stays
+returns-in_ok-place-in-Ok-clause-stays g c = stays_then (state g.S.Store c.args.tx.now.conn.now) (state g.S.Store c.place_for_collection.new.tx.conn.now) (state g.S.Store c.place.new.tx.conn.now) c.place_for_collection.ensures.stays c.in_ok-hold.ensures.goes_on c.place.ensures.stays
+
+pub returns-in_ok-place-in-Ok-clause-goes_on : goal.returns-in_ok-place-in-Ok-clause-goes_on
+returns-in_ok-place-in-Ok-clause-goes_on g c = goes_twice (state g.S.Store c.args.tx.now.conn.now) (state g.S.Store c.place_for_collection.new.tx.conn.now) (state g.S.Store c.place.new.tx.conn.now) c.place.ensures.stays c.in_ok-hold.ensures.goes_on c.in_ok-place-in-Ok.ensures.goes_on

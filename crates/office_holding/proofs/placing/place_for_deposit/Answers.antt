@@ -1,18 +1,20 @@
-use Rattle.std.proofs.Common.{arith, subst}
+use Rattle.std.proofs.Common.{subst}
 use Rattle.sqlite.specs.State.{HasCleanDisk}
 use Rattle.sqlite.specs.Held.{state}
-use Rattle.sql_meaning.proofs.Results.{if_ok}
+use Rattle.sql_meaning.proofs.Results.{if_ok, ok_then}
 use Rattle.office_core.specs.declared.action.Action.TheVariants as acts
 use Rattle.office_history.specs.Refusals.{kept_refusals}
 use Rattle.office_asking.specs.Deposits.{IsAsked}
 use Rattle.office_holding.proofs.HoldPlaces.{deposit_denied, deposit_placed}
+use Rattle.office_asking.proofs.InTurn.{clean_before}
+use Rattle.sql_meaning.proofs.Inside.{stays_then, goes_then}
 use Rattle.office_holding.proofs.placing.place_for_deposit.Goals as goal
 
 pub returns-in-Ok-clause-found : goal.returns-in-Ok-clause-found
 returns-in-Ok-clause-found g c clean h legal pictured =
     let a = c.args in
     let mid = state g.S.Store c.kept_deposit.new.tx.conn.now in
-    let early : HasCleanDisk mid = omega (arith, clean, c.next_hold.ensures.stays.survives.clean) in
+    let early : HasCleanDisk mid = clean_before mid (state g.S.Store c.next_hold.new.tx.conn.now) c.next_hold.ensures.stays clean in
     let asked = c.in_ok-kept_deposit.ensures.asked early h legal pictured in
     let kept = subst (IsAsked h a.number (kept_refusals h a.caller.now acts.Hold a.number)) c.in-Ok.is asked.1 in
     if_ok c.next_hold.result (λ place p. (p.0, deposit_placed h a.caller.now a.number _ place kept p.1)) (c.next_hold.ensures.next clean h legal asked.0)
@@ -22,3 +24,13 @@ returns-clause-found g c clean h legal pictured =
     let a = c.args in
     let asked = c.in_ok-kept_deposit.ensures.asked clean h legal pictured in
     (asked.0, deposit_denied h a.caller.now a.number c.in-Err.why (subst (IsAsked h a.number (kept_refusals h a.caller.now acts.Hold a.number)) c.in-Err.is asked.1))
+
+pub returns-in-Ok-clause-stays : goal.returns-in-Ok-clause-stays
+returns-in-Ok-clause-stays g c = stays_then (state g.S.Store c.args.tx.now.conn.now) (state g.S.Store c.kept_deposit.new.tx.conn.now) (state g.S.Store c.next_hold.new.tx.conn.now) c.kept_deposit.ensures.stays c.in_ok-kept_deposit.ensures.goes_on c.next_hold.ensures.stays
+
+pub returns-in-Ok-clause-goes_on : goal.returns-in-Ok-clause-goes_on
+returns-in-Ok-clause-goes_on g c clean =
+    let s0 = state g.S.Store c.args.tx.now.conn.now in
+    let s1 = state g.S.Store c.kept_deposit.new.tx.conn.now in
+    let s2 = state g.S.Store c.next_hold.new.tx.conn.now in
+    ok_then c.next_hold.result (goes_then s0 s1 s2 (c.in_ok-kept_deposit.ensures.goes_on (clean_before s1 s2 c.next_hold.ensures.stays clean))) (c.next_hold.ensures.goes_on clean)

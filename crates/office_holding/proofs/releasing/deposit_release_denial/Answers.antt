@@ -1,7 +1,7 @@
-use Rattle.std.proofs.Common.{rules, ◌≡◌, arith, sym, ◌∙◌, Some, option_map}
+use Rattle.std.proofs.Common.{rules, ◌≡◌, sym, ◌∙◌, Some, option_map}
 use Rattle.sqlite.specs.State.{HasCleanDisk}
 use Rattle.sqlite.specs.Held.{state}
-use Rattle.sql_meaning.proofs.Results.{if_ok}
+use Rattle.sql_meaning.proofs.Results.{if_ok, ok_then}
 use Rattle.office_core.specs.declared.action.Action.TheVariants as acts
 use Rattle.office_history.specs.Histories.{deposit_numbered}
 use Rattle.office_history.specs.Pictures.{deposit_row}
@@ -9,6 +9,8 @@ use Rattle.office_history.specs.Refusals.{denial}
 use Rattle.office_asking.proofs.Readings.{pictured_still}
 use Rattle.office_asking.proofs.DepositAsked.{deposit_read}
 use Rattle.office_holding.proofs.HoldAsked.{asked_of_deposit}
+use Rattle.office_asking.proofs.InTurn.{clean_before}
+use Rattle.sql_meaning.proofs.Inside.{stays_then, goes_then}
 use Rattle.office_holding.proofs.releasing.deposit_release_denial.Goals as goal
 
 pub returns-clause-denied : goal.returns-clause-denied
@@ -16,7 +18,7 @@ returns-clause-denied g c clean h legal pictured =
     let a = c.args in
     let old = state g.S.Store a.tx.now.conn.now in
     let mid = state g.S.Store c.deposit_row.new.tx.conn.now in
-    let early : HasCleanDisk mid = omega (arith, clean, c.denial.ensures.stays.survives.clean) in
+    let early : HasCleanDisk mid = clean_before mid (state g.S.Store c.denial.new.tx.conn.now) c.denial.ensures.stays clean in
     let read = deposit_read h old.now pictured a.number c.in_ok-deposit.field-0 (c.in_ok-deposit.ensures.found early pictured.office) in
     let still = pictured_still h old.now pictured mid.now (c.in_ok-deposit.ensures.same early pictured.office) in
     let row = c.in-Some.deposit in
@@ -24,3 +26,13 @@ returns-clause-denied g c clean h legal pictured =
     let collection : c.deref.result.now ≡ row.collection = search rules in
     let class : c.deref-2.result.now ≡ row.class = search rules in
     if_ok c.denial.result (λ why p. (p.0, asked_of_deposit h a.caller.now a.number row some why (p.1 ∙ (λ i. denial h a.caller.now acts.Release (Some (collection i)) (Some (class i)))))) (c.denial.ensures.denied clean h legal still)
+
+pub returns-clause-stays : goal.returns-clause-stays
+returns-clause-stays g c = stays_then (state g.S.Store c.args.tx.now.conn.now) (state g.S.Store c.deposit_row.new.tx.conn.now) (state g.S.Store c.denial.new.tx.conn.now) c.deposit_row.ensures.stays c.in_ok-deposit.ensures.goes_on c.denial.ensures.stays
+
+pub returns-clause-goes_on : goal.returns-clause-goes_on
+returns-clause-goes_on g c clean =
+    let s0 = state g.S.Store c.args.tx.now.conn.now in
+    let s1 = state g.S.Store c.deposit_row.new.tx.conn.now in
+    let s2 = state g.S.Store c.denial.new.tx.conn.now in
+    ok_then c.denial.result (goes_then s0 s1 s2 (c.in_ok-deposit.ensures.goes_on (clean_before s1 s2 c.denial.ensures.stays clean))) (c.denial.ensures.goes_on clean)

@@ -1,4 +1,4 @@
-use Rattle.std.proofs.Common.{rules, ◌≡◌, arith, sym, ◌∙◌, Some, None, option_map}
+use Rattle.std.proofs.Common.{rules, ◌≡◌, sym, ◌∙◌, Some, None, option_map}
 use Rattle.sqlite.specs.State.{HasCleanDisk}
 use Rattle.sqlite.specs.Held.{state}
 use Rattle.jiff.specs.Words.{epoch_day}
@@ -7,6 +7,8 @@ use Rattle.office_history.specs.Histories.{hold_numbered}
 use Rattle.office_history.specs.Pictures.{hold_row}
 use Rattle.office_asking.proofs.Readings.{pictured_still}
 use Rattle.office_holding.proofs.HoldAsked.{hold_read, no_hold, release_asked}
+use Rattle.office_asking.proofs.InTurn.{clean_before, goes_twice}
+use Rattle.sql_meaning.proofs.Inside.{stays_then}
 use Rattle.office_holding.proofs.releasing.release_refusal.Goals as goal
 
 pub returns-in_default-clause-refused : goal.returns-in_default-clause-refused
@@ -23,7 +25,7 @@ returns-clause-refused g c clean h legal pictured =
     let a = c.args in
     let old = state g.S.Store a.tx.now.conn.now in
     let mid = state g.S.Store c.hold_row.new.tx.conn.now in
-    let early : HasCleanDisk mid = omega (arith, clean, c.release_denial.ensures.stays.survives.clean) in
+    let early : HasCleanDisk mid = clean_before mid (state g.S.Store c.release_denial.new.tx.conn.now) c.release_denial.ensures.stays clean in
     let read = hold_read h old.now pictured a.number c.in_ok-hold.field-0 (c.in_ok-hold.ensures.found early pictured.office) in
     let still = pictured_still h old.now pictured mid.now (c.in_ok-hold.ensures.same early pictured.office) in
     let row = c.in-Some.hold in
@@ -33,3 +35,12 @@ returns-clause-refused g c clean h legal pictured =
     let collection : shown.held_collection c.in_ok-target.target ≡ row.collection = search rules in
     let day : option_map epoch_day c.in_ok-released.released ≡ row.released = search rules in
     (asked.0, c.first_refusal.ensures ∙ release_asked h a.number row some a.caller.now c.in_ok-target.target c.in_ok-denied.denied c.in_ok-released.released deposit collection asked.1 day)
+
+pub returns-in_err-denied-clause-stays : goal.returns-in_err-denied-clause-stays
+returns-in_err-denied-clause-stays g c = stays_then (state g.S.Store c.args.tx.now.conn.now) (state g.S.Store c.hold_row.new.tx.conn.now) (state g.S.Store c.release_denial.new.tx.conn.now) c.hold_row.ensures.stays c.in_ok-hold.ensures.goes_on c.release_denial.ensures.stays
+
+pub returns-clause-stays : goal.returns-clause-stays
+returns-clause-stays g c = stays_then (state g.S.Store c.args.tx.now.conn.now) (state g.S.Store c.hold_row.new.tx.conn.now) (state g.S.Store c.release_denial.new.tx.conn.now) c.hold_row.ensures.stays c.in_ok-hold.ensures.goes_on c.release_denial.ensures.stays
+
+pub returns-clause-goes_on : goal.returns-clause-goes_on
+returns-clause-goes_on g c = goes_twice (state g.S.Store c.args.tx.now.conn.now) (state g.S.Store c.hold_row.new.tx.conn.now) (state g.S.Store c.release_denial.new.tx.conn.now) c.release_denial.ensures.stays c.in_ok-hold.ensures.goes_on c.in_ok-denied.ensures.goes_on

@@ -21,7 +21,7 @@ returns-in-Err-clause-decides g c clean h legal pictured =
     let collection = c.as_str-collection.ensures.text in
     let class = c.as_str-class.ensures.text in
     let accession = c.as_str-accession.ensures.text in
-    let asked = c.in_ok-asked.ensures.asked clean h legal pictured in
+    let asked = c.in_ok-new.ensures.asked clean h legal pictured in
     let these = refusals h a.day a.caller.now (requests.Deposit c.as_str-collection.result.now c.as_str-class.result.now c.as_str-accession.result.now a.closed a.bag) in
     let stands : Some c.in-Err.why ≡ first_some these = subst (IsAskedFor h a.bag.now these) c.in-Err.is asked.1 in
     refused_serves h a.day a.caller.now (requests.Deposit a.collection.now a.class.now a.accession.now a.closed a.bag) new.now c.in-Err.why
@@ -36,7 +36,7 @@ returns-clause-decides g c clean h legal pictured =
     let collection = c.as_str-collection.ensures.text in
     let class = c.as_str-class.ensures.text in
     let accession = c.as_str-accession.ensures.text in
-    let asked = c.in_ok-asked.ensures.asked early h legal pictured in
+    let asked = c.in_ok-new.ensures.asked early h legal pictured in
     let these = refusals h a.day a.caller.now (requests.Deposit c.as_str-collection.result.now c.as_str-class.result.now c.as_str-accession.result.now a.closed a.bag) in
     let next : IsNext h a.bag.now these c.in-Ok.new = subst (IsAskedFor h a.bag.now these) c.in-Ok.is asked.1 in
     let kept = c.in_ok-keep.ensures.kept clean h legal asked.0 next.number in
@@ -46,10 +46,10 @@ returns-clause-decides g c clean h legal pictured =
     (subst (λ (x : History). Pictures x new.now) (λ i. with_changes h (deposit_change a.day (collection i) (class i) (accession i) a.closed (sym next.bag i))) kept)
 
 pub returns-in_err-keep-clause-stays : goal.returns-in_err-keep-clause-stays
-returns-in_err-keep-clause-stays g c = stays_then (state g.S.Store c.args.tx.now.conn.now) (state g.S.Store c.new_bag.new.tx.conn.now) (state g.S.Store c.keep.new.tx.conn.now) c.new_bag.ensures.stays c.in_ok-asked.ensures.goes_on c.keep.ensures.stays
+returns-in_err-keep-clause-stays g c = stays_then (state g.S.Store c.args.tx.now.conn.now) (state g.S.Store c.new_bag.new.tx.conn.now) (state g.S.Store c.keep.new.tx.conn.now) c.new_bag.ensures.stays c.in_ok-new.ensures.goes_on c.keep.ensures.stays
 
 pub returns-clause-stays : goal.returns-clause-stays
-returns-clause-stays g c = stays_then (state g.S.Store c.args.tx.now.conn.now) (state g.S.Store c.new_bag.new.tx.conn.now) (state g.S.Store c.keep.new.tx.conn.now) c.new_bag.ensures.stays c.in_ok-asked.ensures.goes_on c.keep.ensures.stays
+returns-clause-stays g c = stays_then (state g.S.Store c.args.tx.now.conn.now) (state g.S.Store c.new_bag.new.tx.conn.now) (state g.S.Store c.keep.new.tx.conn.now) c.new_bag.ensures.stays c.in_ok-new.ensures.goes_on c.keep.ensures.stays
 
 pub returns-clause-goes_on : goal.returns-clause-goes_on
-returns-clause-goes_on g c = goes_twice (state g.S.Store c.args.tx.now.conn.now) (state g.S.Store c.new_bag.new.tx.conn.now) (state g.S.Store c.keep.new.tx.conn.now) c.keep.ensures.stays c.in_ok-asked.ensures.goes_on c.in_ok-keep.ensures.goes_on
+returns-clause-goes_on g c = goes_twice (state g.S.Store c.args.tx.now.conn.now) (state g.S.Store c.new_bag.new.tx.conn.now) (state g.S.Store c.keep.new.tx.conn.now) c.keep.ensures.stays c.in_ok-new.ensures.goes_on c.in_ok-keep.ensures.goes_on

@@ -13,7 +13,7 @@ use Rattle.office_keeping.proofs.depositing.new_bag.Goals as goal
 pub returns-in-Some-clause-asked : goal.returns-in-Some-clause-asked
 returns-in-Some-clause-asked g c clean h legal pictured =
     let a = c.args in
-    let asked = c.in_ok-refusal.ensures.refusal clean h legal pictured in
+    let asked = c.in_ok-why.ensures.refusal clean h legal pictured in
     let stands : Some c.in-Some.why ≡ first_some (refusals_before_the_bag h a.day a.caller.now a.collection.now a.class.now a.accession.now a.closed) = sym c.in-Some.is ∙ asked.1 in
     (asked.0, first_stands (refusals_before_the_bag h a.day a.caller.now a.collection.now a.class.now a.accession.now a.closed) (bad_bag a.text.now ∷ full_of_deposits h ∷ []) c.in-Some.why stands)
 
@@ -22,17 +22,17 @@ returns-clause-asked g c clean h legal pictured =
     let a = c.args in
     let mid = state g.S.Store c.refusal_before_the_bag.new.tx.conn.now in
     let early : HasCleanDisk mid = clean_before mid (state g.S.Store c.numbered_bag.new.tx.conn.now) c.numbered_bag.ensures.stays clean in
-    let first = c.in_ok-refusal.ensures.refusal early h legal pictured in
+    let first = c.in_ok-why.ensures.refusal early h legal pictured in
     let free : None ≡ first_some (refusals_before_the_bag h a.day a.caller.now a.collection.now a.class.now a.accession.now a.closed) = search (rules, first.1) in
     if_ok c.numbered_bag.result (λ asked p. (p.0, asked_later h a.text.now (refusals_before_the_bag h a.day a.caller.now a.collection.now a.class.now a.accession.now a.closed) (bad_bag a.text.now ∷ full_of_deposits h ∷ []) asked free p.1))
     (c.numbered_bag.ensures.numbered clean h legal first.0)
 
 pub returns-clause-stays : goal.returns-clause-stays
-returns-clause-stays g c = stays_then (state g.S.Store c.args.tx.now.conn.now) (state g.S.Store c.refusal_before_the_bag.new.tx.conn.now) (state g.S.Store c.numbered_bag.new.tx.conn.now) c.refusal_before_the_bag.ensures.stays c.in_ok-refusal.ensures.goes_on c.numbered_bag.ensures.stays
+returns-clause-stays g c = stays_then (state g.S.Store c.args.tx.now.conn.now) (state g.S.Store c.refusal_before_the_bag.new.tx.conn.now) (state g.S.Store c.numbered_bag.new.tx.conn.now) c.refusal_before_the_bag.ensures.stays c.in_ok-why.ensures.goes_on c.numbered_bag.ensures.stays
 
 pub returns-clause-goes_on : goal.returns-clause-goes_on
 returns-clause-goes_on g c clean =
     let s0 = state g.S.Store c.args.tx.now.conn.now in
     let s1 = state g.S.Store c.refusal_before_the_bag.new.tx.conn.now in
     let s2 = state g.S.Store c.numbered_bag.new.tx.conn.now in
-    ok_then c.numbered_bag.result (goes_then s0 s1 s2 (c.in_ok-refusal.ensures.goes_on (clean_before s1 s2 c.numbered_bag.ensures.stays clean))) (c.numbered_bag.ensures.goes_on clean)
+    ok_then c.numbered_bag.result (goes_then s0 s1 s2 (c.in_ok-why.ensures.goes_on (clean_before s1 s2 c.numbered_bag.ensures.stays clean))) (c.numbered_bag.ensures.goes_on clean)

@@ -1,10 +1,10 @@
-use Rattle.std.proofs.Common.{rules, pos}
+use Rattle.std.proofs.Common.{rules, pos, refl}
 use Rattle.sqlite.specs.State.{HasCleanDisk}
 use Rattle.sqlite.specs.Held.{state}
 use Rattle.sql_meaning.proofs.Inside.{stays_on}
 use Rattle.office_tables.specs.Tables.{tables_of}
 use Rattle.office_keeping.proofs.DepositedTold.{next_file}
-use Rattle.office_asking.proofs.InTurn.{clean_before}
+use Rattle.office_asking.proofs.InTurn.{clean_before, stays_still}
 use Rattle.office_keeping.proofs.keeping.add_files.Goals as goal
 
 pub loop-file-preserved : goal.loop-file-preserved
@@ -22,3 +22,14 @@ loop-file-preserved g c =
           let there = inv.becomes (early clean) office in
           next_file (pos c.args.number) c.args.files.now c.loop-file.file-index _ c.loop-file-test.true (tables_of old.now) now.now new.now (c.in_ok-add_file.ensures.becomes clean there.0) there.1;
     }
+
+pub returns-in_err-add_file-clause-stays : goal.returns-in_err-add_file-clause-stays
+returns-in_err-add_file-clause-stays g c = stays_on (state g.S.Store c.args.tx.now.conn.now) (state g.S.Store c.loop-file.tx.conn.now) (state g.S.Store c.add_file.new.tx.conn.now) c.loop-file.invariant.stays c.loop-file.invariant.goes_on c.add_file.ensures.stays
+
+pub loop-file-init : goal.loop-file-init
+loop-file-init g c = record {
+  same_reference = refl;
+  stays = stays_still (state g.S.Store c.args.tx.now.conn.now);
+  goes_on = λ _. record { is_open = λ is_open. is_open; inside = λ inside. inside };
+  becomes = λ clean office. (office, refl);
+}

@@ -9,7 +9,7 @@ use Rattle.office_tables.specs.Tables.{Becomes, tables_of}
 use Rattle.office_history.specs.Histories.{Deposit}
 use Rattle.office_asking.proofs.Unchanged.{row_by_gone}
 use Rattle.office_keeping.proofs.DepositedTold.{kept_deposit}
-use Rattle.office_asking.proofs.InTurn.{clean_before}
+use Rattle.office_asking.proofs.InTurn.{clean_before, stays_still}
 use Rattle.office_keeping.proofs.keeping.keep.Goals as goal
 
 pub returns-clause-stays : goal.returns-clause-stays
@@ -35,3 +35,9 @@ returns-clause-kept g c clean h legal pictured next =
     let added : Becomes mid.now (with_deposit (row_by_gone a.number None (a.day, d)) (tables_of old.now)) = search (rules, put) in
     ok_then c.add_files.result (kept_deposit h legal a.day d a.number old.now mid.now new.now next pictured added)
     (subst (λ fs. OnOk c.add_files.result (Becomes new.now (with_files (pos a.number) fs (tables_of mid.now)))) c.files.ensures.whole (c.add_files.ensures.becomes clean added.office))
+
+pub returns-in_err-counted-clause-stays : goal.returns-in_err-counted-clause-stays
+returns-in_err-counted-clause-stays g c = stays_still (state g.S.Store c.args.tx.now.conn.now)
+
+pub returns-in_err-counted-2-clause-stays : goal.returns-in_err-counted-2-clause-stays
+returns-in_err-counted-2-clause-stays g c = stays_still (state g.S.Store c.args.tx.now.conn.now)

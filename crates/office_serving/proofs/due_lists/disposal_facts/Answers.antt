@@ -8,7 +8,7 @@ use Rattle.office_history.specs.Histories.{least_hold}
 use Rattle.office_history.specs.Refusals.{deciding_rule}
 use Rattle.office_serving.proofs.DueListTold.{same_facts}
 use Rattle.office_serving.proofs.RecordTold.{closed_is, same_count}
-use Rattle.office_asking.proofs.InTurn.{clean_before, goes_twice}
+use Rattle.office_asking.proofs.InTurn.{clean_before, goes_twice, stays_still}
 use Rattle.sql_meaning.proofs.Inside.{stays_then}
 use Rattle.office_serving.proofs.due_lists.disposal_facts.Goals as goal
 
@@ -44,3 +44,12 @@ returns-clause-stays g c = stays_then (state g.S.Store c.args.tx.now.conn.now) (
 
 pub returns-clause-goes_on : goal.returns-clause-goes_on
 returns-clause-goes_on g c = goes_twice (state g.S.Store c.args.tx.now.conn.now) (state g.S.Store c.least_hold.new.tx.conn.now) (state g.S.Store c.due_day.new.tx.conn.now) c.due_day.ensures.stays c.in_ok-hold.ensures.goes_on c.in_ok-due.ensures.goes_on
+
+pub returns-in_err-gone-clause-stays : goal.returns-in_err-gone-clause-stays
+returns-in_err-gone-clause-stays g c = stays_still (state g.S.Store c.args.tx.now.conn.now)
+
+pub returns-in_err-closed-clause-stays : goal.returns-in_err-closed-clause-stays
+returns-in_err-closed-clause-stays g c = stays_still (state g.S.Store c.args.tx.now.conn.now)
+
+pub returns-in_err-decision-clause-stays : goal.returns-in_err-decision-clause-stays
+returns-in_err-decision-clause-stays g c = stays_still (state g.S.Store c.args.tx.now.conn.now)

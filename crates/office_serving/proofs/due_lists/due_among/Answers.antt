@@ -1,4 +1,4 @@
-use Rattle.std.proofs.Common.{arith, rules, ◌≡◌, pos, length, filter, get_or, ap, ◌∙◌}
+use Rattle.std.proofs.Common.{arith, rules, ◌≡◌, pos, length, filter, get_or, ap, ◌∙◌, refl}
 use Rattle.sqlite.specs.State.{HasCleanDisk}
 use Rattle.sqlite.specs.Held.{state}
 use Rattle.sql_meaning.proofs.Inside.{stays_on}
@@ -7,7 +7,7 @@ use Rattle.office_history.specs.Lists.{numbers}
 use Rattle.office_serving.specs.Listing.{is_due}
 use Rattle.office_serving.proofs.DueListTold.{due_next, due_of_rows}
 use Rattle.office_serving.proofs.due_lists.due_among.Goals.{then-branch+in_ok-push, else-branch}
-use Rattle.office_asking.proofs.InTurn.{clean_before}
+use Rattle.office_asking.proofs.InTurn.{clean_before, stays_still}
 use Rattle.office_serving.proofs.due_lists.due_among.Goals as goal
 
 pub loop-row-preserved : goal.loop-row-preserved
@@ -45,3 +45,17 @@ returns-clause-due g c clean h legal pictured =
     let there = c.loop-row.invariant.due clean h legal pictured in
     let finished : c.loop-row.row-index ≡ length a.rows.now = omega (arith, c.loop-row-test.false, c.loop-row.auto.row-index-end) in
     (there.0, λ caller is rows_are. due_of_rows h a.day caller a.rows.now rows_are c.loop-row.numbers.items (there.1 caller is rows_are ∙ ap (λ k. filter (is_due h a.day caller) (numbers k)) finished))
+
+pub returns-in_err-is_due-clause-stays : goal.returns-in_err-is_due-clause-stays
+returns-in_err-is_due-clause-stays g c = stays_on (state g.S.Store c.args.tx.now.conn.now) (state g.S.Store c.loop-row.tx.conn.now) (state g.S.Store c.is_due.new.tx.conn.now) c.loop-row.invariant.stays c.loop-row.invariant.goes_on c.is_due.ensures.stays
+
+pub returns-in_err-push-clause-stays : goal.returns-in_err-push-clause-stays
+returns-in_err-push-clause-stays g c = stays_on (state g.S.Store c.args.tx.now.conn.now) (state g.S.Store c.loop-row.tx.conn.now) (state g.S.Store c.is_due.new.tx.conn.now) c.loop-row.invariant.stays c.loop-row.invariant.goes_on c.is_due.ensures.stays
+
+pub loop-row-init : goal.loop-row-init
+loop-row-init g c = record {
+  same_reference = refl;
+  stays = stays_still (state g.S.Store c.args.tx.now.conn.now);
+  goes_on = λ _. record { is_open = λ is_open. is_open; inside = λ inside. inside };
+  due = λ clean h legal pictured. (pictured, λ caller is rows_are. c.new-numbers.ensures.items);
+}

@@ -1,24 +1,39 @@
+use Rattle.std.proofs.Common.{◌∙◌}
 use Rattle.sqlite.specs.State.{HasCleanDisk}
 use Rattle.sqlite.specs.Held.{state}
 use Rattle.sql_meaning.proofs.Results.{if_ok, ok_then}
-use Rattle.office_asking.proofs.InTurn.{clean_before}
-use Rattle.sql_meaning.proofs.Inside.{stays_then, goes_then}
+use Rattle.office_asking.proofs.Readings.{in_picture, pictured_still}
+use Rattle.sql_meaning.proofs.Inside.{stays_then}
+use Rattle.office_asking.proofs.InTurn.{clean_before, goes_twice}
 use Rattle.office_serving.proofs.due_lists.due_numbers.Goals as goal
 
 pub returns-clause-due : goal.returns-clause-due
 returns-clause-due g c clean h legal pictured =
     let a = c.args in
-    let mid = state g.S.Store c.read.new.tx.conn.now in
-    let early : HasCleanDisk mid = clean_before mid (state g.S.Store c.due_of_all.new.tx.conn.now) c.due_of_all.ensures.stays clean in
-    let asked = c.in_ok-asker.ensures.asker early h legal pictured in
-    if_ok c.due_of_all.result (λ found says. (says.0, says.1 a.caller.now asked.1)) (c.due_of_all.ensures.due clean h legal asked.0)
+    let s1 = state g.S.Store c.read.new.tx.conn.now in
+    let s2 = state g.S.Store c.deposit_rows.new.tx.conn.now in
+    let s3 = state g.S.Store c.due_among.new.tx.conn.now in
+    let clean2 : HasCleanDisk s2 = clean_before s2 s3 c.due_among.ensures.stays clean in
+    let clean1 : HasCleanDisk s1 = clean_before s1 s2 c.deposit_rows.ensures.stays clean2 in
+    let asked = c.in_ok-asker.ensures.asker clean1 h legal pictured in
+    let still = pictured_still h s1.now asked.0 s2.now (c.in_ok-rows.ensures.same clean2 asked.0.office) in
+    let rows_are = c.deref.ensures.value ∙ c.in_ok-rows.ensures.found clean2 asked.0.office ∙ in_picture h s1.now asked.0 (λ t. t.deposits) in
+    if_ok c.due_among.result (λ found says. (says.0, says.1 a.caller.now asked.1 rows_are)) (c.due_among.ensures.due clean h legal still)
+
+pub returns-in_err-rows-clause-stays : goal.returns-in_err-rows-clause-stays
+returns-in_err-rows-clause-stays g c = stays_then (state g.S.Store c.args.tx.now.conn.now) (state g.S.Store c.read.new.tx.conn.now) (state g.S.Store c.deposit_rows.new.tx.conn.now) c.read.ensures.stays c.in_ok-asker.ensures.goes_on c.deposit_rows.ensures.stays
 
 pub returns-clause-stays : goal.returns-clause-stays
-returns-clause-stays g c = stays_then (state g.S.Store c.args.tx.now.conn.now) (state g.S.Store c.read.new.tx.conn.now) (state g.S.Store c.due_of_all.new.tx.conn.now) c.read.ensures.stays c.in_ok-asker.ensures.goes_on c.due_of_all.ensures.stays
+returns-clause-stays g c =
+    let s0 = state g.S.Store c.args.tx.now.conn.now in
+    let s1 = state g.S.Store c.read.new.tx.conn.now in
+    let s2 = state g.S.Store c.deposit_rows.new.tx.conn.now in
+    stays_then s0 s2 (state g.S.Store c.due_among.new.tx.conn.now) (stays_then s0 s1 s2 c.read.ensures.stays c.in_ok-asker.ensures.goes_on c.deposit_rows.ensures.stays) (goes_twice s0 s1 s2 c.deposit_rows.ensures.stays c.in_ok-asker.ensures.goes_on c.in_ok-rows.ensures.goes_on) c.due_among.ensures.stays
 
 pub returns-clause-goes_on : goal.returns-clause-goes_on
 returns-clause-goes_on g c clean =
     let s0 = state g.S.Store c.args.tx.now.conn.now in
     let s1 = state g.S.Store c.read.new.tx.conn.now in
-    let s2 = state g.S.Store c.due_of_all.new.tx.conn.now in
-    ok_then c.due_of_all.result (goes_then s0 s1 s2 (c.in_ok-asker.ensures.goes_on (clean_before s1 s2 c.due_of_all.ensures.stays clean))) (c.due_of_all.ensures.goes_on clean)
+    let s2 = state g.S.Store c.deposit_rows.new.tx.conn.now in
+    let p = goes_twice s0 s1 s2 c.deposit_rows.ensures.stays c.in_ok-asker.ensures.goes_on c.in_ok-rows.ensures.goes_on (clean_before s2 (state g.S.Store c.due_among.new.tx.conn.now) c.due_among.ensures.stays clean) in
+    ok_then c.due_among.result (λ q. record { was_open = p.was_open; is_open = q.is_open p.is_open; inside = λ i. q.inside (p.inside i) }) (c.due_among.ensures.goes_on clean)

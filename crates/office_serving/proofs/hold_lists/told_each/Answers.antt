@@ -1,10 +1,10 @@
-use Rattle.std.proofs.Common.{rules, ◌∙◌}
+use Rattle.std.proofs.Common.{rules, ◌∙◌, refl}
 use Rattle.sqlite.specs.State.{HasCleanDisk}
 use Rattle.sqlite.specs.Held.{state}
 use Rattle.sql_meaning.proofs.Inside.{stays_on}
 use Rattle.office_history.specs.Answers.{told_hold}
 use Rattle.office_serving.proofs.HoldsTold.{next_told}
-use Rattle.office_asking.proofs.InTurn.{clean_before}
+use Rattle.office_asking.proofs.InTurn.{clean_before, stays_still}
 use Rattle.office_serving.proofs.hold_lists.told_each.Goals as goal
 
 pub loop-number-preserved : goal.loop-number-preserved
@@ -24,3 +24,17 @@ loop-number-preserved g c =
           let found = c.in_ok-told_hold.ensures.told clean h legal there.0 in
           (found.0, c.in_ok-push.ensures.items ∙ next_told (told_hold h) a.numbers.now c.loop-number.number-index _ c.loop-number-test.true c.loop-number.told.items c.in_ok-told_hold.field-0 there.1 found.1);
     }
+
+pub returns-in_err-told_hold-clause-stays : goal.returns-in_err-told_hold-clause-stays
+returns-in_err-told_hold-clause-stays g c = stays_on (state g.S.Store c.args.tx.now.conn.now) (state g.S.Store c.loop-number.tx.conn.now) (state g.S.Store c.told_hold.new.tx.conn.now) c.loop-number.invariant.stays c.loop-number.invariant.goes_on c.told_hold.ensures.stays
+
+pub returns-in_err-push-clause-stays : goal.returns-in_err-push-clause-stays
+returns-in_err-push-clause-stays g c = stays_on (state g.S.Store c.args.tx.now.conn.now) (state g.S.Store c.loop-number.tx.conn.now) (state g.S.Store c.told_hold.new.tx.conn.now) c.loop-number.invariant.stays c.loop-number.invariant.goes_on c.told_hold.ensures.stays
+
+pub loop-number-init : goal.loop-number-init
+loop-number-init g c = record {
+  same_reference = refl;
+  stays = stays_still (state g.S.Store c.args.tx.now.conn.now);
+  goes_on = λ _. record { is_open = λ is_open. is_open; inside = λ inside. inside };
+  told = λ clean h legal pictured. (pictured, c.new-told.ensures.items);
+}

@@ -1,4 +1,4 @@
-use Rattle.std.proofs.Common.{arith, rules, ◌≡◌, length, get_or, ap, ◌∙◌, option_copied}
+use Rattle.std.proofs.Common.{arith, rules, ◌≡◌, length, get_or, ap, ◌∙◌, option_copied, refl}
 use Rattle.std.specs.List.{filter_map}
 use Rattle.sqlite.specs.State.{HasCleanDisk}
 use Rattle.sqlite.specs.Held.{state}
@@ -7,7 +7,7 @@ use Rattle.office_history.specs.Lists.{numbers}
 use Rattle.office_serving.specs.Listing.{shown_record}
 use Rattle.office_serving.proofs.ShownTold.{shown_next, shown_of_rows}
 use Rattle.office_serving.proofs.lists.shown_among.Goals.{in-Some+in_ok-push, in_default}
-use Rattle.office_asking.proofs.InTurn.{clean_before}
+use Rattle.office_asking.proofs.InTurn.{clean_before, stays_still}
 use Rattle.office_serving.proofs.lists.shown_among.Goals as goal
 
 pub loop-row-preserved : goal.loop-row-preserved
@@ -47,3 +47,17 @@ returns-clause-listed g c clean h legal pictured =
       λ caller is rows_are. shown_of_rows h caller (option_copied a.collection) (option_copied a.class) a.rows.now rows_are c.loop-row.told.items
           (there.1 caller is rows_are ∙ ap (λ k. filter_map (shown_record h caller (option_copied a.collection) (option_copied a.class)) (numbers k)) finished),
     )
+
+pub returns-in_err-record-clause-stays : goal.returns-in_err-record-clause-stays
+returns-in_err-record-clause-stays g c = stays_on (state g.S.Store c.args.tx.now.conn.now) (state g.S.Store c.loop-row.tx.conn.now) (state g.S.Store c.shown_record.new.tx.conn.now) c.loop-row.invariant.stays c.loop-row.invariant.goes_on c.shown_record.ensures.stays
+
+pub returns-in_err-push-clause-stays : goal.returns-in_err-push-clause-stays
+returns-in_err-push-clause-stays g c = stays_on (state g.S.Store c.args.tx.now.conn.now) (state g.S.Store c.loop-row.tx.conn.now) (state g.S.Store c.shown_record.new.tx.conn.now) c.loop-row.invariant.stays c.loop-row.invariant.goes_on c.shown_record.ensures.stays
+
+pub loop-row-init : goal.loop-row-init
+loop-row-init g c = record {
+  same_reference = refl;
+  stays = stays_still (state g.S.Store c.args.tx.now.conn.now);
+  goes_on = λ _. record { is_open = λ is_open. is_open; inside = λ inside. inside };
+  told = λ clean h legal pictured. (pictured, λ caller is rows_are. c.new-told.ensures.items);
+}

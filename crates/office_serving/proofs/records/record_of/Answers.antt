@@ -3,6 +3,8 @@ use Rattle.jiff.specs.Words.{epoch_day}
 use Rattle.office_rows.specs.Rows.{DepositRow}
 use Rattle.sql_meaning.proofs.Results.{if_ok}
 use Rattle.office_serving.proofs.RecordTold.{record_is, closed_is}
+use Rattle.sqlite.specs.Held.{state}
+use Rattle.office_asking.proofs.InTurn.{stays_still}
 use Rattle.office_serving.proofs.records.record_of.Goals as goal
 
 pub returns-clause-told : goal.returns-clause-told
@@ -18,3 +20,6 @@ returns-clause-told g c clean h legal pictured =
           record_is h n found row is c.in_ok-due.due (asked.1 found.1 (sym (ap (λ (r : DepositRow). r.class) is) ∙ sym class) (closed_is h n found row is c.in_ok-closed.closed closed)) told says,
     ))
     c.record_in.ensures.told
+
+pub returns-in_err-closed-clause-stays : goal.returns-in_err-closed-clause-stays
+returns-in_err-closed-clause-stays g c = stays_still (state g.S.Store c.args.tx.now.conn.now)
