@@ -87,4 +87,5 @@ def main():
         gets(Path(folder))
 
 
-main()
+if __name__ == "__main__":
+    main()
