@@ -1,7 +1,7 @@
 -- What going over a history gives.
-use Rattle.std.proofs.Common.{◌≡◌, ◌≢◌, ℕ, ◌+◌, ◌-◌, ◌<◌, suc, zero, Bool, true, false, List, [], ◌∷◌, ◌++◌, length, Option, Some, None, option_map, refl, sym, ap, ◌∙◌, arith, append-nil, append_assoc, length-append, filter, if◌then◌else◌, cond}
+use Rattle.std.proofs.Common.{◌≡◌, ◌≢◌, ℕ, ◌+◌, ◌-◌, ◌<◌, suc, zero, Bool, true, false, List, [], ◌∷◌, ◌++◌, length, Option, Some, None, option_map, refl, sym, ap, ◌∙◌, arith, append-nil, append_assoc, length-append, filter, if◌then◌else◌, cond, drop, get_or, drop-cons, is_none, is_some, not}
 use Rattle.std.specs.Prelude.{bytes_eq}
-use Rattle.std.specs.List.{range_with_len, position_from}
+use Rattle.std.specs.List.{range_with_len, position_from, filter_map, cons_option}
 use Rattle.std.proofs.lemmas.List.Elements.{filter_map-append}
 use Rattle.std.proofs.lemmas.Iterator.Adapters.{position_from-zero}
 use denote.Ref.{Bor}
@@ -110,6 +110,43 @@ pub filter_passed : (test : ℕ → Bool) (n end : ℕ) (so_far all : List ℕ) 
 filter_passed test n end so_far all h e is =
     let more : from test n end ≡ from test (n + 1) end = from_more test n end h ∙ rw e refl in
     rw (← more) is
+
+-- what a test for nothing answered
+pub none_said : {A : Type 0} (o : Option A) (b : Bool) → is_some o ≡ not b → is_none o ≡ b
+none_said None true e = refl
+none_said None false e = absurd cc
+none_said (Some x) true e = absurd cc
+none_said (Some x) false e = refl
+
+-- items one after the other: those that pass a test, and what is told of them
+module _ {A : Type 0} (xs : List A) (i : ℕ) (d : A) (low : i < length xs) where
+  behind : drop i xs ≡ get_or xs i d ∷ drop (i + 1) xs
+  behind = let one : suc i ≡ i + 1 = omega arith in drop-cons xs i d low ∙ ap (λ k. get_or xs i d ∷ drop k xs) one
+
+  pub item_passes : (test : A → Bool) (before all : List A) → test (get_or xs i d) ≡ true
+      → before ++ filter test (drop i xs) ≡ all → (before ++ get_or xs i d ∷ []) ++ filter test (drop (i + 1) xs) ≡ all
+  item_passes test before all e is =
+      let more : filter test (drop i xs) ≡ get_or xs i d ∷ filter test (drop (i + 1) xs) = ap (filter test) behind ∙ ap (λ b. cond b (get_or xs i d ∷ filter test (drop (i + 1) xs)) (filter test (drop (i + 1) xs))) e in
+      append_assoc before (get_or xs i d ∷ []) (filter test (drop (i + 1) xs)) ∙ ap (λ ys. before ++ ys) (sym more) ∙ is
+
+  pub item_fails : (test : A → Bool) (before all : List A) → test (get_or xs i d) ≡ false
+      → before ++ filter test (drop i xs) ≡ all → before ++ filter test (drop (i + 1) xs) ≡ all
+  item_fails test before all e is =
+      let more : filter test (drop i xs) ≡ filter test (drop (i + 1) xs) = ap (filter test) behind ∙ ap (λ b. cond b (get_or xs i d ∷ filter test (drop (i + 1) xs)) (filter test (drop (i + 1) xs))) e in
+      ap (λ ys. before ++ ys) (sym more) ∙ is
+
+  module _ {B : Type 0} (tell : A → Option B) (before all : List B) where
+    pub item_told : (x : B) → tell (get_or xs i d) ≡ Some x
+        → before ++ filter_map tell (drop i xs) ≡ all → (before ++ x ∷ []) ++ filter_map tell (drop (i + 1) xs) ≡ all
+    item_told x e is =
+        let more : filter_map tell (drop i xs) ≡ x ∷ filter_map tell (drop (i + 1) xs) = ap (filter_map tell) behind ∙ ap (λ o. cons_option o (filter_map tell (drop (i + 1) xs))) e in
+        append_assoc before (x ∷ []) (filter_map tell (drop (i + 1) xs)) ∙ ap (λ ys. before ++ ys) (sym more) ∙ is
+
+    pub item_silent : tell (get_or xs i d) ≡ None
+        → before ++ filter_map tell (drop i xs) ≡ all → before ++ filter_map tell (drop (i + 1) xs) ≡ all
+    item_silent e is =
+        let more : filter_map tell (drop i xs) ≡ filter_map tell (drop (i + 1) xs) = ap (filter_map tell) behind ∙ ap (λ o. cons_option o (filter_map tell (drop (i + 1) xs))) e in
+        ap (λ ys. before ++ ys) (sym more) ∙ is
 
 -- the first of two lists of answers, one behind the other
 pub first_in_front : {A : Type 0} (front behind : List (Option A)) (x : A) → first_some front ≡ Some x → first_some (front ++ behind) ≡ Some x

@@ -1,12 +1,12 @@
 //! Serving requests.
 
-ghost use Rattle.std.specs.Prelude.{◌≡◌, IfOk, OnOk, OnErr};
+ghost use Rattle.std.specs.Prelude.{◌≡◌, [], ◌∷◌, IfOk, OnOk, OnErr};
 ghost use Rattle.office_history.specs.Answers.{deposit_change, allowed_change, answer, after};
 ghost use Rattle.office_history.specs.Bags.{bag_of};
-ghost use Rattle.office_history.specs.Histories.{PlacedHold};
+ghost use Rattle.office_history.specs.Histories.{Change, PlacedHold, with_changes};
 ghost use Rattle.office_history.specs.PlainChanges.{change_seen, changes_seen};
 ghost use Rattle.office_history.specs.PlainTargets.{target_seen};
-ghost use Rattle.office_history.specs.PlainOffices.{Serves};
+ghost use Rattle.office_history.specs.PlainOffices.{HasRoom, Serves};
 ghost use Rattle.office_history.specs.Runs.{IsLegal};
 
 use crate::plain::answering::allowed_answer;
@@ -97,6 +97,23 @@ fn allowed_change(
     }
 }
 
+/// Makes the change of an allowed request, if it makes one.
+fn make_change(
+    alloc: Global,
+    office: &mut Office,
+    day: Day,
+    request: &Request<'_>,
+) -> Result<(), AllocError>
+    requires { (change : Change) → allowed_change office.old day request.now ≡ change ∷ [] → HasRoom office.old change }
+    ensures made { OnOk result (office.new ≡ with_changes office.old (allowed_change office.old day request.now)) }
+    ensures failed { OnErr result (office.new ≡ office.old) }
+{
+    match allowed_change(alloc, office, day, request)? {
+        Some(kind) => accept(office, kind),
+        None => Ok(()),
+    }
+}
+
 fn serve(
     alloc: Global,
     office: &mut Office,
@@ -112,9 +129,7 @@ fn serve(
         return Ok(Answer::Refused(refusal));
     }
     let answer = allowed_answer(alloc, office, day, caller, request)?;
-    if let Some(kind) = allowed_change(alloc, office, day, request)? {
-        accept(office, kind)?;
-    }
+    make_change(alloc, office, day, request)?;
     Ok(answer)
 }
 
