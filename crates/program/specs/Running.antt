@@ -6,7 +6,8 @@ use Rattle.commands.specs.declared.ending.Ending.{Ending}
 use Rattle.commands.specs.declared.ending.Ending.TheVariants as endings
 use Rattle.commands.specs.declared.program.Failure.TheVariants as failures
 use Rattle.office_commands.specs.Answering.{AsksFrom, ReplaysInMemory, made_office}
-use Rattle.office_commands.specs.Policies.{SaysOfPolicy}
+use Rattle.office_commands.specs.Listening.{TellsPort}
+use Rattle.office_commands.specs.Policies.{ComesOfPolicy}
 use Rattle.office_history.specs.Histories.{History}
 use Rattle.store_words.specs.StoreLine.{Asks}
 use Rattle.store_words.specs.declared.store_line.StoreLine.{StoreLine}
@@ -28,12 +29,12 @@ IsStored reason done = done × (reason ≡ None)
 abbrev pub IsDone : StoreLine → Option (List ℕ) → Option (List ℕ) → Option (List ℕ) → Option (List ℕ) → Option (List ℕ) → Ending → Type 0
 IsDone (Pack folder file) was_left left held holds reason ending = Packs held holds reason ending
 IsDone (Unpack file folder) was_left left held holds reason ending = Unpacks held holds reason ending
-IsDone (Policy store policy) was_left left held holds reason ending = IsStored reason (SaysOfPolicy held holds ending)
+IsDone (Policy store policy) was_left left held holds reason ending = ComesOfPolicy held holds reason ending
 IsDone (Ask store day) was_left left held holds reason ending =
     IsStored reason ((ending ≡ endings.Accepted) × (IsMemory store.now → (next : History) × AsksFrom made_office day next was_left left held holds))
 IsDone (Replay policy store) was_left left held holds reason ending =
     IsStored reason ((ending ≡ endings.Accepted) × (IsMemory store.now → ReplaysInMemory policy was_left left held holds))
-IsDone (Serve port count store day) was_left left held holds reason ending = IsStored reason (ending ≡ endings.Accepted)
+IsDone (Serve port count store day) was_left left held holds reason ending = IsStored reason ((ending ≡ endings.Accepted) × TellsPort held holds)
 
 -- what the line asks for is done, and standard error is told why the answer is no, where that is so, and nothing else; or it comes to no end, and
 -- standard error is told why

@@ -1,6 +1,7 @@
 //! What the subcommands on folders and stores do.
 
 ghost use Rattle.std.specs.Prelude.{◌≡◌, IfOk, None, option_map, string_bytes};
+ghost use Rattle.office_commands.specs.declared.running.PolicyOutcome.{PolicyOutcome};
 ghost use Rattle.program.specs.Running.{IsDone};
 
 use crate::done::Done;
@@ -8,7 +9,9 @@ use crate::folders::{pack_folder, unpack_form};
 use crate::stopped::Stopped;
 use commands::Ending;
 use desk_devices::Counted;
-use office_commands::{CommandFault, ask_command, policy_command, replay_command, serve_command};
+use office_commands::{
+    CommandFault, PolicyOutcome, ask_command, policy_outcome, replay_command, serve_command,
+};
 use sqlite::Start;
 use std::io::{Read, Write};
 use std::rt::HostRuntime;
@@ -23,6 +26,17 @@ fn stored(ended: Result<Ending, CommandFault>) -> Result<Done, Stopped>
             reason: None,
             ending,
         }),
+        Err(fault) => Err(Stopped::Store(fault)),
+    }
+}
+
+/// What an install of a policy comes to.
+fn installed(came: Result<PolicyOutcome, CommandFault>) -> Result<Done, Stopped>
+    ensures { IfOk result (λ done. (outcome : PolicyOutcome) × (came ≡ Ok outcome)
+        × (outcome.reason ≡ done.reason) × (outcome.ending ≡ done.ending)) }
+{
+    match came {
+        Ok(PolicyOutcome { reason, ending }) => Ok(Done { reason, ending }),
         Err(fault) => Err(Stopped::Store(fault)),
     }
 }
@@ -43,7 +57,7 @@ pub fn perform<S: Start, R: Read, O: Write>(
         StoreLine::Pack { folder, file } => pack_folder(rt, folder, file, out),
         StoreLine::Unpack { file, folder } => unpack_form(rt, file, folder, out),
         StoreLine::Policy { store, policy } => {
-            stored(policy_command(rt, start, store, policy, out))
+            installed(policy_outcome(rt, start, store, policy, out))
         }
         StoreLine::Ask { store, day } => stored(ask_command(rt, start, store, day, input, out)),
         StoreLine::Replay { policy, store } => {
