@@ -12,3 +12,4 @@ pub mod Results
 pub mod RowidKeys
 pub mod Inserts
 pub mod Changing
+pub mod Making

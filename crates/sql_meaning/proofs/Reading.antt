@@ -13,7 +13,7 @@ use Rattle.sqlite.specs.Listing.{understood, reads_listing}
 use Rattle.sqlite.proofs.Callers.{IsPlain, command_of, reads_as}
 use Rattle.sqlite_value.specs.declared.keys.Key.{Key}
 use Rattle.sqlite_rules.specs.Lists.{Has}
-use Rattle.sqlite_rules.proofs.ListLemmas.{all_from}
+use Rattle.sqlite_rules.proofs.ListLemmas.{all_from, all_has, has_filtered}
 use Rattle.sql_meaning.proofs.Keys.{found_by}
 use Rattle.sql_meaning.proofs.Scanning.{scan, as_program, passes, shown_of, Scans, scanned, answers_one, answers_rising, shown_same}
 
@@ -47,14 +47,20 @@ module _ (schema : Schema) (text : List ℕ) (tree : ℕ) (test project : List T
 -- ---- the typed rows
 
 module _ {Y : Type 0} (stored answer : List Row) (keep : Row → Bool) (shown : Row → Row) (decode : Row → Y) (test : Y → Bool) (tests : (r : Row) → test (decode r) ≡ keep r) (is : answer ≡ map shown (filter keep stored)) where
-  -- the part that the answer shows of the typed row that passes
-  pub finds_part : {Z : Type 0} (part : Y → Z) (show : Row → Z) → ((r : Row) → show (shown r) ≡ part (decode r)) → option_map part (find test (map decode stored)) ≡ option_map show (slice_get answer 0)
-  finds_part part show shows =
-      ap (option_map part) (found_by test keep decode stored (all_from _ stored (λ r there. tests r))) ∙ first (filter keep stored) ∙ ap (λ rs. option_map show (slice_get rs 0)) (sym is)
+  -- the part that the answer shows of the typed row that passes, where it shows that of each stored row
+  pub finds_stored : {Z : Type 0} (part : Y → Z) (show : Row → Z) → AllByRecursion (λ r. show (shown r) ≡ part (decode r)) stored → option_map part (find test (map decode stored)) ≡ option_map show (slice_get answer 0)
+  finds_stored part show shows =
+      ap (option_map part) (found_by test keep decode stored (all_from _ stored (λ r there. tests r)))
+      ∙ first (filter keep stored) (all_from _ (filter keep stored) (λ r there. all_has _ stored r shows (has_filtered keep stored r there).0))
+      ∙ ap (λ rs. option_map show (slice_get rs 0)) (sym is)
     where
-      first : (rs : List Row) → option_map part (option_map decode (slice_get rs 0)) ≡ option_map show (slice_get (map shown rs) 0)
-      first [] = refl
-      first (r ∷ rs) = ap Some (sym (shows r))
+      first : (rs : List Row) → AllByRecursion (λ r. show (shown r) ≡ part (decode r)) rs → option_map part (option_map decode (slice_get rs 0)) ≡ option_map show (slice_get (map shown rs) 0)
+      first [] all = refl
+      first (r ∷ rs) all = ap Some (sym all.0)
+
+  -- the same where it shows that of any row
+  pub finds_part : {Z : Type 0} (part : Y → Z) (show : Row → Z) → ((r : Row) → show (shown r) ≡ part (decode r)) → option_map part (find test (map decode stored)) ≡ option_map show (slice_get answer 0)
+  finds_part part show shows = finds_stored part show (all_from _ stored (λ r there. shows r))
 
   -- whether one passes
   pub finds_any : list_any test (map decode stored) ≡ list_any (λ r. true) answer

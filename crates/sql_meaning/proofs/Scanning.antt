@@ -49,7 +49,7 @@ passes params test row = list_all (holds (params ∷ row ∷ [])) test
 abbrev pub shown_of : Row → List Term → Row → Row
 shown_of params project row = eval_all project (params ∷ row ∷ [])
 
-none_given : (t : ℕ) (b : Bool) (db : Trees) → unwrap_or (if b then slice_get [] t else None) (db t) ≡ db t
+pub none_given : (t : ℕ) (b : Bool) (db : Trees) → unwrap_or (if b then slice_get [] t else None) (db t) ≡ db t
 none_given t true db = refl
 none_given t false db = refl
 
@@ -68,7 +68,7 @@ pub record Scans (db : Trees) (params : Row) (tree : ℕ) (test project : List T
   pub sorted : IsSorted (output_cmp (scan tree test project order)) ordered
   pub shown : rows ≡ map (λ (o : Output). o.1) ordered
 
-mapped : {A B C : Type 0} (g : B → C) (f : A → B) (xs : List A) → map g (map f xs) ≡ map (λ x. g (f x)) xs
+pub mapped : {A B C : Type 0} (g : B → C) (f : A → B) (xs : List A) → map g (map f xs) ≡ map (λ x. g (f x)) xs
 mapped g f [] = refl
 mapped g f (x ∷ xs) = ap (λ more. g (f x) ∷ more) (mapped g f xs)
 
@@ -88,7 +88,7 @@ scanned db params tree test project order rows h =
       shown = a.shown;
     }
 
-empty_permutation : {X : Type 0} (ys : List X) → IsPermutation [] ys → ys ≡ []
+pub empty_permutation : {X : Type 0} (ys : List X) → IsPermutation [] ys → ys ≡ []
 empty_permutation [] h = refl
 empty_permutation (y ∷ ys) h = absurd (let len = length_permutation [] (y ∷ ys) h in cc)
 

@@ -126,6 +126,10 @@ module _ (schema : Schema) (db : Trees) (table : Table) (row : Row) (typed : pas
       → column row (i + 1) ≡ Int (int_at row (i + 1))
   int_in i c found strict needed is free = is_int (column row (i + 1)) (subst (λ k. is_of k (column row (i + 1)) ≡ true) is (of_kind i c found strict free)) (filled i c found needed free)
 
+  pub blob_at : (i : ℕ) (c : Column) → slice_get table.columns i ≡ Some c → c.is_strict ≡ true → c.not_null ≡ true → c.kind ≡ kind.Blob → is_key table.key (0 + i) ≡ false
+      → column row (i + 1) ≡ Blob (bytes_at row (i + 1))
+  blob_at i c found strict needed is free = is_blob (column row (i + 1)) (subst (λ k. is_of k (column row (i + 1)) ≡ true) is (of_kind i c found strict free)) (filled i c found needed free)
+
   -- a column that may be NULL
   pub maybe_int_at : (i : ℕ) (c : Column) → slice_get table.columns i ≡ Some c → c.is_strict ≡ true → c.kind ≡ kind.Integer → is_key table.key (0 + i) ≡ false
       → (column row (i + 1) ≡ Null) ⊎ (column row (i + 1) ≡ Int (int_at row (i + 1)))
