@@ -12,7 +12,7 @@ import subprocess
 import sys
 import time
 
-from office_file import FILE_OF, FILES, PROGRAM, PUT_DEPOSIT, PUT_FILE
+from office_file import FILES, PROGRAM, PUT_DEPOSIT, PUT_FILE
 from office_file import copy, filled, main, opened, ours, put_bag, say, turns
 
 DEPOSIT = "SELECT number, accession, collection, class, closed, deposited, files, bytes, gone FROM deposit"
@@ -23,6 +23,11 @@ HOLDS_ON_COLLECTION = (
     "SELECT number FROM hold WHERE collection = ?2 AND deposit IS NOT ?1 AND released IS NULL"
     " ORDER BY number"
 )
+
+LENGTHS = "SELECT path, length(content) FROM file WHERE deposit = ?1 ORDER BY path"
+PIECE_OF = "SELECT substr(content, ?3, ?4) FROM file WHERE deposit = ?1 AND path = ?2"
+# The most bytes of a content that a request reads at once.
+PIECE = 2**20
 
 
 class Statements:
@@ -68,8 +73,9 @@ class Statements:
     def bag(self, number):
         self.row(number)
         self.asker()
-        for (path,) in self.rows("SELECT path FROM file WHERE deposit = ?1 ORDER BY path", number):
-            self.rows(FILE_OF, number, path)
+        for path, length in self.rows(LENGTHS, number):
+            for start in range(0, length, PIECE):
+                self.rows(PIECE_OF, number, path, start + 1, min(PIECE, length - start))
 
     def list(self, _number):
         self.asker()

@@ -2,6 +2,7 @@
 
 ghost use Rattle.std.specs.Prelude.{◌≡◌, IfErr, IfOk, map};
 ghost use Rattle.bag_text.specs.FaultTexts.{set_fault_text};
+ghost use Rattle.bag_text.specs.TransferReading as reading;
 ghost use Rattle.office_core.specs.declared.request.Request.TheVariants as requests;
 ghost use Rattle.office_tables.specs.Faults.{IsFailure};
 ghost use Rattle.office_tables.specs.Calls.{CommitsNothing, Continues, Tells};
@@ -9,7 +10,6 @@ ghost use Rattle.office_asking.specs.Serving.{Decides};
 ghost use Rattle.office_serving.specs.Files.{file_in};
 ghost use Rattle.office_serving.specs.Audits.{verdict_on, IsAuditOf};
 
-use crate::bags::pairs_of;
 use bag_text::laws::one_list_fault;
 use bag_text::{BagSet, SetFault};
 use office_asking::kept_deposit;
@@ -26,6 +26,18 @@ fn set_fault_text(alloc: Global, fault: SetFault) -> Result<FaultText, AllocErro
 {
     let text = format!(in alloc; "{fault}")?;
     Ok(FaultText::of(text))
+}
+
+/// The paths and contents of the rows, lent.
+fn pairs_of(alloc: Global, rows: &[FileRow]) -> Result<Vec<(&str, &[u8])>, TableFault>
+    ensures pairs { IfOk result (λ pairs. reading.files_of pairs.items ≡ map file_in rows.now) }
+    ensures failure { IfErr result IsFailure }
+{
+    let mut pairs = Vec::new(alloc);
+    for row in rows {
+        pairs.push((row.path.as_str(), row.content.as_slice()))?;
+    }
+    Ok(pairs)
 }
 
 /// The verdict on the files of the rows.

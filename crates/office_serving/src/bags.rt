@@ -1,46 +1,18 @@
 //! Downloads of bags.
 
-ghost use Rattle.std.specs.Prelude.{◌≡◌, IfErr, IfOk, map};
-ghost use Rattle.bag_text.specs.TransferForm.{set_text};
-ghost use Rattle.bag_text.specs.TransferReading as reading;
+ghost use Rattle.std.specs.Prelude.{◌≡◌, IfErr};
 ghost use Rattle.office_core.specs.declared.request.Request.TheVariants as requests;
 ghost use Rattle.office_tables.specs.Faults.{IsFailure};
 ghost use Rattle.office_tables.specs.Calls.{CommitsNothing, Continues};
 ghost use Rattle.office_asking.specs.Serving.{Decides};
-ghost use Rattle.office_serving.specs.Files.{file_in};
 
-use bag_text::{BagSet, SetFault, write_bagset};
+use crate::forms::{form_of, require_bag};
 use office_asking::kept_deposit;
 use office_core::{Action, Answer, Day, Sequence};
 use office_history::laws::sound_bags;
-use office_tables::{FileRow, TableFault, files_of};
+use office_tables::TableFault;
 use sqlite::{Alter, Transaction};
 use std::alloc::Global;
-
-/// The paths and contents of the rows, lent.
-pub fn pairs_of(alloc: Global, rows: &[FileRow]) -> Result<Vec<(&str, &[u8])>, TableFault>
-    ensures pairs { IfOk result (λ pairs. reading.files_of pairs.items ≡ map file_in rows.now) }
-    ensures failure { IfErr result IsFailure }
-{
-    let mut pairs = Vec::new(alloc);
-    for row in rows {
-        pairs.push((row.path.as_str(), row.content.as_slice()))?;
-    }
-    Ok(pairs)
-}
-
-/// The transfer form of the bag whose files the rows have.
-fn text_of(alloc: Global, rows: &[FileRow]) -> Result<Vec<u8>, TableFault>
-    ensures text { IfOk result (λ text. text.items ≡ set_text (map file_in rows.now)) }
-    ensures failure { IfErr result IsFailure }
-{
-    let pairs = pairs_of(alloc, rows)?;
-    match BagSet::of(alloc, &pairs) {
-        Ok(bag) => Ok(write_bagset(alloc, &bag)?),
-        Err(SetFault::Memory) => Err(TableFault::Memory),
-        Err(_) => Err(TableFault::Store),
-    }
-}
 
 /// Answers the transfer form of a deposit's bag.
 ///
@@ -62,9 +34,10 @@ pub fn download_bag<S: Alter>(
     sound_bags();
     match kept_deposit(alloc, tx, caller, Action::Download, number)? {
         Ok(_) => {
-            let rows = files_of(alloc, tx, number)?;
+            let text = form_of(alloc, tx, number)?;
+            require_bag(alloc, &text)?;
             Ok(Answer::Bag {
-                bytes: Sequence::of(text_of(alloc, &rows)?),
+                bytes: Sequence::of(text),
             })
         }
         Err(why) => Ok(Answer::Refused(why)),

@@ -5,6 +5,7 @@ mod audits;
 mod bags;
 mod due_lists;
 mod files;
+mod forms;
 mod hold_lists;
 pub mod laws;
 mod lists;

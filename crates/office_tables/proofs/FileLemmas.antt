@@ -1,11 +1,12 @@
 -- What the statements on files do to the rows of an office.
-use Rattle.std.proofs.Common.{arith, ◌≡◌, ◌&&◌, ◌⊎◌, ap₂, not, bytes_eq, ℕ, ℤ, List, [], ◌∷◌, ◌++◌, ◌<◌, map, filter, take, length, get_or, slice_get, slice_index_or, ◌+◌, option_map, codes, Bool, true, false, Option, None, Some, Ok, Ordering, Equal, Less, refl, sym, ap, subst, subst₂, ◌∙◌, inl, inr}
+use Rattle.std.proofs.Common.{arith, ◌≡◌, ◌&&◌, ◌⊎◌, ap₂, not, bytes_eq, ℕ, ℤ, pos, zero, suc, List, [], ◌∷◌, ◌++◌, ◌<◌, map, filter, take, drop, length, get_or, unwrap_or, ◌-◌, slice_get, slice_index_or, ◌+◌, option_map, codes, Bool, true, false, Option, None, Some, Ok, Ordering, Equal, Less, refl, sym, ap, subst, subst₂, ◌∙◌, inl, inr, append_assoc}
 use Rattle.std.specs.List.{AllByRecursion}
 use Rattle.std.specs.Ordering.{is_lt, is_eq, int_eq}
 use Rattle.std.specs.Cmp.{IsTotalOrder}
 use Rattle.std.specs.Ordering.{nat_cmp}
 use Rattle.std.specs.Cmp.Lexicographic.{on_texts, slice_cmp}
 use Rattle.std.proofs.lemmas.List.{map_push, map_more}
+use Rattle.std.proofs.lemmas.Option.{same_Some}
 use Rattle.std.specs.List.Sorted.{IsPermutation, IsSorted}
 use Rattle.std.proofs.lemmas.Bool.{cases_Bool}
 use Rattle.std.proofs.lemmas.Cmp.{tied_itself}
@@ -13,13 +14,15 @@ use Rattle.std.proofs.lemmas.Map.Text.{is_eq-slice_cmp}
 use Rattle.std.proofs.lemmas.List.Sorted.{IsPermutation-map, IsPermutation-sym, All-permutation}
 use Rattle.std.proofs.lemmas.Slice.Eq.{bytes_eq-Decides}
 use Rattle.std.proofs.lemmas.List.Elements.{recursion_from_All, All-from_recursion}
+use Rattle.sqlite.specs.declared.types.Value.{Value}
 use Rattle.sqlite.specs.declared.types.Value.TheVariants.{Null, Int, Text, Blob}
-use Rattle.sqlite.specs.Order.{Row, column, value_cmp}
-use Rattle.sqlite.specs.Edit.{Edit, edit_of, with_rowid}
+use Rattle.sqlite.specs.Order.{Row, column, bytes, value_cmp}
+use Rattle.sqlite.specs.Edit.{Edit, edit_of, with_rowid, id_in}
 use Rattle.sqlite.specs.Rowids.TheVariants.{Chosen, Given}
 use Rattle.sqlite.specs.Cast.{cast_row}
 use Rattle.sqlite.specs.Kind.TheVariants as kind
-use Rattle.sqlite.specs.Ops.{binary, is_true}
+use Rattle.sqlite.specs.Ops.{unary, binary, is_true}
+use Rattle.sqlite.specs.Term.{Term, col}
 use Rattle.sqlite.specs.Collation.TheVariants.{Binary}
 use Rattle.sqlite.specs.Tree.{rowid, IsAscending}
 use Rattle.sqlite.specs.Query.{output, output_cmp}
@@ -27,6 +30,8 @@ use Rattle.sqlite.specs.Effect.{Database}
 use Rattle.sqlite.specs.State.{State, Shown, Executes}
 use Rattle.sqlite_sql.specs.declared.ops.BinaryOp.TheVariants.{Compare}
 use Rattle.sqlite_sql.specs.declared.ops.CompareOp.TheVariants.{Eq}
+use Rattle.sqlite_sql.specs.declared.ops.UnaryOp.TheVariants.{Length}
+use Rattle.sqlite_sql.specs.Text.{substr}
 use Rattle.sqlite_value.specs.Keys.{first_key, plain}
 use Rattle.sqlite_value.proofs.OrderLemmas.{then-Equal, value_cmp-Text, value_cmp_total}
 use Rattle.sqlite_exec.proofs.RowsLemmas.{IsSorted-map}
@@ -45,19 +50,21 @@ use Rattle.sqlite_schema.specs.Rules.{agree, equal}
 use Rattle.sql_meaning.specs.Columns.{int_at, bytes_at}
 use Rattle.sql_meaning.proofs.Writing.{Changes, inserts}
 use Rattle.sql_meaning.proofs.Scanning.{scan, passes, shown_of}
-use Rattle.sql_meaning.proofs.Reading.{reads_same, reads_one, reads_scan, finds_part}
+use Rattle.sql_meaning.proofs.Reading.{Asks, reads_same, reads_one, reads_scan, finds_part, finds_stored}
+use Rattle.sql_meaning.proofs.Making.{shown_with, makes_same, makes_one}
+use Rattle.sql_meaning.proofs.Parts.{part_of_blob, none_left}
 use Rattle.sql_meaning.proofs.Inserts.{none_before}
 use Rattle.sql_meaning.proofs.Keys.{found_by, bytes_itself, int_itself, filter_same, same_key, trailing, same_text, same_int, lone}
-use Rattle.sql_meaning.proofs.Typed.{text_at, int_in, all_both}
+use Rattle.sql_meaning.proofs.Typed.{text_at, int_in, blob_at, all_both}
 use Rattle.sql_meaning.proofs.Edits.{appended, cast_null, cast_int, map_append}
 use Rattle.sql_meaning.proofs.Whole.{keeps_rule}
 use Rattle.sql_meaning.proofs.Changing.{drops}
 use Rattle.office_tables.specs.Schema.{office_schema, file_table, needed}
 use Rattle.office_rows.specs.Rows.{FileRow, is_file_of, is_file_at, file_at, with_file, without_files}
 use Rattle.office_tables.specs.Tables.{IsOffice, Becomes, tables_of, file_in}
-use Rattle.office_tables.specs.Deposits.{shown_path, path_cmp, files_by_path}
+use Rattle.office_tables.specs.Deposits.{shown_path, path_cmp, files_by_path, path_and_length, shown_length, content_at, piece_of, shown_piece}
 use Rattle.office_tables.proofs.Frames.{idle, becomes}
-use Rattle.office_tables.proofs.FileTexts.{by_deposit, by_place, by_path, content_text, content_column, asks_content, paths_text, path_column, asks_paths, put_text, put_terms, put_means, drop_text, rowid_column, drop_means}
+use Rattle.office_tables.proofs.FileTexts.{by_deposit, by_place, by_path, content_text, content_column, asks_content, paths_text, asks_paths, lengths_text, length_column, asks_lengths, piece_text, piece_value, value_column, makes_piece, put_text, put_terms, put_means, drop_text, rowid_column, drop_means}
 
 -- a stored file, as the rules of its table leave it
 abbrev IsFileRow : Row → Type 0
@@ -68,6 +75,13 @@ file_rows db office = all_both (λ r t p. (
   int_in office_schema db.trees file_table r t p 0 (needed (codes "deposit") kind.Integer) refl refl refl refl refl,
   text_at office_schema db.trees file_table r t p 1 (needed (codes "path") kind.Text) refl refl refl refl refl,
 )) (db.trees 10) (keeps_rule office Datatype).1.1.1.1.1.1.0 (keeps_rule office NotNull).1.1.1.1.1.1.0
+
+abbrev HasContent : Row → Type 0
+HasContent r = column r 3 ≡ Blob (bytes_at r 3)
+
+contents : (db : Database) → IsOffice db → AllByRecursion HasContent (db.trees 10)
+contents db office = all_both (λ r t p. blob_at office_schema db.trees file_table r t p 2 (needed (codes "content") kind.Blob) refl refl refl refl refl)
+    (db.trees 10) (keeps_rule office Datatype).1.1.1.1.1.1.0 (keeps_rule office NotNull).1.1.1.1.1.1.0
 
 -- ---- the tests by the deposit, and by the deposit and the path
 
@@ -138,6 +152,47 @@ finds_content old new n path rows office h =
       finds_part stored rows (has_place n path) (shown_of params content_column) file_in (is_file_at n path) (λ r. refl) is (λ (f : FileRow). f.content) (λ row. bytes_at row 0) (λ r. refl),
     )
 
+-- ---- a piece of a content
+
+shown_first : (part : List ℕ → List ℕ) → [] ≡ part [] → (found : Option FileRow) (rows : List Row) → option_map (λ (f : FileRow). part f.content) found ≡ option_map (λ row. bytes_at row 0) (slice_get rows 0)
+    → part (unwrap_or (option_map (λ (f : FileRow). f.content) found) []) ≡ shown_piece rows
+shown_first part none None [] h = sym none
+shown_first part none None (r ∷ rows) h = absurd cc
+shown_first part none (Some f) [] h = absurd cc
+shown_first part none (Some f) (r ∷ rows) h = same_Some (part f.content) (bytes_at r 0) h
+
+pub finds_piece : (old new : State) (n : ℤ) (path : List ℕ) (place count : ℕ) (rows : List Row) → IsOffice old.now → 0 < place → Shown piece_text (Int n ∷ Text path ∷ Int (pos place) ∷ Int (pos count) ∷ []) old new rows
+    → (new.now ≡ old.now) × (piece_of place count (content_at n path (tables_of old.now)) ≡ shown_piece rows)
+finds_piece old new n path place count rows office low h =
+    let params : Row = Int n ∷ Text path ∷ Int (pos place) ∷ Int (pos count) ∷ [] in
+    let stored = old.now.trees 10 in
+    let next : place ≡ suc (place - 1) = omega (arith, low) in
+    let is = makes_one office_schema piece_text 10 piece_value by_place value_column makes_piece params old new office.schema_is rows h (has_place n path)
+    (each_at old.now office n path) (few_files old.now office n path) in
+    let shows = λ (r : Row) (there : Has stored r). ap₂ (λ (v : Value) (k : ℕ). bytes (substr v (Int (pos k)) (Int (pos count)))) (all_has HasContent stored r (contents old.now office) there) next ∙ part_of_blob (bytes_at r 3) (place - 1) count in (
+      makes_same office_schema piece_text 10 piece_value by_place value_column makes_piece params old new office.schema_is rows h,
+      shown_first (piece_of place count) (none_left (place - 1) count) (file_at n path (tables_of old.now).files) rows
+          (finds_stored stored rows (has_place n path) (shown_with params piece_value value_column) file_in (is_file_at n path) (λ r. refl) is (λ (f : FileRow). piece_of place count f.content) (λ row. bytes_at row 0) (all_from _ stored shows)),
+    )
+
+nothing_taken : (n : ℕ) → take n [] ≡ []
+nothing_taken zero = refl
+nothing_taken (suc n) = refl
+
+taken : (from count total : ℕ) (content : List ℕ) → from + count ≡ total → take from content ++ take count (drop from content) ≡ take total content
+taken zero count total content e = let same : count ≡ total = omega (arith, e) in ap (λ n. take n content) same
+taken (suc from) count total [] e = sym (none_left (suc from) count) ∙ sym (nothing_taken total)
+taken (suc from) count zero (b ∷ bs) e = absurd (omega (arith, e))
+taken (suc from) count (suc total) (b ∷ bs) e = ap (λ more. b ∷ more) (taken from count total bs (omega (arith, e)))
+
+-- pieces one after another are what stands before the end of the last
+pub one_piece_more : (before now text content : List ℕ) (from count : ℕ) → now ≡ before ++ take from content → text ≡ now ++ piece_of (from + 1) count content → text ≡ before ++ take (from + count) content
+one_piece_more before now text content from count so_far is =
+    let back : from + 1 - 1 ≡ from = omega arith in
+    let piece : List ℕ = take count (drop from content) in
+    is ∙ ap (λ (k : ℕ). now ++ take count (drop k content)) back ∙ ap (λ (t : List ℕ). t ++ piece) so_far ∙ append_assoc before (take from content) piece
+    ∙ ap (λ (t : List ℕ). before ++ t) (taken from count (from + count) content refl)
+
 -- ---- a new file
 
 module _ (old new : State) (n : ℤ) (path content : List ℕ) (count : ℕ) (office : IsOffice old.now) (h : Executes put_text (Int n ∷ Text path ∷ Blob content ∷ []) old new (Ok count)) where
@@ -180,6 +235,10 @@ drops_files old new n count office h =
 
 -- ---- the paths of the files of a deposit
 
+map_each : {X Y : Type 0} (f g : X → Y) (xs : List X) → AllByRecursion (λ x. f x ≡ g x) xs → map f xs ≡ map g xs
+map_each f g [] all = refl
+map_each f g (x ∷ xs) all = ap₂ ◌∷◌ all.0 (map_each f g xs all.1)
+
 ascending_has : (R S : Row → Row → Type 0) (xs : List Row) → ((a b : Row) → Has xs a → Has xs b → R a b → S a b) → IsAscending R xs → IsAscending S xs
 ascending_has R S [] each up = tt
 ascending_has R S (x ∷ xs) each up = (all_from _ xs (λ y there. each x y (inl refl) (inr there) (all_has _ xs y up.0 there)), ascending_has R S xs (λ a b ha hb. each a b (inr ha) (inr hb)) up.1)
@@ -190,28 +249,9 @@ text_cmp = slice_cmp nat_cmp
 abbrev path_in : Row → List ℕ
 path_in r = bytes_at r 2
 
-abbrev shown_by : Row × Row → List ℕ
-shown_by o = shown_path o.1
-
 -- what the row is sorted by is its path
 abbrev IsByPath : Row × Row → Type 0
-IsByPath o = column o.0 0 ≡ Text (shown_by o)
-
-sorted_paths : (os : List (Row × Row)) → AllByRecursion IsByPath os → IsSorted (output_cmp (scan 10 by_deposit path_column by_path)) os → IsSorted text_cmp (map shown_by os)
-sorted_paths os typed up = sorted_map (λ k d low high.
-    let a = slice_index_or os (k + 1) d in
-    let b = slice_index_or os k d in
-    let ta : IsByPath a = All-from_recursion IsByPath os typed (k + 1) d (omega arith) in
-    let tb : IsByPath b = All-from_recursion IsByPath os typed k d (omega arith) in
-    let same : output_cmp (scan 10 by_deposit path_column by_path) a b ≡ text_cmp (shown_by a) (shown_by b) =
-    then-Equal (value_cmp (column a.0 0) (column b.0 0)) ∙ subst₂ (λ v w. value_cmp v w ≡ text_cmp (shown_by a) (shown_by b)) (sym ta) (sym tb) (value_cmp-Text (shown_by a) (shown_by b)) in
-    subst (λ o. is_lt o ≡ false) same (up k d low high))
-  where
-    sorted_map : IsSorted (λ a b. text_cmp (shown_by a) (shown_by b)) os → IsSorted text_cmp (map shown_by os)
-    sorted_map = IsSorted-map text_cmp shown_by os
-
-text_total : IsTotalOrder text_cmp
-text_total = on_texts (λ (t : List ℕ). t)
+IsByPath o = column o.0 0 ≡ Text (shown_path o.1)
 
 path_total : IsTotalOrder path_cmp
 path_total = on_texts (λ (f : FileRow). f.path)
@@ -230,35 +270,91 @@ untied db office n a b ha hb below = elim (cases_Bool (is_eq (text_cmp (path_in 
   | inr apart ↦ apart
 ]
 
+-- a query on the files of a deposit by path shows of each its path and what else is asked of it
+module _ {Z : Type 0} (text : List ℕ) (more : List Term) (asks : Asks office_schema text 10 by_deposit (col 1 2 ∷ more) by_path) (part : FileRow → Z) (show : Row → Z) where
+  abbrev project : List Term
+  project = col 1 2 ∷ more
+
+  abbrev pair_cmp : List ℕ × Z → List ℕ × Z → Ordering
+  pair_cmp a b = text_cmp a.0 b.0
+
+  pair_total : IsTotalOrder pair_cmp
+  pair_total = on_texts (λ (a : List ℕ × Z). a.0)
+
+  abbrev pair_of : FileRow → List ℕ × Z
+  pair_of f = (f.path, part f)
+
+  abbrev pair_in : Row → List ℕ × Z
+  pair_in r = pair_of (file_in r)
+
+  abbrev shown_pair : Row → List ℕ × Z
+  shown_pair row = (shown_path row, show row)
+
+  abbrev shown_by : Row × Row → List ℕ × Z
+  shown_by o = shown_pair o.1
+
+  sorted_pairs : (os : List (Row × Row)) → AllByRecursion IsByPath os → IsSorted (output_cmp (scan 10 by_deposit project by_path)) os → IsSorted pair_cmp (map shown_by os)
+  sorted_pairs os typed up = sorted_map (λ k d low high.
+      let a = slice_index_or os (k + 1) d in
+      let b = slice_index_or os k d in
+      let ta : IsByPath a = All-from_recursion IsByPath os typed (k + 1) d (omega arith) in
+      let tb : IsByPath b = All-from_recursion IsByPath os typed k d (omega arith) in
+      let same : output_cmp (scan 10 by_deposit project by_path) a b ≡ text_cmp (shown_path a.1) (shown_path b.1) =
+      then-Equal (value_cmp (column a.0 0) (column b.0 0)) ∙ subst₂ (λ v w. value_cmp v w ≡ text_cmp (shown_path a.1) (shown_path b.1)) (sym ta) (sym tb) (value_cmp-Text (shown_path a.1) (shown_path b.1)) in
+      subst (λ o. is_lt o ≡ false) same (up k d low high))
+    where
+      sorted_map : IsSorted (λ a b. pair_cmp (shown_by a) (shown_by b)) os → IsSorted pair_cmp (map shown_by os)
+      sorted_map = IsSorted-map pair_cmp shown_by os
+
+  lists_by_path : (old new : State) (n : ℤ) (rows : List Row) → (office : IsOffice old.now) → AllByRecursion (λ r. show (shown_of (Int n ∷ []) project r) ≡ part (file_in r)) (old.now.trees 10) → Shown text (Int n ∷ []) old new rows
+      → map pair_of (files_by_path n (tables_of old.now)) ≡ map shown_pair rows
+  lists_by_path old new n rows office shows h =
+      let params : Row = Int n ∷ [] in
+      let db = old.now.trees in
+      let q = scan 10 by_deposit project by_path in
+      let found = reads_scan office_schema text 10 by_deposit project by_path asks params old new office.schema_is rows h in
+      let typed = file_rows old.now office in
+      let keep = has_deposit n in
+      let kept = filter keep (db 10) in
+      let out : Row → Row × Row = λ r. output q (params ∷ r ∷ []) in
+      let passed : filter (passes params by_deposit) (db 10) ≡ kept = filter_same (passes params by_deposit) keep (db 10) (each_of old.now office n) in
+      let same : IsPermutation (map out kept) found.ordered = subst (λ rs. IsPermutation (map out rs) found.ordered) passed found.same in
+      let typed_out : AllByRecursion IsByPath (map out kept) = all_map IsByPath out kept (all_from (λ r. IsByPath (out r)) kept (λ r there. (all_has IsFileRow (db 10) r typed (has_filtered keep (db 10) r there).0).1)) in
+      let typed_ordered : AllByRecursion IsByPath found.ordered = recursion_from_All IsByPath found.ordered (All-permutation IsByPath (map out kept) found.ordered same (All-from_recursion IsByPath (map out kept) typed_out)) in
+      let up = sorted_pairs found.ordered typed_ordered found.sorted in
+      let alike : AllByRecursion (λ r. shown_by (out r) ≡ pair_in r) kept = all_from _ kept (λ r there. ap (λ (z : Z). (bytes_at r 2, z)) (all_has _ (db 10) r shows (has_filtered keep (db 10) r there).0)) in
+      let as_pairs : map shown_by (map out kept) ≡ map pair_in kept = map-map shown_by out kept ∙ map_each (λ (r : Row). shown_by (out r)) pair_in kept alike in
+      let moved : IsPermutation (map pair_in kept) (map shown_by found.ordered) = subst (λ xs. IsPermutation xs (map shown_by found.ordered)) as_pairs (IsPermutation-map shown_by (map out kept) found.ordered same) in
+      let apart : IsAscending (λ a b. is_eq (text_cmp (path_in a) (path_in b)) ≡ false) kept = ascending_has (λ a b. value_cmp (rowid a) (rowid b) ≡ Less) (λ a b. is_eq (text_cmp (path_in a) (path_in b)) ≡ false) kept
+      (λ a b ha hb below. untied old.now office n a b (has_filtered keep (db 10) a ha) (has_filtered keep (db 10) b hb) below)
+      (ascending-filter (λ a b. value_cmp (rowid a) (rowid b) ≡ Less) keep (db 10) office.shaped.1.1.1.1.1.1.0.0) in
+      let distinct = ascending-map (λ s t. is_eq (pair_cmp s t) ≡ false) pair_in kept apart in
+      let sorted_is : map shown_by found.ordered ≡ sort_by pair_cmp (map pair_in kept) = sorted_is-sort_by pair_cmp pair_total (map pair_in kept) (map shown_by found.ordered) distinct moved up in
+      let files = filter (is_file_of n) (map file_in (db 10)) in
+      let pairs_are : map pair_of files ≡ map pair_in kept = ap (map pair_of) (filter-map (is_file_of n) file_in (db 10)) ∙ map-map pair_of file_in kept in
+      let in_order : map pair_of (sort_by path_cmp files) ≡ sort_by pair_cmp (map pair_in kept) = sym (sort_by-map pair_cmp pair_of files) ∙ ap (sort_by pair_cmp) pairs_are in
+      let rows_are : map shown_pair rows ≡ map shown_by found.ordered = ap (map shown_pair) found.shown ∙ map-map shown_pair (λ (o : Row × Row). o.1) found.ordered in
+      in_order ∙ sym sorted_is ∙ sym rows_are
+
+abbrev Nothing : Type 0
+Nothing = Unit {0}
+
 pub lists_paths : (old new : State) (n : ℤ) (rows : List Row) → IsOffice old.now → Shown paths_text (Int n ∷ []) old new rows
     → (new.now ≡ old.now) × (map (λ (f : FileRow). f.path) (files_by_path n (tables_of old.now)) ≡ map shown_path rows)
 lists_paths old new n rows office h =
-    let params : Row = Int n ∷ [] in
-    let db = old.now.trees in
-    let q = scan 10 by_deposit path_column by_path in
-    let found = reads_scan office_schema paths_text 10 by_deposit path_column by_path asks_paths params old new office.schema_is rows h in
-    let typed = file_rows old.now office in
-    let keep = has_deposit n in
-    let kept = filter keep (db 10) in
-    let out : Row → Row × Row = λ r. output q (params ∷ r ∷ []) in
-    let passed : filter (passes params by_deposit) (db 10) ≡ kept = filter_same (passes params by_deposit) keep (db 10) (each_of old.now office n) in
-    let same : IsPermutation (map out kept) found.ordered = subst (λ rs. IsPermutation (map out rs) found.ordered) passed found.same in
-    let typed_out : AllByRecursion IsByPath (map out kept) = all_map IsByPath out kept (all_from (λ r. IsByPath (out r)) kept (λ r there. (all_has IsFileRow (db 10) r typed (has_filtered keep (db 10) r there).0).1)) in
-    let typed_ordered : AllByRecursion IsByPath found.ordered = recursion_from_All IsByPath found.ordered (All-permutation IsByPath (map out kept) found.ordered same (All-from_recursion IsByPath (map out kept) typed_out)) in
-    let up = sorted_paths found.ordered typed_ordered found.sorted in
-    let as_paths : map shown_by (map out kept) ≡ map path_in kept = map-map shown_by out kept in
-    let moved : IsPermutation (map path_in kept) (map shown_by found.ordered) = subst (λ xs. IsPermutation xs (map shown_by found.ordered)) as_paths (IsPermutation-map shown_by (map out kept) found.ordered same) in
-    let apart : IsAscending (λ a b. is_eq (text_cmp (path_in a) (path_in b)) ≡ false) kept = ascending_has (λ a b. value_cmp (rowid a) (rowid b) ≡ Less) (λ a b. is_eq (text_cmp (path_in a) (path_in b)) ≡ false) kept
-    (λ a b ha hb below. untied old.now office n a b (has_filtered keep (db 10) a ha) (has_filtered keep (db 10) b hb) below)
-    (ascending-filter (λ a b. value_cmp (rowid a) (rowid b) ≡ Less) keep (db 10) office.shaped.1.1.1.1.1.1.0.0) in
-    let distinct = ascending-map (λ s t. is_eq (text_cmp s t) ≡ false) path_in kept apart in
-    let sorted_is : map shown_by found.ordered ≡ sort_by text_cmp (map path_in kept) = sorted_is-sort_by text_cmp text_total (map path_in kept) (map shown_by found.ordered) distinct moved up in
-    let files = filter (is_file_of n) (map file_in (db 10)) in
-    let paths_are : map (λ (f : FileRow). f.path) files ≡ map path_in kept = ap (map (λ (f : FileRow). f.path)) (filter-map (is_file_of n) file_in (db 10)) ∙ map-map (λ (f : FileRow). f.path) file_in kept in
-    let in_order : map (λ (f : FileRow). f.path) (sort_by path_cmp files) ≡ sort_by text_cmp (map path_in kept) = sym (sort_by-map text_cmp (λ (f : FileRow). f.path) files) ∙ ap (sort_by text_cmp) paths_are in
-    let rows_are : map shown_path rows ≡ map shown_by found.ordered = ap (map shown_path) found.shown ∙ map-map shown_path (λ (o : Row × Row). o.1) found.ordered in (
-      reads_same office_schema paths_text 10 by_deposit path_column by_path asks_paths params old new office.schema_is rows h,
-      in_order ∙ sym sorted_is ∙ sym rows_are,
+    let all = files_by_path n (tables_of old.now) in
+    let pairs = lists_by_path {Z = Nothing} paths_text [] asks_paths (λ f. tt) (λ row. tt) old new n rows office (all_from _ (old.now.trees 10) (λ r there. refl)) h in (
+      reads_same office_schema paths_text 10 by_deposit (col 1 2 ∷ []) by_path asks_paths (Int n ∷ []) old new office.schema_is rows h,
+      sym (map-map (λ (p : List ℕ × Nothing). p.0) (λ (f : FileRow). (f.path, tt)) all) ∙ ap (map (λ (p : List ℕ × Nothing). p.0)) pairs ∙ map-map (λ (p : List ℕ × Nothing). p.0) (λ row. (shown_path row, tt)) rows,
+    )
+
+pub lists_lengths : (old new : State) (n : ℤ) (rows : List Row) → IsOffice old.now → Shown lengths_text (Int n ∷ []) old new rows
+    → (new.now ≡ old.now) × (map path_and_length (files_by_path n (tables_of old.now)) ≡ map shown_length rows)
+lists_lengths old new n rows office h =
+    let stored = old.now.trees 10 in (
+      reads_same office_schema lengths_text 10 by_deposit (col 1 2 ∷ length_column) by_path asks_lengths (Int n ∷ []) old new office.schema_is rows h,
+      lists_by_path lengths_text length_column asks_lengths (λ (f : FileRow). pos (length f.content)) (λ row. int_at row 1) old new n rows office
+          (all_from _ stored (λ r there. ap (λ (v : Value). id_in (unary Length v)) (all_has HasContent stored r (contents old.now office) there))) h,
     )
 
 -- ---- the files at these paths
@@ -281,11 +377,10 @@ pub finds_file : (n : ℤ) (path : List ℕ) (files : List FileRow) (x : FileRow
     → Some x.content ≡ option_map (λ (f : FileRow). f.content) (file_at n path files) → Some x ≡ file_at n path files
 finds_file n path files x number place content = is_found n path files x (file_at n path files) refl number place content
 
--- one path more
-pub finds_next : (find : Row → Option FileRow) (rows : List Row) (i : ℕ) (row : Row) (files : List FileRow) (x : FileRow) → row ≡ get_or rows i row → i < length rows
-    → map Some files ≡ map find (take i rows) → Some x ≡ find row → map Some (files ++ x ∷ []) ≡ map find (take (i + 1) rows)
-finds_next find rows i row files x is low before here =
-    map_push Some files x ∙ ap₂ (λ xs y. xs ++ y ∷ []) before (here ∙ ap find is) ∙ sym (map_more find rows i row low)
+-- one more of a list, shown by one row more
+pub one_more : {X Y Z : Type 0} (f : X → Z) (g : Y → Z) (xs : List X) (x : X) (ys : List Y) (i : ℕ) (y : Y) → y ≡ get_or ys i y → i < length ys → map f xs ≡ map g (take i ys) → f x ≡ g y
+    → map f (xs ++ x ∷ []) ≡ map g (take (i + 1) ys)
+one_more f g xs x ys i y is low before here = map_push f xs x ∙ ap₂ (λ zs z. zs ++ z ∷ []) before (here ∙ ap g is) ∙ sym (map_more g ys i y low)
 
 some_back : (xs ys : List FileRow) → map Some xs ≡ map Some ys → xs ≡ ys
 some_back [] [] h = refl
@@ -296,15 +391,11 @@ some_back (x ∷ xs) (y ∷ ys) h =
     let rest : map Some xs ≡ map Some ys = cc in
     ap₂ ◌∷◌ same (some_back xs ys rest)
 
-map_each : (f g : FileRow → Option FileRow) (xs : List FileRow) → AllByRecursion (λ x. f x ≡ g x) xs → map f xs ≡ map g xs
-map_each f g [] all = refl
-map_each f g (x ∷ xs) all = ap₂ ◌∷◌ all.0 (map_each f g xs all.1)
-
 module _ (db : Database) (office : IsOffice db) (n : ℤ) where
   abbrev stored : List Row
   stored = db.trees 10
 
-  abbrev IsFound : FileRow → Type 0
+  abbrev pub IsFound : FileRow → Type 0
   IsFound f = file_at n f.path (tables_of db).files ≡ Some f
 
   -- a file of the deposit is the one at its path
@@ -319,7 +410,7 @@ module _ (db : Database) (office : IsOffice db) (n : ℤ) where
         | inr (other, kept, passes, only) ↦ first ∙ ap (λ rs. option_map file_in (slice_get rs 0)) only ∙ ap (λ x. Some (file_in x)) (one_file db office n path other r kept there passes placed)
       ]
 
-  each_found : AllByRecursion IsFound (files_by_path n (tables_of db))
+  pub each_found : AllByRecursion IsFound (files_by_path n (tables_of db))
   each_found =
       let kept = filter (has_deposit n) stored in
       let files = filter (is_file_of n) (map file_in stored) in
@@ -335,4 +426,4 @@ module _ (db : Database) (office : IsOffice db) (n : ℤ) where
       let at : List ℕ → Option FileRow = λ path. file_at n path (tables_of db).files in
       let by_rows : map at (map shown_path rows) ≡ map (λ row. at (shown_path row)) rows = map-map at shown_path rows in
       let by_paths : map at (map (λ (f : FileRow). f.path) all) ≡ map (λ f. at f.path) all = map-map at (λ (f : FileRow). f.path) all in
-      some_back files all (found ∙ sym by_rows ∙ ap (map at) (sym paths) ∙ by_paths ∙ map_each (λ f. at f.path) Some all each_found)
+      some_back files all (found ∙ sym by_rows ∙ ap (map at) (sym paths) ∙ by_paths ∙ map_each (λ (f : FileRow). at f.path) Some all each_found)

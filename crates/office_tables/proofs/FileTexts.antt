@@ -2,16 +2,19 @@
 use Rattle.std.proofs.Common.{ℕ, List, [], ◌∷◌, codes, false, refl}
 use Rattle.sqlite.specs.declared.types.Value.TheVariants.{Null}
 use Rattle.sqlite.specs.Collation.TheVariants.{Binary}
-use Rattle.sqlite.specs.Term.{Term, lit, col, op2}
+use Rattle.sqlite.specs.Term.{Term, lit, col, op1, op2}
 use Rattle.sqlite.specs.Command.TheVariants.{Insert, Delete}
 use Rattle.sqlite.specs.Source.TheVariants.{Values}
 use Rattle.sqlite.specs.Listing.{understood}
 use Rattle.sqlite_tied.specs.Compute.{everything}
 use Rattle.sqlite_sql.specs.declared.ops.BinaryOp.TheVariants.{Compare}
 use Rattle.sqlite_sql.specs.declared.ops.CompareOp.TheVariants.{Eq}
+use Rattle.sqlite_sql.specs.declared.ops.UnaryOp.TheVariants.{Length}
+use Rattle.sqlite_sql.specs.Query.{Made, substr}
 use Rattle.sqlite_value.specs.declared.keys.Key.{Key}
 use Rattle.sql_meaning.proofs.Scanning.{scan, as_program}
 use Rattle.sql_meaning.proofs.Reading.{Asks}
+use Rattle.sql_meaning.proofs.Making.{Makes}
 use Rattle.sql_meaning.proofs.Writing.{Means}
 use Rattle.office_tables.specs.Schema.{office_schema}
 
@@ -41,12 +44,33 @@ asks_content = record { names = codes "content" ∷ []; command = refl; unlisted
 abbrev pub paths_text : List ℕ
 paths_text = codes "SELECT path FROM file WHERE deposit = ?1 ORDER BY path"
 
-abbrev pub path_column : List Term
-path_column = col 1 2 ∷ []
-
-pub asks_paths : Asks office_schema paths_text 10 by_deposit path_column by_path
+pub asks_paths : Asks office_schema paths_text 10 by_deposit (col 1 2 ∷ []) by_path
 unfolding understood everything
 asks_paths = record { names = codes "path" ∷ []; command = refl; unlisted = refl; plain = (refl, refl) }
+
+abbrev pub lengths_text : List ℕ
+lengths_text = codes "SELECT path, length(content) FROM file WHERE deposit = ?1 ORDER BY path"
+
+abbrev pub length_column : List Term
+length_column = op1 Length (col 1 3) ∷ []
+
+pub asks_lengths : Asks office_schema lengths_text 10 by_deposit (col 1 2 ∷ length_column) by_path
+unfolding understood everything
+asks_lengths = record { names = codes "path" ∷ codes "length(content)" ∷ []; command = refl; unlisted = refl; plain = (refl, refl) }
+
+abbrev pub piece_text : List ℕ
+piece_text = codes "SELECT substr(content, ?3, ?4) FROM file WHERE deposit = ?1 AND path = ?2"
+
+-- substr(content, ?3, ?4)
+abbrev pub piece_value : Made
+piece_value = substr (col 1 3) (col 0 2) (col 0 3)
+
+abbrev pub value_column : List Term
+value_column = col 2 0 ∷ []
+
+pub makes_piece : Makes office_schema piece_text 10 piece_value by_place value_column
+unfolding understood everything
+makes_piece = record { names = codes "substr(content, ?3, ?4)" ∷ []; command = refl; unlisted = refl; plain = (refl, refl) }
 
 -- ---- writes
 

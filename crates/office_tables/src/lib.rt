@@ -19,7 +19,9 @@ pub use deposits::{
     put_deposit,
 };
 pub use fault::TableFault;
-pub use files::{FileRow, drop_files, file_of, files_of, put_file};
+pub use files::{
+    FileLength, FileRow, append_content, drop_files, file_of, files_of, lengths_of, put_file,
+};
 pub use holds::{HoldRow, HoldTarget, end_hold, hold_row, last_hold, live_holds, put_hold};
 pub use opening::{OfficeLimits, limits, open_tables};
 pub use policy::{CallerRow, RuleRow, put_policy, role_of, rules};

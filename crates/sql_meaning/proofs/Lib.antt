@@ -13,3 +13,4 @@ pub mod RowidKeys
 pub mod Inserts
 pub mod Changing
 pub mod Making
+pub mod Parts

@@ -7,7 +7,7 @@ use Rattle.sql_meaning.proofs.Inside.{stays_on, stands_then}
 use Rattle.office_rows.specs.Rows.{FileRow, file_at}
 use Rattle.office_tables.specs.Tables.{IsOffice, tables_of}
 use Rattle.office_tables.specs.Deposits.{shown_path}
-use Rattle.office_tables.proofs.FileLemmas.{finds_next}
+use Rattle.office_tables.proofs.FileLemmas.{one_more}
 use Rattle.office_tables.proofs.files.files_at.Goals as goal
 
 pub loop-row-preserved : goal.loop-row-preserved
@@ -27,7 +27,7 @@ loop-row-preserved g c =
           let there = inv.found (early clean) office in
           let still : IsOffice now.now = subst IsOffice (sym there.0) office in
           let here = subst (λ db. Some x ≡ file_at (pos c.args.number) (shown_path c.row-item.result) (tables_of db).files) there.0 (c.in_ok-file_at.ensures.found clean still) in
-          let more = finds_next find c.args.rows.now c.loop-row.row-index c.row-item.result c.loop-row.files.items x c.row-item.is (search rules) there.1 here in
+          let more = one_more Some find c.loop-row.files.items x c.args.rows.now c.loop-row.row-index c.row-item.result c.row-item.is (search rules) there.1 here in
           (c.in_ok-file_at.ensures.same clean still ∙ there.0, rw c.in_ok-push.ensures.items more);
     }
 
