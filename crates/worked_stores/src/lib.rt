@@ -8,8 +8,6 @@ mod output;
 #[cfg(test)]
 mod runs;
 #[cfg(test)]
-mod serving;
-#[cfg(test)]
 mod stores;
 #[cfg(test)]
 mod texts;

@@ -1,11 +1,14 @@
 //! An office in a file from its first day on, and offices in memory.
 
-use crate::runs::{ACCEPTED, FAILED, REFUSED, Run, begin, run_all};
+use crate::output::Peer;
+use crate::runs::{ACCEPTED, FAILED, REFUSED, Run, begin, run_all, run_one};
 use crate::texts::{
-    ANSWERS, ASKS, DAYS, DAYS_ANSWERS, DENIED_ANSWER, DUE, DUE_ANSWER, MAPS, MAPS_ANSWER,
+    ANSWERS, ASKS, CLASS, CLASS_ANSWER, DAYS, DAYS_ANSWERS, DENIED_ANSWER, DEPOSIT_ANSWER,
+    DEPOSITS, DOWNLOAD, DOWNLOAD_ANSWER, DUE, DUE_ANSWER, LIST_ANSWER, LISTS, MAPS, MAPS_ANSWER,
     NO_SUCH_ANSWER, ONE_ANSWER, ONE_RECORD, RECORDS, TORN_RECORDS,
 };
 use std::fs;
+use std::net::{Ipv4Addr, TcpListener};
 use std::test::Fail;
 
 /// Runs that make no office.
@@ -146,7 +149,12 @@ static MADE_BY_POLICY: [Run; 12] = [
         ..FAILED
     },
     Run {
-        words: &["replay", "--policy", "offices/policy.toml", "offices/office.db"],
+        words: &[
+            "replay",
+            "--policy",
+            "offices/policy.toml",
+            "offices/office.db",
+        ],
         input: DAYS,
         takes: 0,
         err: "device\ndepot: standard input or output failed\n",
@@ -240,6 +248,79 @@ static IN_MEMORY: [Run; 6] = [
     },
 ];
 
+/// An office that is served to peers, and what they wrote in the run that follows.
+static SERVED: [Run; 3] = [
+    Run {
+        words: &["policy", "offices/served.db", "offices/policy.toml"],
+        out: "installed 3 rules 2 callers\n",
+        ..ACCEPTED
+    },
+    Run {
+        words: &[
+            "serve",
+            "--port",
+            "0",
+            "--count",
+            "5",
+            "offices/served.db",
+            "2024-03-01",
+        ],
+        peers: &[
+            Peer {
+                sends: ASKS,
+                gets: NO_SUCH_ANSWER,
+            },
+            Peer {
+                sends: MAPS,
+                gets: MAPS_ANSWER,
+            },
+            Peer {
+                sends: CLASS,
+                gets: CLASS_ANSWER,
+            },
+            Peer {
+                sends: DEPOSITS,
+                gets: DEPOSIT_ANSWER,
+            },
+            Peer {
+                sends: LISTS,
+                gets: LIST_ANSWER,
+            },
+        ],
+        out: "listening ",
+        ..ACCEPTED
+    },
+    Run {
+        words: &["ask", "offices/served.db", "2024-03-02"],
+        input: DOWNLOAD,
+        out: DOWNLOAD_ANSWER,
+        ..ACCEPTED
+    },
+];
+
+/// The port that is named is another listener's.
+static TAKEN: Run = Run {
+    words: &[
+        "serve",
+        "--port",
+        "STORE",
+        "--count",
+        "1",
+        "offices/served.db",
+        "2024-03-01",
+    ],
+    err: "device\ndepot: cannot listen on 127.0.0.1: Address already in use (os error 98)\n",
+    ..FAILED
+};
+
+/// Serves on a port that another listener has.
+fn run_at_taken_port(rt: &HostRuntime) -> Result<(), Fail> {
+    let listener = TcpListener::bind(rt, (Ipv4Addr::LOCALHOST, 0))?;
+    let port = listener.local_addr()?.port();
+    let word = format!(in rt.alloc(); "{port}")?;
+    run_one(rt, &TAKEN, word.as_str(), TAKEN.err)
+}
+
 #[test]
 fn offices_in_files_and_in_memory(rt: HostRuntime) -> Result<(), Fail> {
     begin(&rt, "offices")?;
@@ -249,6 +330,8 @@ fn offices_in_files_and_in_memory(rt: HostRuntime) -> Result<(), Fail> {
     run_all(&rt, MADE_BY_POLICY.as_slice())?;
     run_all(&rt, MADE_BY_REPLAY.as_slice())?;
     run_all(&rt, IN_MEMORY.as_slice())?;
+    run_all(&rt, SERVED.as_slice())?;
+    run_at_taken_port(&rt)?;
     fs::remove_dir_all(&rt, "offices")?;
     Ok(())
 }

@@ -1,11 +1,17 @@
 //! What the program prints, and the peers that connect once it listens.
 
-use std::io;
 use std::io::{Error, ErrorKind, Read, Write};
-use std::mem;
 use std::net::{Ipv4Addr, Shutdown, TcpStream};
 use std::test::Fail;
 use std::time::Duration;
+use std::{io, mem};
+
+/// A peer: what it sends, and what it gets.
+#[derive(Clone, Copy)]
+pub struct Peer {
+    pub sends: &'static str,
+    pub gets: &'static str,
+}
 
 /// Standard output of a run. Once it holds the line that says where the program listens, and is
 /// flushed, the peers connect, and each sends its request.
@@ -16,29 +22,21 @@ pub struct Output<'a> {
     pub said: Vec<u8>,
     /// How many bytes more it takes.
     room: usize,
-    /// The requests of the peers that are still to connect.
-    requests: &'static [&'static str],
-    /// The peers that have connected.
-    peers: Vec<TcpStream>,
+    /// The peers that are still to connect.
+    peers: &'static [Peer],
+    /// The ends of those that have.
+    streams: Vec<TcpStream>,
 }
 
 impl<'a> Output<'a> {
-    /// An output that takes so many bytes.
-    pub fn new(rt: &'a HostRuntime, room: usize) -> Output<'a> {
+    /// An output that takes so many bytes, and that these peers wait for.
+    pub fn new(rt: &'a HostRuntime, room: usize, peers: &'static [Peer]) -> Output<'a> {
         Output {
             rt,
             said: Vec::new(rt.alloc()),
             room,
-            requests: &[],
-            peers: Vec::new(rt.alloc()),
-        }
-    }
-
-    /// An output that peers wait for, with their requests.
-    pub fn with_peers(rt: &'a HostRuntime, requests: &'static [&'static str]) -> Output<'a> {
-        Output {
-            requests,
-            ..Output::new(rt, usize::MAX)
+            peers,
+            streams: Vec::new(rt.alloc()),
         }
     }
 
@@ -57,19 +55,23 @@ impl<'a> Output<'a> {
         stream.set_read_timeout(Some(Duration::from_secs(5)))?;
         stream.write_all(request.as_bytes())?;
         stream.shutdown(Shutdown::Write)?;
-        self.peers.push(stream)?;
+        self.streams.push(stream)?;
         Ok(())
     }
 
-    /// What each peer gets, in their order.
-    pub fn answers(self) -> Result<Vec<Vec<u8>>, Fail> {
-        let mut answers = Vec::new(self.rt.alloc());
-        for mut stream in self.peers {
+    /// Whether each of the peers has connected and got its answer.
+    pub fn has_served(&mut self, peers: &[Peer]) -> Result<bool, Fail> {
+        if self.streams.len() != peers.len() {
+            return Ok(false);
+        }
+        for (stream, peer) in self.streams.iter_mut().zip(peers) {
             let mut bytes = Vec::new(self.rt.alloc());
             stream.read_to_end(&mut bytes)?;
-            answers.push(bytes)?;
+            if bytes.as_slice() != peer.gets.as_bytes() {
+                return Ok(false);
+            }
         }
-        Ok(answers)
+        Ok(true)
     }
 }
 
@@ -82,10 +84,10 @@ impl Write for Output<'_> {
     }
 
     fn flush(&mut self) -> io::Result<()> {
-        let requests = mem::replace(&mut self.requests, &[]);
-        for request in requests {
+        let peers = mem::replace(&mut self.peers, &[]);
+        for peer in peers {
             let port = self.port().ok_or(Error::from(ErrorKind::InvalidData))?;
-            self.call(port, request)?;
+            self.call(port, peer.sends)?;
         }
         Ok(())
     }

@@ -1,10 +1,11 @@
 //! A run of the program, and what it is to print.
 
-use crate::output::Output;
+use crate::output::{Output, Peer};
 use commands::Ending;
 use desk_devices::{Counted, FailAt, Portion};
 use program::run;
 use sqlite::Unknown;
+use std::alloc::{AllocError, Global};
 use std::fs;
 use std::test::Fail;
 use worked_bags::POLICY;
@@ -13,12 +14,15 @@ use worked_bags::POLICY;
 /// how it ends.
 #[derive(Clone, Copy)]
 pub struct Run {
+    /// In the place of the word `STORE` stands what a test names.
     pub words: &'static [&'static str],
     pub input: &'static str,
     /// How many bytes the input gives, one a call, before it fails.
     pub gives: u64,
     /// How many bytes standard output takes.
     pub takes: usize,
+    /// The peers that connect where it serves. The port stands behind what it is to print.
+    pub peers: &'static [Peer],
     pub out: &'static str,
     /// Where the run is accepted, nothing stands on standard error.
     pub err: &'static str,
@@ -31,6 +35,7 @@ pub const ACCEPTED: Run = Run {
     input: "",
     gives: u64::MAX,
     takes: usize::MAX,
+    peers: &[],
     out: "",
     err: "",
     ending: Ending::Accepted,
@@ -50,39 +55,59 @@ pub const FAILED: Run = Run {
 
 /// What a run came to.
 #[derive(Drop)]
-pub struct Came<'a> {
-    pub out: Output<'a>,
+struct Came<'a> {
+    out: Output<'a>,
     err: Vec<u8>,
     ending: Ending,
 }
 
 impl Came<'_> {
-    /// Whether it ended so, and standard error begins so.
-    pub fn has_ended(&self, ending: Ending, err: &str) -> bool {
-        self.ending == ending
-            && self.err.starts_with(err.as_bytes())
-            && (self.err.is_empty() || ending != Ending::Accepted)
+    /// Whether it came to what was worked out, with this beginning of standard error.
+    fn is_as(&mut self, expected: &Run, err: &str) -> Result<bool, Fail> {
+        let said = self.out.said.as_slice();
+        let is_said = if expected.peers.is_empty() {
+            said == expected.out.as_bytes()
+        } else {
+            said.starts_with(expected.out.as_bytes())
+        };
+        let is_told = self.err.starts_with(err.as_bytes())
+            && (self.err.is_empty() || expected.ending != Ending::Accepted);
+        if !is_said || !is_told || self.ending != expected.ending {
+            return Ok(false);
+        }
+        self.out.has_served(expected.peers)
     }
 
-    /// Says that it came to something else than was worked out.
-    pub fn fail(&self, rt: &HostRuntime, store: &str) -> Result<(), Fail> {
-        let out = String::from_utf8_lossy(rt.alloc(), &self.out.said)?;
-        let err = String::from_utf8_lossy(rt.alloc(), &self.err)?;
-        let ending = self.ending;
-        Err(Fail::new(format_args!("{store}: {ending:?}, {err}, {out}")))
+    /// Says what it came to.
+    fn fail(&self, alloc: Global, word: &str) -> Result<(), Fail> {
+        let out = String::from_utf8_lossy(alloc, &self.out.said)?;
+        let err = String::from_utf8_lossy(alloc, &self.err)?;
+        let status = self.ending.status();
+        Err(Fail::new(format_args!("{word}: {status}, {err}, {out}")))
     }
 }
 
-/// Runs the program on these words. The input gives so many of its bytes, one a call, and then fails.
-pub fn came_of<'a>(
-    rt: &'a HostRuntime,
-    words: &[&str],
-    input: &str,
-    gives: u64,
-    out: Output<'a>,
-) -> Came<'a> {
-    let mut input = Counted::new(FailAt::new(input.as_bytes(), Portion::OneByte, gives));
-    let mut out = Counted::new(out);
+/// The words, with the store in its place.
+fn spelled<'a>(
+    alloc: Global,
+    words: &'static [&'static str],
+    store: &'a str,
+) -> Result<Vec<&'a str>, AllocError> {
+    let mut all = Vec::new(alloc);
+    for word in words {
+        all.push(if *word == "STORE" { store } else { *word })?;
+    }
+    Ok(all)
+}
+
+/// Runs the program on these words.
+fn came_of<'a>(rt: &'a HostRuntime, words: &[&str], expected: &Run) -> Came<'a> {
+    let mut input = Counted::new(FailAt::new(
+        expected.input.as_bytes(),
+        Portion::OneByte,
+        expected.gives,
+    ));
+    let mut out = Counted::new(Output::new(rt, expected.takes, expected.peers));
     let mut err = Vec::new(rt.alloc());
     let ending = run(rt, Unknown, words, &mut input, &mut out, &mut err);
     Came {
@@ -90,6 +115,26 @@ pub fn came_of<'a>(
         err,
         ending,
     }
+}
+
+/// Runs the program once, on that store. Fails where it comes to something else, or standard error
+/// begins otherwise.
+pub fn run_one(rt: &HostRuntime, expected: &Run, store: &str, err: &str) -> Result<(), Fail> {
+    let words = spelled(rt.alloc(), expected.words, store)?;
+    let mut came = came_of(rt, words.as_slice(), expected);
+    if came.is_as(expected, err)? {
+        return Ok(());
+    }
+    let word = words.first().ok_or("no words")?;
+    came.fail(rt.alloc(), word)
+}
+
+/// Runs these one after the other.
+pub fn run_all(rt: &HostRuntime, runs: &[Run]) -> Result<(), Fail> {
+    for expected in runs {
+        run_one(rt, expected, "", expected.err)?;
+    }
+    Ok(())
 }
 
 /// Makes the folder of a test, anew where an earlier run left one, with a policy and a text that is
@@ -103,20 +148,5 @@ pub fn begin(rt: &HostRuntime, folder: &str) -> Result<(), Fail> {
     fs::write(rt, policy.as_str(), POLICY)?;
     let other = format!(in rt.alloc(); "{folder}/other.toml")?;
     fs::write(rt, other.as_str(), b"version = 3\n")?;
-    Ok(())
-}
-
-/// Runs these one after the other. Fails where one comes to something else.
-pub fn run_all(rt: &HostRuntime, runs: &[Run]) -> Result<(), Fail> {
-    for expected in runs {
-        let out = Output::new(rt, expected.takes);
-        let came = came_of(rt, expected.words, expected.input, expected.gives, out);
-        if !came.has_ended(expected.ending, expected.err)
-            || came.out.said.as_slice() != expected.out.as_bytes()
-        {
-            let store = expected.words.last().ok_or("no words")?;
-            return came.fail(rt, store);
-        }
-    }
     Ok(())
 }

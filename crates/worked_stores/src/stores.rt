@@ -1,250 +1,291 @@
 //! Stores that are no office, or can't be opened: what each command says of them, and that they stay
 //! as they are.
 
-use crate::output::Output;
-use crate::runs::{begin, came_of};
+use crate::runs::{ACCEPTED, FAILED, Run, begin, run_all, run_one};
 use crate::texts::RECORDS;
-use commands::Ending;
-use sqlite::Connection;
+use os::RangeLock;
+use std::alloc::Global;
 use std::fs;
+use std::fs::{File, OpenOptions, Permissions};
+use std::os::fd::AsRawFd;
 use std::os::unix::fs::PermissionsExt;
 use std::test::Fail;
 
-/// How a store comes to be.
+/// The bytes of a store.
 #[derive(Clone, Copy)]
-enum Made {
-    /// A file of these bytes.
+enum Held {
+    /// These.
     Bytes(&'static [u8]),
-    /// A folder.
-    Folder,
-    /// A database that these statements make.
-    Database(&'static str),
-    /// An office that these statements change.
-    Changed(&'static str),
-    /// An office's file with another byte at this place.
-    Altered(usize),
-    /// The beginning of an office's file, of this length.
+    /// These, and zeros up to that length.
+    Page(&'static [u8], usize),
+    /// An office's, with the second in each place of the first, which is as long.
+    Changed(&'static [u8], &'static [u8]),
+    /// An office's, of which one bit at this place is turned.
+    Turned(usize),
+    /// The first of an office's, so many.
     Cut(usize),
-    /// An office that another connection holds open.
-    Held,
-    /// An office that nobody may read or write.
-    Closed,
+    /// An office's.
+    Office,
 }
 
 /// A store, and how standard error begins where a command is put to it.
 #[derive(Clone, Copy)]
 struct Store {
     path: &'static str,
-    made: Made,
+    held: Held,
     err: &'static str,
 }
 
 /// The commands that are put to each store.
-static COMMANDS: [&[&str]; 5] = [
-    &["policy", "STORE", "stores/policy.toml"],
-    &["replay", "--policy", "stores/policy.toml", "STORE"],
-    &["replay", "STORE"],
-    &["ask", "STORE", "2024-03-02"],
-    &[
-        "serve",
-        "--port",
-        "0",
-        "--count",
-        "1",
-        "STORE",
-        "2024-03-02",
-    ],
+static COMMANDS: [Run; 5] = [
+    Run {
+        words: &["policy", "STORE", "stores/policy.toml"],
+        ..FAILED
+    },
+    Run {
+        words: &["replay", "--policy", "stores/policy.toml", "STORE"],
+        input: RECORDS,
+        ..FAILED
+    },
+    Run {
+        words: &["replay", "STORE"],
+        input: RECORDS,
+        ..FAILED
+    },
+    Run {
+        words: &["ask", "STORE", "2024-03-02"],
+        input: RECORDS,
+        ..FAILED
+    },
+    Run {
+        words: &[
+            "serve",
+            "--port",
+            "0",
+            "--count",
+            "1",
+            "STORE",
+            "2024-03-02",
+        ],
+        ..FAILED
+    },
 ];
 
-static STORES: [Store; 16] = [
+static STORES: [Store; 13] = [
     Store {
         path: "stores/empty.db",
-        made: Made::Bytes(b""),
+        held: Held::Bytes(b""),
         err: "store Q1\ndepot: stores/empty.db is no office\n",
     },
+    // A database without tables, as sqlite3 makes it in pages of 512 bytes.
     Store {
         path: "stores/bare.db",
-        made: Made::Database("CREATE TABLE note (id INTEGER PRIMARY KEY) STRICT; DROP TABLE note"),
+        held: Held::Page(
+            b"SQLite format 3\0\x02\0\x01\x01\0\x40  \0\0\0\x01\0\0\0\x01\0\0\0\0\0\0\0\0\0\0\0\x01\0\0\0\0\0\0\0\0\0\0\0\0\0\0\0\0\0\0\0\0\0\0\0\0\0\0\0\0\0\0\0\0\0\0\0\0\0\0\0\0\0\0\0\0\0\0\0\0\0\0\0\x01\0\x2Ec\x01\x0D\0\0\0\0\x02",
+            512,
+        ),
         err: "store Q1\ndepot: stores/bare.db is no office\n",
     },
+    // A database of another program: its tables have other names.
     Store {
         path: "stores/notes.db",
-        made: Made::Database("CREATE TABLE note (id INTEGER PRIMARY KEY, text TEXT) STRICT; INSERT INTO note (text) VALUES ('maps')"),
+        held: Held::Changed(b"office", b"notice"),
         err: "store Q1\ndepot: stores/notes.db is no office\n",
     },
-    Store {
-        path: "stores/rowless.db",
-        made: Made::Changed("DELETE FROM office"),
-        err: "store Q1\ndepot: stores/rowless.db is no office\n",
-    },
+    // The row of the table `office`, with the version 2 in the place of 1, and fewer deposits.
     Store {
         path: "stores/later.db",
-        made: Made::Changed("UPDATE office SET version = 2"),
+        held: Held::Changed(
+            b"\0\x09\x03\x03\x0F\x42\x40\x0F\x42\x40",
+            b"\0\x01\x02\x03\x02\x42\x40\x0F\x42\x40",
+        ),
         err: "store Q2\ndepot: stores/later.db is an office of another version\n",
     },
     Store {
         path: "stores/text.db",
-        made: Made::Bytes(b"a text and no database\n"),
-        err: "store Q4\ndepot: cannot open stores/text.db: file is not a database",
+        held: Held::Bytes(b"a text and no database\n"),
+        err: "store Q4\ndepot: cannot open stores/text.db: file is not a database that obeys its schema\n",
     },
-    // The first letter of the file, the kind of its first page, and a letter of a table's definition.
+    // The first letter of a database, the length of its pages, the kind of its first page, a name that
+    // an index has otherwise than its row, and what defines the tables.
     Store {
-        path: "stores/header.db",
-        made: Made::Altered(0),
-        err: "store Q4\ndepot: cannot open stores/header.db: ",
-    },
-    Store {
-        path: "stores/page.db",
-        made: Made::Altered(100),
-        err: "store Q4\ndepot: cannot open stores/page.db: ",
+        path: "stores/letter.db",
+        held: Held::Turned(0),
+        err: "store Q4\ndepot: cannot open stores/letter.db: file is not a database that obeys its schema\n",
     },
     Store {
-        path: "stores/size.db",
-        made: Made::Altered(16),
-        err: "store Q4\ndepot: cannot open stores/size.db: ",
+        path: "stores/length.db",
+        held: Held::Turned(16),
+        err: "store Q4\ndepot: cannot open stores/length.db: file is not a database that obeys its schema\n",
+    },
+    Store {
+        path: "stores/kind.db",
+        held: Held::Turned(100),
+        err: "store Q4\ndepot: cannot open stores/kind.db: database disk image is malformed\n",
+    },
+    Store {
+        path: "stores/name.db",
+        held: Held::Turned(16_383),
+        err: "store Q4\ndepot: cannot open stores/name.db: file is not a database that obeys its schema\n",
     },
     Store {
         path: "stores/definition.db",
-        made: Made::Altered(4090),
-        err: "store Q4\ndepot: cannot open stores/definition.db: ",
+        held: Held::Changed(b"CREATE TABLE", b"CREATE FABLE"),
+        err: "store Q4\ndepot: cannot open stores/definition.db: file is not a database that obeys its schema\n",
     },
     Store {
         path: "stores/two-bytes.db",
-        made: Made::Cut(2),
-        err: "store Q4\ndepot: cannot open stores/two-bytes.db: ",
+        held: Held::Cut(2),
+        err: "store Q4\ndepot: cannot open stores/two-bytes.db: file is not a database that obeys its schema\n",
     },
     Store {
         path: "stores/one-page.db",
-        made: Made::Cut(4096),
-        err: "store Q4\ndepot: cannot open stores/one-page.db: ",
+        held: Held::Cut(4_096),
+        err: "store Q4\ndepot: cannot open stores/one-page.db: database disk image is malformed\n",
     },
     Store {
-        path: "stores/short.db",
-        made: Made::Cut(20_000),
-        err: "store Q4\ndepot: cannot open stores/short.db: ",
-    },
-    Store {
-        path: "stores/folder",
-        made: Made::Folder,
-        err: "store Q4\ndepot: cannot open stores/folder: ",
-    },
-    Store {
-        path: "stores/held.db",
-        made: Made::Held,
-        err: "store Q4\ndepot: cannot open stores/held.db: database is locked\n",
-    },
-    Store {
-        path: "stores/closed.db",
-        made: Made::Closed,
-        err: "store Q4\ndepot: cannot open stores/closed.db: ",
+        path: "stores/torn-page.db",
+        held: Held::Cut(40_000),
+        err: "store Q4\ndepot: cannot open stores/torn-page.db: database disk image is malformed\n",
     },
 ];
 
-/// Puts each command to the store. Fails where one prints something, or is told otherwise.
+static FOLDER: Store = Store {
+    path: "stores/folder",
+    held: Held::Bytes(b""),
+    err: "store Q4\ndepot: cannot open stores/folder: ",
+};
+
+static LOCKED: Store = Store {
+    path: "stores/locked.db",
+    held: Held::Office,
+    err: "store Q4\ndepot: cannot open stores/locked.db: database is locked\n",
+};
+
+static CLOSED: Store = Store {
+    path: "stores/closed.db",
+    held: Held::Office,
+    err: "store Q4\ndepot: cannot open stores/closed.db: ",
+};
+
+/// An office, of which the files of others are made.
+static OFFICE: [Run; 1] = [Run {
+    words: &["policy", "stores/office.db", "stores/policy.toml"],
+    out: "installed 3 rules 2 callers\n",
+    ..ACCEPTED
+}];
+
+/// The bytes with the second text in each place of the first, which is as long.
+fn changed(alloc: Global, bytes: &[u8], from: &[u8], to: &[u8]) -> Result<Vec<u8>, Fail> {
+    let mut made = Vec::new(alloc);
+    let mut rest = bytes;
+    for _ in 0..bytes.len() {
+        if let Some(behind) = rest.strip_prefix(from) {
+            made.extend_from_slice(to)?;
+            rest = behind;
+        } else if let Some((first, behind)) = rest.split_first() {
+            made.push(*first)?;
+            rest = behind;
+        }
+    }
+    Ok(made)
+}
+
+/// A copy of the bytes.
+fn copied(alloc: Global, bytes: &[u8]) -> Result<Vec<u8>, Fail> {
+    let mut made = Vec::new(alloc);
+    made.extend_from_slice(bytes)?;
+    Ok(made)
+}
+
+/// The bytes, of which one bit at that place is turned.
+fn turned(alloc: Global, bytes: &[u8], place: usize) -> Result<Vec<u8>, Fail> {
+    let mut made = copied(alloc, bytes)?;
+    let byte = made.get_mut(place).ok_or("a place behind the end")?;
+    *byte ^= 1;
+    Ok(made)
+}
+
+impl Held {
+    /// The bytes, where these are an office's.
+    fn content(&self, alloc: Global, office: &[u8]) -> Result<Vec<u8>, Fail> {
+        match *self {
+            Held::Bytes(bytes) => copied(alloc, bytes),
+            Held::Page(bytes, length) => {
+                let mut made = copied(alloc, bytes)?;
+                made.resize(length, 0)?;
+                Ok(made)
+            }
+            Held::Changed(from, to) => changed(alloc, office, from, to),
+            Held::Turned(place) => turned(alloc, office, place),
+            Held::Cut(length) => copied(alloc, office.get(..length).ok_or("a short office")?),
+            Held::Office => copied(alloc, office),
+        }
+    }
+}
+
+/// Puts each command to the store.
 fn refuse_all(rt: &HostRuntime, store: &Store) -> Result<(), Fail> {
     for command in &COMMANDS {
-        let words = command
-            .iter()
-            .map(|word| if *word == "STORE" { store.path } else { *word })
-            .collect::<Vec<&str>>(rt.alloc())?;
-        let out = Output::new(rt, usize::MAX);
-        let came = came_of(rt, words.as_slice(), RECORDS, u64::MAX, out);
-        if !came.has_ended(Ending::Failed, store.err) || !came.out.said.is_empty() {
-            return came.fail(rt, store.path);
-        }
+        run_one(rt, command, store.path, store.err)?;
     }
     Ok(())
 }
 
-/// Changes a database by these statements, or makes it, and puts each command to the store, if there
-/// is one, while the database is open.
-fn change(
-    rt: &HostRuntime,
-    path: &str,
-    statements: &str,
-    held: Option<&Store>,
-) -> Result<(), Fail> {
-    let mut conn = Connection::open(rt, path)?;
-    conn.execute_batch(statements)?;
-    if let Some(store) = held {
-        refuse_all(rt, store)?;
+/// Fails where the store doesn't hold these bytes.
+fn compare(rt: &HostRuntime, store: &Store, bytes: &[u8]) -> Result<(), Fail> {
+    if fs::read(rt, store.path)?.as_slice() != bytes {
+        return Err(Fail::new(format_args!("{} was changed", store.path)));
     }
-    conn.close()?;
-    Ok(())
-}
-
-/// The bytes of an office's file, with another one at this place.
-fn altered(rt: &HostRuntime, office: &[u8], place: usize) -> Result<Vec<u8>, Fail> {
-    let mut bytes = Vec::new(rt.alloc());
-    bytes.extend_from_slice(office)?;
-    let byte = bytes.get_mut(place).ok_or("a place behind the end")?;
-    *byte ^= 1;
-    Ok(bytes)
-}
-
-/// Makes the store's file.
-fn lay(rt: &HostRuntime, store: &Store, office: &[u8]) -> Result<(), Fail> {
-    match store.made {
-        Made::Bytes(bytes) => fs::write(rt, store.path, bytes)?,
-        Made::Folder => fs::create_dir(rt, store.path)?,
-        Made::Database(statements) => change(rt, store.path, statements, None)?,
-        Made::Changed(statements) => {
-            fs::write(rt, store.path, office)?;
-            change(rt, store.path, statements, None)?;
-        }
-        Made::Altered(place) => fs::write(rt, store.path, altered(rt, office, place)?.as_slice())?,
-        Made::Cut(length) => {
-            let rest = office.get(..length).ok_or("a length behind the end")?;
-            fs::write(rt, store.path, rest)?;
-        }
-        Made::Held | Made::Closed => fs::write(rt, store.path, office)?,
-    }
-    Ok(())
-}
-
-/// Puts each command to a file that nobody may read or write. Root may all the same.
-fn refuse_closed(rt: &HostRuntime, store: &Store) -> Result<(), Fail> {
-    fs::set_permissions(rt, store.path, fs::Permissions::from_mode(0))?;
-    if fs::File::open(rt, store.path).is_err() {
-        refuse_all(rt, store)?;
-    }
-    fs::set_permissions(rt, store.path, fs::Permissions::from_mode(0o644))?;
     Ok(())
 }
 
 /// Puts each command to the store. Fails where one says something else, or the store doesn't stay as
 /// it was.
 fn take(rt: &HostRuntime, store: &Store, office: &[u8]) -> Result<(), Fail> {
-    lay(rt, store, office)?;
-    if let Made::Folder = store.made {
+    let bytes = store.held.content(rt.alloc(), office)?;
+    fs::write(rt, store.path, bytes.as_slice())?;
+    refuse_all(rt, store)?;
+    compare(rt, store, bytes.as_slice())
+}
+
+/// The same with a file under the lock that each connection to a database takes.
+fn take_locked(rt: &HostRuntime, store: &Store, office: &[u8]) -> Result<(), Fail> {
+    fs::write(rt, store.path, office)?;
+    let file = OpenOptions::new()
+        .read(true)
+        .write(true)
+        .open(rt, store.path)?;
+    if os::try_lock_range(file.as_raw_fd(), RangeLock::Exclusive, 1 << 30, 512) != 0 {
+        return Err("no lock".into());
+    }
+    refuse_all(rt, store)?;
+    compare(rt, store, office)
+}
+
+/// The same with a file that nobody may read or write. Root may all the same, and it is left out.
+fn take_closed(rt: &HostRuntime, store: &Store, office: &[u8]) -> Result<(), Fail> {
+    fs::write(rt, store.path, office)?;
+    fs::set_permissions(rt, store.path, Permissions::from_mode(0))?;
+    if File::open(rt, store.path).is_err() {
         refuse_all(rt, store)?;
-        fs::remove_dir(rt, store.path)?;
-        return Ok(());
     }
-    let before = fs::read(rt, store.path)?;
-    match store.made {
-        Made::Held => change(rt, store.path, "", Some(store))?,
-        Made::Closed => refuse_closed(rt, store)?,
-        _ => refuse_all(rt, store)?,
-    }
-    if fs::read(rt, store.path)? != before {
-        return Err(Fail::new(format_args!("{} was changed", store.path)));
-    }
-    Ok(())
+    fs::set_permissions(rt, store.path, Permissions::from_mode(0o644))?;
+    compare(rt, store, office)
 }
 
 #[test]
 fn what_is_no_office(rt: HostRuntime) -> Result<(), Fail> {
     begin(&rt, "stores")?;
-    let words = ["policy", "stores/office.db", "stores/policy.toml"];
-    let made = came_of(&rt, words.as_slice(), "", 0, Output::new(&rt, usize::MAX));
-    if !made.has_ended(Ending::Accepted, "") {
-        return made.fail(&rt, "stores/office.db");
-    }
+    run_all(&rt, OFFICE.as_slice())?;
     let office = fs::read(&rt, "stores/office.db")?;
     for store in &STORES {
         take(&rt, store, office.as_slice())?;
     }
+    fs::create_dir(&rt, FOLDER.path)?;
+    refuse_all(&rt, &FOLDER)?;
+    take_locked(&rt, &LOCKED, office.as_slice())?;
+    take_closed(&rt, &CLOSED, office.as_slice())?;
     fs::remove_dir_all(&rt, "stores")?;
     Ok(())
 }
