@@ -2,17 +2,20 @@
 """Speed and memory of `depot check` beside `sha256sum -c` and `sha512sum -c` on the same bytes on disk.
 
 Prints a ratio for each case: the median time of `depot check` over that of the other run, which
-take turns. Run it after `./depot check examples/bag-a.bagset` has built the program. Words behind
-`bench.py` name the cases that are run; with none, all are.
+take turns, in going first too. `depot` opens one file, the form, where `sha256sum -c` opens each: so
+the sum of the form alone, by `sha256sum` and by `openssl dgst`, is a second ratio. Run it after
+`./depot check examples/bag-a.bagset` has built the program. Words behind `bench.py` name the cases
+that are run; with none, all are.
 """
 import hashlib
 import os
 import pathlib
-import statistics
 import subprocess
 import sys
 import tempfile
 import time
+
+from turns import ratio, say_machine, spreads, turns
 
 TOP = pathlib.Path(__file__).resolve().parent.parent
 DEPOT = TOP / "crates" / "depot" / "out" / "depot-program"
@@ -92,23 +95,26 @@ def peak(words):
     return int(said.stdout) * 1024
 
 
-def ratio(ours, theirs):
-    """The ratio of the medians of runs that take turns."""
-    first, second = [], []
-    for _ in range(RUNS):
-        first.append(run(*ours))
-        second.append(run(*theirs))
-    return statistics.median(first) / statistics.median(second)
-
-
 def beside(tools, most, folder, name, files):
     """`depot check` on the form of these files beside the tools in a folder that holds the files."""
     base, text = write(folder, files, name)
     check = [str(DEPOT), "check", str(text)]
-    found = ratio(([check],), (tools, base))
+    found = turns(lambda: run([check]), lambda: run(tools, base), RUNS)
     memory = max(peak(check) for _ in range(3)) - text.stat().st_size
     named = " and then ".join(tool[0] + " -c" for tool in tools)
-    print(f"{name}: {found:.2f} times {named} (at most {most}); memory: the input and {memory / 2**20:.1f} MiB (at most 8)")
+    print(
+        f"{name}: {ratio(*found):.2f} times {named} (at most {most}; {spreads(*found)});"
+        f" memory: the input and {memory / 2**20:.1f} MiB (at most 8)"
+    )
+    for form_tools in (of_form(tools, ["sha256sum"], text), of_form(tools, ["openssl", "dgst", "-sha256"], text)):
+        found = turns(lambda: run([check]), lambda: run(form_tools), RUNS)
+        named = " and then ".join(" ".join(tool[:-1]) for tool in form_tools)
+        print(f"    {ratio(*found):.2f} times {named} of the form, which is one file ({spreads(*found)})", flush=True)
+
+
+def of_form(tools, words, text):
+    """The same digests of the form alone, one for each tool."""
+    return [[it.replace("sha256", tool[0].removesuffix("sum")) for it in words] + [str(text)] for tool in tools]
 
 
 SHA256SUM = [["sha256sum", "--quiet", "-c", "manifest-sha256.txt"]]
@@ -163,9 +169,12 @@ def long_paths(folder):
         text.write_bytes(form(files))
         texts.append(text)
     sizes = [text.stat().st_size for text in texts]
-    checks = [([[str(DEPOT), "check", str(text)]],) for text in texts]
-    found = ratio(*checks)
-    print(f"long-paths: {found:.2f} times short paths of an equally long form ({sizes[0]} and {sizes[1]} bytes; at most 3)")
+    long_check, short_check = [[str(DEPOT), "check", str(text)] for text in texts]
+    found = turns(lambda: run([long_check]), lambda: run([short_check]), RUNS)
+    print(
+        f"long-paths: {ratio(*found):.2f} times short paths of an equally long form ({sizes[0]} and"
+        f" {sizes[1]} bytes; at most 3; {spreads(*found)})"
+    )
 
 
 CASES = {
@@ -184,6 +193,7 @@ def main():
     for name in names:
         if name not in CASES:
             sys.exit("the cases are " + ", ".join(CASES))
+    say_machine("sha256sum", "openssl")
     with tempfile.TemporaryDirectory() as folder:
         for name in names:
             CASES[name](folder)

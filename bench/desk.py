@@ -150,4 +150,5 @@ def main():
             CASES[name][0](Path(folder))
 
 
-main()
+if __name__ == "__main__":
+    main()

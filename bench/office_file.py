@@ -6,11 +6,13 @@ import os
 import pathlib
 import shutil
 import sqlite3
-import statistics
 import subprocess
 import sys
 import tempfile
-import time
+from statistics import median
+
+from turns import say_machine, spreads
+from turns import turns as taking_turns
 
 TOP = pathlib.Path(__file__).resolve().parent.parent
 PROGRAM = TOP / "crates" / "office_file" / "out" / "office_file"
@@ -41,10 +43,11 @@ def ours(*words):
 
 
 def opened(file):
-    """The file, as Python opens it."""
+    """The file, as Python opens it. Like the program, it copies the log into the file as it closes alone."""
     conn = sqlite3.connect(file, isolation_level=None)
     conn.execute("PRAGMA journal_mode = WAL").fetchall()
     conn.execute("PRAGMA synchronous = FULL")
+    conn.execute("PRAGMA wal_autocheckpoint = 0").fetchall()
     conn.execute("PRAGMA foreign_keys = ON")
     return conn
 
@@ -90,17 +93,14 @@ def copy(file, name):
 
 
 def turns(first, second):
-    """The medians of runs that take turns."""
-    ones, others = [], []
-    for _ in range(RUNS):
-        ones.append(float(first()))
-        others.append(float(second()))
-    return statistics.median(ones), statistics.median(others)
+    """What runs that take turns gave."""
+    return taking_turns(first, second, RUNS)
 
 
-def say(name, count, first, second, other, most):
+def say(name, count, ones, others, other, most):
     """Prints a case."""
-    each = f"{first / count:.1f} and {second / count:.1f} microseconds each"
+    first, second = median(ones), median(others)
+    each = f"{first / count:.1f} and {second / count:.1f} microseconds each; {spreads(ones, others)}"
     print(f"{name}: {first / second:.2f} times {other} (at most {most}; {each})", flush=True)
 
 
@@ -112,6 +112,7 @@ def main(cases):
     for name in names:
         if name not in cases:
             sys.exit("the cases are " + ", ".join(cases))
+    say_machine()
     with tempfile.TemporaryDirectory() as folder:
         for name in names:
             cases[name](folder)

@@ -3,27 +3,23 @@
 
 `pack` is measured beside `tar -cf` and `sync` of what it wrote, since `pack` brings its file to the
 disk; `unpack` beside `tar -xf`. Prints a ratio for each case: the median time of `depot` over that of the
-other, which take turns (RUNS=n, 15 if left out). Run it after `./depot check examples/bag-a.bagset` has
+other, which take turns (RUNS=n, 15 if left out), in going first too. Run it after `./depot check examples/bag-a.bagset` has
 built the program. Words behind `pack.py` name the cases that are run; with none, all are.
 """
 import os
 import pathlib
 import shutil
-import statistics
 import sys
 import tempfile
 
 import bench
+from turns import ratio, say_machine, spreads, turns
 
 
-def turns(ours, theirs, clear):
-    """The ratio of the medians of runs that take turns; what they wrote is cleared before each."""
-    first, second = [], []
-    for _ in range(bench.RUNS):
-        clear()
-        first.append(bench.run([ours]))
-        second.append(bench.run(theirs))
-    return statistics.median(first) / statistics.median(second)
+def cleared(clear, commands):
+    """The seconds that commands take once what was written before is gone."""
+    clear()
+    return bench.run(commands)
 
 
 def round_trip(folder, name, files):
@@ -40,15 +36,25 @@ def round_trip(folder, name, files):
     pack = [str(bench.DEPOT), "pack", str(base), written]
     unpack = [str(bench.DEPOT), "unpack", written, str(there)]
     size = text.stat().st_size
-    found = turns(pack, [["tar", "-cf", archive, "-C", str(base), "."], ["sync", archive]], clear)
+    packs = [["tar", "-cf", archive, "-C", str(base), "."], ["sync", archive]]
+    found = turns(lambda: cleared(clear, [pack]), lambda: cleared(clear, packs), bench.RUNS)
     if pathlib.Path(written).read_bytes() != text.read_bytes():
         sys.exit(f"{name}: another form")
     memory = max(bench.peak(pack) for _ in range(3)) - 2 * size
-    print(f"pack {name}: {found:.2f} times tar -cf and sync (at most 2); memory: twice the form and {memory / 2**20:.1f} MiB (at most 8)")
-    found = turns(unpack, [["tar", "-xf", archive, "-C", str(other)]], clear)
+    print(
+        f"pack {name}: {ratio(*found):.2f} times tar -cf and sync (at most 1.5; {spreads(*found)});"
+        f" memory: twice the form and {memory / 2**20:.1f} MiB (at most 8)",
+        flush=True,
+    )
+    unpacks = [["tar", "-xf", archive, "-C", str(other)]]
+    found = turns(lambda: cleared(clear, [unpack]), lambda: cleared(clear, unpacks), bench.RUNS)
     clear()
     memory = bench.peak(unpack) - size
-    print(f"unpack {name}: {found:.2f} times tar -xf (at most 2); memory: the form and {memory / 2**20:.1f} MiB (at most 8)")
+    print(
+        f"unpack {name}: {ratio(*found):.2f} times tar -xf (at most 2; {spreads(*found)});"
+        f" memory: the form and {memory / 2**20:.1f} MiB (at most 8)",
+        flush=True,
+    )
 
 
 def one_large_file(folder):
@@ -70,9 +76,11 @@ def main():
     for name in names:
         if name not in CASES:
             sys.exit("the cases are " + ", ".join(CASES))
+    say_machine("tar", "sync")
     with tempfile.TemporaryDirectory() as folder:
         for name in names:
             CASES[name](folder)
 
 
-main()
+if __name__ == "__main__":
+    main()

@@ -222,4 +222,5 @@ CASES = {
     "many": many,
 }
 
-main(CASES)
+if __name__ == "__main__":
+    main(CASES)

@@ -1,0 +1,193 @@
+#!/usr/bin/env python3
+"""Speed of the whole program: `serve`, `replay` into a file, and the opening of a file.
+
+`get` and `deposit` are requests through `depot serve`, beside the same through `serving.py` (http.server
+and sqlite3, WAL, synchronous FULL); the same client asks both, over a connection for each request, and
+their bodies are compared. `replay` is 2,000 mixed requests into a file, beside the SQL statements alone
+that they make, in their order and in one transaction each, through Python's sqlite3; the start of the
+program, the opening of the file and its closing count on both sides. `open` is the time of a request that
+changes nothing by `depot ask`, of files of several sizes: figures alone.
+Prints a ratio for each case: of the medians of runs that take turns (RUNS=n, 7 if left out). The programs
+`depot` and crates/office_file have to be built. Words behind `program.py` name the cases that are run;
+with none, all are.
+"""
+import re
+import socket
+import subprocess
+import sys
+import time
+from statistics import median
+
+from bench import DEPOT, TOP, bag, form
+from desk import record as request_record
+from office_file import FILES, PUT_HOLD, copy, filled, main, opened, put_bag, say, turns
+from requests import Statements
+
+SERVING = TOP / "bench" / "serving.py"
+DAY = "2026-02-16"
+BAG = form({path.encode(): content for path, content in FILES})
+
+
+def asked(port, text):
+    """The body of the answer to a request, by a connection of its own."""
+    with socket.create_connection(("127.0.0.1", port)) as stream:
+        stream.sendall(text)
+        parts = []
+        while part := stream.recv(65536):
+            parts.append(part)
+    return b"".join(parts).split(b"\r\n\r\n", 1)[1]
+
+
+def served(words, requests):
+    """The microseconds that a server takes for these requests, and the bodies of its answers."""
+    server = subprocess.Popen(list(map(str, words)), stdout=subprocess.PIPE)
+    port = int(re.match(rb"listening (\d+)\n", server.stdout.readline())[1])
+    begin = time.perf_counter()
+    bodies = [asked(port, it) for it in requests]
+    took = time.perf_counter() - begin
+    if server.wait() != 0:
+        sys.exit(f"{words} ended with {server.returncode}")
+    return took * 1e6, bodies
+
+
+def through_servers(folder, name, requests, most):
+    """Requests through both servers, each over a copy of an office of 100 deposits."""
+    file, count, last = filled(folder, 100), len(requests), {}
+
+    def side(key, words_of):
+        took, last[key] = served(words_of(copy(file, f"{key}.db")), requests)
+        return took
+
+    ours = lambda to: [DEPOT, "serve", "--port", 0, "--count", count, to, DAY]
+    theirs = lambda to: [sys.executable, SERVING, to, DAY, count]
+    first, second = turns(lambda: side("ours", ours), lambda: side("theirs", theirs))
+    if last["ours"] != last["theirs"]:
+        sys.exit(f"{name}: other answers")
+    say(name, count, first, second, "http.server and sqlite3", most)
+
+
+def head(method, target, body=b""):
+    """The bytes of a request by `anna`."""
+    length = f"Content-Length: {len(body)}\r\n" if body else ""
+    return f"{method} {target} HTTP/1.1\r\nDepot-Caller: anna\r\n{length}\r\n".encode() + body
+
+
+def deposit_target(number):
+    """The target that deposits the bag with the accession of this number."""
+    return f"/deposits?collection=tax&class=y10&accession=2026-{number:07}&closed=2026-01-01"
+
+
+def get(folder):
+    """GETs of a record."""
+    through_servers(folder, "get", [head("GET", f"/deposits/{n % 100 + 1}") for n in range(500)], 1)
+
+
+def deposit(folder):
+    """Deposits of a bag of 10 KiB with three files."""
+    requests = [head("POST", deposit_target(100 + n), BAG) for n in range(1, 201)]
+    through_servers(folder, "deposit", requests, 1)
+
+
+class Mixed(Statements):
+    """The statements of mixed requests, and their records; `HOLDS` are there before."""
+
+    HOLDS = 100
+
+    def __init__(self, file):
+        super().__init__(file)
+        self.day = 20_500
+
+    def hold(self, number, other):
+        self.row(other)
+        self.asker()
+        self.rows("SELECT max_deposits, max_holds FROM office WHERE id = ?1", 1)
+        self.rows("SELECT number FROM hold ORDER BY number DESC LIMIT 1")
+        self.rows(PUT_HOLD, number, other, None, "suit", self.day, None)
+
+    def release(self, number):
+        found = self.rows("SELECT number, deposit, collection, matter, placed, released FROM hold WHERE number = ?1", number)
+        self.row(found[0][1])
+        self.asker()
+        self.rows("UPDATE hold SET released = ?2 WHERE number = ?1", number, self.day)
+
+
+def mixed(turn):
+    """Ten mixed requests: the records of a replay, and what each of them is by name and numbers."""
+    new, hold = 101 + 2 * turn, Mixed.HOLDS + 1 + turn
+    other = turn % 100 + 1
+    matter = b'{"deposit":%d,"matter":"suit"}' % other
+    return [
+        (("POST", deposit_target(new), BAG), ("deposit", new)),
+        (("GET", f"/deposits/{new}"), ("record", new)),
+        (("POST", "/holds", matter), ("hold", hold, other)),
+        (("DELETE", f"/deposits/{other}"), ("disposal", other)),
+        (("GET", f"/deposits/{new}/bag"), ("bag", new)),
+        (("POST", deposit_target(new + 1), BAG), ("deposit", new + 1)),
+        (("GET", f"/deposits/{other}"), ("record", other)),
+        (("DELETE", f"/holds/{hold}"), ("release", hold)),
+        (("GET", f"/deposits/{new + 1}"), ("record", new + 1)),
+        (("GET", f"/deposits/{other}/bag"), ("bag", other)),
+    ]
+
+
+def replay(folder):
+    """2,000 mixed requests into a file of 100 deposits and holds."""
+    file = filled(folder, 100)
+    items = [it for turn in range(200) for it in mixed(turn)]
+    text = b"".join(request_record(*words, day=DAY) for words, _ in items)
+
+    def ours():
+        to = copy(file, "ours.db")
+        begin = time.perf_counter()
+        done = subprocess.run([str(DEPOT), "replay", str(to)], input=text, capture_output=True)
+        took = time.perf_counter() - begin
+        if done.returncode != 0 or done.stdout.count(b"\nANS ") != len(items) - 1:
+            sys.exit(f"replay ended with {done.returncode}: {done.stderr.decode()}")
+        return took * 1e6
+
+    def theirs():
+        to = copy(file, "theirs.db")
+        begin = time.perf_counter()
+        statements = Mixed(to)
+        for _, (name, *numbers) in items:
+            statements.conn.execute("BEGIN")
+            getattr(statements, name)(*numbers)
+            statements.conn.execute("COMMIT" if name in ("deposit", "hold", "release") else "ROLLBACK")
+        statements.conn.close()
+        return (time.perf_counter() - begin) * 1e6
+
+    first, second = turns(ours, theirs)
+    say("replay", len(items), first, second, "its statements through Python", 2)
+
+
+def opening(folder):
+    """A request that changes nothing, of files of several sizes."""
+    file = filled(folder, 100)
+    text = head("GET", "/deposits/1")
+    for size in (10, 50, 100):
+        large = copy(file, f"{size}.db")
+        conn = opened(large)
+        conn.execute("BEGIN")
+        conn.executemany(
+            "INSERT INTO file (deposit, path, content) VALUES (1, ?1, ?2)",
+            ((f"data/large{n}", b"r" * 2**20) for n in range(size)),
+        )
+        conn.execute("COMMIT")
+        conn.execute("PRAGMA wal_checkpoint(TRUNCATE)").fetchall()
+        conn.close()
+        found = []
+        for _ in range(3):
+            begin = time.perf_counter()
+            done = subprocess.run([str(DEPOT), "ask", str(large), DAY], input=text, capture_output=True)
+            found.append(time.perf_counter() - begin)
+            if not done.stdout.startswith(b"HTTP/1.1 200 "):
+                sys.exit(f"ask ended with {done.returncode}: {done.stderr.decode()}")
+        print(f"open: {median(found):.2f} seconds of a file of {size} MiB", flush=True)
+
+
+CASES = {"get": get, "deposit": deposit, "replay": replay, "open": opening}
+
+if __name__ == "__main__":
+    if not DEPOT.exists():
+        sys.exit("build the program first: ./depot check examples/bag-a.bagset")
+    main(CASES)

@@ -1,0 +1,55 @@
+"""What the speed scripts share: runs that take turns, their spread, and what they ran on."""
+import os
+import platform
+import sqlite3
+import statistics
+import subprocess
+import tempfile
+
+
+def turns(ours, theirs, runs):
+    """What two sides gave, in runs that take turns; they take turns in going first, too."""
+    ones, others = [], []
+    for turn in range(runs):
+        sides = [(ones, ours), (others, theirs)]
+        for found, side in sides if turn % 2 else reversed(sides):
+            found.append(float(side()))
+    return ones, others
+
+
+def ratio(ones, others):
+    """The ratio of the medians."""
+    return statistics.median(ones) / statistics.median(others)
+
+
+def spread(found):
+    """Half of what lies between the quartiles, as a part of the median."""
+    if len(found) < 4:
+        return (max(found) - min(found)) / 2 / statistics.median(found)
+    low, middle, high = statistics.quantiles(found)
+    return (high - low) / 2 / middle
+
+
+def spreads(ones, others):
+    """The spread of both sides, as it is printed."""
+    return f"spread {spread(ones):.0%} and {spread(others):.0%}"
+
+
+def first_line(*words):
+    """The first line that a command says of its version."""
+    found = subprocess.run(words, capture_output=True, text=True)
+    return (found.stdout or found.stderr).split("\n")[0]
+
+
+def say_machine(*commands):
+    """Prints what the runs are made on: the processors, the file system, and the versions of these commands."""
+    place = tempfile.gettempdir()
+    kind = subprocess.run(["stat", "-f", "-c", "%T", place], capture_output=True, text=True).stdout.strip()
+    named = [first_line(it, "version" if it == "openssl" else "--version") for it in commands]
+    with open("/proc/cpuinfo") as file:
+        models = {line.split(":")[1].strip() for line in file if line.startswith("model name")}
+    print(
+        f"on {os.cpu_count()} processors ({', '.join(sorted(models))}), {place} on {kind},"
+        f" {', '.join([*named, f'Python {platform.python_version()}', f'SQLite {sqlite3.sqlite_version}'])}",
+        flush=True,
+    )
