@@ -14,15 +14,16 @@ name the cases that are run; with none, all are.
 """
 import os
 import pickle
-import statistics
 import subprocess
 import sys
 import tempfile
 import time
 from io import BytesIO
 from pathlib import Path
+from statistics import median
 
 from answering import Request, records
+from turns import ratio, spreads, turns
 
 TOP = Path(__file__).resolve().parent.parent
 PROGRAM = TOP / "crates/depot/out/depot-program"
@@ -76,19 +77,18 @@ def gets(folder):
     with open(folder / "answers", "wb") as file:
         pickle.dump({Request(one).key(): other for one, other in pairs}, file)
     answer = [sys.executable, TOP / "bench/answering.py", folder / "answers"]
-    ours, theirs = [], []
-    for turn in range(RUNS):
-        sides = [(ours, replay), (theirs, answer)]
-        for seconds, words in sides if turn % 2 else reversed(sides):
-            one, written = took(words, asked)
-            if written != answered:
-                sys.exit(f"{words} wrote other answers")
-            seconds.append(one)
-    ratio = statistics.median(ours) / statistics.median(theirs)
-    spread = (max(ours) - min(ours)) / statistics.median(ours)
+
+    def side(words):
+        seconds, written = took(words, asked)
+        if written != answered:
+            sys.exit(f"{words} wrote other answers")
+        return seconds
+
+    ours, theirs = turns(lambda: side(replay), lambda: side(answer), RUNS)
     print(
-        f"gets: {ratio:.2f} times http.server's parser and a dict (at most 0.5); ours"
-        f" {statistics.median(ours) * 1000:.0f} ms, spread {spread:.0%}"
+        f"gets: {ratio(ours, theirs):.2f} times http.server's parser and a dict (at most 0.5); ours"
+        f" {median(ours) * 1000:.0f} ms, {spreads(ours, theirs)}",
+        flush=True,
     )
 
 
@@ -109,26 +109,26 @@ def body(folder):
     deposit, get = folder / "deposit", folder / "get"
     deposit.write_bytes(request("POST", DEPOSIT, b"x" * BODY))
     get.write_bytes(request("GET", "/deposits/1"))
+
+    def side(word, length):
+        count, microseconds, _ = heard(word, deposit)
+        if count != length:
+            sys.exit(f"{word} found {count} bytes")
+        return microseconds
+
     whole = deposit.stat().st_size
-    ours, theirs = [], []
-    for turn in range(RUNS):
-        sides = [(ours, "hear", BODY), (theirs, "read-all", whole)]
-        for seconds, word, length in sides if turn % 2 else reversed(sides):
-            count, one, _ = heard(word, deposit)
-            if count != length:
-                sys.exit(f"{word} found {count} bytes")
-            seconds.append(one)
-    ratio = statistics.median(ours) / statistics.median(theirs)
+    ours, theirs = turns(lambda: side("hear", BODY), lambda: side("read-all", whole), RUNS)
     print(
-        f"body: {ratio:.2f} times read_to_end (at most 1.5); ours"
-        f" {statistics.median(ours) / 1000:.1f} ms, theirs {statistics.median(theirs) / 1000:.1f} ms"
+        f"body: {ratio(ours, theirs):.2f} times read_to_end (at most 1.5); ours"
+        f" {median(ours) / 1000:.1f} ms, {spreads(ours, theirs)}",
+        flush=True,
     )
     small = max(heard("hear", get)[2] for _ in range(3))
     large = max(heard("hear", deposit)[2] for _ in range(3))
-    above = (large - small - BODY) / 2**20
     print(
-        f"peak: the body and {above:.2f} MiB above that of a GET, {small / 2**20:.1f} MiB"
-        " (at most the body and 1 MiB)"
+        f"peak: the body and {(large - small - BODY) / 2**20:.2f} MiB above that of a GET,"
+        f" {small / 2**20:.1f} MiB (at most the body and 1 MiB)",
+        flush=True,
     )
 
 
