@@ -1,10 +1,16 @@
 #!/usr/bin/env python3
-"""Speed of the desk, by `depot replay` over memory.
+"""Speed of the desk.
 
-`gets`: 2,000 GETs of a record, beside a Python program that reads the same request records by the
-parser of http.server and answers the same bytes from a dict. Prints the ratio of the medians of runs
-that take turns (RUNS=n, 7 if left out), the start of both programs counted. The program crates/depot
-has to be built.
+`gets`: `depot replay` over memory of 2,000 GETs of a record, beside a Python program that reads the
+same request records by the parser of http.server and answers the same bytes from a dict. The start of
+both programs counts. The program crates/depot has to be built.
+
+`body`: a deposit whose body has 16 MiB is heard from a pipe, beside the same bytes read to their end
+from the same pipe. The start of the program doesn't count. `peak`: the most memory that it takes, above
+the program's that hears a GET. The program crates/office_file has to be built.
+
+Prints ratios of the medians of runs that take turns (RUNS=n, 7 if left out). Words behind `desk.py`
+name the cases that are run; with none, all are.
 """
 import os
 import pickle
@@ -20,16 +26,24 @@ from answering import Request, records
 
 TOP = Path(__file__).resolve().parent.parent
 PROGRAM = TOP / "crates/depot/out/depot-program"
+HEARING = TOP / "crates/office_file/out/office_file"
 POLICY = TOP / "examples/policy.toml"
+DEPOSIT = "/deposits?collection=maps&class=y1&accession=A-1&closed=2024-02-29"
+BODY = 16 * 1024 * 1024
 RUNS = int(os.environ.get("RUNS", "7"))
+
+
+def request(method, target, body=b""):
+    """The bytes of a request by `anna`."""
+    head = f"{method} {target} HTTP/1.1\r\nDepot-Caller: anna\r\n"
+    if body:
+        head += f"Content-Length: {len(body)}\r\n"
+    return (head + "\r\n").encode() + body
 
 
 def record(method, target, body=b"", day="2024-03-01"):
     """The record of a request by `anna`."""
-    head = f"{method} {target} HTTP/1.1\r\nDepot-Caller: anna\r\n"
-    if body:
-        head += f"Content-Length: {len(body)}\r\n"
-    text = (head + "\r\n").encode() + body
+    text = request(method, target, body)
     return b"REQ %s %d\n" % (day.encode(), len(text)) + text + b"\n"
 
 
@@ -39,9 +53,7 @@ def deposited():
     return (
         record("PUT", "/classes/y1", b'{"years":1}')
         + record("PUT", "/collections/maps")
-        + record(
-            "POST", "/deposits?collection=maps&class=y1&accession=A-1&closed=2024-02-29", bag
-        )
+        + record("POST", DEPOSIT, bag)
     )
 
 
@@ -80,11 +92,76 @@ def gets(folder):
     )
 
 
+# Runs the program that its words name on what the file holds, through a pipe; prints what it prints, and
+# the most memory that it took, in bytes. A process counts as its own what the one that starts it holds, so
+# this one is small.
+WAIT = """
+import os, subprocess, sys, time
+given = subprocess.Popen(["cat", sys.argv[1]], stdout=subprocess.PIPE)
+time.sleep(0.01)
+child = os.posix_spawn(
+    sys.argv[2], sys.argv[2:], os.environ, file_actions=[(os.POSIX_SPAWN_DUP2, given.stdout.fileno(), 0)]
+)
+_, status, used = os.wait4(child, 0)
+if status != 0:
+    sys.exit(f"{sys.argv[2:]} ended with {status}")
+print(used.ru_maxrss * 1024)
+"""
+
+
+def heard(word, file):
+    """How many bytes the program hears or reads, the microseconds, and the most memory that it takes."""
+    words = [sys.executable, "-c", WAIT, file, HEARING, word]
+    found = subprocess.run(list(map(str, words)), capture_output=True, text=True)
+    if found.returncode != 0:
+        sys.exit(found.stderr)
+    return list(map(int, found.stdout.split()))
+
+
+def body(folder):
+    """A deposit's body of 16 MiB."""
+    deposit, get = folder / "deposit", folder / "get"
+    deposit.write_bytes(request("POST", DEPOSIT, b"x" * BODY))
+    get.write_bytes(request("GET", "/deposits/1"))
+    whole = deposit.stat().st_size
+    ours, theirs = [], []
+    for turn in range(RUNS):
+        sides = [(ours, "hear", BODY), (theirs, "read-all", whole)]
+        for seconds, word, length in sides if turn % 2 else reversed(sides):
+            count, one, _ = heard(word, deposit)
+            if count != length:
+                sys.exit(f"{word} found {count} bytes")
+            seconds.append(one)
+    ratio = statistics.median(ours) / statistics.median(theirs)
+    print(
+        f"body: {ratio:.2f} times read_to_end (at most 1.5); ours"
+        f" {statistics.median(ours) / 1000:.1f} ms, theirs {statistics.median(theirs) / 1000:.1f} ms"
+    )
+    small = max(heard("hear", get)[2] for _ in range(3))
+    large = max(heard("hear", deposit)[2] for _ in range(3))
+    above = (large - small - BODY) / 2**20
+    print(
+        f"peak: the body and {above:.2f} MiB above that of a GET, {small / 2**20:.1f} MiB"
+        " (at most the body and 1 MiB)"
+    )
+
+
+CASES = {
+    "gets": (gets, PROGRAM, "./depot check examples/bag-a.bagset"),
+    "body": (body, HEARING, "in crates/office_file, rt run -- make /tmp/a-new-file.db"),
+}
+
+
 def main():
-    if not PROGRAM.is_file():
-        sys.exit("build the program first: ./depot check examples/bag-a.bagset")
+    names = sys.argv[1:] or list(CASES)
+    for name in names:
+        if name not in CASES:
+            sys.exit("the cases are " + ", ".join(CASES))
+        if not CASES[name][1].is_file():
+            sys.exit("build the program first: " + CASES[name][2])
     with tempfile.TemporaryDirectory() as folder:
-        gets(Path(folder))
+        for name in names:
+            CASES[name][0](Path(folder))
 
 
 main()

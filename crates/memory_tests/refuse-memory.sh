@@ -1,5 +1,5 @@
 #!/usr/bin/env bash
-# refuse-memory.sh GROUP [FROM [TO [STEP]]]: runs the cases of a group (bags, office, tables, stored) with one of their allocations
+# refuse-memory.sh GROUP [FROM [TO [STEP]]]: runs the cases of a group (bags, office, tables, stored, heard, desk) with one of their allocations
 # refused, for each allocation from FROM (else the first) to TO (else the last), or for every STEP-th of them.
 # `rt try` refuses one allocation of a run, here always that of number $room; so each run makes fewer of its own before the cases.
 set -eu
@@ -10,8 +10,10 @@ bags) room=600 ;;
 office) room=200 ;;
 tables) room=4000 ;;
 stored) room=8000 ;;
+heard) room=200 ;;
+desk) room=8000 ;;
 *)
-    echo "refuse-memory.sh: bags, office, tables or stored" >&2
+    echo "refuse-memory.sh: bags, office, tables, stored, heard or desk" >&2
     exit 2
     ;;
 esac

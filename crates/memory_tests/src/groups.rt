@@ -1,7 +1,7 @@
 //! The groups of cases.
 
 use crate::outcome::Outcome;
-use crate::{calls, lines, offices, tables};
+use crate::{calls, desks, lines, offices, tables};
 use sqlite::{Connection, MemStore};
 use std::io;
 use worked_bags::{
@@ -119,6 +119,29 @@ fn asked<O: AnyOffice>(rt: &HostRuntime, office: &mut O) -> io::Result<()> {
 fn asked_last<O: AnyOffice>(rt: &HostRuntime, office: &mut O) -> io::Result<()> {
     for (name, day, part) in offices::END {
         say(rt, name, offices::come_out(rt.alloc(), office, day, part))?;
+    }
+    Ok(())
+}
+
+/// Requests that are heard.
+pub fn heard(rt: &HostRuntime) -> io::Result<()> {
+    for (name, asked, request) in &desks::HEARD {
+        say(rt, name, desks::hear(rt.alloc(), *asked, request))?;
+    }
+    Ok(())
+}
+
+/// Requests that come to the desk over tables in memory.
+pub fn desk(rt: &HostRuntime) -> io::Result<()> {
+    let Some((outcome, mut office)) = offices::stored(rt.alloc()) else {
+        return say(rt, "an office of the desk", Outcome::Wrong);
+    };
+    say(rt, "an office of the desk", outcome)?;
+    let outcome = offices::installed(rt.alloc(), &mut office);
+    say(rt, "its policy installed", outcome)?;
+    for exchange in &desks::SESSION {
+        let outcome = desks::come_out(rt.alloc(), &mut office, exchange);
+        say(rt, exchange.name, outcome)?;
     }
     Ok(())
 }

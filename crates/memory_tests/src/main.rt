@@ -5,6 +5,7 @@
 #![tactic(auto)]
 
 mod calls;
+mod desks;
 mod groups;
 mod lines;
 mod offices;
@@ -21,10 +22,19 @@ enum Group {
     Tables,
     Office,
     Stored,
+    Heard,
+    Desk,
 }
 
 /// All groups, in the order in which they are run.
-const GROUPS: [Group; 4] = [Group::Bags, Group::Tables, Group::Office, Group::Stored];
+const GROUPS: [Group; 6] = [
+    Group::Bags,
+    Group::Tables,
+    Group::Office,
+    Group::Stored,
+    Group::Heard,
+    Group::Desk,
+];
 
 impl Group {
     fn read(word: &str) -> Option<Group> {
@@ -33,6 +43,8 @@ impl Group {
             "tables" => Some(Group::Tables),
             "office" => Some(Group::Office),
             "stored" => Some(Group::Stored),
+            "heard" => Some(Group::Heard),
+            "desk" => Some(Group::Desk),
             _ => None,
         }
     }
@@ -44,6 +56,8 @@ impl Group {
             Group::Tables => groups::tables(rt),
             Group::Office => groups::office(rt),
             Group::Stored => groups::stored(rt),
+            Group::Heard => groups::heard(rt),
+            Group::Desk => groups::desk(rt),
         }
     }
 }

@@ -1,13 +1,15 @@
-//! Writes an office into a file, which the `sqlite3` command can read, and times calls of the tables
-//! and requests to the office.
+//! Writes an office into a file, which the `sqlite3` command can read, and times calls of the tables,
+//! requests to the office, and the hearing of a request.
 #![tactic(auto)]
 
 mod changes;
+mod input;
 mod office;
 mod requests;
 mod timed;
 
 use anyhow::{Context, Result, bail};
+use input::Input;
 use office_engine::Office;
 use requests::Asked;
 use sqlite::{Alter, Connection};
@@ -15,7 +17,7 @@ use std::time::{Duration, Instant};
 use timed::Call;
 
 const USAGE: &str =
-    "words: write FILE, make FILE, or FILE and COUNT behind one of deposits, read, live, last, ask-deposits, ask-records, ask-disposals, ask-bags, ask-lists and ask-due";
+    "words: hear, read-all, write FILE, make FILE, or FILE and COUNT behind one of deposits, read, live, last, ask-deposits, ask-records, ask-disposals, ask-bags, ask-lists and ask-due";
 
 /// What the words ask for.
 #[derive(Clone, Copy)]
@@ -121,6 +123,12 @@ fn read_words(words: &[String]) -> Result<(Task, &str)> {
 
 /// Does what the words after the program's name ask for.
 fn run(rt: &HostRuntime, words: &[String]) -> Result<()> {
+    if let [_, word] = words {
+        let input = Input::read(word.as_str()).context(USAGE)?;
+        let (length, took) = input::take(rt, input)?;
+        println!(rt; "{length} {}", took.as_micros())?;
+        return Ok(());
+    }
     let (task, file) = read_words(words)?;
     let conn = Connection::open(rt, file).context("opening the file")?;
     let (conn, took) = perform(rt, conn, task)?;

@@ -1,0 +1,56 @@
+//! Standard input, heard as a request, or only read: a deposit's body beside the same bytes.
+
+use anyhow::{Context, Result, bail};
+use http_desk::{Counted, read_request};
+use office_core::Request;
+use std::io::Read;
+use std::time::{Duration, Instant};
+
+/// What is done with standard input.
+#[derive(Clone, Copy)]
+pub enum Input {
+    /// A request is heard.
+    Heard,
+    /// All of it is read.
+    Read,
+}
+
+impl Input {
+    pub fn read(word: &str) -> Option<Input> {
+        match word {
+            "hear" => Some(Input::Heard),
+            "read-all" => Some(Input::Read),
+            _ => None,
+        }
+    }
+}
+
+/// Hears a request: how many bytes its bag has, where it deposits one.
+fn hear(rt: &HostRuntime) -> Result<usize> {
+    let mut reader = Counted::new(rt.stdin());
+    let Ok(heard) = read_request(rt.alloc(), &mut reader) else {
+        bail!("no request is heard");
+    };
+    match heard.request() {
+        Request::Deposit { bag, .. } => Ok(bag.len()),
+        _ => Ok(0),
+    }
+}
+
+/// Reads all of standard input: how many bytes it has.
+fn read_all(rt: &HostRuntime) -> Result<usize> {
+    let mut bytes = Vec::new(rt.alloc());
+    rt.stdin()
+        .read_to_end(&mut bytes)
+        .context("reading standard input")
+}
+
+/// Takes standard input: how many bytes it has, and the time that this took.
+pub fn take(rt: &HostRuntime, input: Input) -> Result<(usize, Duration)> {
+    let start = Instant::now(rt)?;
+    let length = match input {
+        Input::Heard => hear(rt)?,
+        Input::Read => read_all(rt)?,
+    };
+    Ok((length, start.elapsed(rt)?))
+}
