@@ -92,30 +92,16 @@ def gets(folder):
     )
 
 
-# Runs the program that its words name on what the file holds, through a pipe; prints what it prints, and
-# the most memory that it took, in bytes. A process counts as its own what the one that starts it holds, so
-# this one is small.
-WAIT = """
-import os, subprocess, sys, time
-given = subprocess.Popen(["cat", sys.argv[1]], stdout=subprocess.PIPE)
-time.sleep(0.01)
-child = os.posix_spawn(
-    sys.argv[2], sys.argv[2:], os.environ, file_actions=[(os.POSIX_SPAWN_DUP2, given.stdout.fileno(), 0)]
-)
-_, status, used = os.wait4(child, 0)
-if status != 0:
-    sys.exit(f"{sys.argv[2:]} ended with {status}")
-print(used.ru_maxrss * 1024)
-"""
-
-
 def heard(word, file):
-    """How many bytes the program hears or reads, the microseconds, and the most memory that it takes."""
-    words = [sys.executable, "-c", WAIT, file, HEARING, word]
-    found = subprocess.run(list(map(str, words)), capture_output=True, text=True)
+    """How many bytes the program hears or reads from a pipe, the microseconds, and the most memory that it
+    takes, in bytes."""
+    with subprocess.Popen(["cat", file], stdout=subprocess.PIPE) as given:
+        time.sleep(0.01)
+        found = subprocess.run([HEARING, word], stdin=given.stdout, capture_output=True, text=True)
     if found.returncode != 0:
         sys.exit(found.stderr)
-    return list(map(int, found.stdout.split()))
+    count, took, peak = map(int, found.stdout.split())
+    return count, took, peak * 1024
 
 
 def body(folder):

@@ -10,7 +10,7 @@ bags) room=600 ;;
 office) room=200 ;;
 tables) room=4000 ;;
 stored) room=8000 ;;
-heard) room=200 ;;
+heard) room=500 ;;
 desk) room=8000 ;;
 *)
     echo "refuse-memory.sh: bags, office, tables, stored, heard or desk" >&2

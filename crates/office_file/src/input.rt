@@ -3,6 +3,7 @@
 use anyhow::{Context, Result, bail};
 use http_desk::{Counted, read_request};
 use office_core::Request;
+use std::fs;
 use std::io::Read;
 use std::time::{Duration, Instant};
 
@@ -45,12 +46,40 @@ fn read_all(rt: &HostRuntime) -> Result<usize> {
         .context("reading standard input")
 }
 
-/// Takes standard input: how many bytes it has, and the time that this took.
-pub fn take(rt: &HostRuntime, input: Input) -> Result<(usize, Duration)> {
+/// The most memory that the program has taken, in KiB, as the system tells it.
+fn peak(rt: &HostRuntime) -> Result<u64> {
+    let text = fs::read_to_string(rt, "/proc/self/status").context("reading the status")?;
+    for line in text.lines() {
+        if let Some(rest) = line.strip_prefix("VmHWM:") {
+            return rest
+                .trim()
+                .trim_end_matches(" kB")
+                .parse::<u64>()
+                .context(format_args!("reading {rest}"));
+        }
+    }
+    bail!("the status has no VmHWM")
+}
+
+/// What standard input took.
+pub struct Taken {
+    /// How many bytes there were.
+    pub length: usize,
+    pub time: Duration,
+    /// The most memory that the program has taken, in KiB.
+    pub peak: u64,
+}
+
+/// Takes standard input.
+pub fn take(rt: &HostRuntime, input: Input) -> Result<Taken> {
     let start = Instant::now(rt)?;
     let length = match input {
         Input::Heard => hear(rt)?,
         Input::Read => read_all(rt)?,
     };
-    Ok((length, start.elapsed(rt)?))
+    Ok(Taken {
+        length,
+        time: start.elapsed(rt)?,
+        peak: peak(rt)?,
+    })
 }

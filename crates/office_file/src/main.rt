@@ -125,8 +125,9 @@ fn read_words(words: &[String]) -> Result<(Task, &str)> {
 fn run(rt: &HostRuntime, words: &[String]) -> Result<()> {
     if let [_, word] = words {
         let input = Input::read(word.as_str()).context(USAGE)?;
-        let (length, took) = input::take(rt, input)?;
-        println!(rt; "{length} {}", took.as_micros())?;
+        let taken = input::take(rt, input)?;
+        let (length, peak) = (taken.length, taken.peak);
+        println!(rt; "{length} {} {peak}", taken.time.as_micros())?;
         return Ok(());
     }
     let (task, file) = read_words(words)?;

@@ -95,8 +95,18 @@ fn deposit(alloc: Global, announced: usize, given: usize) -> Result<Vec<u8>, Fai
 
 /// Lengths of bodies.
 fn take_bodies<S: Alter>(alloc: Global, office: &mut Office<S>) -> Result<(), Fail> {
-    is_answered(alloc, office, &deposit(alloc, 16_777_216, 16_777_216)?, NO_BAG)?;
-    is_answered(alloc, office, &deposit(alloc, 16_777_217, 16_777_217)?, TOO_LARGE)?;
+    is_answered(
+        alloc,
+        office,
+        &deposit(alloc, 16_777_216, 16_777_216)?,
+        NO_BAG,
+    )?;
+    is_answered(
+        alloc,
+        office,
+        &deposit(alloc, 16_777_217, 16_777_217)?,
+        TOO_LARGE,
+    )?;
     is_answered(alloc, office, &deposit(alloc, 5, 3)?, TRUNCATED)?;
     is_answered(alloc, office, &deposit(alloc, 5, 7)?, NO_BAG)
 }
