@@ -135,6 +135,7 @@ const STORE: &str =
 const ROOM: usize = 512;
 
 /// What serving a request ends with, and what is written: so many bytes at the front of the room.
+#[derive(Drop)]
 struct Served {
     ended: Result<(), DeskFault>,
     room: [u8; ROOM],

@@ -13,14 +13,14 @@ pub enum Input {
     /// A request is heard.
     Heard,
     /// All of it is read.
-    Read,
+    Whole,
 }
 
 impl Input {
-    pub fn read(word: &str) -> Option<Input> {
+    pub fn named(word: &str) -> Option<Input> {
         match word {
             "hear" => Some(Input::Heard),
-            "read-all" => Some(Input::Read),
+            "read-all" => Some(Input::Whole),
             _ => None,
         }
     }
@@ -62,6 +62,7 @@ fn peak(rt: &HostRuntime) -> Result<u64> {
 }
 
 /// What standard input took.
+#[derive(Clone, Copy)]
 pub struct Taken {
     /// How many bytes there were.
     pub length: usize,
@@ -75,7 +76,7 @@ pub fn take(rt: &HostRuntime, input: Input) -> Result<Taken> {
     let start = Instant::now(rt)?;
     let length = match input {
         Input::Heard => hear(rt)?,
-        Input::Read => read_all(rt)?,
+        Input::Whole => read_all(rt)?,
     };
     Ok(Taken {
         length,

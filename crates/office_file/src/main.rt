@@ -124,7 +124,7 @@ fn read_words(words: &[String]) -> Result<(Task, &str)> {
 /// Does what the words after the program's name ask for.
 fn run(rt: &HostRuntime, words: &[String]) -> Result<()> {
     if let [_, word] = words {
-        let input = Input::read(word.as_str()).context(USAGE)?;
+        let input = Input::named(word.as_str()).context(USAGE)?;
         let taken = input::take(rt, input)?;
         let (length, peak) = (taken.length, taken.peak);
         println!(rt; "{length} {} {peak}", taken.time.as_micros())?;

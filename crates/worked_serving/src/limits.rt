@@ -4,7 +4,7 @@ use crate::office::{Devices, served};
 use http_desk::Portion;
 use office_engine::Office;
 use sqlite::Alter;
-use std::alloc::Global;
+use std::alloc::{AllocError, Global};
 use std::test::Fail;
 
 const NO_DEPOSIT: &str =
@@ -22,8 +22,92 @@ const TRUNCATED: &str =
 const NO_BAG: &str =
     "HTTP/1.1 422 Unprocessable Content\r\nContent-Type: application/json\r\nContent-Length: 31\r\nConnection: close\r\n\r\n{\"error\":\"BadBag\",\"fault\":\"S1\"}";
 
-/// Fails where the request is answered otherwise. The reader ends behind its last byte.
-fn is_answered<S: Alter>(
+/// A request, by what it is long in.
+#[derive(Clone, Copy)]
+enum Shape {
+    /// Its head has so many bytes.
+    Head(usize),
+    /// Its head has so many fields.
+    Fields(usize),
+    /// A deposit that announces a body of so many bytes, and has one.
+    Body { announced: usize, given: usize },
+}
+
+/// Each limit from both sides, and a body that ends early or goes on: with the bytes of the answer.
+static LIMITS: [(Shape, &str); 8] = [
+    (Shape::Head(8_192), NO_DEPOSIT),
+    (Shape::Head(8_193), TOO_LARGE),
+    (Shape::Fields(64), NO_DEPOSIT),
+    (Shape::Fields(65), NO_HEAD),
+    (
+        Shape::Body {
+            announced: 16_777_216,
+            given: 16_777_216,
+        },
+        NO_BAG,
+    ),
+    (
+        Shape::Body {
+            announced: 16_777_217,
+            given: 16_777_217,
+        },
+        TOO_LARGE,
+    ),
+    (
+        Shape::Body {
+            announced: 5,
+            given: 3,
+        },
+        TRUNCATED,
+    ),
+    (
+        Shape::Body {
+            announced: 5,
+            given: 7,
+        },
+        NO_BAG,
+    ),
+];
+
+/// A request for a record whose head has so many bytes.
+fn head_of_bytes(alloc: Global, count: usize) -> Result<Vec<u8>, AllocError> {
+    let front = b"GET /deposits/7 HTTP/1.1\r\nDepot-Caller: anna\r\nX: ";
+    let mut request = Vec::from_slice(alloc, front)?;
+    request.resize(count.saturating_sub(4), b'x')?;
+    request.extend_from_slice(b"\r\n\r\n")?;
+    Ok(request)
+}
+
+/// A request for a record whose head has so many fields.
+fn head_of_fields(alloc: Global, count: usize) -> Result<Vec<u8>, AllocError> {
+    let front = b"GET /deposits/7 HTTP/1.1\r\nDepot-Caller: anna\r\n";
+    let mut request = Vec::from_slice(alloc, front)?;
+    for _ in 1..count {
+        request.extend_from_slice(b"A: b\r\n")?;
+    }
+    request.extend_from_slice(b"\r\n")?;
+    Ok(request)
+}
+
+fn request_of(alloc: Global, shape: Shape) -> Result<Vec<u8>, AllocError> {
+    match shape {
+        Shape::Head(count) => head_of_bytes(alloc, count),
+        Shape::Fields(count) => head_of_fields(alloc, count),
+        Shape::Body { announced, given } => {
+            let head = format!(in alloc;
+                "POST /deposits?collection=maps&class=y1&accession=X-1&closed=2024-02-29 HTTP/1.1\r\nDepot-Caller: anna\r\nContent-Length: {announced}\r\n\r\n"
+            )?;
+            let mut request = head.into_bytes();
+            let length = request.len().saturating_add(given);
+            request.resize(length, b'x')?;
+            Ok(request)
+        }
+    }
+}
+
+/// Puts the request to the office, byte by byte and at once. Fails where it is answered otherwise. The
+/// reader ends behind the last byte.
+fn answer_whole<S: Alter>(
     alloc: Global,
     office: &mut Office<S>,
     request: &[u8],
@@ -45,75 +129,14 @@ fn is_answered<S: Alter>(
     Ok(())
 }
 
-/// A request of which a beginning is given alone, be it all but one byte, ends too early.
-fn take_beginnings<S: Alter>(alloc: Global, office: &mut Office<S>) -> Result<(), Fail> {
-    let request = "GET /deposits/7/bag HTTP/1.1\r\nDepot-Caller: anna\r\n\r\n".as_bytes();
-    for length in 0..request.len() {
-        is_answered(alloc, office, &request[..length], TRUNCATED)?;
-    }
-    is_answered(alloc, office, request, NO_DEPOSIT)
-}
-
-/// A request whose head has so many bytes.
-fn head_of_bytes(alloc: Global, count: usize) -> Result<Vec<u8>, Fail> {
-    let front = "GET /deposits/7 HTTP/1.1\r\nDepot-Caller: anna\r\nX: ";
-    let mut request = Vec::from_slice(alloc, front.as_bytes())?;
-    request.resize(count.saturating_sub(4), b'x')?;
-    request.extend_from_slice(b"\r\n\r\n")?;
-    Ok(request)
-}
-
-/// A request whose head has so many fields.
-fn head_of_fields(alloc: Global, count: usize) -> Result<Vec<u8>, Fail> {
-    let front = "GET /deposits/7 HTTP/1.1\r\nDepot-Caller: anna\r\n";
-    let mut request = Vec::from_slice(alloc, front.as_bytes())?;
-    for _ in 1..count {
-        request.extend_from_slice(b"A: b\r\n")?;
-    }
-    request.extend_from_slice(b"\r\n")?;
-    Ok(request)
-}
-
-/// Lengths of heads and numbers of their fields.
-fn take_heads<S: Alter>(alloc: Global, office: &mut Office<S>) -> Result<(), Fail> {
-    is_answered(alloc, office, &head_of_bytes(alloc, 8_192)?, NO_DEPOSIT)?;
-    is_answered(alloc, office, &head_of_bytes(alloc, 8_193)?, TOO_LARGE)?;
-    is_answered(alloc, office, &head_of_fields(alloc, 64)?, NO_DEPOSIT)?;
-    is_answered(alloc, office, &head_of_fields(alloc, 65)?, NO_HEAD)
-}
-
-/// A deposit that announces a body of `announced` bytes, and has one of `given` bytes.
-fn deposit(alloc: Global, announced: usize, given: usize) -> Result<Vec<u8>, Fail> {
-    let head = format!(in alloc;
-        "POST /deposits?collection=maps&class=y1&accession=X-1&closed=2024-02-29 HTTP/1.1\r\nDepot-Caller: anna\r\nContent-Length: {announced}\r\n\r\n"
-    )?;
-    let length = head.len().saturating_add(given);
-    let mut request = head.into_bytes();
-    request.resize(length, b'x')?;
-    Ok(request)
-}
-
-/// Lengths of bodies.
-fn take_bodies<S: Alter>(alloc: Global, office: &mut Office<S>) -> Result<(), Fail> {
-    is_answered(
-        alloc,
-        office,
-        &deposit(alloc, 16_777_216, 16_777_216)?,
-        NO_BAG,
-    )?;
-    is_answered(
-        alloc,
-        office,
-        &deposit(alloc, 16_777_217, 16_777_217)?,
-        TOO_LARGE,
-    )?;
-    is_answered(alloc, office, &deposit(alloc, 5, 3)?, TRUNCATED)?;
-    is_answered(alloc, office, &deposit(alloc, 5, 7)?, NO_BAG)
-}
-
-/// Requests at the limits, none of which changes the office.
+/// Requests at the limits, and one that ends too early, be it by one byte. None changes the office.
 pub fn take_limits<S: Alter>(alloc: Global, office: &mut Office<S>) -> Result<(), Fail> {
-    take_beginnings(alloc, office)?;
-    take_heads(alloc, office)?;
-    take_bodies(alloc, office)
+    for (shape, answer) in &LIMITS {
+        answer_whole(alloc, office, &request_of(alloc, *shape)?, answer)?;
+    }
+    let request = b"GET /deposits/7/bag HTTP/1.1\r\nDepot-Caller: anna\r\n\r\n";
+    for length in 0..52_usize {
+        answer_whole(alloc, office, &request[..length], TRUNCATED)?;
+    }
+    Ok(())
 }

@@ -2,6 +2,7 @@
 
 use crate::files::{Disks, MANY, copied, empty, has_stopped, lose};
 use crate::sessions::{Exchange, Session, Step};
+use crate::shown::Tables;
 use crate::visits::{Visit, make, take};
 use std::alloc::Global;
 use std::test::*;
