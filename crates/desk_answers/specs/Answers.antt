@@ -1,4 +1,4 @@
--- The bytes of an answer of the office, and of a refusal of the desk.
+-- The bytes of an answer of the office, and of a refusal of the desk: responses (RFC 9112, section 2.1) with a status, fields and a body. Which ones is Depot's own rule.
 use Rattle.std.specs.Prelude.{ℕ, List, []}
 use Rattle.office_core.specs.declared.answer.Answer.{Answer}
 use Rattle.desk_routes.specs.declared.refusal.DeskRefusal.{DeskRefusal}

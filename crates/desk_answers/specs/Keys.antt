@@ -1,4 +1,4 @@
--- The order of the keys of objects in JSON.
+-- The order of the keys of objects in JSON, to which RFC 8259, section 4, gives none: it is Depot's own rule.
 use Rattle.std.specs.Prelude.{ℕ, List, Bool, true, ◌&&◌}
 use Rattle.std.specs.Ordering.{nat_cmp, is_lt}
 use Rattle.std.specs.Cmp.Lexicographic.{slice_cmp}

@@ -1,4 +1,4 @@
--- What a reader of a head answers.
+-- What a reader of a head answers. Where a head ends stands in `Heads`; the answers are Depot's own.
 use Rattle.std.specs.Prelude.{◌≡◌, ℕ, List, Option, Result, Ok, Err, ⊤}
 use Rattle.std.specs.Io.KnownBytes.{IsAtEnd}
 use Rattle.desk_devices.specs.Heads.{head_at}

@@ -1,4 +1,4 @@
--- What reading the JSON of a body gives, step by step.
+-- What reading the JSON of a body gives, step by step. Which objects and values are taken is Depot's own rule.
 use Rattle.std.specs.Prelude.{ℕ, List, nat_le, nat_eq, Option, Some, None, if◌then◌else◌, String, string_bytes}
 use Rattle.std.specs.Borrow.{Bor}
 use Rattle.std.specs.declared.alloc.Global.{Global}

@@ -1,4 +1,4 @@
--- What reading the keys of a query gives, step by step.
+-- What reading the keys of a query gives, step by step. Which keys a route takes is Depot's own rule.
 use Rattle.std.specs.Prelude.{ℕ, List, Bool, nat_eq}
 use Rattle.std.specs.Cmp.Lexicographic.{pointwise}
 use Rattle.std.specs.List.{list_all, list_any}

@@ -1,4 +1,4 @@
--- What the fields of a head say under a name.
+-- What the fields of a head say under a name, which may stand on several lines (RFC 9110, section 5.2). That such lines are counted and not joined is Depot's own rule.
 use Rattle.std.specs.Prelude.{ℕ, Bool, List, [], ◌∷◌, map, filter}
 use Rattle.std.specs.Str.{str_eq_ignore_ascii_case}
 use Rattle.httparse.specs.Grammar.{RequestHead}

@@ -1,4 +1,4 @@
--- What a head says of its request, and why the desk refuses it.
+-- What a head says of its request, and why the desk refuses it. The grammar is that of RFC 9112; the limits, the refusals and their order are Depot's own.
 use Rattle.std.specs.Prelude.{◌≡◌, ◌≤◌, ◌⊎◌, ◌&&◌, ℕ, Bool, List, [], ◌∷◌, length, Option, Some, None, Result, Ok, Err, nat_le, nat_lt, if◌then◌else◌, codes}
 use Rattle.std.specs.List.{list_all}
 use Rattle.std.specs.Char.{is_ascii_digit}
@@ -19,7 +19,7 @@ pub record SpellsHead (front : List ℕ) (head : RequestHead) : Type 0 where
 abbrev pub IsHead : List ℕ → Type 0
 IsHead front = (head : RequestHead) × SpellsHead front head
 
--- what a head says of its request
+-- what a head says of its request: its method and its target (RFC 9112, sections 3.1 and 3.2), its caller, and its body
 pub record HeadContents : Type 0 where
   pub method : List ℕ
   pub target : List ℕ
@@ -38,7 +38,7 @@ encoding_refusal absent = None
 encoding_refusal (once value) = Some Chunked
 encoding_refusal repeated = Some Chunked
 
--- 1 to 20 digits
+-- 1 to 20 digits: RFC 9110, section 8.6, asks for one or more, and the most is Depot's own
 abbrev pub is_length_text : List ℕ → Bool
 is_length_text text = nat_le 1 (length text) && nat_le (length text) max_length_digits && list_all is_ascii_digit text
 
@@ -48,7 +48,7 @@ length_refusal absent = None
 length_refusal (once text) = if is_length_text text then answer_if (nat_lt max_body (digits_value 10 text)) TooLarge else Some BadLength
 length_refusal repeated = Some BadLength
 
--- none means no body
+-- none means no body (RFC 9112, section 6.3)
 abbrev pub body_length_of : Occurrence → ℕ
 body_length_of absent = 0
 body_length_of (once text) = digits_value 10 text
@@ -60,13 +60,13 @@ caller_refusal absent = None
 caller_refusal (once text) = None
 caller_refusal repeated = Some TwoCallers
 
--- a text that is no name is no caller
+-- a text that is no name is no caller: Depot's own rule
 abbrev pub caller_of : Occurrence → Option (List ℕ)
 caller_of absent = None
 caller_of (once text) = answer_if (is_name text) text
 caller_of repeated = None
 
--- the refusals of a head, in their order
+-- the refusals of a head, in their order, which is Depot's own
 abbrev pub refusals : RequestHead → List (Option HeadRefusal)
 refusals head =
     encoding_refusal (occurrence_in head (codes "transfer-encoding"))

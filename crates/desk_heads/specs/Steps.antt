@@ -1,4 +1,4 @@
--- Which refusals stand of a front, each by itself, and what a head says, as relations.
+-- Which refusals stand of a front, each by itself, and what a head says, as relations. The rules are those of `Heads`; the order of the steps is Depot's own.
 use Rattle.std.specs.Prelude.{◌≡◌, ◌≤◌, ◌<◌, ◌⊎◌, ℕ, List, [], ◌∷◌, length, Option, Some, None, codes, All}
 use Rattle.std.specs.Char.{IsAsciiDigit}
 use Rattle.std.specs.Str.Parse.{digits_value}

@@ -1,4 +1,4 @@
--- How the code's values are seen.
+-- How the code's values are seen: Depot's own, as those values are.
 use Rattle.std.specs.Prelude.{Result, Ok, Err}
 use Rattle.desk_heads.specs.Fields.{Occurrence, absent, once, repeated}
 use Rattle.desk_heads.specs.Heads.{HeadContents}

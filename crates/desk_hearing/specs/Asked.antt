@@ -1,4 +1,4 @@
--- What is asked of the office, with all its texts, and what is heard: who asks, and what.
+-- What is asked of the office, with all its texts, and what is heard: who asks, and what. Both are Depot's own.
 use Rattle.std.specs.Prelude.{ℕ, List, [], Option, Some, None}
 use Rattle.jiff.specs.Types.{Date}
 use Rattle.office_core.specs.declared.request.Request.{Request}

@@ -1,4 +1,4 @@
--- The faults of the crates below, as this one answers them.
+-- The faults of the crates below, as this one answers them: Depot's own, as they are.
 use Rattle.desk_devices.specs.declared.filling.FillFault.{FillFault}
 use Rattle.desk_devices.specs.declared.filling.FillFault.TheVariants as fills
 use Rattle.desk_devices.specs.declared.head.HeadFault.{HeadFault}

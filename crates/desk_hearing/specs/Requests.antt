@@ -1,4 +1,4 @@
--- An input that is a request, in its parts: a head, a body, and what follows them.
+-- An input that is a request, in its parts: a head and a body (RFC 9112, section 2.1), and what follows them, which the desk passes over by a rule of its own.
 use Rattle.std.specs.Prelude.{◌≡◌, ℕ, List, ◌++◌, length, Ok}
 use Rattle.desk_devices.specs.Heads.{IsHead}
 use Rattle.desk_heads.specs.Heads.{HeadContents, Judges}

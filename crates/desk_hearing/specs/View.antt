@@ -1,4 +1,4 @@
--- How the code's values are seen, and what its steps answer.
+-- How the code's values are seen, and what its steps answer: Depot's own, by the rules of `Hearing`.
 use Rattle.std.specs.Prelude.{◌≡◌, ℕ, List, [], Result, Ok, Err, ⊤}
 use Rattle.desk_routes.specs.Table.{RouteValue}
 use Rattle.desk_routes.specs.declared.refusal.DeskRefusal.TheVariants.{BadQuery, BadBody}

@@ -1,4 +1,4 @@
--- Records, one after the other.
+-- Records, one after the other. The format, and how many there may be, are Depot's own.
 use Rattle.std.specs.Prelude.{◌≡◌, ℕ, ◌<◌, ◌≤◌, List, [], ◌∷◌, ◌++◌, length, ⊤}
 use Rattle.jiff.specs.Types.{Date}
 use Rattle.desk_records.specs.Records.{IsRecord, record_text, answer_text, BeginsWithNone}

@@ -1,4 +1,5 @@
--- How a path is read, by its beginning and its parts. The law `spelled_places` says that this reads each path as `Places` spells it.
+-- How a path is read, by its beginning and its parts. The law `spelled_places` says that this reads each path as `Places` spells it; the rule is
+-- Depot's own, as there.
 use Rattle.std.specs.Prelude.{ℕ, ◌==◌, Bool, false, ◌&&◌, nat_le, List, [], ◌∷◌, length, drop, codes, Option, Some, None, nat_eq, option_map, option_and_then, if◌then◌else◌}
 use Rattle.std.specs.List.{starts_with, list_all}
 use Rattle.std.specs.Char.{is_ascii_digit}

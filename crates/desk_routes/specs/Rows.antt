@@ -1,4 +1,5 @@
--- The rows of the router that keeps the patterns: 256 stands for a part, and 257 for all that is left.
+-- The rows of the router that keeps the patterns: 256 stands for a part, and 257 for all that is left. The patterns are Depot's own, and their rows
+-- are those of `matchit`.
 use Rattle.std.specs.Prelude.{ℕ, List, [], ◌∷◌, ◌++◌, codes}
 use Rattle.matchit.specs.Router.{RouteOf}
 use Rattle.matchit.specs.Rows.{RowsOf}

@@ -1,4 +1,4 @@
--- A place and a route of the code, as contracts see them; and what the router's parameters say.
+-- A place and a route of the code, as contracts see them; and what the router's parameters say. Both are Depot's own.
 use Rattle.std.specs.Prelude.{List, ℕ, Option, Some, option_map, option_and_then, codes}
 use Rattle.matchit.specs.Params.{walk, named}
 use Rattle.matchit.specs.declared.params.Params.{Params}

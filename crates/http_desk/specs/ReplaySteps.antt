@@ -1,5 +1,5 @@
 -- What one step of a replay does: a record is found, the reader is called once more, a record is answered. No clause of a public call names
--- these. `input`, `left`, `output` and `written` are as in Replaying.
+-- these. `input`, `left`, `output` and `written` are as in Replaying. The rules are Depot's own.
 use Rattle.std.specs.Prelude.{◌≡◌, ◌≢◌, ◌⊎◌, ◌<◌, ◌≤◌, ◌+◌, ℕ, List, [], ◌++◌, Bool, true, false, Option, Result, Ok, Err, length, take}
 use Rattle.std.specs.Io.KnownBytes.{Appends, Consumes, IsAtEnd}
 use Rattle.sqlite.specs.Held.{Held}
