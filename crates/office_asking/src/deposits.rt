@@ -37,15 +37,14 @@ pub fn kept_deposit<S: Alter>(
         return Ok(Err(Refusal::NoSuch(Subject::Deposit)));
     };
     let gone = optional_day_numbered(deposit.gone)?;
-    let denied = denial(
+    if let Some(why) = denial(
         alloc,
         tx,
         caller,
         action,
         Some(&deposit.collection),
         Some(&deposit.class),
-    )?;
-    if let Some(why) = denied {
+    )? {
         return Ok(Err(why));
     }
     match gone {
