@@ -3,3 +3,4 @@ pub mod Ends
 pub mod Kept
 pub mod RunTurns
 pub mod Stopping
+pub mod Audited

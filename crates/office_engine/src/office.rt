@@ -205,10 +205,24 @@ impl<S: Alter> Office<S> {
     }
 }
 
+/// Serves a request, and gives up the connection.
+fn step_and_close<S: Alter>(
+    alloc: Global,
+    mut office: Office<S>,
+    day: Day,
+    caller: &str,
+    request: &Request<'_>,
+) -> Connection<S>
+    ensures { HasCleanDisk (state S.Store result) → LeavesEither (state S.Store office) (state S.Store result) (after_item (day, caller.entry, request.now)) }
+{
+    let _answer = office.step(alloc, day, caller, request);
+    office.into_connection()
+}
+
 /// Serves a request, and stops there: the files as they are then, which may be what a crash leaves.
 pub fn stop_in<D: Disk + Drop>(
     alloc: Global,
-    mut office: Office<FileStore<D>>,
+    office: Office<FileStore<D>>,
     day: Day,
     caller: &str,
     request: &Request<'_>,
@@ -217,8 +231,7 @@ pub fn stop_in<D: Disk + Drop>(
     ensures leaves { IsClean (view result) → (h : History) → IsLegal h → IsTrue (file_state office).is_open → IsKeptBy h (file_state office)
         → (image : Image) → (files_state result).may_leave image → HoldsWhere (IsLeftOfEither h (after h day caller.now request.now)) image }
 {
-    let _answer = office.step(alloc, day, caller, request);
-    stop(office.into_connection())
+    stop(step_and_close(alloc, office, day, caller, request))
 }
 
 /// Serves requests one after the other, and stops there: the files as they are then.
