@@ -1,9 +1,15 @@
-//! Files in memory, under a store with small caches.
+//! Files in memory, which can be told to stop, under a store with small caches.
 
-use sqlite::{Connection, FileStore, Files, Options};
-use sqlite_disk::{Disk, Memory};
+use sqlite::{Connection, Error, FileStore, Files, Options};
+use sqlite_disk::{Crash, Disk, Fuse, Memory};
 use std::alloc::Global;
 use std::test::Fail;
+
+/// The log and the database file, each in memory; after so many calls it stops.
+pub type Disks = Files<Fuse<Memory>>;
+
+/// More calls than a session makes.
+pub const MANY: u64 = u64::MAX;
 
 /// Small caches: pages go to the log and come back from it.
 pub const SMALL: Options = Options {
@@ -13,32 +19,63 @@ pub const SMALL: Options = Options {
     seed: 7,
 };
 
-/// Two empty files.
-pub fn empty(alloc: Global) -> Files<Memory> {
+/// Two empty files, which stop after so many calls.
+pub fn empty(alloc: Global, log_calls: u64, db_calls: u64) -> Disks {
     Files {
-        log: Memory::new(alloc),
-        db: Memory::new(alloc),
+        log: Fuse::new(Memory::new(alloc), log_calls),
+        db: Fuse::new(Memory::new(alloc), db_calls),
     }
 }
 
-/// Opens the files.
+/// A file that holds the same bytes, and doesn't stop.
+fn copy(alloc: Global, from: &Fuse<Memory>) -> Result<Fuse<Memory>, Fail> {
+    let mut to = Memory::new(alloc);
+    to.write_at(0, from.inner().bytes())?;
+    to.sync()?;
+    Ok(Fuse::new(to, MANY))
+}
+
+/// Files that hold the same bytes, and don't stop.
+pub fn copied(alloc: Global, from: &Disks) -> Result<Disks, Fail> {
+    Ok(Files {
+        log: copy(alloc, &from.log)?,
+        db: copy(alloc, &from.db)?,
+    })
+}
+
+/// Opens the files with small caches.
 pub fn open_files<D: Disk + Drop>(
     alloc: Global,
     files: Files<D>,
-) -> Result<Connection<FileStore<D>>, Fail> {
+) -> Result<Connection<FileStore<D>>, (Error, Files<D>)> {
     if !files.may_be_used() {
-        Err("the files may be used")?;
+        return Err((Error::InvalidQuery, files));
     }
     match Connection::open_files(alloc, files, SMALL) {
         Ok(conn) => Ok(conn),
-        Err((error, _)) => Err(Fail::from(error)),
+        Err((error, left)) => Err((error, left.into_files())),
     }
 }
 
-/// Closes the files, and gives them back.
-pub fn close<D: Disk + Drop>(conn: Connection<FileStore<D>>) -> Result<Files<D>, Fail> {
+/// Whether the file has stopped.
+pub fn has_stopped<D: Disk>(file: &mut D) -> bool {
+    !file.may_be_used() || file.len().is_err()
+}
+
+/// Loses what was not synced; the files don't stop after that.
+pub fn lose(files: Disks) -> Disks {
+    let mut files = files;
+    files.log.crash();
+    files.db.crash();
+    files
+}
+
+/// Closes the files, and gives them back: as they are left, where they can't be closed.
+pub fn close<D: Disk + Drop>(
+    conn: Connection<FileStore<D>>,
+) -> Result<Files<D>, (Error, Files<D>)> {
     match conn.close_files() {
         Ok(files) => Ok(files),
-        Err((error, _)) => Err(Fail::from(error)),
+        Err((error, store)) => Err((error, store.close())),
     }
 }

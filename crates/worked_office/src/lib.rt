@@ -1,12 +1,21 @@
-//! Worked sessions, put to the plain office and to the office over its tables.
+//! Worked sessions, put to the plain office and to the office over its tables, also where rows of the
+//! tables are altered behind its back; and the calls of the tables themselves.
 #![tactic(auto)]
 
+#[cfg(test)]
+mod altering;
 #[cfg(test)]
 mod files;
 #[cfg(test)]
 mod sessions;
 #[cfg(test)]
+mod tables;
+#[cfg(test)]
 mod tests;
+#[cfg(test)]
+mod tests_openings;
+#[cfg(test)]
+mod tests_rows;
 #[cfg(test)]
 mod tests_sessions;
 #[cfg(test)]

@@ -1,11 +1,11 @@
 //! Sessions, put to each office.
 
-use crate::files::{close, empty, open_files};
+use crate::files::{Disks, MANY, close, empty, open_files};
 use office_core::{Day, Limits};
 use office_engine::Office;
 use office_history::plain;
 use sqlite::{Alter, Connection, Files};
-use sqlite_disk::Memory;
+use sqlite_disk::Disk;
 use std::alloc::Global;
 use std::test::Fail;
 use worked_sessions::{AnyOffice, Row, differs, differs_in_run, open};
@@ -32,7 +32,7 @@ pub enum Part<'a> {
 }
 
 /// Fails where a row was answered otherwise.
-fn agree(differs: Option<String>) -> Result<(), Fail> {
+pub fn agree(differs: Option<String>) -> Result<(), Fail> {
     match differs {
         None => Ok(()),
         Some(text) => Err(Fail::new(text)),
@@ -148,18 +148,35 @@ fn take_in_memory(alloc: Global, limits: Limits, way: Way, parts: &[Part<'_>]) -
     Ok(())
 }
 
+/// Opens the files, puts the parts to the office in them, and closes them.
+fn take_once<D: Disk + Drop>(
+    alloc: Global,
+    files: Files<D>,
+    limits: Option<Limits>,
+    way: Way,
+    parts: &[Part<'_>],
+) -> Result<Files<D>, Fail> {
+    let conn = match open_files(alloc, files) {
+        Ok(conn) => conn,
+        Err((error, _)) => return Err(Fail::from(error)),
+    };
+    match close(take_over(alloc, conn, limits, way, parts)?) {
+        Ok(files) => Ok(files),
+        Err((error, _)) => Err(Fail::from(error)),
+    }
+}
+
 /// Puts the parts to an office over files, which are closed and opened again between them.
 pub fn take_in_files(
     alloc: Global,
     limits: Limits,
     way: Way,
     parts: &[Part<'_>],
-) -> Result<Files<Memory>, Fail> {
+) -> Result<Disks, Fail> {
     let mut new = Some(limits);
-    let mut files = empty(alloc);
+    let mut files = empty(alloc, MANY, MANY);
     for part in parts {
-        let conn = open_files(alloc, files)?;
-        files = close(take_over(alloc, conn, new, way, &[*part])?)?;
+        files = take_once(alloc, files, new, way, &[*part])?;
         new = None;
     }
     Ok(files)

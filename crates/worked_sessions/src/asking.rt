@@ -3,7 +3,7 @@
 use office_core::{Accession, Day, Matter, Name, Request, Years};
 
 /// What is asked. Deposits and holds are named by their numbers.
-#[derive(Clone, Copy, Debug)]
+#[derive(Clone, Copy)]
 pub enum Asked {
     /// Define a class, or revise its years.
     Class(&'static str, u8),

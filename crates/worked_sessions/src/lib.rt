@@ -7,6 +7,7 @@ mod bags;
 mod offices;
 mod session_fault;
 mod sessions;
+mod showing;
 mod wording;
 
 pub use asking::Asked;
@@ -14,4 +15,5 @@ pub use bags::{BAG, BAG_0_97, PERCENT};
 pub use offices::AnyOffice;
 pub use session_fault::SessionFault;
 pub use sessions::{OPENING, POLICY, Row, differs, differs_in_run, open, said};
+pub use showing::{held, shown};
 pub use wording::words;

@@ -4,7 +4,7 @@ use office_tables::TableFault;
 use std::alloc::{AllocError, AllocFailed};
 
 /// Why a session stops before its end.
-#[derive(Clone, Copy, Debug, PartialEq, Eq, thiserror::Error)]
+#[derive(Clone, Copy, Debug, thiserror::Error)]
 pub enum SessionFault {
     /// Memory ran out.
     #[error("memory")]

@@ -1,9 +1,9 @@
 //! Calls that are refused, and reads of what isn't there: no row changes.
 
-use crate::answers::Read;
-use crate::changes::Change;
-use crate::sessions::{Row, take_all};
-use crate::steps::Step;
+use crate::tables::answers::Read;
+use crate::tables::changes::Change;
+use crate::tables::sessions::{Row, take_all};
+use crate::tables::steps::Step;
 use office_tables::HoldTarget;
 use std::test::*;
 

@@ -1,7 +1,7 @@
 //! Sessions: steps over files in memory, each with its answer.
 
-use crate::files::{Disks, MANY, close, empty, open};
-use crate::steps::{Step, said};
+use crate::files::{Disks, MANY, close, empty, open_files};
+use crate::tables::steps::{Step, said};
 use sqlite::{Alter, Connection, Files};
 use sqlite_disk::Disk;
 use std::alloc::Global;
@@ -36,10 +36,13 @@ fn take_once<D: Disk + Drop>(
     files: Files<D>,
     rows: &[Row<'_>],
 ) -> (Result<String, Fail>, Files<D>) {
-    match open(alloc, files) {
+    match open_files(alloc, files) {
         Err((_, left)) => (not_opened(alloc), left),
         Ok(mut conn) => match differs(alloc, &mut conn, rows) {
-            Ok(text) if text.is_empty() => (Ok(text), close(conn)),
+            Ok(text) if text.is_empty() => match close(conn) {
+                Ok(files) => (Ok(text), files),
+                Err((_, files)) => (Ok(text), files),
+            },
             said => (said, conn.into_store().close()),
         },
     }

@@ -1,24 +1,16 @@
 //! Offices in memory whose rows are altered behind their back.
 
-use crate::shown::held;
+use crate::sessions::agree;
 use office_core::{Answer, Day, Limits, Sequence};
 use office_engine::Office;
 use sqlite::{Alter, Connection};
 use std::alloc::Global;
 use std::test::Fail;
-use worked_sessions::{Asked, Row, differs, open, words};
+use worked_sessions::{Asked, Row, differs, held, open, words};
 
 /// SQL that alters rows, SQL that takes that back, and what is asked in between. Nothing of what is
 /// asked changes a row.
 pub type Case = (&'static str, &'static str, &'static [Row]);
-
-/// Fails where a row was answered otherwise.
-fn agree(differs: Option<String>) -> Result<(), Fail> {
-    match differs {
-        Some(differs) => Err(Fail::new(format_args!("{differs}"))),
-        None => Ok(()),
-    }
-}
 
 /// What the call for the due list answers, in the words of the request for it, or its fault.
 fn due_words<S: Alter>(
@@ -83,9 +75,9 @@ fn alter<S: Alter>(
     conn: &mut Connection<S>,
     sql: &str,
 ) -> Result<(String, String), Fail> {
-    let before = held(alloc, conn)?;
+    let before = held(alloc, conn).ok_or("no rows are shown")?;
     conn.execute_batch(sql)?;
-    let after = held(alloc, conn)?;
+    let after = held(alloc, conn).ok_or("no rows are shown")?;
     if before.as_str() == after.as_str() {
         return Err(Fail::new(format_args!("nothing is altered by {sql}")));
     }

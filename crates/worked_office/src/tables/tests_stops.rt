@@ -1,9 +1,9 @@
 //! A stop of both files at any of their calls, while an office is made and the files are closed.
 
-use crate::answers::Read;
 use crate::files::{Disks, copied, empty, has_stopped, lose};
-use crate::sessions::{Row, take, take_over};
-use crate::steps::Step;
+use crate::tables::answers::Read;
+use crate::tables::sessions::{Row, take, take_over};
+use crate::tables::steps::Step;
 use std::alloc::Global;
 use std::test::*;
 

@@ -1,7 +1,7 @@
 //! Which databases are taken for an office.
 
-use crate::sessions::{Row, take_all};
-use crate::steps::Step;
+use crate::tables::sessions::{Row, take_all};
+use crate::tables::steps::Step;
 use office_tables::TableFault;
 use std::alloc::Global;
 use std::test::*;

@@ -1,10 +1,10 @@
 //! The smallest and the largest contents, odd paths, and many files.
 
-use crate::answers::Read;
-use crate::changes::Change;
 use crate::files::{MANY, empty};
-use crate::sessions::{Row, take};
-use crate::steps::Step;
+use crate::tables::answers::Read;
+use crate::tables::changes::Change;
+use crate::tables::sessions::{Row, take};
+use crate::tables::steps::Step;
 use std::alloc::{AllocError, Global};
 use std::test::*;
 

@@ -3,13 +3,13 @@
 ghost use Rattle.sqlite.specs.Held.{state};
 ghost use Rattle.std.specs.Prelude.{◌≡◌, false};
 
-use crate::answers::{Read, answer};
-use crate::changes::{Change, make};
-use crate::shown::{held, shown};
+use crate::tables::answers::{Read, answer};
+use crate::tables::changes::{Change, make};
 use office_tables::{TableFault, create, open_tables};
 use sqlite::{Alter, Connection};
 use std::alloc::Global;
 use std::test::Fail;
+use worked_sessions::{held, shown};
 
 /// A step of a session.
 #[derive(Clone, Copy)]
@@ -50,8 +50,8 @@ pub fn said<S: Alter>(
             let mut tx = conn.transaction();
             read_text(alloc, answer(alloc, &mut tx, read))
         }
-        Step::Show(sql) => shown(alloc, conn, sql),
-        Step::Held => held(alloc, conn),
+        Step::Show(sql) => Ok(shown(alloc, conn, sql).ok_or("no rows are shown")?),
+        Step::Held => Ok(held(alloc, conn).ok_or("no rows are shown")?),
     }
 }
 

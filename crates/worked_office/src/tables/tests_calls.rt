@@ -1,9 +1,9 @@
 //! Each call once over files, where what it wrote is there when they are opened again, and once in memory.
 
-use crate::answers::Read;
-use crate::changes::Change;
-use crate::sessions::{Row, take_all};
-use crate::steps::Step;
+use crate::tables::answers::Read;
+use crate::tables::changes::Change;
+use crate::tables::sessions::{Row, take_all};
+use crate::tables::steps::Step;
 use office_tables::HoldTarget;
 use std::test::*;
 
