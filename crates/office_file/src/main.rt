@@ -1,21 +1,34 @@
-//! Writes an office into a file, which the `sqlite3` command can read, and times calls of the tables
-//! and requests to the office.
+//! Writes an office into a file, which the `sqlite3` command can read, times calls of the tables and
+//! requests to the office, and compares its answers with those of the plain office. With no words it
+//! runs the cases of want of memory.
 #![tactic(auto)]
 
+mod calls;
+mod cases;
 mod changes;
+mod comparing;
+mod drawing;
+mod groups;
+mod lines;
 mod office;
+mod offices;
+mod outcome;
 mod requests;
+mod tables;
+mod texts;
 mod timed;
 
 use anyhow::{Context, Result, bail};
+use comparing::{Tally, compare};
 use office_engine::Office;
 use requests::Asked;
 use sqlite::{Alter, Connection};
+use std::env::{Env, FillError};
 use std::time::{Duration, Instant};
 use timed::Call;
 
 const USAGE: &str =
-    "words: write FILE, make FILE, or FILE and COUNT behind one of deposits, read, live, last, ask-deposits, ask-records, ask-disposals, ask-bags, ask-lists and ask-due";
+    "words: none, write FILE, make FILE, draw FILE COUNT SEED, or FILE and COUNT behind one of deposits, read, live, last, ask-deposits, ask-records, ask-disposals, ask-bags, ask-lists and ask-due";
 
 /// What the words ask for.
 #[derive(Clone, Copy)]
@@ -26,6 +39,18 @@ enum Task {
     Time(Call, u32),
     /// A request to the office, so many times.
     Ask(Asked, u32),
+    /// So many requests, drawn by a seed, to two offices.
+    Draw(u32, u64),
+}
+
+/// What a task comes to.
+#[derive(Clone, Copy)]
+enum Report {
+    Done,
+    /// The time of the calls or requests: the opening of the file doesn't count.
+    Took(Duration),
+    /// Two offices gave the same answers.
+    Agreed(Tally),
 }
 
 fn read_task(word: &str) -> Option<Task> {
@@ -48,6 +73,13 @@ fn read_timed_task(word: &str, count: u32) -> Option<Task> {
         "ask-bags" => Some(Task::Ask(Asked::Bag, count)),
         "ask-lists" => Some(Task::Ask(Asked::List, count)),
         "ask-due" => Some(Task::Ask(Asked::DueList, count)),
+        _ => None,
+    }
+}
+
+fn read_draw(word: &str, count: u32, seed: u64) -> Option<Task> {
+    match word {
+        "draw" => Some(Task::Draw(count, seed)),
         _ => None,
     }
 }
@@ -85,26 +117,29 @@ fn ask<S: Alter + Drop>(
     Ok((office.into_connection(), took))
 }
 
-/// Does the task over the open file. The connection again, and the time of the calls or requests,
-/// where they are timed: the opening of the file doesn't count.
+/// Does the task over the open file. The connection again, and what the task comes to.
 fn perform<S: Alter + Drop>(
     rt: &HostRuntime,
     mut conn: Connection<S>,
     task: Task,
-) -> Result<(Connection<S>, Option<Duration>)> {
+) -> Result<(Connection<S>, Report)> {
     match task {
         Task::Write => office::write(rt.alloc(), &mut conn)?,
         Task::Make => timed::make(rt.alloc(), &mut conn)?,
         Task::Time(call, count) => {
             let took = time(rt, &mut conn, call, count)?;
-            return Ok((conn, Some(took)));
+            return Ok((conn, Report::Took(took)));
         }
         Task::Ask(asked, count) => {
             let (conn, took) = ask(rt, conn, asked, count)?;
-            return Ok((conn, Some(took)));
+            return Ok((conn, Report::Took(took)));
+        }
+        Task::Draw(count, seed) => {
+            let (conn, tally) = compare(rt.alloc(), conn, seed, count)?;
+            return Ok((conn, Report::Agreed(tally)));
         }
     }
-    Ok((conn, None))
+    Ok((conn, Report::Done))
 }
 
 /// The task and the file that the words after the program's name ask for.
@@ -112,26 +147,60 @@ fn read_words(words: &[String]) -> Result<(Task, &str)> {
     let (Some(task), Some(file)) = (words.get(1), words.get(2)) else {
         bail!("{USAGE}");
     };
-    let task = match words.get(3) {
-        None => read_task(task),
-        Some(count) => read_timed_task(task, count.parse::<u32>().context("COUNT")?),
+    let task = match (words.get(3), words.get(4)) {
+        (None, _) => read_task(task),
+        (Some(count), None) => read_timed_task(task, count.parse::<u32>().context("COUNT")?),
+        (Some(count), Some(seed)) => {
+            let count = count.parse::<u32>().context("COUNT")?;
+            read_draw(task, count, seed.parse::<u64>().context("SEED")?)
+        }
     };
     Ok((task.context(USAGE)?, file.as_str()))
+}
+
+/// Prints what the task comes to.
+fn say(rt: &HostRuntime, report: Report) -> Result<()> {
+    match report {
+        Report::Done => {}
+        Report::Took(took) => println!(rt; "{}", took.as_micros())?,
+        Report::Agreed(tally) => {
+            println!(rt; "{} accepted {} refused", tally.accepted, tally.refused)?
+        }
+    }
+    Ok(())
+}
+
+/// Does the task over the file, and says what it comes to.
+fn take(rt: &HostRuntime, file: &str, task: Task) -> Result<()> {
+    let conn = Connection::open(rt, file).context("opening the file")?;
+    let (conn, report) = perform(rt, conn, task)?;
+    conn.close().context("closing the file")?;
+    say(rt, report)
 }
 
 /// Does what the words after the program's name ask for.
 fn run(rt: &HostRuntime, words: &[String]) -> Result<()> {
     let (task, file) = read_words(words)?;
-    let conn = Connection::open(rt, file).context("opening the file")?;
-    let (conn, took) = perform(rt, conn, task)?;
-    conn.close().context("closing the file")?;
-    if let Some(took) = took {
-        println!(rt; "{}", took.as_micros())?;
+    take(rt, file, task)
+}
+
+/// Runs the cases of want of memory, and where all are wanted draws requests.
+fn run_cases(rt: &HostRuntime) -> Result<()> {
+    if cases::answer(rt)? {
+        take(rt, "office.db", Task::Draw(100, 7))?;
     }
     Ok(())
 }
 
+/// Whether there is a word behind the program's name. Takes no memory.
+fn has_words(rt: &HostRuntime) -> bool {
+    !matches!(rt.arg(1, &mut []), Err(FillError::NotPresent))
+}
+
 fn main(rt: HostRuntime) -> Result<()> {
+    if !has_words(&rt) {
+        return run_cases(&rt);
+    }
     let words: Vec<String> = std::env::args(&rt)?.collect(rt.alloc())?;
     run(&rt, words.as_slice())
 }

@@ -2,7 +2,7 @@
 
 use crate::files::{close, open};
 use crate::sessions::{Session, go_on};
-use crate::shown::{are_rows, rows_of};
+use crate::shown::are_rows;
 use office_core::Limits;
 use office_engine::Office;
 use office_tables::TableFault;
@@ -10,6 +10,7 @@ use sqlite::{Alter, Connection, Files};
 use sqlite_disk::Disk;
 use std::alloc::Global;
 use std::test::Fail;
+use worked_sessions::held;
 
 /// A visit, by numbers of steps that are done.
 #[derive(Clone, Copy, Drop)]
@@ -28,11 +29,11 @@ fn place<S: Alter>(
     conn: &mut Connection<S>,
     session: &Session,
 ) -> Result<Option<usize>, Fail> {
-    let Some(tables) = rows_of(alloc, conn) else {
+    let Some(found) = held(alloc, conn) else {
         return Ok(None);
     };
     for (done, wanted) in session.tables.iter().enumerate() {
-        if are_rows(&tables, wanted) {
+        if are_rows(alloc, &found, wanted)? {
             return Ok(Some(done));
         }
     }

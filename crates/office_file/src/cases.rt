@@ -2,17 +2,9 @@
 //!
 //! Standard input may name one group of cases, and then says how many allocations are made first, so that
 //! `refuse-memory.sh` can have one allocation of the cases after the other refused.
-#![tactic(auto)]
 
-mod calls;
-mod groups;
-mod lines;
-mod offices;
-mod outcome;
-mod tables;
-
+use crate::groups;
 use std::io::{self, Read};
-use std::process::ExitCode;
 
 /// A group of cases.
 #[derive(Clone, Copy, PartialEq, Eq)]
@@ -66,8 +58,8 @@ fn allocate(rt: &HostRuntime, count: u16) {
     }
 }
 
-/// Reads what is wanted, and prints how each case comes out.
-fn answer(rt: &HostRuntime) -> io::Result<()> {
+/// Reads what is wanted, and prints how each case comes out. Whether all groups were wanted.
+pub fn answer(rt: &HostRuntime) -> io::Result<bool> {
     let mut room = [0_u8; 16];
     let length = rt.stdin().read(&mut room)?;
     let (only, count) = said_first(room.get(..length).unwrap_or(&[]));
@@ -77,12 +69,5 @@ fn answer(rt: &HostRuntime) -> io::Result<()> {
             group.run(rt)?;
         }
     }
-    Ok(())
-}
-
-fn main(rt: HostRuntime) -> ExitCode {
-    match answer(&rt) {
-        Ok(()) => ExitCode::SUCCESS,
-        Err(_) => ExitCode::from(3),
-    }
+    Ok(only.is_none())
 }

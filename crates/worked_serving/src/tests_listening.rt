@@ -1,6 +1,7 @@
 //! What peers send to an office, and what they get, worked out by hand from `docs/HTTP.md`.
 
-use crate::office::{opened, served};
+use crate::connections::connected;
+use crate::office::opened;
 use crate::peers::{Peer, Then, all_of, listener};
 use desk_listening::{Drained, Patience, Served, drain};
 use http_desk::{Counted, FailAt, Portion};
@@ -129,7 +130,7 @@ fn peers_get_what_was_worked_out(rt: HostRuntime) -> Result<(), Fail> {
             streams.push(peer.call(&rt, address)?)?;
         }
         let count = u32::try_from(peers.len()).map_err(|_| "many")?;
-        let summary = served(rt.alloc(), &mut office, &listener, count, &short_patience())?;
+        let summary = connected(rt.alloc(), &mut office, &listener, count, &short_patience())?;
         let want = Served {
             answered: *answered,
             failed: *failed,
@@ -150,7 +151,7 @@ fn a_listener_that_gives_none_fails_each(rt: HostRuntime) -> Result<(), Fail> {
     let mut office = opened(rt.alloc())?;
     let listener = listener(&rt)?;
     listener.set_nonblocking(true)?;
-    let summary = served(rt.alloc(), &mut office, &listener, 3, &Patience::default())?;
+    let summary = connected(rt.alloc(), &mut office, &listener, 3, &Patience::default())?;
     let want = Served {
         answered: 0,
         failed: 3,
@@ -168,7 +169,7 @@ fn no_wait_at_all_is_refused(rt: HostRuntime) -> Result<(), Fail> {
         talk: Duration::from_secs(0),
         ..Patience::default()
     };
-    let summary = served(rt.alloc(), &mut office, &listener, 1, &patience)?;
+    let summary = connected(rt.alloc(), &mut office, &listener, 1, &patience)?;
     let want = Served {
         answered: 0,
         failed: 1,

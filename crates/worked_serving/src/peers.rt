@@ -7,7 +7,7 @@ use std::test::Fail;
 use std::time::Duration;
 
 /// What a peer does when it has sent its bytes.
-#[derive(Clone, Copy, Debug, PartialEq, Eq)]
+#[derive(Clone, Copy)]
 pub enum Then {
     /// It waits.
     Waits,

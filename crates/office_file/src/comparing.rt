@@ -6,7 +6,7 @@ use anyhow::{Context, Result, bail};
 use office_core::{Answer, Day, Limits, Name, Request, Years, read_policy};
 use office_engine::Office;
 use office_history::plain;
-use sqlite::{Connection, MemStore};
+use sqlite::{Alter, Connection};
 use std::alloc::Global;
 
 /// How many requests were accepted, and how many refused.
@@ -18,16 +18,18 @@ pub struct Tally {
 
 /// The two offices.
 #[derive(Drop)]
-struct Offices {
+struct Offices<S: Alter> {
     plain: plain::Office,
-    kept: Office<MemStore>,
+    kept: Office<S>,
 }
 
-impl Offices {
-    /// Two new offices, with room for a few deposits and holds.
-    fn create(alloc: Global) -> Result<Offices> {
+impl<S: Alter + Drop> Offices<S> {
+    /// Two new offices, with room for a few deposits and holds, one of them in the empty database.
+    fn create(alloc: Global, conn: Connection<S>) -> Result<Offices<S>> {
         let limits = Limits::new(5, 6).context("limits")?;
-        let conn = Connection::open_in_memory(alloc)?;
+        if !conn.is_autocommit() {
+            bail!("a transaction is open");
+        }
         let Ok(kept) = Office::create(conn, limits) else {
             bail!("no office could be made");
         };
@@ -97,11 +99,17 @@ impl Offices {
     }
 }
 
-/// Puts so many requests, drawn by the seed, to two new offices, and installs between them. Fails
-/// where an answer of the one isn't the answer of the other.
-pub fn compare(alloc: Global, seed: u64, count: u32) -> Result<Tally> {
+/// Puts so many requests, drawn by the seed, to two new offices, one of them in the empty database, and
+/// installs between them. Fails where an answer of the one isn't the answer of the other. The
+/// connection again, and how many were accepted and refused.
+pub fn compare<S: Alter + Drop>(
+    alloc: Global,
+    conn: Connection<S>,
+    seed: u64,
+    count: u32,
+) -> Result<(Connection<S>, Tally)> {
     let mut draws = Draws::new(seed);
-    let mut offices = Offices::create(alloc)?;
+    let mut offices = Offices::create(alloc, conn)?;
     offices.install(alloc, POLICIES[0])?;
     offices.define(alloc)?;
     let mut tally = Tally {
@@ -125,5 +133,5 @@ pub fn compare(alloc: Global, seed: u64, count: u32) -> Result<Tally> {
             }
         }
     }
-    Ok(tally)
+    Ok((offices.kept.into_connection(), tally))
 }
