@@ -26,6 +26,8 @@ use Rattle.office_recovery.proofs.FoundAgain.{becomes_again}
 use Rattle.office_recovery.proofs.Settled.{left_from}
 use Rattle.office_engine.specs.Keeping.{IsKeptBy, IsLeftOf, IsReached}
 use Rattle.office_engine.proofs.Kept.{rows_left}
+use Rattle.jiff.specs.Types.{Date}
+use Rattle.office_commands.specs.Listening.{Listens, ServesFrom}
 use Rattle.office_commands.specs.Tasks.{Does, DoesFrom}
 use Rattle.office_commands.specs.declared.task.Task.{Task}
 use Rattle.office_commands.proofs.TaskLemmas.{done_from}
@@ -81,6 +83,18 @@ taken_as_held (Ok o) shown image s cleans goes_on opened found = λ clean h hold
     let was = cleans clean in goes_on clean h (found_of image s (opened was).0 (opened was).1 (found was) h holds)
 
 -- ---- closed
+
+-- what connections made of an office
+pub served_on_files : {D E : Type 0} (g : Ghosts D) (r : Result (Files D) E) (day : Date) (count : ℕ) (first last : Held (FileStore D g)) (held holds : Option (List ℕ))
+    → ((port : ℕ) × Listens over_files day count port first last held holds) → IfOk r (λ files. AreClean g files.log files.db → IsCopied last files)
+    → IfOk r (λ files. AreClean g files.log files.db → (h : History) → IsLegal h → IsKeptBy h (file_state first)
+    → (next : History) × ServesFrom h count next × IsLegal next × HoldsWhere (IsLeftOf next) (image_of g files))
+served_on_files g (Err e) day count first last held holds listens copied = tt
+served_on_files g (Ok files) day count first last held holds listens copied = λ clean h legal keeps.
+    let it = copied clean in
+    let does = listens.1 in
+    let at = does.3 it.was_clean h legal keeps in
+    (at.0, (does.0, does.1, at.1), at.2.legal, held_of (image_of g files) (file_state last) it.was_open it.seen.both at.0 at.2)
 
 pub done_on_files : {D E : Type 0} (g : Ghosts D) (r : Result (Files D) E) (task : Task) (first last : Held (FileStore D g)) (was_left left held holds : Option (List ℕ))
     → Does over_files task first last was_left left held holds → IfOk r (λ files. AreClean g files.log files.db → IsCopied last files)

@@ -1,14 +1,24 @@
 -- What comes of connections, and the line that was printed before them.
-use Rattle.std.proofs.Common.{◌≡◌, ℕ, List, Option, length}
+use Rattle.std.proofs.Common.{◌≡◌, ℕ, List, Option, Result, Ok, Err, IfOk, OnOk, length}
 use Rattle.std.specs.Prelude.{count_by}
 use Rattle.std.specs.Io.KnownBytes.{Appends}
 use Rattle.jiff.specs.Types.{Date}
 use Rattle.sqlite.specs.Held.{Held}
 use Rattle.sqlite.specs.Store.{Ghosts}
 use Rattle.desk_listening.specs.Listening.{Connection, IsAfterAll, IsRun, is_answered}
-use Rattle.office_commands.specs.Listening.{Listens, listening_text}
+use Rattle.office_commands.specs.Listening.{Listens, TellsPort, listening_text}
 
 pub listens : {S : Type 0} (g : Ghosts S) (day : Date) (count port answered : ℕ) (old new : Held S) (held holds : Option (List ℕ))
     → ((connections : List Connection) × (length connections ≡ count) × (count_by is_answered connections ≡ answered) × IsAfterAll g day connections old new × IsRun g connections old new)
     → Appends held holds (listening_text port) → Listens g day count port old new held holds
 listens g day count port answered old new held holds it writes = (it.0, it.1, it.3, it.4, writes)
+
+-- the line of the port alone
+pub tells_port : {S T E : Type 0} (g : Ghosts S) (r : Result T E) (day : Date) (count : ℕ) (old new : Held S) (held holds : Option (List ℕ))
+    → OnOk r ((port : ℕ) × Listens g day count port old new held holds) → OnOk r (TellsPort held holds)
+tells_port g (Ok x) day count old new held holds listens = (listens.0, listens.1.4)
+tells_port g (Err e) day count old new held holds listens = tt
+
+pub on_any : {T E : Type 0} (r : Result T E) (P : Type 0) → P → IfOk r (λ x. P)
+on_any (Ok x) P told = told
+on_any (Err e) P told = tt

@@ -1,11 +1,12 @@
 -- What is said of the bytes of a policy's file.
-use Rattle.std.specs.Prelude.{◌≡◌, ℕ, List, ◌++◌, ◌∷◌, [], Option, codes, decimal, length, MatchResult, Result}
+use Rattle.std.specs.Prelude.{◌≡◌, ℕ, List, ◌++◌, ◌∷◌, [], Option, Some, None, codes, decimal, length, MatchResult, Result}
 use Rattle.std.specs.Io.KnownBytes.{Appends}
 use Rattle.commands.specs.declared.ending.Ending.{Ending}
 use Rattle.commands.specs.declared.ending.Ending.TheVariants.{Accepted, Refused}
 use Rattle.office_core.specs.Policies.{Contents}
 use Rattle.office_core.specs.declared.policy_fault.PolicyFault.{PolicyFault}
 use Rattle.commands.specs.Explaining.{HasFault, Spells, bad_policy_text}
+use Rattle.office_commands.specs.Texts.{bad_policy_reason}
 
 -- they are the text of this policy, or this is their first fault
 abbrev pub IsRead : List ℕ → Result Contents PolicyFault → Type 0
@@ -15,7 +16,12 @@ IsRead bytes read = MatchResult read (Spells bytes) (HasFault bytes)
 abbrev pub installed_text : Contents → List ℕ
 installed_text policy = codes "installed " ++ (decimal (length policy.rules) ++ (codes " rules " ++ (decimal (length policy.callers) ++ (codes " callers" ++ 10 ∷ []))))
 
--- what is printed of a policy's file: it was installed, or this is its first fault
+-- What comes of a policy's file: it was installed, or this is its first fault, which is printed, and standard error is to be told why.
+pub data ComesOfPolicy (held holds reason : Option (List ℕ)) (ending : Ending) : Type 0 where
+  installed : (bytes : List ℕ) (policy : Contents) → Spells bytes policy → Appends held holds (installed_text policy) → reason ≡ None → ending ≡ Accepted → ComesOfPolicy held holds reason ending
+  refused : (bytes : List ℕ) (fault : PolicyFault) → HasFault bytes fault → Appends held holds (bad_policy_text fault) → reason ≡ Some (bad_policy_reason fault) → ending ≡ Refused
+      → ComesOfPolicy held holds reason ending
+
+-- the same, whatever standard error is to be told
 pub data SaysOfPolicy (held holds : Option (List ℕ)) (ending : Ending) : Type 0 where
-  installed : (bytes : List ℕ) (policy : Contents) → Spells bytes policy → Appends held holds (installed_text policy) → ending ≡ Accepted → SaysOfPolicy held holds ending
-  refused : (bytes : List ℕ) (fault : PolicyFault) → HasFault bytes fault → Appends held holds (bad_policy_text fault) → ending ≡ Refused → SaysOfPolicy held holds ending
+  says : (reason : Option (List ℕ)) → ComesOfPolicy held holds reason ending → SaysOfPolicy held holds ending

@@ -1,5 +1,5 @@
 -- What a task does with an office, over any store, and said of its history.
-use Rattle.std.specs.Prelude.{◌≡◌, ℕ, List, Option, option_copied}
+use Rattle.std.specs.Prelude.{◌≡◌, ℕ, Bool, true, false, List, Option, None, Some, option_copied}
 use Rattle.std.specs.Io.KnownBytes.{Keeps}
 use Rattle.sqlite.specs.Held.{Held, state}
 use Rattle.sqlite.specs.State.{HasCleanDisk}
@@ -10,6 +10,13 @@ use Rattle.office_commands.specs.Working.{Asks, ReplaysUnder}
 use Rattle.office_commands.specs.Answering.{AsksFrom, ReplaysFrom, after_install}
 use Rattle.office_commands.specs.declared.task.Task.{Task}
 use Rattle.office_commands.specs.declared.task.Task.TheVariants.{Install, Ask, Replay}
+
+-- whether the office is made where there is none: only where a policy comes with the task
+abbrev pub makes_office : Task → Bool
+makes_office (Install policy) = true
+makes_office (Ask day) = false
+makes_office (Replay None) = false
+makes_office (Replay (Some policy)) = true
 
 -- the task is done with the office that a store keeps
 abbrev pub Does : {S : Type 0} → Ghosts S → Task → Held S → Held S → Option (List ℕ) → Option (List ℕ) → Option (List ℕ) → Option (List ℕ) → Type 0

@@ -3,7 +3,14 @@ use Rattle.std.specs.Prelude.{◌++◌, ◌∷◌, [], ℕ, List, codes, decimal
 use Rattle.commands.specs.Explaining.{bad_policy_text}
 use Rattle.commands.specs.declared.ending.Ending.{Ending}
 use Rattle.commands.specs.declared.ending.Ending.TheVariants as endings
+use Rattle.fault_words.specs.FaultWords.{policy_words}
+use Rattle.office_core.specs.declared.policy_fault.PolicyFault.{PolicyFault}
 use Rattle.std.specs.Prelude.{None}
+use Rattle.std.specs.declared.io.ErrorKind.{ErrorKind}
+use Rattle.std.specs.declared.io.ErrorKind.TheVariants.{OutOfMemory}
+use Rattle.sqlite.specs.declared.error.Error.{Error}
+use Rattle.sqlite.specs.declared.error.Error.TheVariants.{SqliteFailure}
+use Rattle.sqlite.specs.declared.error.ErrorCode.TheVariants as codes_of
 use Rattle.office_tables.specs.declared.fault.TableFault.{TableFault}
 use Rattle.office_tables.specs.declared.fault.TableFault.TheVariants as tables
 use Rattle.http_desk.specs.declared.serving.DeskFault.{DeskFault}
@@ -27,9 +34,13 @@ message_of Device = codes "device" ++ 10 ∷ []
 abbrev pub bad_record_text : ℕ → List ℕ
 bad_record_text index = codes "record " ++ decimal index ++ 10 ∷ []
 
--- the line that standard error is told
+-- the sentence that says why a policy is refused, a line with its end
+abbrev pub bad_policy_reason : PolicyFault → List ℕ
+bad_policy_reason fault = policy_words fault ++ 10 ∷ []
+
+-- what standard error is told: a line, and of a policy that is refused also why
 abbrev pub fault_text : CommandFault → List ℕ
-fault_text (Policy fault) = bad_policy_text fault
+fault_text (Policy fault) = bad_policy_text fault ++ bad_policy_reason fault
 fault_text (BadRecord index) = bad_record_text index
 fault_text (Failed fault cause) = message_of fault
 
@@ -43,6 +54,21 @@ ending_of (Failed fault cause) = endings.Failed
 
 abbrev pub fails : StoreFault → CommandFault
 fails fault = Failed fault None
+
+-- a file that can't be read
+abbrev pub file_failure : ErrorKind → StoreFault
+file_failure OutOfMemory = Memory
+file_failure _ = Device
+
+-- the host's files that can't be asked where the store is
+abbrev pub search_failure : ErrorKind → StoreFault
+search_failure OutOfMemory = Memory
+search_failure _ = Store
+
+-- a store that can't be opened or closed
+abbrev pub store_failure : Error → StoreFault
+store_failure (SqliteFailure codes_of.OutOfMemory) = Memory
+store_failure _ = Store
 
 abbrev pub table_failure : TableFault → CommandFault
 table_failure tables.NotAnOffice = fails NotAnOffice

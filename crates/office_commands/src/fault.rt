@@ -1,13 +1,16 @@
 //! Why a command on a store doesn't come to its end, and what standard error is told of it.
 
-ghost use Rattle.std.specs.Prelude.{◌≡◌, IfOk, None, Some, string_bytes};
-ghost use Rattle.office_commands.specs.Texts.{ending_of, fault_text, message_of};
+ghost use Rattle.std.specs.Prelude.{◌≡◌, ◌++◌, IfOk, None, Some, string_bytes};
+ghost use Rattle.commands.specs.Explaining.{bad_policy_text};
+ghost use Rattle.office_commands.specs.Texts.{bad_policy_reason, ending_of, fault_text, message_of};
 ghost use Rattle.office_commands.specs.declared.fault.CommandFault.TheVariants.{Failed};
 
 use commands::Ending;
+use fault_words::InWords;
 use office_core::PolicyFault;
 use std::alloc::{AllocError, Global};
-use std::{fmt, io};
+use std::fmt::{self, Write};
+use std::io;
 
 /// A failure of a store, or of what the program stands on.
 #[derive(Clone, Copy, Debug, PartialEq, Eq)]
@@ -92,6 +95,16 @@ pub(crate) fn failed_by(fault: StoreFault, cause: Cause) -> CommandFault
     }
 }
 
+/// The line of a policy that is refused, and the sentence that says why.
+fn refused_lines(alloc: Global, fault: &PolicyFault) -> Result<String, AllocError>
+    ensures { IfOk result (λ text. string_bytes text ≡ bad_policy_text fault.now ++ bad_policy_reason fault.now) }
+{
+    let words = InWords(fault);
+    let mut lines = format!(in alloc; "policy {fault}\n")?;
+    write!(lines, "{words}\n")?;
+    Ok(lines)
+}
+
 impl CommandFault {
     /// A failure of which no more is known.
     pub(crate) fn failed(fault: StoreFault) -> CommandFault
@@ -100,12 +113,12 @@ impl CommandFault {
         CommandFault::Failed { fault, cause: None }
     }
 
-    /// The line that says so on standard error.
+    /// The line that says so on standard error, and behind it why a policy is refused.
     pub fn line(&self, alloc: Global) -> Result<String, AllocError>
         ensures { IfOk result (λ text. string_bytes text ≡ fault_text self.now) }
     {
         match self {
-            CommandFault::Policy(fault) => format!(in alloc; "policy {fault}\n"),
+            CommandFault::Policy(fault) => refused_lines(alloc, fault),
             CommandFault::BadRecord { index } => format!(in alloc; "record {index}\n"),
             CommandFault::Failed { fault, .. } => String::from_str(alloc, fault.message()),
         }

@@ -1,8 +1,11 @@
 //! The desk behind a listening socket.
 
-ghost use Rattle.std.specs.Prelude.{◌≡◌, IfOk, OnOk, string_bytes};
+ghost use Rattle.std.specs.Prelude.{◌≡◌, ℕ, IfOk, OnOk, Some, string_bytes};
 ghost use Rattle.std.specs.Io.KnownBytes.{Appends};
 ghost use Rattle.office_commands.specs.Listening.{Listens, listening_text};
+ghost use Rattle.office_commands.specs.declared.fault.Cause.TheVariants.{Listen};
+ghost use Rattle.office_commands.specs.declared.fault.CommandFault.TheVariants.{Failed};
+ghost use Rattle.office_commands.specs.declared.fault.StoreFault.TheVariants.{Device};
 
 use crate::fault::{Cause, CommandFault, StoreFault, failed_by};
 use crate::printing::print;
@@ -18,18 +21,20 @@ use std::rt::HostRuntime;
 
 /// A listening socket and its port.
 #[derive(Drop)]
-pub struct Desk {
-    pub listener: TcpListener,
-    pub port: u16,
+struct Desk {
+    listener: TcpListener,
+    port: u16,
 }
 
 /// A port that can't be had.
-fn unheard(error: Error) -> CommandFault {
+fn unheard(error: Error) -> CommandFault
+    ensures { result ≡ Failed Device (Some (Listen error)) }
+{
     failed_by(StoreFault::Device, Cause::Listen(error))
 }
 
 /// The desk at that port of 127.0.0.1. With the port 0 the machine picks one.
-pub fn desk_at(rt: &HostRuntime, port: u16) -> Result<Desk, CommandFault> {
+fn desk_at(rt: &HostRuntime, port: u16) -> Result<Desk, CommandFault> {
     let listener = match TcpListener::bind(rt, (Ipv4Addr::LOCALHOST, port)) {
         Ok(listener) => listener,
         Err(error) => return Err(unheard(error)),
@@ -66,7 +71,7 @@ fn say_listening<O: Write>(
 
 /// Says where the desk listens, and serves so many connections on that day, one after the other.
 #[tactic(auto, using(crate::proofs::ListeningLemmas::listens))]
-pub fn serve_office<S: Alter, O: Write>(
+fn serve_office<S: Alter, O: Write>(
     alloc: Global,
     office: &mut Office<S>,
     day: Day,
@@ -81,4 +86,21 @@ pub fn serve_office<S: Alter, O: Write>(
     let patience = Patience::default();
     let _served = serve_connections(alloc, office, day, &desk.listener, count, &patience);
     Ok(())
+}
+
+/// Takes the port, and then serves so many connections there on that day. Where the port can't be had,
+/// nothing is said or served.
+pub fn serve_at<S: Alter, O: Write>(
+    rt: &HostRuntime,
+    office: &mut Office<S>,
+    day: Day,
+    port: u16,
+    count: u32,
+    out: &mut Counted<O>,
+) -> Result<(), CommandFault>
+    ensures { OnOk result ((taken : ℕ) × Listens S.Store day count taken office.old office.new
+        (O.contents out.old.device) (O.contents out.new.device)) }
+{
+    let desk = desk_at(rt, port)?;
+    serve_office(rt.alloc(), office, day, &desk, count, out)
 }

@@ -1,9 +1,13 @@
 //! The policy's file.
 
-ghost use Rattle.std.specs.Prelude.{◌≡◌, ◌⊎◌, ℕ, IfErr, IfOk, List};
+ghost use Rattle.std.specs.Prelude.{◌≡◌, ◌⊎◌, ℕ, IfErr, IfOk, List, Some};
+ghost use Rattle.std.specs.IoError.{error_kind};
 ghost use Rattle.commands.specs.Explaining.{HasFault, Spells};
 ghost use Rattle.office_core.specs.declared.policy_fault.PolicyFault.TheVariants.{Memory};
 ghost use Rattle.office_commands.specs.Policies.{IsRead};
+ghost use Rattle.office_commands.specs.Texts.{file_failure};
+ghost use Rattle.office_commands.specs.declared.fault.Cause.TheVariants as causes;
+ghost use Rattle.office_commands.specs.declared.fault.CommandFault.TheVariants.{Failed};
 
 use crate::fault::{Cause, CommandFault, StoreFault, failed_by};
 use office_core::{Policy, PolicyFault, read_policy};
@@ -24,7 +28,9 @@ fn policy_of_bytes(alloc: Global, bytes: &[u8]) -> Result<Policy, PolicyFault>
 }
 
 /// A file that could not be read.
-fn unread(error: Error) -> CommandFault {
+fn unread(error: Error) -> CommandFault
+    ensures { result ≡ Failed (file_failure (error_kind error)) (Some (causes.Policy error)) }
+{
     match error.kind() {
         ErrorKind::OutOfMemory => failed_by(StoreFault::Memory, Cause::Policy(error)),
         _ => failed_by(StoreFault::Device, Cause::Policy(error)),

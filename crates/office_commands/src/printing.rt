@@ -1,15 +1,16 @@
-//! What is printed on standard output.
+//! What is printed on standard output, and why a policy is refused.
 
 ghost use Rattle.std.specs.Prelude.{◌≡◌, IfErr, IfOk, OnOk, string_bytes};
 ghost use Rattle.std.specs.Io.KnownBytes.{Appends, Keeps};
 ghost use Rattle.commands.specs.Explaining.{bad_policy_text};
 ghost use Rattle.commands.specs.Failing.{IsCutShort};
 ghost use Rattle.office_commands.specs.Policies.{installed_text};
-ghost use Rattle.office_commands.specs.Texts.{fails};
+ghost use Rattle.office_commands.specs.Texts.{bad_policy_reason, fails};
 ghost use Rattle.office_commands.specs.declared.fault.StoreFault.TheVariants.{Device};
 
 use crate::fault::{CommandFault, StoreFault};
 use desk_devices::{Counted, write_whole};
+use fault_words::InWords;
 use office_core::{Policy, PolicyFault};
 use std::alloc::{AllocError, Global};
 use std::io::Write;
@@ -50,4 +51,12 @@ pub fn refused_line(alloc: Global, fault: PolicyFault) -> Result<String, AllocEr
     ensures { IfOk result (λ text. string_bytes text ≡ bad_policy_text fault) }
 {
     format!(in alloc; "policy {fault}\n")
+}
+
+/// The sentence that says why a policy is refused.
+pub fn reason_line(alloc: Global, fault: PolicyFault) -> Result<String, AllocError>
+    ensures { IfOk result (λ text. string_bytes text ≡ bad_policy_reason fault) }
+{
+    let words = InWords(&fault);
+    format!(in alloc; "{words}\n")
 }

@@ -1,17 +1,18 @@
 //! The commands on a store.
 
-ghost use Rattle.std.specs.Prelude.{◌≡◌, IfOk, OnOk, codes, option_copied};
+ghost use Rattle.std.specs.Prelude.{◌≡◌, IfOk, OnOk, Some, codes, option_copied, option_map, string_bytes};
 ghost use Rattle.std.specs.Io.KnownBytes.{Appends};
 ghost use Rattle.commands.specs.Explaining.{bad_policy_text};
-ghost use Rattle.commands.specs.declared.ending.Ending.TheVariants.{Accepted};
+ghost use Rattle.commands.specs.declared.ending.Ending.TheVariants.{Accepted, Refused};
 ghost use Rattle.office_history.specs.Histories.{History};
 ghost use Rattle.office_commands.specs.Answering.{AsksFrom, ReplaysFrom, ReplaysInMemory, after_install, made_office};
-ghost use Rattle.office_commands.specs.Policies.{SaysOfPolicy, installed_text};
+ghost use Rattle.office_commands.specs.Listening.{TellsPort};
+ghost use Rattle.office_commands.specs.Policies.{ComesOfPolicy, SaysOfPolicy, installed_text};
+ghost use Rattle.office_commands.specs.Texts.{bad_policy_reason};
 
 use crate::fault::{CommandFault, StoreFault};
-use crate::listening::desk_at;
 use crate::policy_file::policy_in_file;
-use crate::printing::{installed_line, print, refused_line};
+use crate::printing::{installed_line, print, reason_line, refused_line};
 use crate::stores::{in_store, serve_store};
 use crate::task::Task;
 use commands::Ending;
@@ -36,18 +37,33 @@ fn say_installed<O: Write>(
     }
 }
 
-/// Says why the policy is refused.
+/// How `policy` ends, and why the policy is refused, where it is: a line that standard error is to be
+/// told.
+#[derive(Debug, Drop)]
+pub struct PolicyOutcome {
+    pub reason: Option<String>,
+    pub ending: Ending,
+}
+
+/// Prints the fault of a policy that is refused, and says why. Nothing is printed where there is no
+/// memory to say it.
 fn say_refused<O: Write>(
     alloc: Global,
     fault: PolicyFault,
     out: &mut Counted<O>,
-) -> Result<(), CommandFault>
-    ensures { OnOk result (Appends (O.contents out.old.device) (O.contents out.new.device) (bad_policy_text fault)) }
+) -> Result<PolicyOutcome, CommandFault>
+    ensures printed { OnOk result (Appends (O.contents out.old.device) (O.contents out.new.device) (bad_policy_text fault)) }
+    ensures reason { IfOk result (λ outcome. option_map string_bytes outcome.reason ≡ Some (bad_policy_reason fault)) }
+    ensures ending { IfOk result (λ outcome. outcome.ending ≡ Refused) }
 {
-    match refused_line(alloc, fault) {
-        Ok(line) => print(line.as_str(), out),
-        Err(_) => Err(CommandFault::failed(StoreFault::Memory)),
-    }
+    let (Ok(line), Ok(reason)) = (refused_line(alloc, fault), reason_line(alloc, fault)) else {
+        return Err(CommandFault::failed(StoreFault::Memory));
+    };
+    print(line.as_str(), out)?;
+    Ok(PolicyOutcome {
+        reason: Some(reason),
+        ending: Ending::Refused,
+    })
 }
 
 /// Installs the policy in the store. A task that installs reads and prints nothing.
@@ -72,7 +88,33 @@ fn install_in<S: Start>(
 /// `policy STORE POLICY`: installs the policy, and makes the office first where there is no store.
 /// The policy is read before that.
 ///
-/// Prints `installed R rules C callers`, or the policy's fault.
+/// Prints `installed R rules C callers`, or the policy's fault, and says why it is refused.
+pub fn policy_outcome<S: Start, O: Write>(
+    rt: &HostRuntime,
+    start: S,
+    store: &str,
+    policy: &str,
+    out: &mut Counted<O>,
+) -> Result<PolicyOutcome, CommandFault>
+    // What is printed tells of the bytes that were read: how many rules and callers their policy has,
+    // or their first fault, which is said in words too.
+    ensures { IfOk result (λ outcome. ComesOfPolicy (O.contents out.old.device) (O.contents out.new.device)
+        (option_map string_bytes outcome.reason) outcome.ending) }
+{
+    match policy_in_file(rt, policy)? {
+        Ok(policy) => {
+            install_in(rt, start, store, &policy)?;
+            say_installed(rt.alloc(), &policy, out)?;
+            Ok(PolicyOutcome {
+                reason: None,
+                ending: Ending::Accepted,
+            })
+        }
+        Err(fault) => say_refused(rt.alloc(), fault, out),
+    }
+}
+
+/// The same, and doesn't say why a policy is refused.
 pub fn policy_command<S: Start, O: Write>(
     rt: &HostRuntime,
     start: S,
@@ -80,21 +122,10 @@ pub fn policy_command<S: Start, O: Write>(
     policy: &str,
     out: &mut Counted<O>,
 ) -> Result<Ending, CommandFault>
-    // What is printed tells of the bytes that were read: how many rules and callers their policy has,
-    // or their first fault.
     ensures { IfOk result (SaysOfPolicy (O.contents out.old.device) (O.contents out.new.device)) }
 {
-    match policy_in_file(rt, policy)? {
-        Ok(policy) => {
-            install_in(rt, start, store, &policy)?;
-            say_installed(rt.alloc(), &policy, out)?;
-            Ok(Ending::Accepted)
-        }
-        Err(fault) => {
-            say_refused(rt.alloc(), fault, out)?;
-            Ok(Ending::Refused)
-        }
-    }
+    let outcome = policy_outcome(rt, start, store, policy, out)?;
+    Ok(outcome.ending)
 }
 
 /// `ask STORE DAY`: answers the one request that the input gives, on that day.
@@ -163,7 +194,7 @@ pub fn replay_command<S: Start, R: Read, O: Write>(
 /// `serve --port P --count N STORE DAY`: serves so many connections to that port of 127.0.0.1, one
 /// after the other, on that day. With the port 0 the machine picks one.
 ///
-/// Prints `listening P` once the store is open, before the first connection is taken.
+/// Prints `listening P` once the store is open and the port is taken, before the first connection.
 pub fn serve_command<S: Start, O: Write>(
     rt: &HostRuntime,
     start: S,
@@ -173,9 +204,9 @@ pub fn serve_command<S: Start, O: Write>(
     count: u32,
     out: &mut Counted<O>,
 ) -> Result<Ending, CommandFault>
-    ensures { IfOk result (λ ending. ending ≡ Accepted) }
+    ensures accepted { IfOk result (λ ending. ending ≡ Accepted) }
+    ensures told { OnOk result (TellsPort (O.contents out.old.device) (O.contents out.new.device)) }
 {
-    let desk = desk_at(rt, port)?;
-    serve_store(rt, start, store, day, &desk, count, out)?;
+    serve_store(rt, start, store, day, port, count, out)?;
     Ok(Ending::Accepted)
 }

@@ -1,6 +1,7 @@
 //! The stores: an office in memory, or in a file.
 
-ghost use Rattle.std.specs.Prelude.{◌≡◌, ◌≢◌, false, IfOk, IsErr, OnOk, codes};
+ghost use Rattle.std.specs.Prelude.{◌≡◌, ◌≢◌, false, IfOk, IsErr, OnOk, Some, codes};
+ghost use Rattle.std.specs.IoError.{error_kind};
 ghost use Rattle.sqlite.specs.Closing.{IsCopied};
 ghost use Rattle.sqlite.specs.Files.{IsOpened, file_state, image_of};
 ghost use Rattle.sqlite.specs.Start.{FindsIn};
@@ -14,10 +15,14 @@ ghost use Rattle.office_history.specs.Runs.{IsLegal};
 ghost use Rattle.office_recovery.specs.Found.{HoldsWhere};
 ghost use Rattle.office_engine.specs.Keeping.{IsKeptBy, IsLeftOf};
 ghost use Rattle.office_commands.specs.Answering.{made_office};
+ghost use Rattle.office_commands.specs.Listening.{ServesFrom, TellsPort};
 ghost use Rattle.office_commands.specs.Tasks.{DoesFrom};
+ghost use Rattle.office_commands.specs.Texts.{search_failure, store_failure};
+ghost use Rattle.office_commands.specs.declared.fault.Cause.TheVariants.{Search};
+ghost use Rattle.office_commands.specs.declared.fault.CommandFault.TheVariants.{Failed};
 
 use crate::fault::{Cause, CommandFault, StoreFault, failed_by};
-use crate::listening::{Desk, serve_office};
+use crate::listening::serve_at;
 use crate::task::{Task, perform};
 use crate::working::table_failure;
 use http_desk::Counted;
@@ -58,7 +63,9 @@ fn in_memory<R: Read, O: Write>(
 }
 
 /// A search that failed.
-fn search_failure(error: io::Error) -> CommandFault {
+fn search_failure(error: io::Error) -> CommandFault
+    ensures { result ≡ Failed (search_failure (error_kind error)) (Some (Search error)) }
+{
     match error.kind() {
         ErrorKind::OutOfMemory => failed_by(StoreFault::Memory, Cause::Search(error)),
         _ => failed_by(StoreFault::Store, Cause::Search(error)),
@@ -66,7 +73,9 @@ fn search_failure(error: io::Error) -> CommandFault {
 }
 
 /// What the store said as it was opened or closed.
-fn store_fault(error: Error) -> StoreFault {
+fn store_fault(error: Error) -> StoreFault
+    ensures { result ≡ store_failure error }
+{
     match error {
         Error::SqliteFailure(ErrorCode::OutOfMemory) => StoreFault::Memory,
         _ => StoreFault::Store,
@@ -224,50 +233,61 @@ pub fn in_store<S: Start, R: Read, O: Write>(
 
 /// Serves connections with a new office in memory.
 fn serve_in_memory<O: Write>(
-    alloc: Global,
+    rt: &HostRuntime,
     day: Day,
-    desk: &Desk,
+    port: u16,
     count: u32,
     out: &mut Counted<O>,
-) -> Result<(), CommandFault> {
-    let Ok(conn) = Connection::open_in_memory(alloc) else {
+) -> Result<(), CommandFault>
+    ensures { OnOk result (TellsPort (O.contents out.old.device) (O.contents out.new.device)) }
+{
+    let Ok(conn) = Connection::open_in_memory(rt.alloc()) else {
         return Err(CommandFault::failed(StoreFault::Memory));
     };
     match Office::create(conn, limits()) {
-        Ok(mut office) => serve_office(alloc, &mut office, day, desk, count, out),
+        Ok(mut office) => serve_at(rt, &mut office, day, port, count, out),
         Err((_, fault)) => Err(table_failure(fault)),
     }
 }
 
 /// Serves connections with an open office, and closes it.
 fn serve_on_files<D: Disk + Drop, O: Write>(
-    alloc: Global,
+    rt: &HostRuntime,
     mut office: Office<FileStore<D>>,
     day: Day,
-    desk: &Desk,
+    port: u16,
     count: u32,
     out: &mut Counted<O>,
-) -> Result<Files<D>, CommandFault> {
-    let served = serve_office(alloc, &mut office, day, desk, count, out);
+) -> Result<Files<D>, CommandFault>
+    ensures told { IfOk result (λ _. TellsPort (O.contents out.old.device) (O.contents out.new.device)) }
+    // The files hold the office that so many connections led to.
+    ensures served { IfOk result (λ files. AreClean D.Disk files.log files.db
+        → (h : History) → IsLegal h → IsKeptBy h (file_state office)
+        → (next : History) × ServesFrom h count next
+        × IsLegal next × HoldsWhere (IsLeftOf next) (image_of D.Disk files)) }
+{
+    let served = serve_at(rt, &mut office, day, port, count, out);
     let closed = close_office(office);
     served?;
     closed
 }
 
-/// Serves connections with the office of the store; `:memory:` is a new one in memory.
+/// Opens the store, takes the port and serves connections there; `:memory:` is a new office in memory.
 pub fn serve_store<S: Start, O: Write>(
     rt: &HostRuntime,
     start: S,
     store: &str,
     day: Day,
-    desk: &Desk,
+    port: u16,
     count: u32,
     out: &mut Counted<O>,
-) -> Result<(), CommandFault> {
+) -> Result<(), CommandFault>
+    ensures { OnOk result (TellsPort (O.contents out.old.device) (O.contents out.new.device)) }
+{
     if store == ":memory:" {
-        return serve_in_memory(rt.alloc(), day, desk, count, out);
+        return serve_in_memory(rt, day, port, count, out);
     }
     let office = open_office(rt, start, store, false)?;
-    serve_on_files(rt.alloc(), office, day, desk, count, out)?;
+    serve_on_files(rt, office, day, port, count, out)?;
     Ok(())
 }

@@ -1,7 +1,7 @@
 //! What is to be done with an office.
 
-ghost use Rattle.std.specs.Prelude.{OnOk};
-ghost use Rattle.office_commands.specs.Tasks.{Does};
+ghost use Rattle.std.specs.Prelude.{◌≡◌, OnOk};
+ghost use Rattle.office_commands.specs.Tasks.{Does, makes_office};
 
 use crate::fault::CommandFault;
 use crate::working::{ask_office, install_policy, replay_under};
@@ -25,7 +25,9 @@ pub enum Task<'a> {
 
 impl Task<'_> {
     /// Whether the office is made where there is none: only where a policy comes with the task.
-    pub fn makes_office(&self) -> bool {
+    pub fn makes_office(&self) -> bool
+        ensures { result ≡ makes_office self.now }
+    {
         matches!(self, Task::Install(_) | Task::Replay(Some(_)))
     }
 }
