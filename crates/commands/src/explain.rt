@@ -82,7 +82,7 @@ fn decision_outcome(
 }
 
 /// What is said of a policy.
-fn policy_outcome(alloc: Global, policy: &Policy, asked: &Asked<'_>) -> Result<Outcome, AllocError>
+fn policy_command(alloc: Global, policy: &Policy, asked: &Asked<'_>) -> Result<Outcome, AllocError>
     ensures { IfOk result (SaysDecision (unlisted_line policy.now asked.now.caller.now)
         (decision_of policy.now.rules (question_on policy.now asked.now))) }
 {
@@ -122,7 +122,7 @@ fn text_outcome(alloc: Global, text: &str, asked: &Asked<'_>) -> Result<Outcome,
         → IfOk result (SaysBadPolicy fault) }
 {
     match read_policy(alloc, text) {
-        Ok(policy) => policy_outcome(alloc, &policy, asked),
+        Ok(policy) => policy_command(alloc, &policy, asked),
         Err(fault) => fault_outcome(alloc, fault),
     }
 }

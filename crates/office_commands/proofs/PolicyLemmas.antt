@@ -6,11 +6,10 @@ use Rattle.bag_text.specs.Answers.{Answers, FailsAs}
 use Rattle.office_core.specs.Policies.{Contents, named_policy_fault, policy_of}
 use Rattle.office_core.specs.declared.policy_fault.PolicyFault.{PolicyFault}
 use Rattle.office_core.specs.declared.policy_fault.PolicyFault.TheVariants.{NotToml, BadVersion, UnknownKey, BadCaller, BadRule, TooMany, Memory}
-use Rattle.commands.specs.Explaining.{HasFault, Spells, bad_policy_text}
+use Rattle.commands.specs.Explaining.{HasFault, Spells, bad_policy_reason, bad_policy_text}
 use Rattle.commands.specs.declared.ending.Ending.TheVariants.{Accepted, Refused}
 use Rattle.office_history.specs.Histories.{History}
-use Rattle.office_commands.specs.Policies.{ComesOfPolicy, IsRead, installed, refused, installed_text}
-use Rattle.office_commands.specs.Texts.{bad_policy_reason}
+use Rattle.office_commands.specs.Policies.{IsRead, SaysOfPolicy, installed, refused, installed_text}
 use Rattle.office_commands.specs.declared.running.PolicyOutcome.{PolicyOutcome}
 use Rattle.office_commands.specs.Answering.{ReplaysFrom, ReplaysInMemory, after_install, made_office}
 
@@ -41,7 +40,7 @@ refused_is_first bytes text (Err fault) same utf8 answers = elim (refusal_is fau
 -- ---- what is said of what was read
 
 pub says_installed : (read : Read) (policy : Contents) (held holds : Option (List ℕ)) → ((bytes : List ℕ) × IsRead bytes read) → read ≡ Ok policy → Appends held holds (installed_text policy)
-    → ComesOfPolicy held holds None Accepted
+    → SaysOfPolicy held holds None Accepted
 says_installed read policy held holds is same writes = installed is.0 policy (subst (IsRead is.0) same is.1) writes refl refl
 
 -- what standard error is to be told
@@ -50,7 +49,7 @@ why outcome = option_map string_bytes outcome.reason
 
 pub says_refused : {E : Type 0} (r : Result PolicyOutcome E) (read : Read) (fault : PolicyFault) (held holds : Option (List ℕ)) → ((bytes : List ℕ) × IsRead bytes read) → read ≡ Err fault
     → OnOk r (Appends held holds (bad_policy_text fault)) → IfOk r (λ outcome. why outcome ≡ Some (bad_policy_reason fault)) → IfOk r (λ outcome. outcome.ending ≡ Refused)
-    → IfOk r (λ outcome. ComesOfPolicy held holds (why outcome) outcome.ending)
+    → IfOk r (λ outcome. SaysOfPolicy held holds (why outcome) outcome.ending)
 says_refused (Ok outcome) read fault held holds is same writes reason ending = refused is.0 fault (subst (IsRead is.0) same is.1) writes reason ending
 says_refused (Err e) read fault held holds is same writes reason ending = tt
 

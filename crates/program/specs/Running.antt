@@ -28,7 +28,7 @@ IsStored reason done = done × (reason ≡ None)
 abbrev pub IsDone : StoreLine → Option (List ℕ) → Option (List ℕ) → Option (List ℕ) → Option (List ℕ) → Option (List ℕ) → Ending → Type 0
 IsDone (Pack folder file) was_left left held holds reason ending = Packs held holds reason ending
 IsDone (Unpack file folder) was_left left held holds reason ending = Unpacks held holds reason ending
-IsDone (Policy store policy) was_left left held holds reason ending = IsStored reason (SaysOfPolicy held holds ending)
+IsDone (Policy store policy) was_left left held holds reason ending = SaysOfPolicy held holds reason ending
 IsDone (Ask store day) was_left left held holds reason ending =
     IsStored reason ((ending ≡ endings.Accepted) × (IsMemory store.now → (next : History) × AsksFrom made_office day next was_left left held holds))
 IsDone (Replay policy store) was_left left held holds reason ending =

@@ -8,7 +8,9 @@ use crate::folders::{pack_folder, unpack_form};
 use crate::stopped::Stopped;
 use commands::Ending;
 use desk_devices::Counted;
-use office_commands::{CommandFault, ask_command, policy_command, replay_command, serve_command};
+use office_commands::{
+    CommandFault, PolicyOutcome, ask_command, policy_command, replay_command, serve_command,
+};
 use sqlite::Start;
 use std::io::{Read, Write};
 use std::rt::HostRuntime;
@@ -23,6 +25,16 @@ fn stored(ended: Result<Ending, CommandFault>) -> Result<Done, Stopped>
             reason: None,
             ending,
         }),
+        Err(fault) => Err(Stopped::Store(fault)),
+    }
+}
+
+/// What an install of a policy comes to.
+fn installed(ended: Result<PolicyOutcome, CommandFault>) -> Result<Done, Stopped>
+    ensures { IfOk result (λ done. ended ≡ Ok (record { reason = done.reason; ending = done.ending })) }
+{
+    match ended {
+        Ok(PolicyOutcome { reason, ending }) => Ok(Done { reason, ending }),
         Err(fault) => Err(Stopped::Store(fault)),
     }
 }
@@ -43,7 +55,7 @@ pub fn perform<S: Start, R: Read, O: Write>(
         StoreLine::Pack { folder, file } => pack_folder(rt, folder, file, out),
         StoreLine::Unpack { file, folder } => unpack_form(rt, file, folder, out),
         StoreLine::Policy { store, policy } => {
-            stored(policy_command(rt, start, store, policy, out))
+            installed(policy_command(rt, start, store, policy, out))
         }
         StoreLine::Ask { store, day } => stored(ask_command(rt, start, store, day, input, out)),
         StoreLine::Replay { policy, store } => {
