@@ -1,6 +1,7 @@
 -- An office that is found in files, and copied into them.
-use Rattle.std.proofs.Common.{◌≡◌, ◌≢◌, ◌∙◌, ℕ, List, [], ◌∷◌, Option, Result, Ok, Err, IfOk, IsErr, IsTrue, true, false, refl, sym, ap, subst}
+use Rattle.std.proofs.Common.{◌≡◌, ◌≢◌, ◌∙◌, ℕ, List, [], ◌∷◌, Option, Result, Ok, Err, IfOk, IsErr, IsTrue, true, false, refl, sym, ap, subst, arith}
 use Rattle.std.proofs.Math.Logic.{∥∥₁_map}
+use Rattle.std.specs.Prelude.{is_err}
 use Rattle.sqlite.specs.Recovery.{Image}
 use Rattle.sqlite.specs.Schema.{Schema}
 use Rattle.sqlite.specs.Table.{Table}
@@ -12,7 +13,7 @@ use Rattle.sqlite.specs.Closing.{IsCopied}
 use Rattle.sqlite.specs.Held.{Held}
 use Rattle.sqlite.specs.Tree.{Trees}
 use Rattle.sqlite.specs.Effect.{Database}
-use Rattle.sqlite.specs.State.{State, HasCleanDisk, Opens, IsLive}
+use Rattle.sqlite.specs.State.{State, HasCleanDisk, Opens, IsLive, Survives}
 use Rattle.sqlite.specs.Start.{FindsIn}
 use Rattle.sqlite.specs.Files.{HoldsDatabase, file_state, image_of, over_files}
 use Rattle.office_rows.specs.Rows.{this_version}
@@ -61,6 +62,25 @@ held_of image s is_open holds next reached =
     ∥∥₁_map holds (λ d. (s.committed.trees, (s.now, kept.0, ap (λ (x : Database). x.trees) kept.1), d))
 
 -- ---- opened
+
+-- what was made or taken, as it was handed on
+pub handed_on : {A F E : Type 0} (opened : Result A F) (r : Result A E) (P : A → Type 0) → IfOk r (λ o. opened ≡ Ok o) → IfOk opened P → IfOk r P
+handed_on opened (Ok o) P same is = subst (λ (m : Result _ _). IfOk m P) same is
+handed_on opened (Err e) P same is = tt
+
+-- a disk that is honest behind a call was so before it
+pub clean_before : {A F E : Type 0} (opened : Result A F) (r : Result A E) (shown : A → State) (s : State) (C : Trees → Type 0) → IfOk r (λ o. opened ≡ Ok o)
+    → IfOk opened (λ o. Survives s (shown o) C) → IfOk r (λ o. HasCleanDisk (shown o) → HasCleanDisk s)
+clean_before opened (Err e) shown s C same survives = tt
+clean_before opened (Ok o) shown s C same survives = λ clean.
+    let kept : Survives s (shown o) C = subst (λ (m : Result _ _). IfOk m (λ o. Survives s (shown o) C)) same survives in omega (arith, clean, kept.clean)
+
+-- what is an office is no failure
+pub not_failed : {A F : Type 0} (opened : Result A F) (x : A) (P : Type 0) → opened ≡ Ok x → IsErr opened → P
+not_failed opened x P is failed = let never : false ≡ true = subst (λ (m : Result _ _). is_err m ≡ true) is failed in absurd (cc)
+
+pub never_opened : {A F E : Type 0} (opened : Result A F) (r : Result A E) (why : F) → opened ≡ Err why → (IsErr opened → IsErr r) → IsErr r
+never_opened opened r why is fails = fails (subst (λ (m : Result _ _). IsErr m) (sym is) refl)
 
 -- an office that is made is made where the files hold none
 pub made_where_none : {A E : Type 0} (r : Result A E) (shown : A → State) (image : Image) (s : State) → IfOk r (λ o. HasCleanDisk (shown o) → HasCleanDisk s) → (s.now.schema ≢ no_schema → IsErr r)

@@ -1,5 +1,5 @@
 -- What a task does over a store that keeps a history, it does from that history.
-use Rattle.std.proofs.Common.{◌≡◌, ℕ, List, Option, Some, None, Result, Ok, Err, OnOk, refl, arith, subst, ap₂, option_copied}
+use Rattle.std.proofs.Common.{◌≡◌, ℕ, List, Option, Some, None, Result, Ok, Err, IfOk, OnOk, refl, arith, subst, ap₂, option_copied}
 use Rattle.std.specs.Io.KnownBytes.{Keeps}
 use Rattle.sqlite.specs.Held.{Held, state}
 use Rattle.sqlite.specs.State.{State, HasCleanDisk, Survives}
@@ -43,12 +43,20 @@ pub made_is_legal : IsLegal made_office
 made_is_legal = new max_limit max_limit (omega arith, omega arith) (omega arith, omega arith)
 
 -- with an office that was just made in memory, whose disk is always clean
-pub done_in_memory : {T E : Type 0} (r : Result T E) (task : Task) (a b : ℕ) (first last : Held MemStore) (was_left left held holds : Option (List ℕ)) → (a ≡ max_limit) × (b ≡ max_limit)
-    → (HasCleanDisk (state over_memory first) → IsKeptBy (new_history a b) (state over_memory first))
+pub made_of : {E F : Type 0} (made : Result (Held MemStore) F) (r : Result (Held MemStore) E) (a b : ℕ) → (a ≡ max_limit) × (b ≡ max_limit) → IfOk r (λ o. made ≡ Ok o)
+    → IfOk made (λ o. HasCleanDisk (state over_memory o) → IsKeptBy (new_history a b) (state over_memory o))
+    → IfOk r (λ o. HasCleanDisk (state over_memory o) → IsKeptBy made_office (state over_memory o))
+made_of made (Err e) a b limits same keeps = tt
+made_of made (Ok o) a b limits same keeps = λ clean.
+    let is : HasCleanDisk (state over_memory o) → IsKeptBy (new_history a b) (state over_memory o)
+            = subst (λ (m : Result (Held MemStore) _). IfOk m (λ x. HasCleanDisk (state over_memory x) → IsKeptBy (new_history a b) (state over_memory x))) same keeps in
+    subst (λ (h : History). IsKeptBy h (state over_memory o)) (ap₂ new_history limits.0 limits.1) (is clean)
+
+pub done_in_memory : {T E : Type 0} (r : Result T E) (task : Task) (first last : Held MemStore) (was_left left held holds : Option (List ℕ))
+    → (HasCleanDisk (state over_memory first) → IsKeptBy made_office (state over_memory first))
     → OnOk r (Does over_memory task first last was_left left held holds)
     → OnOk r ((next : History) × DoesFrom task made_office next was_left left held holds)
-done_in_memory (Err e) task a b first last was_left left held holds limits made does = tt
-done_in_memory (Ok x) task a b first last was_left left held holds limits made does =
-    let kept : IsKeptBy made_office (state over_memory first) = subst (λ (h : History). IsKeptBy h (state over_memory first)) (ap₂ new_history limits.0 limits.1) (made (memory_is_clean first)) in
-    let it = done_from over_memory task first last was_left left held holds does (memory_is_clean last) made_office made_is_legal kept in
+done_in_memory (Err e) task first last was_left left held holds made does = tt
+done_in_memory (Ok x) task first last was_left left held holds made does =
+    let it = done_from over_memory task first last was_left left held holds does (memory_is_clean last) made_office made_is_legal (made (memory_is_clean first)) in
     (it.0, it.1)

@@ -4,8 +4,10 @@ ghost use Rattle.std.specs.Prelude.{◌≡◌, ◌≢◌, false, IfOk, IsErr, On
 ghost use Rattle.std.specs.IoError.{error_kind};
 ghost use Rattle.sqlite.specs.Closing.{IsCopied};
 ghost use Rattle.sqlite.specs.Files.{IsOpened, file_state, image_of};
+ghost use Rattle.sqlite.specs.Held.{state};
 ghost use Rattle.sqlite.specs.Start.{FindsIn};
 ghost use Rattle.sqlite.specs.State.{HasCleanDisk};
+ghost use Rattle.sqlite.specs.Steps.{over_memory};
 ghost use Rattle.sqlite.specs.WalFiles.{image_at};
 ghost use Rattle.sqlite_wal.specs.Reads.{AreClean};
 ghost use Rattle.office_core.specs.Bounds.{max_limit};
@@ -28,7 +30,8 @@ use crate::working::table_failure;
 use http_desk::Counted;
 use office_core::{Day, Limits, MAX_LIMIT};
 use office_engine::Office;
-use sqlite::{Connection, Error, ErrorCode, FileFrom, FileStore, Files, Start};
+use office_tables::TableFault;
+use sqlite::{Alter, Connection, Error, ErrorCode, FileFrom, FileStore, Files, MemStore, Start};
 use sqlite_disk::Disk;
 use std::alloc::Global;
 use std::fs;
@@ -42,6 +45,29 @@ fn limits() -> Limits
     Limits::new(MAX_LIMIT, MAX_LIMIT).unwrap()
 }
 
+/// The office that was made or taken. A database that is none is let go as it is.
+fn opened_office<S: Alter>(
+    opened: Result<Office<S>, (Connection<S>, TableFault)>,
+) -> Result<Office<S>, CommandFault>
+    ensures same { IfOk result (λ office. opened ≡ Ok office) }
+    ensures failed { IsErr opened → IsErr result }
+{
+    match opened {
+        Ok(office) => Ok(office),
+        Err((_, fault)) => Err(table_failure(fault)),
+    }
+}
+
+/// A new office in memory.
+fn made_in_memory(alloc: Global) -> Result<Office<MemStore>, CommandFault>
+    ensures { IfOk result (λ office. HasCleanDisk (state over_memory office) → IsKeptBy made_office (state over_memory office)) }
+{
+    match Connection::open_in_memory(alloc) {
+        Ok(conn) => opened_office(Office::create(conn, limits())),
+        Err(_) => Err(CommandFault::failed(StoreFault::Memory)),
+    }
+}
+
 /// Does the task with a new office in memory.
 fn in_memory<R: Read, O: Write>(
     alloc: Global,
@@ -53,13 +79,8 @@ fn in_memory<R: Read, O: Write>(
         (R.remaining input.old.device) (R.remaining input.new.device)
         (O.contents out.old.device) (O.contents out.new.device)) }
 {
-    let Ok(conn) = Connection::open_in_memory(alloc) else {
-        return Err(CommandFault::failed(StoreFault::Memory));
-    };
-    match Office::create(conn, limits()) {
-        Ok(mut office) => perform(alloc, &mut office, task, input, out),
-        Err((_, fault)) => Err(table_failure(fault)),
-    }
+    let mut office = made_in_memory(alloc)?;
+    perform(alloc, &mut office, task, input, out)
 }
 
 /// A search that failed.
@@ -119,10 +140,7 @@ fn make_office<D: Disk + Drop>(
     ensures clean { IfOk result (λ office. HasCleanDisk (file_state office) → HasCleanDisk (file_state conn)) }
     ensures not_empty { (file_state conn).now.schema ≢ no_schema → IsErr result }
 {
-    match Office::create(conn, limits()) {
-        Ok(office) => Ok(office),
-        Err((_, fault)) => Err(table_failure(fault)),
-    }
+    opened_office(Office::create(conn, limits()))
 }
 
 /// Takes the office that the connection shows.
@@ -134,10 +152,7 @@ fn take_office<D: Disk + Drop>(
     ensures goes_on { IfOk result (λ office. HasCleanDisk (file_state office)
         → (h : History) → IsLeftOf h (file_state conn).now.trees → IsKeptBy h (file_state office)) }
 {
-    match Office::adopt(conn) {
-        Ok(office) => Ok(office),
-        Err((_, fault)) => Err(table_failure(fault)),
-    }
+    opened_office(Office::adopt(conn))
 }
 
 /// Opens the office of the store. Where nothing is there, it is made if that is asked for.
@@ -241,13 +256,8 @@ fn serve_in_memory<O: Write>(
 ) -> Result<(), CommandFault>
     ensures { OnOk result (TellsPort (O.contents out.old.device) (O.contents out.new.device)) }
 {
-    let Ok(conn) = Connection::open_in_memory(rt.alloc()) else {
-        return Err(CommandFault::failed(StoreFault::Memory));
-    };
-    match Office::create(conn, limits()) {
-        Ok(mut office) => serve_at(rt, &mut office, day, port, count, out),
-        Err((_, fault)) => Err(table_failure(fault)),
-    }
+    let mut office = made_in_memory(rt.alloc())?;
+    serve_at(rt, &mut office, day, port, count, out)
 }
 
 /// Serves connections with an open office, and closes it.
