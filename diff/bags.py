@@ -18,7 +18,7 @@ import sys
 import tempfile
 
 TOP = pathlib.Path(__file__).resolve().parent.parent
-DEPOT = os.environ.get("DEPOT", str(TOP / "crates" / "depot" / "out" / "depot"))
+DEPOT = os.environ.get("DEPOT", str(TOP / "crates" / "depot" / "out" / "depot-program"))
 ALGORITHMS = ("sha256", "sha512")
 PIECES = ["a", "b", "Z", "0", "-", "_", ".", " ", "  ", "%", "%%", "%2", "%41", "\n", "\r", "\r\n", "\t", "'", '"', "\\",
           "*", ":", "~", "\x01", "\x7f", "é", "e\u0301", "ß", "中", "\u2028", "\x85", "😀", "Ω"]
