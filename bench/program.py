@@ -165,7 +165,7 @@ def opening(folder):
     file = filled(folder, 100)
     text = head("GET", "/deposits/1")
     for size in (10, 50, 100):
-        large = copy(file, f"{size}.db")
+        large = copy(file, f"large-{size}.db")
         conn = opened(large)
         conn.execute("BEGIN")
         conn.executemany(

@@ -12,6 +12,7 @@ use crate::tool_bag::{SPOILED_TOOL_BAG, TOOL_BAG};
 use commands::{Ending, check_outcome, run};
 use std::alloc::Global;
 use std::process::Abort;
+use std::rt::Files;
 use std::test::*;
 
 /// The transfer form of these files.
@@ -119,7 +120,7 @@ fn faults_of_paths_in_forms(rt: HostRuntime) -> Result<(), Fail> {
 }
 
 /// What a check of these bytes prints on standard output and on standard error, and how it ends.
-fn told(rt: &HostRuntime, bytes: &[u8]) -> (Vec<u8>, Vec<u8>, Ending) {
+fn told<R: Files + AllocGlobal>(rt: &R, bytes: &[u8]) -> (Vec<u8>, Vec<u8>, Ending) {
     let mut input = bytes;
     let mut out = Vec::new(rt.alloc());
     let mut err = Vec::new(rt.alloc());
@@ -129,7 +130,7 @@ fn told(rt: &HostRuntime, bytes: &[u8]) -> (Vec<u8>, Vec<u8>, Ending) {
 }
 
 /// Takes each line of the table on standard output, and why on standard error.
-fn tells_each(rt: &HostRuntime, table: &[Told]) -> Result<(), Fail> {
+fn tells_each<R: Files + AllocGlobal + Abort>(rt: &R, table: &[Told]) -> Result<(), Fail> {
     for (given, line, reason) in table {
         let bytes = bytes_of(rt.alloc(), *given)?;
         let (out, err, ending) = told(rt, bytes.as_slice());
