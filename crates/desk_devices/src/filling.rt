@@ -34,7 +34,7 @@ pub fn fill<R: Read>(
     ensures calm { result ≢ Err FillFault.Read → reader.new.failures ≡ reader.old.failures }
     ensures failed { result ≡ Err FillFault.Read → HasFailed reader.old.failures reader.new.failures }
 {
-    let mut chunk = [0u8; 4096];
+    let mut chunk = [0u8; 16384];
     'fills: while bytes.len() < want {
         match reader.read(&mut chunk) {
             Ok(0) => return Err(FillFault::Truncated),

@@ -1,6 +1,6 @@
-//! Writes an office into a file, which the `sqlite3` command can read, times calls of the tables and
-//! requests to the office, and compares its answers with those of the plain office. With no words it
-//! runs the cases of want of memory.
+//! Writes an office into a file, which the `sqlite3` command can read, times calls of the tables,
+//! requests to the office and the hearing of a request, and compares the office's answers with those of
+//! the plain office. With no words it runs the cases of want of memory.
 #![tactic(auto)]
 
 mod calls;
@@ -9,6 +9,7 @@ mod changes;
 mod comparing;
 mod drawing;
 mod groups;
+mod input;
 mod lines;
 mod office;
 mod offices;
@@ -20,6 +21,7 @@ mod timed;
 
 use anyhow::{Context, Result, bail};
 use comparing::{Tally, compare};
+use input::Input;
 use office_engine::Office;
 use requests::Asked;
 use sqlite::{Alter, Connection};
@@ -28,7 +30,7 @@ use std::time::{Duration, Instant};
 use timed::Call;
 
 const USAGE: &str =
-    "words: none, write FILE, make FILE, draw FILE COUNT SEED, or FILE and COUNT behind one of deposits, read, live, last, ask-deposits, ask-records, ask-disposals, ask-bags, ask-lists and ask-due";
+    "words: none, hear, read-all, write FILE, make FILE, draw FILE COUNT SEED, or FILE and COUNT behind one of deposits, read, live, last, ask-deposits, ask-records, ask-disposals, ask-bags, ask-lists and ask-due";
 
 /// What the words ask for.
 #[derive(Clone, Copy)]
@@ -180,6 +182,9 @@ fn take(rt: &HostRuntime, file: &str, task: Task) -> Result<()> {
 
 /// Does what the words after the program's name ask for.
 fn run(rt: &HostRuntime, words: &[String]) -> Result<()> {
+    if let [_, word] = words {
+        return input::measure(rt, Input::named(word).context(USAGE)?);
+    }
     let (task, file) = read_words(words)?;
     take(rt, file, task)
 }

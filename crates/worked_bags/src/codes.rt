@@ -499,13 +499,14 @@ pub static OXUM_CODES: [Coded; 7] = [
 ];
 
 /// The codes of a form's opening and of its entries.
-pub static ENTRY_CODES: [Coded; 14] = [
+pub static ENTRY_CODES: [Coded; 15] = [
     (Given::Bytes(b"BAGSET 2\nEND\n"), "unreadable S1\n"),
     (Given::Bytes(b"BAGSET 1\r\nEND\n"), "unreadable S1\n"),
     (Given::Bytes(b"BAGSETS"), "unreadable S1\n"),
     // No entry, numbers out of their range where the text ends, and another byte than LF after a content.
     (Given::Bytes(b"BAGSET 1\nEND\r\n"), "unreadable S2 9\n"),
     (Given::Bytes(b"BAGSET 1\nFILE 0"), "unreadable S2 9\n"),
+    (Given::Bytes(b"BAGSET 1\nFILE 1025"), "unreadable S2 9\n"),
     (
         Given::Bytes(b"BAGSET 1\nFILE 1 0\na\nFILE 1 16777217"),
         "unreadable S2 20\n",

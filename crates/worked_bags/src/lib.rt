@@ -458,4 +458,6 @@ mod tests;
 #[cfg(test)]
 mod tests_codes;
 #[cfg(test)]
+mod tests_limits;
+#[cfg(test)]
 mod tool_bag;

@@ -16,7 +16,7 @@ use std::rt::Files;
 use std::test::*;
 
 /// The transfer form of these files.
-fn form_of(alloc: Global, files: &[File]) -> Result<Vec<u8>, Fail> {
+pub fn form_of(alloc: Global, files: &[File]) -> Result<Vec<u8>, Fail> {
     let mut form = Vec::new(alloc);
     form.extend_from_slice(b"BAGSET 1\n")?;
     for (path, content) in files {
@@ -53,7 +53,7 @@ fn bytes_of(alloc: Global, given: Given) -> Result<Vec<u8>, Fail> {
 }
 
 /// Takes this line and this end, and nothing else.
-fn says<R: AllocGlobal + Abort>(
+pub fn says<R: AllocGlobal + Abort>(
     rt: &R,
     bytes: &[u8],
     line: &str,

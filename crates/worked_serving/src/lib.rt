@@ -5,6 +5,8 @@
 #[cfg(test)]
 mod connections;
 #[cfg(test)]
+mod limits;
+#[cfg(test)]
 mod office;
 #[cfg(test)]
 mod peers;

@@ -43,26 +43,44 @@ pub fn opened(alloc: Global) -> Result<Office<MemStore>, Fail> {
     }
 }
 
-/// What serving one request ends with, and what is written. The reader gives a byte a call and fails
-/// from its call behind the last byte on; the writer takes a byte a call and fails from that call on.
+/// How the bytes of a request come, and how those of its answer are taken: in which portions, and by
+/// how many calls until the device fails.
+#[derive(Clone, Copy)]
+pub struct Devices {
+    pub portion: Portion,
+    pub reads: u64,
+    pub writes: u64,
+}
+
+/// What serving one request of 2024-03-01 ends with, and what is written.
 pub fn served<S: Alter>(
     alloc: Global,
     office: &mut Office<S>,
     request: &[u8],
-    calls: u64,
+    devices: Devices,
 ) -> Result<(Result<(), DeskFault>, Vec<u8>), Fail> {
     let day = Day::read("2024-03-01").ok_or("day")?;
-    let reads = u64::try_from(request.len()).map_err(|_| "too long")?;
-    let mut reader = Counted::new(FailAt::new(request, Portion::OneByte, reads));
-    let mut writer = Counted::new(FailAt::new(Vec::new(alloc), Portion::OneByte, calls));
+    let mut reader = Counted::new(FailAt::new(request, devices.portion, devices.reads));
+    let mut writer = Counted::new(FailAt::new(Vec::new(alloc), devices.portion, devices.writes));
     let ended = serve_one(alloc, office, day, &mut reader, &mut writer);
     Ok((ended, writer.device.memory))
+}
+
+/// Devices of one byte a call. The reader fails from its call behind the request's last byte on, the
+/// writer from that call on.
+pub fn narrow(request: &[u8], writes: u64) -> Result<Devices, Fail> {
+    Ok(Devices {
+        portion: Portion::OneByte,
+        reads: u64::try_from(request.len()).map_err(|_| "too long")?,
+        writes,
+    })
 }
 
 /// Puts the cases to the office in turn. Fails where one is answered otherwise.
 pub fn take<S: Alter>(alloc: Global, office: &mut Office<S>, cases: &[Case]) -> Result<(), Fail> {
     for case in cases {
-        let (ended, written) = served(alloc, office, case.request.as_bytes(), u64::MAX)?;
+        let request = case.request.as_bytes();
+        let (ended, written) = served(alloc, office, request, narrow(request, u64::MAX)?)?;
         if ended.is_err() || written != case.answer(alloc)? {
             let text = String::from_utf8_lossy(alloc, &written)?;
             return Err(Fail::new(format_args!("{} is answered {text}", case.request)));

@@ -24,7 +24,7 @@ static TWICE: &str =
 static TWO_ANSWERS: &str =
     "ANS 132\nHTTP/1.1 404 Not Found\r\nContent-Type: application/json\r\nContent-Length: 35\r\nConnection: close\r\n\r\n{\"error\":\"NoSuch\",\"what\":\"deposit\"}\nANS 132\nHTTP/1.1 404 Not Found\r\nContent-Type: application/json\r\nContent-Length: 35\r\nConnection: close\r\n\r\n{\"error\":\"NoSuch\",\"what\":\"deposit\"}\n";
 
-static CASES: [Case; 14] = [
+static CASES: [Case; 18] = [
     Case {
         input: "",
         ends: Ok(0),
@@ -94,6 +94,26 @@ static CASES: [Case; 14] = [
         input: "REQ 2024-03-01 52\nGET /deposits/7/bag HTTP/1.1\r\nDepot-Caller: anna\r\n\r\n\n\nREQ 2024-03-01 52\nGET /deposits/7/bag HTTP/1.1\r\nDepot-Caller: anna\r\n\r\n\n",
         ends: Err(2),
         answers: "ANS 132\nHTTP/1.1 404 Not Found\r\nContent-Type: application/json\r\nContent-Length: 35\r\nConnection: close\r\n\r\n{\"error\":\"NoSuch\",\"what\":\"deposit\"}\n",
+    },
+    Case {
+        input: "REQ 2024-03-01 48\nGET /deposits/7 HTTP/1.1\r\nDepot-Caller: anna\r\n\r\n\nREQ 2024-03-01 48\nGET /deposits/7 HTTP/1.1\r\nDepot-Caller: anna\r\n\r\n",
+        ends: Err(2),
+        answers: "ANS 132\nHTTP/1.1 404 Not Found\r\nContent-Type: application/json\r\nContent-Length: 35\r\nConnection: close\r\n\r\n{\"error\":\"NoSuch\",\"what\":\"deposit\"}\n",
+    },
+    Case {
+        input: "REQ 2024-03-01 336\nPOST /deposits?collection=maps&class=y10&accession=A-1&closed=2024-02-29 HTTP/1.1\r\nDepot-Caller: anna\r\nContent-Length: 210\r\n\r\nBAGSET 1\nFILE 9 54\nbagit.txtBagIt-Version: 1.0\nTag-File-Character-Encoding: UTF-8\n\nFILE 6 3\ndata/aabc\nFILE 19 73\nmanifest-sha256.txtba7816bf8f01cfea414140de5dae2223b00361a396177a9cb410ff61f20015ad  data/a\n\nEND\n\nREQ 2024-03-01 335\nPOST /deposits?collection=tax&class=y10&accession=A-2&closed=2024-02-29 HTTP/1.1\r\nDepot-Caller: anna\r\nContent-Length: 210\r\n\r\nBAGSET 1\nFILE 9 54\nbagit.txtBagIt-Version: 1.0\nTag-File-Character-Encoding: UTF-8\n\nFILE 6 3\ndata/aabc\nFILE 19 73\nmanifest-sha256.txtba7816bf8f01cfea414140de5dae2223b00361a396177a9cb410ff61f20015ad  data/a\n\nEND\n\nREQ 2024-03-01 335\nPOST /deposits?collection=maps&class=y1&accession=A-3&closed=2024-02-29 HTTP/1.1\r\nDepot-Caller: anna\r\nContent-Length: 210\r\n\r\nBAGSET 1\nFILE 9 54\nbagit.txtBagIt-Version: 1.0\nTag-File-Character-Encoding: UTF-8\n\nFILE 6 3\ndata/aabc\nFILE 19 73\nmanifest-sha256.txtba7816bf8f01cfea414140de5dae2223b00361a396177a9cb410ff61f20015ad  data/a\n\nEND\n\n",
+        ends: Ok(3),
+        answers: "ANS 108\nHTTP/1.1 201 Created\r\nContent-Type: application/json\r\nContent-Length: 13\r\nConnection: close\r\n\r\n{\"deposit\":1}\nANS 108\nHTTP/1.1 201 Created\r\nContent-Type: application/json\r\nContent-Length: 13\r\nConnection: close\r\n\r\n{\"deposit\":2}\nANS 108\nHTTP/1.1 201 Created\r\nContent-Type: application/json\r\nContent-Length: 13\r\nConnection: close\r\n\r\n{\"deposit\":3}\n",
+    },
+    Case {
+        input: "REQ 2024-03-01 46\nGET /deposits HTTP/1.1\r\nDepot-Caller: carl\r\n\r\n\n",
+        ends: Ok(1),
+        answers: "ANS 408\nHTTP/1.1 200 OK\r\nContent-Type: application/json\r\nContent-Length: 317\r\nConnection: close\r\n\r\n{\"deposits\":[{\"accession\":\"A-1\",\"bytes\":3,\"class\":\"y10\",\"closed\":\"2024-02-29\",\"collection\":\"maps\",\"deposit\":1,\"deposited\":\"2024-03-01\",\"due\":\"2034-02-28\",\"files\":1},{\"accession\":\"A-2\",\"bytes\":3,\"class\":\"y10\",\"closed\":\"2024-02-29\",\"collection\":\"tax\",\"deposit\":2,\"deposited\":\"2024-03-01\",\"due\":\"2034-02-28\",\"files\":1}]}\n",
+    },
+    Case {
+        input: "REQ 2024-03-05 41\nGET /due HTTP/1.1\r\nDepot-Caller: anna\r\n\r\n\nREQ 2024-03-01 80\nPUT /classes/y10 HTTP/1.1\r\nDepot-Caller: anna\r\nContent-Length: 11\r\n\r\n{\"years\":0}\nREQ 2024-03-05 41\nGET /due HTTP/1.1\r\nDepot-Caller: anna\r\n\r\n\n",
+        ends: Ok(3),
+        answers: "ANS 124\nHTTP/1.1 200 OK\r\nContent-Type: application/json\r\nContent-Length: 34\r\nConnection: close\r\n\r\n{\"day\":\"2024-03-05\",\"deposits\":[]}\nANS 115\nHTTP/1.1 200 OK\r\nContent-Type: application/json\r\nContent-Length: 25\r\nConnection: close\r\n\r\n{\"class\":\"y10\",\"years\":0}\nANS 125\nHTTP/1.1 200 OK\r\nContent-Type: application/json\r\nContent-Length: 35\r\nConnection: close\r\n\r\n{\"day\":\"2024-03-05\",\"deposits\":[1]}\n",
     },
 ];
 
@@ -192,6 +212,20 @@ fn take_failed_writes<S: Alter>(alloc: Global, office: &mut Office<S>) -> Result
     Ok(())
 }
 
+/// With one call more than the last that a replay stops at, the reader tells its end, or the writer has all
+/// answers.
+fn take_last_calls<S: Alter>(alloc: Global, office: &mut Office<S>) -> Result<(), Fail> {
+    let calls = Calls {
+        reads: 143,
+        writes: 282,
+    };
+    let (ended, written) = replayed(alloc, office, TWICE, calls);
+    if ended != Ok(2) || written.as_slice() != TWO_ANSWERS.as_bytes() {
+        return Err("just as many calls as a replay makes".into());
+    }
+    Ok(())
+}
+
 /// Replays of whole and of torn records, and a reader and a writer that fail at each of their calls.
 #[test]
 fn records_replayed(rt: HostRuntime) -> Result<(), Fail> {
@@ -199,5 +233,6 @@ fn records_replayed(rt: HostRuntime) -> Result<(), Fail> {
     let mut office = opened(alloc)?;
     take_cases(alloc, &mut office)?;
     take_failed_reads(alloc, &mut office)?;
-    take_failed_writes(alloc, &mut office)
+    take_failed_writes(alloc, &mut office)?;
+    take_last_calls(alloc, &mut office)
 }

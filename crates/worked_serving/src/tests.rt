@@ -1,13 +1,14 @@
 //! Requests and their answers, byte by byte, worked out by hand from `docs/HTTP.md`.
 
-use crate::office::{Case, opened, served, take};
+use crate::limits::take_limits;
+use crate::office::{Case, narrow, opened, served, take};
 use http_desk::DeskFault;
 use office_engine::Office;
 use sqlite::Alter;
 use std::alloc::Global;
 use std::test::*;
 
-static DAY: [Case; 28] = [
+static DAY: [Case; 38] = [
     Case {
         request: "GET /deposits/7/bag HTTP/1.1\r\nDepot-Caller: anna\r\n\r\n",
         status: "HTTP/1.1 404 Not Found",
@@ -103,6 +104,66 @@ static DAY: [Case; 28] = [
         status: "HTTP/1.1 200 OK",
         fields: "Content-Type: application/json\r\nContent-Length: 76\r\n",
         body: "{\"bytes\":3,\"deposit\":1,\"files\":1,\"manifests\":1,\"valid\":true,\"version\":\"1.0\"}",
+    },
+    Case {
+        request: "GET /deposits/1 HTTP/1.1\r\nDepot-Caller: carl\r\n\r\n",
+        status: "HTTP/1.1 403 Forbidden",
+        fields: "Content-Type: application/json\r\nContent-Length: 35\r\n",
+        body: "{\"error\":\"Denied\",\"rule\":\"default\"}",
+    },
+    Case {
+        request: "GET /deposits/1/audit HTTP/1.1\r\nDepot-Caller: carl\r\n\r\n",
+        status: "HTTP/1.1 403 Forbidden",
+        fields: "Content-Type: application/json\r\nContent-Length: 35\r\n",
+        body: "{\"error\":\"Denied\",\"rule\":\"default\"}",
+    },
+    Case {
+        request: "GET /deposits/1/holds HTTP/1.1\r\nDepot-Caller: carl\r\n\r\n",
+        status: "HTTP/1.1 403 Forbidden",
+        fields: "Content-Type: application/json\r\nContent-Length: 35\r\n",
+        body: "{\"error\":\"Denied\",\"rule\":\"default\"}",
+    },
+    Case {
+        request: "GET /deposits/1/holds HTTP/1.1\r\nDepot-Caller: anna\r\n\r\n",
+        status: "HTTP/1.1 200 OK",
+        fields: "Content-Type: application/json\r\nContent-Length: 12\r\n",
+        body: "{\"holds\":[]}",
+    },
+    Case {
+        request: "GET /deposits?collection=x HTTP/1.1\r\nDepot-Caller: anna\r\n\r\n",
+        status: "HTTP/1.1 200 OK",
+        fields: "Content-Type: application/json\r\nContent-Length: 15\r\n",
+        body: "{\"deposits\":[]}",
+    },
+    Case {
+        request: "POST /holds HTTP/1.1\r\nDepot-Caller: anna\r\nContent-Length: 36\r\n\r\n{\"collection\":\"x\",\"matter\":\"Case 7\"}",
+        status: "HTTP/1.1 404 Not Found",
+        fields: "Content-Type: application/json\r\nContent-Length: 38\r\n",
+        body: "{\"error\":\"NoSuch\",\"what\":\"collection\"}",
+    },
+    Case {
+        request: "POST /deposits?collection=maps&class=y10&accession=A-2&closed=2024-02-29 HTTP/1.1\r\nDepot-Caller: anna\r\nContent-Length: 221\r\n\r\nBAGSET 1\nFILE 9 54\nbagit.txtBagIt-Version: 1.0\nTag-File-Character-Encoding: UTF-8\n\nFILE 10 3\ndata/a%0Ababc\nFILE 19 79\nmanifest-sha256.txtba7816bf8f01cfea414140de5dae2223b00361a396177a9cb410ff61f20015ad  data/a%250Ab\n\nEND\n",
+        status: "HTTP/1.1 201 Created",
+        fields: "Content-Type: application/json\r\nContent-Length: 13\r\n",
+        body: "{\"deposit\":2}",
+    },
+    Case {
+        request: "GET /deposits/2/files/data/a%250Ab HTTP/1.1\r\nDepot-Caller: anna\r\n\r\n",
+        status: "HTTP/1.1 200 OK",
+        fields: "Content-Type: application/octet-stream\r\nContent-Length: 3\r\n",
+        body: "abc",
+    },
+    Case {
+        request: "GET /deposits/2/files/data/b HTTP/1.1\r\nDepot-Caller: anna\r\n\r\n",
+        status: "HTTP/1.1 404 Not Found",
+        fields: "Content-Type: application/json\r\nContent-Length: 18\r\n",
+        body: "{\"error\":\"NoFile\"}",
+    },
+    Case {
+        request: "GET /deposits/2/files/data/a%250Ab HTTP/1.1\r\nDepot-Caller: carl\r\n\r\n",
+        status: "HTTP/1.1 403 Forbidden",
+        fields: "Content-Type: application/json\r\nContent-Length: 35\r\n",
+        body: "{\"error\":\"Denied\",\"rule\":\"default\"}",
     },
     Case {
         request: "POST /holds HTTP/1.1\r\nDepot-Caller: anna\r\nContent-Length: 39\r\n\r\n{\"collection\":\"maps\",\"matter\":\"Case 7\"}",
@@ -269,7 +330,7 @@ static REFUSED: [Case; 14] = [
 fn take_beginnings<S: Alter>(alloc: Global, office: &mut Office<S>) -> Result<(), Fail> {
     for length in 0..52_usize {
         let request = &DAY[0].request.as_bytes()[..length];
-        let (ended, written) = served(alloc, office, request, u64::MAX)?;
+        let (ended, written) = served(alloc, office, request, narrow(request, u64::MAX)?)?;
         if ended != Err(DeskFault::Read) || !written.is_empty() {
             return Err(Fail::new(format_args!("{length} bytes are heard")));
         }
@@ -279,13 +340,15 @@ fn take_beginnings<S: Alter>(alloc: Global, office: &mut Office<S>) -> Result<()
 
 /// A writer that fails after some bytes has a beginning of the answer, and the office has the change.
 fn take_failed_writes<S: Alter>(alloc: Global, office: &mut Office<S>) -> Result<(), Fail> {
-    let (ended, written) = served(alloc, office, DAY[5].request.as_bytes(), 17)?;
+    let request = DAY[5].request.as_bytes();
+    let (ended, written) = served(alloc, office, request, narrow(request, 17)?)?;
     if ended != Err(DeskFault::Write { done: true })
         || written.as_slice() != "HTTP/1.1 201 Crea".as_bytes()
     {
         return Err("a deposit whose answer failed".into());
     }
-    let (ended, _) = served(alloc, office, REFUSED[3].request.as_bytes(), 0)?;
+    let request = REFUSED[3].request.as_bytes();
+    let (ended, _) = served(alloc, office, request, narrow(request, 0)?)?;
     if ended != Err(DeskFault::Write { done: false }) {
         return Err("a refusal that failed".into());
     }
@@ -293,7 +356,7 @@ fn take_failed_writes<S: Alter>(alloc: Global, office: &mut Office<S>) -> Result
 }
 
 /// What the desk refuses, what it doesn't hear, a day of an office, and writers that fail. The reader
-/// fails behind the last byte of each request, and is not asked for more.
+/// fails behind the last byte of each request, and is not asked for more. Then requests at the limits.
 #[test]
 fn bytes_put_to_an_office(rt: HostRuntime) -> Result<(), Fail> {
     let alloc = rt.alloc();
@@ -302,5 +365,6 @@ fn bytes_put_to_an_office(rt: HostRuntime) -> Result<(), Fail> {
     take_beginnings(alloc, &mut office)?;
     take(alloc, &mut office, &DAY[..5])?;
     take_failed_writes(alloc, &mut office)?;
-    take(alloc, &mut office, &DAY[6..])
+    take(alloc, &mut office, &DAY[6..])?;
+    take_limits(alloc, &mut office)
 }
