@@ -1,0 +1,215 @@
+#!/usr/bin/env python3
+"""Has the built programs run while one allocation is refused: the first, then the second, and so on, until
+a run has none left to refuse. `cc` compiles a small library whose `malloc`, `calloc` and `realloc` come
+before those of the C library (`LD_PRELOAD`). Each run ends by itself, and prints nothing wrong:
+
+`desk`: `depot replay` over memory of a session of records, each sent twice in a row. A request has the
+answer of the session that nothing is refused to, or 503, and then it has done nothing: the next time it
+has the answer that it would have had. Or the program ends with `memory`, and what was answered before.
+
+`bags`, `office`, `tables`, `stored`: the cases of `crates/office_file`, each of which comes out as worked
+out, or with want of memory.
+
+Words: the groups, all if left out; `GROUP FIRST LAST` refuses the allocations from the first to the last
+alone. DEPOT and OFFICE_FILE name other programs than those in `crates/depot/out` and
+`crates/office_file/out`, which have to be built.
+"""
+import os
+import pathlib
+import subprocess
+import sys
+import tempfile
+
+TOP = pathlib.Path(__file__).resolve().parent.parent
+DEPOT = os.environ.get("DEPOT", str(TOP / "crates/depot/out/depot-program"))
+OFFICE_FILE = os.environ.get("OFFICE_FILE", str(TOP / "crates/office_file/out/office_file"))
+POLICY = TOP / "examples/policy.toml"
+LAST = 100_000
+
+# Refuses the allocation whose number the environment has, counted from the start of the program, and says
+# that there was one by a byte on the descriptor that the environment has.
+LIBRARY = r"""
+#include <stdlib.h>
+#include <unistd.h>
+extern void *__libc_malloc(size_t);
+extern void *__libc_calloc(size_t, size_t);
+extern void *__libc_realloc(void *, size_t);
+static long left;
+static int told;
+__attribute__((constructor)) static void begin(void) {
+    left = atol(getenv("REFUSED"));
+    told = atoi(getenv("TOLD"));
+}
+static int refused(void) { return left > 0 && --left == 0 && write(told, "x", 1) == 1; }
+void *malloc(size_t size) { return refused() ? NULL : __libc_malloc(size); }
+void *calloc(size_t count, size_t size) { return refused() ? NULL : __libc_calloc(count, size); }
+void *realloc(void *old, size_t size) { return refused() ? NULL : __libc_realloc(old, size); }
+"""
+
+
+def compiled(folder):
+    """The library, compiled."""
+    source, made = folder / "refusing.c", folder / "refusing.so"
+    source.write_text(LIBRARY)
+    subprocess.run(["cc", "-shared", "-fPIC", "-O1", "-o", made, source], check=True)
+    return made
+
+
+def run(library, number, words, given):
+    """How the program ends while this allocation is refused, or none where the number is 0, and whether there was one."""
+    reader, writer = os.pipe()
+    names = {"LD_PRELOAD": library, "REFUSED": number, "TOLD": writer, "PATH": "/usr/bin:/bin"}
+    ended = subprocess.run(
+        list(map(str, words)), input=given, capture_output=True, pass_fds=[writer], timeout=60,
+        env={name: str(it) for name, it in names.items()})
+    os.close(writer)
+    with os.fdopen(reader, "rb") as file:
+        return ended, bool(file.read())
+
+
+def record(day, caller, line, body=b""):
+    """The record of a request."""
+    head = f"{line} HTTP/1.1\r\nDepot-Caller: {caller}\r\n"
+    if body:
+        head += f"Content-Length: {len(body)}\r\n"
+    text = (head + "\r\n").encode() + body
+    return b"REQ %s %d\n" % (day.encode(), len(text)) + text + b"\n"
+
+
+def session():
+    """Records of every route, of a refusal of the office and of refusals of the desk."""
+    bag = (TOP / "examples/bag-a.bagset").read_bytes()
+    deposit = "POST /deposits?collection=maps&class=y1&accession=A-1&closed=2024-02-29"
+    early, late = "2024-03-01", "2025-02-28"
+    return [
+        record(early, "anna", "PUT /classes/y1", b'{"years":1}'),
+        record(early, "anna", "PUT /collections/maps"),
+        record(early, "anna", deposit, bag),
+        record(early, "anna", deposit.replace("A-1", "A-2"), bag[:-4]),
+        record(early, "anna", "GET /deposits?collection=maps&class=y1"),
+        record(early, "anna", "GET /deposits/1"),
+        record(early, "anna", "GET /deposits/1/bag"),
+        record(early, "anna", "GET /deposits/1/files/data/%61"),
+        record(early, "anna", "GET /deposits/1/audit"),
+        record(early, "carl", "GET /deposits/1/bag"),
+        record(early, "anna", "GET /nothing"),
+        record(early, "anna", "PUT /deposits"),
+        record(early, "anna", "POST /holds", b'{"collection":"maps","matter":"Case 7"}'),
+        record(early, "anna", "GET /deposits/1/holds"),
+        record(late, "anna", "GET /due"),
+        record(late, "anna", "DELETE /deposits/1"),
+        record(late, "anna", "DELETE /holds/1"),
+    ]
+
+
+def answers(written):
+    """The answers of a replay, one behind the other, and what follows the last whole one."""
+    found = []
+    while b"\n" in written:
+        head, rest = written.split(b"\n", 1)
+        length = int(head.split()[-1]) if head.startswith(b"ANS ") else -1
+        if length < 0 or rest[length:length + 1] != b"\n":
+            break
+        found.append(rest[:length])
+        written = rest[length + 1:]
+    return found, written
+
+
+def is_wanting(answer):
+    """Whether the office or the desk answers that memory or the store failed."""
+    return answer.startswith(b"HTTP/1.1 503 ") and answer.endswith((b'{"error":"Memory"}', b'{"error":"Store"}'))
+
+
+def fault_of_replay(ended, wanted):
+    """What is wrong with the end of a replay, if anything is: `wanted` has the two answers of each record."""
+    found, rest = answers(ended.stdout)
+    wants, has_store_failed = 0, False
+    for place in range(0, len(found), 2):
+        times = 0
+        for answer in found[place:place + 2]:
+            if is_wanting(answer):
+                wants += not has_store_failed
+                has_store_failed |= answer.endswith(b'{"error":"Store"}')
+            elif answer in wanted[place // 2][times:times + 1]:
+                times += 1
+            else:
+                return f"request {place // 2 + 1} is answered {answer!r}"
+    if wants > 1:
+        return f"{wants} requests wanted memory"
+    if ended.returncode == 0:
+        return None if len(found) == 2 * len(wanted) and not rest else "answers are missing"
+    if ended.returncode == 3 and ended.stderr.split(b"\n")[0] in (b"memory", b"device"):
+        return None
+    return f"it ended with {ended.returncode} and {ended.stderr!r}"
+
+
+def desk(library, first, last):
+    """A session over the desk."""
+    given = b"".join(it * 2 for it in session())
+    words = [DEPOT, "replay", "--policy", POLICY, ":memory:"]
+    plain = run(library, 0, words, given)[0]
+    found, rest = answers(plain.stdout)
+    if plain.returncode != 0 or rest or len(found) != 2 * len(session()):
+        sys.exit(f"desk: with all memory it ends with {plain.returncode}, {plain.stderr!r}, {len(found)} answers")
+    wanted = list(zip(found[::2], found[1::2]))
+    tally = {"ended": 0, "answered": 0, "did without": 0}
+    for number in range(first, last + 1):
+        ended, was_refused = run(library, number, words, given)
+        if not was_refused:
+            break
+        why = fault_of_replay(ended, wanted)
+        if why:
+            sys.exit(f"desk, allocation {number}: {why}")
+        wants = any(is_wanting(it) for it in answers(ended.stdout)[0])
+        tally["ended" if ended.returncode else "answered" if wants else "did without"] += 1
+    said = f"{tally['answered']} answered with 503, {tally['ended']} ended the program, {tally['did without']} made no difference"
+    print(f"desk: {len(wanted)} requests, {sum(tally.values())} allocations refused: {said}", flush=True)
+
+
+def cases(group):
+    """The trial of a group of cases."""
+
+    def trial(library, first, last):
+        words, given = [OFFICE_FILE], group.encode()
+        plain = run(library, 0, words, given)[0]
+        count = plain.stdout.count(b": as worked out\n")
+        if plain.returncode != 0 or plain.stdout.count(b"\n") != count:
+            sys.exit(f"{group}: with all memory it ends with {plain.returncode} and {plain.stdout!r}")
+        refused = without = 0
+        for number in range(first, last + 1):
+            ended, was_refused = run(library, number, words, given)
+            if not was_refused:
+                break
+            lines = [it for it in ended.stdout.split(b"\n") if it and it != b"a database: want of memory"]
+            wants = sum(it.endswith(b": want of memory") for it in lines)
+            fits = all(it.endswith((b": as worked out", b": want of memory")) for it in lines)
+            if ended.returncode != 0 or not fits or len(lines) != count:
+                sys.exit(f"{group}, allocation {number}: it ended with {ended.returncode}, {ended.stdout!r} {ended.stderr!r}")
+            refused += 1
+            without += wants == 0 and len(lines) == ended.stdout.count(b"\n")
+        print(f"{group}: {count} cases, {refused} allocations refused, {without} of them made no difference", flush=True)
+
+    return trial
+
+
+GROUPS = {"desk": desk, **{it: cases(it) for it in ("bags", "office", "tables", "stored")}}
+
+
+def main():
+    words = sys.argv[1:]
+    first, last = 1, LAST
+    if len(words) == 3 and words[1].isdigit() and words[2].isdigit():
+        first, last = int(words[1]), int(words[2])
+        words = words[:1]
+    names = words or list(GROUPS)
+    if any(it not in GROUPS for it in names):
+        sys.exit("the groups are " + ", ".join(GROUPS))
+    with tempfile.TemporaryDirectory() as folder:
+        library = compiled(pathlib.Path(folder))
+        for name in names:
+            GROUPS[name](library, first, last)
+    print("no run printed anything wrong")
+
+
+if __name__ == "__main__":
+    main()
