@@ -44,6 +44,10 @@ BeginsWith text old new = (more : List ℕ) × Appends old new (text ++ more)
 abbrev pub IsCutShort : List ℕ → Option (List ℕ) → Option (List ℕ) → Type 0
 IsCutShort text old new = (count : ℕ) × Appends old new (take count text)
 
+-- more may come
+abbrev pub MayGrow : Option (List ℕ) → Option (List ℕ) → Type 0
+MayGrow old new = (more : List ℕ) × Appends old new more
+
 -- ---- why an answer is what it is
 
 -- Where there is no reason, standard error is left alone, and the program ends in this way. Else the reason comes behind what standard error held,

@@ -8,6 +8,7 @@ mod explain;
 mod line;
 mod outcome;
 mod program;
+mod trouble;
 mod use_fault;
 mod words;
 

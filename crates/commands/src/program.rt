@@ -12,7 +12,6 @@ ghost use Rattle.commands.specs.Checking.{Says, too_many};
 ghost use Rattle.commands.specs.Explaining.{Explains};
 ghost use Rattle.commands.specs.declared.program.Failure.{Failure};
 ghost use Rattle.commands.specs.declared.ending.Ending.TheVariants.{Failed, Misused, Unsaid};
-ghost use Rattle.commands.specs.declared.program.Failure.TheVariants.{Memory};
 
 use crate::asking::Asked;
 use crate::check::{MAX_BYTES, check_outcome};
@@ -20,8 +19,9 @@ use crate::ending::Ending;
 use crate::explain::explain_outcome;
 use crate::line::{Line, read_line};
 use crate::outcome::Outcome;
+use crate::trouble::{Tried, Trouble, report};
 use crate::use_fault::UseFault;
-use std::alloc::{AllocError, Global};
+use std::alloc::Global;
 use std::io::{Error, ErrorKind, Read, Write};
 use std::rt::Files;
 use std::{fs, io};
@@ -58,16 +58,8 @@ impl From<Error> for Failure {
     }
 }
 
-impl From<AllocError> for Failure {
-    ghost from_gives = { λ _ failure. failure ≡ Memory };
-
-    fn from(_error: AllocError) -> Failure {
-        Failure::Memory
-    }
-}
-
 /// Reads the input to its end, or as many bytes as are wanted at most.
-fn read_bytes<R: Read>(alloc: Global, input: &mut R) -> Result<Vec<u8>, Failure>
+fn read_bytes<R: Read>(alloc: Global, input: &mut R) -> Result<Vec<u8>, Trouble>
     ensures { IfOk result (λ bytes. IfSome (R.remaining input.old)
         (λ given. bytes.items ≡ take too_many given)) }
 {
@@ -77,7 +69,7 @@ fn read_bytes<R: Read>(alloc: Global, input: &mut R) -> Result<Vec<u8>, Failure>
 }
 
 /// Reads the input to its end.
-fn read_all<R: Read>(alloc: Global, input: &mut R) -> Result<Vec<u8>, Failure>
+fn read_all<R: Read>(alloc: Global, input: &mut R) -> Result<Vec<u8>, Trouble>
     ensures { IfOk result (λ bytes. IfSome (R.remaining input.old) (λ given. bytes.items ≡ given)) }
 {
     let mut bytes = Vec::new(alloc);
@@ -110,7 +102,7 @@ pub fn write_text<W: Write>(text: &str, out: &mut W) -> io::Result<()>
 }
 
 /// Judges the bag whose form the reader gives.
-fn judge<R: Read>(alloc: Global, form: &mut R) -> Result<Outcome, Failure>
+fn judge<R: Read>(alloc: Global, form: &mut R) -> Result<Outcome, Trouble>
     ensures says { IfOk result (λ outcome. (bytes : List ℕ) × Says bytes outcome) }
     ensures form { IfSome (R.remaining form.old) (λ given.
         IfOk result (Says (take too_many given))) }
@@ -124,7 +116,7 @@ fn check<F: Files + AllocGlobal, R: Read>(
     rt: &F,
     file: &str,
     input: &mut R,
-) -> Result<Outcome, Failure>
+) -> Result<Outcome, Trouble>
     ensures says { IfOk result (λ outcome. (bytes : List ℕ) × Says bytes outcome) }
     ensures input { file.now ≡ codes "-" → IfSome (R.remaining input.old) (λ given.
         IfOk result (Says (take too_many given))) }
@@ -142,7 +134,7 @@ fn explain_policy<R: Read>(
     alloc: Global,
     asked: &Asked<'_>,
     policy: &mut R,
-) -> Result<Outcome, Failure>
+) -> Result<Outcome, Trouble>
     ensures says { IfOk result (λ outcome. (bytes : List ℕ) × Explains bytes asked.now outcome) }
     ensures policy { IfSome (R.remaining policy.old) (λ given.
         IfOk result (Explains given asked.now)) }
@@ -152,7 +144,7 @@ fn explain_policy<R: Read>(
 }
 
 /// `explain`: says which rule of the policy in the file decides.
-fn explain<F: Files + AllocGlobal>(rt: &F, asked: &Asked<'_>) -> Result<Outcome, Failure>
+fn explain<F: Files + AllocGlobal>(rt: &F, asked: &Asked<'_>) -> Result<Outcome, Trouble>
     ensures { IfOk result (λ outcome. (bytes : List ℕ) × Explains bytes asked.now outcome) }
 {
     let mut policy = fs::open(rt, asked.policy)?;
@@ -164,7 +156,7 @@ fn answer<F: Files + AllocGlobal, R: Read>(
     rt: &F,
     line: Line<'_>,
     input: &mut R,
-) -> Result<Outcome, Failure>
+) -> Result<Outcome, Trouble>
     ensures says { IfOk result (SaysOf line.entry) }
     ensures judged { IsCheckOf (codes "-") line.entry → IfSome (R.remaining input.old) (λ given.
         IfOk result (Says (take too_many given))) }
@@ -222,7 +214,7 @@ pub fn fail<E: Write>(failure: Failure, err: &mut E) -> Ending
 }
 
 /// Prints what is said, and tells standard error why.
-fn say<O: Write, E: Write>(outcome: &Outcome, out: &mut O, err: &mut E) -> Ending
+fn say<O: Write, E: Write>(alloc: Global, outcome: &Outcome, out: &mut O, err: &mut E) -> Ending
     requires { IsAnswer outcome.now.ending }
     ensures ends { UnlessFailed result (Ends outcome.now (O.contents out.old) (O.contents out.new)
         (E.contents err.old) (E.contents err.new) (err.new ≡ err.old) result) }
@@ -234,7 +226,7 @@ fn say<O: Write, E: Write>(outcome: &Outcome, out: &mut O, err: &mut E) -> Endin
 {
     match write_text(outcome.text.as_str(), out) {
         Ok(()) => tell_why(&outcome.reason, outcome.ending, err),
-        Err(error) => fail(Failure::from(error), err),
+        Err(error) => report(alloc, Tried::Output, Trouble::from(error), err),
     }
 }
 
@@ -278,10 +270,13 @@ pub fn run<F: Files + AllocGlobal, R: Read, O: Write, E: Write>(
         × IsCutShort text (E.contents err.old) (E.contents err.new) }
 {
     match read_line(rt.alloc(), words) {
-        Ok(line) => match answer(rt, line, input) {
-            Ok(outcome) => say(&outcome, out, err),
-            Err(failure) => fail(failure, err),
-        },
+        Ok(line) => {
+            let tried = Tried::reading(&line);
+            match answer(rt, line, input) {
+                Ok(outcome) => say(rt.alloc(), &outcome, out, err),
+                Err(trouble) => report(rt.alloc(), tried, trouble, err),
+            }
+        }
         Err(UseFault::Use(reason)) => refuse(reason.as_str(), err),
         Err(UseFault::Memory) => fail(Failure::Memory, err),
     }

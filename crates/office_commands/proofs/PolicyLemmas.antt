@@ -6,11 +6,10 @@ use Rattle.bag_text.specs.Answers.{Answers, FailsAs}
 use Rattle.office_core.specs.Policies.{Contents, named_policy_fault, policy_of}
 use Rattle.office_core.specs.declared.policy_fault.PolicyFault.{PolicyFault}
 use Rattle.office_core.specs.declared.policy_fault.PolicyFault.TheVariants.{NotToml, BadVersion, UnknownKey, BadCaller, BadRule, TooMany, Memory}
-use Rattle.commands.specs.Explaining.{HasFault, Spells, bad_policy_text}
+use Rattle.commands.specs.Explaining.{HasFault, Spells, bad_policy_reason, bad_policy_text}
 use Rattle.commands.specs.declared.ending.Ending.TheVariants.{Accepted, Refused}
 use Rattle.office_history.specs.Histories.{History}
 use Rattle.office_commands.specs.Policies.{ComesOfPolicy, IsRead, installed, refused, installed_text}
-use Rattle.office_commands.specs.Texts.{bad_policy_reason}
 use Rattle.office_commands.specs.declared.running.PolicyOutcome.{PolicyOutcome}
 use Rattle.office_commands.specs.Answering.{ReplaysFrom, ReplaysInMemory, after_install, made_office}
 

@@ -5,8 +5,7 @@ use Rattle.commands.specs.declared.ending.Ending.{Ending}
 use Rattle.commands.specs.declared.ending.Ending.TheVariants.{Accepted, Refused}
 use Rattle.office_core.specs.Policies.{Contents}
 use Rattle.office_core.specs.declared.policy_fault.PolicyFault.{PolicyFault}
-use Rattle.commands.specs.Explaining.{HasFault, Spells, bad_policy_text}
-use Rattle.office_commands.specs.Texts.{bad_policy_reason}
+use Rattle.commands.specs.Explaining.{HasFault, Spells, bad_policy_reason, bad_policy_text}
 
 -- they are the text of this policy, or this is their first fault
 abbrev pub IsRead : List ℕ → Result Contents PolicyFault → Type 0
@@ -21,7 +20,3 @@ pub data ComesOfPolicy (held holds reason : Option (List ℕ)) (ending : Ending)
   installed : (bytes : List ℕ) (policy : Contents) → Spells bytes policy → Appends held holds (installed_text policy) → reason ≡ None → ending ≡ Accepted → ComesOfPolicy held holds reason ending
   refused : (bytes : List ℕ) (fault : PolicyFault) → HasFault bytes fault → Appends held holds (bad_policy_text fault) → reason ≡ Some (bad_policy_reason fault) → ending ≡ Refused
       → ComesOfPolicy held holds reason ending
-
--- the same, whatever standard error is to be told
-pub data SaysOfPolicy (held holds : Option (List ℕ)) (ending : Ending) : Type 0 where
-  says : (reason : Option (List ℕ)) → ComesOfPolicy held holds reason ending → SaysOfPolicy held holds ending

@@ -1,10 +1,8 @@
 -- What the commands on a store print, and how the program ends.
 use Rattle.std.specs.Prelude.{◌++◌, ◌∷◌, [], ℕ, List, codes, decimal}
-use Rattle.commands.specs.Explaining.{bad_policy_text}
+use Rattle.commands.specs.Explaining.{bad_policy_reason, bad_policy_text}
 use Rattle.commands.specs.declared.ending.Ending.{Ending}
 use Rattle.commands.specs.declared.ending.Ending.TheVariants as endings
-use Rattle.fault_words.specs.FaultWords.{policy_words}
-use Rattle.office_core.specs.declared.policy_fault.PolicyFault.{PolicyFault}
 use Rattle.std.specs.Prelude.{None}
 use Rattle.std.specs.declared.io.ErrorKind.{ErrorKind}
 use Rattle.std.specs.declared.io.ErrorKind.TheVariants.{OutOfMemory}
@@ -33,10 +31,6 @@ message_of Device = codes "device" ++ 10 ∷ []
 -- the line of a bad record
 abbrev pub bad_record_text : ℕ → List ℕ
 bad_record_text index = codes "record " ++ decimal index ++ 10 ∷ []
-
--- the sentence that says why a policy is refused, a line with its end
-abbrev pub bad_policy_reason : PolicyFault → List ℕ
-bad_policy_reason fault = policy_words fault ++ 10 ∷ []
 
 -- what standard error is told: a line, and of a policy that is refused also why
 abbrev pub fault_text : CommandFault → List ℕ

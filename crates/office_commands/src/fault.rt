@@ -1,8 +1,8 @@
 //! Why a command on a store doesn't come to its end, and what standard error is told of it.
 
 ghost use Rattle.std.specs.Prelude.{◌≡◌, ◌++◌, IfOk, None, Some, string_bytes};
-ghost use Rattle.commands.specs.Explaining.{bad_policy_text};
-ghost use Rattle.office_commands.specs.Texts.{bad_policy_reason, ending_of, fault_text, message_of};
+ghost use Rattle.commands.specs.Explaining.{bad_policy_reason, bad_policy_text};
+ghost use Rattle.office_commands.specs.Texts.{ending_of, fault_text, message_of};
 ghost use Rattle.office_commands.specs.declared.fault.CommandFault.TheVariants.{Failed};
 
 use commands::Ending;

@@ -12,7 +12,5 @@ mod task;
 mod working;
 
 pub use fault::{Cause, CommandFault, StoreFault};
-pub use running::{
-    PolicyOutcome, ask_command, policy_command, policy_outcome, replay_command, serve_command,
-};
+pub use running::{PolicyOutcome, ask_command, policy_command, replay_command, serve_command};
 pub use working::{ask_office, install_policy, replay_office};

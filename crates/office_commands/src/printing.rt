@@ -2,10 +2,10 @@
 
 ghost use Rattle.std.specs.Prelude.{◌≡◌, IfErr, IfOk, OnOk, string_bytes};
 ghost use Rattle.std.specs.Io.KnownBytes.{Appends, Keeps};
-ghost use Rattle.commands.specs.Explaining.{bad_policy_text};
+ghost use Rattle.commands.specs.Explaining.{bad_policy_reason, bad_policy_text};
 ghost use Rattle.commands.specs.Failing.{IsCutShort};
 ghost use Rattle.office_commands.specs.Policies.{installed_text};
-ghost use Rattle.office_commands.specs.Texts.{bad_policy_reason, fails};
+ghost use Rattle.office_commands.specs.Texts.{fails};
 ghost use Rattle.office_commands.specs.declared.fault.StoreFault.TheVariants.{Device};
 
 use crate::fault::{CommandFault, StoreFault};

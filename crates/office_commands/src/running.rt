@@ -2,13 +2,12 @@
 
 ghost use Rattle.std.specs.Prelude.{◌≡◌, IfOk, OnOk, Some, codes, option_copied, option_map, string_bytes};
 ghost use Rattle.std.specs.Io.KnownBytes.{Appends};
-ghost use Rattle.commands.specs.Explaining.{bad_policy_text};
+ghost use Rattle.commands.specs.Explaining.{bad_policy_reason, bad_policy_text};
 ghost use Rattle.commands.specs.declared.ending.Ending.TheVariants.{Accepted, Refused};
 ghost use Rattle.office_history.specs.Histories.{History};
 ghost use Rattle.office_commands.specs.Answering.{AsksFrom, ReplaysFrom, ReplaysInMemory, after_install, made_office};
 ghost use Rattle.office_commands.specs.Listening.{TellsPort};
-ghost use Rattle.office_commands.specs.Policies.{ComesOfPolicy, SaysOfPolicy, installed_text};
-ghost use Rattle.office_commands.specs.Texts.{bad_policy_reason};
+ghost use Rattle.office_commands.specs.Policies.{ComesOfPolicy, installed_text};
 
 use crate::fault::{CommandFault, StoreFault};
 use crate::policy_file::policy_in_file;
@@ -89,7 +88,7 @@ fn install_in<S: Start>(
 /// The policy is read before that.
 ///
 /// Prints `installed R rules C callers`, or the policy's fault, and says why it is refused.
-pub fn policy_outcome<S: Start, O: Write>(
+pub fn policy_command<S: Start, O: Write>(
     rt: &HostRuntime,
     start: S,
     store: &str,
@@ -112,20 +111,6 @@ pub fn policy_outcome<S: Start, O: Write>(
         }
         Err(fault) => say_refused(rt.alloc(), fault, out),
     }
-}
-
-/// The same, and doesn't say why a policy is refused.
-pub fn policy_command<S: Start, O: Write>(
-    rt: &HostRuntime,
-    start: S,
-    store: &str,
-    policy: &str,
-    out: &mut Counted<O>,
-) -> Result<Ending, CommandFault>
-    ensures { IfOk result (SaysOfPolicy (O.contents out.old.device) (O.contents out.new.device)) }
-{
-    let outcome = policy_outcome(rt, start, store, policy, out)?;
-    Ok(outcome.ending)
 }
 
 /// `ask STORE DAY`: answers the one request that the input gives, on that day.

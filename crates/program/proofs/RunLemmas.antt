@@ -3,6 +3,7 @@ use Rattle.std.proofs.Common.{◌≡◌, ◌⊎◌, ℕ, List, Option, Result, O
 use Rattle.std.specs.Prelude.{option_map, string_bytes}
 use Rattle.std.specs.Io.KnownBytes.{Appends}
 use Rattle.clap.specs.Words.{Text}
+use Rattle.commands.specs.Failing.{MayGrow}
 use Rattle.commands.specs.declared.ending.Ending.{Ending}
 use Rattle.commands.specs.declared.ending.Ending.TheVariants.{Unsaid}
 use Rattle.commands.specs.declared.use_fault.UseFault.{UseFault}
@@ -20,7 +21,7 @@ use Rattle.bag_folders.specs.declared.unpack_fault.UnpackFault.{UnpackFault}
 use Rattle.bag_folders.specs.declared.unpacking.Unpacked.{Unpacked}
 use Rattle.program.specs.Folders.{IsPrinted, Packs, Unpacks}
 use Rattle.program.specs.Running.{Comes, ComesOfWords}
-use Rattle.program.specs.Stopping.{IsToldOf, IsToldOfUse, MayGrow, Tells, ending_of, line_of}
+use Rattle.program.specs.Stopping.{IsToldOf, IsToldOfUse, Tells, ending_of, line_of}
 use Rattle.program.specs.declared.done.Done.{Done}
 use Rattle.program.specs.declared.stopped.Stopped.{Stopped}
 

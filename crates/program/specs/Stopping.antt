@@ -1,6 +1,5 @@
 -- What standard error is told of a command on folders or a store that comes to no end, and how the program ends.
 use Rattle.std.specs.Prelude.{◌≡◌, ◌⊎◌, ℕ, List, Option, string_bytes}
-use Rattle.std.specs.Io.KnownBytes.{Appends}
 use Rattle.std.specs.IoError.{error_kind}
 use Rattle.bag_folders.specs.declared.failed.Failed.TheVariants as folders
 use Rattle.commands.specs.Failing.{BeginsWith, IsCutShort, failure_of, message_of}
@@ -40,7 +39,3 @@ IsToldOf stopped told tells ending =
 abbrev pub IsToldOfUse : UseFault → Option (List ℕ) → Option (List ℕ) → Ending → Type 0
 IsToldOfUse (faults.Use reason) told tells ending = Tells (string_bytes reason) endings.Misused told tells ending
 IsToldOfUse faults.Memory told tells ending = Tells (message_of failures.Memory) endings.Failed told tells ending
-
--- more may come
-abbrev pub MayGrow : Option (List ℕ) → Option (List ℕ) → Type 0
-MayGrow told tells = (more : List ℕ) × Appends told tells more

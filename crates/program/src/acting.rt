@@ -10,7 +10,7 @@ use crate::stopped::Stopped;
 use commands::Ending;
 use desk_devices::Counted;
 use office_commands::{
-    CommandFault, PolicyOutcome, ask_command, policy_outcome, replay_command, serve_command,
+    CommandFault, PolicyOutcome, ask_command, policy_command, replay_command, serve_command,
 };
 use sqlite::Start;
 use std::io::{Read, Write};
@@ -57,7 +57,7 @@ pub fn perform<S: Start, R: Read, O: Write>(
         StoreLine::Pack { folder, file } => pack_folder(rt, folder, file, out),
         StoreLine::Unpack { file, folder } => unpack_form(rt, file, folder, out),
         StoreLine::Policy { store, policy } => {
-            installed(policy_outcome(rt, start, store, policy, out))
+            installed(policy_command(rt, start, store, policy, out))
         }
         StoreLine::Ask { store, day } => stored(ask_command(rt, start, store, day, input, out)),
         StoreLine::Replay { policy, store } => {

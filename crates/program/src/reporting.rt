@@ -1,6 +1,7 @@
 //! What standard error is told of a command that doesn't come to its end.
 
-ghost use Rattle.program.specs.Stopping.{IsToldOf, MayGrow};
+ghost use Rattle.commands.specs.Failing.{MayGrow};
+ghost use Rattle.program.specs.Stopping.{IsToldOf};
 
 use crate::detail::detail_of;
 use crate::stopped::Stopped;

@@ -1,7 +1,6 @@
-//! `pack` and `unpack`.
+//! `pack` and `unpack`, and refusals in words.
 
-use crate::runs::{Run, run_all};
-use commands::Ending;
+use crate::runs::{ACCEPTED, FAILED, REFUSED, Run, run_all};
 use std::fs;
 use std::fs::File;
 use std::os::unix::fs::symlink;
@@ -11,52 +10,39 @@ use worked_bags::BAG;
 static RUNS: [Run; 7] = [
     Run {
         words: &["pack", "bag", "bag.bagset"],
-        input: b"",
-        out: b"packed 3 files 210 bytes\n",
-        err: "",
-        ending: Ending::Accepted,
+        out: "packed 3 files 210 bytes\n",
+        ..ACCEPTED
     },
     Run {
         words: &["check", "bag.bagset"],
-        input: b"",
-        out: b"valid 1.0 files 1 bytes 3 manifests 1\n",
-        err: "",
-        ending: Ending::Accepted,
+        out: "valid 1.0 files 1 bytes 3 manifests 1\n",
+        ..ACCEPTED
     },
     Run {
         words: &["unpack", "bag.bagset", "copy"],
-        input: b"",
-        out: b"unpacked 3 files\n",
-        err: "",
-        ending: Ending::Accepted,
+        out: "unpacked 3 files\n",
+        ..ACCEPTED
     },
     Run {
         words: &["pack", "copy", "copy.bagset"],
-        input: b"",
-        out: b"packed 3 files 210 bytes\n",
-        err: "",
-        ending: Ending::Accepted,
+        out: "packed 3 files 210 bytes\n",
+        ..ACCEPTED
     },
     Run {
         words: &["unpack", "bag.bagset", "copy"],
-        input: b"",
-        out: b"exists\n",
-        err: "",
-        ending: Ending::Refused,
+        out: "exists\n",
+        ..REFUSED
     },
     Run {
         words: &["unpack", "bag/data/a", "other"],
-        input: b"",
-        out: b"unreadable S1\n",
+        out: "unreadable S1\n",
         err: "this is no transfer form: it does not begin with the line BAGSET 1 (S1)\n",
-        ending: Ending::Refused,
+        ..REFUSED
     },
     Run {
         words: &["pack", "no such folder", "other.bagset"],
-        input: b"",
-        out: b"",
         err: "device\ndepot: cannot list no%20such%20folder: ",
-        ending: Ending::Failed,
+        ..FAILED
     },
 ];
 
@@ -84,76 +70,91 @@ fn a_folder_becomes_a_form_and_a_folder_again(rt: HostRuntime) -> Result<(), Fai
     Ok(())
 }
 
+/// Files that can't be read.
+static FAILURES: [Run; 4] = [
+    Run {
+        words: &["check", "refused/none"],
+        err: "device\ndepot: cannot read refused/none: No such file or directory (os error 2)\n",
+        ..FAILED
+    },
+    Run {
+        words: &["check", "refused"],
+        err: "device\ndepot: cannot read refused: this is a folder; a bag's transfer form is wanted, which depot pack makes of it\n",
+        ..FAILED
+    },
+    Run {
+        words: &["explain", "refused/a policy", "eve", "list", "-", "-"],
+        err: "device\ndepot: cannot read refused/a%20policy: No such file or directory (os error 2)\n",
+        ..FAILED
+    },
+    Run {
+        words: &["explain", "refused", "eve", "list", "-", "-"],
+        err: "device\ndepot: cannot read refused: Is a directory (os error 21)\n",
+        ..FAILED
+    },
+];
+
 static REFUSALS: [Run; 10] = [
     Run {
         words: &["pack", "refused/linked", "refused/form"],
-        input: b"",
-        out: b"unpackable NAME\n",
+        out: "unpackable NAME\n",
         err: "an entry of the folder is neither a file nor a folder, such as a link, or has a name that is not UTF-8 (NAME)\n",
-        ending: Ending::Refused,
+        ..REFUSED
     },
     Run {
         words: &["pack", "refused/large", "refused/form"],
-        input: b"",
-        out: b"unpackable S2 1\n",
+        out: "unpackable S2 1\n",
         err: "a%20b has more than 16,777,216 bytes, the most that a file of a bag may have (S2)\n",
-        ending: Ending::Refused,
+        ..REFUSED
     },
     Run {
         words: &["pack", "refused/clash", "refused/form"],
-        input: b"",
-        out: b"unpackable S8\n",
+        out: "unpackable S8\n",
         err: "a path of the folder is data, or names both a file and a folder (S8)\n",
-        ending: Ending::Refused,
+        ..REFUSED
     },
     Run {
         words: &["pack", "refused/whole", "refused/form"],
-        input: b"",
-        out: b"unpackable SIZE\n",
+        out: "unpackable SIZE\n",
         err: "the form of the folder is longer than 16,777,216 bytes, the most that is written (SIZE)\n",
-        ending: Ending::Refused,
+        ..REFUSED
     },
     Run {
         words: &["unpack", "refused/zip", "refused/none"],
-        input: b"",
-        out: b"unreadable S1\n",
+        out: "unreadable S1\n",
         err: "this is no transfer form: it does not begin with the line BAGSET 1 (S1)\nthis looks like a zip file; a bag's transfer form is wanted, which depot pack makes of a folder\n",
-        ending: Ending::Refused,
+        ..REFUSED
     },
     Run {
         words: &["unpack", "refused/large/a b", "refused/none"],
-        input: b"",
-        out: b"unreadable SIZE\n",
+        out: "unreadable SIZE\n",
         err: "the form is longer than 16,777,216 bytes, the most that is judged (SIZE)\n",
-        ending: Ending::Refused,
+        ..REFUSED
     },
     Run {
         words: &["check", "refused/zip"],
-        input: b"",
-        out: b"unreadable S1\n",
+        out: "unreadable S1\n",
         err: "this is no transfer form: it does not begin with the line BAGSET 1 (S1)\nthis looks like a zip file; a bag's transfer form is wanted, which depot pack makes of a folder\n",
-        ending: Ending::Refused,
+        ..REFUSED
     },
     Run {
         words: &["check", "-"],
-        input: b"BAGSET 1\nEND\n",
-        out: b"invalid B1\n",
+        input: "BAGSET 1\nEND\n",
+        out: "invalid B1\n",
         err: "the bag has no bagit.txt (B1)\n",
-        ending: Ending::Refused,
+        ..REFUSED
     },
     Run {
         words: &["explain", "refused/policy", "eve", "list", "-", "-"],
-        input: b"",
-        out: b"deny default\n",
+        out: "deny default\n",
         err: "the caller eve is not in the policy, and has the role stranger\n",
-        ending: Ending::Refused,
+        ..REFUSED
     },
     Run {
         words: &["explain", "refused/zip", "eve", "list", "-", "-"],
-        input: b"",
-        out: b"policy Y1\n",
+        out: "policy Y1\n",
         err: "the policy is no text in TOML (Y1)\n",
-        ending: Ending::Refused,
+        ..REFUSED
     },
 ];
 
@@ -175,6 +176,7 @@ fn refusals_are_told_in_words(rt: HostRuntime) -> Result<(), Fail> {
     fs::write(&rt, "refused/zip", b"PK\x03\x04")?;
     fs::write(&rt, "refused/policy", b"version = 1\n")?;
     run_all(&rt, REFUSALS.as_slice())?;
+    run_all(&rt, FAILURES.as_slice())?;
     fs::remove_dir_all(&rt, "refused")?;
     Ok(())
 }

@@ -4,6 +4,14 @@
 #[cfg(test)]
 mod folders;
 #[cfg(test)]
+mod offices;
+#[cfg(test)]
+mod output;
+#[cfg(test)]
 mod runs;
+#[cfg(test)]
+mod stores;
+#[cfg(test)]
+mod texts;
 #[cfg(test)]
 mod words;

@@ -1,7 +1,6 @@
 //! Words that are no use of the program.
 
-use crate::runs::{Run, run_one};
-use commands::Ending;
+use crate::runs::{MISUSED, Run, run_one};
 use std::test::Fail;
 
 /// Words, and how standard error begins.
@@ -149,17 +148,9 @@ static FAULTS: [Words; 25] = [
 
 #[test]
 fn faults_of_use(rt: HostRuntime) -> Result<(), Fail> {
-    for (words, err) in FAULTS.iter() {
-        run_one(
-            &rt,
-            &Run {
-                words,
-                input: b"",
-                out: b"",
-                err,
-                ending: Ending::Misused,
-            },
-        )?;
+    for (words, err) in &FAULTS {
+        let run = Run { words, ..MISUSED };
+        run_one(&rt, &run, "", err)?;
     }
     Ok(())
 }

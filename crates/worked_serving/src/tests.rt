@@ -8,7 +8,7 @@ use sqlite::Alter;
 use std::alloc::Global;
 use std::test::*;
 
-static DAY: [Case; 38] = [
+static DAY: [Case; 40] = [
     Case {
         request: "GET /deposits/7/bag HTTP/1.1\r\nDepot-Caller: anna\r\n\r\n",
         status: "HTTP/1.1 404 Not Found",
@@ -158,6 +158,18 @@ static DAY: [Case; 38] = [
         status: "HTTP/1.1 404 Not Found",
         fields: "Content-Type: application/json\r\nContent-Length: 18\r\n",
         body: "{\"error\":\"NoFile\"}",
+    },
+    Case {
+        request: "GET /deposits/2/files// HTTP/1.1\r\nDepot-Caller: anna\r\n\r\n",
+        status: "HTTP/1.1 404 Not Found",
+        fields: "Content-Type: application/json\r\nContent-Length: 18\r\n",
+        body: "{\"error\":\"NoFile\"}",
+    },
+    Case {
+        request: "GET /deposits/0 HTTP/1.1\r\nDepot-Caller: anna\r\n\r\n",
+        status: "HTTP/1.1 404 Not Found",
+        fields: "Content-Type: application/json\r\nContent-Length: 35\r\n",
+        body: "{\"error\":\"NoSuch\",\"what\":\"deposit\"}",
     },
     Case {
         request: "GET /deposits/2/files/data/a%250Ab HTTP/1.1\r\nDepot-Caller: carl\r\n\r\n",

@@ -21,9 +21,15 @@ returns-in-Ok-answer-clause-unsaid g c = λ unsaid.
     let told = c.say.ensures.unsaid unsaid in
     (told.0, to_be_said (texts c.args.words.now) c.in-Ok.line c.in-Ok-answer.outcome told.0 c.in-Ok.ensures.values c.in-Ok.ensures.taken c.in-Ok-answer.ensures.says told.1, told.2)
 
+pub returns-in-Err-clause-failed : goal.returns-in-Err-clause-failed
+returns-in-Err-clause-failed g c = λ failed.
+    let told = c.report.ensures.message failed in
+    (told.0, (λ no. absurd (false≢true (sym no ∙ c.in-Ok.ensures.taken))), told.1)
+
 pub returns-in-Err-clause-unsaid : goal.returns-in-Err-clause-unsaid
 returns-in-Err-clause-unsaid g c = λ unsaid.
-    (message_of c.in-Err.failure, of_failure c.in-Err.failure (λ no. absurd (false≢true (sym no ∙ c.in-Ok.ensures.taken))) refl, c.fail.ensures.front)
+    let told = c.report.ensures.front unsaid in
+    (message_of told.0, of_failure told.0 (λ no. absurd (false≢true (sym no ∙ c.in-Ok.ensures.taken))) refl, told.1)
 
 pub returns-in-Err-Memory-clause-unsaid : goal.returns-in-Err-Memory-clause-unsaid
-returns-in-Err-Memory-clause-unsaid g c = λ unsaid. (message_of Memory, of_failure Memory (λ no. refl) refl, c.fail-in-Err-Memory.ensures.front)
+returns-in-Err-Memory-clause-unsaid g c = λ unsaid. (message_of Memory, of_failure Memory (λ no. refl) refl, c.fail.ensures.front)

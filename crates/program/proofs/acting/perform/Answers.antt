@@ -13,8 +13,8 @@ pub returns-in-Policy : goal.returns-in-Policy
 returns-in-Policy g c =
     let left = g.R.Read.remaining c.args.input.now.device in
     let held = g.O.Write.contents c.args.out.now.device in
-    let holds = g.O.Write.contents c.policy_outcome.new.out.device in
-    let done = installed_done (ComesOfPolicy held holds) c.policy_outcome.result c.installed.result c.installed.ensures c.policy_outcome.ensures in
+    let holds = g.O.Write.contents c.policy_command.new.out.device in
+    let done = installed_done (ComesOfPolicy held holds) c.policy_command.result c.installed.result c.installed.ensures c.policy_command.ensures in
     subst (λ line. IfOk c.installed.result (λ d. IsDone line left left held holds (option_map string_bytes d.reason) d.ending)) (sym c.in-Policy.is) done
 
 pub returns-in-Ask : goal.returns-in-Ask
