@@ -98,7 +98,10 @@ impl Read for Torn {
 fn a_torn_input_is_a_fault_of_the_device(rt: HostRuntime) {
     let (out, err, ending) = run_check(&rt, "-", &mut Torn { given: false });
     assert_eq!(rt; out.as_slice(), b"".as_slice());
-    assert_eq!(rt; err.as_slice(), b"device\n".as_slice());
+    assert_eq!(rt;
+        err.as_slice(),
+        b"device\ndepot: cannot read standard input: broken pipe\n".as_slice()
+    );
     assert_eq!(rt; ending, Ending::Failed);
 }
 
@@ -121,7 +124,10 @@ fn what_is_not_flushed_is_a_fault_of_the_device(rt: HostRuntime) {
     let mut err = Vec::new(rt.alloc());
     let words = ["check", "-"];
     let ending = run(&rt, words.as_slice(), &mut &*BAG, &mut Unflushed, &mut err);
-    assert_eq!(rt; err.as_slice(), b"device\n".as_slice());
+    assert_eq!(rt;
+        err.as_slice(),
+        b"device\ndepot: cannot write standard output: broken pipe\n".as_slice()
+    );
     assert_eq!(rt; ending, Ending::Failed);
 }
 
@@ -210,7 +216,10 @@ fn a_missing_policy_is_a_fault_of_the_device(rt: HostRuntime) {
     let words = ["explain", "no-policy.toml", "anna", "list", "maps", "y1"];
     let (out, err, ending) = run_words(&rt, words.as_slice());
     assert_eq!(rt; out.as_slice(), b"".as_slice());
-    assert_eq!(rt; err.as_slice(), b"device\n".as_slice());
+    assert!(rt;
+        err.as_slice()
+            .starts_with(b"device\ndepot: cannot read no-policy.toml: ")
+    );
     assert_eq!(rt; ending, Ending::Failed);
     // The words come first.
     let words = ["explain", "no-policy.toml", "anna", "*", "maps", "y1"];

@@ -199,11 +199,19 @@ fn print_all(rt: &HostRuntime, runs: &[Run], is_whole: bool) -> Result<(), Fail>
 }
 
 static DEVICES: [Run; 3] = [
-    (&["check", "-"], "device\n", Ending::Failed),
-    (&["check", "no such file"], "device\n", Ending::Failed),
+    (
+        &["check", "-"],
+        "device\ndepot: cannot read standard input: broken pipe\n",
+        Ending::Failed,
+    ),
+    (
+        &["check", "no such file"],
+        "device\ndepot: cannot read no%20such%20file: No such file or directory (os error 2)\n",
+        Ending::Failed,
+    ),
     (
         &["explain", "no such file", "anna", "list", "tax", "y1"],
-        "device\n",
+        "device\ndepot: cannot read no%20such%20file: No such file or directory (os error 2)\n",
         Ending::Failed,
     ),
 ];
@@ -219,7 +227,10 @@ fn devices_fail(rt: HostRuntime) -> Result<(), Fail> {
         &mut Broken,
         &mut said,
     );
-    assert_eq!(rt; said.as_slice(), b"device\n".as_slice());
+    assert_eq!(rt;
+        said.as_slice(),
+        b"device\ndepot: cannot write standard output: broken pipe\n".as_slice()
+    );
     assert_eq!(rt; ending, Ending::Failed);
     Ok(())
 }
