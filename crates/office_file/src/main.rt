@@ -189,10 +189,12 @@ fn run(rt: &HostRuntime, words: &[String]) -> Result<()> {
     take(rt, file, task)
 }
 
-/// Runs the cases of want of memory, and where all are wanted draws requests.
+/// Runs the cases of want of memory, and where all are wanted draws requests, to an office in memory.
 fn run_cases(rt: &HostRuntime) -> Result<()> {
     if cases::answer(rt)? {
-        take(rt, "office.db", Task::Draw(100, 7))?;
+        let conn = Connection::open_in_memory(rt.alloc()).context("opening memory")?;
+        let (_, tally) = compare(rt.alloc(), conn, 7, 100)?;
+        say(rt, Report::Agreed(tally))?;
     }
     Ok(())
 }
