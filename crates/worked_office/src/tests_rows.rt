@@ -221,6 +221,8 @@ static CLASSES: [Case; 4] = [
             ("2030-01-01", "anna", Asked::Holds(1), "holds:"),
             ("2030-01-01", "anna", Asked::Record(4), "Gone 2025-02-28"),
             ("2030-01-01", "carl", Asked::Record(1), "Denied default"),
+            // The class is read with the deposit, before the rules.
+            ("2030-01-01", "carl", Asked::Dispose(1), "Store"),
             ("2040-01-01", "anna", Asked::Dispose(3), "Held 1"),
         ],
     ),
@@ -453,6 +455,9 @@ static HOLDS: [Case; 8] = [
             ("2030-01-01", "anna", Asked::Holds(2), "Store"),
             ("2030-01-01", "anna", Asked::Holds(1), "holds:"),
             ("2030-01-01", "anna", Asked::Record(3), RECORD_3),
+            // The number of a hold is told, and its row isn't read.
+            ("2040-01-01", "anna", Asked::Dispose(3), "Held 1"),
+            ("2040-01-01", "anna", Asked::DueList, "due on 2040-01-01: 1"),
         ],
     ),
     (
