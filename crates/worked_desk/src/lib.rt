@@ -2,15 +2,11 @@
 #![tactic(auto)]
 
 #[cfg(test)]
-mod answers;
-#[cfg(test)]
 mod devices;
 #[cfg(test)]
 mod forms;
 #[cfg(test)]
 mod heads;
-#[cfg(test)]
-mod hearing;
 #[cfg(test)]
 mod records;
 #[cfg(test)]

@@ -1,0 +1,361 @@
+#!/usr/bin/env python3
+"""The run of `depot` that the gate repeats: records of requests on a new office, and the records of the
+answers, worked out from `docs/HTTP.md`. Each row of the tables below is a request and its answer: every
+refusal of the desk beside what is heard at its limit, where more than one stands the later ones stand
+too; then a session with every kind of answer and every refusal of the office that a caller can bring about.
+
+`desk.py` says whether `crates/depot/stdin` and `stdout` have these rows; `desk.py write` writes them.
+"""
+import pathlib
+import sys
+
+TOP = pathlib.Path(__file__).resolve().parent.parent
+DAY = "2024-03-01"
+STATUS = {200: "OK", 201: "Created", 400: "Bad Request", 403: "Forbidden", 404: "Not Found", 405: "Method Not Allowed",
+          409: "Conflict", 410: "Gone", 413: "Content Too Large", 422: "Unprocessable Content"}
+BYTES = "application/octet-stream"
+
+BAG = (TOP / "examples/bag-a.bagset").read_bytes()
+DEPOSIT = "POST /deposits?collection=maps&class=y1&accession=%s&closed=%s HTTP/1.1"
+
+
+def refused(name):
+    """The answer of the desk's refusal."""
+    status = {"TooLarge": 413, "NoRoute": 404}.get(name, 400)
+    return status, '{"error":"%s"}' % name
+
+
+def wrong_method(allowed):
+    """The answer where the path doesn't take the method."""
+    return 405, '{"error":"Method"}', f"Allow: {allowed}\r\n"
+
+
+def due(*numbers, day=DAY):
+    return 200, '{"day":"%s","deposits":[%s]}' % (day, ",".join(map(str, numbers)))
+
+
+def none(what):
+    return 404, '{"error":"NoSuch","what":"%s"}' % what
+
+
+def years(name, count):
+    return 200, '{"class":"%s","years":%s}' % (name, count)
+
+
+# A head of so many bytes, or of so many fields.
+def head_of_bytes(count):
+    front = "GET /due HTTP/1.1\r\nX: "
+    return front + "x" * (count - len(front) - 4) + "\r\n\r\n"
+
+
+def head_of_fields(count):
+    return "GET /due HTTP/1.1\n" + "A: b\n" * count + "\n"
+
+
+HEADS = [
+    ("", refused("Truncated")),
+    ("nonsense", refused("Truncated")),
+    ("GET /due HTTP/1.1\r\nDepot-Caller: anna\r\n", refused("Truncated")),
+    ("GET /due HTTP/1.1\r\nDepot-Caller: anna\r\n\r", refused("Truncated")),
+    ("GET /due HTTP/1.1\r\nDepot-Caller: anna\r\n\r\n", due()),
+    ("GET /due HTTP/1.0\n\n", due()),
+    ("\r\nGET /due HTTP/1.1\n\r\n", due()),
+    ("GET /due HTTP/1.1\n\nGET /x HTTP/1.1\n\n", due()),
+    ("\r\n\r\nGET /due HTTP/1.1\r\n\r\n", refused("BadHead")),
+    ("nonsense\n\n", refused("BadHead")),
+    ("GET /due\n\n", refused("BadHead")),
+    ("GET /due HTTP/2.0\n\n", refused("BadHead")),
+    (b"GET /\xff HTTP/1.1\n\n", refused("BadHead")),
+    (head_of_bytes(8192), due()),
+    (head_of_bytes(8193), refused("TooLarge")),
+    ("x" * 8192 + "\n\n", refused("TooLarge")),
+    ("x" * 8191, refused("Truncated")),
+    (head_of_fields(64), due()),
+    (head_of_fields(65), refused("BadHead")),
+    ("GET /x HTTP/1.1\nDepot-Caller: a\nDepot-Caller: a\nContent-Length: x\nTransfer-Encoding: a\n\n", refused("Chunked")),
+    ("GET /due HTTP/1.1\ntransfer-ENCODING:\n\n", refused("Chunked")),
+    ("GET /due HTTP/1.1\nTransfer-Encodings: chunked\n\n", due()),
+    ("GET /x HTTP/1.1\nDepot-Caller: a\nDepot-Caller: a\nContent-Length: x\n\n", refused("BadLength")),
+    ("GET /due HTTP/1.1\nContent-Length: 0\nContent-Length: 0\n\n", refused("BadLength")),
+    ("GET /due HTTP/1.1\nContent-Length:\n\n", refused("BadLength")),
+    ("GET /due HTTP/1.1\nContent-Length: +0\n\n", refused("BadLength")),
+    ("GET /due HTTP/1.1\nContent-Length: " + "0" * 21 + "\n\n", refused("BadLength")),
+    ("GET /due HTTP/1.1\nContent-Length: " + "0" * 20 + "\n\n", due()),
+    ("GET /due HTTP/1.1\ncontent-LENGTH: \t0 \n\n", due()),
+    ("GET /x HTTP/1.1\nDepot-Caller: a\nDepot-Caller: a\nContent-Length: 16777217\n\n", refused("TooLarge")),
+    ("GET /due HTTP/1.1\nContent-Length: 99999999999999999999\n\n", refused("TooLarge")),
+    ("GET /due HTTP/1.1\nContent-Length: 16777217\n\n", refused("TooLarge")),
+    ("GET /due HTTP/1.1\nContent-Length: 16777216\n\n", refused("Truncated")),
+]
+
+# Neither a clerk nor a stranger may define a class; so who is heard is seen.
+CLERK, STRANGER = (403, '{"error":"Denied","rule":2}'), (403, '{"error":"Denied","rule":3}')
+CALLERS = [
+    ("GET /x HTTP/1.1\nDepot-Caller: a\nDepot-Caller: a\nContent-Length: 5\n\n", refused("TwoCallers")),
+    ("GET /due HTTP/1.1\nDepot-Caller: anna\ndepot-caller:\n\n", refused("TwoCallers")),
+    ('PUT /classes/y1 HTTP/1.1\ndepot-CALLER:anna\t\nContent-Length: 11\n\n{"years":1}', years("y1", 1)),
+    ('PUT /classes/y1 HTTP/1.1\nDepot-Caller: carl\nContent-Length: 11\n\n{"years":1}', CLERK),
+    ('PUT /classes/y1 HTTP/1.1\nDepot-Caller: abcdefghijabcdefghijabcdefghijabcdefghij\nContent-Length: 11\n\n{"years":1}', years("y1", 1)),
+    ('PUT /classes/y1 HTTP/1.1\nDepot-Caller: abcdefghijabcdefghijabcdefghijabcdefghijk\nContent-Length: 11\n\n{"years":1}', STRANGER),
+    ('PUT /classes/y1 HTTP/1.1\nDepot-Caller: Anna\nContent-Length: 11\n\n{"years":1}', STRANGER),
+    (b'PUT /classes/y1 HTTP/1.1\nDepot-Caller: \xff\nContent-Length: 11\n\n{"years":1}', STRANGER),
+    ('PUT /classes/y1 HTTP/1.1\nDepot-Caller:\nContent-Length: 11\n\n{"years":1}', STRANGER),
+    ('PUT /classes/y1 HTTP/1.1\nContent-Length: 11\n\n{"years":1}', STRANGER),
+]
+
+PATHS = [
+    ("GET /x?a=b HTTP/1.1\nContent-Length: 5\n\n", refused("NoRoute")),
+    ("HEAD /x HTTP/1.1\nDepot-Caller: anna\n\n", refused("NoRoute")),
+    ("GET * HTTP/1.1\n\n", refused("NoRoute")),
+    ("GET / HTTP/1.1\n\n", refused("NoRoute")),
+    ("GET /due/ HTTP/1.1\n\n", refused("NoRoute")),
+    ("GET /d%75e HTTP/1.1\n\n", refused("NoRoute")),
+    ("PUT /classes/y%31 HTTP/1.1\n\n", refused("NoRoute")),
+    ("PUT /collections/Tax HTTP/1.1\n\n", refused("NoRoute")),
+    ("PUT /collections/tax HTTP/1.1\nDepot-Caller: anna\n\n", (200, '{"collection":"tax"}')),
+    ("GET /deposits/0 HTTP/1.1\n\n", none("deposit")),
+    ("GET /deposits/00 HTTP/1.1\n\n", refused("NoRoute")),
+    ("GET /deposits/07 HTTP/1.1\n\n", refused("NoRoute")),
+    ("GET /deposits/9999999 HTTP/1.1\n\n", none("deposit")),
+    ("GET /deposits/10000000 HTTP/1.1\n\n", refused("NoRoute")),
+    ("DELETE /deposits/7 HTTP/1.1\n\n", none("deposit")),
+    ("GET /deposits/7/holds HTTP/1.1\n\n", none("deposit")),
+    ("GET /deposits/7/bag HTTP/1.1\n\n", none("deposit")),
+    ("GET /deposits/7/audit HTTP/1.1\n\n", none("deposit")),
+    ("GET /deposits/7/files/a HTTP/1.1\n\n", none("deposit")),
+    ("DELETE /holds/3 HTTP/1.1\n\n", none("hold")),
+    ("DELETE /holds/03 HTTP/1.1\n\n", refused("NoRoute")),
+    ("GET /deposits/1/files/ HTTP/1.1\n\n", refused("NoRoute")),
+    ("GET /deposits/1/files HTTP/1.1\n\n", refused("NoRoute")),
+]
+
+METHODS = [
+    ("HEAD /due?a=b HTTP/1.1\nContent-Length: 5\n\n", wrong_method("GET")),
+    ("get /due HTTP/1.1\n\n", wrong_method("GET")),
+    ("GET /classes/y10 HTTP/1.1\n\n", wrong_method("PUT")),
+    ("GET /collections/tax HTTP/1.1\n\n", wrong_method("PUT")),
+    ("PUT /deposits HTTP/1.1\n\n", wrong_method("GET, POST")),
+    ("PUT /deposits/7 HTTP/1.1\n\n", wrong_method("DELETE, GET")),
+    ("POST /deposits/7/holds HTTP/1.1\n\n", wrong_method("GET")),
+    ("POST /deposits/7/bag HTTP/1.1\n\n", wrong_method("GET")),
+    ("DELETE /deposits/7/files/a HTTP/1.1\n\n", wrong_method("GET")),
+    ("PUT /deposits/7/audit HTTP/1.1\n\n", wrong_method("GET")),
+    ("GET /holds HTTP/1.1\n\n", wrong_method("POST")),
+    ("GET /holds/3 HTTP/1.1\n\n", wrong_method("DELETE")),
+]
+
+NO_DEPOSITS = (200, '{"deposits":[]}')
+POST = "POST /deposits?collection=maps&class=y1&accession=A-1&closed=2024-02-29"
+QUERIES = [
+    ("GET /due?a=b HTTP/1.1\nContent-Length: 5\n\n", refused("BadQuery")),
+    ("GET /due?= HTTP/1.1\n\n", refused("BadQuery")),
+    ("GET /due?x HTTP/1.1\n\n", refused("BadQuery")),
+    ("GET /due? HTTP/1.1\n\n", due()),
+    ("GET /due?&& HTTP/1.1\n\n", due()),
+    ("DELETE /deposits/7?x=y HTTP/1.1\n\n", refused("BadQuery")),
+    ("GET /deposits/7/files/a?b HTTP/1.1\n\n", refused("BadQuery")),
+    ("GET /deposits HTTP/1.1\n\n", NO_DEPOSITS),
+    ("GET /deposits?class=y1&&collection=tax& HTTP/1.1\n\n", NO_DEPOSITS),
+    ("GET /deposits?class=none HTTP/1.1\n\n", none("class")),
+    ("GET /deposits?collection=none HTTP/1.1\n\n", none("collection")),
+    ("GET /deposits?%63lass=y%31 HTTP/1.1\n\n", NO_DEPOSITS),
+    ("GET /deposits?class=y1&%63lass=y1 HTTP/1.1\n\n", refused("BadQuery")),
+    ("GET /deposits?class=Y1 HTTP/1.1\n\n", refused("BadQuery")),
+    ("GET /deposits?class=y+1 HTTP/1.1\n\n", refused("BadQuery")),
+    ("GET /deposits?Class=y1 HTTP/1.1\n\n", refused("BadQuery")),
+    ("GET /deposits?closed=y1 HTTP/1.1\n\n", refused("BadQuery")),
+    ("POST /deposits?collection=maps&class=y1&accession=A-1 HTTP/1.1\nContent-Length: 5\n\n", refused("BadQuery")),
+    ("POST /deposits?collection=maps&class=y1&class=y1&accession=A-1&closed=2024-02-29 HTTP/1.1\n\n", refused("BadQuery")),
+    ("POST /deposits?collection=maps&class=y1&accession=A-1&closed=2025-02-29 HTTP/1.1\n\n", refused("BadQuery")),
+    (POST + "&x HTTP/1.1\n\n", refused("BadQuery")),
+    ('POST /holds?x=y HTTP/1.1\nContent-Length: 31\n\n{"deposit":1,"matter":"Case 7"}', refused("BadQuery")),
+]
+
+
+def body(line, text, caller="anna"):
+    """A request with this body."""
+    return f"{line} HTTP/1.1\nDepot-Caller: {caller}\nContent-Length: {len(text)}\n\n{text}"
+
+
+CLASS, HOLD = "PUT /classes/y10", "POST /holds"
+BODIES = [
+    ("GET /due HTTP/1.1\nContent-Length: 5\n\nabcd", refused("Truncated")),
+    ("GET /due HTTP/1.1\nContent-Length: 5\n\nabcde", refused("BadBody")),
+    ("GET /due HTTP/1.1\nContent-Length: 1\n\n ", refused("BadBody")),
+    ("GET /due HTTP/1.1\nContent-Length: 0\n\nabcde", due()),
+    (POST + " HTTP/1.1\nContent-Length: 5\n\nabcd", refused("Truncated")),
+    ('PUT /classes/y10 HTTP/1.1\nContent-Length: 12\n\n{"years":10', refused("Truncated")),
+    ('PUT /classes/y10 HTTP/1.1\nContent-Length: 11\n\n{"years":10}', refused("BadBody")),
+    ('PUT /classes/y10 HTTP/1.1\nDepot-Caller: anna\nContent-Length: 12\n\n{"years":10}}', years("y10", 10)),
+    (body(CLASS, '{"years":10}}'), refused("BadBody")),
+    ("PUT /classes/y10 HTTP/1.1\n\n", refused("BadBody")),
+    (body(CLASS, '{"years":200}'), years("y10", 200)),
+    (body(CLASS, '{"years":201}'), refused("BadBody")),
+    (body(CLASS, '{"years":0}'), years("y10", 0)),
+    (body(CLASS, '{"years":-0}'), refused("BadBody")),
+    (body(CLASS, '{"years":1.0}'), refused("BadBody")),
+    (body(CLASS, '{"years":1e0}'), refused("BadBody")),
+    (body(CLASS, '{"years":null}'), years("y10", "null")),
+    (body(CLASS, '{"years":0,"years":1}'), years("y10", 1)),
+    (body(CLASS, '{"years":1e999,"years":1}'), refused("BadBody")),
+    (body(CLASS, '{"years":1,"name":"y"}'), refused("BadBody")),
+    (body(HOLD, '{"deposit":1,"matter":"Case 7"}'), none("deposit")),
+    (body(HOLD, '{"deposit":9999999,"matter":"a"}'), none("deposit")),
+    (body(HOLD, '{"matter":"Case 7","collection":"none"}'), none("collection")),
+    (body(HOLD, '{"deposit":0,"matter":"a"}'), refused("BadBody")),
+    (body(HOLD, '{"deposit":10000000,"matter":"a"}'), refused("BadBody")),
+    (body(HOLD, '{"deposit":1}'), refused("BadBody")),
+    (body(HOLD, '{"deposit":1,"matter":""}'), refused("BadBody")),
+    (body(HOLD, '{"deposit":1,"collection":"maps","matter":"m"}'), refused("BadBody")),
+    ('POST /holds HTTP/1.1\n\n{"deposit":1,"matter":"Case 7"}', refused("BadBody")),
+]
+
+
+def asked(line, caller="anna"):
+    """A request without a body."""
+    return f"{line} HTTP/1.1\r\nDepot-Caller: {caller}\r\n\r\n"
+
+
+def deposited(accession, closed="2024-02-29", collection="maps", kind="y1", bag=BAG):
+    """A request that deposits a bag."""
+    line = f"POST /deposits?collection={collection}&class={kind}&accession={accession}&closed={closed}"
+    return f"{line} HTTP/1.1\r\nDepot-Caller: anna\r\nContent-Length: {len(bag)}\r\n\r\n".encode() + bag
+
+
+def told(number, accession, kind, until):
+    """A record."""
+    return (f'{{"accession":"{accession}","bytes":3,"class":"{kind}","closed":"2024-02-29","collection":"maps",'
+            f'"deposit":{number},"deposited":"2024-03-01","due":"{until}","files":1}}')
+
+
+ONE, TWO = told(1, "A-1", "y1", "2025-02-28"), told(2, "A-2", "good", "permanent")
+VALID = '{"bytes":3,"deposit":1,"files":1,"manifests":1,"valid":true,"version":"1.0"}'
+ON_ONE = '{"hold":1,"matter":"Case 7","on":"deposit","placed":"2024-03-02"}'
+ON_MAPS = '{"hold":2,"matter":"Case 8","on":"collection","placed":"2024-03-02"}'
+
+# A request, its answer, and its day where that isn't the first.
+SESSION = [
+    (body("PUT /classes/good", '{"years":null}'), years("good", "null")),
+    (asked("PUT /collections/maps"), (200, '{"collection":"maps"}')),
+    (deposited("A-1"), (201, '{"deposit":1}')),
+    (deposited("A-1"), (409, '{"deposit":1,"error":"Taken"}')),
+    (deposited("A-2", closed="2024-03-02"), (409, '{"error":"ClosedAhead"}')),
+    (deposited("A-2", collection="none"), none("collection")),
+    (deposited("A-2", kind="none"), none("class")),
+    (deposited("A-2", bag=BAG[:-1]), (422, '{"error":"BadBag","fault":"S3"}')),
+    (deposited("A-2", bag=b"BAGSET 1\nEND\n"), (422, '{"error":"BadBag","fault":"B1"}')),
+    (deposited("A-2", kind="good"), (201, '{"deposit":2}')),
+    (asked("GET /deposits"), (200, '{"deposits":[%s,%s]}' % (ONE, TWO))),
+    (asked("GET /deposits?class=good"), (200, '{"deposits":[%s]}' % TWO)),
+    (asked("GET /deposits/1"), (200, ONE)),
+    (asked("GET /deposits/2"), (200, TWO)),
+    (asked("GET /deposits/1/bag"), (200, BAG)),
+    (asked("GET /deposits/1/files/data/a"), (200, b"abc")),
+    (asked("GET /deposits/1/files/data%2f%61"), (200, b"abc")),
+    (asked("GET /deposits/1/files/data/b"), (404, '{"error":"NoFile"}')),
+    (asked("GET /deposits/1/files//"), (404, '{"error":"NoFile"}')),
+    (asked("GET /deposits/1/files/data/%2561"), (404, '{"error":"NoFile"}')),
+    (asked("GET /deposits/1/files/data/a%4"), (404, '{"error":"NoFile"}')),
+    (asked("GET /deposits/1/files/%ff"), (404, '{"error":"NoFile"}')),
+    (asked("GET /deposits/1/audit"), (200, VALID)),
+    (asked("GET /deposits/1/holds"), (200, '{"holds":[]}')),
+    (body(HOLD, '{"deposit":1,"matter":"Case 7"}'), (201, '{"hold":1}'), "2024-03-02"),
+    (body(HOLD, '{"matter":"Case 8","collection":"maps"}'), (201, '{"hold":2}'), "2024-03-02"),
+    (asked("GET /deposits/1/holds"), (200, '{"holds":[%s,%s]}' % (ON_ONE, ON_MAPS)), "2024-03-02"),
+    (asked("DELETE /deposits/1"), (409, '{"error":"Held","hold":1}'), "2025-02-28"),
+    (asked("DELETE /holds/1"), (200, '{"hold":1,"released":"2025-02-27"}'), "2025-02-27"),
+    (asked("DELETE /holds/1"), (409, '{"day":"2025-02-27","error":"Released"}'), "2025-02-28"),
+    (asked("DELETE /deposits/1"), (409, '{"error":"Held","hold":2}'), "2025-02-28"),
+    (asked("DELETE /holds/2"), (200, '{"hold":2,"released":"2025-02-27"}'), "2025-02-27"),
+    (asked("DELETE /deposits/1"), (409, '{"due":"2025-02-28","error":"NotDue"}'), "2025-02-27"),
+    (asked("DELETE /deposits/2"), (409, '{"due":"permanent","error":"NotDue"}'), "2025-02-28"),
+    (asked("GET /due"), due(day="2025-02-27"), "2025-02-27"),
+    (asked("GET /due"), due(1, day="2025-02-28"), "2025-02-28"),
+    (asked("DELETE /deposits/1", caller="carl"), (403, '{"error":"Denied","rule":1}'), "2025-02-28"),
+    (asked("GET /due", caller="carl"), due(day="2025-02-28"), "2025-02-28"),
+    (asked("DELETE /deposits/1"), (200, '{"day":"2025-02-28","destroyed":1}'), "2025-02-28"),
+    (asked("GET /deposits/1"), (410, '{"day":"2025-02-28","error":"Gone"}'), "2025-03-01"),
+    (deposited("A-1"), (409, '{"deposit":1,"error":"Taken"}'), "2025-03-01"),
+    (asked("GET /deposits"), (200, '{"deposits":[%s]}' % TWO), "2025-03-01"),
+]
+
+POLICY = """version = 1
+
+[callers]
+anna = "archivist"
+abcdefghijabcdefghijabcdefghijabcdefghij = "archivist"
+carl = "clerk"
+
+[[rule]]
+effect = "deny"
+role = "clerk"
+action = "dispose"
+collection = "*"
+class = "*"
+
+[[rule]]
+effect = "deny"
+role = "clerk"
+action = "class"
+collection = "*"
+class = "*"
+
+[[rule]]
+effect = "deny"
+role = "stranger"
+action = "class"
+collection = "*"
+class = "*"
+
+[[rule]]
+effect = "allow"
+role = "*"
+action = "*"
+collection = "*"
+class = "*"
+"""
+
+
+def record(day, request):
+    """The record of a request on that day."""
+    data = request if isinstance(request, bytes) else request.encode()
+    return b"REQ %s %d\n" % (day.encode(), len(data)) + data + b"\n"
+
+
+def answer(status, text, fields=""):
+    """The record of an answer."""
+    data = text if isinstance(text, bytes) else text.encode()
+    kind = BYTES if isinstance(text, bytes) else "application/json"
+    head = f"HTTP/1.1 {status} {STATUS[status]}\r\nContent-Type: {kind}\r\nContent-Length: {len(data)}\r\n{fields}Connection: close\r\n\r\n"
+    whole = head.encode() + data
+    return b"ANS %d\n" % len(whole) + whole + b"\n"
+
+
+def rows():
+    """Each request with its day, and its answer."""
+    for table in (HEADS, CALLERS, PATHS, METHODS, QUERIES, BODIES, SESSION):
+        for request, given, *day in table:
+            yield record(day[0] if day else DAY, request), answer(*given)
+
+
+def main():
+    crate = TOP / "crates/depot"
+    files = {
+        crate / "stdin": b"".join(asked for asked, _ in rows()),
+        crate / "stdout": b"".join(given for _, given in rows()),
+        crate / "data/policy.toml": POLICY.encode(),
+    }
+    if sys.argv[1:] == ["write"]:
+        for path, data in files.items():
+            path.parent.mkdir(exist_ok=True)
+            path.write_bytes(data)
+    elif sys.argv[1:]:
+        sys.exit("words: write, or none")
+    for path, data in files.items():
+        if not path.is_file() or path.read_bytes() != data:
+            sys.exit(f"{path.relative_to(TOP)} isn't as the tables have it")
+    print(f"{sum(1 for _ in rows())} requests and their answers, as crates/depot has them")
+
+
+if __name__ == "__main__":
+    main()
