@@ -66,6 +66,14 @@ HEADS = [
     ("GET /due\n\n", refused("BadHead")),
     ("GET /due HTTP/2.0\n\n", refused("BadHead")),
     (b"GET /\xff HTTP/1.1\n\n", refused("BadHead")),
+    ("\n\n", refused("BadHead")),
+    ("\r\n\r\n", refused("BadHead")),
+    ("GET  /due HTTP/1.1\n\n", refused("BadHead")),
+    ("GET /due HTTP/1.1\n Host: a\n\n", refused("BadHead")),
+    ("GET /due HTTP/1.1\nHost : a\n\n", refused("BadHead")),
+    ("get * HTTP/1.1\n\r\n", refused("NoRoute")),
+    ("PUT /caf\u00e9 HTTP/1.1\n\n", refused("NoRoute")),
+    ("GET /due HTTP/1.1\nExpect: 100-continue\nX: Transfer-Encoding\n\n", due()),
     (head_of_bytes(8192), due()),
     (head_of_bytes(8193), refused("TooLarge")),
     ("x" * 8192 + "\n\n", refused("TooLarge")),
@@ -74,11 +82,17 @@ HEADS = [
     (head_of_fields(65), refused("BadHead")),
     ("GET /x HTTP/1.1\nDepot-Caller: a\nDepot-Caller: a\nContent-Length: x\nTransfer-Encoding: a\n\n", refused("Chunked")),
     ("GET /due HTTP/1.1\ntransfer-ENCODING:\n\n", refused("Chunked")),
+    ("GET /due HTTP/1.1\nTransfer-Encoding: a\nTransfer-Encoding: b\n\n", refused("Chunked")),
+    ("GET /due HTTP/1.1\nContent-Length: x\nTransfer-Encoding: identity\n\n", refused("Chunked")),
     ("GET /due HTTP/1.1\nTransfer-Encodings: chunked\n\n", due()),
     ("GET /x HTTP/1.1\nDepot-Caller: a\nDepot-Caller: a\nContent-Length: x\n\n", refused("BadLength")),
     ("GET /due HTTP/1.1\nContent-Length: 0\nContent-Length: 0\n\n", refused("BadLength")),
     ("GET /due HTTP/1.1\nContent-Length:\n\n", refused("BadLength")),
+    ("GET /due HTTP/1.1\nContent-Length: 16777217\nContent-Length: 16777217\n\n", refused("BadLength")),
     ("GET /due HTTP/1.1\nContent-Length: +0\n\n", refused("BadLength")),
+    ("GET /due HTTP/1.1\nContent-Length: -1\n\n", refused("BadLength")),
+    ("GET /due HTTP/1.1\nContent-Length: 5 5\n\n", refused("BadLength")),
+    ("GET /due HTTP/1.1\nContent-Length: 0x5\n\n", refused("BadLength")),
     ("GET /due HTTP/1.1\nContent-Length: " + "0" * 21 + "\n\n", refused("BadLength")),
     ("GET /due HTTP/1.1\nContent-Length: " + "0" * 20 + "\n\n", due()),
     ("GET /due HTTP/1.1\ncontent-LENGTH: \t0 \n\n", due()),
@@ -103,7 +117,17 @@ CALLERS = [
     ('PUT /classes/y1 HTTP/1.1\nContent-Length: 11\n\n{"years":1}', STRANGER),
 ]
 
-PATHS = [
+# Paths that name nothing.
+NOTHING = [
+    "//", "//due", "/due/1", "/Due", "/DUE", "/dues", "/du", "/%64ue", "/due%3F", "http://depot/due", "/classes", "/classes/",
+    "/classes//", "/classes/y10/", "/classes//y10", "/classes/y10/y10", "/classes/Y10", "/classes/y%31", "/Classes/y10", "/class/y10",
+    "/classes/abcdefghijabcdefghijabcdefghijabcdefghija", "/collections", "/collections/", "/collections/tax/", "/collections/T",
+    "/deposits/", "/deposits/00000001", "/deposits/+1", "/deposits/-1", "/deposits/1a", "/deposits/%31", "/deposits/\u0663",
+    "/deposits/1/", "/deposits//holds", "/deposits/1/Holds", "/deposits/1/holds/", "/deposits/1/holds/2", "/deposits/01/files/a",
+    "/holds/", "/holds/08",
+]
+
+PATHS = [(f"{method} {path} HTTP/1.1\n\n", refused("NoRoute")) for path in NOTHING for method in ("DELETE", "GET", "POST", "PUT")] + [
     ("GET /x?a=b HTTP/1.1\nContent-Length: 5\n\n", refused("NoRoute")),
     ("HEAD /x HTTP/1.1\nDepot-Caller: anna\n\n", refused("NoRoute")),
     ("GET * HTTP/1.1\n\n", refused("NoRoute")),
@@ -113,6 +137,11 @@ PATHS = [
     ("PUT /classes/y%31 HTTP/1.1\n\n", refused("NoRoute")),
     ("PUT /collections/Tax HTTP/1.1\n\n", refused("NoRoute")),
     ("PUT /collections/tax HTTP/1.1\nDepot-Caller: anna\n\n", (200, '{"collection":"tax"}')),
+    ("PUT /collections/- HTTP/1.1\nDepot-Caller: anna\n\n", (200, '{"collection":"-"}')),
+    ("PUT /collections/a.b_c-9 HTTP/1.1\nDepot-Caller: anna\n\n", (200, '{"collection":"a.b_c-9"}')),
+    ("PUT /collections/holds HTTP/1.1\nDepot-Caller: anna\n\n", (200, '{"collection":"holds"}')),
+    ("PUT /collections/abcdefghijabcdefghijabcdefghijabcdefghij HTTP/1.1\nDepot-Caller: anna\n\n",
+     (200, '{"collection":"abcdefghijabcdefghijabcdefghijabcdefghij"}')),
     ("GET /deposits/0 HTTP/1.1\n\n", none("deposit")),
     ("GET /deposits/00 HTTP/1.1\n\n", refused("NoRoute")),
     ("GET /deposits/07 HTTP/1.1\n\n", refused("NoRoute")),
@@ -132,9 +161,15 @@ PATHS = [
 METHODS = [
     ("HEAD /due?a=b HTTP/1.1\nContent-Length: 5\n\n", wrong_method("GET")),
     ("get /due HTTP/1.1\n\n", wrong_method("GET")),
+    ("GE /due HTTP/1.1\n\n", wrong_method("GET")),
+    ("GETS /due HTTP/1.1\n\n", wrong_method("GET")),
     ("GET /classes/y10 HTTP/1.1\n\n", wrong_method("PUT")),
     ("GET /collections/tax HTTP/1.1\n\n", wrong_method("PUT")),
+    ("POST /classes/y10 HTTP/1.1\n\n", wrong_method("PUT")),
+    ("DELETE /collections/tax HTTP/1.1\n\n", wrong_method("PUT")),
     ("PUT /deposits HTTP/1.1\n\n", wrong_method("GET, POST")),
+    ("DELETE /deposits HTTP/1.1\n\n", wrong_method("GET, POST")),
+    ("POST /deposits/7 HTTP/1.1\n\n", wrong_method("DELETE, GET")),
     ("PUT /deposits/7 HTTP/1.1\n\n", wrong_method("DELETE, GET")),
     ("POST /deposits/7/holds HTTP/1.1\n\n", wrong_method("GET")),
     ("POST /deposits/7/bag HTTP/1.1\n\n", wrong_method("GET")),
@@ -279,6 +314,67 @@ SESSION = [
     (asked("GET /deposits"), (200, '{"deposits":[%s]}' % TWO), "2025-03-01"),
 ]
 
+# Queries of a list; those of an office that has no such class or collection are well formed.
+LISTS = [(f"GET /deposits?{query} HTTP/1.1\n\n", given) for query, given in [
+    ("collection=tax", NO_DEPOSITS),
+    ("class=y10", NO_DEPOSITS),
+    ("collection=tax&class=y10", NO_DEPOSITS),
+    ("&class=y10&&collection=tax&", NO_DEPOSITS),
+    ("%63lass=y%31%30", NO_DEPOSITS),
+    ("class=abcdefghijabcdefghijabcdefghijabcdefghij", none("class")),
+    *((query, refused("BadQuery")) for query in [
+        "class=abcdefghijabcdefghijabcdefghijabcdefghijk", "class=", "class", "class=Y10", "class=y%20", "class=%ff", "class=y10=",
+        "class%20=y10", "class=y10&class=y10", "collection=tax&collection=maps", "class=y10&closed=2024-02-29", "class=y10&x",
+        "class=y10&=", "=y10", "?class=y10"]),
+]]
+
+# Queries of a deposit.
+TAKEN = (409, '{"deposit":1,"error":"Taken"}')
+ALL_FOUR = "collection=maps&class=y10&accession=A-1&closed=2024-02-29"
+DEPOSITS = [(f"POST /deposits?{query} HTTP/1.1\nDepot-Caller: anna\nContent-Length: {len(BAG)}\n\n".encode() + BAG, given, "2025-03-01") for query, given in [
+    (ALL_FOUR, TAKEN),
+    ("closed=2024-02-29&accession=A-1&class=y10&collection=maps", TAKEN),
+    ("&collection=maps&&class=y10&accession=A-1&closed=2024-02-29&", TAKEN),
+    ("c%6Fllection=m%61ps&class=y10&accession=%41%2D1&closed=2024%2d02%2d29", TAKEN),
+    *((query, refused("BadQuery")) for query in [
+        "", "class=y10&accession=A-1&closed=2024-02-29", "collection=maps&accession=A-1&closed=2024-02-29",
+        "collection=maps&class=y10&closed=2024-02-29", "collection=maps&class=y10&accession=A-1", ALL_FOUR + "&closed=2024-02-29",
+        ALL_FOUR + "&collection=maps", ALL_FOUR + "&accession=A-2", ALL_FOUR + "&x=", ALL_FOUR + "&=",
+        "collection=Maps&class=y10&accession=A-1&closed=2024-02-29", "collection=maps&class=&accession=A-1&closed=2024-02-29",
+        "collection=maps&class=y10&accession=A+1&closed=2024-02-29", "collection=maps&class=y10&accession=A-1&closed=2024-2-29",
+        "collection=maps&class=y10&accession=A-1&closed=1899-12-31", "collection=maps&class=y10&accession=A-1&closed=9800-01-01",
+        "collection=maps&class=y10&accession=A-1&closed="]),
+]]
+
+# Bodies of a class.
+YEARS = [(body(CLASS, text), given) for text, given in [
+    (' {\n"years" : 10 }\r\n\t', years("y10", 10)),
+    ('{"ye\\u0061rs":10}', years("y10", 10)),
+    ('{"years":1,"years":null}', years("y10", "null")),
+    ('{"years":201,"years":"x","years":200}', years("y10", 200)),
+    ('{"years":' + "[" * 126 + "]" * 126 + ',"years":1}', years("y10", 1)),
+    *((text, refused("BadBody")) for text in [
+        '{"years":' + "[" * 127 + "]" * 127 + ',"years":1}', '{"years":200,"years":201}', '{"years":"\\ud800","years":1}', '{"years":456}',
+        '{"years":-1}', '{"years":010}', '{"years":18446744073709551616}', '{"years":"10"}', '{"years":true}', '{"years":[10]}', '{"years":{}}',
+        '{"Years":10}', "{}", "[10]", "10", "null", '{"years":10} x', '{"years":10']),
+]] + [(b'PUT /classes/y10 HTTP/1.1\nDepot-Caller: anna\nContent-Length: 23\n\n{"years":"\xff","years":1}', refused("BadBody"))]
+
+# Bodies of a hold, on an office that has destroyed deposit 1.
+GONE = (410, '{"day":"2025-02-28","error":"Gone"}')
+HOLDS = [(body(HOLD, text), given, "2025-03-01") for text, given in [
+    ('{"matter":"Case 7","deposit":1}', GONE),
+    ('{"collection":"tax","matter":"Case 7"}', (201, '{"hold":3}')),
+    ('{"matter":"Case 7","collection":"tax"}', (201, '{"hold":4}')),
+    ('{"deposit":1,"deposit":2,"matter":"a"}', (201, '{"hold":5}')),
+    ('{"deposit":0,"matter":"a","deposit":3}', none("deposit")),
+    *((text, refused("BadBody")) for text in [
+        '{"deposit":4294967297,"matter":"a"}', '{"deposit":-1,"matter":"a"}', '{"deposit":1.0,"matter":"a"}', '{"deposit":"1","matter":"a"}',
+        '{"deposit":null,"matter":"a"}', '{"collection":1,"matter":"a"}', '{"collection":"Tax","matter":"a"}', '{"collection":"","matter":"a"}',
+        '{"deposit":1,"matter":"a\\nb"}', '{"deposit":1,"matter":"a\\u007f"}', '{"deposit":1,"matter":7}',
+        '{"deposit":1,"matter":"a","placed":"2024-03-02"}', '{"class":"y10","matter":"a"}', '{"collection":"tax","deposit":1}', '{"matter":"a"}',
+        "{}", '[1,"a"]', ""]),
+]]
+
 POLICY = """version = 1
 
 [callers]
@@ -333,7 +429,7 @@ def answer(status, text, fields=""):
 
 def rows():
     """Each request with its day, and its answer."""
-    for table in (HEADS, CALLERS, PATHS, METHODS, QUERIES, BODIES, SESSION):
+    for table in (HEADS, CALLERS, PATHS, METHODS, QUERIES, BODIES, SESSION, LISTS, DEPOSITS, YEARS, HOLDS):
         for request, given, *day in table:
             yield record(day[0] if day else DAY, request), answer(*given)
 
