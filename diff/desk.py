@@ -191,8 +191,8 @@ QUERIES = [
     ("GET /deposits/7/files/a?b HTTP/1.1\n\n", refused("BadQuery")),
     ("GET /deposits HTTP/1.1\n\n", NO_DEPOSITS),
     ("GET /deposits?class=y1&&collection=tax& HTTP/1.1\n\n", NO_DEPOSITS),
-    ("GET /deposits?class=none HTTP/1.1\n\n", none("class")),
-    ("GET /deposits?collection=none HTTP/1.1\n\n", none("collection")),
+    ("GET /deposits?class=none HTTP/1.1\n\n", NO_DEPOSITS),
+    ("GET /deposits?collection=none HTTP/1.1\n\n", NO_DEPOSITS),
     ("GET /deposits?%63lass=y%31 HTTP/1.1\n\n", NO_DEPOSITS),
     ("GET /deposits?class=y1&%63lass=y1 HTTP/1.1\n\n", refused("BadQuery")),
     ("GET /deposits?class=Y1 HTTP/1.1\n\n", refused("BadQuery")),
@@ -314,14 +314,14 @@ SESSION = [
     (asked("GET /deposits"), (200, '{"deposits":[%s]}' % TWO), "2025-03-01"),
 ]
 
-# Queries of a list; those of an office that has no such class or collection are well formed.
+# Queries of a list. A class or a collection that is not there has no deposits.
 LISTS = [(f"GET /deposits?{query} HTTP/1.1\n\n", given) for query, given in [
     ("collection=tax", NO_DEPOSITS),
     ("class=y10", NO_DEPOSITS),
     ("collection=tax&class=y10", NO_DEPOSITS),
     ("&class=y10&&collection=tax&", NO_DEPOSITS),
     ("%63lass=y%31%30", NO_DEPOSITS),
-    ("class=abcdefghijabcdefghijabcdefghijabcdefghij", none("class")),
+    ("class=abcdefghijabcdefghijabcdefghijabcdefghij", NO_DEPOSITS),
     *((query, refused("BadQuery")) for query in [
         "class=abcdefghijabcdefghijabcdefghijabcdefghijk", "class=", "class", "class=Y10", "class=y%20", "class=%ff", "class=y10=",
         "class%20=y10", "class=y10&class=y10", "collection=tax&collection=maps", "class=y10&closed=2024-02-29", "class=y10&x",
