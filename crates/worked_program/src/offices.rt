@@ -52,7 +52,7 @@ static NOTHING_MADE: [Run; 10] = [
             "offices/office.db",
         ],
         input: RECORDS,
-        err: "policy Y2\nthe policy has no version, or one that is not the whole number 1 (Y2)\n",
+        err: "policy Y2\nthe policy has no version, or one that is not the whole number 1 (Y2)\ndepot: offices/other.toml is no policy\n",
         ..REFUSED
     },
     Run {
@@ -135,7 +135,7 @@ static MADE_BY_POLICY: [Run; 12] = [
             "offices/office.db",
         ],
         input: RECORDS,
-        err: "policy Y2\nthe policy has no version, or one that is not the whole number 1 (Y2)\n",
+        err: "policy Y2\nthe policy has no version, or one that is not the whole number 1 (Y2)\ndepot: offices/other.toml is no policy\n",
         ..REFUSED
     },
     Run {
@@ -245,7 +245,7 @@ static IN_MEMORY: [Run; 6] = [
     Run {
         words: &["replay", "--policy=offices/other.toml", "--", ":memory:"],
         input: RECORDS,
-        err: "policy Y2\nthe policy has no version, or one that is not the whole number 1 (Y2)\n",
+        err: "policy Y2\nthe policy has no version, or one that is not the whole number 1 (Y2)\ndepot: offices/other.toml is no policy\n",
         ..REFUSED
     },
 ];
