@@ -11,6 +11,7 @@ use rand_pcg::Pcg32;
 /// What is asked, without its parts.
 #[derive(Clone, Copy)]
 enum Kind {
+    Install,
     DefineClass,
     DefineCollection,
     Deposit,
@@ -28,7 +29,8 @@ enum Kind {
 }
 
 /// Each kind as often as it is to come: most deposits are refused, so they come more often.
-static KINDS: [Kind; 25] = [
+static KINDS: [Kind; 26] = [
+    Kind::Install,
     Kind::DefineClass,
     Kind::DefineClass,
     Kind::DefineClass,
@@ -58,12 +60,14 @@ static KINDS: [Kind; 25] = [
 
 /// What is put to both offices.
 #[derive(Drop)]
-pub struct Drawn {
-    /// The text of a policy that is installed before the request, where one is.
-    pub policy: Option<&'static str>,
-    pub day: Day,
-    pub caller: &'static str,
-    pub request: Request<'static>,
+pub enum Drawn {
+    /// The text of a policy that is installed.
+    Install(&'static str),
+    Request {
+        day: Day,
+        caller: &'static str,
+        request: Request<'static>,
+    },
 }
 
 /// Draws what is put to the offices, the same for the same seed.
@@ -171,19 +175,13 @@ impl Draws {
         }
     }
 
-    /// The text of a policy, now and then.
-    fn policy(&mut self) -> Option<Option<&'static str>> {
-        match self.number() {
-            1 => Some(Some(self.word(&POLICIES)?)),
-            _ => Some(None),
-        }
-    }
-
     /// What is put to the offices next.
     pub fn next(&mut self) -> Option<Drawn> {
         let kind = *KINDS.choose(&mut self.generator)?;
-        Some(Drawn {
-            policy: self.policy()?,
+        if let Kind::Install = kind {
+            return Some(Drawn::Install(self.word(&POLICIES)?));
+        }
+        Some(Drawn::Request {
             day: self.day()?,
             caller: self.word(&CALLERS)?,
             request: self.request(kind)?,
