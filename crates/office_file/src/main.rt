@@ -172,7 +172,7 @@ fn run(rt: &HostRuntime, words: &[String]) -> Result<()> {
         return input::measure(rt, Input::named(word).context(USAGE)?);
     }
     if let [_, word, count, seed] = words {
-        if word == "draw" {
+        if word.as_str() == "draw" {
             let count = count.parse::<u32>().context("COUNT")?;
             return draw(rt, count, seed.parse::<u64>().context("SEED")?);
         }
