@@ -1,5 +1,5 @@
 -- How a transaction ends.
-use Rattle.std.proofs.Common.{◌≡◌, inl, inr, true, false, IsTrue, refl, sym, ap, subst, ◌∙◌}
+use Rattle.std.proofs.Common.{◌≡◌, inl, inr, Bool, true, false, IsTrue, refl, sym, ap, subst, ◌∙◌, true≢false}
 use Rattle.sqlite.specs.Store.{Ghosts}
 use Rattle.sqlite.specs.Tree.{Trees}
 use Rattle.sqlite.specs.Effect.{Database}
@@ -15,7 +15,7 @@ use Rattle.office_history.specs.Runs.{IsLegal, IsFailure, Item, IsItem, serve}
 use Rattle.office_asking.specs.Pictures.{Pictures}
 use Rattle.office_asking.specs.Serving.{IsServed}
 use Rattle.office_asking.proofs.Serving.{grown_none}
-use Rattle.office_engine.specs.Keeping.{IsKeptBy, IsLeftOf, Serves, CommitsTo, Lasts, LeavesEither, after_item, is_accepted}
+use Rattle.office_engine.specs.Keeping.{IsKeptBy, IsLeftOf, Serves, CommitsTo, Lasts, LeavesEither, StaysShut, after_item, is_accepted}
 use Rattle.office_engine.proofs.Accepted.{no_change}
 
 module _ {S : Type 0} (g : Ghosts S) (first : Held S) (last end : State) (stays : Stays (state g (record first { in_transaction = true })) last) where
@@ -44,6 +44,10 @@ module _ {S : Type 0} (g : Ghosts S) (first : Held S) (last end : State) (stays 
   module _ (clean : HasCleanDisk last) (goes : GoesOn (state g (record first { in_transaction = true })) last) where
     pub was_open : IsTrue (state g first).is_open
     was_open = (stays.kept clean refl).was_open goes.is_open
+
+    -- what goes on was open
+    pub never_shut : (given : Answer) → StaysShut (state g first) end given
+    never_shut given shut = absurd (true≢false (sym was_open ∙ shut))
 
     -- ---- committed: the tables picture the history that was made
 
@@ -91,6 +95,14 @@ module _ {S : Type 0} (g : Ghosts S) (first : Held S) (last end : State) (stays 
       lasts_same none h legal keeps answered changes =
           let served = decides h legal (keeps was_open).0 in
           absurd (changes (no_change h item.0 item.1.now item.2 given served.answer none))
+
+-- what is open only where another was
+shut_still : (b c : Bool) → (IsTrue b → IsTrue c) → c ≡ false → b ≡ false
+shut_still true c was shut = absurd (true≢false (sym (was refl) ∙ shut))
+shut_still false c was shut = refl
+
+pub failure_shut : (old end : State) (given : Answer) → IsKept old end → IsFailure given → StaysShut old end given
+failure_shut old end given kept fails shut = (fails, shut_still end.is_open old.is_open (λ is_open. (kept is_open).0) shut)
 
 pub lasts_failure : (old end : State) (item : Item) (given : Answer) → IsFailure given → Lasts old end item given
 lasts_failure old end item given fails h legal keeps answered = absurd (answered fails)

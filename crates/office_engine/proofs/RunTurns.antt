@@ -1,15 +1,18 @@
 -- Items of a run in turn.
-use Rattle.std.proofs.Common.{◌≡◌, inl, inr, ◌≤◌, ◌<◌, refl, ℕ, zero, suc, ◌+◌, List, [], ◌∷◌, ◌++◌, take, length, get_or, IsTrue, subst, sym, ap, ◌∙◌, arith}
+use Rattle.std.proofs.Common.{◌≡◌, inl, inr, ◌≤◌, ◌<◌, refl, ℕ, zero, suc, ◌+◌, List, [], ◌∷◌, ◌++◌, take, length, get_or, IsTrue, false, subst, sym, ap, ◌∙◌, arith}
 use Rattle.std.proofs.lemmas.List.{take_more}
+use Rattle.std.proofs.lemmas.List.Elements.{All-nil, All-cons}
 use Rattle.sqlite.specs.Tree.{Trees}
 use Rattle.sqlite.specs.Effect.{Database}
+use Rattle.sqlite.specs.Store.{Ghosts}
 use Rattle.sqlite.specs.State.{State, HasCleanDisk, Survives}
+use Rattle.sqlite.specs.Held.{Held, state}
 use Rattle.sqlite.proofs.StateLemmas.{survives_then}
 use Rattle.office_core.specs.declared.answer.Answer.{Answer}
 use Rattle.office_history.specs.Histories.{History}
 use Rattle.office_history.specs.Answers.{answer}
-use Rattle.office_history.specs.Runs.{IsLegal, Item, Step, Run}
-use Rattle.office_engine.specs.Keeping.{IsKeptBy, IsLeftOfRun, IsReached, CommitsTo, CommitsRun, LeavesRun, after_item}
+use Rattle.office_history.specs.Runs.{IsLegal, IsFailure, Item, Step, Run}
+use Rattle.office_engine.specs.Keeping.{AllStayShut, IsKeptBy, IsLeftOfRun, IsReached, IsTurn, InTurn, CommitsTo, CommitsRun, LeavesRun, after_item}
 
 -- a run, and one item more
 pub run_more : (items : List Item) (told : List Answer) (h mid next : History) (item : Item) (given : Answer) → Run h items told mid → Step mid item given next → Run h (items ++ item ∷ []) (told ++ given ∷ []) next
@@ -34,6 +37,35 @@ take_all (i ∷ items) (suc index) high = ap (λ (xs : List Item). i ∷ xs) (ta
 -- all of them
 pub run_end : (items : List Item) (index : ℕ) (told : List Answer) (h next : History) → length items ≤ index → Run h (take index items) told next → Run h items told next
 run_end items index told h next high run = subst (λ (xs : List Item). Run h xs told next) (take_all items index high) run
+
+-- ---- the store between two items
+
+module _ {S : Type 0} (g : Ghosts S) where
+  turns_more : (old mid new : Held S) (items : List Item) (told : List Answer) (item : Item) (given : Answer) → InTurn g old mid items told → IsTurn (state g mid) (state g new) item given
+      → InTurn g old new (items ++ item ∷ []) (told ++ given ∷ [])
+  turns_more old mid new [] [] item given turns turn = (new, subst (λ (h : Held S). IsTurn (state g h) (state g new) item given) turns turn, refl)
+  turns_more old mid new [] (a ∷ told) item given turns turn = absurd turns
+  turns_more old mid new (i ∷ items) [] item given turns turn = absurd turns
+  turns_more old mid new (i ∷ items) (a ∷ told) item given turns turn = (turns.0, turns.1, turns_more turns.0 mid new items told item given turns.2 turn)
+
+  pub turns_next : (old mid new : Held S) (items : List Item) (index : ℕ) (item : Item) (told : List Answer) (given : Answer) → index < length items → item ≡ get_or items index item
+      → InTurn g old mid (take index items) told → IsTurn (state g mid) (state g new) item given → InTurn g old new (take (index + 1) items) (told ++ given ∷ [])
+  turns_next old mid new items index item told given low is turns turn =
+      let longer = take_more items index item low ∙ ap (λ (x : Item). take index items ++ x ∷ []) (sym is) in
+      subst (λ (xs : List Item). InTurn g old new xs (told ++ given ∷ [])) (sym longer) (turns_more old mid new (take index items) told item given turns turn)
+
+  pub turns_end : (old new : Held S) (items : List Item) (index : ℕ) (told : List Answer) → length items ≤ index → InTurn g old new (take index items) told → InTurn g old new items told
+  turns_end old new items index told high turns = subst (λ (xs : List Item). InTurn g old new xs told) (take_all items index high) turns
+
+  -- over a store that a fault has shut, each is a failure
+  pub turns_shut : (old new : Held S) (items : List Item) (told : List Answer) → InTurn g old new items told → AllStayShut (state g old) (state g new) told
+  turns_shut old new [] [] turns shut = (All-nil IsFailure, subst (λ (h : Held S). (state g h).is_open ≡ false) (sym turns) shut)
+  turns_shut old new [] (a ∷ told) turns shut = absurd turns
+  turns_shut old new (i ∷ items) [] turns shut = absurd turns
+  turns_shut old new (i ∷ items) (a ∷ told) turns shut =
+      let one = turns.1.shut shut in
+      let more = turns_shut turns.0 new items told turns.2 one.1 in
+      (All-cons IsFailure a told one.0 more.0, more.1)
 
 -- ---- what a crash may leave
 

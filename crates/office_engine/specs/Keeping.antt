@@ -1,15 +1,18 @@
 -- What an office keeps over its connection, what a request does to it, and what a crash may leave. `old` is the store before a call
 -- and `new` the store after it.
-use Rattle.std.specs.Prelude.{◌⊎◌, ◌≡◌, ◌≢◌, List, [], ◌∷◌, ℕ, ◌≤◌, Bool, true, false, IsTrue, length, take}
+use Rattle.std.specs.Prelude.{◌⊎◌, ◌≡◌, ◌≢◌, List, [], ◌∷◌, ℕ, ◌≤◌, Bool, true, false, IsTrue, All, length, take}
 use Rattle.jiff.specs.Types.{Date}
 use Rattle.sqlite.specs.Tree.{Trees}
 use Rattle.sqlite.specs.Effect.{Database}
+use Rattle.sqlite.specs.Store.{Ghosts}
 use Rattle.sqlite.specs.State.{State}
+use Rattle.sqlite.specs.Held.{Held, state}
 use Rattle.office_core.specs.Policies.{Contents}
 use Rattle.office_core.specs.declared.answer.Answer.{Answer}
 use Rattle.office_core.specs.declared.answer.Answer.TheVariants as answers
 use Rattle.office_core.specs.declared.request.Request.{Request}
 use Rattle.office_core.specs.declared.request.Request.TheVariants.{Audit}
+use Rattle.office_tables.specs.Opening.{IsKept}
 use Rattle.office_tables.specs.Tables.{IsOffice, tables_of}
 use Rattle.office_history.specs.Histories.{History, Installed, with_changes}
 use Rattle.office_history.specs.Answers.{change, after, due_list}
@@ -75,7 +78,28 @@ is_accepted _ = false
 abbrev pub Audits : State → Request → Answer → Type 0
 Audits old request given = (number : ℕ) → request ≡ Audit number → IsOffice old.now → IsAuditOf (tables_of old.now) number given
 
+-- once a fault has shut the store, the answer is E11 or E12, and the store stays shut
+abbrev pub StaysShut : State → State → Answer → Type 0
+StaysShut old new given = old.is_open ≡ false → IsFailure given × (new.is_open ≡ false)
+
 -- ---- requests in turn
+
+-- what one request does and is answered, as each of a run is
+pub record IsTurn (old new : State) (item : Item) (given : Answer) : Type 0 where
+  pub served : Serves old new item given
+  pub kept : is_accepted given ≡ false → IsKept old new
+  pub audited : Audits old item.2 given
+  pub shut : StaysShut old new given
+
+-- the requests were served one after the other, each over the store that the one before it left
+abbrev pub InTurn : {S : Type 0} → Ghosts S → Held S → Held S → List Item → List Answer → Type 0
+InTurn g old new [] [] = new ≡ old
+InTurn g old new (item ∷ items) (given ∷ more) = (mid : Held _) × IsTurn (state g old) (state g mid) item given × InTurn g mid new items more
+InTurn g old new _ _ = ⊥
+
+-- once a fault has shut the store, each answer is E11 or E12, and the store stays shut
+abbrev pub AllStayShut : State → State → List Answer → Type 0
+AllStayShut old new given = old.is_open ≡ false → All IsFailure given × (new.is_open ≡ false)
 
 -- whichever legal history was kept, the answers are those of a run from it, and the history that it leads to is kept
 abbrev pub Runs : State → State → List Item → List Answer → Type 0

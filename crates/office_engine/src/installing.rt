@@ -1,6 +1,6 @@
 //! The install of a policy, in one transaction.
 
-ghost use Rattle.std.specs.Prelude.{◌≡◌, IfErr, OnErr, OnOk, false};
+ghost use Rattle.std.specs.Prelude.{◌≡◌, IfErr, IsTrue, OnErr, OnOk, false};
 ghost use Rattle.sqlite.specs.State.{HasCleanDisk, Survives};
 ghost use Rattle.sqlite.specs.Held.{state};
 ghost use Rattle.office_tables.specs.Faults.{IsFailure};
@@ -23,6 +23,7 @@ fn install<S: Alter>(
     ensures failure { IfErr result IsFailure }
     ensures installed { HasCleanDisk (state S.Store conn.new)
         → OnOk result (Installs (state S.Store conn.old) (state S.Store conn.new) policy.now) }
+    ensures open { HasCleanDisk (state S.Store conn.new) → OnOk result (IsTrue (state S.Store conn.old).is_open) }
     ensures kept { HasCleanDisk (state S.Store conn.new)
         → OnErr result (IsKept (state S.Store conn.old) (state S.Store conn.new)) }
     ensures survives { Survives (state S.Store conn.old) (state S.Store conn.new)
@@ -56,6 +57,7 @@ pub fn install_and_leave<S: Alter>(
     ensures failure { IfErr result IsFailure }
     ensures installed { HasCleanDisk (state S.Store conn.new)
         → OnOk result (Installs (state S.Store conn.old) (state S.Store conn.new) policy.now) }
+    ensures open { HasCleanDisk (state S.Store conn.new) → OnOk result (IsTrue (state S.Store conn.old).is_open) }
     ensures kept { HasCleanDisk (state S.Store conn.new)
         → OnErr result (IsKept (state S.Store conn.old) (state S.Store conn.new)) }
     ensures survives { Survives (state S.Store conn.old) (state S.Store conn.new)

@@ -1,6 +1,6 @@
 //! The due list, read in a transaction that is rolled back.
 
-ghost use Rattle.std.specs.Prelude.{◌≡◌, IfErr, IfOk, false};
+ghost use Rattle.std.specs.Prelude.{◌≡◌, IfErr, IfOk, IsTrue, OnOk, false};
 ghost use Rattle.sqlite.specs.State.{HasCleanDisk, Survives};
 ghost use Rattle.sqlite.specs.Held.{state};
 ghost use Rattle.office_tables.specs.Faults.{IsFailure};
@@ -25,6 +25,7 @@ pub fn due_list<S: Alter>(
     ensures failure { IfErr result IsFailure }
     ensures listed { HasCleanDisk (state S.Store conn.new) → IfOk result (λ numbers.
         ListsDue (state S.Store conn.old) (state S.Store conn.new) day caller.now numbers.items) }
+    ensures open { HasCleanDisk (state S.Store conn.new) → OnOk result (IsTrue (state S.Store conn.old).is_open) }
     ensures kept { HasCleanDisk (state S.Store conn.new) → IsKept (state S.Store conn.old) (state S.Store conn.new) }
     ensures survives { Survives (state S.Store conn.old) (state S.Store conn.new) (λ _. ⊥) }
 {

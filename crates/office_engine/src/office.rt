@@ -1,6 +1,6 @@
 //! The office: requests over a connection to any store, each in one transaction.
 
-ghost use Rattle.std.specs.Prelude.{◌≡◌, ◌≢◌, ◌⊎◌, Err, IfErr, IfOk, IfSome, IsTrue, List, OnErr, OnOk, false};
+ghost use Rattle.std.specs.Prelude.{◌≡◌, ◌≢◌, ◌⊎◌, Err, IfErr, IfOk, IfSome, IsTrue, List, None, OnErr, OnOk, Some, false};
 ghost use Rattle.sqlite.specs.FileStore.{view, state as files_state};
 ghost use Rattle.sqlite.specs.Files.{file_state, image_of};
 ghost use Rattle.sqlite.specs.Recovery.{Image};
@@ -10,15 +10,16 @@ ghost use Rattle.sqlite.specs.Held.{state};
 ghost use Rattle.sqlite.specs.Tree.{Trees};
 ghost use Rattle.office_tables.specs.Faults as faults;
 ghost use Rattle.office_tables.specs.Opening as opening;
-ghost use Rattle.office_tables.specs.Opening.{HasOtherVersion, HasVersion, IsKept, has_office};
+ghost use Rattle.office_tables.specs.Opening.{HasOtherVersion, HasVersion, IsKept, IsKnownAsOther, has_office};
+ghost use Rattle.office_tables.specs.Tables.{IsOffice, tables_of};
 ghost use Rattle.office_tables.specs.Schema.{no_schema};
 ghost use Rattle.office_tables.specs.declared.fault.TableFault.TheVariants.{NotAnOffice, OtherVersion};
-ghost use Rattle.office_rows.specs.Rows.{this_version};
+ghost use Rattle.office_rows.specs.Rows.{this_version, version_of};
 ghost use Rattle.office_history.specs.Histories.{History};
 ghost use Rattle.office_history.specs.Answers.{after};
 ghost use Rattle.office_history.specs.Runs.{IsLegal, Item, new_history};
 ghost use Rattle.office_recovery.specs.Found.{HoldsWhere};
-ghost use Rattle.office_engine.specs.Keeping.{Audits, CommitsRun, CommitsTo, InstallLasts, Installs, IsAfterSome, IsKeptBy, IsLeftOf, IsLeftOfEither, IsLeftOfRun, Lasts, LeavesEither, LeavesRun, ListsDue, Runs, Serves, after_item, is_accepted, with_policy};
+ghost use Rattle.office_engine.specs.Keeping.{AllStayShut, Audits, CommitsRun, CommitsTo, InTurn, InstallLasts, Installs, IsAfterSome, IsKeptBy, IsLeftOf, IsLeftOfEither, IsLeftOfRun, Lasts, LeavesEither, LeavesRun, ListsDue, Runs, Serves, StaysShut, after_item, is_accepted, with_policy};
 
 use crate::installing::install_and_leave;
 use crate::listing::due_list;
@@ -67,6 +68,7 @@ impl<S: Alter> Office<S> {
         requires outside { (state S.Store conn).in_transaction ≡ false }
         ensures made { IfOk result (λ office. HasCleanDisk (state S.Store office)
             → IsKeptBy (new_history limits.deposits limits.holds) (state S.Store office)) }
+        ensures open { IfOk result (λ office. HasCleanDisk (state S.Store office) → IsTrue (state S.Store office).is_open) }
         ensures survives { IfOk result (λ office. Survives (state S.Store conn) (state S.Store office)
             (IsLeftOf (new_history limits.deposits limits.holds))) }
         ensures durable { IfOk result (λ office. HasCleanDisk (state S.Store office) → (left : Trees)
@@ -95,6 +97,9 @@ impl<S: Alter> Office<S> {
         requires outside { (state S.Store conn).in_transaction ≡ false }
         ensures same { IfOk result (λ office. HasCleanDisk (state S.Store office) → IsKept (state S.Store conn) (state S.Store office)) }
         ensures version { IfOk result (λ office. HasCleanDisk (state S.Store office) → HasVersion (state S.Store conn).now this_version) }
+        ensures has_table { IfOk result (λ office. HasCleanDisk (state S.Store office) → IsTrue (has_office (state S.Store conn).now.schema)) }
+        ensures known_as_this { IfOk result (λ office. HasCleanDisk (state S.Store office) → IsOffice (state S.Store conn).now
+            → version_of (tables_of (state S.Store conn).now) ≡ Some this_version) }
         ensures survives { IfOk result (λ office. Survives (state S.Store conn) (state S.Store office) (λ _. ⊥)) }
         // What a crash left of an office goes on as that office, and is never told to be none, or one
         // of another version.
@@ -111,6 +116,11 @@ impl<S: Alter> Office<S> {
         ensures not_office { IfErr result (λ e. HasCleanDisk (state S.Store e.0) → e.1 ≡ NotAnOffice → opening.NotAnOffice (state S.Store conn).now) }
         ensures other_version { IfErr result (λ e. HasCleanDisk (state S.Store e.0) → e.1 ≡ OtherVersion → HasOtherVersion (state S.Store conn).now this_version) }
         ensures no_table { has_office (state S.Store conn).now.schema ≡ false → result ≡ Err (conn, NotAnOffice) }
+        // Where the tables are an office's, it says so of their own version.
+        ensures unknown { IfErr result (λ e. HasCleanDisk (state S.Store e.0) → IsOffice (state S.Store conn).now → e.1 ≡ NotAnOffice
+            → version_of (tables_of (state S.Store conn).now) ≡ None) }
+        ensures known_as_other { IfErr result (λ e. HasCleanDisk (state S.Store e.0) → IsOffice (state S.Store conn).now → e.1 ≡ OtherVersion
+            → IsKnownAsOther (tables_of (state S.Store conn).now) this_version) }
     {
         match office_recovery::adopt(conn) {
             Ok(conn) => Ok(Office { conn }),
@@ -125,6 +135,7 @@ impl<S: Alter> Office<S> {
         ensures failure { IfErr result faults.IsFailure }
         ensures installed { HasCleanDisk (state S.Store self.new)
             → OnOk result (Installs (state S.Store self.old) (state S.Store self.new) policy.now) }
+        ensures open { HasCleanDisk (state S.Store self.new) → OnOk result (IsTrue (state S.Store self.old).is_open) }
         ensures kept { HasCleanDisk (state S.Store self.new)
             → OnErr result (IsKept (state S.Store self.old) (state S.Store self.new)) }
         ensures survives { Survives (state S.Store self.old) (state S.Store self.new)
@@ -146,6 +157,8 @@ impl<S: Alter> Office<S> {
             → IsKept (state S.Store self.old) (state S.Store self.new) }
         // Whatever the tables of the office hold, an audit is the verdict on what stands there.
         ensures audited { HasCleanDisk (state S.Store self.new) → Audits (state S.Store self.old) request.now result }
+        // Over a store that a fault has shut, it is a failure.
+        ensures shut { HasCleanDisk (state S.Store self.new) → StaysShut (state S.Store self.old) (state S.Store self.new) result }
         ensures survives { Survives (state S.Store self.old) (state S.Store self.new)
             (CommitsTo (state S.Store self.old) (after_item (day, caller.entry, request.now))) }
         ensures durable { HasCleanDisk (state S.Store self.new)
@@ -165,6 +178,9 @@ impl<S: Alter> Office<S> {
     ) -> Result<Vec<Answer>, AllocError>
         ensures ran { HasCleanDisk (state S.Store self.new) → IfOk result (λ answers.
             Runs (state S.Store self.old) (state S.Store self.new) items.now answers.items) }
+        ensures in_turn { HasCleanDisk (state S.Store self.new) → IfOk result (λ answers. InTurn S.Store self.old self.new items.now answers.items) }
+        ensures shut { HasCleanDisk (state S.Store self.new) → IfOk result (λ answers.
+            AllStayShut (state S.Store self.old) (state S.Store self.new) answers.items) }
         ensures failed { OnErr result (self.new ≡ self.old) }
         ensures survives { Survives (state S.Store self.old) (state S.Store self.new) (CommitsRun (state S.Store self.old) items.now) }
         ensures leaves { HasCleanDisk (state S.Store self.new) → LeavesRun (state S.Store self.old) (state S.Store self.new) items.now }
@@ -189,6 +205,7 @@ impl<S: Alter> Office<S> {
         ensures failure { IfErr result faults.IsFailure }
         ensures listed { HasCleanDisk (state S.Store self.new) → IfOk result (λ numbers.
             ListsDue (state S.Store self.old) (state S.Store self.new) day caller.now numbers.items) }
+        ensures open { HasCleanDisk (state S.Store self.new) → OnOk result (IsTrue (state S.Store self.old).is_open) }
         ensures kept { HasCleanDisk (state S.Store self.new) → IsKept (state S.Store self.old) (state S.Store self.new) }
         ensures survives { Survives (state S.Store self.old) (state S.Store self.new) (λ _. ⊥) }
     {

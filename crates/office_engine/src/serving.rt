@@ -10,7 +10,7 @@ ghost use Rattle.office_tables.specs.Opening.{IsKept};
 ghost use Rattle.office_history.specs.Runs.{IsFailure};
 ghost use Rattle.office_asking.specs.Serving.{Decides};
 ghost use Rattle.office_serving.specs.Audits.{IsAuditOf};
-ghost use Rattle.office_engine.specs.Keeping.{Audits, CommitsTo, Lasts, LeavesEither, Serves, after_item, is_accepted};
+ghost use Rattle.office_engine.specs.Keeping.{Audits, CommitsTo, Lasts, LeavesEither, Serves, StaysShut, after_item, is_accepted};
 
 use office_core::{Answer, Day, Refusal, Request};
 use office_defining::{define_class, define_collection};
@@ -119,6 +119,7 @@ pub fn serve<S: Alter>(
         → Serves (state S.Store conn.old) (state S.Store conn.new) (day, caller.entry, request.now) result }
     ensures kept { HasCleanDisk (state S.Store conn.new) → is_accepted result ≡ false → IsKept (state S.Store conn.old) (state S.Store conn.new) }
     ensures audited { HasCleanDisk (state S.Store conn.new) → Audits (state S.Store conn.old) request.now result }
+    ensures shut { HasCleanDisk (state S.Store conn.new) → StaysShut (state S.Store conn.old) (state S.Store conn.new) result }
     ensures survives { Survives (state S.Store conn.old) (state S.Store conn.new)
         (CommitsTo (state S.Store conn.old) (after_item (day, caller.entry, request.now))) }
     ensures durable { HasCleanDisk (state S.Store conn.new)
@@ -160,6 +161,7 @@ pub fn serve_and_leave<S: Alter>(
         → Serves (state S.Store conn.old) (state S.Store conn.new) (day, caller.entry, request.now) result }
     ensures kept { HasCleanDisk (state S.Store conn.new) → is_accepted result ≡ false → IsKept (state S.Store conn.old) (state S.Store conn.new) }
     ensures audited { HasCleanDisk (state S.Store conn.new) → Audits (state S.Store conn.old) request.now result }
+    ensures shut { HasCleanDisk (state S.Store conn.new) → StaysShut (state S.Store conn.old) (state S.Store conn.new) result }
     ensures survives { Survives (state S.Store conn.old) (state S.Store conn.new)
         (CommitsTo (state S.Store conn.old) (after_item (day, caller.entry, request.now))) }
     ensures durable { HasCleanDisk (state S.Store conn.new)

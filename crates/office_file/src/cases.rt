@@ -1,7 +1,7 @@
 //! Want of memory: each case has the answer that was worked out, or want of memory, and nothing else.
 //!
-//! Standard input may name one group of cases, and then says how many allocations are made first, so that
-//! `refuse-memory.sh` can have one allocation of the cases after the other refused.
+//! Standard input may name one group of cases, whose allocations `diff/memory.py` has refused, one after the
+//! other.
 
 use crate::groups;
 use std::io::{self, Read};
@@ -40,30 +40,16 @@ impl Group {
     }
 }
 
-/// The one group that is asked for, if one is, and the number of allocations before its cases.
-fn said_first(said: &[u8]) -> (Option<Group>, u16) {
-    let text = str::from_utf8(said).unwrap_or("").trim();
-    match text.split_once(' ') {
-        Some((group, count)) => (Group::read(group), count.parse().unwrap_or(0)),
-        None => (Group::read(text), 0),
-    }
-}
-
-/// Makes that many allocations.
-fn allocate(rt: &HostRuntime, count: u16) {
-    for number in 0..count {
-        if Box::new(rt.alloc(), number).is_err() {
-            let _ = println!(rt; "refused before the cases");
-        }
-    }
+/// The one group that is asked for, if one is.
+fn said_group(said: &[u8]) -> Option<Group> {
+    Group::read(str::from_utf8(said).unwrap_or("").trim())
 }
 
 /// Reads what is wanted, and prints how each case comes out. Whether all groups were wanted.
 pub fn answer(rt: &HostRuntime) -> io::Result<bool> {
     let mut room = [0_u8; 16];
     let length = rt.stdin().read(&mut room)?;
-    let (only, count) = said_first(room.get(..length).unwrap_or(&[]));
-    allocate(rt, count);
+    let only = said_group(room.get(..length).unwrap_or(&[]));
     for group in GROUPS {
         if only.is_none() || only == Some(group) {
             group.run(rt)?;

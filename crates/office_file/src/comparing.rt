@@ -1,6 +1,6 @@
 //! The same requests, put to both offices.
 
-use crate::drawing::{Drawn, Draws};
+use crate::drawing::Draws;
 use crate::texts::{FIRST_CLASSES, FIRST_COLLECTIONS, POLICIES};
 use anyhow::{Context, Result, bail};
 use office_core::{Answer, Day, Limits, Name, Request, Years, read_policy};
@@ -99,15 +99,15 @@ impl<S: Alter + Drop> Offices<S> {
     }
 }
 
-/// Puts so many requests, drawn by the seed, to two new offices, one of them in the empty database, and
-/// installs between them. Fails where an answer of the one isn't the answer of the other. The
-/// connection again, and how many were accepted and refused.
+/// Puts so many requests, drawn by the seed, to two new offices, one of them in the empty database, with
+/// installs before some of them. Fails where an answer of the one isn't the answer of the other. How many
+/// were accepted and refused.
 pub fn compare<S: Alter + Drop>(
     alloc: Global,
     conn: Connection<S>,
     seed: u64,
     count: u32,
-) -> Result<(Connection<S>, Tally)> {
+) -> Result<Tally> {
     let mut draws = Draws::new(seed);
     let mut offices = Offices::create(alloc, conn)?;
     offices.install(alloc, POLICIES[0])?;
@@ -117,21 +117,16 @@ pub fn compare<S: Alter + Drop>(
         refused: 0,
     };
     for _ in 0..count {
-        match draws.next().context("a draw")? {
-            Drawn::Install(policy) => offices.install(alloc, policy)?,
-            Drawn::Request {
-                day,
-                caller,
-                request,
-            } => {
-                if offices.step(alloc, day, caller, &request)? {
-                    tally.accepted = tally.accepted.saturating_add(1);
-                    offices.compare_due(alloc, day, caller)?;
-                } else {
-                    tally.refused = tally.refused.saturating_add(1);
-                }
-            }
+        let drawn = draws.next().context("a draw")?;
+        if let Some(policy) = drawn.policy {
+            offices.install(alloc, policy)?;
+        }
+        if offices.step(alloc, drawn.day, drawn.caller, &drawn.request)? {
+            tally.accepted = tally.accepted.saturating_add(1);
+            offices.compare_due(alloc, drawn.day, drawn.caller)?;
+        } else {
+            tally.refused = tally.refused.saturating_add(1);
         }
     }
-    Ok((offices.kept.into_connection(), tally))
+    Ok(tally)
 }

@@ -11,7 +11,6 @@ use rand_pcg::Pcg32;
 /// What is asked, without its parts.
 #[derive(Clone, Copy)]
 enum Kind {
-    Install,
     DefineClass,
     DefineCollection,
     Deposit,
@@ -29,8 +28,7 @@ enum Kind {
 }
 
 /// Each kind as often as it is to come: most deposits are refused, so they come more often.
-static KINDS: [Kind; 26] = [
-    Kind::Install,
+static KINDS: [Kind; 25] = [
     Kind::DefineClass,
     Kind::DefineClass,
     Kind::DefineClass,
@@ -60,14 +58,12 @@ static KINDS: [Kind; 26] = [
 
 /// What is put to both offices.
 #[derive(Drop)]
-pub enum Drawn {
-    /// The text of a policy that is installed.
-    Install(&'static str),
-    Request {
-        day: Day,
-        caller: &'static str,
-        request: Request<'static>,
-    },
+pub struct Drawn {
+    /// The text of a policy that is installed before the request, where one is.
+    pub policy: Option<&'static str>,
+    pub day: Day,
+    pub caller: &'static str,
+    pub request: Request<'static>,
 }
 
 /// Draws what is put to the offices, the same for the same seed.
@@ -175,13 +171,19 @@ impl Draws {
         }
     }
 
+    /// The text of a policy, now and then.
+    fn policy(&mut self) -> Option<Option<&'static str>> {
+        match self.number() {
+            1 => Some(Some(self.word(&POLICIES)?)),
+            _ => Some(None),
+        }
+    }
+
     /// What is put to the offices next.
     pub fn next(&mut self) -> Option<Drawn> {
         let kind = *KINDS.choose(&mut self.generator)?;
-        if let Kind::Install = kind {
-            return Some(Drawn::Install(self.word(&POLICIES)?));
-        }
-        Some(Drawn::Request {
+        Some(Drawn {
+            policy: self.policy()?,
             day: self.day()?,
             caller: self.word(&CALLERS)?,
             request: self.request(kind)?,

@@ -1,6 +1,6 @@
-//! Writes an office into a file, which the `sqlite3` command can read, times calls of the tables and
-//! requests to the office, and compares its answers with those of the plain office. With no words it
-//! runs the cases of want of memory.
+//! Writes an office into a file, which the `sqlite3` command can read, times calls of the tables,
+//! requests to the office and the hearing of a request, and compares the office's answers with those of
+//! the plain office. With no words it runs the cases of want of memory.
 #![tactic(auto)]
 
 mod calls;
@@ -9,6 +9,7 @@ mod changes;
 mod comparing;
 mod drawing;
 mod groups;
+mod input;
 mod lines;
 mod office;
 mod offices;
@@ -19,7 +20,8 @@ mod texts;
 mod timed;
 
 use anyhow::{Context, Result, bail};
-use comparing::{Tally, compare};
+use comparing::compare;
+use input::Input;
 use office_engine::Office;
 use requests::Asked;
 use sqlite::{Alter, Connection};
@@ -28,7 +30,7 @@ use std::time::{Duration, Instant};
 use timed::Call;
 
 const USAGE: &str =
-    "words: none, write FILE, make FILE, draw FILE COUNT SEED, or FILE and COUNT behind one of deposits, read, live, last, ask-deposits, ask-records, ask-disposals, ask-bags, ask-lists and ask-due";
+    "words: none, hear, read-all, write FILE, make FILE, draw COUNT SEED, or FILE and COUNT behind one of deposits, read, live, last, ask-deposits, ask-records, ask-disposals, ask-bags, ask-lists and ask-due";
 
 /// What the words ask for.
 #[derive(Clone, Copy)]
@@ -39,8 +41,6 @@ enum Task {
     Time(Call, u32),
     /// A request to the office, so many times.
     Ask(Asked, u32),
-    /// So many requests, drawn by a seed, to two offices.
-    Draw(u32, u64),
 }
 
 /// What a task comes to.
@@ -49,8 +49,6 @@ enum Report {
     Done,
     /// The time of the calls or requests: the opening of the file doesn't count.
     Took(Duration),
-    /// Two offices gave the same answers.
-    Agreed(Tally),
 }
 
 fn read_task(word: &str) -> Option<Task> {
@@ -73,13 +71,6 @@ fn read_timed_task(word: &str, count: u32) -> Option<Task> {
         "ask-bags" => Some(Task::Ask(Asked::Bag, count)),
         "ask-lists" => Some(Task::Ask(Asked::List, count)),
         "ask-due" => Some(Task::Ask(Asked::DueList, count)),
-        _ => None,
-    }
-}
-
-fn read_draw(word: &str, count: u32, seed: u64) -> Option<Task> {
-    match word {
-        "draw" => Some(Task::Draw(count, seed)),
         _ => None,
     }
 }
@@ -134,10 +125,6 @@ fn perform<S: Alter + Drop>(
             let (conn, took) = ask(rt, conn, asked, count)?;
             return Ok((conn, Report::Took(took)));
         }
-        Task::Draw(count, seed) => {
-            let (conn, tally) = compare(rt.alloc(), conn, seed, count)?;
-            return Ok((conn, Report::Agreed(tally)));
-        }
     }
     Ok((conn, Report::Done))
 }
@@ -147,26 +134,27 @@ fn read_words(words: &[String]) -> Result<(Task, &str)> {
     let (Some(task), Some(file)) = (words.get(1), words.get(2)) else {
         bail!("{USAGE}");
     };
-    let task = match (words.get(3), words.get(4)) {
-        (None, _) => read_task(task),
-        (Some(count), None) => read_timed_task(task, count.parse::<u32>().context("COUNT")?),
-        (Some(count), Some(seed)) => {
-            let count = count.parse::<u32>().context("COUNT")?;
-            read_draw(task, count, seed.parse::<u64>().context("SEED")?)
-        }
+    let task = match words.get(3) {
+        None => read_task(task),
+        Some(count) => read_timed_task(task, count.parse::<u32>().context("COUNT")?),
     };
     Ok((task.context(USAGE)?, file.as_str()))
 }
 
 /// Prints what the task comes to.
 fn say(rt: &HostRuntime, report: Report) -> Result<()> {
-    match report {
-        Report::Done => {}
-        Report::Took(took) => println!(rt; "{}", took.as_micros())?,
-        Report::Agreed(tally) => {
-            println!(rt; "{} accepted {} refused", tally.accepted, tally.refused)?
-        }
+    if let Report::Took(took) = report {
+        println!(rt; "{}", took.as_micros())?;
     }
+    Ok(())
+}
+
+/// Puts so many requests, drawn by the seed, to an office in memory and to the plain office. Prints how
+/// many were accepted and how many refused.
+fn draw(rt: &HostRuntime, count: u32, seed: u64) -> Result<()> {
+    let conn = Connection::open_in_memory(rt.alloc()).context("opening memory")?;
+    let tally = compare(rt.alloc(), conn, seed, count)?;
+    println!(rt; "{} accepted {} refused", tally.accepted, tally.refused)?;
     Ok(())
 }
 
@@ -180,6 +168,15 @@ fn take(rt: &HostRuntime, file: &str, task: Task) -> Result<()> {
 
 /// Does what the words after the program's name ask for.
 fn run(rt: &HostRuntime, words: &[String]) -> Result<()> {
+    if let [_, word] = words {
+        return input::measure(rt, Input::named(word).context(USAGE)?);
+    }
+    if let [_, word, count, seed] = words {
+        if word.as_str() == "draw" {
+            let count = count.parse::<u32>().context("COUNT")?;
+            return draw(rt, count, seed.parse::<u64>().context("SEED")?);
+        }
+    }
     let (task, file) = read_words(words)?;
     take(rt, file, task)
 }
@@ -187,7 +184,7 @@ fn run(rt: &HostRuntime, words: &[String]) -> Result<()> {
 /// Runs the cases of want of memory, and where all are wanted draws requests.
 fn run_cases(rt: &HostRuntime) -> Result<()> {
     if cases::answer(rt)? {
-        take(rt, "office.db", Task::Draw(100, 7))?;
+        draw(rt, 100, 7)?;
     }
     Ok(())
 }

@@ -1,7 +1,7 @@
 //! An office that is found again: of what was left of one, its rows as they were.
 #![tactic(auto)]
 
-ghost use Rattle.std.specs.Prelude.{◌≡◌, ◌≤◌, Err, Some, false, IsTrue, IfOk, IfErr, IfSome};
+ghost use Rattle.std.specs.Prelude.{◌≡◌, ◌≤◌, Err, None, Some, false, IsTrue, IfOk, IfErr, IfSome};
 ghost use Rattle.sqlite.specs.State.{HasCleanDisk, Survives};
 ghost use Rattle.sqlite.specs.Held.{state};
 ghost use Rattle.sqlite.specs.Files.{file_state, image_of};
@@ -12,7 +12,8 @@ ghost use Rattle.sqlite.specs.WalFiles.{image_at};
 ghost use Rattle.office_rows.specs.Rows.{Tables, this_version, version_of};
 ghost use Rattle.office_tables.specs.Faults.{IsFailure};
 ghost use Rattle.office_tables.specs.Opening as opening;
-ghost use Rattle.office_tables.specs.Opening.{HasOtherVersion, HasVersion, IsKept, IsLeft, has_office};
+ghost use Rattle.office_tables.specs.Opening.{HasOtherVersion, HasVersion, IsKept, IsKnownAsOther, IsLeft, has_office};
+ghost use Rattle.office_tables.specs.Tables.{IsOffice, tables_of};
 ghost use Rattle.office_tables.specs.declared.fault.TableFault.TheVariants.{NotAnOffice, OtherVersion};
 ghost use Rattle.office_recovery.specs.Found.{GoesOnAs, HoldsWhere, PicksUp};
 
@@ -34,6 +35,9 @@ pub fn adopt<S: Alter>(
     ensures same { IfOk result (λ office. HasCleanDisk (state S.Store office) → IsKept (state S.Store conn) (state S.Store office)) }
     ensures survives { IfOk result (λ office. Survives (state S.Store conn) (state S.Store office) (λ _. ⊥)) }
     ensures version { IfOk result (λ office. HasCleanDisk (state S.Store office) → HasVersion (state S.Store conn).now this_version) }
+    ensures has_table { IfOk result (λ office. HasCleanDisk (state S.Store office) → IsTrue (has_office (state S.Store conn).now.schema)) }
+    ensures known_as_this { IfOk result (λ office. HasCleanDisk (state S.Store office) → IsOffice (state S.Store conn).now
+        → version_of (tables_of (state S.Store conn).now) ≡ Some this_version) }
     // What was left of an office goes on as that office.
     ensures found { IfOk result (λ office. HasCleanDisk (state S.Store office) → GoesOnAs (state S.Store conn) (state S.Store office)) }
 
@@ -46,6 +50,11 @@ pub fn adopt<S: Alter>(
     ensures not_office { IfErr result (λ e. HasCleanDisk (state S.Store e.0) → e.1 ≡ NotAnOffice → opening.NotAnOffice (state S.Store conn).now) }
     ensures other_version { IfErr result (λ e. HasCleanDisk (state S.Store e.0) → e.1 ≡ OtherVersion → HasOtherVersion (state S.Store conn).now this_version) }
     ensures no_table { has_office (state S.Store conn).now.schema ≡ false → result ≡ Err (conn, NotAnOffice) }
+    // Where the tables are an office's, it says so of their own version.
+    ensures unknown { IfErr result (λ e. HasCleanDisk (state S.Store e.0) → IsOffice (state S.Store conn).now → e.1 ≡ NotAnOffice
+        → version_of (tables_of (state S.Store conn).now) ≡ None) }
+    ensures known_as_other { IfErr result (λ e. HasCleanDisk (state S.Store e.0) → IsOffice (state S.Store conn).now → e.1 ≡ OtherVersion
+        → IsKnownAsOther (tables_of (state S.Store conn).now) this_version) }
     // Of what was left of an office of this version it says neither.
     ensures failure { IfErr result (λ e. HasCleanDisk (state S.Store e.0) → IsTrue (state S.Store conn).is_open → (tables : Tables)
         → IsLeft tables (state S.Store conn).now.trees → version_of tables ≡ Some this_version → IsFailure e.1) }

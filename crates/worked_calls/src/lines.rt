@@ -61,7 +61,7 @@ static CHECK: [Words; 10] = [
 #[test]
 fn words_of_check(rt: HostRuntime) {
     for (words, file) in CHECK.iter() {
-        assert_eq!(rt; file_of(&rt, *words), *file);
+        assert!(rt; file_of(&rt, *words) == *file);
     }
 }
 
@@ -92,8 +92,8 @@ static EXPLAIN: [(&[&str], &str, &str); 3] = [
 #[test]
 fn words_of_explain(rt: HostRuntime) {
     for (words, policy, caller) in EXPLAIN.iter() {
-        assert_eq!(rt; file_of(&rt, *words), Some(*policy));
-        assert_eq!(rt; caller_of(&rt, *words), Some(*caller));
+        assert!(rt; file_of(&rt, *words) == Some(*policy));
+        assert!(rt; caller_of(&rt, *words) == Some(*caller));
     }
 }
 
@@ -115,7 +115,7 @@ static NO_USE: [Words; 10] = [
 #[test]
 fn words_of_explain_that_are_no_use(rt: HostRuntime) {
     for (words, file) in NO_USE.iter() {
-        assert_eq!(rt; file_of(&rt, *words), *file);
+        assert!(rt; file_of(&rt, *words) == *file);
     }
 }
 
@@ -139,19 +139,18 @@ fn a_decision_in_words(rt: HostRuntime) -> Result<(), Fail> {
     let rule =
         b"version = 1\n[[rule]]\neffect = \"allow\"\nrole = \"stranger\"\naction = \"*\"\ncollection = \"*\"\nclass = \"y1\"\n";
     let outcome = explain_outcome(rt.alloc(), rule.as_slice(), &asked)?;
-    assert_eq!(rt; outcome.text.as_str(), "allow rule 1\n");
-    assert_eq!(rt;
-        reason_of(&outcome),
-        "the caller eve is not in the policy, and has the role stranger\n"
+    assert!(rt; outcome.text.as_str() == "allow rule 1\n");
+    assert!(rt;
+        reason_of(&outcome) == "the caller eve is not in the policy, and has the role stranger\n"
     );
-    assert_eq!(rt; outcome.ending, Ending::Accepted);
+    assert!(rt; outcome.ending == Ending::Accepted);
     let outcome = explain_outcome(rt.alloc(), b"version = 1".as_slice(), &asked)?;
-    assert_eq!(rt; outcome.text.as_str(), "deny default\n");
-    assert_eq!(rt; outcome.ending, Ending::Refused);
+    assert!(rt; outcome.text.as_str() == "deny default\n");
+    assert!(rt; outcome.ending == Ending::Refused);
     let outcome = explain_outcome(rt.alloc(), b"version = 1 # \xff".as_slice(), &asked)?;
-    assert_eq!(rt; outcome.text.as_str(), "policy Y1\n");
-    assert_eq!(rt; reason_of(&outcome), "the policy is no text in TOML (Y1)\n");
-    assert_eq!(rt; outcome.ending, Ending::Refused);
+    assert!(rt; outcome.text.as_str() == "policy Y1\n");
+    assert!(rt; reason_of(&outcome) == "the policy is no text in TOML (Y1)\n");
+    assert!(rt; outcome.ending == Ending::Refused);
     Ok(())
 }
 
@@ -170,12 +169,12 @@ fn printed<R: Read>(
 #[test]
 fn too_long_an_input(rt: HostRuntime) -> Result<(), Fail> {
     let (out, err, ending) = printed(&rt, ["check", "-"].as_slice(), &mut io::repeat(b'x'))?;
-    assert_eq!(rt; out.as_slice(), b"unreadable SIZE\n".as_slice());
-    assert_eq!(rt;
-        err.as_slice(),
-        b"the form is longer than 16,777,216 bytes, the most that is judged (SIZE)\n".as_slice()
+    assert!(rt; out.as_slice() == b"unreadable SIZE\n".as_slice());
+    assert!(rt;
+        err.as_slice()
+            == b"the form is longer than 16,777,216 bytes, the most that is judged (SIZE)\n".as_slice()
     );
-    assert_eq!(rt; ending, Ending::Refused);
+    assert!(rt; ending == Ending::Refused);
     Ok(())
 }
 
@@ -227,11 +226,10 @@ fn devices_fail(rt: HostRuntime) -> Result<(), Fail> {
         &mut Broken,
         &mut said,
     );
-    assert_eq!(rt;
-        said.as_slice(),
-        b"device\ndepot: cannot write standard output: broken pipe\n".as_slice()
+    assert!(rt;
+        said.as_slice() == b"device\ndepot: cannot write standard output: broken pipe\n".as_slice()
     );
-    assert_eq!(rt; ending, Ending::Failed);
+    assert!(rt; ending == Ending::Failed);
     Ok(())
 }
 
@@ -293,22 +291,22 @@ fn faults_of_use(rt: HostRuntime) -> Result<(), Fail> {
 fn words_that_are_no_text(rt: HostRuntime) {
     let mut err = Vec::new(rt.alloc());
     let ending = refuse_words(&Error::from(ErrorKind::InvalidData), &mut err);
-    assert_eq!(rt; err.as_slice(), b"a word is not UTF-8\n".as_slice());
-    assert_eq!(rt; ending, Ending::Misused);
+    assert!(rt; err.as_slice() == b"a word is not UTF-8\n".as_slice());
+    assert!(rt; ending == Ending::Misused);
     let ending = refuse_words(&Error::from(ErrorKind::InvalidData), &mut Broken);
-    assert_eq!(rt; ending, Ending::Unsaid);
+    assert!(rt; ending == Ending::Unsaid);
 }
 
 #[test]
 fn words_that_could_not_be_had(rt: HostRuntime) {
     let mut err = Vec::new(rt.alloc());
     let ending = refuse_words(&Error::from(ErrorKind::BrokenPipe), &mut err);
-    assert_eq!(rt; err.as_slice(), b"device\n".as_slice());
-    assert_eq!(rt; ending, Ending::Failed);
+    assert!(rt; err.as_slice() == b"device\n".as_slice());
+    assert!(rt; ending == Ending::Failed);
     let mut err = Vec::new(rt.alloc());
     let ending = refuse_words(&Error::from(ErrorKind::OutOfMemory), &mut err);
-    assert_eq!(rt; err.as_slice(), b"memory\n".as_slice());
-    assert_eq!(rt; ending, Ending::Failed);
+    assert!(rt; err.as_slice() == b"memory\n".as_slice());
+    assert!(rt; ending == Ending::Failed);
     let ending = refuse_words(&Error::from(ErrorKind::OutOfMemory), &mut Broken);
-    assert_eq!(rt; ending, Ending::Unsaid);
+    assert!(rt; ending == Ending::Unsaid);
 }

@@ -136,9 +136,9 @@ fn bytes_behind_a_head(rt: HostRuntime) -> Result<(), Fail> {
     ];
     for (portion, calls, want, answer, text, failures) in &rows {
         let (result, bytes, failed) = filled(rt.alloc(), *portion, *calls, *want)?;
-        assert_eq!(rt; result, *answer, "{want} at {calls}");
-        assert_eq!(rt; bytes.as_slice(), text.as_bytes(), "{want} at {calls}");
-        assert_eq!(rt; failed, *failures, "{want} at {calls}");
+        assert!(rt; result == *answer);
+        assert!(rt; bytes.as_slice() == text.as_bytes());
+        assert!(rt; failed == *failures);
     }
     Ok(())
 }
@@ -154,13 +154,9 @@ fn bytes_written_whole(rt: HostRuntime) -> Result<(), Fail> {
     for (portion, calls, answer, text, failures) in &rows {
         let memory: Vec<u8> = Vec::new(rt.alloc());
         let mut writer = Counted::new(FailAt::new(memory, *portion, *calls));
-        assert_eq!(rt; write_whole(&mut writer, b"body"), *answer, "at {calls}");
-        assert_eq!(rt;
-            writer.device.memory.as_slice(),
-            text.as_bytes(),
-            "at {calls}"
-        );
-        assert_eq!(rt; writer.failures, *failures, "at {calls}");
+        assert!(rt; write_whole(&mut writer, b"body") == *answer);
+        assert!(rt; writer.device.memory.as_slice() == text.as_bytes());
+        assert!(rt; writer.failures == *failures);
     }
     Ok(())
 }
@@ -169,24 +165,24 @@ fn bytes_written_whole(rt: HostRuntime) -> Result<(), Fail> {
 fn failed_calls_are_counted(rt: HostRuntime) -> Result<(), Fail> {
     let mut reader = Counted::new(FailAt::new("ab".as_bytes(), Portion::OneByte, 1));
     let mut buffer = [0u8; 4];
-    assert_eq!(rt; reader.read(&mut buffer).ok(), Some(1));
-    assert_eq!(rt; reader.read(&mut buffer).ok(), None);
-    assert_eq!(rt; reader.read(&mut buffer).ok(), None);
-    assert_eq!(rt; reader.failures, 2);
+    assert!(rt; matches!(reader.read(&mut buffer), Ok(1)));
+    assert!(rt; reader.read(&mut buffer).is_err());
+    assert!(rt; reader.read(&mut buffer).is_err());
+    assert!(rt; reader.failures == 2);
     let memory: Vec<u8> = Vec::new(rt.alloc());
     let mut writer = Counted::new(FailAt::new(memory, Portion::All, 2));
     assert!(rt; writer.flush().is_ok());
-    assert_eq!(rt; writer.write(b"ab").ok(), Some(2));
+    assert!(rt; matches!(writer.write(b"ab"), Ok(2)));
     assert!(rt; writer.flush().is_err());
-    assert_eq!(rt; writer.write(b"c").ok(), None);
-    assert_eq!(rt; writer.failures, 2);
-    assert_eq!(rt; writer.device.memory.as_slice(), b"ab".as_slice());
+    assert!(rt; writer.write(b"c").is_err());
+    assert!(rt; writer.failures == 2);
+    assert!(rt; writer.device.memory.as_slice() == b"ab".as_slice());
     let mut full = [0u8; 1];
     let mut narrow = Counted::new(&mut full[..]);
-    assert_eq!(rt; narrow.write(b"ab").ok(), Some(1));
-    assert_eq!(rt; narrow.write(b"").ok(), Some(0));
-    assert_eq!(rt; narrow.failures, 0);
-    assert_eq!(rt; narrow.write(b"b").ok(), Some(0));
-    assert_eq!(rt; narrow.failures, 1);
+    assert!(rt; matches!(narrow.write(b"ab"), Ok(1)));
+    assert!(rt; matches!(narrow.write(b""), Ok(0)));
+    assert!(rt; narrow.failures == 0);
+    assert!(rt; matches!(narrow.write(b"b"), Ok(0)));
+    assert!(rt; narrow.failures == 1);
     Ok(())
 }

@@ -4,24 +4,6 @@ use desk_records::{Found, MAX_REQUEST, answer_record, record_at};
 use office_core::Day;
 use std::test::*;
 
-const REQUEST: &str = "GET /deposits/7 HTTP/1.1\r\nDepot-Caller: anna\r\n\r\n";
-
-const ANSWER: &str =
-    "HTTP/1.1 404 Not Found\r\nContent-Type: application/json\r\nContent-Length: 35\r\nConnection: close\r\n\r\n{\"error\":\"NoSuch\",\"what\":\"deposit\"}";
-
-#[test]
-fn a_record_of_48_bytes(rt: HostRuntime) -> Result<(), Fail> {
-    let day = Day::read("2024-03-01").ok_or("a day")?;
-    let text = format!(in rt.alloc(); "REQ 2024-03-01 48\n{REQUEST}\nREQ ")?;
-    let whole = Found::Whole {
-        day,
-        bytes: REQUEST.as_bytes(),
-        rest: b"REQ ",
-    };
-    assert_eq!(rt; record_at(text.as_bytes()), whole);
-    Ok(())
-}
-
 /// A record's text, and the day that it names and what follows it.
 static WHOLE: [(&str, &str, &str); 5] = [
     ("REQ 2024-03-01 0\n\n", "2024-03-01", ""),
@@ -40,10 +22,10 @@ fn whole_records(rt: HostRuntime) {
                 bytes: _,
                 rest: left,
             } => {
-                assert_eq!(rt; Some(said), Day::read(day), "of {text:?}");
-                assert_eq!(rt; left, rest.as_bytes(), "of {text:?}");
+                assert!(rt; Some(said) == Day::read(day));
+                assert!(rt; left == rest.as_bytes());
             }
-            other => assert!(rt; false, "{other:?} of {text:?}"),
+            _ => assert!(rt; false, "no record is {text:?}"),
         }
     }
 }
@@ -89,12 +71,12 @@ static BAD: [&str; 22] = [
 #[test]
 fn no_records(rt: HostRuntime) {
     for text in &BEGINNINGS {
-        assert_eq!(rt; record_at(text.as_bytes()), Found::More, "of {text:?}");
+        assert!(rt; record_at(text.as_bytes()) == Found::More, "of {text:?}");
     }
     for text in &BAD {
-        assert_eq!(rt; record_at(text.as_bytes()), Found::Bad, "of {text:?}");
+        assert!(rt; record_at(text.as_bytes()) == Found::Bad, "of {text:?}");
     }
-    assert_eq!(rt; record_at(b"REQ \xff024-03-01 0\n\n"), Found::Bad);
+    assert!(rt; record_at(b"REQ \xff024-03-01 0\n\n") == Found::Bad);
 }
 
 #[test]
@@ -106,11 +88,8 @@ fn records_of_answers(rt: HostRuntime) -> Result<(), Fail> {
     ];
     for (bytes, text) in &rows {
         let record = answer_record(rt.alloc(), bytes.as_bytes())?;
-        assert_eq!(rt; record.as_slice(), text.as_bytes());
+        assert!(rt; record.as_slice() == text.as_bytes());
     }
-    let want = format!(in rt.alloc(); "ANS 132\n{ANSWER}\n")?;
-    let record = answer_record(rt.alloc(), ANSWER.as_bytes())?;
-    assert_eq!(rt; record.as_slice(), want.as_bytes());
-    assert_eq!(rt; MAX_REQUEST, 16_800_000);
+    assert!(rt; MAX_REQUEST == 16_800_000);
     Ok(())
 }

@@ -3,8 +3,8 @@ use Rattle.sqlite.specs.State.{HasCleanDisk, Survives}
 use Rattle.sqlite.specs.Held.{state}
 use Rattle.sql_meaning.proofs.Inside.{survives_commit}
 use Rattle.office_history.specs.Runs.{Item, IsItem}
-use Rattle.office_engine.specs.Keeping.{Serves, CommitsTo, Lasts, after_item, is_accepted}
-use Rattle.office_engine.proofs.Ends.{serves_same, serves_change, lasts_change, lasts_same, commits, pictures_after, serves_failure, failed_back}
+use Rattle.office_engine.specs.Keeping.{Serves, CommitsTo, Lasts, StaysShut, after_item, is_accepted}
+use Rattle.office_engine.proofs.Ends.{serves_same, serves_change, lasts_change, lasts_same, never_shut, commits, pictures_after, serves_failure, failed_back}
 use Rattle.office_engine.proofs.serving.serve.Goals as goal
 
 pub returns-then-not-is_accepted-clause-served : goal.returns-then-not-is_accepted-clause-served
@@ -126,3 +126,45 @@ returns-in-Err-commit-clause-served g c clean =
     let back = failed_back g.S.Store first last (state g.S.Store end) stays early goes c.in-Err-commit.error (c.in-Err-commit.ensures.err late) in
     let done = serves_failure g.S.Store first last (state g.S.Store end) stays item c.failure_of.result early back c.failure_of.ensures.failure in
     subst (λ x. Serves (state g.S.Store first) (state g.S.Store x) item c.failure_of.result) same done
+
+pub returns-then-not-is_accepted-clause-shut : goal.returns-then-not-is_accepted-clause-shut
+returns-then-not-is_accepted-clause-shut g c clean =
+    let first = c.args.conn.now in
+    let end = c.rollback.new.self.0 in
+    let last = state g.S.Store c.decide.new.tx.conn.now in
+    let begun = c.transaction-tx.ensures.begun in
+    let same : end ≡ c.conn-1.given.0 = search rules in
+    let late : HasCleanDisk (state g.S.Store end) = rw same clean in
+    let early : HasCleanDisk last = omega (arith, late, c.rollback.ensures.survives.clean) in
+    let goes = rw begun at (c.in-Ok.ensures.goes_on early) in
+    let stays = rw begun at c.decide.ensures.stays in
+    let done = never_shut g.S.Store first last (state g.S.Store end) stays early goes c.in-Ok.answer in
+    subst (λ x. StaysShut (state g.S.Store first) (state g.S.Store x) c.in-Ok.answer) same done
+
+pub returns-in-Ok-commit-clause-shut : goal.returns-in-Ok-commit-clause-shut
+returns-in-Ok-commit-clause-shut g c clean =
+    let first = c.args.conn.now in
+    let end = c.commit.new.self.0 in
+    let last = state g.S.Store c.decide.new.tx.conn.now in
+    let begun = c.transaction-tx.ensures.begun in
+    let same : end ≡ c.conn-in-Ok-1.given.0 = search rules in
+    let late : HasCleanDisk (state g.S.Store end) = rw same clean in
+    let early : HasCleanDisk last = omega (arith, late, c.commit.ensures.survives.clean) in
+    let goes = rw begun at (c.in-Ok.ensures.goes_on early) in
+    let stays = rw begun at c.decide.ensures.stays in
+    let done = never_shut g.S.Store first last (state g.S.Store end) stays early goes c.in-Ok.answer in
+    subst (λ x. StaysShut (state g.S.Store first) (state g.S.Store x) c.in-Ok.answer) same done
+
+pub returns-in-Err-commit-clause-shut : goal.returns-in-Err-commit-clause-shut
+returns-in-Err-commit-clause-shut g c clean =
+    let first = c.args.conn.now in
+    let end = c.commit.new.self.0 in
+    let last = state g.S.Store c.decide.new.tx.conn.now in
+    let begun = c.transaction-tx.ensures.begun in
+    let same : end ≡ c.conn-in-Ok-1.given.0 = search rules in
+    let late : HasCleanDisk (state g.S.Store end) = rw same clean in
+    let early : HasCleanDisk last = omega (arith, late, c.commit.ensures.survives.clean) in
+    let goes = rw begun at (c.in-Ok.ensures.goes_on early) in
+    let stays = rw begun at c.decide.ensures.stays in
+    let done = never_shut g.S.Store first last (state g.S.Store end) stays early goes c.failure_of.result in
+    subst (λ x. StaysShut (state g.S.Store first) (state g.S.Store x) c.failure_of.result) same done

@@ -1,0 +1,52 @@
+//! The calls of `desk_answers`, on answers that the stored run of `depot` has not.
+
+use desk_answers::{answer_bytes, refusal_bytes};
+use desk_routes::DeskRefusal;
+use office_core::{Answer, AuditReport, FaultText, Refusal};
+use std::alloc::Global;
+use std::test::*;
+
+const FULL: &str =
+    "HTTP/1.1 409 Conflict\r\nContent-Type: application/json\r\nContent-Length: 16\r\nConnection: close\r\n\r\n{\"error\":\"Full\"}";
+
+const MEMORY: &str =
+    "HTTP/1.1 503 Service Unavailable\r\nContent-Type: application/json\r\nContent-Length: 18\r\nConnection: close\r\n\r\n{\"error\":\"Memory\"}";
+
+const STORE: &str =
+    "HTTP/1.1 503 Service Unavailable\r\nContent-Type: application/json\r\nContent-Length: 17\r\nConnection: close\r\n\r\n{\"error\":\"Store\"}";
+
+const AUDITED: &str =
+    "HTTP/1.1 200 OK\r\nContent-Type: application/json\r\nContent-Length: 63\r\nConnection: close\r\n\r\n{\"deposit\":1,\"fault\":\"B6 manifest-\\\"\\\\.txt L6 2\",\"valid\":false}";
+
+const TOO_LARGE: &str =
+    "HTTP/1.1 413 Content Too Large\r\nContent-Type: application/json\r\nContent-Length: 20\r\nConnection: close\r\n\r\n{\"error\":\"TooLarge\"}";
+
+/// Fails where the answer has other bytes.
+fn take(alloc: Global, answer: &Answer, bytes: &'static str) -> Result<(), Fail> {
+    if answer_bytes(alloc, answer)?.as_slice() == bytes.as_bytes() {
+        Ok(())
+    } else {
+        Err(bytes.into())
+    }
+}
+
+#[test]
+fn answers_that_a_session_seldom_has(rt: HostRuntime) -> Result<(), Fail> {
+    take(rt.alloc(), &Answer::Refused(Refusal::Full), FULL)?;
+    take(rt.alloc(), &Answer::Refused(Refusal::Memory), MEMORY)?;
+    take(rt.alloc(), &Answer::Refused(Refusal::Store), STORE)
+}
+
+#[test]
+fn an_audit_of_what_is_no_bag(rt: HostRuntime) -> Result<(), Fail> {
+    let fault = FaultText::of(String::from_str(rt.alloc(), "B6 manifest-\"\\.txt L6 2")?);
+    let report = AuditReport::Invalid(fault);
+    take(rt.alloc(), &Answer::Audit { deposit: 1, report }, AUDITED)
+}
+
+#[test]
+fn a_refusal_of_the_desk(rt: HostRuntime) -> Result<(), Fail> {
+    let bytes = refusal_bytes(rt.alloc(), &DeskRefusal::TooLarge)?;
+    assert_eq!(rt; bytes.as_slice(), TOO_LARGE.as_bytes());
+    Ok(())
+}
