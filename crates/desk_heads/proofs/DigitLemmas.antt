@@ -1,31 +1,9 @@
--- One more digit of a number.
-use Rattle.std.proofs.Common.{◌≡◌, ℕ, ◌+◌, ◌*◌, ◌-◌, ◌<◌, ◌^◌, List, length, take, get_or, Bool, true, false, refl, sym, ◌∙◌, arith, add-one}
-use Rattle.std.proofs.Math.Nat.{pow-suc}
+-- The digits of a content length.
+use Rattle.std.proofs.Common.{◌≡◌, ℕ, List, true, arith}
 use Rattle.std.proofs.lemmas.Bool.Decides.{nat_tests}
 use Rattle.std.specs.List.{list_all}
 use Rattle.std.specs.Char.{is_ascii_digit}
-use Rattle.std.specs.Str.Parse.{digits_value}
-use Rattle.std.specs.Int.{IsInRange}
-use Rattle.std.proofs.lemmas.List.Folds.{list_all_at}
-use Rattle.std.proofs.lemmas.Int.Digits.{digits_value_more}
-use Rattle.std.proofs.lemmas.Str.{digit_value_digit}
 use Rattle.desk_heads.specs.Heads.{is_length_text}
 
 pub all_digits : (text : List ℕ) → is_length_text text ≡ true → list_all is_ascii_digit text ≡ true
 all_digits text h = grind (arith, nat_tests)
-
-is_digit : (digits : List ℕ) (i : ℕ) → i < length digits → list_all is_ascii_digit digits ≡ true → IsInRange 48 57 (get_or digits i 0)
-is_digit digits i h all = by (is_ascii_digit (get_or digits i 0)) refl
-  where
-    by : (v : Bool) → is_ascii_digit (get_or digits i 0) ≡ v → IsInRange 48 57 (get_or digits i 0)
-    by true e = (grind (arith, nat_tests), grind (arith, nat_tests))
-    by false e = absurd (let no = list_all_at is_ascii_digit digits i 0 h e in let f : true ≡ false = sym all ∙ no in cc)
-
-pub one_digit : (digits : List ℕ) (i n d : ℕ) → i < length digits → is_length_text digits ≡ true → n ≡ digits_value 10 (take i digits) → n < 10 ^ i → d ≡ get_or digits i 0 - 48
-    → (n * 10 + d ≡ digits_value 10 (take (i + 1) digits)) × (n * 10 + d < 10 ^ (i + 1))
-one_digit digits i n d h text is low by_d =
-    let r = is_digit digits i h (all_digits digits text) in
-    let v = digit_value_digit (get_or digits i 0) r in
-    let m = digits_value_more 10 digits i h in
-    let p : 10 ^ (i + 1) ≡ 10 ^ i * 10 = rw add-one (pow-suc 10 i) in
-    (omega arith, omega arith)

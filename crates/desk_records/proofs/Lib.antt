@@ -1,4 +1,3 @@
-pub mod DigitLemmas
 pub mod LengthLemmas
 pub mod LineLemmas
 pub mod FoundLemmas

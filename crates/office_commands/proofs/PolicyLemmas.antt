@@ -16,15 +16,6 @@ use Rattle.office_commands.specs.Answering.{ReplaysFrom, ReplaysInMemory, after_
 abbrev Read : Type 0
 Read = Result Contents PolicyFault
 
-refusal_is : (fault : PolicyFault) (read : Read) → FailsAs (named_policy_fault fault) read → (fault ≡ Memory) ⊎ (read ≡ Err fault)
-refusal_is NotToml read e = inr e
-refusal_is BadVersion read e = inr e
-refusal_is UnknownKey read e = inr e
-refusal_is BadCaller read e = inr e
-refusal_is (BadRule number) read e = inr e
-refusal_is TooMany read e = inr e
-refusal_is Memory read e = inl refl
-
 pub read_is_spelled : (bytes text : List ℕ) (result : Read) → text ≡ bytes → IsUtf8 bytes → Answers named_policy_fault result (policy_of text) → IfOk result (Spells bytes)
 read_is_spelled bytes text (Ok policy) same utf8 answers = record { utf8 = utf8; read = ap policy_of (sym same) ∙ answers }
 read_is_spelled bytes text (Err fault) same utf8 answers = tt

@@ -1,6 +1,7 @@
 pub mod OptionLemmas
 pub mod TomlKeys
 pub mod DayLemmas
+pub mod DigitLemmas
 pub mod RuleLemmas
 pub mod PolicyAnswers
 pub mod PolicyLemmas

@@ -49,7 +49,7 @@ of_fault text fault (inr (tree, parsed, first)) = ap read_tree parsed ∙ ap (co
 -- ---- what an answer says
 
 -- a refusal is want of memory, or the one that reading gives
-refusal_is : (fault : PolicyFault) (read : Read) → FailsAs (named_policy_fault fault) read → (fault ≡ Memory) ⊎ (read ≡ Err fault)
+pub refusal_is : (fault : PolicyFault) (read : Read) → FailsAs (named_policy_fault fault) read → (fault ≡ Memory) ⊎ (read ≡ Err fault)
 refusal_is NotToml read e = inr e
 refusal_is BadVersion read e = inr e
 refusal_is UnknownKey read e = inr e

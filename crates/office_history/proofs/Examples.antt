@@ -11,7 +11,7 @@ use Rattle.office_core.specs.declared.action.Action.TheVariants as acts
 use Rattle.office_core.specs.declared.rule.ActionPattern.TheVariants as asked
 use Rattle.office_core.specs.declared.rule.Effect.TheVariants.{Allow, Deny}
 use Rattle.office_core.specs.declared.rule.Pattern.TheVariants.{Any, Named}
-use Rattle.office_history.specs.Histories.{History, Installed, DefinedClass, DefinedCollection, Deposited, PlacedHold, ReleasedHold, Destroyed, Deposit, OnDeposit, OnCollection, destruction_day, kept_numbers, due, live_holds}
+use Rattle.office_history.specs.Histories.{History, Change, Installed, DefinedClass, DefinedCollection, Deposited, PlacedHold, ReleasedHold, Destroyed, Deposit, OnDeposit, OnCollection, destruction_day, kept_numbers, due, live_holds}
 use Rattle.office_history.specs.Refusals.{refusal, taken_refusal}
 use Rattle.office_history.specs.Lists.{in_first_places}
 use Rattle.office_history.specs.Pictures.{picture}
@@ -20,9 +20,8 @@ use Rattle.office_history.specs.Pictures.{picture}
 deposited : Date → List ℕ → Deposit
 deposited closed accession = record { collection = codes "maps"; class = codes "y1"; accession = accession; closed = closed; bag = [] }
 
--- a hold of the collection, two deposits, a hold of the second, then the first hold is released and the first deposit destroyed
-worked : Date → History
-worked day = record {
+worked_then : Date → List Change → History
+worked_then day more = record {
   max_deposits = 10;
   max_holds = 10;
   changes =
@@ -32,69 +31,59 @@ worked day = record {
       ∷ Deposited day (deposited day (codes "A-1"))
       ∷ Deposited day (deposited day (codes "A-2"))
       ∷ PlacedHold day (record { target = OnDeposit 2; matter = codes "Case 8" })
-      ∷ [];
+      ∷ more;
 }
 
+-- a hold of the collection, two deposits, a hold of the second, then the first hold is released and the first deposit destroyed
+worked : Date → History
+worked day = worked_then day []
+
 later : Date → History
-later day = record {
-  max_deposits = 10;
-  max_holds = 10;
-  changes =
-      DefinedClass day (codes "y1") (Some 1)
-      ∷ DefinedCollection day (codes "maps")
-      ∷ PlacedHold day (record { target = OnCollection (codes "maps"); matter = codes "Case 7" })
-      ∷ Deposited day (deposited day (codes "A-1"))
-      ∷ Deposited day (deposited day (codes "A-2"))
-      ∷ PlacedHold day (record { target = OnDeposit 2; matter = codes "Case 8" })
-      ∷ ReleasedHold day 1
-      ∷ Destroyed day 1
-      ∷ DefinedClass day (codes "y1") None
-      ∷ [];
-}
+later day = worked_then day (ReleasedHold day 1 ∷ Destroyed day 1 ∷ DefinedClass day (codes "y1") None ∷ [])
 
 -- a hold of a collection covers what came later, and one of a deposit that alone
 both_cover : (day : Date) → live_holds (worked day) 2 (deposited day (codes "A-2")) ≡ 1 ∷ 2 ∷ []
-unfolding deposited worked
+unfolding deposited worked_then worked
 both_cover day = refl
 
 one_covers : (day : Date) → live_holds (worked day) 1 (deposited day (codes "A-1")) ≡ 1 ∷ []
-unfolding deposited worked
+unfolding deposited worked_then worked
 one_covers day = refl
 
 -- a hold that was released covers nothing more
 released_covers_none : (day : Date) → live_holds (later day) 2 (deposited day (codes "A-2")) ≡ 2 ∷ []
-unfolding deposited later
+unfolding deposited worked_then later
 released_covers_none day = refl
 
 -- a destroyed deposit is gone, and keeps its number and its accession
 destroyed_is_gone : (day : Date) → destruction_day (later day) 1 ≡ Some day
-unfolding deposited later
+unfolding deposited worked_then later
 destroyed_is_gone day = refl
 
 others_are_kept : (day : Date) → kept_numbers (later day) ≡ 2 ∷ []
-unfolding deposited later
+unfolding deposited worked_then later
 others_are_kept day = refl
 
 accession_stays : (day : Date) → taken_refusal (later day) (codes "A-1") ≡ Some (Taken 1)
-unfolding deposited later
+unfolding deposited worked_then later
 accession_stays day = refl
 
 -- a class has the years that it was given last, and so have the due days of its deposits
 years_before : (day : Date) → due (worked day) (deposited day (codes "A-1")) ≡ due_of day (Some 1)
-unfolding deposited worked
+unfolding deposited worked_then worked
 years_before day = refl
 
 years_after : (day : Date) → due (later day) (deposited day (codes "A-2")) ≡ due_of day None
-unfolding deposited later
+unfolding deposited worked_then later
 years_after day = refl
 
 -- what isn't there comes before what is denied, and without a policy everything is denied
 no_deposit : (day : Date) (caller : List ℕ) → refusal (worked day) day caller (Dispose 9) ≡ Some (NoSuch subjects.Deposit)
-unfolding deposited worked
+unfolding deposited worked_then worked
 no_deposit day caller = refl
 
 no_rules : (day : Date) (caller : List ℕ) → refusal (worked day) day caller (Dispose 1) ≡ Some DeniedByDefault
-unfolding deposited worked
+unfolding deposited worked_then worked
 no_rules day caller = refl
 
 -- each text once

@@ -16,6 +16,7 @@ pub mod LegalReadings
 pub mod VerdictLemmas
 pub mod DistinctLemmas
 pub mod Pictured
+pub mod DisposalFacts
 pub mod RangeLemmas
 pub mod RowLemmas
 pub mod KeptLemmas

@@ -1,28 +1,11 @@
--- What is known of a disposal, by the rows.
-use Rattle.std.proofs.Common.{◌≡◌, ℕ, List, Option, Some, option_map, sym, ap, ◌∙◌}
+-- The day that a deposit was closed, by its row.
+use Rattle.std.proofs.Common.{◌≡◌, ℕ, sym, ap, ◌∙◌}
 use Rattle.jiff.specs.Types.{Date}
 use Rattle.jiff.specs.Words.{epoch_day}
-use Rattle.office_core.specs.declared.action.Action.TheVariants as acts
-use Rattle.office_core.specs.declared.facts.Facts.{Facts}
-use Rattle.office_core.specs.declared.retention.Due.{Due}
-use Rattle.office_core.specs.declared.rule.Decision.{Decision}
 use Rattle.office_rows.specs.Rows.{DepositRow}
-use Rattle.office_history.specs.Histories.{History, Deposit, destruction_day, due, least_hold}
+use Rattle.office_history.specs.Histories.{History, Deposit}
 use Rattle.office_history.specs.Pictures.{deposit_row}
-use Rattle.office_history.specs.Refusals.{deciding_rule, facts_of}
-use Rattle.office_history.proofs.Pictured.{same_day, same_days}
-
-pub same_facts : (h : History) (caller : List ℕ) (n : ℕ) (found : Date × Deposit) (row : DepositRow) → row ≡ deposit_row h n found
-    → (decision : Option Decision) (day : Option Date) (hold : Option ℕ) (due_day : Due)
-    → decision ≡ deciding_rule h caller acts.Dispose (Some row.collection) (Some row.class) → option_map epoch_day day ≡ row.gone → hold ≡ least_hold h n found.1 → due_day ≡ due h found.1
-    → ◌≡◌ {A = Facts} (record { action = acts.Dispose; decision = decision; gone = day; hold = hold; due = due_day }) (facts_of h caller acts.Dispose n found.1)
-same_facts h caller n found row is decision day hold due_day decision_is gone_is hold_is due_is = λ i. record {
-  action = acts.Dispose;
-  decision = (decision_is ∙ ap (λ (r : DepositRow). deciding_rule h caller acts.Dispose (Some r.collection) (Some r.class)) is) i;
-  gone = same_days day (destruction_day h n) (gone_is ∙ ap (λ (r : DepositRow). r.gone) is) i;
-  hold = hold_is i;
-  due = due_is i;
-}
+use Rattle.office_history.proofs.Pictured.{same_day}
 
 pub closed_is : (h : History) (n : ℕ) (found : Date × Deposit) (row : DepositRow) → row ≡ deposit_row h n found → (closed : Date) → epoch_day closed ≡ row.closed → found.1.closed ≡ closed
 closed_is h n found row is closed e = sym (same_day closed found.1.closed (e ∙ ap (λ (r : DepositRow). r.closed) is))

@@ -19,18 +19,6 @@ use Rattle.office_serving.specs.Listing.{is_due}
 use Rattle.office_serving.proofs.ListedRows.{all_rows, row_at, passes_next, fails_next, filter_both}
 use Rattle.office_serving.proofs.RecordTold.{same_count}
 
-pub same_facts : (h : History) (caller : List ℕ) (n : ℕ) (found : Date × Deposit) (row : DepositRow) → row ≡ deposit_row h n found
-    → (decision : Option Decision) (day : Option Date) (hold : Option ℕ) (due_day : Due)
-    → decision ≡ deciding_rule h caller acts.Dispose (Some row.collection) (Some row.class) → option_map epoch_day day ≡ row.gone → hold ≡ least_hold h n found.1 → due_day ≡ due h found.1
-    → ◌≡◌ {A = Facts} (record { action = acts.Dispose; decision = decision; gone = day; hold = hold; due = due_day }) (facts_of h caller acts.Dispose n found.1)
-same_facts h caller n found row is decision day hold due_day decision_is gone_is hold_is due_is = λ i. record {
-  action = acts.Dispose;
-  decision = (decision_is ∙ ap (λ (r : DepositRow). deciding_rule h caller acts.Dispose (Some r.collection) (Some r.class)) is) i;
-  gone = same_days day (destruction_day h n) (gone_is ∙ ap (λ (r : DepositRow). r.gone) is) i;
-  hold = hold_is i;
-  due = due_is i;
-}
-
 module _ (h : History) (day : Date) (caller : List ℕ) (n : ℕ) (found : Date × Deposit) (row : DepositRow) (is : row ≡ deposit_row h n found) where
   -- one that is kept
   pub kept_is_due : is_some row.gone ≡ false → (allowed : Bool) → allowed ≡ is_none (refusal h day caller (Dispose n)) → allowed ≡ is_due h day caller n

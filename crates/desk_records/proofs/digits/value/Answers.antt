@@ -1,4 +1,4 @@
-use Rattle.desk_records.proofs.DigitLemmas.{one_digit}
+use Rattle.office_core.proofs.DigitLemmas.{one_digit}
 use Rattle.desk_records.proofs.digits.value.Goals as goal
 
 pub loop-digit-preserved : goal.loop-digit-preserved

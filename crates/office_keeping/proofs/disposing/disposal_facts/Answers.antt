@@ -6,7 +6,8 @@ use Rattle.sql_meaning.proofs.Inside.{stays_then}
 use Rattle.office_core.specs.declared.action.Action.TheVariants as acts
 use Rattle.office_rows.specs.Rows.{DepositRow}
 use Rattle.office_history.specs.Refusals.{deciding_rule}
-use Rattle.office_keeping.proofs.Disposals.{same_facts, closed_is}
+use Rattle.office_history.proofs.DisposalFacts.{same_facts}
+use Rattle.office_keeping.proofs.Disposals.{closed_is}
 use Rattle.office_asking.proofs.InTurn.{clean_before, goes_twice, stays_still}
 use Rattle.office_keeping.proofs.disposing.disposal_facts.Goals as goal
 

@@ -6,7 +6,7 @@ use Rattle.office_core.specs.declared.action.Action.TheVariants as acts
 use Rattle.office_rows.specs.Rows.{DepositRow}
 use Rattle.office_history.specs.Histories.{least_hold}
 use Rattle.office_history.specs.Refusals.{deciding_rule}
-use Rattle.office_serving.proofs.DueListTold.{same_facts}
+use Rattle.office_history.proofs.DisposalFacts.{same_facts}
 use Rattle.office_serving.proofs.RecordTold.{closed_is, same_count}
 use Rattle.office_asking.proofs.InTurn.{clean_before, goes_twice, stays_still}
 use Rattle.sql_meaning.proofs.Inside.{stays_then}
