@@ -16,7 +16,7 @@ use std::io::{Error, ErrorKind, Write};
 
 /// Why there is nothing to say.
 #[derive(Clone, Copy)]
-pub enum Trouble {
+pub(crate) enum Trouble {
     /// A file, a standard stream or another device failed.
     Device(Error),
     /// A growth was refused.
@@ -40,7 +40,7 @@ impl From<AllocError> for Trouble {
 
 /// What was tried.
 #[derive(Clone, Copy)]
-pub enum Tried<'a> {
+pub(crate) enum Tried<'a> {
     /// A bag's form was read from this file.
     Form(&'a str),
     /// A bag's form was read from standard input.
@@ -53,7 +53,7 @@ pub enum Tried<'a> {
 
 impl<'a> Tried<'a> {
     /// What the line has the program read.
-    pub fn reading(line: &Line<'a>) -> Tried<'a> {
+    pub(crate) fn reading(line: &Line<'a>) -> Tried<'a> {
         match line {
             Line::Check { file: "-" } => Tried::Input,
             Line::Check { file } => Tried::Form(file),
@@ -94,7 +94,7 @@ fn tell_more<E: Write>(alloc: Global, tried: Tried<'_>, error: Error, err: &mut 
 
 /// Tells standard error that a device or memory failed: the line that a program reads first, and then
 /// what was tried.
-pub fn report<E: Write>(alloc: Global, tried: Tried<'_>, trouble: Trouble, err: &mut E) -> Ending
+pub(crate) fn report<E: Write>(alloc: Global, tried: Tried<'_>, trouble: Trouble, err: &mut E) -> Ending
     ensures ends { (result ≡ Failed) ⊎ (result ≡ Unsaid) }
     ensures message { result ≡ Failed → (failure : Failure)
         × BeginsWith (message_of failure) (E.contents err.old) (E.contents err.new) }

@@ -3,6 +3,7 @@ use Rattle.std.proofs.Common.{◌≡◌, ◌⊎◌, ◌∙◌, List, ℕ, Result
 use Rattle.std.specs.Prelude.{option_map, string_bytes}
 use Rattle.std.specs.Io.KnownBytes.{Appends}
 use Rattle.bag_text.specs.Answers.{Answers, FailsAs}
+use Rattle.office_core.proofs.PolicyAnswers.{refusal_is}
 use Rattle.office_core.specs.Policies.{Contents, named_policy_fault, policy_of}
 use Rattle.office_core.specs.declared.policy_fault.PolicyFault.{PolicyFault}
 use Rattle.office_core.specs.declared.policy_fault.PolicyFault.TheVariants.{NotToml, BadVersion, UnknownKey, BadCaller, BadRule, TooMany, Memory}

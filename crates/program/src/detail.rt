@@ -9,7 +9,7 @@ use store_words::StoreLine;
 
 /// Why a command came to no end.
 #[derive(Clone, Copy)]
-pub enum Detail<'a> {
+pub(crate) enum Detail<'a> {
     /// A file or a folder failed.
     Trouble(&'a Trouble),
     /// The record with this number is none.
@@ -19,7 +19,7 @@ pub enum Detail<'a> {
 
 /// A text round a name, and what the layer below says of it.
 #[derive(Clone, Copy)]
-pub struct Told<'a> {
+pub(crate) struct Told<'a> {
     before: &'static str,
     name: &'a str,
     behind: &'static str,
@@ -108,7 +108,7 @@ fn command_detail<'a>(line: &StoreLine<'a>, fault: &CommandFault) -> Detail<'a> 
 }
 
 /// Why what the line asks for came to no end.
-pub fn detail_of<'a>(line: &StoreLine<'a>, stopped: &'a Stopped) -> Detail<'a> {
+pub(crate) fn detail_of<'a>(line: &StoreLine<'a>, stopped: &'a Stopped) -> Detail<'a> {
     match stopped {
         Stopped::Folder(Failed::Device(trouble)) => Detail::Trouble(trouble),
         Stopped::Folder(Failed::Memory) => Detail::Told(text("out of memory")),

@@ -4,10 +4,10 @@ use commands::{
     Asked, Ending, Line, Outcome, UseFault, explain_outcome, read_line, refuse_words, run,
 };
 use office_core::{Action, Name};
+use std::alloc::Global;
 use std::io;
 use std::io::{Error, ErrorKind, Read, Write};
-use std::process::Abort;
-use std::test::Fail;
+use std::test::*;
 
 /// A device that fails.
 #[derive(Drop)]
@@ -29,57 +29,31 @@ impl Write for Broken {
     }
 }
 
-/// The file that the words name for `check` or as a policy, or nothing where they are a fault of use.
-fn file_of<'a>(rt: &(impl Abort + AllocGlobal), words: &'a [&'a str]) -> Option<&'a str> {
-    match read_line(rt.alloc(), words) {
-        Ok(Line::Check { file }) => Some(file),
-        Ok(Line::Explain(asked)) => Some(asked.policy),
-        Err(UseFault::Use(text)) => {
-            assert!(rt; text.ends_with('\n'));
-            None
-        }
-        Err(UseFault::Memory) => Some("memory"),
+/// What the words say: the command and its file, or the policy and the caller of a question.
+fn said_by<'a>(alloc: Global, words: &'a [&'a str]) -> (&'a str, &'a str) {
+    match read_line(alloc, words) {
+        Ok(Line::Check { file }) => ("check", file),
+        Ok(Line::Explain(asked)) => (asked.policy, asked.caller),
+        Err(UseFault::Use(text)) if text.ends_with('\n') => ("", ""),
+        Err(_) => ("memory", ""),
     }
 }
 
-/// Words, and the file that they name, if they do.
-type Words = (&'static [&'static str], Option<&'static str>);
+/// Words, and what they say, or nothing where they are a fault of use.
+type Words = (&'static [&'static str], &'static str, &'static str);
 
-static CHECK: [Words; 10] = [
-    (&["check", "-"], Some("-")),
-    (&["check", "a.bagset"], Some("a.bagset")),
-    (&["check", ""], Some("")),
-    (&["check", "--", "-x"], Some("-x")),
-    (&["check", "-x"], None),
-    (&["check", "--help"], None),
-    (&["check", "a", "b"], None),
-    (&["check"], None),
-    (&["Check", "-"], None),
-    (&[], None),
-];
-
-#[test]
-fn words_of_check(rt: HostRuntime) {
-    for (words, file) in CHECK.iter() {
-        assert!(rt; file_of(&rt, *words) == *file);
-    }
-}
-
-/// The caller that the words name for `explain`, or nothing where they are a fault of use.
-fn caller_of<'a>(rt: &(impl Abort + AllocGlobal), words: &'a [&'a str]) -> Option<&'a str> {
-    match read_line(rt.alloc(), words) {
-        Ok(Line::Check { file }) => Some(file),
-        Ok(Line::Explain(asked)) => Some(asked.caller),
-        Err(UseFault::Use(text)) => {
-            assert!(rt; text.ends_with('\n'));
-            None
-        }
-        Err(UseFault::Memory) => Some("memory"),
-    }
-}
-
-/// A caller is any text, and `-` is no option.
-static EXPLAIN: [(&[&str], &str, &str); 3] = [
+static WORDS: [Words; 23] = [
+    (&["check", "-"], "check", "-"),
+    (&["check", "a.bagset"], "check", "a.bagset"),
+    (&["check", ""], "check", ""),
+    (&["check", "--", "-x"], "check", "-x"),
+    (&["check", "-x"], "", ""),
+    (&["check", "--help"], "", ""),
+    (&["check", "a", "b"], "", ""),
+    (&["check"], "", ""),
+    (&["Check", "-"], "", ""),
+    (&[], "", ""),
+    // A caller is any text, and `-` is no option.
     (
         &["explain", "p.toml", "anna", "list", "tax", "-"],
         "p.toml",
@@ -87,35 +61,28 @@ static EXPLAIN: [(&[&str], &str, &str); 3] = [
     ),
     (&["explain", "-", "", "hold", "-", "y-1_0.a"], "-", ""),
     (&["explain", "p", "--", "-x", "class", "-a", "-"], "p", "-x"),
+    (&["explain", "p", "anna", "list", "tax", "y1"], "p", "anna"),
+    // One word less, and one more.
+    (&["explain"], "", ""),
+    (&["explain", "p", "anna", "list", "tax"], "", ""),
+    (&["explain", "p", "anna", "list", "tax", "y1", "y2"], "", ""),
+    // An action that is none, `*` too.
+    (&["explain", "p", "anna", "destroy", "tax", "y1"], "", ""),
+    (&["explain", "p", "anna", "*", "tax", "y1"], "", ""),
+    // A collection and a class that are no names.
+    (&["explain", "p", "anna", "list", "Tax", "y1"], "", ""),
+    (&["explain", "p", "anna", "list", "tax", ""], "", ""),
+    // A word that `clap` takes for an option, and words of use.
+    (&["explain", "p", "-x", "list", "tax", "y1"], "", ""),
+    (&["explain", "--help"], "", ""),
 ];
 
 #[test]
-fn words_of_explain(rt: HostRuntime) {
-    for (words, policy, caller) in EXPLAIN.iter() {
-        assert!(rt; file_of(&rt, *words) == Some(*policy));
-        assert!(rt; caller_of(&rt, *words) == Some(*caller));
-    }
-}
-
-/// One word less, and one more; an action that is none, `*` too; a collection and a class that are no
-/// names; a word that `clap` takes for an option; and words of use.
-static NO_USE: [Words; 10] = [
-    (&["explain"], None),
-    (&["explain", "p", "anna", "list", "tax"], None),
-    (&["explain", "p", "anna", "list", "tax", "y1", "y2"], None),
-    (&["explain", "p", "anna", "destroy", "tax", "y1"], None),
-    (&["explain", "p", "anna", "*", "tax", "y1"], None),
-    (&["explain", "p", "anna", "list", "Tax", "y1"], None),
-    (&["explain", "p", "anna", "list", "tax", ""], None),
-    (&["explain", "p", "-x", "list", "tax", "y1"], None),
-    (&["explain", "--help"], None),
-    (&["explain", "p", "anna", "list", "tax", "y1"], Some("p")),
-];
-
-#[test]
-fn words_of_explain_that_are_no_use(rt: HostRuntime) {
-    for (words, file) in NO_USE.iter() {
-        assert!(rt; file_of(&rt, *words) == *file);
+fn words(rt: HostRuntime) {
+    for (words, first, second) in &WORDS {
+        let (found_first, found_second) = said_by(rt.alloc(), words);
+        assert!(rt; found_first == *first, "{first} {second}");
+        assert!(rt; found_second == *second, "{first} {second}");
     }
 }
 
@@ -127,6 +94,22 @@ fn reason_of(outcome: &Outcome) -> &str {
     }
 }
 
+/// A policy, and what is said of the question of the test below on it: the line, why, and how it ends.
+static POLICIES: [(&str, &str, &str, Ending); 2] = [
+    (
+        "version = 1\n[[rule]]\neffect = \"allow\"\nrole = \"stranger\"\naction = \"*\"\ncollection = \"*\"\nclass = \"y1\"\n",
+        "allow rule 1\n",
+        "the caller eve is not in the policy, and has the role stranger\n",
+        Ending::Accepted,
+    ),
+    (
+        "version = 1",
+        "deny default\n",
+        "the caller eve is not in the policy, and has the role stranger\n",
+        Ending::Refused,
+    ),
+];
+
 #[test]
 fn a_decision_in_words(rt: HostRuntime) -> Result<(), Fail> {
     let asked = Asked {
@@ -136,17 +119,12 @@ fn a_decision_in_words(rt: HostRuntime) -> Result<(), Fail> {
         collection: None,
         class: Name::read("y1"),
     };
-    let rule =
-        b"version = 1\n[[rule]]\neffect = \"allow\"\nrole = \"stranger\"\naction = \"*\"\ncollection = \"*\"\nclass = \"y1\"\n";
-    let outcome = explain_outcome(rt.alloc(), rule.as_slice(), &asked)?;
-    assert!(rt; outcome.text.as_str() == "allow rule 1\n");
-    assert!(rt;
-        reason_of(&outcome) == "the caller eve is not in the policy, and has the role stranger\n"
-    );
-    assert!(rt; outcome.ending == Ending::Accepted);
-    let outcome = explain_outcome(rt.alloc(), b"version = 1".as_slice(), &asked)?;
-    assert!(rt; outcome.text.as_str() == "deny default\n");
-    assert!(rt; outcome.ending == Ending::Refused);
+    for (policy, line, reason, ending) in &POLICIES {
+        let outcome = explain_outcome(rt.alloc(), policy.as_bytes(), &asked)?;
+        assert!(rt; outcome.text.as_str() == *line, "{line}");
+        assert!(rt; reason_of(&outcome) == *reason, "{line}");
+        assert!(rt; outcome.ending == *ending, "{line}");
+    }
     let outcome = explain_outcome(rt.alloc(), b"version = 1 # \xff".as_slice(), &asked)?;
     assert!(rt; outcome.text.as_str() == "policy Y1\n");
     assert!(rt; reason_of(&outcome) == "the policy is no text in TOML (Y1)\n");
@@ -154,84 +132,81 @@ fn a_decision_in_words(rt: HostRuntime) -> Result<(), Fail> {
     Ok(())
 }
 
-/// What a run on the input prints on standard output, and how it ends.
-fn printed<R: Read>(
-    rt: &HostRuntime,
-    words: &[&str],
-    input: &mut R,
-) -> Result<(Vec<u8>, Vec<u8>, Ending), Fail> {
+#[test]
+fn too_long_an_input(rt: HostRuntime) {
     let mut out = Vec::new(rt.alloc());
     let mut err = Vec::new(rt.alloc());
-    let ending = run(rt, words, input, &mut out, &mut err);
-    Ok((out, err, ending))
-}
-
-#[test]
-fn too_long_an_input(rt: HostRuntime) -> Result<(), Fail> {
-    let (out, err, ending) = printed(&rt, ["check", "-"].as_slice(), &mut io::repeat(b'x'))?;
+    let words = ["check", "-"];
+    let mut input = io::repeat(b'x');
+    let ending = run(&rt, words.as_slice(), &mut input, &mut out, &mut err);
     assert!(rt; out.as_slice() == b"unreadable SIZE\n".as_slice());
     assert!(rt;
         err.as_slice()
-            == b"the form is longer than 16,777,216 bytes, the most that is judged (SIZE)\n".as_slice()
+            == "the form is longer than 16,777,216 bytes, the most that is judged (SIZE)\n".as_bytes()
     );
     assert!(rt; ending == Ending::Refused);
-    Ok(())
+    // And where it can't be said.
+    err.clear();
+    let ending = run(&rt, words.as_slice(), &mut input, &mut Broken, &mut err);
+    assert!(rt;
+        err.as_slice() == "device\ndepot: cannot write standard output: broken pipe\n".as_bytes()
+    );
+    assert!(rt; ending == Ending::Failed);
 }
 
-/// Words, what a run on them prints on standard error, or how that begins, and how it ends.
-type Run = (&'static [&'static str], &'static str, Ending);
+/// Words, what a run on them prints on standard error, or how that begins, whether that is all, and how
+/// it ends.
+type Run = (&'static [&'static str], &'static str, bool, Ending);
 
-/// Runs that print this, with an input that fails. Nothing is printed on standard output.
-fn print_all(rt: &HostRuntime, runs: &[Run], is_whole: bool) -> Result<(), Fail> {
-    for (words, text, ending) in runs.iter() {
-        let (out, err, found) = printed(rt, *words, &mut Broken)?;
-        let is_said = if is_whole {
-            err.as_slice() == text.as_bytes()
-        } else {
-            err.as_slice().starts_with(text.as_bytes())
-        };
-        if !out.is_empty() || !is_said || found != *ending {
-            return Err(Fail::new(format_args!("a run that is to print {text}")));
-        }
-    }
-    Ok(())
-}
-
-static DEVICES: [Run; 3] = [
+/// Runs with an input that fails. Nothing is printed on standard output. The words come first: where
+/// they are a fault of use, it is no matter that no policy is there.
+static RUNS: [Run; 10] = [
     (
         &["check", "-"],
         "device\ndepot: cannot read standard input: broken pipe\n",
+        true,
         Ending::Failed,
     ),
     (
         &["check", "no such file"],
         "device\ndepot: cannot read no%20such%20file: No such file or directory (os error 2)\n",
+        true,
         Ending::Failed,
     ),
     (
         &["explain", "no such file", "anna", "list", "tax", "y1"],
         "device\ndepot: cannot read no%20such%20file: No such file or directory (os error 2)\n",
+        true,
         Ending::Failed,
     ),
+    (&["judge"], USES, true, Ending::Misused),
+    (&[], USES, true, Ending::Misused),
+    (&["check", "--help"], HELP, false, Ending::Misused),
+    (
+        &["check", "a", "b"],
+        "error: unexpected argument 'b' found\n\nUsage: depot check <FILE>\n",
+        false,
+        Ending::Misused,
+    ),
+    (
+        &["explain", "no such file", "anna", "destroy", "tax", "y1"],
+        "ACTION is one of class, collection, ",
+        false,
+        Ending::Misused,
+    ),
+    (
+        &["explain", "no such file", "anna", "list", "TAX", "y1"],
+        "COLLECTION is a name ",
+        false,
+        Ending::Misused,
+    ),
+    (
+        &["explain", "no such file", "anna", "list", "tax", "Y1"],
+        "CLASS is a name ",
+        false,
+        Ending::Misused,
+    ),
 ];
-
-#[test]
-fn devices_fail(rt: HostRuntime) -> Result<(), Fail> {
-    print_all(&rt, &DEVICES, true)?;
-    let mut said = Vec::new(rt.alloc());
-    let ending = run(
-        &rt,
-        ["check", "-"].as_slice(),
-        &mut io::repeat(b'x'),
-        &mut Broken,
-        &mut said,
-    );
-    assert!(rt;
-        said.as_slice() == b"device\ndepot: cannot write standard output: broken pipe\n".as_slice()
-    );
-    assert!(rt; ending == Ending::Failed);
-    Ok(())
-}
 
 const USES: &str = "Usage: depot check FILE
        depot pack DIR FILE
@@ -251,62 +226,38 @@ Arguments:
   <FILE>  the transfer form of the bag, or - for standard input
 ";
 
-static FAULTS_OF_USE: [Run; 2] = [
-    (&["judge"], USES, Ending::Misused),
-    (&[], USES, Ending::Misused),
-];
-
-/// The words come first: the policy isn't there.
-static FAULTS_WITH_REASONS: [Run; 5] = [
-    (&["check", "--help"], HELP, Ending::Misused),
-    (
-        &["check", "a", "b"],
-        "error: unexpected argument 'b' found\n\nUsage: depot check <FILE>\n",
-        Ending::Misused,
-    ),
-    (
-        &["explain", "no such file", "anna", "destroy", "tax", "y1"],
-        "ACTION is one of class, collection, ",
-        Ending::Misused,
-    ),
-    (
-        &["explain", "no such file", "anna", "list", "TAX", "y1"],
-        "COLLECTION is a name ",
-        Ending::Misused,
-    ),
-    (
-        &["explain", "no such file", "anna", "list", "tax", "Y1"],
-        "CLASS is a name ",
-        Ending::Misused,
-    ),
-];
-
 #[test]
-fn faults_of_use(rt: HostRuntime) -> Result<(), Fail> {
-    print_all(&rt, &FAULTS_OF_USE, true)?;
-    print_all(&rt, &FAULTS_WITH_REASONS, false)
+fn runs(rt: HostRuntime) {
+    for (words, text, is_whole, want) in &RUNS {
+        let mut out = Vec::new(rt.alloc());
+        let mut err = Vec::new(rt.alloc());
+        let ending = run(&rt, words, &mut Broken, &mut out, &mut err);
+        assert!(rt; out.is_empty(), "{text}");
+        assert!(rt; err.as_slice().starts_with(text.as_bytes()), "{text}");
+        assert!(rt; !*is_whole || err.len() == text.len(), "{text}");
+        assert!(rt; ending == *want, "{text}");
+    }
 }
 
-#[test]
-fn words_that_are_no_text(rt: HostRuntime) {
-    let mut err = Vec::new(rt.alloc());
-    let ending = refuse_words(&Error::from(ErrorKind::InvalidData), &mut err);
-    assert!(rt; err.as_slice() == b"a word is not UTF-8\n".as_slice());
-    assert!(rt; ending == Ending::Misused);
-    let ending = refuse_words(&Error::from(ErrorKind::InvalidData), &mut Broken);
-    assert!(rt; ending == Ending::Unsaid);
-}
+/// Why the words could not be had, what standard error is told, and how it ends.
+static ERRORS: [(ErrorKind, &str, Ending); 3] = [
+    (
+        ErrorKind::InvalidData,
+        "a word is not UTF-8\n",
+        Ending::Misused,
+    ),
+    (ErrorKind::BrokenPipe, "device\n", Ending::Failed),
+    (ErrorKind::OutOfMemory, "memory\n", Ending::Failed),
+];
 
 #[test]
 fn words_that_could_not_be_had(rt: HostRuntime) {
-    let mut err = Vec::new(rt.alloc());
-    let ending = refuse_words(&Error::from(ErrorKind::BrokenPipe), &mut err);
-    assert!(rt; err.as_slice() == b"device\n".as_slice());
-    assert!(rt; ending == Ending::Failed);
-    let mut err = Vec::new(rt.alloc());
-    let ending = refuse_words(&Error::from(ErrorKind::OutOfMemory), &mut err);
-    assert!(rt; err.as_slice() == b"memory\n".as_slice());
-    assert!(rt; ending == Ending::Failed);
-    let ending = refuse_words(&Error::from(ErrorKind::OutOfMemory), &mut Broken);
-    assert!(rt; ending == Ending::Unsaid);
+    for (kind, text, want) in &ERRORS {
+        let mut err = Vec::new(rt.alloc());
+        let ending = refuse_words(&Error::from(*kind), &mut err);
+        assert!(rt; err.as_slice() == text.as_bytes(), "{text}");
+        assert!(rt; ending == *want, "{text}");
+        let ending = refuse_words(&Error::from(*kind), &mut Broken);
+        assert!(rt; ending == Ending::Unsaid, "{text}");
+    }
 }

@@ -2,9 +2,10 @@
 
 use office_core::{
     Accession, Action, Ask, Day, Decision, Due, Effect, Facts, Limits, Matter, Name, Policy,
-    PolicyFault, Verdict, Years, decide, denial_verdict, due, first_match, read_policy, verdict,
+    Verdict, Years, decide, denial_verdict, due, first_match, read_policy, verdict,
 };
-use std::alloc::Global;
+use std::alloc::{AllocError, Global};
+use std::fmt::Write;
 use std::test::*;
 
 const POLICY: &str =
@@ -13,37 +14,44 @@ const POLICY: &str =
 const RULE: &str =
     "[[rule]]\neffect = \"allow\"\nrole = \"*\"\naction = \"audit\"\ncollection = \"*\"\nclass = \"*\"\n";
 
-/// Texts, and the number of the day that each says.
-static DAYS: [(&str, Option<i32>); 16] = [
-    ("1900-01-01", Some(-25_567)),
-    ("9799-12-31", Some(2_859_848)),
-    ("1970-01-01", Some(0)),
-    ("2000-02-29", Some(11_016)),
-    ("9796-02-29", Some(2_858_447)),
-    ("1899-12-31", None),
-    ("9800-01-01", None),
-    ("1900-02-29", None),
-    ("2025-02-29", None),
-    ("2025-2-28", None),
-    ("2024-02-29 ", None),
-    ("2024-13-01", None),
-    ("+2024-2-29", None),
-    ("20240229", None),
-    ("2024-02-30", None),
-    ("", None),
+/// Days, and the number of each.
+static DAYS: [(&str, i32); 6] = [
+    ("1900-01-01", -25_567),
+    ("1970-01-01", 0),
+    ("2000-02-29", 11_016),
+    ("2024-02-29", 19_782),
+    ("9796-02-29", 2_858_447),
+    ("9799-12-31", 2_859_848),
+];
+
+/// Texts that are no days.
+static NO_DAYS: [&str; 11] = [
+    "1899-12-31",
+    "9800-01-01",
+    "1900-02-29",
+    "2025-02-29",
+    "2025-2-28",
+    "2024-02-29 ",
+    "2024-13-01",
+    "+2024-2-29",
+    "20240229",
+    "2024-02-30",
+    "",
 ];
 
 #[test]
 fn days(rt: HostRuntime) -> Result<(), Fail> {
     for (text, number) in &DAYS {
-        assert!(rt; Day::read(text).map(|day| day.number()) == *number);
+        let day = Day::read(text).ok_or(*text)?;
+        assert!(rt; day.number() == *number, "{text}");
+        assert!(rt; Day::new(*number) == Some(day), "{text}");
+        assert!(rt; day.to_string(rt.alloc())?.as_str() == *text);
     }
-    assert!(rt; Day::new(2_859_848) == Day::read("9799-12-31"));
-    for number in [-25_568, 2_859_849] {
-        assert!(rt; Day::new(number).is_none());
+    for text in &NO_DAYS {
+        assert!(rt; Day::read(text).is_none(), "{text}");
     }
-    let day = Day::read("2024-02-29").ok_or("day")?;
-    assert!(rt; format!(in rt.alloc(); "{day}")?.as_str() == "2024-02-29");
+    assert!(rt; Day::new(-25_568).is_none());
+    assert!(rt; Day::new(2_859_849).is_none());
     Ok(())
 }
 
@@ -54,20 +62,30 @@ fn due_of(closing: &str, years: u8) -> Option<(i16, i8, i8)> {
     }
 }
 
+/// The day of closing, the years of the class, and the day from which a deposit is due.
+static DUES: [(&str, u8, (i16, i8, i8)); 4] = [
+    ("2024-02-29", 1, (2025, 2, 28)),
+    ("2024-02-29", 4, (2028, 2, 29)),
+    ("2024-03-01", 1, (2025, 3, 1)),
+    ("9799-12-31", 200, (9999, 12, 31)),
+];
+
 #[test]
-fn due_days(rt: HostRuntime) -> Result<(), Fail> {
-    assert!(rt; due_of("2024-02-29", 1) == Some((2025, 2, 28)));
-    assert!(rt; due_of("2024-02-29", 4) == Some((2028, 2, 29)));
-    assert!(rt; due_of("2024-03-01", 1) == Some((2025, 3, 1)));
-    assert!(rt; due_of("9799-12-31", 200) == Some((9999, 12, 31)));
-    assert!(rt; Years::new(201).is_none());
+fn due_days_and_limits(rt: HostRuntime) -> Result<(), Fail> {
+    for (closing, years, date) in &DUES {
+        assert!(rt; due_of(closing, *years) == Some(*date), "{closing}");
+    }
     let day = Day::read("2024-02-29").ok_or("day")?;
     assert!(rt; due(day, Years::permanent()) == Due::Never);
+    assert!(rt; Years::new(201).is_none());
+    assert!(rt; Limits::new(1, 1_000_000).is_some());
+    assert!(rt; Limits::new(0, 1).is_none());
+    assert!(rt; Limits::new(1, 1_000_001).is_none());
     Ok(())
 }
 
 /// Texts, and whether each is a name, an accession and a matter.
-static TEXTS: [(&str, bool, bool, bool); 9] = [
+static TEXTS: [(&str, bool, bool, bool); 11] = [
     ("y-1_0.a", true, true, true),
     ("abcdefghijabcdefghijabcdefghijabcdefghij", true, true, true),
     (
@@ -78,38 +96,34 @@ static TEXTS: [(&str, bool, bool, bool); 9] = [
     ),
     ("", false, false, false),
     ("Anna", false, true, true),
+    ("A-1", false, true, true),
     ("A 1", false, false, true),
+    ("Case 7", false, false, true),
     ("Case 7, \u{00e9}", false, false, true),
     ("a\nb", false, false, false),
     ("a\u{007f}", false, false, false),
 ];
 
 #[test]
-fn names(rt: HostRuntime) {
+fn names(rt: HostRuntime) -> Result<(), Fail> {
     for (text, is_name, is_accession, is_matter) in &TEXTS {
-        assert!(rt; Name::read(text).is_some() == *is_name);
-        assert!(rt; Accession::read(text).is_some() == *is_accession);
-        assert!(rt; Matter::read(text).is_some() == *is_matter);
+        let name = Name::read(text);
+        assert!(rt; name.is_some() == *is_name, "{text}");
+        if let Some(name) = name {
+            assert!(rt; name.to_owned(rt.alloc())?.lend().as_str() == *text);
+        }
+        let accession = Accession::read(text);
+        assert!(rt; accession.is_some() == *is_accession, "{text}");
+        if let Some(accession) = accession {
+            assert!(rt; accession.to_owned(rt.alloc())?.lend().as_str() == *text);
+        }
+        let matter = Matter::read(text);
+        assert!(rt; matter.is_some() == *is_matter, "{text}");
+        if let Some(matter) = matter {
+            assert!(rt; matter.to_owned(rt.alloc())?.lend().as_str() == *text);
+        }
     }
-}
-
-#[test]
-fn names_of_their_own(rt: HostRuntime) -> Result<(), Fail> {
-    let alloc = rt.alloc();
-    let name = Name::read("y-1_0.a").ok_or("name")?;
-    assert!(rt; name.to_owned(alloc)?.lend().as_str() == "y-1_0.a");
-    let accession = Accession::read("A-1").ok_or("accession")?;
-    assert!(rt; accession.to_owned(alloc)?.lend().as_str() == "A-1");
-    let matter = Matter::read("Case 7").ok_or("matter")?;
-    assert!(rt; matter.to_owned(alloc)?.lend().as_str() == "Case 7");
     Ok(())
-}
-
-#[test]
-fn limits(rt: HostRuntime) {
-    assert!(rt; Limits::new(1, 1_000_000).is_some());
-    assert!(rt; Limits::new(0, 1).is_none());
-    assert!(rt; Limits::new(1, 1_000_001).is_none());
 }
 
 fn decided(
@@ -159,66 +173,62 @@ fn decisions(rt: HostRuntime) -> Result<(), Fail> {
     Ok(())
 }
 
-fn fault(alloc: Global, text: &str) -> Option<PolicyFault> {
-    read_policy(alloc, text).err()
-}
-
-/// Texts, and the fault of each as a policy.
-static FAULTS: [(&str, Option<PolicyFault>); 10] = [
-    ("version = 1\n", None),
-    ("version = \n", Some(PolicyFault::NotToml)),
-    (
-        "version = 1\n[callers]\nanna = \"clerk\"\n\"anna\" = \"clerk\"\n",
-        Some(PolicyFault::NotToml),
-    ),
-    ("version = 3\n", Some(PolicyFault::BadVersion)),
-    ("", Some(PolicyFault::BadVersion)),
-    (
-        "version = 1\nnote = 1\nrule = 1\n",
-        Some(PolicyFault::UnknownKey),
-    ),
-    (
-        "version = 1\n[callers]\nanna = \"Clerk\"\n",
-        Some(PolicyFault::BadCaller),
-    ),
-    ("version = 1\ncallers = []\n", Some(PolicyFault::BadCaller)),
-    ("version = 1\nrule = [1]\n", Some(PolicyFault::BadRule(1))),
-    ("version = 1\nrule = {}\n", Some(PolicyFault::BadRule(0))),
-];
-
-#[test]
-fn policy_faults(rt: HostRuntime) {
-    for (text, found) in &FAULTS {
-        assert!(rt; fault(rt.alloc(), text) == *found);
+/// The fault of a text as a policy, or nothing.
+fn fault_of(alloc: Global, text: &str) -> Result<String, AllocError> {
+    match read_policy(alloc, text) {
+        Ok(_) => Ok(String::new(alloc)),
+        Err(fault) => fault.to_string(alloc),
     }
 }
 
+/// Texts, and the fault of each as a policy, or nothing.
+static FAULTS: [(&str, &str); 11] = [
+    ("version = 1\n", ""),
+    ("version = \n", "Y1"),
+    (
+        "version = 1\n[callers]\nanna = \"clerk\"\n\"anna\" = \"clerk\"\n",
+        "Y1",
+    ),
+    ("version = 3\n", "Y2"),
+    ("", "Y2"),
+    ("version = 1\nnote = 1\nrule = 1\n", "Y3"),
+    ("version = 1\n[callers]\nanna = \"Clerk\"\n", "Y4"),
+    ("version = 1\ncallers = []\n", "Y4"),
+    ("version = 1\nrule = {}\n", "Y5 0"),
+    ("version = 1\nrule = [1]\n", "Y5 1"),
+    (
+        "version = 1\n[[rule]]\neffect = \"allow\"\nrole = \"*\"\naction = \"audit\"\ncollection = \"*\"\nclass = \"*\"\n[[rule]]\neffect = \"permit\"\n",
+        "Y5 2",
+    ),
+];
+
 #[test]
-fn a_bad_rule_is_numbered(rt: HostRuntime) -> Result<(), Fail> {
-    let alloc = rt.alloc();
-    let second = format!(in alloc; "version = 1\n{RULE}[[rule]]\neffect = \"permit\"\n")?;
-    let found = fault(alloc, second.as_str()).ok_or("fault")?;
-    assert!(rt; format!(in alloc; "{found}")?.as_str() == "Y5 2");
+fn policy_faults(rt: HostRuntime) -> Result<(), Fail> {
+    for (text, want) in &FAULTS {
+        assert!(rt; fault_of(rt.alloc(), text)?.as_str() == *want, "{text}");
+    }
     Ok(())
 }
 
 #[test]
-fn counts(rt: HostRuntime) -> Result<(), Fail> {
-    let alloc = rt.alloc();
-    let mut rules = String::from_str(alloc, "version = 1\n")?;
-    for _ in 0..200 {
-        rules.push_str(RULE)?;
-    }
-    assert!(rt; read_policy(alloc, rules.as_str())?.rules().len() == 200);
+fn numbers_of_rules(rt: HostRuntime) -> Result<(), Fail> {
+    let mut rules = String::from_str(rt.alloc(), "version = 1\n")?;
+    rules.push_str(&RULE.repeat(rt.alloc(), 200)?)?;
+    assert!(rt; read_policy(rt.alloc(), &rules)?.rules().len() == 200);
     rules.push_str(RULE)?;
-    assert!(rt; fault(alloc, rules.as_str()) == Some(PolicyFault::TooMany));
-    let mut callers = String::from_str(alloc, "version = 1\n[callers]\n")?;
+    assert!(rt; fault_of(rt.alloc(), &rules)?.as_str() == "Y6");
+    Ok(())
+}
+
+#[test]
+fn numbers_of_callers(rt: HostRuntime) -> Result<(), Fail> {
+    let mut callers = String::from_str(rt.alloc(), "version = 1\n[callers]\n")?;
     for number in 0..1000 {
-        callers.push_str(format!(in alloc; "c{number} = \"clerk\"\n")?.as_str())?;
+        write!(callers, "c{number} = \"clerk\"\n")?;
     }
-    assert!(rt; read_policy(alloc, callers.as_str())?.callers().len() == 1000);
+    assert!(rt; read_policy(rt.alloc(), &callers)?.callers().len() == 1000);
     callers.push_str("one-more = \"clerk\"\n")?;
-    assert!(rt; fault(alloc, callers.as_str()) == Some(PolicyFault::TooMany));
+    assert!(rt; fault_of(rt.alloc(), &callers)?.as_str() == "Y6");
     Ok(())
 }
 

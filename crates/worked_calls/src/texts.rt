@@ -1,11 +1,10 @@
 //! The calls of `bag_text`: texts that are read and written, and the faults at each limit.
 
 use bag_text::{
-    Algorithm, BagPath, BagSet, Checksum, InfoFault, Listing, MAX_CONTENT, MAX_FILES, MAX_PATH,
-    PathFault, SetFault, Version, read_bag_info, read_bagset, read_declaration, read_manifest,
-    write_bagset,
+    Algorithm, BagPath, BagSet, Checksum, Listing, MAX_CONTENT, MAX_FILES, MAX_PATH, Version,
+    read_bag_info, read_bagset, read_declaration, read_manifest, write_bagset,
 };
-use std::alloc::Global;
+use std::alloc::{AllocError, Global};
 use std::borrow::CowStr;
 use std::test::*;
 
@@ -13,31 +12,32 @@ const DECLARATION: &str = "BagIt-Version: 1.0\nTag-File-Character-Encoding: UTF-
 
 const MANIFEST: &str = "ba7816bf8f01cfea414140de5dae2223b00361a396177a9cb410ff61f20015ad  data/a\n";
 
-const ABC: [u8; 32] = [
+static ABC: [u8; 32] = [
     0xba, 0x78, 0x16, 0xbf, 0x8f, 0x01, 0xcf, 0xea, 0x41, 0x41, 0x40, 0xde, 0x5d, 0xae, 0x22, 0x23,
     0xb0, 0x03, 0x61, 0xa3, 0x96, 0x17, 0x7a, 0x9c, 0xb4, 0x10, 0xff, 0x61, 0xf2, 0x00, 0x15, 0xad,
 ];
 
-const INFO: &str =
-    "Source-Organization \t:  An archive: the old one \r\n\r\nExternal-Description: one\n \t two: 2\n  \t\n\tthree\rPayload-Oxum:3.1";
-
 const BAG: &str =
     "BAGSET 1\nFILE 9 54\nbagit.txtBagIt-Version: 1.0\nTag-File-Character-Encoding: UTF-8\n\nFILE 6 3\ndata/aabc\nFILE 19 73\nmanifest-sha256.txtba7816bf8f01cfea414140de5dae2223b00361a396177a9cb410ff61f20015ad  data/a\n\nEND\n";
 
+/// The form of a bag of these files, or their fault.
+fn form_of(alloc: Global, files: &[(&str, &[u8])]) -> Result<String, Fail> {
+    match BagSet::of(alloc, files) {
+        Ok(bag) => Ok(String::from_utf8(write_bagset(alloc, &bag)?)?),
+        Err(fault) => Ok(fault.to_string(alloc)?),
+    }
+}
+
 #[test]
 fn reads_a_small_bag(rt: HostRuntime) -> Result<(), Fail> {
-    let text = BAG.as_bytes();
-    assert!(rt; text.len() == 210);
-    let set = read_bagset(rt.alloc(), text)?;
-    let files = set.files();
-    assert!(rt; files.len() == 3);
-    let paths = ["bagit.txt", "data/a", "manifest-sha256.txt"];
-    for (file, path) in files.iter().zip(paths.iter()) {
-        assert!(rt; file.0 == *path);
-    }
-    assert!(rt; set.get("data/a") == Some(b"abc".as_slice()));
-    assert!(rt; set.get("bagit.txt") == Some(DECLARATION.as_bytes()));
-    assert!(rt; set.get("data") == None);
+    assert!(rt; BAG.len() == 210);
+    let bag = read_bagset(rt.alloc(), BAG.as_bytes())?;
+    assert!(rt; bag.files().len() == 3);
+    assert!(rt; bag.get("bagit.txt") == Some(DECLARATION.as_bytes()));
+    assert!(rt; bag.get("data/a") == Some(b"abc".as_slice()));
+    assert!(rt; bag.get("data") == None);
+    // And makes and writes it.
+    assert!(rt; form_of(rt.alloc(), bag.files())?.as_str() == BAG);
     Ok(())
 }
 
@@ -50,16 +50,11 @@ fn reads_tag_files(rt: HostRuntime) -> Result<(), Fail> {
         Version::V1_0,
         Algorithm::Sha256,
     )?;
-    assert!(rt; listed.entries.len() == 1);
-    for (path, listing) in listed.entries.iter() {
-        assert!(rt; path.as_str() == "data/a");
-        assert!(rt; listing.line == 1);
-        assert!(rt; listing.checksum == Checksum::Sha256(ABC));
-    }
     let listing = Listing {
         checksum: Checksum::Sha256(ABC),
         line: 1,
     };
+    assert!(rt; listed.entries.len() == 1);
     assert!(rt; listed.get("data/a") == Some(listing));
     assert!(rt; listed.get("data/b") == None);
     assert!(rt; listed.lists("data/a"));
@@ -67,88 +62,39 @@ fn reads_tag_files(rt: HostRuntime) -> Result<(), Fail> {
     Ok(())
 }
 
-#[test]
-fn reads_paths(rt: HostRuntime) -> Result<(), Fail> {
-    let path = BagPath::read("data/a b/..c")?;
-    assert!(rt; path.as_str() == "data/a b/..c");
-    assert!(rt; matches!(BagPath::read("data/../a"), Err(PathFault::DotSegment)));
-    Ok(())
-}
+/// Files, and the form of a bag of them, or their fault.
+static LISTS: [(&[(&str, &[u8])], &str); 7] = [
+    (&[], "BAGSET 1\nEND\n"),
+    (
+        &[("a", b""), ("b", b"")],
+        "BAGSET 1\nFILE 1 0\na\nFILE 1 0\nb\nEND\n",
+    ),
+    (&[("b", b""), ("a", b"")], "S4 1"),
+    (&[("a", b""), ("a", b"")], "S4 1"),
+    (&[("b", b""), ("a//b", b"")], "S5 1"),
+    (&[("data", b"")], "S8"),
+    (
+        &[("data/a", b""), ("data/a!", b""), ("data/a/b", b"")],
+        "S8",
+    ),
+];
 
 #[test]
-fn names_the_faults_of_forms(rt: HostRuntime) {
-    let text = BAG.as_bytes();
-    let rows: [(&[u8], SetFault); 6] = [
-        (&text[..209], SetFault::Truncated),
-        (b"", SetFault::Truncated),
-        (b"BAGSET 2\n", SetFault::BadOpening),
-        (b"BAGSET 1\nFILE 6 03\n", SetFault::BadEntry(9)),
-        (
-            b"BAGSET 1\nFILE 6 0\ndata/a\nFILE 8 0\ndata/a/b\nEND\n",
-            SetFault::PathClash,
-        ),
-        (b"BAGSET 1\nEND\n\n", SetFault::TrailingBytes),
-    ];
-    for (form, fault) in rows {
-        match read_bagset(rt.alloc(), form) {
-            Ok(_) => assert!(rt; false, "no fault where {fault} stands"),
-            Err(found) => assert!(rt; found == fault),
-        }
+fn lists_of_files(rt: HostRuntime) -> Result<(), Fail> {
+    for (files, want) in &LISTS {
+        assert!(rt; form_of(rt.alloc(), files)?.as_str() == *want, "{want}");
     }
-}
-
-#[test]
-fn makes_and_writes_a_bag(rt: HostRuntime) -> Result<(), Fail> {
-    let files: [(&str, &[u8]); 3] = [
-        ("bagit.txt", DECLARATION.as_bytes()),
-        ("data/a", b"abc"),
-        ("manifest-sha256.txt", MANIFEST.as_bytes()),
-    ];
-    let bag = BagSet::of(rt.alloc(), &files)?;
-    assert!(rt; bag.files().len() == 3);
-    assert!(rt; bag.get("data/a") == Some(b"abc".as_slice()));
-    let text = write_bagset(rt.alloc(), &bag)?;
-    assert!(rt; text.as_slice() == BAG.as_bytes());
-    let empty = BagSet::of(rt.alloc(), &[])?;
-    let text = write_bagset(rt.alloc(), &empty)?;
-    assert!(rt; text.as_slice() == b"BAGSET 1\nEND\n".as_slice());
     Ok(())
-}
-
-/// The fault of a list of files, where it has one.
-fn fault_of_list(alloc: Global, files: &[(&str, &[u8])]) -> Option<SetFault> {
-    match BagSet::of(alloc, files) {
-        Ok(_) => None,
-        Err(fault) => Some(fault),
-    }
-}
-
-#[test]
-fn names_the_faults_of_lists(rt: HostRuntime) {
-    let alloc = rt.alloc();
-    assert!(rt; fault_of_list(alloc, &[("b", b""), ("a", b"")]) == Some(SetFault::OutOfOrder(1)));
-    assert!(rt; fault_of_list(alloc, &[("a", b""), ("a", b"")]) == Some(SetFault::OutOfOrder(1)));
-    assert!(rt; fault_of_list(alloc, &[("b", b""), ("a//b", b"")]) == Some(SetFault::BadPath(1)));
-    assert!(rt; fault_of_list(alloc, &[("data", b"")]) == Some(SetFault::PathClash));
-    assert!(rt;
-        fault_of_list(
-            alloc,
-            &[("data/a", b""), ("data/a!", b""), ("data/a/b", b"")]
-        ) == Some(SetFault::PathClash)
-    );
-    assert!(rt; fault_of_list(alloc, &[("a", b""), ("b", b"")]) == None);
 }
 
 #[test]
 fn names_what_is_too_long_in_a_list(rt: HostRuntime) -> Result<(), Fail> {
     let content = vec![in rt.alloc(); 0; MAX_CONTENT + 1]?;
     let path = "a".repeat(rt.alloc(), MAX_PATH + 1)?;
-    let mut files: Vec<(&str, &[u8])> = Vec::new(rt.alloc());
-    files.push((path.as_str(), content.as_slice()))?;
-    assert!(rt; matches!(BagSet::of(rt.alloc(), &files), Err(SetFault::BadEntry(0))));
-    files.clear();
-    files.push((path.as_str(), b"".as_slice()))?;
-    assert!(rt; matches!(BagSet::of(rt.alloc(), &files), Err(SetFault::BadPath(0))));
+    for (content, want) in [(content.as_slice(), "S2 0"), (b"".as_slice(), "S5 0")] {
+        let said = form_of(rt.alloc(), &[(path.as_str(), content)])?;
+        assert!(rt; said.as_str() == want);
+    }
     Ok(())
 }
 
@@ -162,15 +108,49 @@ fn takes_two_thousand_files(rt: HostRuntime) -> Result<(), Fail> {
     for path in paths.iter() {
         files.push((path.as_str(), b"".as_slice()))?;
     }
-    assert!(rt; matches!(BagSet::of(rt.alloc(), &files), Err(SetFault::TooManyFiles)));
+    assert!(rt; form_of(rt.alloc(), &files)?.as_str() == "S6");
     files.truncate(MAX_FILES);
     assert!(rt; BagSet::of(rt.alloc(), &files).is_ok());
     Ok(())
 }
 
+/// A text of three labels with their values.
+const INFO: &str =
+    "Source-Organization \t:  An archive: the old one \r\n\r\nExternal-Description: one\n \t two: 2\n  \t\n\tthree\rPayload-Oxum:3.1";
+
+/// Texts, and the fault of each as a `bag-info.txt`.
+static INFO_FAULTS: [(&[u8], &str); 6] = [
+    (b"A: \xFF", "I1"),
+    (b"\xEF\xBB\xBFA: b\n", "I2"),
+    (b"A: b\r\n\t\nc\n: d\n", "I3 3"),
+    (b"A: b\n: c\n", "I4 2"),
+    (b"\n \tA: b\n", "I5 2"),
+    (b" b\nc\n", "I5 1"),
+];
+
+/// The fault of a text as a `bag-info.txt`, or nothing.
+fn fault_of_info(alloc: Global, text: &[u8]) -> Result<String, AllocError> {
+    match read_bag_info(alloc, text) {
+        Ok(_) => Ok(String::new(alloc)),
+        Err(fault) => fault.to_string(alloc),
+    }
+}
+
 #[test]
-fn reads_labels_and_values(rt: HostRuntime) -> Result<(), Fail> {
+fn faults_of_bag_info(rt: HostRuntime) -> Result<(), Fail> {
+    for (text, want) in &INFO_FAULTS {
+        assert!(rt;
+            fault_of_info(rt.alloc(), text)?.as_str() == *want,
+            "{want}"
+        );
+    }
+    Ok(())
+}
+
+#[test]
+fn labels_and_values(rt: HostRuntime) -> Result<(), Fail> {
     let info = read_bag_info(rt.alloc(), INFO.as_bytes())?;
+    // Each label and value, and whether the value stands in the text as it is.
     let wanted = [
         ("Source-Organization", "An archive: the old one ", true),
         ("External-Description", "one\ntwo: 2\nthree", false),
@@ -185,62 +165,54 @@ fn reads_labels_and_values(rt: HostRuntime) -> Result<(), Fail> {
     Ok(())
 }
 
-#[test]
-fn names_the_faults_of_bag_info(rt: HostRuntime) {
-    let rows: [(&[u8], InfoFault); 6] = [
-        (b"A: \xFF", InfoFault::NotUtf8),
-        (b"\xEF\xBB\xBFA: b\n", InfoFault::ByteOrderMark),
-        (b"A: b\r\n\t\nc\n: d\n", InfoFault::NoColon(3)),
-        (b"A: b\n: c\n", InfoFault::EmptyLabel(2)),
-        (b"\n \tA: b\n", InfoFault::StrayContinuation(2)),
-        (b" b\nc\n", InfoFault::StrayContinuation(1)),
-    ];
-    for (text, fault) in rows {
-        match read_bag_info(rt.alloc(), text) {
-            Ok(_) => assert!(rt; false, "no fault where {fault} stands"),
-            Err(found) => assert!(rt; found == fault),
-        }
-    }
-}
+/// Texts, and the fault of each as a path, or nothing. Of two faults the least stands.
+static PATHS: [(&str, &str); 17] = [
+    ("a", ""),
+    ("...", ""),
+    ("a b/.c", ""),
+    ("data/a b/..c", ""),
+    ("\u{e9}\n\r%*\\", ""),
+    ("", "P1"),
+    ("/", "P3"),
+    ("/a", "P3"),
+    ("a/", "P3"),
+    ("a//b", "P3"),
+    ("../", "P3"),
+    (".", "P4"),
+    ("./a", "P4"),
+    ("a/../b", "P4"),
+    ("data/../a", "P4"),
+    ("\0/..", "P4"),
+    ("a\0b", "P5"),
+];
 
-/// The fault of a text as a path, where it has one.
-fn fault_of_path(text: &str) -> Option<PathFault> {
+/// The fault of a text as a path, or nothing.
+fn fault_of_path(alloc: Global, text: &str) -> Result<String, AllocError> {
     match BagPath::read(text) {
-        Ok(_) => None,
-        Err(fault) => Some(fault),
+        Ok(_) => Ok(String::new(alloc)),
+        Err(fault) => fault.to_string(alloc),
     }
 }
 
 #[test]
-fn names_the_faults_of_paths(rt: HostRuntime) {
-    for (text, fault) in [
-        ("", PathFault::Empty),
-        ("/", PathFault::EmptySegment),
-        ("/a", PathFault::EmptySegment),
-        ("a/", PathFault::EmptySegment),
-        ("a//b", PathFault::EmptySegment),
-        (".", PathFault::DotSegment),
-        ("./a", PathFault::DotSegment),
-        ("a/../b", PathFault::DotSegment),
-        ("a\0b", PathFault::Nul),
-        // The least that stands.
-        ("../", PathFault::EmptySegment),
-        ("\0/..", PathFault::DotSegment),
-    ] {
-        assert!(rt; fault_of_path(text) == Some(fault));
+fn paths(rt: HostRuntime) -> Result<(), Fail> {
+    for (text, want) in &PATHS {
+        assert!(rt;
+            fault_of_path(rt.alloc(), text)?.as_str() == *want,
+            "{text}"
+        );
     }
-    for text in ["a", "...", "a b/.c", "\u{e9}\n\r%*\\"] {
-        assert!(rt; fault_of_path(text) == None);
-    }
+    assert!(rt; BagPath::read("data/a b/..c")?.as_str() == "data/a b/..c");
+    Ok(())
 }
 
 #[test]
 fn paths_have_at_most_1024_bytes(rt: HostRuntime) -> Result<(), Fail> {
-    let longest = "\u{e9}".repeat(rt.alloc(), 512)?;
-    assert!(rt; fault_of_path(longest.as_str()) == None);
-    let longer = format!(in rt.alloc(); "{longest}a")?;
-    assert!(rt; fault_of_path(longer.as_str()) == Some(PathFault::TooLong));
-    let worse = format!(in rt.alloc(); "{longer}/../\0")?;
-    assert!(rt; fault_of_path(worse.as_str()) == Some(PathFault::TooLong));
+    let mut path = "\u{e9}".repeat(rt.alloc(), 512)?;
+    assert!(rt; fault_of_path(rt.alloc(), &path)?.is_empty());
+    path.push_str("a")?;
+    assert!(rt; fault_of_path(rt.alloc(), &path)?.as_str() == "P2");
+    path.push_str("/../\0")?;
+    assert!(rt; fault_of_path(rt.alloc(), &path)?.as_str() == "P2");
     Ok(())
 }
