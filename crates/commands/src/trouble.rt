@@ -94,7 +94,12 @@ fn tell_more<E: Write>(alloc: Global, tried: Tried<'_>, error: Error, err: &mut 
 
 /// Tells standard error that a device or memory failed: the line that a program reads first, and then
 /// what was tried.
-pub(crate) fn report<E: Write>(alloc: Global, tried: Tried<'_>, trouble: Trouble, err: &mut E) -> Ending
+pub(crate) fn report<E: Write>(
+    alloc: Global,
+    tried: Tried<'_>,
+    trouble: Trouble,
+    err: &mut E,
+) -> Ending
     ensures ends { (result ≡ Failed) ⊎ (result ≡ Unsaid) }
     ensures message { result ≡ Failed → (failure : Failure)
         × BeginsWith (message_of failure) (E.contents err.old) (E.contents err.new) }
