@@ -1,0 +1,17 @@
+//! Runs of the program through its public function, and what each prints.
+#![tactic(auto)]
+
+#[cfg(test)]
+mod folders;
+#[cfg(test)]
+mod offices;
+#[cfg(test)]
+mod output;
+#[cfg(test)]
+mod runs;
+#[cfg(test)]
+mod stores;
+#[cfg(test)]
+mod texts;
+#[cfg(test)]
+mod words;
