@@ -7,7 +7,7 @@ use Rattle.sqlite.specs.Store.{Ghosts}
 use Rattle.sqlite.specs.Steps.{over_memory}
 use Rattle.sqlite.specs.declared.MemStore.{MemStore}
 use Rattle.sqlite.proofs.Callers.{memory_is_clean}
-use Rattle.office_core.specs.Bounds.{max_limit}
+use Rattle.office_rows.specs.Rows.{max_limit}
 use Rattle.office_core.specs.Policies.{Contents}
 use Rattle.office_history.specs.Histories.{History}
 use Rattle.office_history.specs.Runs.{IsLegal, new, new_history}

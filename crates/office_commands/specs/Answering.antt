@@ -3,7 +3,7 @@ use Rattle.std.specs.Prelude.{◌≡◌, ℕ, List, [], Option, None, Some, Ok, 
 use Rattle.std.specs.Io.KnownBytes.{Appends, Consumes, IsAtEnd}
 use denote.Ref.{Bor}
 use Rattle.jiff.specs.Types.{Date}
-use Rattle.office_core.specs.Bounds.{max_limit}
+use Rattle.office_rows.specs.Rows.{max_limit}
 use Rattle.office_core.specs.Policies.{Contents}
 use Rattle.office_core.specs.declared.answer.Answer.{Answer}
 use Rattle.commands.specs.Explaining.{Spells}

@@ -49,6 +49,8 @@ pub enum Cause {
     Policy(io::Error),
     /// Where the store is to be, the host's files could not be asked.
     Search(io::Error),
+    /// The host's files don't let the store be read and written.
+    Refused(io::Error),
     /// The store could not be opened.
     Open(sqlite::Error),
     /// The log could not be copied into the store. What was changed stands in the log.
@@ -60,9 +62,10 @@ pub enum Cause {
 impl fmt::Display for Cause {
     fn fmt<W: fmt::Write>(&self, f: &mut fmt::Formatter<W>) -> fmt::Result {
         match self {
-            Cause::Policy(error) | Cause::Search(error) | Cause::Listen(error) => {
-                write!(f, "{error}")
-            }
+            Cause::Policy(error)
+            | Cause::Search(error)
+            | Cause::Refused(error)
+            | Cause::Listen(error) => write!(f, "{error}"),
             Cause::Open(error) | Cause::Close(error) => write!(f, "{error}"),
         }
     }

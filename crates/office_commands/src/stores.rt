@@ -8,7 +8,7 @@ ghost use Rattle.sqlite.specs.Start.{FindsIn};
 ghost use Rattle.sqlite.specs.State.{HasCleanDisk};
 ghost use Rattle.sqlite.specs.WalFiles.{image_at};
 ghost use Rattle.sqlite_wal.specs.Reads.{AreClean};
-ghost use Rattle.office_core.specs.Bounds.{max_limit};
+ghost use Rattle.office_rows.specs.Rows.{max_limit};
 ghost use Rattle.office_tables.specs.Schema.{no_schema};
 ghost use Rattle.office_history.specs.Histories.{History};
 ghost use Rattle.office_history.specs.Runs.{IsLegal};
@@ -31,7 +31,7 @@ use office_engine::Office;
 use sqlite::{Connection, Error, ErrorCode, FileFrom, FileStore, Files, Start};
 use sqlite_disk::Disk;
 use std::alloc::Global;
-use std::fs;
+use std::fs::{self, OpenOptions};
 use std::io::{self, ErrorKind, Read, Write};
 use std::rt::HostRuntime;
 
@@ -94,6 +94,17 @@ fn is_missing(rt: &HostRuntime, store: &str) -> Result<bool, CommandFault> {
     }
 }
 
+/// What kept the store from being opened: the host's files, where they refuse it.
+fn opening_cause(rt: &HostRuntime, store: &str, error: Error) -> Cause {
+    if !matches!(error, Error::SqliteFailure(ErrorCode::CannotOpen)) {
+        return Cause::Open(error);
+    }
+    match OpenOptions::new().read(true).write(true).open(rt, store) {
+        Ok(_) => Cause::Open(error),
+        Err(refused) => Cause::Refused(refused),
+    }
+}
+
 /// Opens the file of the store, or makes it.
 fn open_store<S: Start>(
     rt: &HostRuntime,
@@ -107,7 +118,7 @@ fn open_store<S: Start>(
 {
     match Connection::open_from(rt, store, false, start) {
         Ok(conn) => Ok(conn),
-        Err((error, _)) => Err(failed_by(store_fault(error), Cause::Open(error))),
+        Err((error, _)) => Err(failed_by(store_fault(error), opening_cause(rt, store, error))),
     }
 }
 

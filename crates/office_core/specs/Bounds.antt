@@ -21,7 +21,3 @@ max_callers = 1_000
 -- the years for which a class keeps its deposits
 abbrev pub max_years : ℕ
 max_years = 200
-
--- the deposits, and the holds, that an office may be told to accept
-abbrev pub max_limit : ℕ
-max_limit = 1_000_000

@@ -1,7 +1,7 @@
 //! The limits of an office.
 
 ghost use Rattle.std.specs.Prelude.{◌≡◌, ◌≤◌, IsSome, IfSome, ◌↔◌};
-ghost use Rattle.office_core.specs.Bounds.{max_limit};
+ghost use Rattle.office_rows.specs.Rows.{max_limit};
 
 /// The greatest limit that an office can have.
 pub const MAX_LIMIT: u32 = 1_000_000;

@@ -5,11 +5,11 @@ use Rattle.std.specs.List.{AllByRecursion}
 use Rattle.jiff.specs.Words.{IsBetween}
 use Rattle.bag_text.specs.TransferForm.{Fits}
 use Rattle.office_core.specs.Actions.{action_text}
-use Rattle.office_core.specs.Bounds.{max_callers, max_limit, max_rules, max_years}
+use Rattle.office_core.specs.Bounds.{max_callers, max_rules, max_years}
 use Rattle.office_core.specs.Days.{IsDayNumber}
 use Rattle.office_core.specs.Names.{IsName, IsAccession, IsMatter}
 use Rattle.office_core.specs.declared.action.Action.{Action}
-use Rattle.office_rows.specs.Rows.{OfficeRow, CallerRow, RuleRow, ClassRow, DepositRow, FileRow, HoldRow, Tables}
+use Rattle.office_rows.specs.Rows.{OfficeRow, CallerRow, RuleRow, ClassRow, DepositRow, FileRow, HoldRow, Tables, max_limit}
 use Rattle.office_history.specs.Lists.{item_numbered}
 
 -- the numbers of the rows are these: n, n + 1, n + 2 and so on

@@ -3,7 +3,7 @@ use Rattle.std.specs.Prelude.{◌≡◌, ℕ, ◌≤◌, ◌⊎◌, List, [], �
 use Rattle.std.specs.List.{AllByRecursion}
 use denote.Ref.{Bor}
 use Rattle.jiff.specs.Types.{Date}
-use Rattle.office_core.specs.Bounds.{max_limit}
+use Rattle.office_rows.specs.Rows.{max_limit}
 use Rattle.office_core.specs.Days.{IsDay}
 use Rattle.office_core.specs.Policies.{Contents, IsPolicy}
 use Rattle.office_core.specs.Requests.{IsRequest}

@@ -126,7 +126,7 @@ limits_in o = record { max_deposits = o.max_deposits; max_holds = o.max_holds }
 abbrev pub limits_of : Tables → Option Limits
 limits_of t = option_map limits_in (office_row t)
 
--- the greatest limit
+-- the deposits, and the holds, that an office may be told to accept: the greatest limit
 abbrev pub max_limit : ℕ
 max_limit = 1_000_000
 

@@ -17,6 +17,9 @@ use sqlite::types::ValueRef;
 use sqlite::{Alter, Connection, Row, Transaction, params};
 use sqlite_schema::schema::Schema;
 
+/// The most deposits, and the most holds, that an office may be told to accept.
+const MAX_LIMIT: i64 = 1_000_000;
+
 /// The version that a row tells, where it is the row of an office.
 fn version_in(row: &Row) -> Option<i64>
     ensures { MatchOption result (shows_office row.now ≡ false) (λ version. (shows_office row.now ≡ true) × (column row.now 1 ≡ Int version)) }
@@ -27,10 +30,10 @@ fn version_in(row: &Row) -> Option<i64>
     let Ok(ValueRef::Int(version)) = row.get_ref(1) else {
         return None;
     };
-    let Ok(ValueRef::Int(1..=1_000_000)) = row.get_ref(2) else {
+    let Ok(ValueRef::Int(1..=MAX_LIMIT)) = row.get_ref(2) else {
         return None;
     };
-    let Ok(ValueRef::Int(1..=1_000_000)) = row.get_ref(3) else {
+    let Ok(ValueRef::Int(1..=MAX_LIMIT)) = row.get_ref(3) else {
         return None;
     };
     Some(version)

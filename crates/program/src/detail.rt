@@ -78,7 +78,7 @@ fn cause_told<'a>(store: &'a str, policy: &'a str, cause: Cause) -> Told<'a> {
     match cause {
         Cause::Policy(_) => failed_on("cannot read ", policy, why),
         Cause::Search(_) => failed_on("cannot look at ", store, why),
-        Cause::Open(_) => failed_on("cannot open ", store, why),
+        Cause::Refused(_) | Cause::Open(_) => failed_on("cannot open ", store, why),
         Cause::Close(_) => failed_on("cannot close ", store, why),
         Cause::Listen(_) => failed_on("cannot listen on ", "127.0.0.1", why),
     }

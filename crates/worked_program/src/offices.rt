@@ -1,339 +1,99 @@
 //! An office in a file from its first day on, and offices in memory.
 
-use crate::output::Peer;
-use crate::runs::{ACCEPTED, FAILED, REFUSED, Run, begin, run_all, run_one};
-use crate::texts::{
-    ANSWERS, ASKS, CLASS, CLASS_ANSWER, DAYS, DAYS_ANSWERS, DENIED_ANSWER, DEPOSIT_ANSWER,
-    DEPOSITS, DOWNLOAD, DOWNLOAD_ANSWER, DUE, DUE_ANSWER, LIST_ANSWER, LISTS, MAPS, MAPS_ANSWER,
-    NO_SUCH_ANSWER, ONE_ANSWER, ONE_RECORD, RECORDS, TORN_RECORDS,
-};
+use crate::runs::{begin, run_all, run_one};
 use std::fs;
 use std::net::{Ipv4Addr, TcpListener};
 use std::test::Fail;
 
+/// A policy, and a text that is none.
+static FILES: [(&str, &str); 2] = [
+    ("o/policy.toml", "~policy~"),
+    ("o/other.toml", "version = 3\n"),
+];
+
 /// Runs that make no office.
-static NOTHING_MADE: [Run; 10] = [
-    Run {
-        words: &["ask", "offices/office.db", "2024-03-02"],
-        input: MAPS,
-        err: "store Q1\ndepot: ",
-        ..FAILED
-    },
-    Run {
-        words: &["replay", "offices/office.db"],
-        input: RECORDS,
-        err: "store Q1\ndepot: ",
-        ..FAILED
-    },
-    Run {
-        words: &[
-            "serve",
-            "--port",
-            "0",
-            "--count",
-            "1",
-            "offices/office.db",
-            "2024-03-02",
-        ],
-        err: "store Q1\ndepot: ",
-        ..FAILED
-    },
-    Run {
-        words: &["policy", "offices/office.db", "offices/other.toml"],
-        out: "policy Y2\n",
-        err: "the policy has no version, or one that is not the whole number 1 (Y2)\n",
-        ..REFUSED
-    },
-    Run {
-        words: &[
-            "replay",
-            "--policy",
-            "offices/other.toml",
-            "offices/office.db",
-        ],
-        input: RECORDS,
-        err: "policy Y2\nthe policy has no version, or one that is not the whole number 1 (Y2)\ndepot: offices/other.toml is no policy\n",
-        ..REFUSED
-    },
-    Run {
-        words: &["policy", "offices/office.db", "offices/none.toml"],
-        err: "device\ndepot: cannot read offices/none.toml: No such file or directory (os error 2)\n",
-        ..FAILED
-    },
-    Run {
-        words: &[
-            "replay",
-            "--policy",
-            "offices/none.toml",
-            "offices/office.db",
-        ],
-        input: RECORDS,
-        err: "device\ndepot: cannot read offices/none.toml: No such file or directory (os error 2)\n",
-        ..FAILED
-    },
-    Run {
-        words: &["policy", "offices/none/office.db", "offices/policy.toml"],
-        err: "store Q4\ndepot: cannot open offices/none/office.db: ",
-        ..FAILED
-    },
-    Run {
-        words: &["ask", "offices/none/office.db", "2024-03-02"],
-        input: MAPS,
-        err: "store Q1\ndepot: ",
-        ..FAILED
-    },
-    Run {
-        words: &[
-            "policy",
-            "offices/policy.toml/office.db",
-            "offices/policy.toml",
-        ],
-        err: "store Q4\ndepot: cannot look at offices/policy.toml/office.db: Not a directory (os error 20)\n",
-        ..FAILED
-    },
+static NOTHING_MADE: [&str; 10] = [
+    "ask,o/office.db,2024-03-02|~maps~|Failed||~no office~o/office.db is no office\n",
+    "replay,o/office.db|~records~|Failed||~no office~o/office.db is no office\n",
+    "serve,--port,0,--count,1,o/office.db,2024-03-02||Failed||~no office~o/office.db is no office\n",
+    "policy,o/office.db,o/other.toml||Refused|policy Y2\n|~Y2~",
+    "replay,--policy,o/other.toml,o/office.db|~records~|Refused||policy Y2\n~Y2~depot: o/other.toml is no policy\n",
+    "policy,o/office.db,o/none.toml||Failed||~unread~o/none.toml~none~",
+    "replay,--policy,o/none.toml,o/office.db|~records~|Failed||~unread~o/none.toml~none~",
+    "policy,o/none/office.db,o/policy.toml||Failed||~unopened~o/none/office.db~none~",
+    "ask,o/none/office.db,2024-03-02|~maps~|Failed||~no office~o/none/office.db is no office\n",
+    "policy,o/policy.toml/office.db,o/policy.toml||Failed||store Q4\ndepot: cannot look at o/policy.toml/office.db: Not a directory (os error 20)\n",
 ];
 
 /// An office that `policy` makes, run after run.
-static MADE_BY_POLICY: [Run; 12] = [
-    Run {
-        words: &["policy", "offices/office.db", "offices/policy.toml"],
-        out: "installed 3 rules 2 callers\n",
-        ..ACCEPTED
-    },
-    Run {
-        words: &["replay", "offices/office.db"],
-        input: RECORDS,
-        out: ANSWERS,
-        ..ACCEPTED
-    },
-    Run {
-        words: &["ask", "offices/office.db", "2024-03-02"],
-        input: MAPS,
-        out: MAPS_ANSWER,
-        ..ACCEPTED
-    },
+static MADE: [&str; 7] = [
+    "policy,o/office.db,o/policy.toml||Accepted|~installed~|",
+    "replay,o/office.db|~records~|Accepted|~answers~|",
+    "ask,o/office.db,2024-03-02|~maps~|Accepted|~maps made~|",
     // What comes before a record that is none is answered.
-    Run {
-        words: &["replay", "offices/office.db"],
-        input: TORN_RECORDS,
-        out: ONE_ANSWER,
-        err: "record 2\ndepot: ",
-        ..REFUSED
-    },
+    "replay,o/office.db|~torn records~|Refused|~one answer~|record 2\ndepot: record 2 of the input is none\n",
     // A policy that is refused leaves the one that stands.
-    Run {
-        words: &["policy", "offices/office.db", "offices/other.toml"],
-        out: "policy Y2\n",
-        err: "the policy has no version, or one that is not the whole number 1 (Y2)\n",
-        ..REFUSED
-    },
-    Run {
-        words: &[
-            "replay",
-            "--policy",
-            "offices/other.toml",
-            "offices/office.db",
-        ],
-        input: RECORDS,
-        err: "policy Y2\nthe policy has no version, or one that is not the whole number 1 (Y2)\ndepot: offices/other.toml is no policy\n",
-        ..REFUSED
-    },
-    Run {
-        words: &["replay", "offices/office.db"],
-        ..ACCEPTED
-    },
-    // An input that fails, and an output that takes nothing.
-    Run {
-        words: &["ask", "offices/office.db", "2024-03-01"],
-        input: MAPS,
-        gives: 53,
-        err: "device\ndepot: standard input or output failed\n",
-        ..FAILED
-    },
-    Run {
-        words: &[
-            "replay",
-            "--policy",
-            "offices/policy.toml",
-            "offices/office.db",
-        ],
-        input: DAYS,
-        takes: 0,
-        err: "device\ndepot: standard input or output failed\n",
-        ..FAILED
-    },
-    Run {
-        words: &["replay", "offices/office.db"],
-        input: DAYS,
-        out: DAYS_ANSWERS,
-        ..ACCEPTED
-    },
-    // What was written is there in the next run.
-    Run {
-        words: &["replay", "offices/office.db"],
-        input: DUE,
-        out: DUE_ANSWER,
-        ..ACCEPTED
-    },
-    Run {
-        words: &["policy", "offices/office.db", "offices/policy.toml"],
-        out: "installed 3 rules 2 callers\n",
-        ..ACCEPTED
-    },
+    "policy,o/office.db,o/other.toml||Refused|policy Y2\n|~Y2~",
+    "replay,--policy,o/other.toml,o/office.db|~records~|Refused||policy Y2\n~Y2~depot: o/other.toml is no policy\n",
+    "replay,o/office.db||Accepted||",
 ];
 
-/// An office that a replay makes, behind its policy.
-static MADE_BY_REPLAY: [Run; 3] = [
-    Run {
-        words: &[
-            "replay",
-            "--policy",
-            "offices/policy.toml",
-            "offices/replayed.db",
-        ],
-        input: RECORDS,
-        out: ANSWERS,
-        ..ACCEPTED
-    },
-    Run {
-        words: &["ask", "offices/replayed.db", "2024-03-01"],
-        input: ASKS,
-        gives: 52,
-        out: NO_SUCH_ANSWER,
-        ..ACCEPTED
-    },
-    Run {
-        words: &["ask", "offices/replayed.db", "2024-03-02"],
-        input: MAPS,
-        out: MAPS_ANSWER,
-        ..ACCEPTED
-    },
+/// A request whose last byte does not come, as the input fails.
+static INPUT_FAILS: &str =
+    "ask,o/office.db,2024-03-01|~maps~|Failed||device\ndepot: standard input or output failed\n";
+
+/// Records, where standard output takes nothing.
+static OUTPUT_FAILS: &str =
+    "replay,--policy,o/policy.toml,o/office.db|~days~|Failed||device\ndepot: standard input or output failed\n";
+
+/// The office goes on, others are made, and one is served.
+static GOES_ON: [&str; 14] = [
+    "replay,o/office.db|~days~|Accepted|~days answered~|",
+    // What was written is there in the next run. The second deposit is in a collection of which nothing
+    // may be destroyed.
+    "replay,o/office.db|~due~|Accepted|ANS 125\n~ok~35~close~{\"day\":\"2024-03-05\",\"deposits\":[1]}\n|",
+    "policy,o/office.db,o/policy.toml||Accepted|~installed~|",
+    // An office that a replay makes, behind its policy.
+    "replay,--policy,o/policy.toml,o/replayed.db|~records~|Accepted|~answers~|",
+    "ask,o/replayed.db,2024-03-02|~maps~|Accepted|~maps made~|",
+    // A new office in memory each time.
+    "ask,:memory:,2024-03-01|~maps~|Accepted|~denied~|",
+    "policy,:memory:,o/policy.toml||Accepted|~installed~|",
+    "replay,:memory:|~one record~\n|Accepted|~one answer~|",
+    "replay,:memory:|~torn records~|Refused|~one answer~|record 2\ndepot: record 2 of the input is none\n",
+    "replay,--policy,o/policy.toml,:memory:|~records~|Accepted|~answers~|",
+    "replay,--policy=o/other.toml,--,:memory:|~records~|Refused||policy Y2\n~Y2~depot: o/other.toml is no policy\n",
+    // An office that is served to peers, and what they wrote in the run that follows.
+    "policy,o/served.db,o/policy.toml||Accepted|~installed~|",
+    "serve,--port,0,--count,5,o/served.db,2024-03-01|~asks~#~maps~#~y1~#POST /deposits?collection=maps&class=y1&accession=A-1~closed~#GET /deposits~anna~|Accepted|~no such~#~maps made~#~y1 made~#~deposited~1}#~ok~165~close~{\"deposits\":[{\"accession\":\"A-1\",\"bytes\":3,\"class\":\"y1~shown~maps\",\"deposit\":1,\"deposited\":\"2024-03-01\",\"due\":\"2025-02-28\",\"files\":1}]}#|",
+    "ask,o/served.db,2024-03-02|GET /deposits/1/bag~anna~|Accepted|HTTP/1.1 200 OK\r\nContent-Type: application/octet-stream\r\nContent-Length: 210~close~~bag~|",
 ];
 
-/// A new office in memory each time.
-static IN_MEMORY: [Run; 6] = [
-    Run {
-        words: &["ask", ":memory:", "2024-03-01"],
-        input: MAPS,
-        out: DENIED_ANSWER,
-        ..ACCEPTED
-    },
-    Run {
-        words: &["policy", ":memory:", "offices/policy.toml"],
-        out: "installed 3 rules 2 callers\n",
-        ..ACCEPTED
-    },
-    Run {
-        words: &["replay", ":memory:"],
-        input: ONE_RECORD,
-        out: ONE_ANSWER,
-        ..ACCEPTED
-    },
-    Run {
-        words: &["replay", ":memory:"],
-        input: TORN_RECORDS,
-        out: ONE_ANSWER,
-        err: "record 2\ndepot: ",
-        ..REFUSED
-    },
-    Run {
-        words: &["replay", "--policy", "offices/policy.toml", ":memory:"],
-        input: RECORDS,
-        out: ANSWERS,
-        ..ACCEPTED
-    },
-    Run {
-        words: &["replay", "--policy=offices/other.toml", "--", ":memory:"],
-        input: RECORDS,
-        err: "policy Y2\nthe policy has no version, or one that is not the whole number 1 (Y2)\ndepot: offices/other.toml is no policy\n",
-        ..REFUSED
-    },
-];
-
-/// An office that is served to peers, and what they wrote in the run that follows.
-static SERVED: [Run; 3] = [
-    Run {
-        words: &["policy", "offices/served.db", "offices/policy.toml"],
-        out: "installed 3 rules 2 callers\n",
-        ..ACCEPTED
-    },
-    Run {
-        words: &[
-            "serve",
-            "--port",
-            "0",
-            "--count",
-            "5",
-            "offices/served.db",
-            "2024-03-01",
-        ],
-        peers: &[
-            Peer {
-                sends: ASKS,
-                gets: NO_SUCH_ANSWER,
-            },
-            Peer {
-                sends: MAPS,
-                gets: MAPS_ANSWER,
-            },
-            Peer {
-                sends: CLASS,
-                gets: CLASS_ANSWER,
-            },
-            Peer {
-                sends: DEPOSITS,
-                gets: DEPOSIT_ANSWER,
-            },
-            Peer {
-                sends: LISTS,
-                gets: LIST_ANSWER,
-            },
-        ],
-        out: "listening ",
-        ..ACCEPTED
-    },
-    Run {
-        words: &["ask", "offices/served.db", "2024-03-02"],
-        input: DOWNLOAD,
-        out: DOWNLOAD_ANSWER,
-        ..ACCEPTED
-    },
-];
-
-/// The port that is named is another listener's.
-static TAKEN: Run = Run {
-    words: &[
-        "serve",
-        "--port",
-        "STORE",
-        "--count",
-        "1",
-        "offices/served.db",
-        "2024-03-01",
-    ],
-    err: "device\ndepot: cannot listen on 127.0.0.1: Address already in use (os error 98)\n",
-    ..FAILED
-};
+/// A request whose bytes are all there, where the input fails behind them.
+static INPUT_ENDS: &str = "ask,o/replayed.db,2024-03-01|~asks~|Accepted|~no such~|";
 
 /// Serves on a port that another listener has.
 fn run_at_taken_port(rt: &HostRuntime) -> Result<(), Fail> {
     let listener = TcpListener::bind(rt, (Ipv4Addr::LOCALHOST, 0))?;
     let port = listener.local_addr()?.port();
-    let word = format!(in rt.alloc(); "{port}")?;
-    run_one(rt, &TAKEN, word.as_str(), TAKEN.err)
+    let text = format!(in rt.alloc();
+        "serve,--port,{port},--count,1,o/served.db,2024-03-01||Failed||device\ndepot: cannot listen on 127.0.0.1: Address already in use (os error 98)\n"
+    )?;
+    run_one(rt, text.as_str(), u64::MAX, usize::MAX)
 }
 
 #[test]
 fn offices_in_files_and_in_memory(rt: HostRuntime) -> Result<(), Fail> {
-    begin(&rt, "offices")?;
-    run_all(&rt, NOTHING_MADE.as_slice())?;
-    assert!(rt; !fs::exists(&rt, "offices/office.db")?);
-    assert!(rt; !fs::exists(&rt, "offices/none")?);
-    run_all(&rt, MADE_BY_POLICY.as_slice())?;
-    run_all(&rt, MADE_BY_REPLAY.as_slice())?;
-    run_all(&rt, IN_MEMORY.as_slice())?;
-    run_all(&rt, SERVED.as_slice())?;
+    begin(&rt, "o", &FILES)?;
+    run_all(&rt, &NOTHING_MADE)?;
+    assert!(rt; !fs::exists(&rt, "o/office.db")?);
+    assert!(rt; !fs::exists(&rt, "o/none")?);
+    run_all(&rt, &MADE)?;
+    run_one(&rt, INPUT_FAILS, 53, usize::MAX)?;
+    run_one(&rt, OUTPUT_FAILS, u64::MAX, 0)?;
+    run_all(&rt, &GOES_ON)?;
+    run_one(&rt, INPUT_ENDS, 52, usize::MAX)?;
     run_at_taken_port(&rt)?;
-    fs::remove_dir_all(&rt, "offices")?;
+    fs::remove_dir_all(&rt, "o")?;
     Ok(())
 }

@@ -1,46 +1,27 @@
 //! What the program prints, and the peers that connect once it listens.
 
-use std::io::{Error, ErrorKind, Read, Write};
+use std::io;
+use std::io::{Read, Write};
 use std::net::{Ipv4Addr, Shutdown, TcpStream};
-use std::test::Fail;
 use std::time::Duration;
-use std::{io, mem};
-
-/// A peer: what it sends, and what it gets.
-#[derive(Clone, Copy)]
-pub struct Peer {
-    pub sends: &'static str,
-    pub gets: &'static str,
-}
 
 /// Standard output of a run. Once it holds the line that says where the program listens, and is
-/// flushed, the peers connect, and each sends its request.
+/// flushed, that line is taken out, and peers connect, each of which sends its request.
 #[derive(Drop)]
 pub struct Output<'a> {
-    rt: &'a HostRuntime,
+    pub rt: &'a HostRuntime,
     /// What is printed.
     pub said: Vec<u8>,
-    /// How many bytes more it takes.
-    room: usize,
-    /// The peers that are still to connect.
-    peers: &'static [Peer],
-    /// The ends of those that have.
-    streams: Vec<TcpStream>,
+    /// How many bytes of a call it takes.
+    pub takes: usize,
+    /// What the peers send, with `#` between them.
+    pub peers: &'a str,
+    /// Their ends of the connections.
+    pub streams: Vec<TcpStream>,
 }
 
-impl<'a> Output<'a> {
-    /// An output that takes so many bytes, and that these peers wait for.
-    pub fn new(rt: &'a HostRuntime, room: usize, peers: &'static [Peer]) -> Output<'a> {
-        Output {
-            rt,
-            said: Vec::new(rt.alloc()),
-            room,
-            peers,
-            streams: Vec::new(rt.alloc()),
-        }
-    }
-
-    /// The port that it names.
+impl Output<'_> {
+    /// The port, where the line that names it is all that is printed.
     fn port(&self) -> Option<u16> {
         let line = str::from_utf8(self.said.as_slice()).ok()?;
         line.strip_prefix("listening ")?
@@ -59,35 +40,28 @@ impl<'a> Output<'a> {
         Ok(())
     }
 
-    /// Whether each of the peers has connected and got its answer.
-    pub fn has_served(&mut self, peers: &[Peer]) -> Result<bool, Fail> {
-        if self.streams.len() != peers.len() {
-            return Ok(false);
+    /// Adds to what is printed what each peer got, and `#` behind it.
+    pub fn hear(&mut self) -> io::Result<()> {
+        for stream in self.streams.iter_mut() {
+            stream.read_to_end(&mut self.said)?;
+            self.said.push(b'#')?;
         }
-        for (stream, peer) in self.streams.iter_mut().zip(peers) {
-            let mut bytes = Vec::new(self.rt.alloc());
-            stream.read_to_end(&mut bytes)?;
-            if bytes.as_slice() != peer.gets.as_bytes() {
-                return Ok(false);
-            }
-        }
-        Ok(true)
+        Ok(())
     }
 }
 
 impl Write for Output<'_> {
     fn write(&mut self, buf: &[u8]) -> io::Result<usize> {
-        let count = buf.len().min(self.room);
-        let taken = self.said.write(&buf[..count])?;
-        self.room = self.room.saturating_sub(taken);
-        Ok(taken)
+        self.said.write(&buf[..buf.len().min(self.takes)])
     }
 
     fn flush(&mut self) -> io::Result<()> {
-        let peers = mem::replace(&mut self.peers, &[]);
-        for peer in peers {
-            let port = self.port().ok_or(Error::from(ErrorKind::InvalidData))?;
-            self.call(port, peer.sends)?;
+        let Some(port) = self.port() else {
+            return Ok(());
+        };
+        self.said.clear();
+        for request in self.peers.split('#') {
+            self.call(port, request)?;
         }
         Ok(())
     }

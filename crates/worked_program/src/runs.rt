@@ -1,164 +1,76 @@
-//! A run of the program, and what it is to print.
+//! A run of the program, and what it is to come to.
 
-use crate::output::{Output, Peer};
-use commands::Ending;
+use crate::output::Output;
+use crate::texts::meant;
 use desk_devices::{Counted, FailAt, Portion};
 use program::run;
 use sqlite::Unknown;
-use std::alloc::{AllocError, Global};
 use std::fs;
 use std::test::Fail;
-use worked_bags::POLICY;
 
-/// A run: its words and its input, what it prints on standard output, what it tells standard error, and
-/// how it ends.
-#[derive(Clone, Copy)]
-pub struct Run {
-    /// In the place of the word `STORE` stands what a test names.
-    pub words: &'static [&'static str],
-    pub input: &'static str,
-    /// How many bytes the input gives, one a call, before it fails.
-    pub gives: u64,
-    /// How many bytes standard output takes.
-    pub takes: usize,
-    /// The peers that connect where it serves. The port stands behind what it is to print.
-    pub peers: &'static [Peer],
-    pub out: &'static str,
-    /// The lines of standard error. Where these are no use of the program, or the last is open, more may
-    /// follow.
-    pub err: &'static str,
-    pub ending: Ending,
+/// Runs the program on these words, and says how it ends, what is printed and what standard error is
+/// told, with `|` between these. The input gives so many bytes, one a call, before it fails, and
+/// standard output takes so many of a call.
+fn came_of(
+    rt: &HostRuntime,
+    words: &[&str],
+    input: &str,
+    gives: u64,
+    takes: usize,
+) -> Result<String, Fail> {
+    let alloc = rt.alloc();
+    let mut given = Counted::new(FailAt::new(input.as_bytes(), Portion::OneByte, gives));
+    let mut out = Counted::new(Output {
+        rt,
+        said: Vec::new(alloc),
+        takes,
+        peers: input,
+        streams: Vec::new(alloc),
+    });
+    let mut told = Vec::new(alloc);
+    let ending = run(rt, Unknown, words, &mut given, &mut out, &mut told);
+    out.device.hear()?;
+    let said = String::from_utf8_lossy(alloc, &out.device.said)?;
+    let told = String::from_utf8_lossy(alloc, &told)?;
+    Ok(format!(in alloc; "{ending:?}|{said}|{told}")?)
 }
 
-/// A run that is accepted.
-pub const ACCEPTED: Run = Run {
-    words: &[],
-    input: "",
-    gives: u64::MAX,
-    takes: usize::MAX,
-    peers: &[],
-    out: "",
-    err: "",
-    ending: Ending::Accepted,
-};
-
-/// A run that is refused.
-pub const REFUSED: Run = Run {
-    ending: Ending::Refused,
-    ..ACCEPTED
-};
-
-/// A run on words that are no use.
-pub const MISUSED: Run = Run {
-    ending: Ending::Misused,
-    ..ACCEPTED
-};
-
-/// A run that fails.
-pub const FAILED: Run = Run {
-    ending: Ending::Failed,
-    ..ACCEPTED
-};
-
-/// What a run came to.
-#[derive(Drop)]
-struct Came<'a> {
-    out: Output<'a>,
-    err: Vec<u8>,
-    ending: Ending,
-}
-
-/// Whether standard error was told these lines, and no more where the last of them is whole.
-fn is_told(told: &[u8], err: &str, ending: Ending) -> bool {
-    let is_open = ending == Ending::Misused || !(err.is_empty() || err.ends_with('\n'));
-    told == err.as_bytes() || is_open && told.starts_with(err.as_bytes())
-}
-
-impl Came<'_> {
-    /// Whether it came to what was worked out, where standard error is to be told these lines.
-    fn is_as(&mut self, expected: &Run, err: &str) -> Result<bool, Fail> {
-        let said = self.out.said.as_slice();
-        let is_said = if expected.peers.is_empty() {
-            said == expected.out.as_bytes()
-        } else {
-            said.starts_with(expected.out.as_bytes())
-        };
-        let is_told = is_told(self.err.as_slice(), err, expected.ending);
-        if !is_said || !is_told || self.ending != expected.ending {
-            return Ok(false);
-        }
-        self.out.has_served(expected.peers)
-    }
-
-    /// Says what it came to.
-    fn fail(&self, alloc: Global, word: &str) -> Result<(), Fail> {
-        let out = String::from_utf8_lossy(alloc, &self.out.said)?;
-        let err = String::from_utf8_lossy(alloc, &self.err)?;
-        let status = self.ending.status();
-        Err(Fail::new(format_args!("{word}: {status}, {err}, {out}")))
-    }
-}
-
-/// The words, with the store in its place.
-fn spelled<'a>(
-    alloc: Global,
-    words: &'static [&'static str],
-    store: &'a str,
-) -> Result<Vec<&'a str>, AllocError> {
-    let mut all = Vec::new(alloc);
-    for word in words {
-        all.push(if *word == "STORE" { store } else { *word })?;
-    }
-    Ok(all)
-}
-
-/// Runs the program on these words.
-fn came_of<'a>(rt: &'a HostRuntime, words: &[&str], expected: &Run) -> Came<'a> {
-    let mut input = Counted::new(FailAt::new(
-        expected.input.as_bytes(),
-        Portion::OneByte,
-        expected.gives,
-    ));
-    let mut out = Counted::new(Output::new(rt, expected.takes, expected.peers));
-    let mut err = Vec::new(rt.alloc());
-    let ending = run(rt, Unknown, words, &mut input, &mut out, &mut err);
-    Came {
-        out: out.device,
-        err,
-        ending,
-    }
-}
-
-/// Runs the program once, on that store. Fails where it comes to something else, or tells standard
-/// error other lines.
-pub fn run_one(rt: &HostRuntime, expected: &Run, store: &str, err: &str) -> Result<(), Fail> {
-    let words = spelled(rt.alloc(), expected.words, store)?;
-    let mut came = came_of(rt, words.as_slice(), expected);
-    if came.is_as(expected, err)? {
+/// Runs the program once, and fails where it comes to something else. The text of a run says its words,
+/// each with `,` behind it or none behind the last, its input, how it ends, what is printed and what
+/// standard error is told, with `|` between these. Where it ends at `..`, more may follow.
+pub fn run_one(rt: &HostRuntime, text: &str, gives: u64, takes: usize) -> Result<(), Fail> {
+    let text = meant(rt.alloc(), text)?;
+    let (words, rest) = text.split_once('|').ok_or("no words")?;
+    let (input, expected) = rest.split_once('|').ok_or("no input")?;
+    let words: Vec<&str> = words.split_terminator(',').collect(rt.alloc())?;
+    let came = came_of(rt, words.as_slice(), input, gives, takes)?;
+    let is_as = match expected.strip_suffix("..") {
+        Some(beginning) => came.starts_with(beginning),
+        None => came.as_str() == expected,
+    };
+    if is_as {
         return Ok(());
     }
-    let word = words.first().ok_or("no words")?;
-    came.fail(rt.alloc(), word)
+    Err(Fail::new(came))
 }
 
 /// Runs these one after the other.
-pub fn run_all(rt: &HostRuntime, runs: &[Run]) -> Result<(), Fail> {
-    for expected in runs {
-        run_one(rt, expected, "", expected.err)?;
+pub fn run_all(rt: &HostRuntime, texts: &[&str]) -> Result<(), Fail> {
+    for text in texts {
+        run_one(rt, text, u64::MAX, usize::MAX)?;
     }
     Ok(())
 }
 
-/// Makes the folder of a test, anew where an earlier run left one, with a policy and a text that is
-/// none.
-pub fn begin(rt: &HostRuntime, folder: &str) -> Result<(), Fail> {
-    if fs::exists(rt, folder)? {
-        fs::remove_dir_all(rt, folder)?;
+/// Makes the folder of a test, anew where an earlier run left one, with these files: their paths and
+/// what they hold.
+pub fn begin(rt: &HostRuntime, folder: &str, files: &[(&str, &str)]) -> Result<(), Fail> {
+    let _ = fs::remove_dir_all(rt, folder);
+    for (path, text) in files {
+        if let Some((above, _)) = path.rsplit_once('/') {
+            fs::create_dir_all(rt, above)?;
+        }
+        fs::write(rt, *path, meant(rt.alloc(), text)?.as_bytes())?;
     }
-    fs::create_dir(rt, folder)?;
-    let policy = format!(in rt.alloc(); "{folder}/policy.toml")?;
-    fs::write(rt, policy.as_str(), POLICY)?;
-    let other = format!(in rt.alloc(); "{folder}/other.toml")?;
-    fs::write(rt, other.as_str(), b"version = 3\n")?;
     Ok(())
 }

@@ -1,85 +1,123 @@
-//! Requests and records of requests, and what answers them, worked out by hand from `docs/HTTP.md`.
+//! Texts that stand in many runs, worked out by hand from `docs/HTTP.md`, and their names.
 
-/// An archivist defines a collection.
-pub const MAPS: &str = "PUT /collections/maps HTTP/1.1\r\nDepot-Caller: anna\r\n\r\n";
+use std::alloc::{AllocError, Global};
 
-/// What answers it.
-pub const MAPS_ANSWER: &str =
-    "HTTP/1.1 200 OK\r\nContent-Type: application/json\r\nContent-Length: 21\r\nConnection: close\r\n\r\n{\"collection\":\"maps\"}";
+/// Each text behind its name. It may have names that come behind its own.
+static MEANINGS: [(&str, &str); 43] = [
+    // Two days of an office: classes, collections, three deposits, what a clerk sees of them, what is
+    // due, and a class of which the years are cut.
+    (
+        "~days~",
+        "REQ 2024-03-01 79\n~y1~\nREQ 2024-03-01 81\nPUT /classes/y10~anna sends~12\r\n\r\n{\"years\":10}\nREQ 2024-03-01 53\nPUT /collections/tax~anna~\nREQ 2024-03-01 54\n~maps~\nREQ 2024-03-01 336\nPOST /deposits?collection=maps&class=y10&accession=A-1~closed~\nREQ 2024-03-01 335\nPOST /deposits?collection=tax&class=y10&accession=A-2~closed~\nREQ 2024-03-01 335\nPOST /deposits?collection=maps&class=y1&accession=A-3~closed~\nREQ 2024-03-01 46\nGET /deposits HTTP/1.1\r\nDepot-Caller: carl\r\n\r\n\n~due~REQ 2024-03-05 80\nPUT /classes/y10~anna sends~11\r\n\r\n{\"years\":0}\n",
+    ),
+    (
+        "~days answered~",
+        "ANS 114\n~y1 made~\nANS 116\n~ok~26~close~{\"class\":\"y10\",\"years\":10}\nANS 110\n~ok~20~close~{\"collection\":\"tax\"}\nANS 111\n~maps made~\nANS 108\n~deposited~1}\nANS 108\n~deposited~2}\nANS 108\n~deposited~3}\nANS 408\n~ok~317~close~{\"deposits\":[{\"accession\":\"A-1\",\"bytes\":3,\"class\":\"y10~shown~maps\",\"deposit\":1,\"deposited\":\"2024-03-01\",\"due\":\"2034-02-28\",\"files\":1},{\"accession\":\"A-2\",\"bytes\":3,\"class\":\"y10~shown~tax\",\"deposit\":2,\"deposited\":\"2024-03-01\",\"due\":\"2034-02-28\",\"files\":1}]}\nANS 124\n~ok~34~close~{\"day\":\"2024-03-05\",\"deposits\":[]}\nANS 115\n~ok~25~close~{\"class\":\"y10\",\"years\":0}\n",
+    ),
+    // What is due is asked for.
+    ("~due~", "REQ 2024-03-05 41\nGET /due~anna~\n"),
+    // A deposit that isn't there, and a collection that a clerk defines, and then an archivist.
+    (
+        "~records~",
+        "REQ 2024-03-01 52\n~asks~\nREQ 2024-03-01 54\nPUT /collections/maps HTTP/1.1\r\nDepot-Caller: carl\r\n\r\n\nREQ 2024-03-01 54\n~maps~\n",
+    ),
+    (
+        "~answers~",
+        "~one answer~ANS 132\n~denied~\nANS 111\n~maps made~\n",
+    ),
+    // A record, and another without its last byte.
+    ("~torn records~", "~one record~\n~one record~"),
+    // A deposit that isn't there is asked for, without the last byte of the record.
+    ("~one record~", "REQ 2024-03-01 48\nGET /deposits/7~anna~"),
+    ("~one answer~", "ANS 132\n~no such~\n"),
+    // Requests, and what answers them.
+    ("~asks~", "GET /deposits/7/bag~anna~"),
+    (
+        "~no such~",
+        "HTTP/1.1 404 Not Found~json~35~close~{\"error\":\"NoSuch\",\"what\":\"deposit\"}",
+    ),
+    ("~maps~", "PUT /collections/maps~anna~"),
+    ("~maps made~", "~ok~21~close~{\"collection\":\"maps\"}"),
+    (
+        "~denied~",
+        "HTTP/1.1 403 Forbidden~json~35~close~{\"error\":\"Denied\",\"rule\":\"default\"}",
+    ),
+    ("~y1~", "PUT /classes/y1~anna sends~11\r\n\r\n{\"years\":1}"),
+    ("~y1 made~", "~ok~24~close~{\"class\":\"y1\",\"years\":1}"),
+    ("~closed~", "&closed=2024-02-29~anna sends~210\r\n\r\n~bag~"),
+    (
+        "~deposited~",
+        "HTTP/1.1 201 Created~json~13~close~{\"deposit\":",
+    ),
+    ("~shown~", "\",\"closed\":\"2024-02-29\",\"collection\":\""),
+    // Parts of requests and of answers.
+    ("~anna sends~", "~by anna~Content-Length: "),
+    ("~anna~", "~by anna~\r\n"),
+    ("~by anna~", " HTTP/1.1\r\nDepot-Caller: anna\r\n"),
+    ("~ok~", "HTTP/1.1 200 OK~json~"),
+    (
+        "~json~",
+        "\r\nContent-Type: application/json\r\nContent-Length: ",
+    ),
+    ("~close~", "\r\nConnection: close\r\n\r\n"),
+    // A bag, its parts, and a policy.
+    (
+        "~bag~",
+        "BAGSET 1\nFILE 9 54\nbagit.txt~declared~\nFILE 6 3\ndata/aabc\nFILE 19 73\nmanifest-sha256.txt~listed~\nEND\n",
+    ),
+    (
+        "~declared~",
+        "BagIt-Version: 1.0\nTag-File-Character-Encoding: UTF-8\n",
+    ),
+    (
+        "~listed~",
+        "ba7816bf8f01cfea414140de5dae2223b00361a396177a9cb410ff61f20015ad  data/a\n",
+    ),
+    (
+        "~policy~",
+        "version = 1\n\n[callers]\nanna = \"archivist\"\ncarl = \"clerk\"\n\n~rule~deny\"\nrole = \"archivist\"\naction = \"dispose\"\ncollection = \"tax\"\nclass = \"*\"\n\n~rule~allow\"\nrole = \"archivist\"\naction = \"*\"\ncollection = \"*\"\nclass = \"*\"\n\n~rule~allow\"\nrole = \"clerk\"\naction = \"list\"\ncollection = \"*\"\nclass = \"y10\"\n",
+    ),
+    ("~rule~", "[[rule]]\neffect = \""),
+    ("~installed~", "installed 3 rules 2 callers\n"),
+    // What standard error is told.
+    (
+        "~missing~",
+        "error: the following required arguments were not provided:\n  ",
+    ),
+    ("~no day~", "DAY is a date such as 2024-03-01.."),
+    ("~no port~", "P is the number of a port, 0 to 65535\n.."),
+    (
+        "~no count~",
+        "N is a number of connections, 1 to 1000000\n..",
+    ),
+    (
+        "~zip~",
+        "~S1~this looks like a zip file; a bag's transfer form is wanted, which depot pack makes of a folder\n",
+    ),
+    (
+        "~S1~",
+        "this is no transfer form: it does not begin with the line BAGSET 1 (S1)\n",
+    ),
+    (
+        "~Y2~",
+        "the policy has no version, or one that is not the whole number 1 (Y2)\n",
+    ),
+    ("~unread~", "device\ndepot: cannot read "),
+    ("~unopened~", "store Q4\ndepot: cannot open "),
+    ("~no office~", "store Q1\ndepot: "),
+    (
+        "~no schema~",
+        ": file is not a database that obeys its schema\n",
+    ),
+    ("~malformed~", ": database disk image is malformed\n"),
+    ("~none~", ": No such file or directory (os error 2)\n"),
+];
 
-/// What answers it where no rule allows it.
-pub const DENIED_ANSWER: &str =
-    "HTTP/1.1 403 Forbidden\r\nContent-Type: application/json\r\nContent-Length: 35\r\nConnection: close\r\n\r\n{\"error\":\"Denied\",\"rule\":\"default\"}";
-
-/// A deposit that isn't there is asked for.
-pub const ASKS: &str = "GET /deposits/7/bag HTTP/1.1\r\nDepot-Caller: anna\r\n\r\n";
-
-/// What answers that.
-pub const NO_SUCH_ANSWER: &str =
-    "HTTP/1.1 404 Not Found\r\nContent-Type: application/json\r\nContent-Length: 35\r\nConnection: close\r\n\r\n{\"error\":\"NoSuch\",\"what\":\"deposit\"}";
-
-/// The record of a request for a deposit that isn't there.
-pub const ONE_RECORD: &str =
-    "REQ 2024-03-01 48\nGET /deposits/7 HTTP/1.1\r\nDepot-Caller: anna\r\n\r\n\n";
-
-/// The record of its answer.
-pub const ONE_ANSWER: &str =
-    "ANS 132\nHTTP/1.1 404 Not Found\r\nContent-Type: application/json\r\nContent-Length: 35\r\nConnection: close\r\n\r\n{\"error\":\"NoSuch\",\"what\":\"deposit\"}\n";
-
-/// That record twice, the second without its last byte.
-pub const TORN_RECORDS: &str =
-    "REQ 2024-03-01 48\nGET /deposits/7 HTTP/1.1\r\nDepot-Caller: anna\r\n\r\n\nREQ 2024-03-01 48\nGET /deposits/7 HTTP/1.1\r\nDepot-Caller: anna\r\n\r\n";
-
-/// A deposit that isn't there, and a collection that a clerk defines, and then an archivist.
-pub const RECORDS: &str =
-    "REQ 2024-03-01 52\nGET /deposits/7/bag HTTP/1.1\r\nDepot-Caller: anna\r\n\r\n\nREQ 2024-03-01 54\nPUT /collections/maps HTTP/1.1\r\nDepot-Caller: carl\r\n\r\n\nREQ 2024-03-01 54\nPUT /collections/maps HTTP/1.1\r\nDepot-Caller: anna\r\n\r\n\n";
-
-/// What answers these.
-pub const ANSWERS: &str =
-    "ANS 132\nHTTP/1.1 404 Not Found\r\nContent-Type: application/json\r\nContent-Length: 35\r\nConnection: close\r\n\r\n{\"error\":\"NoSuch\",\"what\":\"deposit\"}\nANS 132\nHTTP/1.1 403 Forbidden\r\nContent-Type: application/json\r\nContent-Length: 35\r\nConnection: close\r\n\r\n{\"error\":\"Denied\",\"rule\":\"default\"}\nANS 111\nHTTP/1.1 200 OK\r\nContent-Type: application/json\r\nContent-Length: 21\r\nConnection: close\r\n\r\n{\"collection\":\"maps\"}\n";
-
-/// Two days of an office: classes, collections, three deposits, what a clerk sees of them, what
-/// is due, and a class of which the years are cut.
-pub const DAYS: &str =
-    "REQ 2024-03-01 79\nPUT /classes/y1 HTTP/1.1\r\nDepot-Caller: anna\r\nContent-Length: 11\r\n\r\n{\"years\":1}\nREQ 2024-03-01 81\nPUT /classes/y10 HTTP/1.1\r\nDepot-Caller: anna\r\nContent-Length: 12\r\n\r\n{\"years\":10}\nREQ 2024-03-01 53\nPUT /collections/tax HTTP/1.1\r\nDepot-Caller: anna\r\n\r\n\nREQ 2024-03-01 54\nPUT /collections/maps HTTP/1.1\r\nDepot-Caller: anna\r\n\r\n\nREQ 2024-03-01 336\nPOST /deposits?collection=maps&class=y10&accession=A-1&closed=2024-02-29 HTTP/1.1\r\nDepot-Caller: anna\r\nContent-Length: 210\r\n\r\nBAGSET 1\nFILE 9 54\nbagit.txtBagIt-Version: 1.0\nTag-File-Character-Encoding: UTF-8\n\nFILE 6 3\ndata/aabc\nFILE 19 73\nmanifest-sha256.txtba7816bf8f01cfea414140de5dae2223b00361a396177a9cb410ff61f20015ad  data/a\n\nEND\n\nREQ 2024-03-01 335\nPOST /deposits?collection=tax&class=y10&accession=A-2&closed=2024-02-29 HTTP/1.1\r\nDepot-Caller: anna\r\nContent-Length: 210\r\n\r\nBAGSET 1\nFILE 9 54\nbagit.txtBagIt-Version: 1.0\nTag-File-Character-Encoding: UTF-8\n\nFILE 6 3\ndata/aabc\nFILE 19 73\nmanifest-sha256.txtba7816bf8f01cfea414140de5dae2223b00361a396177a9cb410ff61f20015ad  data/a\n\nEND\n\nREQ 2024-03-01 335\nPOST /deposits?collection=maps&class=y1&accession=A-3&closed=2024-02-29 HTTP/1.1\r\nDepot-Caller: anna\r\nContent-Length: 210\r\n\r\nBAGSET 1\nFILE 9 54\nbagit.txtBagIt-Version: 1.0\nTag-File-Character-Encoding: UTF-8\n\nFILE 6 3\ndata/aabc\nFILE 19 73\nmanifest-sha256.txtba7816bf8f01cfea414140de5dae2223b00361a396177a9cb410ff61f20015ad  data/a\n\nEND\n\nREQ 2024-03-01 46\nGET /deposits HTTP/1.1\r\nDepot-Caller: carl\r\n\r\n\nREQ 2024-03-05 41\nGET /due HTTP/1.1\r\nDepot-Caller: anna\r\n\r\n\nREQ 2024-03-05 80\nPUT /classes/y10 HTTP/1.1\r\nDepot-Caller: anna\r\nContent-Length: 11\r\n\r\n{\"years\":0}\n";
-
-/// What answers these.
-pub const DAYS_ANSWERS: &str =
-    "ANS 114\nHTTP/1.1 200 OK\r\nContent-Type: application/json\r\nContent-Length: 24\r\nConnection: close\r\n\r\n{\"class\":\"y1\",\"years\":1}\nANS 116\nHTTP/1.1 200 OK\r\nContent-Type: application/json\r\nContent-Length: 26\r\nConnection: close\r\n\r\n{\"class\":\"y10\",\"years\":10}\nANS 110\nHTTP/1.1 200 OK\r\nContent-Type: application/json\r\nContent-Length: 20\r\nConnection: close\r\n\r\n{\"collection\":\"tax\"}\nANS 111\nHTTP/1.1 200 OK\r\nContent-Type: application/json\r\nContent-Length: 21\r\nConnection: close\r\n\r\n{\"collection\":\"maps\"}\nANS 108\nHTTP/1.1 201 Created\r\nContent-Type: application/json\r\nContent-Length: 13\r\nConnection: close\r\n\r\n{\"deposit\":1}\nANS 108\nHTTP/1.1 201 Created\r\nContent-Type: application/json\r\nContent-Length: 13\r\nConnection: close\r\n\r\n{\"deposit\":2}\nANS 108\nHTTP/1.1 201 Created\r\nContent-Type: application/json\r\nContent-Length: 13\r\nConnection: close\r\n\r\n{\"deposit\":3}\nANS 408\nHTTP/1.1 200 OK\r\nContent-Type: application/json\r\nContent-Length: 317\r\nConnection: close\r\n\r\n{\"deposits\":[{\"accession\":\"A-1\",\"bytes\":3,\"class\":\"y10\",\"closed\":\"2024-02-29\",\"collection\":\"maps\",\"deposit\":1,\"deposited\":\"2024-03-01\",\"due\":\"2034-02-28\",\"files\":1},{\"accession\":\"A-2\",\"bytes\":3,\"class\":\"y10\",\"closed\":\"2024-02-29\",\"collection\":\"tax\",\"deposit\":2,\"deposited\":\"2024-03-01\",\"due\":\"2034-02-28\",\"files\":1}]}\nANS 124\nHTTP/1.1 200 OK\r\nContent-Type: application/json\r\nContent-Length: 34\r\nConnection: close\r\n\r\n{\"day\":\"2024-03-05\",\"deposits\":[]}\nANS 115\nHTTP/1.1 200 OK\r\nContent-Type: application/json\r\nContent-Length: 25\r\nConnection: close\r\n\r\n{\"class\":\"y10\",\"years\":0}\n";
-
-/// What is due then is asked for.
-pub const DUE: &str = "REQ 2024-03-05 41\nGET /due HTTP/1.1\r\nDepot-Caller: anna\r\n\r\n\n";
-
-/// What answers that: the second deposit is in a collection of which nothing may be destroyed.
-pub const DUE_ANSWER: &str =
-    "ANS 125\nHTTP/1.1 200 OK\r\nContent-Type: application/json\r\nContent-Length: 35\r\nConnection: close\r\n\r\n{\"day\":\"2024-03-05\",\"deposits\":[1]}\n";
-
-/// A class is defined.
-pub const CLASS: &str =
-    "PUT /classes/y1 HTTP/1.1\r\nDepot-Caller: anna\r\nContent-Length: 11\r\n\r\n{\"years\":1}";
-
-/// What answers it.
-pub const CLASS_ANSWER: &str =
-    "HTTP/1.1 200 OK\r\nContent-Type: application/json\r\nContent-Length: 24\r\nConnection: close\r\n\r\n{\"class\":\"y1\",\"years\":1}";
-
-/// A bag is deposited.
-pub const DEPOSITS: &str =
-    "POST /deposits?collection=maps&class=y1&accession=A-1&closed=2024-02-29 HTTP/1.1\r\nDepot-Caller: anna\r\nContent-Length: 210\r\n\r\nBAGSET 1\nFILE 9 54\nbagit.txtBagIt-Version: 1.0\nTag-File-Character-Encoding: UTF-8\n\nFILE 6 3\ndata/aabc\nFILE 19 73\nmanifest-sha256.txtba7816bf8f01cfea414140de5dae2223b00361a396177a9cb410ff61f20015ad  data/a\n\nEND\n";
-
-/// What answers it.
-pub const DEPOSIT_ANSWER: &str =
-    "HTTP/1.1 201 Created\r\nContent-Type: application/json\r\nContent-Length: 13\r\nConnection: close\r\n\r\n{\"deposit\":1}";
-
-/// It is asked for.
-pub const DOWNLOAD: &str = "GET /deposits/1/bag HTTP/1.1\r\nDepot-Caller: anna\r\n\r\n";
-
-/// What answers that: the bytes that were deposited.
-pub const DOWNLOAD_ANSWER: &str =
-    "HTTP/1.1 200 OK\r\nContent-Type: application/octet-stream\r\nContent-Length: 210\r\nConnection: close\r\n\r\nBAGSET 1\nFILE 9 54\nbagit.txtBagIt-Version: 1.0\nTag-File-Character-Encoding: UTF-8\n\nFILE 6 3\ndata/aabc\nFILE 19 73\nmanifest-sha256.txtba7816bf8f01cfea414140de5dae2223b00361a396177a9cb410ff61f20015ad  data/a\n\nEND\n";
-
-/// What there is is asked for.
-pub const LISTS: &str = "GET /deposits HTTP/1.1\r\nDepot-Caller: anna\r\n\r\n";
-
-/// What answers that.
-pub const LIST_ANSWER: &str =
-    "HTTP/1.1 200 OK\r\nContent-Type: application/json\r\nContent-Length: 165\r\nConnection: close\r\n\r\n{\"deposits\":[{\"accession\":\"A-1\",\"bytes\":3,\"class\":\"y1\",\"closed\":\"2024-02-29\",\"collection\":\"maps\",\"deposit\":1,\"deposited\":\"2024-03-01\",\"due\":\"2025-02-28\",\"files\":1}]}";
+/// The text, with the texts in the place of their names.
+pub fn meant(alloc: Global, text: &str) -> Result<String, AllocError> {
+    let mut whole = text.to_string(alloc)?;
+    for (name, meaning) in &MEANINGS {
+        whole = whole.replace(alloc, *name, meaning)?;
+    }
+    Ok(whole)
+}

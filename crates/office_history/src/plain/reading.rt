@@ -1,7 +1,7 @@
 //! What the history says: each question is answered by going over all changes.
 
 ghost use Rattle.std.specs.Prelude.{◌≡◌, ◌≤◌, length, option_copied, is_none, ◌&&◌, ◌+◌, IfOk};
-ghost use Rattle.office_core.specs.Bounds.{max_limit};
+ghost use Rattle.office_rows.specs.Rows.{max_limit};
 ghost use Rattle.office_history.specs.Lists.{last_said};
 ghost use Rattle.office_history.specs.Histories.{installed_in, policy, years_of, has_class, has_collection, deposits, deposit_numbered, accession_of, destruction_day, kept_numbers, due, holds, hold_numbered, release_day, is_live, reaches, covers, live_holds};
 ghost use Rattle.office_history.specs.PlainChanges.{borrowed};
