@@ -1,242 +1,221 @@
-//! The calls of `commands`: the texts that are printed, and that calls succeed.
+//! The words of the commands, and runs from and to devices that fail.
 
-use commands::{
-    Asked, Ending, Line, Outcome, UseFault, explain_outcome, read_line, refuse_words, run,
-};
+use crate::devices::{Given, Torn, prints, ran, words_of};
+use crate::marks::{bytes_of, text_of};
+use commands::{Asked, Ending, Line, UseFault, explain_outcome, read_line, refuse_words, run};
 use office_core::{Action, Name};
 use std::alloc::Global;
-use std::io;
-use std::io::{Error, ErrorKind, Read, Write};
+use std::fs;
+use std::io::{Error, ErrorKind};
 use std::test::*;
 
-/// A device that fails.
-#[derive(Drop)]
-struct Broken;
-
-impl Read for Broken {
-    fn read(&mut self, _buf: &mut [u8]) -> io::Result<usize> {
-        Err(Error::from(ErrorKind::BrokenPipe))
-    }
-}
-
-impl Write for Broken {
-    fn write(&mut self, _buf: &[u8]) -> io::Result<usize> {
-        Err(Error::from(ErrorKind::BrokenPipe))
-    }
-
-    fn flush(&mut self) -> io::Result<()> {
-        Ok(())
-    }
-}
-
-/// What the words say: the command and its file, or the policy and the caller of a question.
-fn said_by<'a>(alloc: Global, words: &'a [&'a str]) -> (&'a str, &'a str) {
+/// Whether this is what the words say: the command and its file, the policy and the caller of a
+/// question, or that they are no use.
+fn is_said(alloc: Global, words: &[&str], said: &str) -> bool {
+    let (first, second) = said.split_once('|').unwrap_or((said, ""));
     match read_line(alloc, words) {
-        Ok(Line::Check { file }) => ("check", file),
-        Ok(Line::Explain(asked)) => (asked.policy, asked.caller),
-        Err(UseFault::Use(text)) if text.ends_with('\n') => ("", ""),
-        Err(_) => ("memory", ""),
+        Ok(Line::Check { file }) => first == "check" && second == file,
+        Ok(Line::Explain(asked)) => first == asked.policy && second == asked.caller,
+        Err(UseFault::Use(text)) => first == "no use" && text.ends_with('\n'),
+        Err(UseFault::Memory) => false,
     }
 }
 
-/// Words, and what they say, or nothing where they are a fault of use.
-type Words = (&'static [&'static str], &'static str, &'static str);
-
-static WORDS: [Words; 23] = [
-    (&["check", "-"], "check", "-"),
-    (&["check", "a.bagset"], "check", "a.bagset"),
-    (&["check", ""], "check", ""),
-    (&["check", "--", "-x"], "check", "-x"),
-    (&["check", "-x"], "", ""),
-    (&["check", "--help"], "", ""),
-    (&["check", "a", "b"], "", ""),
-    (&["check"], "", ""),
-    (&["Check", "-"], "", ""),
-    (&[], "", ""),
-    // A caller is any text, and `-` is no option.
-    (
-        &["explain", "p.toml", "anna", "list", "tax", "-"],
-        "p.toml",
-        "anna",
-    ),
-    (&["explain", "-", "", "hold", "-", "y-1_0.a"], "-", ""),
-    (&["explain", "p", "--", "-x", "class", "-a", "-"], "p", "-x"),
-    (&["explain", "p", "anna", "list", "tax", "y1"], "p", "anna"),
-    // One word less, and one more.
-    (&["explain"], "", ""),
-    (&["explain", "p", "anna", "list", "tax"], "", ""),
-    (&["explain", "p", "anna", "list", "tax", "y1", "y2"], "", ""),
-    // An action that is none, `*` too.
-    (&["explain", "p", "anna", "destroy", "tax", "y1"], "", ""),
-    (&["explain", "p", "anna", "*", "tax", "y1"], "", ""),
-    // A collection and a class that are no names.
-    (&["explain", "p", "anna", "list", "Tax", "y1"], "", ""),
-    (&["explain", "p", "anna", "list", "tax", ""], "", ""),
-    // A word that `clap` takes for an option, and words of use.
-    (&["explain", "p", "-x", "list", "tax", "y1"], "", ""),
-    (&["explain", "--help"], "", ""),
-];
+/// Words, and what they say. A line that is no row says what the rows below it are about.
+static WORDS: &str = r"
+check|- => check|-
+check|a.bagset => check|a.bagset
+check| => check|
+check|--|-x => check|-x
+check|-x => no use
+check|--help => no use
+check|a|b => no use
+check => no use
+Check|- => no use
+ => no use
+# A caller is any text, and - is no option.
+explain|p.toml|anna|list|tax|- => p.toml|anna
+explain|-||hold|-|y-1_0.a => -|
+explain|p|--|-x|class|-a|- => p|-x
+explain|p|anna|list|tax|y1 => p|anna
+# One word less, and one more.
+explain => no use
+explain|p|anna|list|tax => no use
+explain|p|anna|list|tax|y1|y2 => no use
+# An action that is none, * too.
+explain|p|anna|destroy|tax|y1 => no use
+explain|p|anna|*|tax|y1 => no use
+# A collection and a class that are no names.
+explain|p|anna|list|Tax|y1 => no use
+explain|p|anna|list|tax| => no use
+# A word that clap takes for an option, and words of use.
+explain|p|-x|list|tax|y1 => no use
+explain|--help => no use
+";
 
 #[test]
-fn words(rt: HostRuntime) {
-    for (words, first, second) in &WORDS {
-        let (found_first, found_second) = said_by(rt.alloc(), words);
-        assert!(rt; found_first == *first, "{first} {second}");
-        assert!(rt; found_second == *second, "{first} {second}");
+fn words(rt: HostRuntime) -> Result<(), Fail> {
+    let mut rows = 0usize;
+    for row in WORDS.lines() {
+        if let Some((text, said)) = row.split_once(" => ") {
+            let words = words_of(rt.alloc(), text)?;
+            let is_so = is_said(rt.alloc(), words.as_slice(), said);
+            assert!(rt; is_so, "{row}");
+            rows = rows.saturating_add(1);
+        }
     }
+    assert!(rt; rows == 23);
+    Ok(())
 }
 
-/// What standard error is to be told, or nothing.
-fn reason_of(outcome: &Outcome) -> &str {
-    match &outcome.reason {
-        Some(reason) => reason.as_str(),
-        None => "",
-    }
-}
-
-/// A policy, and what is said of the question of the test below on it: the line, why, and how it ends.
-static POLICIES: [(&str, &str, &str, Ending); 2] = [
-    (
-        "version = 1\n[[rule]]\neffect = \"allow\"\nrole = \"stranger\"\naction = \"*\"\ncollection = \"*\"\nclass = \"y1\"\n",
-        "allow rule 1\n",
-        "the caller eve is not in the policy, and has the role stranger\n",
-        Ending::Accepted,
-    ),
-    (
-        "version = 1",
-        "deny default\n",
-        "the caller eve is not in the policy, and has the role stranger\n",
-        Ending::Refused,
-    ),
-];
+/// Words, and what a run on them tells standard error, or how that begins where it is no whole line.
+/// The words come first: where they are no use, it is no matter that no policy is there.
+static RUNS: &str = r"
+check|- => device\ndepot: cannot read standard input: broken pipe\n
+check|no such file => device\ndepot: cannot read no%20such%20file: No such file or directory (os error 2)\n
+explain|no such file|anna|list|tax|y1 => device\ndepot: cannot read no%20such%20file: No such file or directory (os error 2)\n
+judge => {uses}
+ => {uses}
+check|--help => Says whether a bag is valid, or its first fault.\n\nUsage: depot check <FILE>\n\nArguments:\n  <FILE>  the transfer form of the bag, or - for standard input
+check|a|b => error: unexpected argument 'b' found\n\nUsage: depot check <FILE>
+explain|no such file|anna|destroy|tax|y1 => ACTION is one of class, collection,
+explain|no such file|anna|*|tax|y1 => ACTION is one of class, collection,
+explain|no such file|anna|list|TAX|y1 => COLLECTION is a name
+explain|no such file|anna|list|tax|Y1 => CLASS is a name
+";
 
 #[test]
-fn a_decision_in_words(rt: HostRuntime) -> Result<(), Fail> {
-    let asked = Asked {
-        policy: "p.toml",
-        caller: "eve",
-        action: Action::Audit,
-        collection: None,
-        class: Name::read("y1"),
-    };
-    for (policy, line, reason, ending) in &POLICIES {
-        let outcome = explain_outcome(rt.alloc(), policy.as_bytes(), &asked)?;
-        assert!(rt; outcome.text.as_str() == *line, "{line}");
-        assert!(rt; reason_of(&outcome) == *reason, "{line}");
-        assert!(rt; outcome.ending == *ending, "{line}");
+fn runs_that_print_nothing(rt: HostRuntime) -> Result<(), Fail> {
+    let mut rows = 0usize;
+    for row in RUNS.lines() {
+        if let Some((text, said)) = row.split_once(" => ") {
+            let words = words_of(rt.alloc(), text)?;
+            let told = text_of(rt.alloc(), said)?;
+            let input = Given {
+                rest: b"",
+                fails: true,
+            };
+            let (out, err, ending) = ran(&rt, words.as_slice(), input);
+            let wanted = if told.starts_with("device\n") {
+                Ending::Failed
+            } else {
+                Ending::Misused
+            };
+            assert!(rt; out.is_empty(), "{row}");
+            assert!(rt; err.as_slice().starts_with(told.as_bytes()), "{row}");
+            assert!(rt; !told.ends_with('\n') || err.len() == told.len(), "{row}");
+            assert!(rt; ending == wanted, "{row}");
+            rows = rows.saturating_add(1);
+        }
     }
-    let outcome = explain_outcome(rt.alloc(), b"version = 1 # \xff".as_slice(), &asked)?;
-    assert!(rt; outcome.text.as_str() == "policy Y1\n");
-    assert!(rt; reason_of(&outcome) == "the policy is no text in TOML (Y1)\n");
-    assert!(rt; outcome.ending == Ending::Refused);
+    assert!(rt; rows == 11);
     Ok(())
 }
 
 #[test]
-fn too_long_an_input(rt: HostRuntime) {
-    let mut out = Vec::new(rt.alloc());
-    let mut err = Vec::new(rt.alloc());
+fn a_torn_input_and_outputs_that_are_not_flushed(rt: HostRuntime) -> Result<(), Fail> {
+    let form = bytes_of(rt.alloc(), r"BAGSET 1\n{bag}")?;
     let words = ["check", "-"];
-    let mut input = io::repeat(b'x');
-    let ending = run(&rt, words.as_slice(), &mut input, &mut out, &mut err);
-    assert!(rt; out.as_slice() == b"unreadable SIZE\n".as_slice());
+    let input = Given {
+        rest: form.get(..100).ok_or("a form")?,
+        fails: true,
+    };
+    let (out, err, ending) = ran(&rt, words.as_slice(), input);
+    assert!(rt; out.is_empty());
     assert!(rt;
-        err.as_slice()
-            == "the form is longer than 16,777,216 bytes, the most that is judged (SIZE)\n".as_bytes()
-    );
-    assert!(rt; ending == Ending::Refused);
-    // And where it can't be said.
-    err.clear();
-    let ending = run(&rt, words.as_slice(), &mut input, &mut Broken, &mut err);
-    assert!(rt;
-        err.as_slice() == "device\ndepot: cannot write standard output: broken pipe\n".as_bytes()
+        err.as_slice() == b"device\ndepot: cannot read standard input: broken pipe\n".as_slice()
     );
     assert!(rt; ending == Ending::Failed);
+    let mut input = Given {
+        rest: form.as_slice(),
+        fails: false,
+    };
+    let mut err = Vec::new(rt.alloc());
+    let mut torn = Torn { takes: true };
+    let ending = run(&rt, words.as_slice(), &mut input, &mut torn, &mut err);
+    assert!(rt;
+        err.as_slice() == b"device\ndepot: cannot write standard output: broken pipe\n".as_slice()
+    );
+    assert!(rt; ending == Ending::Failed);
+    Ok(())
 }
 
-/// Words, what a run on them prints on standard error, or how that begins, whether that is all, and how
-/// it ends.
-type Run = (&'static [&'static str], &'static str, bool, Ending);
-
-/// Runs with an input that fails. Nothing is printed on standard output. The words come first: where
-/// they are a fault of use, it is no matter that no policy is there.
-static RUNS: [Run; 10] = [
-    (
-        &["check", "-"],
-        "device\ndepot: cannot read standard input: broken pipe\n",
-        true,
-        Ending::Failed,
-    ),
-    (
-        &["check", "no such file"],
-        "device\ndepot: cannot read no%20such%20file: No such file or directory (os error 2)\n",
-        true,
-        Ending::Failed,
-    ),
-    (
-        &["explain", "no such file", "anna", "list", "tax", "y1"],
-        "device\ndepot: cannot read no%20such%20file: No such file or directory (os error 2)\n",
-        true,
-        Ending::Failed,
-    ),
-    (&["judge"], USES, true, Ending::Misused),
-    (&[], USES, true, Ending::Misused),
-    (&["check", "--help"], HELP, false, Ending::Misused),
-    (
-        &["check", "a", "b"],
-        "error: unexpected argument 'b' found\n\nUsage: depot check <FILE>\n",
-        false,
-        Ending::Misused,
-    ),
-    (
-        &["explain", "no such file", "anna", "destroy", "tax", "y1"],
-        "ACTION is one of class, collection, ",
-        false,
-        Ending::Misused,
-    ),
-    (
-        &["explain", "no such file", "anna", "list", "TAX", "y1"],
-        "COLLECTION is a name ",
-        false,
-        Ending::Misused,
-    ),
-    (
-        &["explain", "no such file", "anna", "list", "tax", "Y1"],
-        "CLASS is a name ",
-        false,
-        Ending::Misused,
-    ),
+/// Words, whether the input of no byte fails, and what is printed on standard output.
+static UNSAID: [(&str, bool, &str); 3] = [
+    // As it is told of a failure.
+    ("check", true, ""),
+    // As it is told why a bag is refused, which standard output has been told.
+    ("check", false, "unreadable S3\n"),
+    // As it is told why words are no use.
+    ("judge", false, ""),
 ];
 
-const USES: &str = "Usage: depot check FILE
-       depot pack DIR FILE
-       depot unpack FILE DIR
-       depot explain POLICY CALLER ACTION COLLECTION CLASS
-       depot policy STORE POLICY
-       depot ask STORE DAY
-       depot replay [--policy POLICY] STORE
-       depot serve --port P --count N STORE DAY
-";
-
-const HELP: &str = "Says whether a bag is valid, or its first fault.
-
-Usage: depot check <FILE>
-
-Arguments:
-  <FILE>  the transfer form of the bag, or - for standard input
-";
+#[test]
+fn standard_error_may_fail(rt: HostRuntime) {
+    for (word, fails, line) in &UNSAID {
+        let mut input = Given {
+            rest: b"",
+            fails: *fails,
+        };
+        let mut out = Vec::new(rt.alloc());
+        let mut torn = Torn { takes: true };
+        let ending = run(
+            &rt,
+            [*word, "-"].as_slice(),
+            &mut input,
+            &mut out,
+            &mut torn,
+        );
+        assert!(rt; out.as_slice() == line.as_bytes(), "{word}");
+        assert!(rt; ending == Ending::Unsaid, "{word}");
+        assert!(rt; ending.status() == 3);
+    }
+}
 
 #[test]
-fn runs(rt: HostRuntime) {
-    for (words, text, is_whole, want) in &RUNS {
-        let mut out = Vec::new(rt.alloc());
-        let mut err = Vec::new(rt.alloc());
-        let ending = run(&rt, words, &mut Broken, &mut out, &mut err);
-        assert!(rt; out.is_empty(), "{text}");
-        assert!(rt; err.as_slice().starts_with(text.as_bytes()), "{text}");
-        assert!(rt; !*is_whole || err.len() == text.len(), "{text}");
-        assert!(rt; ending == *want, "{text}");
-    }
+fn files_are_read_whole(rt: HostRuntime) -> Result<(), Fail> {
+    let form = bytes_of(rt.alloc(), r"BAGSET 1\n{bag}")?;
+    fs::write(&rt, "bag-a.bagset", form.as_slice())?;
+    let is_so = prints(
+        &rt,
+        ["check", "bag-a.bagset"].as_slice(),
+        b"",
+        r"valid 1.0 files 1 bytes 3 manifests 1\n",
+    )?;
+    assert!(rt; is_so);
+    fs::remove_file(&rt, "bag-a.bagset")?;
+    // A policy behind 1 MiB of comment, and in a file that is named as standard input is elsewhere.
+    let policy = bytes_of(rt.alloc(), "{policy}")?;
+    let mut long = vec![in rt.alloc(); b'#'; 1_048_576]?;
+    long.extend_from_slice(b"\n")?;
+    long.extend_from_slice(policy.as_slice())?;
+    fs::write(&rt, "-", long.as_slice())?;
+    let is_so = prints(
+        &rt,
+        ["explain", "-", "carl", "list", "tax", "y10"].as_slice(),
+        b"",
+        r"allow rule 3\n",
+    )?;
+    assert!(rt; is_so);
+    fs::remove_file(&rt, "-")?;
+    Ok(())
+}
+
+#[test]
+fn a_decision_by_its_call(rt: HostRuntime) -> Result<(), Fail> {
+    let asked = Asked {
+        policy: "p.toml",
+        caller: "bert",
+        action: Action::Download,
+        collection: None,
+        class: Name::read("y1"),
+    };
+    let policy = bytes_of(rt.alloc(), "{strangers}")?;
+    let outcome = explain_outcome(rt.alloc(), policy.as_slice(), &asked)?;
+    assert!(rt; outcome.text.as_str() == "allow rule 2\n");
+    assert!(rt; outcome.reason.is_none());
+    assert!(rt; outcome.ending == Ending::Accepted);
+    Ok(())
 }
 
 /// Why the words could not be had, what standard error is told, and how it ends.
@@ -257,7 +236,7 @@ fn words_that_could_not_be_had(rt: HostRuntime) {
         let ending = refuse_words(&Error::from(*kind), &mut err);
         assert!(rt; err.as_slice() == text.as_bytes(), "{text}");
         assert!(rt; ending == *want, "{text}");
-        let ending = refuse_words(&Error::from(*kind), &mut Broken);
+        let ending = refuse_words(&Error::from(*kind), &mut Torn { takes: false });
         assert!(rt; ending == Ending::Unsaid, "{text}");
     }
 }

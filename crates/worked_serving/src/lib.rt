@@ -1,18 +1,26 @@
-//! Requests as bytes, put to an office over its tables, and the bytes that answer them, by calls and over
-//! sockets.
+//! Requests as bytes, put to an office over its tables, and the bytes that answer them, by calls
+//! and over sockets; and an office whose files stop.
 #![tactic(auto)]
 
 #[cfg(test)]
-mod connections;
+mod answers;
+#[cfg(test)]
+mod day;
+#[cfg(test)]
+mod desk;
+#[cfg(test)]
+mod files;
 #[cfg(test)]
 mod limits;
 #[cfg(test)]
-mod office;
+mod listening;
+#[cfg(test)]
+mod offices;
 #[cfg(test)]
 mod peers;
 #[cfg(test)]
 mod replays;
 #[cfg(test)]
-mod tests;
+mod stops;
 #[cfg(test)]
-mod tests_listening;
+mod tests;

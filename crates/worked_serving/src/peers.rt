@@ -1,8 +1,8 @@
 //! Peers, what they do, and what they get.
 
-use std::alloc::Global;
+use crate::desk::compare;
 use std::io::{Read, Write};
-use std::net::{Shutdown, SocketAddr, TcpListener, TcpStream};
+use std::net::{Shutdown, SocketAddr, TcpStream};
 use std::test::Fail;
 use std::time::Duration;
 
@@ -29,7 +29,7 @@ pub struct Peer {
 
 impl Peer {
     /// Connects, sends, and does what comes then: the stream, unless it has gone.
-    pub fn call(&self, rt: &HostRuntime, address: SocketAddr) -> Result<Option<TcpStream>, Fail> {
+    fn call(&self, rt: &HostRuntime, address: SocketAddr) -> Result<Option<TcpStream>, Fail> {
         let mut stream = TcpStream::connect(rt, address)?;
         stream.set_read_timeout(Some(Duration::from_secs(5)))?;
         stream.set_write_timeout(Some(Duration::from_secs(5)))?;
@@ -46,14 +46,31 @@ impl Peer {
     }
 }
 
-/// All that a stream gives, to its end.
-pub fn all_of(alloc: Global, mut stream: TcpStream) -> Result<Vec<u8>, Fail> {
-    let mut bytes = Vec::new(alloc);
-    stream.read_to_end(&mut bytes)?;
-    Ok(bytes)
+/// Has the peers connect one after the other: their streams.
+pub fn call_all(
+    rt: &HostRuntime,
+    peers: &[Peer],
+    address: SocketAddr,
+) -> Result<Vec<Option<TcpStream>>, Fail> {
+    let mut streams = Vec::new(rt.alloc());
+    for peer in peers {
+        streams.push(peer.call(rt, address)?)?;
+    }
+    Ok(streams)
 }
 
-/// A listener on a port that the machine picks.
-pub fn listener(rt: &HostRuntime) -> Result<TcpListener, Fail> {
-    Ok(TcpListener::bind(rt, "127.0.0.1:0")?)
+/// Fails where a peer that is still there gets something else than was worked out.
+pub fn hear_all(
+    rt: &HostRuntime,
+    peers: &[Peer],
+    streams: Vec<Option<TcpStream>>,
+) -> Result<(), Fail> {
+    for (peer, stream) in peers.iter().zip(streams) {
+        if let Some(mut stream) = stream {
+            let mut bytes = Vec::new(rt.alloc());
+            stream.read_to_end(&mut bytes)?;
+            compare(rt.alloc(), &bytes, peer.gets.as_bytes())?;
+        }
+    }
+    Ok(())
 }

@@ -1,8 +1,8 @@
 //! What a file system that fails leaves.
 
-use super::failing::{Failing, Fault};
-use super::tests::{begin, lay, pack_here};
-use super::{BAG, BAG_FILES};
+use crate::failing::{Failing, Fault};
+use crate::folders::{BAG_FILES, begin, is_bag, lay, pack_here};
+use crate::marks::bytes_of;
 use bag_folders::{PackFault, Packed, UnpackFault, Unpacked, pack, unpack};
 use std::fs;
 use std::test::*;
@@ -30,7 +30,7 @@ fn names_in(rt: &HostRuntime, folder: &str) -> Result<usize, Fail> {
 #[test]
 fn no_half_of_a_form_is_left(rt: HostRuntime) -> Result<(), Fail> {
     begin(&rt, "half-forms")?;
-    lay(&rt, "half-forms/failing", BAG_FILES.as_slice())?;
+    lay(&rt, "half-forms/failing", BAG_FILES)?;
     fs::create_dir(&rt, "half-forms/out")?;
     let mut failed = 0u32;
     for number in 0..100 {
@@ -42,7 +42,7 @@ fn no_half_of_a_form_is_left(rt: HostRuntime) -> Result<(), Fail> {
         ) {
             Err(PackFault::Device(_)) => {
                 assert!(rt; failing.has_failed());
-                assert_eq!(rt; names_in(&rt, "half-forms/out")?, 0, "{number}");
+                assert!(rt; names_in(&rt, "half-forms/out")? == 0, "{number}");
                 failed = number;
             }
             Ok(_) => break,
@@ -50,11 +50,8 @@ fn no_half_of_a_form_is_left(rt: HostRuntime) -> Result<(), Fail> {
         }
     }
     // Two folders, four entries, three files, the name, the file beside it, its last name.
-    assert_eq!(rt; failed, 11);
-    assert_eq!(rt;
-        fs::read(&rt, "half-forms/out/failing.bagset")?.as_slice(),
-        BAG
-    );
+    assert!(rt; failed == 11);
+    assert!(rt; is_bag(&rt, "half-forms/out/failing.bagset")?);
     // What stood there stays.
     fs::remove_file(&rt, "half-forms/failing/data/a")?;
     for fault in [Fault::Write, Fault::Sync, Fault::Call(9)] {
@@ -67,26 +64,17 @@ fn no_half_of_a_form_is_left(rt: HostRuntime) -> Result<(), Fail> {
         let Err(PackFault::Device(_)) = packed else {
             return Err(Fail::new("a file that can't be written"));
         };
-        assert_eq!(rt;
-            fs::read(&rt, "half-forms/out/failing.bagset")?.as_slice(),
-            BAG
-        );
-        assert_eq!(rt; names_in(&rt, "half-forms/out")?, 1);
+        assert!(rt; is_bag(&rt, "half-forms/out/failing.bagset")?);
+        assert!(rt; names_in(&rt, "half-forms/out")? == 1);
     }
     // A name that is taken is left alone.
     fs::write(&rt, "half-forms/out/.depot-pack-0", b"taken")?;
-    assert_eq!(rt;
-        pack_here(&rt, "half-forms/failing", "half-forms/out/failing.bagset")?.files,
-        2
-    );
-    assert_eq!(rt;
-        fs::read(&rt, "half-forms/out/.depot-pack-0")?.as_slice(),
-        b"taken".as_slice()
-    );
-    assert_eq!(rt; names_in(&rt, "half-forms/out")?, 2);
+    assert!(rt; pack_here(&rt, "half-forms/failing", "half-forms/out/failing.bagset")?.files == 2);
+    assert!(rt; fs::read(&rt, "half-forms/out/.depot-pack-0")?.as_slice() == b"taken".as_slice());
+    assert!(rt; names_in(&rt, "half-forms/out")? == 2);
     // Such a name may be the one that is wanted.
     pack_here(&rt, "half-forms/failing", "half-forms/out/.depot-pack-1")?;
-    assert_eq!(rt; names_in(&rt, "half-forms/out")?, 3);
+    assert!(rt; names_in(&rt, "half-forms/out")? == 3);
     fs::remove_dir_all(&rt, "half-forms")?;
     Ok(())
 }
@@ -94,16 +82,13 @@ fn no_half_of_a_form_is_left(rt: HostRuntime) -> Result<(), Fail> {
 #[test]
 fn only_a_file_is_written_over(rt: HostRuntime) -> Result<(), Fail> {
     begin(&rt, "places")?;
-    lay(&rt, "places/kept", BAG_FILES.as_slice())?;
+    lay(&rt, "places/kept", BAG_FILES)?;
     for place in ["places/kept/data", "/dev/null", "places/kept/no/form"] {
         let Err(PackFault::Device(_)) = pack_here(&rt, "places/kept", place) else {
             return Err(Fail::new(place));
         };
     }
-    assert_eq!(rt;
-        pack_here(&rt, "places/kept", "places/kept.bagset")?.files,
-        3
-    );
+    assert!(rt; pack_here(&rt, "places/kept", "places/kept.bagset")?.files == 3);
     fs::remove_dir_all(&rt, "places")?;
     Ok(())
 }
@@ -111,7 +96,8 @@ fn only_a_file_is_written_over(rt: HostRuntime) -> Result<(), Fail> {
 #[test]
 fn unpacking_may_fail_anywhere(rt: HostRuntime) -> Result<(), Fail> {
     begin(&rt, "half-folders")?;
-    fs::write(&rt, "half-folders/failing.bagset", BAG)?;
+    let form = bytes_of(rt.alloc(), r"BAGSET 1\n{bag}")?;
+    fs::write(&rt, "half-folders/failing.bagset", form.as_slice())?;
     for number in 0..100 {
         let failing = Failing::new(&rt, Fault::Call(number));
         let unpacked = unpack_with(&failing);
@@ -134,7 +120,7 @@ fn unpacking_may_fail_anywhere(rt: HostRuntime) -> Result<(), Fail> {
 #[test]
 fn names_and_sizes_are_those_that_are_found(rt: HostRuntime) -> Result<(), Fail> {
     begin(&rt, "found")?;
-    lay(&rt, "found/found", BAG_FILES.as_slice())?;
+    lay(&rt, "found/found", BAG_FILES)?;
     let failing = Failing::new(&rt, Fault::Name);
     let Err(PackFault::Name) = pack_with(&failing, "found/found", "found/found.bagset") else {
         return Err(Fail::new("a name that isn't UTF-8"));
@@ -145,9 +131,8 @@ fn names_and_sizes_are_those_that_are_found(rt: HostRuntime) -> Result<(), Fail>
         return Err(Fail::new("a file that has changed"));
     };
     let text = format!(in rt.alloc(); "{trouble}")?;
-    assert_eq!(rt;
-        text.as_str(),
-        "cannot read found/found/bagit.txt: it changed while it was packed"
+    assert!(rt;
+        text.as_str() == "cannot read found/found/bagit.txt: it changed while it was packed"
     );
     fs::remove_dir_all(&rt, "found")?;
     Ok(())

@@ -1,4 +1,4 @@
-//! Files in memory, which can be told to stop, under a store with small caches.
+//! Files in memory, which can be told to stop.
 
 use sqlite::{Connection, FileStore, Files, Options};
 use sqlite_disk::{Crash, Disk, Fuse, Memory};
@@ -35,32 +35,6 @@ pub fn copied(alloc: Global, from: &Disks, log_calls: u64, db_calls: u64) -> Res
     })
 }
 
-/// Opens the files with small caches, so that pages go to the log and come back from it, and the log
-/// to the database file. Hands them back where they can't be opened.
-pub fn open<D: Disk + Drop>(
-    alloc: Global,
-    files: Files<D>,
-) -> Result<Connection<FileStore<D>>, Files<D>> {
-    if !files.may_be_used() {
-        return Err(files);
-    }
-    let options = Options {
-        cache_pages: 20,
-        spill_pages: 20,
-        checkpoint_frames: 8,
-        seed: 7,
-    };
-    match Connection::open_files(alloc, files, options) {
-        Ok(conn) => Ok(conn),
-        Err((_, left)) => Err(left.into_files()),
-    }
-}
-
-/// Whether the file has stopped.
-pub fn has_stopped<D: Disk>(file: &mut D) -> bool {
-    !file.may_be_used() || file.len().is_err()
-}
-
 /// Loses what was not synced; the files don't stop after that.
 pub fn lose(files: Disks) -> Disks {
     let mut files = files;
@@ -69,8 +43,47 @@ pub fn lose(files: Disks) -> Disks {
     files
 }
 
-/// Closes the files, and gives them back as they are left.
-pub fn close<D: Disk + Drop>(conn: Connection<FileStore<D>>) -> Files<D> {
+/// Whether the file has stopped.
+fn has_stopped(file: &mut Fuse<Memory>) -> bool {
+    !file.may_be_used() || file.len().is_err()
+}
+
+/// Whether one of the files has stopped.
+pub fn have_stopped(files: &mut Disks) -> bool {
+    has_stopped(&mut files.log) || has_stopped(&mut files.db)
+}
+
+/// Small caches, so that pages go to the log and come back from it, and the log to the database
+/// file.
+pub fn small_caches() -> Options {
+    Options {
+        cache_pages: 20,
+        spill_pages: 20,
+        checkpoint_frames: 8,
+        seed: 7,
+    }
+}
+
+/// Opens the files. Hands them back where they can't be opened.
+pub fn open<D: Disk + Drop>(
+    alloc: Global,
+    files: Files<D>,
+    options: Options,
+) -> Result<Connection<FileStore<D>>, Files<D>> {
+    if !files.may_be_used() {
+        return Err(files);
+    }
+    match Connection::open_files(alloc, files, options) {
+        Ok(conn) => Ok(conn),
+        Err((_, left)) => Err(left.into_files()),
+    }
+}
+
+/// The files as they are left, closed first if that is asked for.
+pub fn leave<D: Disk + Drop>(conn: Connection<FileStore<D>>, closes: bool) -> Files<D> {
+    if !closes {
+        return conn.into_store().close();
+    }
     match conn.close_files() {
         Ok(files) => files,
         Err((_, store)) => store.close(),

@@ -1,0 +1,174 @@
+//! A session with an office, worked out by hand: its steps, the rows of the tables in between, and
+//! a session that goes on.
+
+use crate::desk::{Devices, compare, served};
+use http_desk::Portion;
+use office_core::read_policy;
+use office_engine::Office;
+use office_tables::TableFault;
+use sqlite::Alter;
+use std::alloc::Global;
+use std::test::Fail;
+use worked_sessions::{Asked, BAG, said};
+
+/// How the requests come.
+#[derive(Clone, Copy)]
+pub enum Way {
+    /// The office is asked.
+    Asked,
+    /// The desk hears their bytes.
+    Sent,
+}
+
+/// A request of `anna`, which is accepted: asked of the office, with the answer in words, and as
+/// bytes that come to the desk, with the bytes that answer them.
+struct Step {
+    day: &'static str,
+    asked: Asked,
+    told: &'static [u8],
+    request: &'static [u8],
+    answer: &'static [u8],
+}
+
+/// The session installs this policy, and then takes its steps. `anna` may do all. To `carl` a rule
+/// denies to define a class; the rest is denied by default.
+static POLICY: &str =
+    "version = 1\n\n[callers]\nanna = \"archivist\"\ncarl = \"clerk\"\n\n[[rule]]\neffect = \"allow\"\nrole = \"archivist\"\naction = \"*\"\ncollection = \"*\"\nclass = \"*\"\n\n[[rule]]\neffect = \"deny\"\nrole = \"clerk\"\naction = \"class\"\ncollection = \"*\"\nclass = \"*\"\n";
+
+static STEPS: [Step; 6] = [
+    Step {
+        day: "2024-03-01",
+        asked: Asked::Collection("maps"),
+        told: b"collection maps",
+        request: b"PUT /collections/maps HTTP/1.1\r\nDepot-Caller: anna\r\n\r\n",
+        answer: b"HTTP/1.1 200 OK\r\nContent-Type: application/json\r\nContent-Length: 21\r\nConnection: close\r\n\r\n{\"collection\":\"maps\"}",
+    },
+    Step {
+        day: "2024-03-01",
+        asked: Asked::Class("y1", 1),
+        told: b"class y1 1",
+        request: b"PUT /classes/y1 HTTP/1.1\r\nDepot-Caller: anna\r\nContent-Length: 11\r\n\r\n{\"years\":1}",
+        answer: b"HTTP/1.1 200 OK\r\nContent-Type: application/json\r\nContent-Length: 24\r\nConnection: close\r\n\r\n{\"class\":\"y1\",\"years\":1}",
+    },
+    Step {
+        day: "2024-03-01",
+        asked: Asked::Deposit {
+            collection: "maps",
+            class: "y1",
+            accession: "A-1",
+            closed: "2024-02-29",
+            bag: BAG,
+        },
+        told: b"deposit 1",
+        request: b"POST /deposits?collection=maps&class=y1&accession=A-1&closed=2024-02-29 HTTP/1.1\r\nDepot-Caller: anna\r\nContent-Length: 210\r\n\r\nBAGSET 1\nFILE 9 54\nbagit.txtBagIt-Version: 1.0\nTag-File-Character-Encoding: UTF-8\n\nFILE 6 3\ndata/aabc\nFILE 19 73\nmanifest-sha256.txtba7816bf8f01cfea414140de5dae2223b00361a396177a9cb410ff61f20015ad  data/a\n\nEND\n",
+        answer: b"HTTP/1.1 201 Created\r\nContent-Type: application/json\r\nContent-Length: 13\r\nConnection: close\r\n\r\n{\"deposit\":1}",
+    },
+    Step {
+        day: "2024-03-02",
+        asked: Asked::HoldDeposit(1),
+        told: b"hold 1",
+        request: b"POST /holds HTTP/1.1\r\nDepot-Caller: anna\r\nContent-Length: 31\r\n\r\n{\"deposit\":1,\"matter\":\"Case 7\"}",
+        answer: b"HTTP/1.1 201 Created\r\nContent-Type: application/json\r\nContent-Length: 10\r\nConnection: close\r\n\r\n{\"hold\":1}",
+    },
+    Step {
+        day: "2024-03-05",
+        asked: Asked::Release(1),
+        told: b"released 1 2024-03-05",
+        request: b"DELETE /holds/1 HTTP/1.1\r\nDepot-Caller: anna\r\n\r\n",
+        answer: b"HTTP/1.1 200 OK\r\nContent-Type: application/json\r\nContent-Length: 34\r\nConnection: close\r\n\r\n{\"hold\":1,\"released\":\"2024-03-05\"}",
+    },
+    Step {
+        day: "2030-01-01",
+        asked: Asked::Dispose(1),
+        told: b"destroyed 1 2030-01-01",
+        request: b"DELETE /deposits/1 HTTP/1.1\r\nDepot-Caller: anna\r\n\r\n",
+        answer: b"HTTP/1.1 200 OK\r\nContent-Type: application/json\r\nContent-Length: 34\r\nConnection: close\r\n\r\n{\"day\":\"2030-01-01\",\"destroyed\":1}",
+    },
+];
+
+/// How far the session goes: the policy is installed, and each step is taken.
+pub const WHOLE: usize = 7;
+
+/// What `held` shows of the tables before the session, behind its policy, and behind each step.
+pub static TABLES: [&[u8]; 8] = [
+    b"1|1|1000000|1000000\n--\n--\n--\n--\n--\n--\n--\n--\n",
+    b"1|1|1000000|1000000\n--\nanna|archivist\ncarl|clerk\n--\n1|1|archivist|*|*|*\n2|0|clerk|class|*|*\n--\n--\n--\n--\n--\n--\n",
+    b"1|1|1000000|1000000\n--\nanna|archivist\ncarl|clerk\n--\n1|1|archivist|*|*|*\n2|0|clerk|class|*|*\n--\n--\nmaps\n--\n--\n--\n--\n",
+    b"1|1|1000000|1000000\n--\nanna|archivist\ncarl|clerk\n--\n1|1|archivist|*|*|*\n2|0|clerk|class|*|*\n--\ny1|1\n--\nmaps\n--\n--\n--\n--\n",
+    b"1|1|1000000|1000000\n--\nanna|archivist\ncarl|clerk\n--\n1|1|archivist|*|*|*\n2|0|clerk|class|*|*\n--\ny1|1\n--\nmaps\n--\n1|A-1|maps|y1|19782|19783|1|3|\n--\n1|bagit.txt|BagIt-Version: 1.0\nTag-File-Character-Encoding: UTF-8\n\n1|data/a|abc\n1|manifest-sha256.txt|ba7816bf8f01cfea414140de5dae2223b00361a396177a9cb410ff61f20015ad  data/a\n\n--\n--\n",
+    b"1|1|1000000|1000000\n--\nanna|archivist\ncarl|clerk\n--\n1|1|archivist|*|*|*\n2|0|clerk|class|*|*\n--\ny1|1\n--\nmaps\n--\n1|A-1|maps|y1|19782|19783|1|3|\n--\n1|bagit.txt|BagIt-Version: 1.0\nTag-File-Character-Encoding: UTF-8\n\n1|data/a|abc\n1|manifest-sha256.txt|ba7816bf8f01cfea414140de5dae2223b00361a396177a9cb410ff61f20015ad  data/a\n\n--\n1|1||Case 7|19784|\n--\n",
+    b"1|1|1000000|1000000\n--\nanna|archivist\ncarl|clerk\n--\n1|1|archivist|*|*|*\n2|0|clerk|class|*|*\n--\ny1|1\n--\nmaps\n--\n1|A-1|maps|y1|19782|19783|1|3|\n--\n1|bagit.txt|BagIt-Version: 1.0\nTag-File-Character-Encoding: UTF-8\n\n1|data/a|abc\n1|manifest-sha256.txt|ba7816bf8f01cfea414140de5dae2223b00361a396177a9cb410ff61f20015ad  data/a\n\n--\n1|1||Case 7|19784|19787\n--\n",
+    b"1|1|1000000|1000000\n--\nanna|archivist\ncarl|clerk\n--\n1|1|archivist|*|*|*\n2|0|clerk|class|*|*\n--\ny1|1\n--\nmaps\n--\n1|A-1|maps|y1|19782|19783|1|3|21915\n--\n--\n1|1||Case 7|19784|19787\n--\n",
+];
+
+/// What the desk answers where the store failed.
+static STORE_FAILED: &[u8] =
+    b"HTTP/1.1 503 Service Unavailable\r\nContent-Type: application/json\r\nContent-Length: 17\r\nConnection: close\r\n\r\n{\"error\":\"Store\"}";
+
+/// Installs the policy: whether it was installed. Fails where another fault than the store's is
+/// told.
+fn installs<S: Alter>(alloc: Global, office: &mut Office<S>) -> Result<bool, Fail> {
+    let policy = read_policy(alloc, POLICY)?;
+    match office.install(alloc, &policy) {
+        Ok(()) => Ok(true),
+        Err(TableFault::Store) => Ok(false),
+        Err(_) => Err("the policy was not installed".into()),
+    }
+}
+
+/// Whether it is answered as was worked out, or that the store failed. Fails where it is neither.
+fn is_accepted(alloc: Global, said: &[u8], wanted: &[u8], failed: &[u8]) -> Result<bool, Fail> {
+    if said == failed {
+        return Ok(false);
+    }
+    compare(alloc, said, wanted)?;
+    Ok(true)
+}
+
+/// Takes a step: whether it is answered as was worked out, or that the store failed.
+fn takes<S: Alter>(
+    alloc: Global,
+    office: &mut Office<S>,
+    way: Way,
+    step: &Step,
+) -> Result<bool, Fail> {
+    match way {
+        Way::Asked => {
+            let text = said(alloc, office, step.day, "anna", step.asked)?;
+            is_accepted(alloc, text.as_bytes(), step.told, b"Store")
+        }
+        Way::Sent => {
+            let (ended, text) = served(
+                alloc,
+                office,
+                step.day,
+                step.request,
+                Devices::whole(Portion::All),
+            )?;
+            if ended.is_err() {
+                return Err("the desk did not answer".into());
+            }
+            is_accepted(alloc, &text, step.answer, STORE_FAILED)
+        }
+    }
+}
+
+/// Goes on with a session that has come so far, until the store fails: how far that is.
+pub fn go_on<S: Alter>(
+    alloc: Global,
+    office: &mut Office<S>,
+    way: Way,
+    found: usize,
+) -> Result<usize, Fail> {
+    if found == 0 && !installs(alloc, office)? {
+        return Ok(0);
+    }
+    let mut reached = found.max(1);
+    for step in STEPS.iter().skip(found.saturating_sub(1)) {
+        if !takes(alloc, office, way, step)? {
+            return Ok(reached);
+        }
+        reached = reached.saturating_add(1);
+    }
+    Ok(reached)
+}
