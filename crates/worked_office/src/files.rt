@@ -1,8 +1,10 @@
 //! Files in memory, which can be told to stop, under a store with small caches.
 
-use sqlite::{Connection, Error, FileStore, Files, Options};
+use crate::offices::Way;
+use crate::parts::{Part, taken};
+use sqlite::{Connection, FileStore, Files, Options};
 use sqlite_disk::{Crash, Disk, Fuse, Memory};
-use std::alloc::Global;
+use std::alloc::{AllocError, Global};
 use std::test::Fail;
 
 /// The log and the database file, each in memory; after so many calls it stops.
@@ -43,22 +45,8 @@ pub fn copied(alloc: Global, from: &Disks) -> Result<Disks, Fail> {
     })
 }
 
-/// Opens the files with small caches.
-pub fn open_files<D: Disk + Drop>(
-    alloc: Global,
-    files: Files<D>,
-) -> Result<Connection<FileStore<D>>, (Error, Files<D>)> {
-    if !files.may_be_used() {
-        return Err((Error::InvalidQuery, files));
-    }
-    match Connection::open_files(alloc, files, SMALL) {
-        Ok(conn) => Ok(conn),
-        Err((error, left)) => Err((error, left.into_files())),
-    }
-}
-
 /// Whether the file has stopped.
-pub fn has_stopped<D: Disk>(file: &mut D) -> bool {
+pub fn has_stopped(file: &mut Fuse<Memory>) -> bool {
     !file.may_be_used() || file.len().is_err()
 }
 
@@ -70,12 +58,45 @@ pub fn lose(files: Disks) -> Disks {
     files
 }
 
-/// Closes the files, and gives them back: as they are left, where they can't be closed.
-pub fn close<D: Disk + Drop>(
+/// What is told of files that can't be closed.
+pub const NOT_CLOSED: &str = "not closed";
+
+/// Says that the files are not opened, or not closed.
+fn says(alloc: Global, told: &str) -> Option<String> {
+    String::from_str(alloc, told).ok()
+}
+
+/// Closes the files, which are handed back: as they are left, where they can't be closed, which is told.
+fn closed<D: Disk + Drop>(
+    alloc: Global,
     conn: Connection<FileStore<D>>,
-) -> Result<Files<D>, (Error, Files<D>)> {
+) -> (Option<String>, Files<D>) {
     match conn.close_files() {
-        Ok(files) => Ok(files),
-        Err((error, store)) => Err((error, store.close())),
+        Ok(files) => (says(alloc, ""), files),
+        Err((_, store)) => (says(alloc, NOT_CLOSED), store.close()),
+    }
+}
+
+/// Opens the files with small caches, takes the part and closes the files, which are handed back, with
+/// what is answered otherwise, or no text. After such an answer the log isn't copied into the database
+/// file.
+pub fn take_once<D: Disk + Drop>(
+    alloc: Global,
+    files: Files<D>,
+    way: Way,
+    part: Part,
+) -> (Option<String>, Files<D>) {
+    if !files.may_be_used() {
+        return (says(alloc, "not opened"), files);
+    }
+    match Connection::open_files(alloc, files, SMALL) {
+        Err((_, left)) => (says(alloc, "not opened"), left.into_files()),
+        Ok(conn) => {
+            let (differs, conn) = taken(alloc, conn, way, part);
+            match differs {
+                Some(text) if text.is_empty() => closed(alloc, conn),
+                differs => (differs, conn.into_store().close()),
+            }
+        }
     }
 }

@@ -3,20 +3,26 @@
 #![tactic(auto)]
 
 #[cfg(test)]
+mod altered;
+#[cfg(test)]
 mod altering;
 #[cfg(test)]
 mod files;
 #[cfg(test)]
+mod offices;
+#[cfg(test)]
+mod parts;
+#[cfg(test)]
+mod rows;
+#[cfg(test)]
 mod sessions;
+#[cfg(test)]
+mod stores;
 #[cfg(test)]
 mod tables;
 #[cfg(test)]
 mod tests;
 #[cfg(test)]
-mod tests_openings;
-#[cfg(test)]
-mod tests_rows;
-#[cfg(test)]
-mod tests_sessions;
-#[cfg(test)]
 mod tests_stops;
+#[cfg(test)]
+mod words;

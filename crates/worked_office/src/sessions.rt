@@ -1,203 +1,259 @@
-//! Sessions, put to each office.
+//! Sessions with an office, worked out by hand from `docs/OFFICE.md`.
 
-use crate::files::{Disks, MANY, close, empty, open_files};
-use office_core::{Day, Limits};
-use office_engine::Office;
-use office_history::plain;
-use sqlite::{Alter, Connection, Files};
-use sqlite_disk::Disk;
-use std::alloc::Global;
-use std::test::Fail;
-use worked_sessions::{AnyOffice, Row, differs, differs_in_run, open};
+use crate::parts::Part;
 
-/// How the rows of a table are put to an office.
-#[derive(Clone, Copy)]
-pub enum Way {
-    /// One after the other.
-    Steps,
-    /// All in one run.
-    OneRun,
-}
+/// What rules, holds and dates decide.
+pub static DECIDING: [&[Part]; 6] = [
+    // A file is served at its own path alone.
+    &[
+        ("office", "1000000"),
+        (
+            "asks",
+            "2024-03-01 anna\n\
+             deposit maps y1 A-1 2024-02-29 percent > deposit 1\n\
+             file 1 data/a%0Ab > file abc\n\
+             file 1 data/b > NoFile\n\
+             2024-03-01 carl\n\
+             file 1 data/a%0Ab > Denied default\n\
+             2024-03-01 anna\n\
+             file 2 data/b > NoSuch deposit",
+        ),
+    ],
+    // A disposal asks the rules, then holds, then the date.
+    &[
+        ("office", "1000000"),
+        (
+            "asks",
+            "2024-03-01 anna\n\
+             deposit tax y1 A-1 > deposit 1\n\
+             deposit maps y1 A-2 > deposit 2\n\
+             hold 1 > hold 1\n\
+             hold 2 > hold 2\n\
+             2024-03-05 anna\n\
+             dispose 1 > Denied rule 1\n\
+             dispose 2 > Held 2\n\
+             release 2 > released 2 2024-03-05\n\
+             dispose 2 > NotDue 2025-02-28\n\
+             class y1 0 > class y1 0\n\
+             dispose 2 > destroyed 2 2024-03-05\n\
+             dispose 2 > Gone 2024-03-05\n\
+             2024-03-05 eve\n\
+             dispose 9 > NoSuch deposit\n\
+             release 2 > Denied default\n\
+             2024-03-05 anna\n\
+             release 2 > Released 2024-03-05",
+        ),
+    ],
+    // What is absent is said first, and what is denied next.
+    &[
+        ("office", "1000000"),
+        (
+            "asks",
+            "2024-03-01 anna\n\
+             deposit maps y1 A-1 > deposit 1\n\
+             hold 1 > hold 1\n\
+             2024-03-05 eve\n\
+             dispose 9 > NoSuch deposit\n\
+             2024-03-05 anna\n\
+             release 1 > released 1 2024-03-05\n\
+             2024-03-05 eve\n\
+             release 1 > Denied default\n\
+             2024-03-05 anna\n\
+             release 1 > Released 2024-03-05\n\
+             hold-all x > NoSuch collection",
+        ),
+    ],
+    // Records, audits and holds are told to whom the rules allow.
+    &[
+        ("office", "1000000"),
+        (
+            "asks",
+            "2024-03-01 anna\n\
+             deposit maps y1 A-1 > deposit 1\n\
+             record 1 > record 1 A-1 maps y1 closed 2024-02-29 deposited 2024-03-01 due \
+             2025-02-28 files 1 bytes 3\n\
+             audit 1 > audit 1 valid 1.0 files 1 bytes 3 manifests 1\n\
+             holds 1 > holds:\n\
+             2024-03-01 carl\n\
+             record 1 > Denied default\n\
+             audit 1 > Denied default\n\
+             holds 1 > Denied default\n\
+             2024-03-01 anna\n\
+             list-of x > list:\n\
+             2024-03-02 anna\n\
+             hold-all maps > hold 1\n\
+             holds 1 > holds: 1 on collection placed 2024-03-02 for Case 7;",
+        ),
+    ],
+    // Due lists follow holds, disposals and years.
+    &[
+        ("office", "1000000"),
+        (
+            "asks",
+            "2024-03-01 anna\n\
+             deposit maps y1 A-1 > deposit 1\n\
+             deposit maps y1 A-2 > deposit 2\n\
+             hold 2 > hold 1\n\
+             hold-all maps > hold 2\n\
+             2025-02-28 anna\n\
+             due > due on 2025-02-28:\n\
+             2024-03-01 anna\n\
+             release 2 > released 2 2024-03-01\n\
+             2025-02-28 anna\n\
+             due > due on 2025-02-28: 1\n\
+             2024-03-01 anna\n\
+             release 1 > released 1 2024-03-01\n\
+             2025-02-28 anna\n\
+             due > due on 2025-02-28: 1 2",
+        ),
+        (
+            "asks",
+            "2025-02-27 anna\n\
+             due > due on 2025-02-27:",
+        ),
+        (
+            "asks",
+            "2025-02-27 anna\n\
+             due > due on 2025-02-27:\n\
+             2025-02-28 anna\n\
+             dispose 1 > destroyed 1 2025-02-28\n\
+             due > due on 2025-02-28: 2\n\
+             keep y1 > class y1 permanent\n\
+             due > due on 2025-02-28:\n\
+             class y1 1 > class y1 1\n\
+             due > due on 2025-02-28: 2",
+        ),
+    ],
+    // The rules decide lists and due lists.
+    &[
+        ("office", "1000000"),
+        (
+            "asks",
+            "2024-03-01 anna\n\
+             deposit maps y10 A-1 > deposit 1\n\
+             deposit tax y10 A-2 > deposit 2\n\
+             deposit maps y1 A-3 > deposit 3\n\
+             2024-03-01 carl\n\
+             list > list: 1 2\n\
+             2024-03-01 anna\n\
+             list-of maps > list: 1 3\n\
+             list-class y10 > list: 1 2\n\
+             2024-03-05 anna\n\
+             due > due on 2024-03-05:\n\
+             class y10 0 > class y10 0\n\
+             due > due on 2024-03-05: 1",
+        ),
+    ],
+];
 
-/// A part of a session. Between two of them the connection is taken out of its office and adopted
-/// again.
-#[derive(Clone, Copy)]
-pub enum Part<'a> {
-    /// The office is given the policy, the classes and the collections.
-    Opening,
-    /// Rows are put to the office.
-    Rows(&'a [Row]),
-    /// On that day these are the deposits that `anna` may destroy.
-    Due(&'a str, &'a [u32]),
-}
+/// What is deposited, kept and listed.
+pub static KEEPING: [&[Part]; 6] = [
+    // A deposit is destroyed from its due day on.
+    &[
+        ("office", "1000000"),
+        (
+            "asks",
+            "2024-03-01 anna\n\
+             deposit maps y1 A-1 > deposit 1\n\
+             2025-02-27 anna\n\
+             dispose 1 > NotDue 2025-02-28\n\
+             2025-02-28 anna\n\
+             dispose 1 > destroyed 1 2025-02-28\n\
+             dispose 1 > Gone 2025-02-28",
+        ),
+    ],
+    // A hold of a collection covers what comes later.
+    &[
+        ("office", "1000000"),
+        (
+            "asks",
+            "2024-03-02 anna\n\
+             hold-all maps > hold 1\n\
+             2024-03-03 anna\n\
+             deposit maps y1 A-1 > deposit 1\n\
+             2030-01-01 anna\n\
+             dispose 1 > Held 1\n\
+             hold 1 > hold 2\n\
+             2030-01-02 anna\n\
+             release 1 > released 1 2030-01-02\n\
+             dispose 1 > Held 2\n\
+             2030-01-03 anna\n\
+             release 2 > released 2 2030-01-03\n\
+             dispose 1 > destroyed 1 2030-01-03\n\
+             hold 1 > Gone 2030-01-03\n\
+             release 2 > Released 2030-01-03",
+        ),
+    ],
+    // An accession is used once.
+    &[
+        ("office", "1000000"),
+        (
+            "asks",
+            "2024-03-01 anna\n\
+             deposit maps y1 A-1 > deposit 1\n\
+             deposit maps y1 A-1 > Taken 1\n\
+             deposit maps y1 A-1 2024-02-29 nothing > Taken 1\n\
+             deposit maps y1 A-2 2024-02-29 nothing > BadBag S3\n\
+             2025-02-28 anna\n\
+             dispose 1 > destroyed 1 2025-02-28\n\
+             deposit maps y1 A-1 > Taken 1\n\
+             deposit maps y1 A-1 2024-02-29 nothing > Taken 1\n\
+             deposit maps y1 A-2 2024-02-29 nothing > BadBag S3",
+        ),
+    ],
+    // Records are closed before they come.
+    &[
+        ("office", "1000000"),
+        (
+            "asks",
+            "2024-03-01 anna\n\
+             deposit maps y1 A-1 2024-03-02 > ClosedAhead",
+        ),
+    ],
+    // The first refusal of each request is answered.
+    &[
+        ("office", "1000000"),
+        (
+            "asks",
+            "2024-03-01 anna\n\
+             deposit maps y1 A-1 > deposit 1\n\
+             deposit x z A-2 > NoSuch collection\n\
+             deposit maps z A-2 > NoSuch class\n\
+             deposit maps y1 A-1 2024-03-02 > Taken 1\n\
+             2024-03-01 eve\n\
+             deposit maps y1 A-1 2024-03-02 > Denied default",
+        ),
+    ],
+    // A full office takes no more.
+    &[
+        ("office", "1"),
+        (
+            "asks",
+            "2024-03-01 anna\n\
+             deposit maps y1 A-1 > deposit 1\n\
+             deposit maps y1 A-2 > Full\n\
+             deposit maps y1 A-2 2024-02-29 nothing > BadBag S3\n\
+             hold 1 > hold 1\n\
+             hold-all maps > Full\n\
+             release 1 > released 1 2024-03-01\n\
+             hold 1 > Full",
+        ),
+    ],
+];
 
-/// Fails where a row was answered otherwise.
-pub fn agree(differs: Option<String>) -> Result<(), Fail> {
-    match differs {
-        None => Ok(()),
-        Some(text) => Err(Fail::new(text)),
-    }
-}
-
-/// Puts the rows to the office.
-pub fn take<O: AnyOffice>(
-    alloc: Global,
-    office: &mut O,
-    way: Way,
-    rows: &[Row],
-) -> Result<(), Fail> {
-    let differs = match way {
-        Way::Steps => differs(alloc, office, rows)?,
-        Way::OneRun => differs_in_run(alloc, office, rows)?,
-    };
-    agree(differs)
-}
-
-/// A plain office with the policy, the classes and the collections.
-pub fn plain_office(alloc: Global, limits: Limits) -> Result<plain::Office, Fail> {
-    let mut office = plain::Office::create(alloc, limits);
-    agree(open(alloc, &mut office)?)?;
-    Ok(office)
-}
-
-/// Puts the part to the office.
-fn put<S: Alter>(
-    alloc: Global,
-    office: &mut Office<S>,
-    way: Way,
-    part: Part<'_>,
-) -> Result<(), Fail> {
-    match part {
-        Part::Opening => agree(open(alloc, office)?),
-        Part::Rows(rows) => take(alloc, office, way, rows),
-        Part::Due(day, numbers) => {
-            let day = Day::read(day).ok_or("day")?;
-            let due = office.due_list(alloc, day, "anna")?;
-            if due.as_slice() != numbers {
-                Err("another due list")?;
-            }
-            Ok(())
-        }
-    }
-}
-
-/// Makes an office in the database, and gives the connection back.
-fn made<S: Alter + Drop>(conn: Connection<S>, limits: Limits) -> Result<Connection<S>, Fail> {
-    if !conn.is_autocommit() {
-        return Err(Fail::new("a transaction is open"));
-    }
-    match Office::create(conn, limits) {
-        Ok(office) => Ok(office.into_connection()),
-        Err((_, fault)) => Err(Fail::from(fault)),
-    }
-}
-
-/// Puts the part to the office of the connection, which is given back.
-fn taken<S: Alter + Drop>(
-    alloc: Global,
-    conn: Connection<S>,
-    way: Way,
-    part: Part<'_>,
-) -> Result<Connection<S>, Fail> {
-    if !conn.is_autocommit() {
-        return Err(Fail::new("a transaction is open"));
-    }
-    match Office::adopt(conn) {
-        Ok(mut office) => match put(alloc, &mut office, way, part) {
-            Ok(()) => Ok(office.into_connection()),
-            Err(fail) => Err(fail),
-        },
-        Err((_, fault)) => Err(Fail::from(fault)),
-    }
-}
-
-/// Puts the parts to the office of the connection, which is given back. The office is made first
-/// where limits are given.
-fn take_over<S: Alter + Drop>(
-    alloc: Global,
-    conn: Connection<S>,
-    limits: Option<Limits>,
-    way: Way,
-    parts: &[Part<'_>],
-) -> Result<Connection<S>, Fail> {
-    let mut conn = match limits {
-        Some(limits) => taken(alloc, made(conn, limits)?, way, Part::Opening)?,
-        None => conn,
-    };
-    for part in parts {
-        conn = taken(alloc, conn, way, *part)?;
-    }
-    Ok(conn)
-}
-
-/// Puts the parts to a plain office.
-fn take_plain(alloc: Global, limits: Limits, way: Way, parts: &[Part<'_>]) -> Result<(), Fail> {
-    let mut office = plain_office(alloc, limits)?;
-    for part in parts {
-        if let Part::Rows(rows) = *part {
-            take(alloc, &mut office, way, rows)?;
-        }
-    }
-    Ok(())
-}
-
-/// Puts the parts to an office over a database in memory.
-fn take_in_memory(alloc: Global, limits: Limits, way: Way, parts: &[Part<'_>]) -> Result<(), Fail> {
-    let conn = Connection::open_in_memory(alloc)?;
-    let _conn = take_over(alloc, conn, Some(limits), way, parts)?;
-    Ok(())
-}
-
-/// Opens the files, puts the parts to the office in them, and closes them.
-fn take_once<D: Disk + Drop>(
-    alloc: Global,
-    files: Files<D>,
-    limits: Option<Limits>,
-    way: Way,
-    parts: &[Part<'_>],
-) -> Result<Files<D>, Fail> {
-    let conn = match open_files(alloc, files) {
-        Ok(conn) => conn,
-        Err((error, _)) => return Err(Fail::from(error)),
-    };
-    match close(take_over(alloc, conn, limits, way, parts)?) {
-        Ok(files) => Ok(files),
-        Err((error, _)) => Err(Fail::from(error)),
-    }
-}
-
-/// Puts the parts to an office over files, which are closed and opened again between them.
-pub fn take_in_files(
-    alloc: Global,
-    limits: Limits,
-    way: Way,
-    parts: &[Part<'_>],
-) -> Result<Disks, Fail> {
-    let mut new = Some(limits);
-    let mut files = empty(alloc, MANY, MANY);
-    for part in parts {
-        files = take_once(alloc, files, new, way, &[*part])?;
-        new = None;
-    }
-    Ok(files)
-}
-
-/// Room for so many deposits and as many holds.
-pub fn room_for(most: u32) -> Result<Limits, Fail> {
-    Ok(Limits::new(most, most).ok_or("limits")?)
-}
-
-/// Puts the parts to each office, by steps and by runs.
-pub fn take_all(alloc: Global, limits: Limits, parts: &[Part<'_>]) -> Result<(), Fail> {
-    for way in [Way::Steps, Way::OneRun] {
-        take_plain(alloc, limits, way, parts)?;
-        take_in_memory(alloc, limits, way, parts)?;
-        let _files = take_in_files(alloc, limits, way, parts)?;
-    }
-    Ok(())
-}
-
-/// Puts the rows to each office, by steps and in one run.
-pub fn take_rows(alloc: Global, rows: &[Row]) -> Result<(), Fail> {
-    take_all(alloc, room_for(1_000_000)?, &[Part::Rows(rows)])
-}
+/// A content counts once, and while it is kept.
+pub static CONTENTS: [Part; 4] = [
+    ("office", "1000000"),
+    (
+        "asks",
+        "2024-03-01 anna\n\
+         deposit maps y1 A-1 > deposit 1\n\
+         deposit maps y1 A-2 2024-02-29 0.97 > deposit 2",
+    ),
+    (
+        "asks",
+        "dispose 1 > destroyed 1 2030-01-01\n\
+         bag 2 > whole 0.97",
+    ),
+    ("asks", "dispose 2 > destroyed 2 2030-01-01"),
+];

@@ -1,11 +1,11 @@
 //! The calls of `office_tables`, over files and in memory.
 
 mod answers;
+mod calls;
 mod changes;
-mod sessions;
-mod steps;
-mod tests_calls;
-mod tests_openings;
-mod tests_refusals;
-mod tests_sizes;
+mod openings;
+mod refusals;
+mod sizes;
+pub mod steps;
+mod tests;
 mod tests_stops;

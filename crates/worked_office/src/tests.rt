@@ -1,237 +1,68 @@
-//! Rows worked out by hand from `docs/OFFICE.md`.
+//! Sessions are put to each office, and cases of altered rows to offices in memory.
 
-use crate::sessions::{Part, room_for, take_all, take_rows};
+use crate::altered::{
+    AS_BEFORE, BESIDE, CLASSES, DEPOSITS, FILES, HOLDS, OPENINGS, PREPARED, RULES,
+};
+use crate::offices::{Way, put};
+use crate::parts::{Part, agree};
+use crate::sessions::{CONTENTS, DECIDING, KEEPING};
+use crate::stores::{in_memory, plain_office, to_offices};
+use office_history::Stock;
+use std::alloc::Global;
 use std::test::*;
-use worked_sessions::{Asked, BAG, PERCENT, Row};
-
-const INTO_MAPS: Asked = Asked::Deposit {
-    collection: "maps",
-    class: "y1",
-    accession: "A-1",
-    closed: "2024-02-29",
-    bag: BAG,
-};
-
-const INTO_TAX: Asked = Asked::Deposit {
-    collection: "tax",
-    class: "y1",
-    accession: "A-1",
-    closed: "2024-02-29",
-    bag: BAG,
-};
-
-const MORE_INTO_MAPS: Asked = Asked::Deposit {
-    collection: "maps",
-    class: "y1",
-    accession: "A-2",
-    closed: "2024-02-29",
-    bag: BAG,
-};
-
-const PERCENT_INTO_MAPS: Asked = Asked::Deposit {
-    collection: "maps",
-    class: "y1",
-    accession: "A-1",
-    closed: "2024-02-29",
-    bag: PERCENT,
-};
-
-static FILES_BY_PATH: [Row; 5] = [
-    ("2024-03-01", "anna", PERCENT_INTO_MAPS, "deposit 1"),
-    (
-        "2024-03-01",
-        "anna",
-        Asked::File(1, "data/a%0Ab"),
-        "file abc",
-    ),
-    ("2024-03-01", "anna", Asked::File(1, "data/b"), "NoFile"),
-    (
-        "2024-03-01",
-        "carl",
-        Asked::File(1, "data/a%0Ab"),
-        "Denied default",
-    ),
-    (
-        "2024-03-01",
-        "anna",
-        Asked::File(2, "data/b"),
-        "NoSuch deposit",
-    ),
-];
 
 #[test]
-fn a_file_is_served_at_its_own_path_alone(rt: HostRuntime) -> Result<(), Fail> {
-    take_rows(rt.alloc(), &FILES_BY_PATH)
+fn each_office_answers_alike(rt: HostRuntime) -> Result<(), Fail> {
+    to_offices(rt.alloc(), &DECIDING)?;
+    to_offices(rt.alloc(), &KEEPING)?;
+    to_offices(rt.alloc(), &[&CONTENTS])
 }
 
-static RULE_HOLD_DATE: [Row; 14] = [
-    ("2024-03-01", "anna", INTO_TAX, "deposit 1"),
-    ("2024-03-01", "anna", MORE_INTO_MAPS, "deposit 2"),
-    ("2024-03-01", "anna", Asked::HoldDeposit(1), "hold 1"),
-    ("2024-03-01", "anna", Asked::HoldDeposit(2), "hold 2"),
-    ("2024-03-05", "anna", Asked::Dispose(1), "Denied rule 1"),
-    ("2024-03-05", "anna", Asked::Dispose(2), "Held 2"),
-    (
-        "2024-03-05",
-        "anna",
-        Asked::Release(2),
-        "released 2 2024-03-05",
-    ),
-    ("2024-03-05", "anna", Asked::Dispose(2), "NotDue 2025-02-28"),
-    ("2024-03-05", "anna", Asked::Class("y1", 0), "class y1 0"),
-    (
-        "2024-03-05",
-        "anna",
-        Asked::Dispose(2),
-        "destroyed 2 2024-03-05",
-    ),
-    ("2024-03-05", "anna", Asked::Dispose(2), "Gone 2024-03-05"),
-    ("2024-03-05", "eve", Asked::Dispose(9), "NoSuch deposit"),
-    ("2024-03-05", "eve", Asked::Release(2), "Denied default"),
-    (
-        "2024-03-05",
-        "anna",
-        Asked::Release(2),
-        "Released 2024-03-05",
-    ),
-];
+/// What is kept when the office is made, and after each part of `CONTENTS` behind.
+static STOCKS: [(usize, usize); 4] = [(0, 0), (4, 185), (3, 131), (0, 0)];
 
 #[test]
-fn a_disposal_asks_the_rules_then_holds_then_the_date(rt: HostRuntime) -> Result<(), Fail> {
-    take_rows(rt.alloc(), &RULE_HOLD_DATE)
+fn a_content_counts_once_and_while_it_is_kept(rt: HostRuntime) -> Result<(), Fail> {
+    let mut office = plain_office(rt.alloc(), "1000000")?;
+    for ((kind, text), (contents, bytes)) in CONTENTS.iter().zip(STOCKS.iter()) {
+        if *kind == "asks" {
+            agree(put(rt.alloc(), &mut office, Way::Steps, text))?;
+        }
+        let wanted = Stock {
+            contents: *contents,
+            bytes: *bytes,
+        };
+        assert!(rt; office.stock(rt.alloc())? == wanted);
+    }
+    Ok(())
 }
 
-static ABSENT_THEN_DENIED: [Row; 7] = [
-    ("2024-03-01", "anna", INTO_MAPS, "deposit 1"),
-    ("2024-03-01", "anna", Asked::HoldDeposit(1), "hold 1"),
-    ("2024-03-05", "eve", Asked::Dispose(9), "NoSuch deposit"),
-    (
-        "2024-03-05",
-        "anna",
-        Asked::Release(1),
-        "released 1 2024-03-05",
-    ),
-    ("2024-03-05", "eve", Asked::Release(1), "Denied default"),
-    (
-        "2024-03-05",
-        "anna",
-        Asked::Release(1),
-        "Released 2024-03-05",
-    ),
-    (
-        "2024-03-05",
-        "anna",
-        Asked::HoldCollection("x"),
-        "NoSuch collection",
-    ),
-];
-
-#[test]
-fn what_is_absent_is_said_first_and_what_is_denied_next(rt: HostRuntime) -> Result<(), Fail> {
-    take_rows(rt.alloc(), &ABSENT_THEN_DENIED)
+/// The cases, behind the parts that prepare an office for them, and before those that find it as before.
+fn prepared(alloc: Global, cases: &[Part]) -> Option<Vec<Part>> {
+    let mut parts = Vec::new(alloc);
+    parts.extend_from_slice(&PREPARED).ok()?;
+    parts.extend_from_slice(cases).ok()?;
+    parts.extend_from_slice(&AS_BEFORE).ok()?;
+    Some(parts)
 }
 
-static RECORDS: [Row; 10] = [
-    ("2024-03-01", "anna", INTO_MAPS, "deposit 1"),
-    (
-        "2024-03-01",
-        "anna",
-        Asked::Record(1),
-        "record 1 A-1 maps y1 closed 2024-02-29 deposited 2024-03-01 due 2025-02-28 files 1 bytes 3",
-    ),
-    (
-        "2024-03-01",
-        "anna",
-        Asked::Audit(1),
-        "audit 1 valid 1.0 files 1 bytes 3 manifests 1",
-    ),
-    ("2024-03-01", "anna", Asked::Holds(1), "holds:"),
-    ("2024-03-01", "carl", Asked::Record(1), "Denied default"),
-    ("2024-03-01", "carl", Asked::Audit(1), "Denied default"),
-    ("2024-03-01", "carl", Asked::Holds(1), "Denied default"),
-    ("2024-03-01", "anna", Asked::ListOf("x"), "list:"),
-    (
-        "2024-03-02",
-        "anna",
-        Asked::HoldCollection("maps"),
-        "hold 1",
-    ),
-    (
-        "2024-03-02",
-        "anna",
-        Asked::Holds(1),
-        "holds: 1 on collection placed 2024-03-02 for Case 7;",
-    ),
-];
-
-#[test]
-fn records_audits_and_holds_are_told_to_whom_the_rules_allow(rt: HostRuntime) -> Result<(), Fail> {
-    take_rows(rt.alloc(), &RECORDS)
+/// Takes the cases over an office that is prepared for them, which is as before in the end.
+fn alter(alloc: Global, cases: &[Part]) -> Result<(), Fail> {
+    let parts = prepared(alloc, cases).ok_or("memory")?;
+    in_memory(alloc, Way::Steps, &parts)
 }
 
-static DUE_AS_HOLDS_GO: [Row; 9] = [
-    ("2024-03-01", "anna", INTO_MAPS, "deposit 1"),
-    ("2024-03-01", "anna", MORE_INTO_MAPS, "deposit 2"),
-    ("2024-03-01", "anna", Asked::HoldDeposit(2), "hold 1"),
-    (
-        "2024-03-01",
-        "anna",
-        Asked::HoldCollection("maps"),
-        "hold 2",
-    ),
-    ("2025-02-28", "anna", Asked::DueList, "due on 2025-02-28:"),
-    (
-        "2024-03-01",
-        "anna",
-        Asked::Release(2),
-        "released 2 2024-03-01",
-    ),
-    ("2025-02-28", "anna", Asked::DueList, "due on 2025-02-28: 1"),
-    (
-        "2024-03-01",
-        "anna",
-        Asked::Release(1),
-        "released 1 2024-03-01",
-    ),
-    (
-        "2025-02-28",
-        "anna",
-        Asked::DueList,
-        "due on 2025-02-28: 1 2",
-    ),
-];
-
-static DUE_AS_YEARS_CHANGE: [Row; 7] = [
-    ("2025-02-27", "anna", Asked::DueList, "due on 2025-02-27:"),
-    (
-        "2025-02-28",
-        "anna",
-        Asked::Dispose(1),
-        "destroyed 1 2025-02-28",
-    ),
-    ("2025-02-28", "anna", Asked::DueList, "due on 2025-02-28: 2"),
-    (
-        "2025-02-28",
-        "anna",
-        Asked::ForGood("y1"),
-        "class y1 permanent",
-    ),
-    ("2025-02-28", "anna", Asked::DueList, "due on 2025-02-28:"),
-    ("2025-02-28", "anna", Asked::Class("y1", 1), "class y1 1"),
-    ("2025-02-28", "anna", Asked::DueList, "due on 2025-02-28: 2"),
-];
+#[test]
+fn altered_rows_are_met_where_an_answer_rests_on_them(rt: HostRuntime) -> Result<(), Fail> {
+    alter(rt.alloc(), &FILES)?;
+    alter(rt.alloc(), &CLASSES)?;
+    alter(rt.alloc(), &DEPOSITS)?;
+    alter(rt.alloc(), &RULES)?;
+    alter(rt.alloc(), &HOLDS)?;
+    in_memory(rt.alloc(), Way::Steps, &BESIDE)
+}
 
 #[test]
-fn due_lists_follow_holds_disposals_and_years(rt: HostRuntime) -> Result<(), Fail> {
-    take_all(
-        rt.alloc(),
-        room_for(1_000_000)?,
-        &[
-            Part::Rows(&DUE_AS_HOLDS_GO),
-            Part::Due("2025-02-27", &[]),
-            Part::Due("2025-02-28", &[1, 2]),
-            Part::Rows(&DUE_AS_YEARS_CHANGE),
-            Part::Due("2025-02-28", &[2]),
-        ],
-    )
+fn only_an_office_of_this_version_is_taken_up(rt: HostRuntime) -> Result<(), Fail> {
+    in_memory(rt.alloc(), Way::Steps, &OPENINGS)
 }

@@ -1,81 +1,65 @@
 //! A stop in a request and in a run, and what is found again in the files.
 
 use crate::files::SMALL;
-use crate::sessions::{Part, Way, room_for, take, take_in_files};
+use crate::offices::{Way, put};
+use crate::parts::{Part, agree};
+use crate::stores::in_files;
 use office_core::Day;
 use office_engine::{Office, reopen, stop_in, stop_in_run};
 use sqlite::{FileStore, Files};
 use sqlite_disk::Disk;
 use std::alloc::Global;
 use std::test::*;
-use worked_sessions::{Asked, BAG, Row};
+use worked_sessions::Asked;
 
-static BEFORE: [Row; 1] = [(
-    "2024-03-01",
-    "anna",
-    Asked::Deposit {
-        collection: "maps",
-        class: "y1",
-        accession: "A-1",
-        closed: "2024-02-29",
-        bag: BAG,
-    },
-    "deposit 1",
-)];
-
-static AFTER_THE_REQUEST: [Row; 3] = [
+static BEFORE: [Part; 2] = [
+    ("office", "1000000"),
     (
-        "2024-03-02",
-        "anna",
-        Asked::Holds(1),
-        "holds: 1 on deposit placed 2024-03-02 for Case 7;",
-    ),
-    ("2024-03-02", "anna", Asked::List, "list: 1"),
-    ("2025-02-28", "anna", Asked::Dispose(1), "Held 1"),
-];
-
-static AFTER_THE_RUN: [Row; 2] = [
-    ("2025-02-28", "anna", Asked::Dispose(1), "Held 2"),
-    (
-        "2025-02-28",
-        "anna",
-        Asked::Release(1),
-        "Released 2024-03-02",
+        "asks",
+        "2024-03-01 anna\n\
+         deposit maps y1 A-1 > deposit 1",
     ),
 ];
+
+const AFTER_THE_REQUEST: &str = "2024-03-02 anna\n\
+     holds 1 > holds: 1 on deposit placed 2024-03-02 for Case 7;\n\
+     list > list: 1\n\
+     2025-02-28 anna\n\
+     dispose 1 > Held 1";
+
+const AFTER_THE_RUN: &str = "2025-02-28 anna\n\
+     dispose 1 > Held 2\n\
+     release 1 > Released 2024-03-02";
 
 /// The office that is found in the files.
-fn found<D: Disk + Drop>(alloc: Global, files: Files<D>) -> Result<Office<FileStore<D>>, Fail> {
+fn found<D: Disk + Drop>(alloc: Global, files: Files<D>) -> Option<Office<FileStore<D>>> {
     if !files.may_be_used() {
-        Err("the files may be used")?;
+        return None;
     }
-    Ok(reopen(alloc, files, SMALL).ok_or("an office")?)
+    reopen(alloc, files, SMALL)
 }
 
 /// Stops in a hold of deposit 1, and then in a run of a hold of its collection and a release of the
 /// first hold. After each the files show the office after it.
-fn stop_twice<D: Disk + Drop>(alloc: Global, files: Files<D>) -> Result<(), Fail> {
-    let day = Day::read("2024-03-02").ok_or("day")?;
-    let hold = Asked::HoldDeposit(1).request().ok_or("request")?;
-    let hold_all = Asked::HoldCollection("maps").request().ok_or("request")?;
-    let release = Asked::Release(1).request().ok_or("request")?;
-    let office = found(alloc, files)?;
-    let store = stop_in(alloc, office, day, "anna", &hold);
+fn stop_twice<D: Disk + Drop>(alloc: Global, files: Files<D>) -> Option<String> {
+    let day = Day::read("2024-03-02")?;
+    let hold = Asked::HoldDeposit(1).request()?;
+    let hold_all = Asked::HoldCollection("maps").request()?;
+    let release = Asked::Release(1).request()?;
+    let store = stop_in(alloc, found(alloc, files)?, day, "anna", &hold);
     let mut office = found(alloc, store.close())?;
-    take(alloc, &mut office, Way::Steps, &AFTER_THE_REQUEST)?;
+    let differs = put(alloc, &mut office, Way::Steps, AFTER_THE_REQUEST)?;
+    if !differs.is_empty() {
+        return Some(differs);
+    }
     let items = [(day, "anna", hold_all), (day, "anna", release)];
     let store = stop_in_run(alloc, office, &items);
     let mut office = found(alloc, store.close())?;
-    take(alloc, &mut office, Way::Steps, &AFTER_THE_RUN)
+    put(alloc, &mut office, Way::Steps, AFTER_THE_RUN)
 }
 
 #[test]
 fn a_stop_leaves_the_office_after_its_last_request(rt: HostRuntime) -> Result<(), Fail> {
-    let files = take_in_files(
-        rt.alloc(),
-        room_for(1_000_000)?,
-        Way::Steps,
-        &[Part::Rows(&BEFORE)],
-    )?;
-    stop_twice(rt.alloc(), files)
+    let files = in_files(rt.alloc(), Way::Steps, &BEFORE)?;
+    agree(stop_twice(rt.alloc(), files))
 }

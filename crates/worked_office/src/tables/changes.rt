@@ -1,5 +1,6 @@
-//! Changes of the rows, as values that a table can hold.
+//! Changes of the rows, in words.
 
+use crate::words::{number, word};
 use office_tables::{
     CallerRow, HoldTarget, NewDeposit, RuleRow, TableFault, drop_files, end_hold, mark_gone,
     put_class, put_collection, put_deposit, put_file, put_hold, put_policy,
@@ -7,53 +8,29 @@ use office_tables::{
 use sqlite::{Alter, Transaction};
 use std::alloc::{AllocError, Global};
 
-/// A caller: a name and a role.
-pub type Caller<'a> = (&'a str, &'a str);
-
-/// A rule: its place and effect, and its role, action, collection and class.
-pub type Rule<'a> = (i64, i64, &'a str, &'a str, &'a str, &'a str);
-
-/// A change. Deposits and holds are named by their numbers.
-#[derive(Clone, Copy)]
-pub enum Change<'a> {
-    /// These callers and rules in the place of those before.
-    Policy(&'a [Caller<'a>], &'a [Rule<'a>]),
-    /// A class and its years.
-    Class(&'a str, i64),
-    Collection(&'a str),
-    /// A deposit of two files and 300 bytes, closed on day 10 and deposited on day 11, with its
-    /// accession, collection and class.
-    Deposit(u32, &'a str, &'a str, &'a str),
-    /// A deposit is gone on that day.
-    Gone(u32, i64),
-    /// A file of a deposit, with its path and its content.
-    File(u32, &'a str, &'a [u8]),
-    /// The files of a deposit are dropped.
-    DropFiles(u32),
-    /// A hold of day 100, with what it is on and its matter.
-    Hold(u32, HoldTarget<'a>, &'a str),
-    /// A hold ends on that day.
-    EndHold(u32, i64),
-}
-
-/// Makes the change.
+/// Makes the change: deposits and holds are named by their numbers. A deposit has two files and 300
+/// bytes, was closed on day 10 and deposited on day 11; a hold is of day 100. Fails with `Memory` where
+/// there is no such change.
 pub fn make<S: Alter>(
     alloc: Global,
     tx: &mut Transaction<'_, S>,
-    change: Change<'_>,
+    change: &str,
 ) -> Result<(), TableFault> {
-    match change {
-        Change::Policy(callers, rules) => {
-            put_policy(tx, &callers_of(alloc, callers)?, &rules_of(alloc, rules)?)
-        }
-        Change::Class(name, years) => put_class(tx, name, years),
-        Change::Collection(name) => put_collection(tx, name),
-        Change::Deposit(number, accession, collection, class) => {
+    let words: Vec<&str> = change.split('|').collect(alloc)?;
+    let name = word(&words, 1);
+    let of = number(&words, 1);
+    let second = word(&words, 2);
+    let third = word(&words, 3);
+    match word(&words, 0) {
+        "policy" => put_policy(tx, &callers_of(alloc, name)?, &rules_of(alloc, second)?),
+        "class" => put_class(tx, name, second.parse().unwrap_or(0)),
+        "collection" => put_collection(tx, name),
+        "deposit" => {
             let deposit = NewDeposit {
-                number,
-                accession,
-                collection,
-                class,
+                number: of,
+                accession: second,
+                collection: third,
+                class: word(&words, 4),
                 closed: 10,
                 deposited: 11,
                 files: 2,
@@ -61,17 +38,24 @@ pub fn make<S: Alter>(
             };
             put_deposit(tx, deposit)
         }
-        Change::Gone(number, day) => mark_gone(tx, number, day),
-        Change::File(number, path, content) => put_file(tx, number, path, content),
-        Change::DropFiles(number) => drop_files(tx, number),
-        Change::Hold(number, target, matter) => put_hold(tx, number, target, matter, 100),
-        Change::EndHold(number, day) => end_hold(tx, number, day),
+        "gone" => mark_gone(tx, of, i64::from(number(&words, 2))),
+        "file" => put_file(tx, of, second, third.as_bytes()),
+        "drop files" => drop_files(tx, of),
+        "hold on deposit" => {
+            let target = HoldTarget::Deposit(number(&words, 2));
+            put_hold(tx, of, target, third, 100)
+        }
+        "hold on collection" => put_hold(tx, of, HoldTarget::Collection(second), third, 100),
+        "end hold" => end_hold(tx, of, i64::from(number(&words, 2))),
+        _ => Err(TableFault::Memory),
     }
 }
 
-fn callers_of(alloc: Global, callers: &[Caller<'_>]) -> Result<Vec<CallerRow>, AllocError> {
+/// Callers, parted by `,`: each has a name and a role.
+fn callers_of(alloc: Global, callers: &str) -> Result<Vec<CallerRow>, AllocError> {
     let mut rows = Vec::new(alloc);
-    for (name, role) in callers {
+    for caller in callers.split(',') {
+        let (name, role) = caller.split_once(' ').unwrap_or((caller, ""));
         rows.push(CallerRow {
             name: String::from_str(alloc, name)?,
             role: String::from_str(alloc, role)?,
@@ -80,17 +64,24 @@ fn callers_of(alloc: Global, callers: &[Caller<'_>]) -> Result<Vec<CallerRow>, A
     Ok(rows)
 }
 
-fn rules_of(alloc: Global, rules: &[Rule<'_>]) -> Result<Vec<RuleRow>, AllocError> {
+/// Rules, parted by `,`.
+fn rules_of(alloc: Global, rules: &str) -> Result<Vec<RuleRow>, AllocError> {
     let mut rows = Vec::new(alloc);
-    for (place, effect, role, action, collection, class) in rules {
-        rows.push(RuleRow {
-            place: *place,
-            effect: *effect,
-            role: String::from_str(alloc, role)?,
-            action: String::from_str(alloc, action)?,
-            collection: String::from_str(alloc, collection)?,
-            class: String::from_str(alloc, class)?,
-        })?;
+    for rule in rules.split(',') {
+        let words: Vec<&str> = rule.split(' ').collect(alloc)?;
+        rows.push(rule_of(alloc, &words)?)?;
     }
     Ok(rows)
+}
+
+/// A rule: its place and its effect, a role, an action, a collection and a class.
+fn rule_of(alloc: Global, words: &[&str]) -> Result<RuleRow, AllocError> {
+    Ok(RuleRow {
+        place: i64::from(number(words, 0)),
+        effect: i64::from(number(words, 1)),
+        role: String::from_str(alloc, word(words, 2))?,
+        action: String::from_str(alloc, word(words, 3))?,
+        collection: String::from_str(alloc, word(words, 4))?,
+        class: String::from_str(alloc, word(words, 5))?,
+    })
 }

@@ -1,85 +1,110 @@
-//! Steps over one connection, and the answer to each.
+//! Steps over one connection, in words, and the answer to each.
 
 ghost use Rattle.sqlite.specs.Held.{state};
 ghost use Rattle.std.specs.Prelude.{◌≡◌, false};
 
-use crate::tables::answers::{Read, answer};
-use crate::tables::changes::{Change, make};
+use crate::tables::answers::{answer, told};
+use crate::tables::changes::make;
+use crate::tables::sizes::{find, put};
 use office_tables::{TableFault, create, open_tables};
 use sqlite::{Alter, Connection};
 use std::alloc::Global;
-use std::test::Fail;
 use worked_sessions::{held, shown};
 
-/// A step of a session.
-#[derive(Clone, Copy)]
-pub enum Step<'a> {
-    /// Makes an office that may have 10 deposits and 20 holds.
-    Create,
-    /// Asks whether the database is an office.
-    Open,
-    /// Runs SQL of the test's own.
-    Run(&'a str),
-    /// A change in a transaction, which is committed.
-    Do(Change<'a>),
-    /// Two changes in one transaction, which is committed where both are made.
-    Both(Change<'a>, Change<'a>),
-    Read(Read<'a>),
-    /// The rows that a query shows.
-    Show(&'a str),
-    /// What each table of an office holds.
-    Held,
+/// Takes the steps in turn: the first that is answered otherwise, with its answer, or no text.
+///
+/// A step is a line: words, which are parted by `|`, and its answer behind ` > `, if it isn't `()`.
+///
+/// | Step | What it does | What it answers |
+/// |---|---|---|
+/// | `create` | makes an office that may have 10 deposits and 20 holds | `()` |
+/// | `open` | asks whether the database is an office | `()` |
+/// | `run` | runs SQL | `()` |
+/// | `do` | changes, parted by `;`, in one transaction, which is committed where all are made; where they are refused, no row has changed | `()` |
+/// | `read` | a read | what is read, as `Debug` shows it |
+/// | `show` | a query | the rows that it shows, a `;` behind each |
+/// | `held` | | what each table of an office holds, likewise |
+/// | `put` | puts files of that name into deposit 1, in a transaction each | how many |
+/// | `find` | finds them, each and as they are listed | how many |
+///
+/// or the code of a fault.
+pub fn steps<S: Alter>(alloc: Global, conn: &mut Connection<S>, text: &str) -> Option<String> {
+    for line in text.lines() {
+        let (step, wanted) = line.split_once(" > ").unwrap_or((line, "()"));
+        let answer = said(alloc, conn, step)?;
+        if answer.as_str() != wanted {
+            return format!(in alloc; "{step}: {answer}").ok();
+        }
+    }
+    Some(String::new(alloc))
 }
 
-/// What the step answers: `done`, a fault, or what is read.
-pub fn said<S: Alter>(
+/// What the step answers.
+fn said<S: Alter>(alloc: Global, conn: &mut Connection<S>, step: &str) -> Option<String> {
+    let (word, rest) = step.split_once('|').unwrap_or((step, ""));
+    match word {
+        "show" => in_one_line(alloc, shown(alloc, conn, rest)?),
+        "held" => in_one_line(alloc, held(alloc, conn)?),
+        "do" => changed(alloc, conn, rest),
+        "put" => told(alloc, put(alloc, conn, rest)),
+        "find" => told(alloc, find(alloc, conn, rest)),
+        _ => opened(alloc, conn, word, rest),
+    }
+}
+
+/// What a step answers that asks of the whole database, or reads of it.
+fn opened<S: Alter>(
     alloc: Global,
     conn: &mut Connection<S>,
-    step: Step<'_>,
-) -> Result<String, Fail> {
+    word: &str,
+    rest: &str,
+) -> Option<String> {
     if !conn.is_autocommit() {
-        Err("a transaction is open")?;
+        return None;
     }
-    match step {
-        Step::Create => told(alloc, create(conn, 10, 20)),
-        Step::Open => told(alloc, open_tables(conn)),
-        Step::Run(sql) => told(alloc, conn.execute_batch(sql).map_err(TableFault::from)),
-        Step::Do(first) => told(alloc, done(alloc, conn, &[first])),
-        Step::Both(first, second) => told(alloc, done(alloc, conn, &[first, second])),
-        Step::Read(read) => {
+    match word {
+        "create" => told(alloc, create(conn, 10, 20)),
+        "open" => told(alloc, open_tables(conn)),
+        "run" => told(alloc, conn.execute_batch(rest).map_err(TableFault::from)),
+        "read" => {
             let mut tx = conn.transaction();
-            read_text(alloc, answer(alloc, &mut tx, read))
+            answer(alloc, &mut tx, rest)
         }
-        Step::Show(sql) => Ok(shown(alloc, conn, sql).ok_or("no rows are shown")?),
-        Step::Held => Ok(held(alloc, conn).ok_or("no rows are shown")?),
+        _ => None,
     }
+}
+
+/// The lines of a text, with a `;` behind each.
+fn in_one_line(alloc: Global, text: String) -> Option<String> {
+    let mut line = String::new(alloc);
+    for part in text.as_str().lines() {
+        line.push_str(part).ok()?;
+        line.push_str(";").ok()?;
+    }
+    Some(line)
+}
+
+/// What the changes answer: that a row has changed, where they are refused and one has.
+fn changed<S: Alter>(alloc: Global, conn: &mut Connection<S>, changes: &str) -> Option<String> {
+    let before = held(alloc, conn).unwrap_or(String::new(alloc));
+    if !conn.is_autocommit() {
+        return None;
+    }
+    let answer = done(alloc, conn, changes);
+    let after = held(alloc, conn).unwrap_or(String::new(alloc));
+    if answer.is_err() && before.as_str() != after.as_str() {
+        return String::from_str(alloc, "a row has changed").ok();
+    }
+    told(alloc, answer)
 }
 
 /// Makes the changes in one transaction and commits it; rolls back where one is refused.
-fn done<S: Alter>(
-    alloc: Global,
-    conn: &mut Connection<S>,
-    changes: &[Change<'_>],
-) -> Result<(), TableFault>
+fn done<S: Alter>(alloc: Global, conn: &mut Connection<S>, changes: &str) -> Result<(), TableFault>
     requires { (state S.Store conn.old).in_transaction ≡ false }
 {
     let mut tx = conn.transaction();
-    for change in changes {
-        make(alloc, &mut tx, *change)?;
+    for change in changes.split(';') {
+        make(alloc, &mut tx, change)?;
     }
     Ok(tx.commit()?)
-}
-
-fn told(alloc: Global, answer: Result<(), TableFault>) -> Result<String, Fail> {
-    match answer {
-        Ok(()) => Ok(String::from_str(alloc, "done")?),
-        Err(fault) => Ok(format!(in alloc; "{fault:?}")?),
-    }
-}
-
-fn read_text(alloc: Global, answer: Result<String, TableFault>) -> Result<String, Fail> {
-    match answer {
-        Ok(text) => Ok(text),
-        Err(fault) => Ok(format!(in alloc; "{fault:?}")?),
-    }
 }

@@ -1,41 +1,38 @@
 //! A stop of both files at any of their calls, while an office is made and the files are closed.
 
-use crate::files::{Disks, copied, empty, has_stopped, lose};
-use crate::tables::answers::Read;
-use crate::tables::sessions::{Row, take, take_over};
-use crate::tables::steps::Step;
+use crate::files::{Disks, NOT_CLOSED, copied, empty, has_stopped, lose};
+use crate::offices::Way;
+use crate::parts::agree;
+use crate::stores::take_over;
 use std::alloc::Global;
 use std::test::*;
 
-static MADE: [Row; 1] = [(Step::Create, "done")];
-
-static OPENED: [Row; 1] = [(Step::Open, "done")];
-
-/// The eight tables of an office, and its indexes, those that keys make too.
-const OBJECTS: &str =
-    "table|office\ntable|caller\nindex|sqlite_autoindex_caller_1\ntable|rule\ntable|class\nindex|sqlite_autoindex_class_1\ntable|collection\nindex|sqlite_autoindex_collection_1\ntable|deposit\nindex|sqlite_autoindex_deposit_1\ntable|file\nindex|sqlite_autoindex_file_1\ntable|hold\nindex|hold_deposit\nindex|hold_collection\n";
-
-/// The whole empty office.
-static WHOLE: [Row; 4] = [
-    (Step::Open, "done"),
-    (Step::Read(Read::Limits), "10 20"),
-    (Step::Held, "1|1|10|20\n--\n--\n--\n--\n--\n--\n--\n--\n"),
-    (Step::Show("SELECT type, name FROM sqlite_schema"), OBJECTS),
-];
+/// The whole empty office: the eight tables of an office, and its indexes, those that keys make too.
+const WHOLE: &str = "open\n\
+     read|limits > OfficeLimits { max_deposits: 10, max_holds: 20 }\n\
+     held > 1|1|10|20;--;--;--;--;--;--;--;--;\n\
+     show|SELECT type, name FROM sqlite_schema > table|office;table|caller;\
+     index|sqlite_autoindex_caller_1;table|rule;table|class;index|sqlite_autoindex_class_1;\
+     table|collection;index|sqlite_autoindex_collection_1;table|deposit;\
+     index|sqlite_autoindex_deposit_1;table|file;index|sqlite_autoindex_file_1;table|hold;\
+     index|hold_deposit;index|hold_collection;";
 
 /// An empty database.
-static EMPTY: [Row; 2] = [
-    (Step::Open, "NotAnOffice"),
-    (Step::Show("SELECT name FROM sqlite_schema"), ""),
-];
+const EMPTY: &str = "open > Q1\n\
+     show|SELECT name FROM sqlite_schema > ";
+
+/// What the steps answer over the files, which are handed back.
+fn answer(alloc: Global, files: Disks, steps: &'static str) -> (Option<String>, Disks) {
+    take_over(alloc, files, Way::Steps, ("steps", steps))
+}
 
 /// Whether the files hold an office, which is then the whole empty office; else they hold an empty
 /// database.
 fn hold_office(alloc: Global, files: Disks) -> Result<bool, Fail> {
-    let (differs, files) = take_over(alloc, files, &OPENED);
-    let is_office = differs?.is_empty();
-    let rows: &[Row<'_>] = if is_office { &WHOLE } else { &EMPTY };
-    take(alloc, files, rows)?;
+    let (opened, files) = answer(alloc, files, "open");
+    let is_office = opened.ok_or("no answer")?.is_empty();
+    let (differs, _) = answer(alloc, files, if is_office { WHOLE } else { EMPTY });
+    agree(differs)?;
     Ok(is_office)
 }
 
@@ -43,14 +40,14 @@ fn hold_office(alloc: Global, files: Disks) -> Result<bool, Fail> {
 /// and the database file have stopped. Fails where an office that was made is lost, with all that was
 /// written or with what was synced alone.
 fn stop(alloc: Global, log_calls: u64, db_calls: u64) -> Result<(bool, bool), Fail> {
-    let (differs, left) = take_over(alloc, empty(alloc, log_calls, db_calls), &MADE);
-    let is_made = differs?.is_empty();
-    let mut left = left;
+    let (made, mut left) = answer(alloc, empty(alloc, log_calls, db_calls), "create");
+    let made = made.ok_or("no answer")?;
+    let is_made = made.is_empty() || made.as_str() == NOT_CLOSED;
     let stopped = (has_stopped(&mut left.log), has_stopped(&mut left.db));
     let is_written = hold_office(alloc, copied(alloc, &left)?)?;
     let is_synced = hold_office(alloc, lose(left))?;
     if is_made && !(is_written && is_synced) {
-        Err("an office that was made is lost")?;
+        return Err(Fail::new("an office that was made is lost"));
     }
     Ok(stopped)
 }
@@ -65,7 +62,7 @@ fn stops_of_database(alloc: Global, log_calls: u64) -> Result<(bool, u64), Fail>
             return Ok((log_stopped, db_calls));
         }
     }
-    Err("no run without a stop of the database file")?
+    Err(Fail::new("no run without a stop of the database file"))
 }
 
 /// Does so with the log stopped at its first call, then at its second, and so on, until it doesn't
@@ -80,7 +77,7 @@ fn stops(alloc: Global) -> Result<u64, Fail> {
         }
         count = count.saturating_add(1);
     }
-    Err("no run without a stop of the log")?
+    Err(Fail::new("no run without a stop of the log"))
 }
 
 #[test]

@@ -1,0 +1,477 @@
+//! Altered rows: what rests on a row that no accepted change writes is answered by `Store`, and by
+//! `Q4` where the due list is called for, and nothing changes. A call for the due list follows rows of
+//! which the last asks for it.
+
+use crate::parts::Part;
+
+/// Deposit 1 may be destroyed from 2025-02-28 on, of deposit 2 the rules deny it to `anna`, deposit 3
+/// is held by hold 1, deposit 4 was destroyed. Hold 2 is on a collection, hold 3 was released.
+pub static PREPARED: [Part; 2] = [
+    ("office", "1000000"),
+    (
+        "asks",
+        "2024-03-01 anna\n\
+         deposit maps y1 A-1 > deposit 1\n\
+         deposit tax y10 A-2 > deposit 2\n\
+         deposit maps y10 A-3 > deposit 3\n\
+         deposit maps y1 A-4 > deposit 4\n\
+         2024-03-02 anna\n\
+         hold 3 > hold 1\n\
+         hold-all tax > hold 2\n\
+         hold 4 > hold 3\n\
+         2024-03-05 anna\n\
+         release 3 > released 3 2024-03-05\n\
+         2025-02-28 anna\n\
+         dispose 4 > destroyed 4 2025-02-28",
+    ),
+];
+
+/// Nothing is altered that is asked for.
+pub static AS_BEFORE: [Part; 2] = [
+    ("alters", "UPDATE office SET max_holds = 999999"),
+    (
+        "asks",
+        "record 1 > record 1 A-1 maps y1 closed 2024-02-29 deposited 2024-03-01 due 2025-02-28 \
+         files 1 bytes 3\n\
+         record 2 > record 2 A-2 tax y10 closed 2024-02-29 deposited 2024-03-01 due 2034-02-28 \
+         files 1 bytes 3\n\
+         record 3 > record 3 A-3 maps y10 closed 2024-02-29 deposited 2024-03-01 due 2034-02-28 \
+         files 1 bytes 3\n\
+         record 4 > Gone 2025-02-28\n\
+         bag 1 > whole\n\
+         audit 1 > audit 1 valid 1.0 files 1 bytes 3 manifests 1\n\
+         list > list: 1 2 3\n\
+         2030-01-01 carl\n\
+         list > list: 2 3\n\
+         2030-01-01 anna\n\
+         holds 3 > holds: 1 on deposit placed 2024-03-02 for Case 7;\n\
+         holds 1 > holds:\n\
+         2040-01-01 anna\n\
+         dispose 3 > Held 1\n\
+         due > due on 2040-01-01: 1",
+    ),
+];
+
+/// The bytes of the file `data/a` of deposit 1 are others; the file is missing; there is one more,
+/// whose path is none, or lies below another.
+pub static FILES: [Part; 7] = [
+    (
+        "",
+        "UPDATE file SET content = x'616264' WHERE deposit = 1 AND path = 'data/a'\n\
+         UPDATE file SET content = x'616263' WHERE deposit = 1 AND path = 'data/a'\n\
+         audit 1 > audit 1 invalid B17 manifest-sha256.txt data/a\n\
+         file 1 data/a > file abd\n\
+         bag 1 > other bytes\n\
+         record 1 > record 1 A-1 maps y1 closed 2024-02-29 deposited 2024-03-01 due 2025-02-28 \
+         files 1 bytes 3\n\
+         audit 2 > audit 2 valid 1.0 files 1 bytes 3 manifests 1\n\
+         bag 2 > whole",
+    ),
+    (
+        "",
+        "DELETE FROM file WHERE deposit = 1 AND path = 'data/a'\n\
+         INSERT INTO file (deposit, path, content) VALUES (1, 'data/a', x'616263')\n\
+         audit 1 > audit 1 invalid B11 manifest-sha256.txt data/a\n\
+         file 1 data/a > NoFile\n\
+         audit 2 > audit 2 valid 1.0 files 1 bytes 3 manifests 1",
+    ),
+    (
+        "",
+        "DELETE FROM file WHERE deposit = 1\n\
+         INSERT INTO file (deposit, path, content) SELECT 1, path, content FROM file WHERE \
+         deposit = 2\n\
+         audit 1 > audit 1 invalid B1\n\
+         bag 1 > none\n\
+         bag 2 > whole",
+    ),
+    (
+        "",
+        "INSERT INTO file (deposit, path, content) VALUES (1, 'data/../x', x'616263')\n\
+         DELETE FROM file WHERE path = 'data/../x'\n\
+         audit 1 > audit 1 invalid S5 1\n\
+         bag 1 > Store\n\
+         file 1 data/a > file abc\n\
+         record 1 > record 1 A-1 maps y1 closed 2024-02-29 deposited 2024-03-01 due 2025-02-28 \
+         files 1 bytes 3\n\
+         bag 2 > whole\n\
+         2030-01-01 carl\n\
+         bag 1 > Denied default",
+    ),
+    (
+        "",
+        "INSERT INTO file (deposit, path, content) VALUES (1, 'data/a/b', x'')\n\
+         DELETE FROM file WHERE path = 'data/a/b'\n\
+         audit 1 > audit 1 invalid S8\n\
+         bag 1 > Store\n\
+         bag 2 > whole",
+    ),
+    (
+        "",
+        "INSERT INTO file (deposit, path, content) VALUES (4, 'data/a', x'616263')\n\
+         DELETE FROM file WHERE deposit = 4\n\
+         audit 4 > Gone 2025-02-28\n\
+         bag 4 > Gone 2025-02-28\n\
+         file 4 data/a > Gone 2025-02-28",
+    ),
+    (
+        "",
+        "INSERT INTO file (deposit, path, content) VALUES (5, 'data/a', x'616263')\n\
+         DELETE FROM file WHERE deposit = 5\n\
+         audit 5 > NoSuch deposit\n\
+         audit 1 > audit 1 valid 1.0 files 1 bytes 3 manifests 1",
+    ),
+];
+
+/// The years of the class of deposits 1 and 4 are none. The class is read with the deposit, before the
+/// rules.
+pub static CLASSES: [Part; 4] = [
+    (
+        "",
+        "UPDATE class SET years = 300 WHERE name = 'y1'\n\
+         UPDATE class SET years = 1 WHERE name = 'y1'\n\
+         record 1 > Store\n\
+         list > Store\n\
+         list-of maps > Store\n\
+         dispose 1 > Store\n\
+         record 2 > record 2 A-2 tax y10 closed 2024-02-29 deposited 2024-03-01 due 2034-02-28 \
+         files 1 bytes 3\n\
+         list-of tax > list: 2\n\
+         2030-01-01 carl\n\
+         list > list: 2 3\n\
+         2030-01-01 anna\n\
+         bag 1 > whole\n\
+         audit 1 > audit 1 valid 1.0 files 1 bytes 3 manifests 1\n\
+         holds 1 > holds:\n\
+         record 4 > Gone 2025-02-28\n\
+         2030-01-01 carl\n\
+         record 1 > Denied default\n\
+         dispose 1 > Store\n\
+         2040-01-01 anna\n\
+         dispose 3 > Held 1\n\
+         2030-01-01 anna\n\
+         due > Store",
+    ),
+    (
+        "",
+        "UPDATE class SET years = 201 WHERE name = 'y1'\n\
+         UPDATE class SET years = 1 WHERE name = 'y1'\n\
+         record 1 > Store\n\
+         due > Store",
+    ),
+    (
+        "",
+        "UPDATE class SET years = -2 WHERE name = 'y1'\n\
+         UPDATE class SET years = 1 WHERE name = 'y1'\n\
+         dispose 1 > Store\n\
+         due > Store",
+    ),
+    (
+        "",
+        "INSERT INTO class (name, years) VALUES ('z', 300)\n\
+         DELETE FROM class WHERE name = 'z'\n\
+         record 1 > record 1 A-1 maps y1 closed 2024-02-29 deposited 2024-03-01 due 2025-02-28 \
+         files 1 bytes 3\n\
+         list > list: 1 2 3\n\
+         due > due on 2030-01-01: 1",
+    ),
+];
+
+/// Days that are none, of deposit 1 as it was closed and deposited, of deposit 4 as it was destroyed;
+/// counts and an accession that no deposit has. Day 2859849 would be 9800-01-01 and day -25568
+/// 1899-12-31; day 19782 is 2024-02-29, 19783 the next, 20147 2025-02-28.
+pub static DEPOSITS: [Part; 9] = [
+    (
+        "",
+        "UPDATE deposit SET closed = 2859849 WHERE number = 1\n\
+         UPDATE deposit SET closed = 19782 WHERE number = 1\n\
+         record 1 > Store\n\
+         list > Store\n\
+         dispose 1 > Store\n\
+         record 2 > record 2 A-2 tax y10 closed 2024-02-29 deposited 2024-03-01 due 2034-02-28 \
+         files 1 bytes 3\n\
+         list-of tax > list: 2\n\
+         2030-01-01 carl\n\
+         list > list: 2 3\n\
+         record 1 > Denied default\n\
+         2040-01-01 anna\n\
+         dispose 3 > Held 1\n\
+         2030-01-01 anna\n\
+         due > Store",
+    ),
+    (
+        "",
+        "UPDATE deposit SET closed = -25568 WHERE number = 1\n\
+         UPDATE deposit SET closed = 19782 WHERE number = 1\n\
+         record 1 > Store\n\
+         due > Store",
+    ),
+    (
+        "",
+        "UPDATE deposit SET closed = 4294987078 WHERE number = 1\n\
+         UPDATE deposit SET closed = 19782 WHERE number = 1\n\
+         record 1 > Store\n\
+         dispose 1 > Store",
+    ),
+    (
+        "",
+        "UPDATE deposit SET deposited = 2859849 WHERE number = 1\n\
+         UPDATE deposit SET deposited = 19783 WHERE number = 1\n\
+         record 1 > Store\n\
+         list-of maps > Store\n\
+         record 3 > record 3 A-3 maps y10 closed 2024-02-29 deposited 2024-03-01 due 2034-02-28 \
+         files 1 bytes 3\n\
+         list-of tax > list: 2",
+    ),
+    (
+        "",
+        "UPDATE deposit SET gone = 2859849 WHERE number = 4\n\
+         UPDATE deposit SET gone = 20147 WHERE number = 4\n\
+         record 4 > Store\n\
+         holds 4 > Store\n\
+         bag 4 > Store\n\
+         file 4 data/a > Store\n\
+         audit 4 > Store\n\
+         hold 4 > Store\n\
+         dispose 4 > Store\n\
+         record 1 > record 1 A-1 maps y1 closed 2024-02-29 deposited 2024-03-01 due 2025-02-28 \
+         files 1 bytes 3\n\
+         release 3 > Released 2024-03-05",
+    ),
+    (
+        "",
+        "UPDATE deposit SET gone = -25568 WHERE number = 4\n\
+         UPDATE deposit SET gone = 20147 WHERE number = 4\n\
+         record 4 > Store",
+    ),
+    (
+        "",
+        "UPDATE deposit SET files = -1 WHERE number = 1\n\
+         UPDATE deposit SET files = 1 WHERE number = 1\n\
+         record 1 > Store\n\
+         record 2 > record 2 A-2 tax y10 closed 2024-02-29 deposited 2024-03-01 due 2034-02-28 \
+         files 1 bytes 3",
+    ),
+    (
+        "",
+        "UPDATE deposit SET bytes = -1 WHERE number = 1\n\
+         UPDATE deposit SET bytes = 3 WHERE number = 1\n\
+         list > Store\n\
+         2030-01-01 carl\n\
+         list > list: 2 3",
+    ),
+    (
+        "",
+        "UPDATE deposit SET accession = 'A 1' WHERE number = 1\n\
+         UPDATE deposit SET accession = 'A-1' WHERE number = 1\n\
+         record 1 > Store\n\
+         record 2 > record 2 A-2 tax y10 closed 2024-02-29 deposited 2024-03-01 due 2034-02-28 \
+         files 1 bytes 3",
+    ),
+];
+
+/// Rules that neither allow nor deny.
+pub static RULES: [Part; 4] = [
+    (
+        "",
+        "UPDATE rule SET effect = 2 WHERE place = 2\n\
+         UPDATE rule SET effect = 1 WHERE place = 2\n\
+         record 1 > Store\n\
+         class y1 2 > Store\n\
+         collection seals > Store\n\
+         deposit maps y1 A-1 > Store\n\
+         hold-all maps > Store\n\
+         release 1 > Store\n\
+         dispose 1 > Store\n\
+         bag 1 > Store\n\
+         audit 1 > Store\n\
+         list > Store\n\
+         dispose 2 > Denied rule 1\n\
+         record 9 > NoSuch deposit\n\
+         2030-01-01 carl\n\
+         list > list: 2 3\n\
+         2030-01-01 eve\n\
+         record 1 > Denied default\n\
+         2030-01-01 anna\n\
+         due > Store",
+    ),
+    (
+        "",
+        "UPDATE rule SET effect = -1 WHERE place = 1\n\
+         UPDATE rule SET effect = 0 WHERE place = 1\n\
+         dispose 2 > Store\n\
+         record 2 > record 2 A-2 tax y10 closed 2024-02-29 deposited 2024-03-01 due 2034-02-28 \
+         files 1 bytes 3\n\
+         2024-03-05 anna\n\
+         dispose 1 > NotDue 2025-02-28\n\
+         2030-01-01 anna\n\
+         due > Store",
+    ),
+    (
+        "",
+        "UPDATE rule SET effect = 2 WHERE place = 3\n\
+         UPDATE rule SET effect = 1 WHERE place = 3\n\
+         2030-01-01 carl\n\
+         list > Store\n\
+         record 2 > Denied default\n\
+         2030-01-01 anna\n\
+         list > list: 1 2 3\n\
+         due > due on 2030-01-01: 1",
+    ),
+    (
+        "",
+        "INSERT INTO rule (place, effect, role, action, collection, class) VALUES (4, 2, '*', \
+         '*', '*', '*')\n\
+         DELETE FROM rule WHERE place = 4\n\
+         2030-01-01 eve\n\
+         record 1 > Store\n\
+         list > Store\n\
+         2030-01-01 carl\n\
+         record 2 > Store\n\
+         2030-01-01 anna\n\
+         record 1 > record 1 A-1 maps y1 closed 2024-02-29 deposited 2024-03-01 due 2025-02-28 \
+         files 1 bytes 3",
+    ),
+];
+
+/// A hold names nothing, two things, or what isn't there; its days, its matter and its number are
+/// none. Of a hold whose number alone is told, the row isn't read.
+pub static HOLDS: [Part; 8] = [
+    (
+        "",
+        "UPDATE hold SET deposit = NULL WHERE number = 1\n\
+         UPDATE hold SET deposit = 3 WHERE number = 1\n\
+         release 1 > Store\n\
+         release 3 > Released 2024-03-05\n\
+         holds 2 > holds: 2 on collection placed 2024-03-02 for Case 7;\n\
+         record 3 > record 3 A-3 maps y10 closed 2024-02-29 deposited 2024-03-01 due 2034-02-28 \
+         files 1 bytes 3\n\
+         due > due on 2030-01-01: 1",
+    ),
+    (
+        "",
+        "UPDATE hold SET collection = 'tax' WHERE number = 1\n\
+         UPDATE hold SET collection = NULL WHERE number = 1\n\
+         release 1 > Store\n\
+         holds 3 > Store\n\
+         holds 2 > Store\n\
+         holds 1 > holds:\n\
+         record 3 > record 3 A-3 maps y10 closed 2024-02-29 deposited 2024-03-01 due 2034-02-28 \
+         files 1 bytes 3\n\
+         2040-01-01 anna\n\
+         dispose 3 > Held 1\n\
+         due > due on 2040-01-01: 1",
+    ),
+    (
+        "",
+        "UPDATE hold SET deposit = 99 WHERE number = 1\n\
+         UPDATE hold SET deposit = 3 WHERE number = 1\n\
+         release 1 > Store\n\
+         holds 99 > NoSuch deposit\n\
+         holds 2 > holds: 2 on collection placed 2024-03-02 for Case 7;",
+    ),
+    (
+        "",
+        "UPDATE hold SET collection = 'seals' WHERE number = 2\n\
+         UPDATE hold SET collection = 'tax' WHERE number = 2\n\
+         release 2 > Store\n\
+         holds 2 > holds:",
+    ),
+    (
+        "",
+        "UPDATE hold SET placed = 2859849 WHERE number = 1\n\
+         UPDATE hold SET placed = 19784 WHERE number = 1\n\
+         holds 3 > Store\n\
+         holds 1 > holds:\n\
+         bag 3 > whole",
+    ),
+    (
+        "",
+        "UPDATE hold SET released = 2859849 WHERE number = 3\n\
+         UPDATE hold SET released = 19787 WHERE number = 3\n\
+         release 3 > Store\n\
+         2030-01-01 carl\n\
+         release 2 > Denied default",
+    ),
+    (
+        "",
+        "UPDATE hold SET matter = '' WHERE number = 1\n\
+         UPDATE hold SET matter = 'Case 7' WHERE number = 1\n\
+         holds 3 > Store\n\
+         2040-01-01 anna\n\
+         due > due on 2040-01-01: 1",
+    ),
+    (
+        "",
+        "UPDATE hold SET number = -1 WHERE number = 1\n\
+         UPDATE hold SET number = 1 WHERE number = -1\n\
+         holds 3 > Store\n\
+         2040-01-01 anna\n\
+         dispose 3 > Store\n\
+         2030-01-01 anna\n\
+         release 1 > NoSuch hold\n\
+         holds 1 > holds:\n\
+         2040-01-01 anna\n\
+         due > Store",
+    ),
+];
+
+/// A bag is served as deposited beside an altered one: the other deposit has the same files.
+pub static BESIDE: [Part; 4] = [
+    ("office", "1000000"),
+    (
+        "asks",
+        "2024-03-01 anna\n\
+         deposit maps y1 A-1 > deposit 1",
+    ),
+    (
+        "alters",
+        "UPDATE file SET content = x'616264' WHERE deposit = 1 AND path = 'data/a'",
+    ),
+    (
+        "asks",
+        "2024-03-01 anna\n\
+         deposit maps y10 A-3 > deposit 2\n\
+         bag 2 > whole\n\
+         audit 1 > audit 1 invalid B17 manifest-sha256.txt data/a",
+    ),
+];
+
+/// Which databases are taken for an office: none that is empty, has no row of an office, has one of
+/// another version, or limits that no office has. Nothing is lost of what the office held.
+pub static OPENINGS: [Part; 9] = [
+    ("refused", "Q1"),
+    ("office", "1000000"),
+    (
+        "Q1",
+        "DELETE FROM office\n\
+         INSERT INTO office (id, version, max_deposits, max_holds) VALUES (1, 1, 1000000, \
+         1000000)",
+    ),
+    (
+        "Q2",
+        "UPDATE office SET version = 9\n\
+         UPDATE office SET version = 1",
+    ),
+    (
+        "Q2",
+        "UPDATE office SET version = 0\n\
+         UPDATE office SET version = 1",
+    ),
+    (
+        "Q1",
+        "UPDATE office SET max_deposits = 0\n\
+         UPDATE office SET max_deposits = 1000000",
+    ),
+    (
+        "Q1",
+        "UPDATE office SET max_holds = 1000001\n\
+         UPDATE office SET max_holds = 1000000",
+    ),
+    ("alters", "UPDATE class SET years = 2 WHERE name = 'y1'"),
+    (
+        "asks",
+        "2024-03-01 anna\n\
+         hold-all maps > hold 1\n\
+         hold-all seals > NoSuch collection",
+    ),
+];

@@ -1,0 +1,69 @@
+//! What is done between two openings of a database.
+
+use crate::altering::{altered, case};
+use crate::offices::{Way, asked, made};
+use crate::tables::steps::steps;
+use sqlite::{Alter, Connection};
+use std::alloc::Global;
+use std::test::Fail;
+
+/// A part of a session: its kind, and a text.
+///
+/// | Kind | Its text |
+/// |---|---|
+/// | `office` | how many deposits, and holds, the office may have that is made, and given the policy, the classes and the collections of `worked_sessions` |
+/// | `asks` | rows, which are put to the office |
+/// | `steps` | steps with the tables |
+/// | `alters` | SQL that alters rows of the office |
+/// | `refused` | the code of the fault where the database is not taken for an office |
+/// | another | SQL that alters rows, SQL that takes it back, and the rows that are asked in between, or none; the kind is what is told of them: the code of a fault, or no text |
+pub type Part = (&'static str, &'static str);
+
+/// No text where the texts are the same, else the first.
+fn but_for(alloc: Global, text: Option<String>, wanted: &str) -> Option<String> {
+    let text = text?;
+    if text.as_str() == wanted {
+        return Some(String::new(alloc));
+    }
+    Some(text)
+}
+
+/// Takes the part over the connection, which is handed back, with what is answered otherwise, or no
+/// text.
+pub fn taken<S: Alter + Drop>(
+    alloc: Global,
+    conn: Connection<S>,
+    way: Way,
+    part: Part,
+) -> (Option<String>, Connection<S>) {
+    let (kind, text) = part;
+    match kind {
+        "office" => made(alloc, conn, text),
+        "asks" => asked(alloc, conn, way, text),
+        "steps" => {
+            let mut conn = conn;
+            (steps(alloc, &mut conn, text), conn)
+        }
+        "alters" => {
+            let mut conn = conn;
+            (altered(alloc, &mut conn, text), conn)
+        }
+        "refused" => {
+            let (told, conn) = asked(alloc, conn, way, "");
+            (but_for(alloc, told, text), conn)
+        }
+        _ => {
+            let (told, conn) = case(alloc, conn, text);
+            (but_for(alloc, told, kind), conn)
+        }
+    }
+}
+
+/// Fails where something was answered otherwise.
+pub fn agree(differs: Option<String>) -> Result<(), Fail> {
+    match differs {
+        None => Err(Fail::new("no answer")),
+        Some(text) if text.is_empty() => Ok(()),
+        Some(text) => Err(Fail::new(text)),
+    }
+}

@@ -1,0 +1,99 @@
+//! Rows of a session, in words.
+
+use crate::words::{number, word};
+use std::alloc::Global;
+use worked_sessions::{Asked, BAG, BAG_0_97, PERCENT, Row};
+
+/// The answer to a download of the bag `BAG`.
+const WHOLE: &str =
+    "bag BAGSET 1\nFILE 9 54\nbagit.txtBagIt-Version: 1.0\nTag-File-Character-Encoding: UTF-8\n\nFILE 6 3\ndata/aabc\nFILE 19 73\nmanifest-sha256.txtba7816bf8f01cfea414140de5dae2223b00361a396177a9cb410ff61f20015ad  data/a\n\nEND\n";
+
+/// The same, where the bytes of `data/a` are `abd`.
+const OTHER_BYTES: &str =
+    "bag BAGSET 1\nFILE 9 54\nbagit.txtBagIt-Version: 1.0\nTag-File-Character-Encoding: UTF-8\n\nFILE 6 3\ndata/aabd\nFILE 19 73\nmanifest-sha256.txtba7816bf8f01cfea414140de5dae2223b00361a396177a9cb410ff61f20015ad  data/a\n\nEND\n";
+
+/// The answer to a download of the bag `BAG_0_97`.
+const WHOLE_0_97: &str =
+    "bag BAGSET 1\nFILE 9 55\nbagit.txtBagIt-Version: 0.97\nTag-File-Character-Encoding: UTF-8\n\nFILE 6 3\ndata/aabc\nFILE 19 73\nmanifest-sha256.txtba7816bf8f01cfea414140de5dae2223b00361a396177a9cb410ff61f20015ad  data/a\n\nEND\n";
+
+/// An answer, where a bag has one word.
+fn told(answer: &'static str) -> &'static str {
+    match answer {
+        "whole" => WHOLE,
+        "other bytes" => OTHER_BYTES,
+        "whole 0.97" => WHOLE_0_97,
+        "none" => "bag BAGSET 1\nEND\n",
+        _ => answer,
+    }
+}
+
+/// The bag of this name.
+fn bag(name: &str) -> &'static [u8] {
+    match name {
+        "percent" => PERCENT,
+        "0.97" => BAG_0_97,
+        "nothing" => b"",
+        _ => BAG,
+    }
+}
+
+/// The day on which the records of a deposit were closed.
+fn closed(day: &'static str) -> &'static str {
+    match day {
+        "" => "2024-02-29",
+        _ => day,
+    }
+}
+
+/// What the words ask. A deposit has its collection, class and accession, and may have the day on which
+/// it was closed and the name of its bag.
+fn asked(words: &[&'static str]) -> Option<Asked> {
+    let name = word(words, 1);
+    let of = number(words, 1);
+    let second = word(words, 2);
+    match word(words, 0) {
+        "class" => Some(Asked::Class(name, second.parse().ok()?)),
+        "keep" => Some(Asked::ForGood(name)),
+        "collection" => Some(Asked::Collection(name)),
+        "deposit" => Some(Asked::Deposit {
+            collection: name,
+            class: second,
+            accession: word(words, 3),
+            closed: closed(word(words, 4)),
+            bag: bag(word(words, 5)),
+        }),
+        "list" => Some(Asked::List),
+        "list-of" => Some(Asked::ListOf(name)),
+        "list-class" => Some(Asked::ListOfClass(name)),
+        "bag" => Some(Asked::Bag(of)),
+        "record" => Some(Asked::Record(of)),
+        "holds" => Some(Asked::Holds(of)),
+        "audit" => Some(Asked::Audit(of)),
+        "file" => Some(Asked::File(of, second)),
+        "hold" => Some(Asked::HoldDeposit(of)),
+        "hold-all" => Some(Asked::HoldCollection(name)),
+        "release" => Some(Asked::Release(of)),
+        "dispose" => Some(Asked::Dispose(of)),
+        "due" => Some(Asked::DueList),
+        _ => None,
+    }
+}
+
+/// The rows of a text: lines that say what is asked and what is told, as `record 9 > NoSuch deposit`,
+/// behind a line with the day and who asks. Those before any such line are asked by `anna` on
+/// 2030-01-01.
+pub fn rows(alloc: Global, text: &'static str) -> Option<Vec<Row>> {
+    let mut rows = Vec::new(alloc);
+    let mut when = ("2030-01-01", "anna");
+    for line in text.lines() {
+        match line.split_once(" > ") {
+            Some((asks, answer)) => {
+                let words: Vec<&'static str> = asks.split(' ').collect(alloc).ok()?;
+                rows.push((when.0, when.1, asked(&words)?, told(answer)))
+                    .ok()?;
+            }
+            None => when = line.split_once(' ')?,
+        }
+    }
+    Some(rows)
+}

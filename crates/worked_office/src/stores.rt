@@ -1,0 +1,73 @@
+//! Sessions over each store, and rows put to the plain office.
+
+use crate::files::{Disks, MANY, empty, take_once};
+use crate::offices::{Way, equip, limits, put};
+use crate::parts::{Part, agree, taken};
+use office_history::plain;
+use sqlite::Connection;
+use std::alloc::Global;
+use std::test::Fail;
+
+/// A plain office with the policy, the classes and the collections of `worked_sessions`.
+pub fn plain_office(alloc: Global, most: &str) -> Result<plain::Office, Fail> {
+    let mut office = plain::Office::create(alloc, limits(most).ok_or("limits")?);
+    agree(equip(alloc, &mut office))?;
+    Ok(office)
+}
+
+/// Puts the rows of the parts behind the first, which makes the office, to a plain office.
+fn in_plain(alloc: Global, way: Way, parts: &[Part]) -> Result<(), Fail> {
+    let (first, rest) = parts.split_first().ok_or("no part")?;
+    let mut office = plain_office(alloc, first.1)?;
+    for (_, text) in rest {
+        agree(put(alloc, &mut office, way, text))?;
+    }
+    Ok(())
+}
+
+/// Takes the parts over a database in memory.
+pub fn in_memory(alloc: Global, way: Way, parts: &[Part]) -> Result<(), Fail> {
+    let mut conn = Connection::open_in_memory(alloc)?;
+    for part in parts {
+        let (differs, left) = taken(alloc, conn, way, *part);
+        agree(differs)?;
+        conn = left;
+    }
+    Ok(())
+}
+
+/// Takes the part over the files, which are handed back, with what is answered otherwise, or no text.
+pub fn take_over(alloc: Global, files: Disks, way: Way, part: Part) -> (Option<String>, Disks) {
+    take_once(alloc, files, way, part)
+}
+
+/// Takes the parts over new files, which are closed and opened again between them.
+pub fn in_files(alloc: Global, way: Way, parts: &[Part]) -> Result<Disks, Fail> {
+    let mut files = empty(alloc, MANY, MANY);
+    for part in parts {
+        let (differs, left) = take_over(alloc, files, way, *part);
+        agree(differs)?;
+        files = left;
+    }
+    Ok(files)
+}
+
+/// Takes each session over new files and in a new database in memory.
+pub fn over_tables(alloc: Global, way: Way, sessions: &[&[Part]]) -> Result<(), Fail> {
+    for parts in sessions {
+        let _files = in_files(alloc, way, parts)?;
+        in_memory(alloc, way, parts)?;
+    }
+    Ok(())
+}
+
+/// Puts each session to each office, by steps and by runs.
+pub fn to_offices(alloc: Global, sessions: &[&[Part]]) -> Result<(), Fail> {
+    for way in [Way::Steps, Way::OneRun] {
+        for parts in sessions {
+            in_plain(alloc, way, parts)?;
+        }
+        over_tables(alloc, way, sessions)?;
+    }
+    Ok(())
+}
