@@ -110,13 +110,23 @@ pub record AsksToCheck (words : List Text) (name : Text) : Type 0 where
 abbrev pub command_in : List Text → Option App
 command_in words = option_and_then command_named (slice_get words 0)
 
--- what is said of them: all subcommands of the program
-abbrev pub uses_text : List ℕ
-uses_text =
+-- the lines of usage of all subcommands of the program
+abbrev pub usage_lines : List ℕ
+usage_lines =
     codes "Usage: depot check FILE" ++ 10 ∷ codes "       depot pack DIR FILE" ++ 10 ∷ codes "       depot unpack FILE DIR" ++ 10
     ∷ codes "       depot explain POLICY CALLER ACTION COLLECTION CLASS" ++ 10 ∷ codes "       depot policy STORE POLICY" ++ 10
     ∷ codes "       depot ask STORE DAY" ++ 10 ∷ codes "       depot replay [--policy POLICY] STORE" ++ 10
     ∷ codes "       depot serve --port P --count N STORE DAY" ++ 10 ∷ []
+
+-- what the program is for, and where more is said of a subcommand
+abbrev pub more_lines : List ℕ
+more_lines =
+    codes "Depot checks and keeps BagIt bags, serves them by a policy, and destroys them when due." ++ 10
+    ∷ codes "depot COMMAND --help says what each command takes." ++ 10 ∷ []
+
+-- what is said of such words: the lines of usage, and behind an empty line those
+abbrev pub uses_text : List ℕ
+uses_text = usage_lines ++ 10 ∷ more_lines
 
 -- ---- plain words
 

@@ -7,6 +7,11 @@ use Rattle.commands.specs.declared.ending.Ending.{Ending}
 use Rattle.commands.specs.declared.ending.Ending.TheVariants.{Unsaid}
 use Rattle.commands.specs.declared.program.Failure.{Failure}
 use Rattle.commands.specs.declared.program.Failure.TheVariants as failures
+use Rattle.bag_check.specs.FaultTexts.{printed_text}
+use Rattle.commands.specs.declared.trouble.Tried.{Tried}
+use Rattle.commands.specs.declared.trouble.Tried.TheVariants.{Form, Input, Policy, Output}
+use Rattle.commands.specs.declared.trouble.Trouble.{Trouble}
+use Rattle.commands.specs.declared.trouble.Trouble.TheVariants as troubles
 use Rattle.commands.specs.declared.use_fault.UseFault.{UseFault}
 use Rattle.commands.specs.declared.use_fault.UseFault.TheVariants as faults
 
@@ -20,9 +25,21 @@ abbrev pub failure_of : ErrorKind → Failure
 failure_of OutOfMemory = failures.Memory
 failure_of _ = failures.Device
 
+-- which of the two failed, where there is nothing to say
+abbrev pub failure_in : Trouble → Failure
+failure_in (troubles.Device error) = failures.Device
+failure_in troubles.Memory = failures.Memory
+
+-- what was tried, as a person is told it
+abbrev pub tried_text : Tried → List ℕ
+tried_text (Form file) = codes "read " ++ printed_text file.now
+tried_text (Policy file) = codes "read " ++ printed_text file.now
+tried_text Input = codes "read standard input"
+tried_text Output = codes "write standard output"
+
 -- what is said where the words could not be had: that one is no text, or the failure's line
 abbrev pub refusal_text : ErrorKind → List ℕ
-refusal_text InvalidData = codes "a word is not UTF-8" ++ 10 ∷ []
+refusal_text InvalidData = codes "a word is not UTF-8: give names of files and folders in UTF-8" ++ 10 ∷ []
 refusal_text kind = message_of (failure_of kind)
 
 abbrev pub use_fault_text : UseFault → List ℕ

@@ -3,7 +3,6 @@ use Rattle.std.specs.Prelude.{◌≡◌, ◌⊎◌, ℕ, List, Option, Some, Non
 use Rattle.std.specs.Io.KnownBytes.{Appends}
 use Rattle.commands.specs.Checking.{Says}
 use Rattle.commands.specs.Explaining.{Explains}
-use Rattle.commands.specs.declared.asking.Asked.{Asked}
 use Rattle.commands.specs.declared.ending.Ending.{Ending}
 use Rattle.commands.specs.declared.ending.Ending.TheVariants.{Failed, Unsaid}
 use Rattle.commands.specs.declared.outcome.Outcome.{Outcome}

@@ -30,6 +30,9 @@ const USES: &str = "Usage: depot check FILE
        depot ask STORE DAY
        depot replay [--policy POLICY] STORE
        depot serve --port P --count N STORE DAY
+
+Depot checks and keeps BagIt bags, serves them by a policy, and destroys them when due.
+depot COMMAND --help says what each command takes.
 ";
 
 /// `check`.

@@ -282,6 +282,8 @@ pub fn run<F: Files + AllocGlobal, R: Read, O: Write, E: Write>(
     }
 }
 
+const NOT_UTF8: &str = "a word is not UTF-8: give names of files and folders in UTF-8\n";
+
 /// The ending where the process's words could not be had: one of them is no text, or memory ran
 /// out.
 pub fn refuse_words<E: Write>(error: &Error, err: &mut E) -> Ending
@@ -296,8 +298,7 @@ pub fn refuse_words<E: Write>(error: &Error, err: &mut E) -> Ending
         (E.contents err.old) (E.contents err.new) }
 {
     match error.kind() {
-        ErrorKind::InvalidData => refuse("a word is not UTF-8\n", err),
-        ErrorKind::OutOfMemory => fail(Failure::Memory, err),
-        _ => fail(Failure::Device, err),
+        ErrorKind::InvalidData => refuse(NOT_UTF8, err),
+        _ => fail(Failure::from(*error), err),
     }
 }

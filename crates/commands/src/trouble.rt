@@ -1,10 +1,11 @@
 //! What standard error is told where a device or memory fails.
 
 ghost use Rattle.std.specs.Io.KnownBytes.{Appends};
-ghost use Rattle.std.specs.Prelude.{◌≡◌, ◌⊎◌, ℕ, List};
-ghost use Rattle.commands.specs.Failing.{BeginsWith, IsCutShort, MayGrow, message_of};
+ghost use Rattle.std.specs.Prelude.{◌≡◌, ◌⊎◌, Some};
+ghost use Rattle.std.specs.IoError.{error_kind};
+ghost use Rattle.commands.specs.Failing.{BeginsWith, IsCutShort, MayGrow, failure_in, failure_of, message_of, tried_text};
 ghost use Rattle.commands.specs.declared.ending.Ending.TheVariants.{Failed, Unsaid};
-ghost use Rattle.commands.specs.declared.program.Failure.{Failure};
+ghost use Rattle.commands.specs.declared.program.Failure.TheVariants.{Memory};
 
 use crate::ending::Ending;
 use crate::line::Line;
@@ -24,15 +25,19 @@ pub(crate) enum Trouble {
 }
 
 impl From<Error> for Trouble {
+    ghost from_gives = { λ error trouble. failure_in trouble ≡ failure_of (error_kind error) };
+
     fn from(error: Error) -> Trouble {
-        match error.kind() {
-            ErrorKind::OutOfMemory => Trouble::Memory,
-            _ => Trouble::Device(error),
+        match Failure::from(error) {
+            Failure::Device => Trouble::Device(error),
+            Failure::Memory => Trouble::Memory,
         }
     }
 }
 
 impl From<AllocError> for Trouble {
+    ghost from_gives = { λ _ trouble. failure_in trouble ≡ Memory };
+
     fn from(_error: AllocError) -> Trouble {
         Trouble::Memory
     }
@@ -63,6 +68,8 @@ impl<'a> Tried<'a> {
 }
 
 impl fmt::Display for Tried<'_> {
+    ghost output = { λ tried. Some (tried_text tried) };
+
     fn fmt<W: fmt::Write>(&self, f: &mut fmt::Formatter<W>) -> fmt::Result {
         match self {
             Tried::Form(file) | Tried::Policy(file) => {
@@ -101,10 +108,10 @@ pub(crate) fn report<E: Write>(
     err: &mut E,
 ) -> Ending
     ensures ends { (result ≡ Failed) ⊎ (result ≡ Unsaid) }
-    ensures message { result ≡ Failed → (failure : Failure)
-        × BeginsWith (message_of failure) (E.contents err.old) (E.contents err.new) }
-    ensures front { result ≡ Unsaid → (failure : Failure)
-        × IsCutShort (message_of failure) (E.contents err.old) (E.contents err.new) }
+    ensures message { result ≡ Failed
+        → BeginsWith (message_of (failure_in trouble)) (E.contents err.old) (E.contents err.new) }
+    ensures front { result ≡ Unsaid
+        → IsCutShort (message_of (failure_in trouble)) (E.contents err.old) (E.contents err.new) }
 {
     let Trouble::Device(error) = trouble else {
         return fail(Failure::Memory, err);

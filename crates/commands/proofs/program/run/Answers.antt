@@ -1,8 +1,9 @@
 use Rattle.std.proofs.Common.{codes, refl, sym, ◌∙◌}
 use Rattle.std.proofs.lemmas.Bool.{false≢true}
 use Rattle.commands.specs.CommandLine.{texts}
-use Rattle.commands.specs.Failing.{message_of}
+use Rattle.commands.specs.Failing.{failure_in, message_of}
 use Rattle.commands.specs.Running.{of_failure}
+use Rattle.commands.specs.declared.program.Failure.{Failure}
 use Rattle.commands.specs.declared.program.Failure.TheVariants.{Memory}
 use Rattle.commands.proofs.RunLemmas.{asks_check, does_words, judges_known, to_be_said}
 use Rattle.commands.proofs.program.run.Goals as goal
@@ -23,13 +24,12 @@ returns-in-Ok-answer-clause-unsaid g c = λ unsaid.
 
 pub returns-in-Err-clause-failed : goal.returns-in-Err-clause-failed
 returns-in-Err-clause-failed g c = λ failed.
-    let told = c.report.ensures.message failed in
-    (told.0, (λ no. absurd (false≢true (sym no ∙ c.in-Ok.ensures.taken))), told.1)
+    (failure_in c.in-Err.trouble, (λ no. absurd (false≢true (sym no ∙ c.in-Ok.ensures.taken))), c.report.ensures.message failed)
 
 pub returns-in-Err-clause-unsaid : goal.returns-in-Err-clause-unsaid
 returns-in-Err-clause-unsaid g c = λ unsaid.
-    let told = c.report.ensures.front unsaid in
-    (message_of told.0, of_failure told.0 (λ no. absurd (false≢true (sym no ∙ c.in-Ok.ensures.taken))) refl, told.1)
+    let failure : Failure = failure_in c.in-Err.trouble in
+    (message_of failure, of_failure failure (λ no. absurd (false≢true (sym no ∙ c.in-Ok.ensures.taken))) refl, c.report.ensures.front unsaid)
 
 pub returns-in-Err-Memory-clause-unsaid : goal.returns-in-Err-Memory-clause-unsaid
 returns-in-Err-Memory-clause-unsaid g c = λ unsaid. (message_of Memory, of_failure Memory (λ no. refl) refl, c.fail.ensures.front)
