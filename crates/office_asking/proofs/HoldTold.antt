@@ -1,12 +1,13 @@
 -- The rows of holds, and the history that they picture.
-use Rattle.std.proofs.Common.{◌≡◌, ℕ, suc, ◌+◌, ◌==◌, ℤ, pos, Bool, true, false, not, ◌&&◌, ◌||◌, List, [], ◌∷◌, length, map, filter, Option, Some, None, option_map, unwrap_or, slice_get, is_none, is_some, refl, sym, ap, subst, ◌∙◌, arith, cond, true≢false}
+use Rattle.std.proofs.Common.{◌≡◌, ℕ, suc, ◌+◌, ℤ, pos, Bool, true, false, not, ◌&&◌, ◌||◌, List, [], ◌∷◌, length, map, filter, Option, Some, None, option_map, unwrap_or, slice_get, is_none, is_some, refl, sym, ap, subst, ◌∙◌, arith, cond, true≢false}
 use Rattle.std.specs.Prelude.{bytes_eq}
 use Rattle.std.specs.List.{range_with_len}
 use Rattle.std.specs.Option.{option_map_or}
 use Rattle.std.specs.Ordering.{int_eq}
-use Rattle.std.proofs.lemmas.Bool.Decides.{Decides-int_eq, Decides-eqb}
+use Rattle.std.proofs.lemmas.Option.{same_Some}
 use Rattle.jiff.specs.Types.{Date}
 use Rattle.jiff.specs.Words.{epoch_day}
+use Rattle.office_core.specs.declared.answer.LiveHold.{LiveHold}
 use Rattle.office_rows.specs.Rows as rows
 use Rattle.office_rows.specs.Rows.{HoldRow, is_live_over, this_version}
 use Rattle.office_tables.specs.Tables.{tables_of}
@@ -17,7 +18,10 @@ use Rattle.office_history.specs.Lists.{numbers}
 use Rattle.office_history.specs.Histories as histories
 use Rattle.office_history.specs.Histories.{History, Hold, Target, OnDeposit, OnCollection, Deposit, holds, release_day, reaches, covers}
 use Rattle.office_history.specs.Pictures.{held_deposit, held_collection, hold_row, hold_rows, picture}
-use Rattle.office_asking.proofs.NumberedRows.{rows_from, rows_are}
+use Rattle.office_history.specs.Answers.{scope_of, live_hold, told_hold}
+use Rattle.office_history.proofs.Pictured.{same_day}
+use Rattle.office_asking.specs.Holds.{IsHoldOf, scope_in}
+use Rattle.office_asking.proofs.NumberedRows.{rows_from, rows_are, found_at, same_count, same_number}
 
 pub hold_rows_are : (h : History) → hold_rows h ≡ rows_from (hold_row h) 1 (holds h)
 hold_rows_are h = rows_are (hold_row h) (holds h)
@@ -44,24 +48,6 @@ numbers_passing tell number is passes test (x ∷ xs) start same =
 live_same : (o : Option Date) → not (is_some (option_map epoch_day o)) ≡ is_none o
 live_same None = refl
 live_same (Some day) = refl
-
-pub same_number : (m n : ℕ) → int_eq (pos m) (pos n) ≡ (m == n)
-same_number m n = by (int_eq (pos m) (pos n)) (m == n) refl refl
-  where
-    by : (s t : Bool) → int_eq (pos m) (pos n) ≡ s → (m == n) ≡ t → s ≡ t
-    by true true e f = refl
-    by false false e f = refl
-    by true false e f = absurd (let same : pos m ≡ pos n = (Decides-int_eq (pos m) (pos n)).0 e in let equal : m ≡ n = cc in true≢false (sym ((Decides-eqb m n).1 equal) ∙ f))
-    by false true e f = absurd (true≢false (sym ((Decides-int_eq (pos m) (pos n)).1 (ap pos ((Decides-eqb m n).0 f))) ∙ e))
-
-pub eqb-sym : (m n : ℕ) → (m == n) ≡ (n == m)
-eqb-sym m n = by (m == n) (n == m) refl refl
-  where
-    by : (s t : Bool) → (m == n) ≡ s → (n == m) ≡ t → s ≡ t
-    by true true e f = refl
-    by false false e f = refl
-    by true false e f = absurd (true≢false (sym ((Decides-eqb n m).1 (sym ((Decides-eqb m n).0 e))) ∙ f))
-    by false true e f = absurd (true≢false (sym ((Decides-eqb m n).1 (sym ((Decides-eqb n m).0 f))) ∙ e))
 
 reach_same : (target : Target) (n : ℕ) (deposit : Deposit)
     → (unwrap_or (option_map (λ d. int_eq d (pos n)) (held_deposit target)) false || unwrap_or (option_map (λ c. bytes_eq c deposit.collection) (held_collection target)) false) ≡ reaches target n deposit
@@ -103,3 +89,29 @@ live_read h db pictured n collection numbers e deposit is =
 pub first_live : (h : History) (db : Database) → Pictures h db → (n : ℕ) (collection : List ℕ) (numbers : List ℕ) → map pos numbers ≡ rows.live_holds (pos n) collection (tables_of db)
     → (deposit : Deposit) → deposit.collection ≡ collection → slice_get numbers 0 ≡ histories.least_hold h n deposit
 first_live h db pictured n collection numbers e deposit is = ap (λ ks. slice_get ks 0) (live_read h db pictured n collection numbers e deposit is)
+
+-- ---- a hold by its row
+
+pub hold_read : (h : History) (db : Database) → Pictures h db → (k : ℕ) (found : Option HoldRow) → found ≡ rows.hold_numbered (pos k) (tables_of db).holds → found ≡ option_map (hold_row h k) (histories.hold_numbered h k)
+hold_read h db pictured k found e =
+    e ∙ in_picture h db pictured (λ t. rows.hold_numbered (pos k) t.holds) ∙ ap (rows.hold_numbered (pos k)) (hold_rows_are h) ∙ found_at (hold_row h) (λ r. r.number) (λ m x. refl) (holds h) k
+
+scope_told : (target : Target) → scope_in (held_deposit target) (held_collection target) ≡ Some (scope_of target)
+scope_told (OnDeposit n) = refl
+scope_told (OnCollection name) = refl
+
+hold_is : (h : History) (k : ℕ) (found : Date × Hold) (row : HoldRow) → row ≡ hold_row h k found → (told : LiveHold) → IsHoldOf row told → told ≡ live_hold k found
+hold_is h k found row is told e = λ i. record {
+  number = same_count told.number k (e.number ∙ ap (λ (r : HoldRow). r.number) is) i;
+  matter = (e.matter ∙ ap (λ (r : HoldRow). r.matter) is) i;
+  on = same_Some told.on (scope_of found.1.target) (e.on ∙ ap (λ (r : HoldRow). scope_in r.deposit r.collection) is ∙ scope_told found.1.target) i;
+  placed = same_day told.placed found.0 (e.placed ∙ ap (λ (r : HoldRow). r.placed) is) i;
+}
+
+pub hold_told : (h : History) (db : Database) → Pictures h db → (k : ℕ) (found : Option HoldRow) → found ≡ rows.hold_numbered (pos k) (tables_of db).holds
+    → (row : HoldRow) → found ≡ Some row → (told : LiveHold) → IsHoldOf row told → Some told ≡ told_hold h k
+hold_told h db pictured k found e row is told says = by (histories.hold_numbered h k) (sym is ∙ hold_read h db pictured k found e)
+  where
+    by : (o : Option (Date × Hold)) → Some row ≡ option_map (hold_row h k) o → Some told ≡ option_map_or (λ found. Some (live_hold k found)) o None
+    by None e = absurd cc
+    by (Some there) e = ap Some (hold_is h k there row (same_Some _ _ e) told says)

@@ -1,11 +1,14 @@
 -- Rows that stand for the items of a list, numbered from 1.
-use Rattle.std.proofs.Common.{◌≡◌, ℕ, zero, suc, ◌+◌, ◌<◌, ℤ, pos, Bool, true, false, List, [], ◌∷◌, ◌++◌, length, Option, Some, None, option_map, unwrap_or, slice_get, refl, sym, ap, subst, ◌∙◌, arith, cond}
+use Rattle.std.proofs.Common.{◌≡◌, ℕ, zero, suc, ◌+◌, ◌==◌, ◌<◌, ◌≤◌, ℤ, pos, Bool, true, false, List, [], ◌∷◌, ◌++◌, length, map, Option, Some, None, Less, option_map, unwrap_or, slice_get, rules, refl, sym, ap, subst, ◌∙◌, arith, cond, if◌then◌else◌, true≢false}
 use Rattle.std.specs.Prelude.{find}
-use Rattle.std.specs.List.{filter_map}
-use Rattle.std.specs.Ordering.{int_eq}
-use Rattle.std.proofs.lemmas.Bool.Decides.{Decides-int_eq}
+use Rattle.std.specs.Cmp.{int_cmp_is}
+use Rattle.std.specs.List.{filter_map, AllByRecursion}
+use Rattle.std.specs.Option.{option_or}
+use Rattle.std.specs.Ordering.{int_cmp, int_eq}
+use Rattle.std.proofs.lemmas.Bool.Decides.{Decides-int_eq, Decides-eqb}
 use Rattle.office_rows.specs.Rows.{last_number}
 use Rattle.office_history.specs.Lists.{item_numbered, numbers}
+use Rattle.office_history.proofs.Alike.{or_none}
 use Rattle.office_history.proofs.Pictured.{told_at, same_list}
 
 -- each item's row, by its number, the first of which is this one
@@ -31,8 +34,41 @@ different_above a b less = by (int_eq (pos a) (pos b)) refl
     by true e = absurd (let same : pos a ≡ pos b = (Decides-int_eq (pos a) (pos b)).0 e in let equal : a ≡ b = cc in omega (arith, less, equal))
     by false e = refl
 
+is_less : (m n : ℕ) → m < n → int_cmp (pos m) (pos n) ≡ Less
+is_less m n lt = sym (int_cmp_is (pos m) (pos n) Less (search (rules, lt)))
+
+-- numbers of rows that are alike
+pub same_count : (m n : ℕ) → pos m ≡ pos n → m ≡ n
+same_count m n e = cc
+
 pub alike : (a b : ℕ) → a ≡ b → int_eq (pos a) (pos b) ≡ true
 alike a b e = (Decides-int_eq (pos a) (pos b)).1 (ap pos e)
+
+pub same_number : (m n : ℕ) → int_eq (pos m) (pos n) ≡ (m == n)
+same_number m n = by (int_eq (pos m) (pos n)) (m == n) refl refl
+  where
+    by : (s t : Bool) → int_eq (pos m) (pos n) ≡ s → (m == n) ≡ t → s ≡ t
+    by true true e f = refl
+    by false false e f = refl
+    by true false e f = absurd (let same : pos m ≡ pos n = (Decides-int_eq (pos m) (pos n)).0 e in let equal : m ≡ n = cc in true≢false (sym ((Decides-eqb m n).1 equal) ∙ f))
+    by false true e f = absurd (true≢false (sym ((Decides-int_eq (pos m) (pos n)).1 (ap pos ((Decides-eqb m n).0 f))) ∙ e))
+
+pub eqb-sym : (m n : ℕ) → (m == n) ≡ (n == m)
+eqb-sym m n = by (m == n) (n == m) refl refl
+  where
+    by : (s t : Bool) → (m == n) ≡ s → (n == m) ≡ t → s ≡ t
+    by true true e f = refl
+    by false false e f = refl
+    by true false e f = absurd (true≢false (sym ((Decides-eqb n m).1 (sym ((Decides-eqb m n).0 e))) ∙ f))
+    by false true e f = absurd (true≢false (sym ((Decides-eqb m n).1 (sym ((Decides-eqb n m).0 f))) ∙ e))
+
+none_past : {A : Type 0} (xs : List A) → slice_get xs (length xs) ≡ None
+none_past [] = refl
+none_past (x ∷ xs) = none_past xs
+
+-- no item has the number after the last
+pub none_next : {A : Type 0} (xs : List A) → item_numbered xs (1 + length xs) ≡ None
+none_next xs = let one : suc (length xs) ≡ 1 + length xs = omega arith in subst (λ k. item_numbered xs k ≡ None) one (none_past xs)
 
 module _ {A R : Type 0} (tell : ℕ → A → R) where
   at_place : (xs : List A) (start i : ℕ) → slice_get (rows_from tell start xs) i ≡ option_map (tell (start + i)) (slice_get xs i)
@@ -48,6 +84,17 @@ module _ {A R : Type 0} (tell : ℕ → A → R) where
   rows_append (x ∷ xs) ys start = let one : start + 1 + length xs ≡ start + suc (length xs) = omega arith in ap (λ rs. tell start x ∷ rs) (rows_append xs ys (start + 1) ∙ ap (λ k. rows_from tell (start + 1) xs ++ rows_from tell k ys) one)
 
   module _ (number : R → ℤ) (numbers_it : (m : ℕ) (x : A) → number (tell m x) ≡ pos m) where
+    -- the numbers that are there are lower than the next
+    below_from : (n : ℕ) (xs : List A) (start : ℕ) → start + length xs ≤ n → AllByRecursion (λ r. int_cmp (number r) (pos n) ≡ Less) (rows_from tell start xs)
+    below_from n [] start le = tt
+    below_from n (x ∷ xs) start le = (
+      ap (λ k. int_cmp k (pos n)) (numbers_it start x) ∙ is_less start n (omega (arith, le)),
+      below_from n xs (start + 1) (omega (arith, le)),
+    )
+
+    pub below : (n : ℕ) (xs : List A) → n ≡ 1 + length xs → AllByRecursion (λ r. int_cmp (number r) (pos n) ≡ Less) (rows_from tell 1 xs)
+    below n xs e = below_from n xs 1 (omega (arith, e))
+
     missed : (xs : List A) (start n : ℕ) → n < start → find (λ r. int_eq (number r) (pos n)) (rows_from tell start xs) ≡ None
     missed [] start n low = refl
     missed (x ∷ xs) start n low =
@@ -88,3 +135,30 @@ module _ {A R : Type 0} (tell : ℕ → A → R) where
     -- the last number, or 0, is how many items there are
     pub count_is : (xs : List A) (o : Option ℕ) → option_map pos o ≡ last_number number (rows_from tell 1 xs) → unwrap_or o 0 ≡ length xs
     count_is xs o e = last_or_zero xs o (e ∙ last_is xs)
+
+-- ---- rows of which one is marked
+
+pub rows_changed : {A R : Type 0} (change : R → R) (before after : ℕ → A → R) → ((m : ℕ) (x : A) → change (before m x) ≡ after m x) → (xs : List A) (start : ℕ) → map change (rows_from before start xs) ≡ rows_from after start xs
+rows_changed change before after same [] start = refl
+rows_changed change before after same (x ∷ xs) start = λ i. same start x i ∷ rows_changed change before after same xs (start + 1) i
+
+-- of number n nothing was said before, and this is said after; of each other one what was said before
+module _ {D : Type 0} (before after : ℕ → Option D) (n : ℕ) (said : D) (not_before : before n ≡ None) (grows : (m : ℕ) → after m ≡ option_or (before m) (if n == m then Some said else None)) where
+  pub itself : (m : ℕ) → int_eq (pos m) (pos n) ≡ true → (before m ≡ None) × (after m ≡ Some said)
+  itself m e =
+      let is : (m == n) ≡ true = sym (same_number m n) ∙ e in
+      let was : before m ≡ None = subst (λ k. before k ≡ None) (sym ((Decides-eqb m n).0 is)) not_before in
+      (was, grows m ∙ (λ i. option_or (was i) (if (sym (eqb-sym m n) ∙ is) i then Some said else None)))
+
+  pub another : (m : ℕ) → int_eq (pos m) (pos n) ≡ false → after m ≡ before m
+  another m e =
+      let is : (m == n) ≡ false = sym (same_number m n) ∙ e in
+      grows m ∙ (λ i. option_or (before m) (if (sym (eqb-sym m n) ∙ is) i then Some said else None)) ∙ or_none (before m)
+
+  -- so a change of the row of that number makes the rows of what is said after
+  pub mark : {A R : Type 0} (row : ℕ → Option D → A → R) (m : ℕ) (x : A) → (if int_eq (pos m) (pos n) then row m (Some said) x else row m (before m) x) ≡ row m (after m) x
+  mark row m x = by (int_eq (pos m) (pos n)) refl
+    where
+      by : (b : Bool) → int_eq (pos m) (pos n) ≡ b → (if int_eq (pos m) (pos n) then row m (Some said) x else row m (before m) x) ≡ row m (after m) x
+      by true e = ap (λ b. if b then row m (Some said) x else row m (before m) x) e ∙ ap (λ o. row m o x) (sym (itself m e).1)
+      by false e = ap (λ b. if b then row m (Some said) x else row m (before m) x) e ∙ ap (λ o. row m o x) (sym (another m e))

@@ -2,3 +2,4 @@ pub mod Pictures
 pub mod Serving
 pub mod Asking
 pub mod Deposits
+pub mod Holds

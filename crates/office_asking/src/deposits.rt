@@ -1,6 +1,7 @@
 //! A deposit that is asked for.
 
-ghost use Rattle.std.specs.Prelude.{◌≡◌, IfErr};
+ghost use Rattle.std.specs.Prelude.{◌≡◌, IfErr, IfOk, option_map};
+ghost use Rattle.jiff.specs.Words.{epoch_day};
 ghost use Rattle.office_tables.specs.Faults.{IsFailure};
 ghost use Rattle.office_tables.specs.Calls.{CommitsNothing, Continues, Keeps};
 ghost use Rattle.office_history.specs.Refusals.{kept_refusals};
@@ -8,11 +9,39 @@ ghost use Rattle.office_asking.specs.Serving.{Finds};
 ghost use Rattle.office_asking.specs.Deposits.{IsAsked};
 
 use crate::asker::denial;
-use crate::rows::optional_day_numbered;
-use office_core::{Action, Refusal, Subject};
+use crate::rows::{day_numbered, optional_day_numbered};
+use office_core::{Action, Day, Refusal, Subject};
 use office_tables::{DepositRow, TableFault, deposit_row};
 use sqlite::{Alter, Transaction};
 use std::alloc::Global;
+
+/// The days of a deposit.
+#[derive(Clone, Copy)]
+pub struct DepositDays {
+    /// The day when the records were closed.
+    pub closed: Day,
+    /// The day of the deposit.
+    pub deposited: Day,
+    /// The day when it was destroyed, if it was.
+    pub gone: Option<Day>,
+}
+
+/// The days that the row of a deposit tells, which are read together: no deposit has a row of which one
+/// is no day.
+///
+/// Fails with `Store`.
+pub fn days_in(row: &DepositRow) -> Result<DepositDays, TableFault>
+    ensures closed { IfOk result (λ days. epoch_day days.closed ≡ row.now.closed) }
+    ensures deposited { IfOk result (λ days. epoch_day days.deposited ≡ row.now.deposited) }
+    ensures gone { IfOk result (λ days. option_map epoch_day days.gone ≡ row.now.gone) }
+    ensures failure { IfErr result IsFailure }
+{
+    Ok(DepositDays {
+        closed: day_numbered(row.closed)?,
+        deposited: day_numbered(row.deposited)?,
+        gone: optional_day_numbered(row.gone)?,
+    })
+}
 
 /// The deposit of that number, where the caller may do that with it and it is kept; else the refusal
 /// that stands first.
@@ -36,7 +65,6 @@ pub fn kept_deposit<S: Alter>(
     let Some(deposit) = deposit_row(tx, number)? else {
         return Ok(Err(Refusal::NoSuch(Subject::Deposit)));
     };
-    let gone = optional_day_numbered(deposit.gone)?;
     let denied = denial(
         alloc,
         tx,
@@ -48,7 +76,8 @@ pub fn kept_deposit<S: Alter>(
     if let Some(why) = denied {
         return Ok(Err(why));
     }
-    match gone {
+    let days = days_in(&deposit)?;
+    match days.gone {
         Some(day) => Ok(Err(Refusal::Gone(day))),
         None => Ok(Ok(deposit)),
     }

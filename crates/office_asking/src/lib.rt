@@ -5,9 +5,11 @@
 mod asker;
 mod deposits;
 mod due;
+mod holds;
 mod rows;
 
 pub use asker::{Asker, denial};
-pub use deposits::kept_deposit;
-pub use due::{due_day, least_hold};
+pub use deposits::{DepositDays, days_in, kept_deposit};
+pub use due::{disposal_facts, due_day, least_hold};
+pub use holds::{hold_in, told_hold};
 pub use rows::{day_numbered, optional_day_numbered, years_numbered};

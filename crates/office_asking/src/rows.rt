@@ -1,4 +1,4 @@
-//! What the numbers of rows stand for. A number that stands for nothing is of a row that no accepted
+//! What the numbers and matters of rows stand for. What stands for nothing is of a row that no accepted
 //! change writes, which is a fault of the store.
 
 ghost use Rattle.std.specs.Prelude.{◌≡◌, IfErr, IfOk, option_map};
@@ -6,8 +6,9 @@ ghost use Rattle.jiff.specs.Words.{epoch_day};
 ghost use Rattle.office_tables.specs.Faults.{IsFailure};
 ghost use Rattle.office_history.specs.Pictures.{years_back, years_number};
 
-use office_core::{Day, Years};
+use office_core::{Day, Matter, OwnedMatter, Years};
 use office_tables::TableFault;
+use std::alloc::Global;
 
 /// The day with that number.
 pub fn day_numbered(number: i64) -> Result<Day, TableFault>
@@ -48,6 +49,17 @@ pub fn years_numbered(number: i64) -> Result<Years, TableFault>
     };
     match Years::new(count) {
         Some(years) => Ok(years),
+        None => Err(TableFault::Store),
+    }
+}
+
+/// The matter that a text is.
+pub fn matter_in(alloc: Global, text: &str) -> Result<OwnedMatter, TableFault>
+    ensures matter { IfOk result (λ matter. matter ≡ text.now) }
+    ensures failure { IfErr result IsFailure }
+{
+    match Matter::read(text) {
+        Some(matter) => Ok(matter.to_owned(alloc)?),
         None => Err(TableFault::Store),
     }
 }

@@ -1,36 +1,24 @@
 -- A hold that is asked for, by its row.
-use Rattle.std.proofs.Common.{◌≡◌, ℕ, pos, List, [], ◌∷◌, Option, Some, None, option_map, refl, sym, ap, ◌∙◌}
+use Rattle.std.proofs.Common.{◌≡◌, ℕ, List, [], ◌∷◌, Option, Some, None, option_map, refl, sym, ap, ◌∙◌}
 use Rattle.std.proofs.lemmas.Option.{same_Some}
 use Rattle.jiff.specs.Types.{Date}
 use Rattle.jiff.specs.Words.{epoch_day}
-use Rattle.sqlite.specs.Effect.{Database}
 use Rattle.office_core.specs.FirstOf.{first_some}
 use Rattle.office_core.specs.declared.action.Action.TheVariants as acts
 use Rattle.office_core.specs.declared.refusal.Refusal.{Refusal}
 use Rattle.office_core.specs.declared.refusal.Refusal.TheVariants.{NoSuch, Released}
 use Rattle.office_core.specs.declared.refusal.Subject.TheVariants as subjects
-use Rattle.office_rows.specs.Rows as rows
 use Rattle.office_rows.specs.Rows.{DepositRow, HoldRow}
-use Rattle.office_tables.specs.Tables.{tables_of}
 use Rattle.office_tables.specs.ShownHolds as shown
 use Rattle.office_tables.specs.declared.holds.HoldTarget.{HoldTarget}
 use Rattle.office_tables.specs.declared.holds.HoldTarget.TheVariants as targets
-use Rattle.office_history.specs.Histories.{History, Hold, Target, OnDeposit, OnCollection, holds, hold_numbered, release_day, deposit_numbered}
-use Rattle.office_history.specs.Pictures.{held_deposit, held_collection, hold_row, hold_rows, deposit_row}
+use Rattle.office_history.specs.Histories.{History, Hold, Target, OnDeposit, OnCollection, hold_numbered, release_day, deposit_numbered}
+use Rattle.office_history.specs.Pictures.{held_deposit, held_collection, hold_row, deposit_row}
 use Rattle.office_history.specs.Refusals.{of_hold, denial, release_denial, release_denial_of, release_refusals}
 use Rattle.office_history.proofs.Pictured.{same_days}
-use Rattle.office_asking.specs.Pictures.{Pictures}
 use Rattle.office_asking.proofs.DepositAsked.{there}
-use Rattle.office_asking.proofs.HoldTold.{hold_rows_are}
-use Rattle.office_asking.proofs.NumberedRows.{found_at}
-use Rattle.office_asking.proofs.Readings.{in_picture}
+use Rattle.office_asking.proofs.Serving.{one_refusal}
 use Rattle.office_holding.specs.Holds.{target_of}
-
-hold_told : (h : History) (k : ℕ) → rows.hold_numbered (pos k) (hold_rows h) ≡ option_map (hold_row h k) (hold_numbered h k)
-hold_told h k = ap (rows.hold_numbered (pos k)) (hold_rows_are h) ∙ found_at (hold_row h) (λ r. r.number) (λ m x. refl) (holds h) k
-
-pub hold_read : (h : History) (old : Database) → Pictures h old → (k : ℕ) (found : Option HoldRow) → found ≡ rows.hold_numbered (pos k) (tables_of old).holds → found ≡ option_map (hold_row h k) (hold_numbered h k)
-hold_read h old pictured k found e = e ∙ in_picture h old pictured (λ t. rows.hold_numbered (pos k) t.holds) ∙ hold_told h k
 
 pub no_hold : (h : History) (k : ℕ) (caller : List ℕ) → None ≡ option_map (hold_row h k) (hold_numbered h k) → Some (NoSuch subjects.Hold) ≡ first_some (of_hold (hold_numbered h k) (release_refusals h caller k))
 no_hold h k caller e = by (hold_numbered h k) e
@@ -63,7 +51,7 @@ module _ (h : History) (k : ℕ) (row : HoldRow) (read : Some row ≡ option_map
       by None is e = absurd cc
       by (Some found) is e = (found, is, same_Some _ _ e)
 
-  pub release_asked : (caller : List ℕ) (named : HoldTarget) (denied : Option Refusal) (released : Option Date) → shown.held_deposit named ≡ row.deposit → shown.held_collection named ≡ row.collection
+  release_asked : (caller : List ℕ) (named : HoldTarget) (denied : Option Refusal) (released : Option Date) → shown.held_deposit named ≡ row.deposit → shown.held_collection named ≡ row.collection
       → denied ≡ release_denial h caller (target_of named) → option_map epoch_day released ≡ row.released
       → first_some (denied ∷ option_map Released released ∷ []) ≡ first_some (of_hold (hold_numbered h k) (release_refusals h caller k))
   release_asked caller named denied released d c is day =
@@ -74,3 +62,14 @@ module _ (h : History) (k : ℕ) (row : HoldRow) (read : Some row ≡ option_map
       let when = same_days released (release_day h k) (day ∙ ap (λ (r : HoldRow). r.released) row_is) in
       (λ i. first_some (asked i ∷ option_map Released (when i) ∷ []))
       ∙ ap (λ o. first_some (of_hold o (release_refusals h caller k))) (sym hold_there.1)
+
+  -- where the rules deny it
+  pub release_denied : (caller : List ℕ) (named : HoldTarget) (why : Refusal) → shown.held_deposit named ≡ row.deposit → shown.held_collection named ≡ row.collection
+      → Some why ≡ release_denial h caller (target_of named) → Some why ≡ first_some (of_hold (hold_numbered h k) (release_refusals h caller k))
+  release_denied caller named why d c is = release_asked caller named (Some why) (release_day h k) d c is (sym (ap (λ (r : HoldRow). r.released) hold_there.2))
+
+  -- and where they don't
+  pub release_allowed : (caller : List ℕ) (named : HoldTarget) (released : Option Date) (why : Option Refusal) → shown.held_deposit named ≡ row.deposit → shown.held_collection named ≡ row.collection
+      → None ≡ release_denial h caller (target_of named) → option_map epoch_day released ≡ row.released → why ≡ option_map Released released
+      → why ≡ first_some (of_hold (hold_numbered h k) (release_refusals h caller k))
+  release_allowed caller named released why d c is day said = said ∙ one_refusal (option_map Released released) ∙ release_asked caller named None released d c is day

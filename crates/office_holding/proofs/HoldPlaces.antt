@@ -1,5 +1,5 @@
 -- Which refusal of a hold stands first, and else its number.
-use Rattle.std.proofs.Common.{◌≡◌, ℕ, true, false, not, List, [], ◌∷◌, Option, Some, None, Result, Ok, Err, refl, sym, ap, subst, ◌∙◌}
+use Rattle.std.proofs.Common.{◌≡◌, ℕ, true, false, not, List, [], ◌∷◌, Option, Some, None, Result, Ok, Err, sym, ap, subst, ◌∙◌}
 use Rattle.jiff.specs.Types.{Date}
 use Rattle.office_core.specs.FirstOf.{first_some, answer_if}
 use Rattle.office_core.specs.declared.action.Action.TheVariants as acts
@@ -10,6 +10,7 @@ use Rattle.office_rows.specs.Rows.{DepositRow}
 use Rattle.office_history.specs.Histories.{History, Deposit, has_collection, deposit_numbered}
 use Rattle.office_history.specs.Refusals.{of_deposit, denial, denial_at, gone_refusal, full_of_holds, kept_refusals, hold_refusals}
 use Rattle.office_asking.specs.Deposits.{IsAsked}
+use Rattle.office_asking.proofs.Serving.{one_refusal}
 use Rattle.office_holding.specs.Holds.{IsPlace, collection_denials}
 
 -- a refusal that stands among two stands among more
@@ -32,12 +33,8 @@ module _ (h : History) (caller name : List ℕ) where
   pub not_there : false ≡ has_collection h name → Some (NoSuch subjects.Collection) ≡ first_some (collection_denials h caller name)
   not_there e = ap (λ b. first_some (answer_if (not b) (NoSuch subjects.Collection) ∷ may_hold ∷ [])) e
 
-  one : (o : Option Refusal) → o ≡ first_some (o ∷ [])
-  one None = refl
-  one (Some why) = refl
-
   pub is_there : true ≡ has_collection h name → (why : Option Refusal) → why ≡ may_hold → why ≡ first_some (collection_denials h caller name)
-  is_there e why is = one why ∙ (λ i. first_some (answer_if (not (e i)) (NoSuch subjects.Collection) ∷ is i ∷ []))
+  is_there e why is = one_refusal why ∙ (λ i. first_some (answer_if (not (e i)) (NoSuch subjects.Collection) ∷ is i ∷ []))
 
   abbrev absent : Option Refusal
   absent = answer_if (not (has_collection h name)) (NoSuch subjects.Collection)

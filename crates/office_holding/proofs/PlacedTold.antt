@@ -1,8 +1,7 @@
 -- The rows of an office after a hold was placed.
-use Rattle.std.proofs.Common.{rules, ◌≡◌, ℕ, suc, ◌+◌, ◌<◌, ◌≤◌, ℤ, pos, List, [], ◌∷◌, ◌++◌, length, map, None, Less, slice_get, refl, sym, ap, subst, ◌∙◌, arith}
+use Rattle.std.proofs.Common.{◌≡◌, ℕ, ◌+◌, ℤ, pos, List, [], ◌∷◌, ◌++◌, length, map, None, Less, refl, sym, ap, subst, ◌∙◌, arith}
 use Rattle.std.specs.List.{AllByRecursion}
 use Rattle.std.specs.Ordering.{int_cmp}
-use Rattle.std.specs.Cmp.{int_cmp_is}
 use Rattle.jiff.specs.Types.{Date}
 use Rattle.jiff.specs.Words.{epoch_day}
 use Rattle.sqlite.specs.Effect.{Database}
@@ -12,29 +11,17 @@ use Rattle.office_tables.specs.Tables.{Becomes, tables_of}
 use Rattle.office_tables.specs.ShownHolds as shown
 use Rattle.office_tables.specs.declared.holds.HoldTarget.{HoldTarget}
 use Rattle.office_tables.specs.declared.holds.HoldTarget.TheVariants as targets
-use Rattle.office_history.specs.Lists.{item_numbered}
 use Rattle.office_history.specs.Histories.{History, Change, PlacedHold, Hold, with_changes, holds, release_day}
 use Rattle.office_history.specs.Pictures.{held_deposit, held_collection, hold_row, hold_rows, picture, caller_row, rule_rows, office_row}
 use Rattle.office_history.specs.Runs.{IsLegal}
 use Rattle.office_history.proofs.HistoryLemmas.{holds_grown}
 use Rattle.office_history.proofs.LegalReadings.{none_released}
 use Rattle.office_asking.specs.Pictures.{Pictures}
-use Rattle.office_asking.proofs.NumberedRows.{rows_from, rows_append}
+use Rattle.office_asking.proofs.NumberedRows.{rows_from, rows_append, below, none_next}
 use Rattle.office_asking.proofs.HoldTold.{hold_rows_are}
 use Rattle.office_asking.proofs.Serving.{pictures_grown}
 use Rattle.office_asking.proofs.Unchanged.{row_by_release, same_policy, same_classes, same_collections, same_deposit_rows, same_file_rows, same_released}
 use Rattle.office_holding.specs.Holds.{IsNext, target_of}
-
--- the numbers that are there are lower
-below : (h : History) (n : ℕ) → n ≡ 1 + length (holds h) → AllByRecursion (λ (r : HoldRow). int_cmp r.number (pos n) ≡ Less) (hold_rows h)
-below h n e = subst (AllByRecursion (λ (r : HoldRow). int_cmp r.number (pos n) ≡ Less)) (sym (hold_rows_are h)) (all (holds h) 1 (omega (arith, e)))
-  where
-    less : (m : ℕ) → m < n → int_cmp (pos m) (pos n) ≡ Less
-    less m lt = sym (int_cmp_is (pos m) (pos n) Less (search (rules, lt)))
-
-    all : (xs : List (Date × Hold)) (start : ℕ) → start + length xs ≤ n → AllByRecursion (λ (r : HoldRow). int_cmp r.number (pos n) ≡ Less) (rows_from (hold_row h) start xs)
-    all [] start le = tt
-    all (x ∷ xs) start le = (less start (omega (arith, le)), all xs (start + 1) (omega (arith, le)))
 
 module _ (h : History) (day : Date) (hold : Hold) (not_released : release_day h (1 + length (holds h)) ≡ None) where
   abbrev more : List Change
@@ -51,7 +38,7 @@ module _ (h : History) (day : Date) (hold : Hold) (not_released : release_day h 
 
   holds_told : put_by (λ (r : HoldRow). r.number) new_row (hold_rows h) ≡ hold_rows longer
   holds_told =
-      put_last (λ (r : HoldRow). r.number) new_row (hold_rows h) (below h next refl)
+      put_last (λ (r : HoldRow). r.number) new_row (hold_rows h) (subst (AllByRecursion (λ (r : HoldRow). int_cmp r.number (pos next) ≡ Less)) (sym (hold_rows_are h)) (below (hold_row h) (λ r. r.number) (λ m x. refl) next (holds h) refl))
       ∙ (λ i. hold_rows_are h i ++ row_by_release next (sym not_released i) (day, hold) ∷ [])
       ∙ sym (rows_append (hold_row h) (holds h) ((day, hold) ∷ []) 1)
       ∙ (λ i. rows_from (λ m. row_by_release m (sym (same_released h more (λ k. refl) m) i)) 1 (holds h ++ (day, hold) ∷ []))
@@ -70,15 +57,9 @@ module _ (h : History) (day : Date) (hold : Hold) (not_released : release_day h 
     holds = holds_told i;
   }
 
-none_past : {A : Type 0} (xs : List A) → slice_get xs (length xs) ≡ None
-none_past [] = refl
-none_past (x ∷ xs) = none_past xs
-
 -- the next hold is none that was released
 not_yet : (h : History) → IsLegal h → release_day h (1 + length (holds h)) ≡ None
-not_yet h legal =
-    let one : suc (length (holds h)) ≡ 1 + length (holds h) = omega arith in
-    none_released h legal (1 + length (holds h)) (subst (λ k. item_numbered (holds h) k ≡ None) one (none_past (holds h)))
+not_yet h legal = none_released h legal (1 + length (holds h)) (none_next (holds h))
 
 -- the row that is put
 abbrev pub put_row : ℕ → HoldTarget → List ℕ → ℤ → HoldRow

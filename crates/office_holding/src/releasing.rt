@@ -12,7 +12,7 @@ ghost use Rattle.office_history.specs.Refusals.{of_hold, release_denial, release
 ghost use Rattle.office_asking.specs.Serving.{Accepts, Decides, Finds};
 ghost use Rattle.office_holding.specs.Holds.{target_of};
 
-use office_asking::{denial, optional_day_numbered};
+use office_asking::{denial, hold_in, optional_day_numbered};
 use office_core::{Action, Answer, Day, Refusal, Subject};
 use office_tables::{
     HoldRow, HoldTarget, TableFault, deposit_row, end_hold, has_collection, hold_row,
@@ -101,18 +101,18 @@ fn release_denial<S: Alter>(
     }
 }
 
-/// The first refusal of a release: that it is denied, or that the hold was released.
-fn first_refusal(denied: Option<Refusal>, released: Option<Day>) -> Option<Refusal>
-    ensures { result ≡ first_some (denied ∷ option_map Released released ∷ []) }
+/// The refusal of a release where the hold was released.
+fn released_refusal(released: Option<Day>) -> Option<Refusal>
+    ensures { result ≡ option_map Released released }
 {
-    match (denied, released) {
-        (Some(why), _) => Some(why),
-        (None, Some(day)) => Some(Refusal::Released(day)),
-        (None, None) => None,
+    match released {
+        Some(day) => Some(Refusal::Released(day)),
+        None => None,
     }
 }
 
-/// Why the hold of that number may not be released, if something stands against it.
+/// Why the hold of that number may not be released, if something stands against it. Where the rules allow
+/// it all of its row is read, so that no hold is released that isn't one.
 fn release_refusal<S: Alter>(
     alloc: Global,
     tx: &mut Transaction<'_, S>,
@@ -129,10 +129,14 @@ fn release_refusal<S: Alter>(
     let Some(hold) = hold_row(tx, number)? else {
         return Ok(Some(Refusal::NoSuch(Subject::Hold)));
     };
-    let released = optional_day_numbered(hold.released)?;
     let target = named_in(&hold)?;
     let denied = release_denial(alloc, tx, caller, target)?;
-    Ok(first_refusal(denied, released))
+    if let Some(why) = denied {
+        return Ok(Some(why));
+    }
+    hold_in(alloc, &hold)?;
+    let released = optional_day_numbered(hold.released)?;
+    Ok(released_refusal(released))
 }
 
 /// Ends the hold of that number, which is live.

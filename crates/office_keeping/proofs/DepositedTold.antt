@@ -1,12 +1,11 @@
 -- The rows of an office after a deposit was made.
-use Rattle.std.proofs.Common.{◌≡◌, ℕ, zero, suc, ◌+◌, ◌<◌, ◌≤◌, ℤ, pos, Bool, true, false, List, [], ◌∷◌, ◌++◌, length, map, filter, Some, None, Less, slice_get, is_none, refl, sym, ap, subst, ◌∙◌, arith, cond, append-nil, append_assoc}
+use Rattle.std.proofs.Common.{◌≡◌, ℕ, zero, suc, ◌+◌, ◌<◌, ℤ, pos, Bool, true, false, List, [], ◌∷◌, ◌++◌, length, map, filter, Some, None, Less, slice_get, is_none, refl, sym, ap, subst, ◌∙◌, arith, cond, append-nil, append_assoc}
 use Rattle.std.specs.List.{flat_map, range_with_len, AllByRecursion}
 use Rattle.std.specs.Option.{option_map_or}
 use Rattle.std.specs.Ordering.{int_cmp}
 use Rattle.std.proofs.lemmas.List.{at_drop_more}
-use Rattle.std.proofs.Common.{drop, get_or, Bor, rules}
+use Rattle.std.proofs.Common.{drop, get_or, Bor}
 use Rattle.bag_text.specs.TransferReading as pairs
-use Rattle.std.specs.Cmp.{int_cmp_is}
 use Rattle.office_tables.specs.Tables.{IsOffice, Becomes, tables_of}
 use Rattle.std.proofs.lemmas.List.Elements.{filter-append}
 use Rattle.jiff.specs.Types.{Date}
@@ -22,7 +21,7 @@ use Rattle.office_history.proofs.LegalReadings.{none_gone}
 use Rattle.office_asking.specs.Pictures.{Pictures}
 use Rattle.office_history.proofs.HistoryLemmas.{deposits_grown}
 use Rattle.office_keeping.specs.Depositing.{with_files}
-use Rattle.office_asking.proofs.NumberedRows.{rows_from, rows_append}
+use Rattle.office_asking.proofs.NumberedRows.{rows_from, rows_append, below, none_next}
 use Rattle.office_asking.proofs.DepositTold.{deposit_rows_are}
 use Rattle.office_asking.proofs.Unchanged.{row_by_gone, same_policy, same_classes, same_collections, same_gone, same_hold_rows}
 
@@ -70,17 +69,6 @@ length_more : {A : Type 0} (xs : List A) (x : A) → length (xs ++ x ∷ []) ≡
 length_more [] x = refl
 length_more (y ∷ xs) x = let rest = length_more xs x in omega (arith, rest)
 
--- the numbers that are there are lower than the next
-below : (h : History) (n : ℕ) → n ≡ 1 + length (deposits h) → AllByRecursion (λ (r : DepositRow). int_cmp r.number (pos n) ≡ Less) (deposit_rows h)
-below h n e = subst (AllByRecursion (λ (r : DepositRow). int_cmp r.number (pos n) ≡ Less)) (sym (deposit_rows_are h)) (all (deposits h) 1 (omega (arith, e)))
-  where
-    less : (m : ℕ) → m < n → int_cmp (pos m) (pos n) ≡ Less
-    less m lt = sym (int_cmp_is (pos m) (pos n) Less (search (rules, lt)))
-
-    all : (xs : List (Date × Deposit)) (start : ℕ) → start + length xs ≤ n → AllByRecursion (λ (r : DepositRow). int_cmp r.number (pos n) ≡ Less) (rows_from (deposit_row h) start xs)
-    all [] start le = tt
-    all (x ∷ xs) start le = (less start (omega (arith, le)), all xs (start + 1) (omega (arith, le)))
-
 module _ (h : History) (day : Date) (d : Deposit) (not_gone : destruction_day h (1 + length (deposits h)) ≡ None) where
   abbrev more : List Change
   more = Deposited day d ∷ []
@@ -96,7 +84,7 @@ module _ (h : History) (day : Date) (d : Deposit) (not_gone : destruction_day h 
 
   deposits_told : put_by (λ r. r.number) new_row (deposit_rows h) ≡ deposit_rows longer
   deposits_told =
-      put_last (λ r. r.number) new_row (deposit_rows h) (below h next refl)
+      put_last (λ r. r.number) new_row (deposit_rows h) (subst (AllByRecursion (λ (r : DepositRow). int_cmp r.number (pos next) ≡ Less)) (sym (deposit_rows_are h)) (below (deposit_row h) (λ r. r.number) (λ m x. refl) next (deposits h) refl))
       ∙ (λ i. deposit_rows_are h i ++ row_by_gone next (sym not_gone i) (day, d) ∷ [])
       ∙ sym (rows_append (deposit_row h) (deposits h) ((day, d) ∷ []) 1)
       ∙ (λ i. rows_from (λ m. row_by_gone m (sym (same_gone h more (λ n. refl) m) i)) 1 (deposits h ++ (day, d) ∷ []))
@@ -152,18 +140,12 @@ next_file n fs i d low t now new added there =
     let here : with_files n (pairs.files_of (drop i fs)) (tables_of now) ≡ with_files n (pairs.files_of (get_or fs i d ∷ drop (i + 1) fs)) (tables_of now) = at_drop_more (λ more. with_files n (pairs.files_of more) (tables_of now)) fs i d low in
     (added.office, ap (with_files n (pairs.files_of (drop (i + 1) fs))) added.are ∙ sym here ∙ there)
 
-none_past : {A : Type 0} (xs : List A) → slice_get xs (length xs) ≡ None
-none_past [] = refl
-none_past (x ∷ xs) = none_past xs
-
 -- a deposit's row and then its files
 pub kept_deposit : (h : History) → IsLegal h → (day : Date) (d : Deposit) (n : ℕ) (old mid new : Database) → n ≡ length (deposits h) + 1 → Pictures h old
     → Becomes mid (with_deposit (row_by_gone n None (day, d)) (tables_of old)) → Becomes new (with_files (pos n) d.bag (tables_of mid)) → Pictures (with_changes h (Deposited day d ∷ [])) new
 kept_deposit h legal day d n old mid new next_is pictured put became =
     let at : 1 + length (deposits h) ≡ n = let one : 1 + length (deposits h) ≡ length (deposits h) + 1 = omega arith in one ∙ sym next_is in
-    let place : suc (length (deposits h)) ≡ 1 + length (deposits h) = omega arith in
-    let absent : item_numbered (deposits h) (1 + length (deposits h)) ≡ None = subst (λ k. item_numbered (deposits h) k ≡ None) place (none_past (deposits h)) in
-    let told = deposited_told h day d (none_gone h legal (1 + length (deposits h)) absent) in
+    let told = deposited_told h day d (none_gone h legal (1 + length (deposits h)) (none_next (deposits h))) in
     let here : with_files (pos n) d.bag (with_deposit (row_by_gone n None (day, d)) (picture this_version h)) ≡ picture this_version (with_changes h (Deposited day d ∷ [])) =
     subst (λ k. with_files (pos k) d.bag (with_deposit (row_by_gone k None (day, d)) (picture this_version h)) ≡ picture this_version (with_changes h (Deposited day d ∷ []))) at told in
     record {

@@ -1,9 +1,8 @@
 -- The rows of an office after a deposit was destroyed.
-use Rattle.std.proofs.Common.{◌≡◌, ℕ, ◌+◌, ◌==◌, pos, Bool, true, false, not, List, [], ◌∷◌, ◌++◌, length, map, filter, Option, Some, None, is_none, refl, sym, ap, subst, ◌∙◌, cond, if◌then◌else◌}
+use Rattle.std.proofs.Common.{◌≡◌, ℕ, ◌==◌, pos, Bool, true, false, not, List, [], ◌∷◌, ◌++◌, length, map, filter, Some, None, is_none, refl, sym, ap, ◌∙◌, cond, if◌then◌else◌}
 use Rattle.std.specs.List.{flat_map}
 use Rattle.std.specs.Option.{option_or, option_map_or}
 use Rattle.std.specs.Ordering.{int_eq}
-use Rattle.std.proofs.lemmas.Bool.Decides.{Decides-eqb}
 use Rattle.std.proofs.lemmas.List.Elements.{filter-append}
 use Rattle.jiff.specs.Types.{Date}
 use Rattle.jiff.specs.Words.{epoch_day}
@@ -16,15 +15,10 @@ use Rattle.office_history.specs.Lists.{item_numbered, numbers}
 use Rattle.office_history.specs.Histories.{History, Change, Destroyed, Deposit, with_changes, deposits, destruction_day}
 use Rattle.office_history.specs.Stocks.{files_of}
 use Rattle.office_history.specs.Pictures.{deposit_row, deposit_rows, file_row, file_rows, picture, caller_row, rule_rows, office_row}
-use Rattle.office_history.proofs.Alike.{gone_grown}
-use Rattle.office_asking.proofs.NumberedRows.{rows_from}
+use Rattle.office_history.proofs.Alike.{gone_grown, or_none}
+use Rattle.office_asking.proofs.NumberedRows.{rows_from, rows_changed, itself, another, mark}
 use Rattle.office_asking.proofs.DepositTold.{deposit_rows_are}
-use Rattle.office_asking.proofs.HoldTold.{same_number, eqb-sym}
 use Rattle.office_asking.proofs.Unchanged.{row_by_gone, same_policy, same_classes, same_collections, same_deposits, same_hold_rows}
-
-pub rows_changed : {A R : Type 0} (change : R → R) (before after : ℕ → A → R) → ((m : ℕ) (x : A) → change (before m x) ≡ after m x) → (xs : List A) (start : ℕ) → map change (rows_from before start xs) ≡ rows_from after start xs
-rows_changed change before after same [] start = refl
-rows_changed change before after same (x ∷ xs) start = λ i. same start x i ∷ rows_changed change before after same xs (start + 1) i
 
 module _ (h : History) (day : Date) (n : ℕ) (kept_before : destruction_day h n ≡ None) where
   abbrev more : List Change
@@ -33,39 +27,23 @@ module _ (h : History) (day : Date) (n : ℕ) (kept_before : destruction_day h n
   abbrev longer : History
   longer = with_changes h more
 
-  or_nothing : (o : Option Date) → option_or o None ≡ o
-  or_nothing None = refl
-  or_nothing (Some d) = refl
-
   gone_then : (m : ℕ) → destruction_day longer m ≡ option_or (destruction_day h m) (if n == m then Some day else None)
-  gone_then m = gone_grown h more m ∙ ap (option_or (destruction_day h m)) (or_nothing (if n == m then Some day else None))
+  gone_then m = gone_grown h more m ∙ ap (option_or (destruction_day h m)) (or_none (if n == m then Some day else None))
 
   -- the deposit itself, and each other one
-  itself : (m : ℕ) → int_eq (pos m) (pos n) ≡ true → (destruction_day h m ≡ None) × (destruction_day longer m ≡ Some day)
-  itself m e =
-      let is : (m == n) ≡ true = sym (same_number m n) ∙ e in
-      let was : destruction_day h m ≡ None = subst (λ k. destruction_day h k ≡ None) (sym ((Decides-eqb m n).0 is)) kept_before in
-      (was, gone_then m ∙ (λ i. option_or (was i) (if (sym (eqb-sym m n) ∙ is) i then Some day else None)))
+  this_one : (m : ℕ) → int_eq (pos m) (pos n) ≡ true → (destruction_day h m ≡ None) × (destruction_day longer m ≡ Some day)
+  this_one = itself (destruction_day h) (destruction_day longer) n day kept_before gone_then
 
-  another : (m : ℕ) → int_eq (pos m) (pos n) ≡ false → destruction_day longer m ≡ destruction_day h m
-  another m e =
-      let is : (m == n) ≡ false = sym (same_number m n) ∙ e in
-      gone_then m ∙ (λ i. option_or (destruction_day h m) (if (sym (eqb-sym m n) ∙ is) i then Some day else None)) ∙ or_nothing (destruction_day h m)
+  another_one : (m : ℕ) → int_eq (pos m) (pos n) ≡ false → destruction_day longer m ≡ destruction_day h m
+  another_one = another (destruction_day h) (destruction_day longer) n day kept_before gone_then
 
   abbrev marked : DepositRow → DepositRow
   marked d = if is_deposit (pos n) d then record d { gone = Some (epoch_day day) } else d
 
-  mark : (m : ℕ) (x : Date × Deposit) → marked (deposit_row h m x) ≡ row_by_gone m (destruction_day longer m) x
-  mark m x = by (int_eq (pos m) (pos n)) refl
-    where
-      by : (b : Bool) → int_eq (pos m) (pos n) ≡ b → (if int_eq (pos m) (pos n) then record (deposit_row h m x) { gone = Some (epoch_day day) } else deposit_row h m x) ≡ row_by_gone m (destruction_day longer m) x
-      by true e = ap (λ b. if b then record (deposit_row h m x) { gone = Some (epoch_day day) } else deposit_row h m x) e ∙ ap (λ g. row_by_gone m g x) (sym (itself m e).1)
-      by false e = ap (λ b. if b then record (deposit_row h m x) { gone = Some (epoch_day day) } else deposit_row h m x) e ∙ ap (λ g. row_by_gone m g x) (sym (another m e))
-
   deposits_told : map marked (deposit_rows h) ≡ deposit_rows longer
   deposits_told =
       ap (map marked) (deposit_rows_are h)
-      ∙ rows_changed marked (deposit_row h) (λ m. row_by_gone m (destruction_day longer m)) mark (deposits h) 1
+      ∙ rows_changed marked (deposit_row h) (λ m. row_by_gone m (destruction_day longer m)) (mark (destruction_day h) (destruction_day longer) n day kept_before gone_then row_by_gone) (deposits h) 1
       ∙ ap (rows_from (λ m. row_by_gone m (destruction_day longer m)) 1) (sym (same_deposits h more refl))
       ∙ sym (deposit_rows_are longer)
 
@@ -107,12 +85,12 @@ module _ (h : History) (day : Date) (n : ℕ) (kept_before : destruction_day h n
           → filter stays (flat_map rows_at (cond (is_none (destruction_day h m)) (m ∷ (kept_first ms)) (kept_first ms))) ≡ flat_map rows_at (cond (is_none (destruction_day longer m)) (m ∷ (kept_then ms)) (kept_then ms))
       by true e rest =
           step (is_none (destruction_day h m))
-          ∙ (λ i. cond (is_none ((itself m e).0 i)) (own_dropped m (files_of h m) e i) [] ++ rest i)
-          ∙ (λ i. cond (is_none (sym (itself m e).1 i)) (rows_at m) [] ++ flat_map rows_at (kept_then ms))
+          ∙ (λ i. cond (is_none ((this_one m e).0 i)) (own_dropped m (files_of h m) e i) [] ++ rest i)
+          ∙ (λ i. cond (is_none (sym (this_one m e).1 i)) (rows_at m) [] ++ flat_map rows_at (kept_then ms))
           ∙ sym (back (is_none (destruction_day longer m)))
       by false e rest =
           step (is_none (destruction_day h m))
-          ∙ (λ i. cond (is_none (sym (another m e) i)) (others_stay m (files_of h m) e i) [] ++ rest i)
+          ∙ (λ i. cond (is_none (sym (another_one m e) i)) (others_stay m (files_of h m) e i) [] ++ rest i)
           ∙ sym (back (is_none (destruction_day longer m)))
 
   files_told : filter stays (file_rows h) ≡ file_rows longer

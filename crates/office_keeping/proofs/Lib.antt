@@ -1,5 +1,4 @@
 pub mod GoneTold
-pub mod Disposals
 pub mod AccessionTold
 pub mod Placing
 pub mod DepositedTold

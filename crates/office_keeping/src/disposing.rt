@@ -1,55 +1,20 @@
 //! The disposal of deposits.
 
 ghost use Rattle.std.specs.Prelude.{◌≡◌, IfErr, [], ◌∷◌, None};
-ghost use Rattle.jiff.specs.Types.{Date};
-ghost use Rattle.office_core.specs.declared.action.Action.TheVariants as acts;
 ghost use Rattle.office_core.specs.declared.request.Request.TheVariants as requests;
 ghost use Rattle.office_tables.specs.Faults.{IsFailure};
 ghost use Rattle.office_tables.specs.Calls.{CommitsNothing, Continues};
-ghost use Rattle.office_history.specs.Histories.{Deposit, Destroyed, destruction_day};
-ghost use Rattle.office_history.specs.Pictures.{deposit_row};
-ghost use Rattle.office_history.specs.Refusals.{facts_of, refusal};
+ghost use Rattle.office_history.specs.Histories.{Destroyed, destruction_day};
+ghost use Rattle.office_history.specs.Refusals.{refusal};
 ghost use Rattle.office_asking.specs.Serving.{Finds, Accepts, Decides};
 
-use office_asking::{Asker, day_numbered, due_day, least_hold, optional_day_numbered};
-use office_core::{Action, Answer, Day, Facts, Refusal, Subject, verdict};
+use office_asking::{Asker, disposal_facts};
+use office_core::{Answer, Day, Refusal, Subject, verdict};
 use office_history::judging::refusal_of;
 use office_history::laws::verdicts_decide;
-use office_tables::{DepositRow, TableFault, deposit_row, drop_files, mark_gone};
+use office_tables::{TableFault, deposit_row, drop_files, mark_gone};
 use sqlite::{Alter, Transaction};
 use std::alloc::Global;
-
-/// What is known of the disposal of the deposit of that number, whose row this is.
-fn disposal_facts<S: Alter>(
-    alloc: Global,
-    tx: &mut Transaction<'_, S>,
-    caller: &str,
-    number: u32,
-    deposit: &DepositRow,
-) -> Result<Facts, TableFault>
-    ensures same_reference { tx.new.conn.ghost_name ≡ tx.old.conn.ghost_name }
-    ensures stays { CommitsNothing S.Store tx.old.conn.now tx.new.conn.now }
-    ensures goes_on { Continues S.Store tx.old.conn.now tx.new.conn.now result }
-    ensures failure { IfErr result IsFailure }
-    ensures facts { Finds S.Store tx.old.conn.now tx.new.conn.now result (λ h facts.
-        (found : Date × Deposit) → deposit.now ≡ deposit_row h number found → facts ≡ facts_of h caller.now acts.Dispose number found.1) }
-{
-    let gone = optional_day_numbered(deposit.gone)?;
-    let closed = day_numbered(deposit.closed)?;
-    let collection: &str = &deposit.collection;
-    let class: &str = &deposit.class;
-    let hold = least_hold(alloc, tx, number, collection)?;
-    let due = due_day(tx, class, closed)?;
-    let asker = Asker::read(alloc, tx, caller)?;
-    let decision = asker.decision(Action::Dispose, Some(collection), Some(class))?;
-    Ok(Facts {
-        action: Action::Dispose,
-        decision,
-        gone,
-        hold,
-        due,
-    })
-}
 
 /// The refusal that stands first against the disposal of the deposit of that number, if one stands.
 fn disposal_refusal<S: Alter>(
@@ -69,7 +34,8 @@ fn disposal_refusal<S: Alter>(
     let Some(deposit) = deposit_row(tx, number)? else {
         return Ok(Some(Refusal::NoSuch(Subject::Deposit)));
     };
-    let facts = disposal_facts(alloc, tx, caller, number, &deposit)?;
+    let asker = Asker::read(alloc, tx, caller)?;
+    let facts = disposal_facts(alloc, tx, &asker, &deposit)?;
     Ok(refusal_of(verdict(&facts, day)))
 }
 

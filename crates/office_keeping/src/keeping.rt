@@ -48,8 +48,8 @@ fn add_files<S: Alter>(
     Ok(())
 }
 
-/// A count as a row has it.
-fn counted(count: usize) -> Result<i64, TableFault>
+/// The number that stands in a row for a count.
+fn row_count(count: usize) -> Result<i64, TableFault>
     ensures same { IfOk result (λ number. number ≡ pos count) }
     ensures failure { IfErr result IsFailure }
 {
@@ -87,8 +87,8 @@ pub(crate) fn keep<S: Alter>(
         class,
         closed: closed.number() as i64,
         deposited: day.number() as i64,
-        files: counted(payload.files)?,
-        bytes: counted(payload.bytes)?,
+        files: row_count(payload.files)?,
+        bytes: row_count(payload.bytes)?,
     };
     put_deposit(tx, new)?;
     add_files(tx, number, bag.files())

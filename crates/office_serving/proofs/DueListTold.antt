@@ -3,21 +3,16 @@ use Rattle.std.proofs.Common.{◌≡◌, ℕ, suc, ◌+◌, ◌<◌, pos, Bool, 
 use Rattle.std.proofs.lemmas.Option.{slice_get-get_or}
 use Rattle.jiff.specs.Types.{Date}
 use Rattle.jiff.specs.Words.{epoch_day}
-use Rattle.office_core.specs.declared.action.Action.TheVariants as acts
-use Rattle.office_core.specs.declared.facts.Facts.{Facts}
 use Rattle.office_core.specs.declared.request.Request.TheVariants.{Dispose}
-use Rattle.office_core.specs.declared.retention.Due.{Due}
-use Rattle.office_core.specs.declared.rule.Decision.{Decision}
 use Rattle.office_rows.specs.Rows.{DepositRow}
 use Rattle.office_history.specs.Lists.{numbers}
-use Rattle.office_history.specs.Histories.{History, Deposit, deposits, deposit_numbered, destruction_day, due, least_hold}
+use Rattle.office_history.specs.Histories.{History, Deposit, deposits, deposit_numbered, destruction_day, due}
 use Rattle.office_history.specs.Pictures.{deposit_row, deposit_rows}
-use Rattle.office_history.specs.Refusals.{deciding_rule, facts_of, refusal}
+use Rattle.office_history.specs.Refusals.{refusal}
 use Rattle.office_history.specs.Answers.{due_list}
-use Rattle.office_history.proofs.Pictured.{same_days}
 use Rattle.office_serving.specs.Listing.{is_due}
 use Rattle.office_serving.proofs.ListedRows.{all_rows, row_at, passes_next, fails_next, filter_both}
-use Rattle.office_serving.proofs.RecordTold.{same_count}
+use Rattle.office_asking.proofs.NumberedRows.{same_count}
 
 module _ (h : History) (day : Date) (caller : List ℕ) (n : ℕ) (found : Date × Deposit) (row : DepositRow) (is : row ≡ deposit_row h n found) where
   -- one that is kept

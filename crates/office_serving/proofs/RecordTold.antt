@@ -1,7 +1,6 @@
 -- What is told of a deposit, by its row.
-use Rattle.std.proofs.Common.{◌≡◌, ℕ, pos, sym, ap, ◌∙◌}
+use Rattle.std.proofs.Common.{◌≡◌, ℕ, ap, ◌∙◌}
 use Rattle.jiff.specs.Types.{Date}
-use Rattle.jiff.specs.Words.{epoch_day}
 use Rattle.office_core.specs.declared.answer.DepositRecord.{DepositRecord}
 use Rattle.office_core.specs.declared.retention.Due.{Due}
 use Rattle.office_rows.specs.Rows.{DepositRow}
@@ -10,10 +9,8 @@ use Rattle.office_history.specs.Pictures.{deposit_row}
 use Rattle.office_history.specs.Answers.{record_of}
 use Rattle.office_history.proofs.Pictured.{same_day}
 use Rattle.bag_check.specs.Validity.{payload_files, payload_bytes}
+use Rattle.office_asking.proofs.NumberedRows.{same_count}
 use Rattle.office_serving.specs.Told.{IsRecordOf}
-
-pub same_count : (m n : ℕ) → pos m ≡ pos n → m ≡ n
-same_count m n e = cc
 
 pub record_is : (h : History) (n : ℕ) (found : Date × Deposit) (row : DepositRow) → row ≡ deposit_row h n found → (due_day : Due) → due_day ≡ due h found.1 → (told : DepositRecord) → IsRecordOf row due_day told → told ≡ record_of h n found
 record_is h n found row is due_day due_is told e = λ i. record {
@@ -27,7 +24,3 @@ record_is h n found row is due_day due_is told e = λ i. record {
   bytes = same_count told.bytes (payload_bytes found.1.bag) (e.bytes ∙ ap (λ (r : DepositRow). r.bytes) is) i;
   due = (e.due_is ∙ due_is) i;
 }
-
--- the closing day of the row is the deposit's
-pub closed_is : (h : History) (n : ℕ) (found : Date × Deposit) (row : DepositRow) → row ≡ deposit_row h n found → (closed : Date) → epoch_day closed ≡ row.closed → found.1.closed ≡ closed
-closed_is h n found row is closed e = sym (same_day closed found.1.closed (e ∙ ap (λ (r : DepositRow). r.closed) is))

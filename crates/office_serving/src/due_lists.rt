@@ -2,53 +2,23 @@
 
 ghost use Rattle.std.specs.Prelude.{◌≡◌, IfErr, List, ℕ};
 ghost use Rattle.jiff.specs.Types.{Date};
-ghost use Rattle.office_core.specs.declared.action.Action.TheVariants as acts;
 ghost use Rattle.office_core.specs.declared.request.Request.TheVariants as requests;
 ghost use Rattle.office_tables.specs.Faults.{IsFailure};
 ghost use Rattle.office_tables.specs.Calls.{CommitsNothing, Continues, ContinuesInTurn};
 ghost use Rattle.office_history.specs.Histories.{Deposit, deposit_numbered};
 ghost use Rattle.office_history.specs.Pictures.{deposit_row, deposit_rows};
-ghost use Rattle.office_history.specs.Refusals.{facts_of};
 ghost use Rattle.office_history.specs.Answers.{due_list};
 ghost use Rattle.office_asking.specs.Asking.{IsAsker};
 ghost use Rattle.office_asking.specs.Serving.{Finds, Decides};
 ghost use Rattle.office_serving.specs.Listing.{is_due};
 
-use office_asking::{Asker, day_numbered, due_day, least_hold, optional_day_numbered};
-use office_core::{Action, Answer, Day, Facts, Sequence, verdict};
+use office_asking::{Asker, disposal_facts};
+use office_core::{Answer, Day, Sequence, verdict};
 use office_history::judging::refusal_of;
 use office_history::laws::verdicts_decide;
 use office_tables::{DepositRow, TableFault, deposit_rows};
 use sqlite::{Alter, Transaction};
 use std::alloc::Global;
-
-/// What is known of the disposal of the deposit that has this row.
-fn disposal_facts<S: Alter>(
-    alloc: Global,
-    tx: &mut Transaction<'_, S>,
-    asker: &Asker,
-    row: &DepositRow,
-) -> Result<Facts, TableFault>
-    ensures same_reference { tx.new.conn.ghost_name ≡ tx.old.conn.ghost_name }
-    ensures stays { CommitsNothing S.Store tx.old.conn.now tx.new.conn.now }
-    ensures goes_on { Continues S.Store tx.old.conn.now tx.new.conn.now result }
-    ensures failure { IfErr result IsFailure }
-    ensures facts { Finds S.Store tx.old.conn.now tx.new.conn.now result (λ h facts.
-        (caller : List ℕ) → IsAsker h caller asker.now → (n : ℕ) (found : Date × Deposit) → row.now ≡ deposit_row h n found → facts ≡ facts_of h caller acts.Dispose n found.1) }
-{
-    let gone = optional_day_numbered(row.gone)?;
-    let closed = day_numbered(row.closed)?;
-    let decision = asker.decision(Action::Dispose, Some(&row.collection), Some(&row.class))?;
-    let hold = least_hold(alloc, tx, row.number, &row.collection)?;
-    let due = due_day(tx, &row.class, closed)?;
-    Ok(Facts {
-        action: Action::Dispose,
-        decision,
-        gone,
-        hold,
-        due,
-    })
-}
 
 /// Whether the caller may destroy the deposit that has this row.
 fn is_due<S: Alter>(

@@ -5,7 +5,7 @@ ghost use Rattle.std.specs.Prelude.{◌≡◌, if◌then◌else◌, Some, None, 
 ghost use Rattle.std.specs.Str.{is_utf8};
 ghost use Rattle.office_tables.specs.Faults.{IsFailure};
 
-use office_core::{Accession, Matter, Name, OwnedAccession, OwnedMatter, OwnedName};
+use office_core::{Accession, Name, OwnedAccession, OwnedName};
 use office_tables::TableFault;
 use std::alloc::Global;
 
@@ -27,17 +27,6 @@ pub fn accession_in(alloc: Global, text: &str) -> Result<OwnedAccession, TableFa
 {
     match Accession::read(text) {
         Some(accession) => Ok(accession.to_owned(alloc)?),
-        None => Err(TableFault::Store),
-    }
-}
-
-/// The matter that a text is.
-pub fn matter_in(alloc: Global, text: &str) -> Result<OwnedMatter, TableFault>
-    ensures matter { IfOk result (λ matter. matter ≡ text.now) }
-    ensures failure { IfErr result IsFailure }
-{
-    match Matter::read(text) {
-        Some(matter) => Ok(matter.to_owned(alloc)?),
         None => Err(TableFault::Store),
     }
 }

@@ -1,7 +1,6 @@
-use Rattle.std.proofs.Common.{rules, ◌≡◌, sym, subst, ◌∙◌, Some, None, option_map}
+use Rattle.std.proofs.Common.{rules, ◌≡◌, sym, ◌∙◌, Some, None, option_map}
 use Rattle.sqlite.specs.State.{HasCleanDisk}
 use Rattle.sqlite.specs.Held.{state}
-use Rattle.office_tables.specs.Tables.{IsOffice}
 use Rattle.office_history.specs.Histories as histories
 use Rattle.office_history.specs.Pictures.{deposit_row}
 use Rattle.office_history.specs.Refusals.{denial, kept_refusals}
@@ -99,3 +98,6 @@ returns-in-None-clause-goes_on g c = goes_twice (state g.S.Store c.args.tx.now.c
 
 pub returns-in-None-clause-same : goal.returns-in-None-clause-same
 returns-in-None-clause-same g c = same_twice (state g.S.Store c.args.tx.now.conn.now) (state g.S.Store c.deposit_row.new.tx.conn.now) (state g.S.Store c.denial.new.tx.conn.now) c.denial.ensures.stays c.in_ok-deposit.ensures.same c.in_ok-denied.ensures.same
+
+pub returns-in_err-days-clause-stays : goal.returns-in_err-days-clause-stays
+returns-in_err-days-clause-stays g c = stays_then (state g.S.Store c.args.tx.now.conn.now) (state g.S.Store c.deposit_row.new.tx.conn.now) (state g.S.Store c.denial.new.tx.conn.now) c.deposit_row.ensures.stays c.in_ok-deposit.ensures.goes_on c.denial.ensures.stays

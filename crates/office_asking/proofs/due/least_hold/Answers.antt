@@ -1,16 +1,42 @@
-use Rattle.std.proofs.Common.{rules, ◌≡◌, slice_get, ◌∙◌}
+use Rattle.std.proofs.Common.{rules, ◌≡◌, slice_get, Some, None, ◌∙◌}
+use Rattle.sqlite.specs.State.{HasCleanDisk}
 use Rattle.sqlite.specs.Held.{state}
+use Rattle.sql_meaning.proofs.Inside.{stays_then}
 use Rattle.office_asking.proofs.Readings.{pictured_still}
 use Rattle.office_asking.proofs.HoldTold.{first_live}
+use Rattle.office_asking.proofs.InTurn.{clean_before, goes_twice}
 use Rattle.office_asking.proofs.due.least_hold.Goals as goal
+
+pub returns-in_default-clause-least : goal.returns-in_default-clause-least
+returns-in_default-clause-least g c clean h legal pictured =
+    let a = c.args in
+    let old = state g.S.Store a.tx.now.conn.now in
+    let new = state g.S.Store c.live_holds.new.tx.conn.now in
+    let numbers = c.in_ok-holds.holds.items in
+    let first : None ≡ slice_get numbers 0 = search rules in (
+      pictured_still h old.now pictured new.now (c.in_ok-holds.ensures.same clean pictured.office),
+      λ deposit is. first ∙ first_live h old.now pictured a.number a.collection.now numbers (c.in_ok-holds.ensures.found clean pictured.office) deposit is,
+    )
 
 pub returns-clause-least : goal.returns-clause-least
 returns-clause-least g c clean h legal pictured =
     let a = c.args in
     let old = state g.S.Store a.tx.now.conn.now in
-    let new = state g.S.Store c.live_holds.new.tx.conn.now in
+    let mid = state g.S.Store c.live_holds.new.tx.conn.now in
+    let early : HasCleanDisk mid = clean_before mid (state g.S.Store c.told_hold.new.tx.conn.now) c.told_hold.ensures.stays clean in
+    let still = pictured_still h old.now pictured mid.now (c.in_ok-holds.ensures.same early pictured.office) in
+    let told = c.in_ok-told_hold.ensures.told clean h legal still in
     let numbers = c.in_ok-holds.holds.items in
-    let first : c.copied.result ≡ slice_get numbers 0 = search rules in (
-      pictured_still h old.now pictured new.now (c.in_ok-holds.ensures.same clean pictured.office),
-      λ deposit is. first ∙ first_live h old.now pictured a.number a.collection.now numbers (c.in_ok-holds.ensures.found clean pictured.office) deposit is,
+    let first : Some c.in-Some.least ≡ slice_get numbers 0 = search rules in (
+      told.0,
+      λ deposit is. first ∙ first_live h old.now pictured a.number a.collection.now numbers (c.in_ok-holds.ensures.found early pictured.office) deposit is,
     )
+
+pub returns-in_err-told_hold-clause-stays : goal.returns-in_err-told_hold-clause-stays
+returns-in_err-told_hold-clause-stays g c = stays_then (state g.S.Store c.args.tx.now.conn.now) (state g.S.Store c.live_holds.new.tx.conn.now) (state g.S.Store c.told_hold.new.tx.conn.now) c.live_holds.ensures.stays c.in_ok-holds.ensures.goes_on c.told_hold.ensures.stays
+
+pub returns-clause-stays : goal.returns-clause-stays
+returns-clause-stays g c = stays_then (state g.S.Store c.args.tx.now.conn.now) (state g.S.Store c.live_holds.new.tx.conn.now) (state g.S.Store c.told_hold.new.tx.conn.now) c.live_holds.ensures.stays c.in_ok-holds.ensures.goes_on c.told_hold.ensures.stays
+
+pub returns-clause-goes_on : goal.returns-clause-goes_on
+returns-clause-goes_on g c = goes_twice (state g.S.Store c.args.tx.now.conn.now) (state g.S.Store c.live_holds.new.tx.conn.now) (state g.S.Store c.told_hold.new.tx.conn.now) c.told_hold.ensures.stays c.in_ok-holds.ensures.goes_on c.in_ok-told_hold.ensures.goes_on

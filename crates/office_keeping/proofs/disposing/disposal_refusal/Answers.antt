@@ -25,23 +25,41 @@ pub returns-clause-refusal : goal.returns-clause-refusal
 returns-clause-refusal g c clean h legal pictured =
     let a = c.args in
     let old = state g.S.Store a.tx.now.conn.now in
-    let mid = state g.S.Store c.deposit_row.new.tx.conn.now in
-    let early : HasCleanDisk mid = clean_before mid (state g.S.Store c.disposal_facts.new.tx.conn.now) c.disposal_facts.ensures.stays clean in
-    let read = deposit_read h old.now pictured a.number c.in_ok-deposit.field-0 (c.in_ok-deposit.ensures.found early pictured.office) in
-    let still = pictured_still h old.now pictured mid.now (c.in_ok-deposit.ensures.same early pictured.office) in
+    let s1 = state g.S.Store c.deposit_row.new.tx.conn.now in
+    let s2 = state g.S.Store c.read.new.tx.conn.now in
+    let clean2 : HasCleanDisk s2 = clean_before s2 (state g.S.Store c.disposal_facts.new.tx.conn.now) c.disposal_facts.ensures.stays clean in
+    let clean1 : HasCleanDisk s1 = clean_before s1 s2 c.read.ensures.stays clean2 in
+    let read = deposit_read h old.now pictured a.number c.in_ok-deposit.field-0 (c.in_ok-deposit.ensures.found clean1 pictured.office) in
+    let still = pictured_still h old.now pictured s1.now (c.in_ok-deposit.ensures.same clean1 pictured.office) in
     let row = c.in-Some.deposit in
     let some : Some row ≡ option_map (deposit_row h a.number) (histories.deposit_numbered h a.number) = sym c.in-Some.is ∙ read in
     let found = there h a.caller.now acts.Dispose a.number row some in
-    let known = c.in_ok-facts.ensures.facts clean h legal still in
-    let facts = known.1 found.0 found.2 in
+    let asked = c.in_ok-asker.ensures.asker clean2 h legal still in
+    let known = c.in_ok-facts.ensures.facts clean h legal asked.0 in
+    let facts = known.1 a.caller.now asked.1 a.number found.0 found.2 in
     let told : c.refusal_of.result ≡ refusal_of (verdict_of c.in_ok-facts.facts a.day) = search rules in
     (known.0, told ∙ ap (λ f. refusal_of (verdict_of f a.day)) facts ∙ sym (c.verdicts_decide.ensures.disposal h a.day a.caller.now a.number found.0 found.1))
 
+pub returns-in_err-asker-clause-stays : goal.returns-in_err-asker-clause-stays
+returns-in_err-asker-clause-stays g c = stays_then (state g.S.Store c.args.tx.now.conn.now) (state g.S.Store c.deposit_row.new.tx.conn.now) (state g.S.Store c.read.new.tx.conn.now) c.deposit_row.ensures.stays c.in_ok-deposit.ensures.goes_on c.read.ensures.stays
+
 pub returns-in_err-facts-clause-stays : goal.returns-in_err-facts-clause-stays
-returns-in_err-facts-clause-stays g c = stays_then (state g.S.Store c.args.tx.now.conn.now) (state g.S.Store c.deposit_row.new.tx.conn.now) (state g.S.Store c.disposal_facts.new.tx.conn.now) c.deposit_row.ensures.stays c.in_ok-deposit.ensures.goes_on c.disposal_facts.ensures.stays
+returns-in_err-facts-clause-stays g c =
+    let s0 = state g.S.Store c.args.tx.now.conn.now in
+    let s1 = state g.S.Store c.deposit_row.new.tx.conn.now in
+    let s2 = state g.S.Store c.read.new.tx.conn.now in
+    stays_then s0 s2 (state g.S.Store c.disposal_facts.new.tx.conn.now) (stays_then s0 s1 s2 c.deposit_row.ensures.stays c.in_ok-deposit.ensures.goes_on c.read.ensures.stays) (goes_twice s0 s1 s2 c.read.ensures.stays c.in_ok-deposit.ensures.goes_on c.in_ok-asker.ensures.goes_on) c.disposal_facts.ensures.stays
 
 pub returns-clause-stays : goal.returns-clause-stays
-returns-clause-stays g c = stays_then (state g.S.Store c.args.tx.now.conn.now) (state g.S.Store c.deposit_row.new.tx.conn.now) (state g.S.Store c.disposal_facts.new.tx.conn.now) c.deposit_row.ensures.stays c.in_ok-deposit.ensures.goes_on c.disposal_facts.ensures.stays
+returns-clause-stays g c =
+    let s0 = state g.S.Store c.args.tx.now.conn.now in
+    let s1 = state g.S.Store c.deposit_row.new.tx.conn.now in
+    let s2 = state g.S.Store c.read.new.tx.conn.now in
+    stays_then s0 s2 (state g.S.Store c.disposal_facts.new.tx.conn.now) (stays_then s0 s1 s2 c.deposit_row.ensures.stays c.in_ok-deposit.ensures.goes_on c.read.ensures.stays) (goes_twice s0 s1 s2 c.read.ensures.stays c.in_ok-deposit.ensures.goes_on c.in_ok-asker.ensures.goes_on) c.disposal_facts.ensures.stays
 
 pub returns-clause-goes_on : goal.returns-clause-goes_on
-returns-clause-goes_on g c = goes_twice (state g.S.Store c.args.tx.now.conn.now) (state g.S.Store c.deposit_row.new.tx.conn.now) (state g.S.Store c.disposal_facts.new.tx.conn.now) c.disposal_facts.ensures.stays c.in_ok-deposit.ensures.goes_on c.in_ok-facts.ensures.goes_on
+returns-clause-goes_on g c =
+    let s0 = state g.S.Store c.args.tx.now.conn.now in
+    let s1 = state g.S.Store c.deposit_row.new.tx.conn.now in
+    let s2 = state g.S.Store c.read.new.tx.conn.now in
+    goes_twice s0 s2 (state g.S.Store c.disposal_facts.new.tx.conn.now) c.disposal_facts.ensures.stays (goes_twice s0 s1 s2 c.read.ensures.stays c.in_ok-deposit.ensures.goes_on c.in_ok-asker.ensures.goes_on) c.in_ok-facts.ensures.goes_on

@@ -36,8 +36,8 @@ returns-clause-kept g c clean h legal pictured next =
     ok_then c.add_files.result (kept_deposit h legal a.day d a.number old.now mid.now new.now next pictured added)
     (subst (λ fs. OnOk c.add_files.result (Becomes new.now (with_files (pos a.number) fs (tables_of mid.now)))) c.files.ensures.whole (c.add_files.ensures.becomes clean added.office))
 
-pub returns-in_err-counted-clause-stays : goal.returns-in_err-counted-clause-stays
-returns-in_err-counted-clause-stays g c = stays_still (state g.S.Store c.args.tx.now.conn.now)
+pub returns-in_err-row_count-clause-stays : goal.returns-in_err-row_count-clause-stays
+returns-in_err-row_count-clause-stays g c = stays_still (state g.S.Store c.args.tx.now.conn.now)
 
-pub returns-in_err-counted-2-clause-stays : goal.returns-in_err-counted-2-clause-stays
-returns-in_err-counted-2-clause-stays g c = stays_still (state g.S.Store c.args.tx.now.conn.now)
+pub returns-in_err-row_count-2-clause-stays : goal.returns-in_err-row_count-2-clause-stays
+returns-in_err-row_count-2-clause-stays g c = stays_still (state g.S.Store c.args.tx.now.conn.now)

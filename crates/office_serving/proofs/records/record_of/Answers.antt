@@ -2,7 +2,8 @@ use Rattle.std.proofs.Common.{rules, ◌≡◌, ap, sym, ◌∙◌}
 use Rattle.jiff.specs.Words.{epoch_day}
 use Rattle.office_rows.specs.Rows.{DepositRow}
 use Rattle.sql_meaning.proofs.Results.{if_ok}
-use Rattle.office_serving.proofs.RecordTold.{record_is, closed_is}
+use Rattle.office_asking.proofs.DepositTold.{closed_is}
+use Rattle.office_serving.proofs.RecordTold.{record_is}
 use Rattle.sqlite.specs.Held.{state}
 use Rattle.office_asking.proofs.InTurn.{stays_still}
 use Rattle.office_serving.proofs.records.record_of.Goals as goal

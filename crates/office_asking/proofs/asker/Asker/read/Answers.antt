@@ -1,4 +1,4 @@
-use Rattle.std.proofs.Common.{sym, subst, ◌∙◌, option_map, string_bytes}
+use Rattle.std.proofs.Common.{sym, subst, option_map, string_bytes}
 use Rattle.sqlite.specs.State.{HasCleanDisk}
 use Rattle.sqlite.specs.Held.{state}
 use Rattle.office_tables.specs.Tables.{IsOffice}

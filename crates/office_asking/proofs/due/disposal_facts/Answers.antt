@@ -7,10 +7,11 @@ use Rattle.office_rows.specs.Rows.{DepositRow}
 use Rattle.office_history.specs.Histories.{least_hold}
 use Rattle.office_history.specs.Refusals.{deciding_rule}
 use Rattle.office_history.proofs.DisposalFacts.{same_facts}
-use Rattle.office_serving.proofs.RecordTold.{closed_is, same_count}
+use Rattle.office_asking.proofs.NumberedRows.{same_count}
+use Rattle.office_asking.proofs.DepositTold.{closed_is}
 use Rattle.office_asking.proofs.InTurn.{clean_before, goes_twice, stays_still}
 use Rattle.sql_meaning.proofs.Inside.{stays_then}
-use Rattle.office_serving.proofs.due_lists.disposal_facts.Goals as goal
+use Rattle.office_asking.proofs.due.disposal_facts.Goals as goal
 
 pub returns-clause-facts : goal.returns-clause-facts
 returns-clause-facts g c clean h legal pictured =
@@ -25,15 +26,15 @@ returns-clause-facts g c clean h legal pictured =
     let class : c.deref-2.result.now ≡ row.class = search rules in
     let covered : c.deref-3.result.now ≡ row.collection = search rules in
     let kept : c.deref-4.result.now ≡ row.class = search rules in
-    let closed : epoch_day c.in_ok-closed.closed ≡ row.closed = search rules in
-    let gone : option_map epoch_day c.in_ok-gone.gone ≡ row.gone = search rules in (
+    let closed : epoch_day c.in_ok-days.days.closed ≡ row.closed = search rules in
+    let gone : option_map epoch_day c.in_ok-days.days.gone ≡ row.gone = search rules in (
       due.0,
       λ caller is n found row_is.
-          same_facts h caller n found row row_is c.in_ok-decision.decision c.in_ok-gone.gone c.in_ok-hold.hold c.in_ok-due.due
+          same_facts h caller n found row row_is c.in_ok-decision.decision c.in_ok-days.days.gone c.in_ok-hold.hold c.in_ok-due.due
           (c.in_ok-decision.ensures.decided h caller legal is ∙ (λ i. deciding_rule h caller acts.Dispose (Some (collection i)) (Some (class i))))
           gone
           (held.1 found.1 (sym (ap (λ (r : DepositRow). r.collection) row_is) ∙ sym covered) ∙ ap (λ m. least_hold h m found.1) (same_count c.row.inside.number n (count ∙ ap (λ (r : DepositRow). r.number) row_is)))
-          (due.1 found.1 (sym (ap (λ (r : DepositRow). r.class) row_is) ∙ sym kept) (closed_is h n found row row_is c.in_ok-closed.closed closed)),
+          (due.1 found.1 (sym (ap (λ (r : DepositRow). r.class) row_is) ∙ sym kept) (closed_is h n found row row_is c.in_ok-days.days.closed closed)),
     )
 
 pub returns-in_err-due-clause-stays : goal.returns-in_err-due-clause-stays
@@ -45,11 +46,8 @@ returns-clause-stays g c = stays_then (state g.S.Store c.args.tx.now.conn.now) (
 pub returns-clause-goes_on : goal.returns-clause-goes_on
 returns-clause-goes_on g c = goes_twice (state g.S.Store c.args.tx.now.conn.now) (state g.S.Store c.least_hold.new.tx.conn.now) (state g.S.Store c.due_day.new.tx.conn.now) c.due_day.ensures.stays c.in_ok-hold.ensures.goes_on c.in_ok-due.ensures.goes_on
 
-pub returns-in_err-gone-clause-stays : goal.returns-in_err-gone-clause-stays
-returns-in_err-gone-clause-stays g c = stays_still (state g.S.Store c.args.tx.now.conn.now)
-
-pub returns-in_err-closed-clause-stays : goal.returns-in_err-closed-clause-stays
-returns-in_err-closed-clause-stays g c = stays_still (state g.S.Store c.args.tx.now.conn.now)
+pub returns-in_err-days-clause-stays : goal.returns-in_err-days-clause-stays
+returns-in_err-days-clause-stays g c = stays_still (state g.S.Store c.args.tx.now.conn.now)
 
 pub returns-in_err-decision-clause-stays : goal.returns-in_err-decision-clause-stays
 returns-in_err-decision-clause-stays g c = stays_still (state g.S.Store c.args.tx.now.conn.now)

@@ -1,8 +1,8 @@
 use Rattle.sqlite.specs.Held.{state}
 use Rattle.sql_meaning.proofs.Results.{if_ok}
 use Rattle.office_asking.proofs.Readings.{pictured_still}
-use Rattle.office_serving.proofs.HoldsTold.{hold_told}
-use Rattle.office_serving.proofs.hold_lists.told_hold.Goals as goal
+use Rattle.office_asking.proofs.HoldTold.{hold_told}
+use Rattle.office_asking.proofs.holds.told_hold.Goals as goal
 
 pub returns-in-Some-clause-told : goal.returns-in-Some-clause-told
 returns-in-Some-clause-told g c clean h legal pictured =

@@ -1,0 +1,20 @@
+-- What the row of a hold tells.
+use Rattle.std.specs.Prelude.{◌≡◌, ℤ, pos, List, ℕ, Option, Some, None}
+use Rattle.jiff.specs.Words.{epoch_day}
+use Rattle.office_core.specs.declared.answer.LiveHold.{LiveHold}
+use Rattle.office_core.specs.declared.answer.Scope.{Scope}
+use Rattle.office_core.specs.declared.answer.Scope.TheVariants as scopes
+use Rattle.office_rows.specs.Rows.{HoldRow}
+
+-- what a row names: a deposit, or a collection, and not both
+abbrev pub scope_in : Option ℤ → Option (List ℕ) → Option Scope
+scope_in (Some deposit) None = Some scopes.Deposit
+scope_in None (Some collection) = Some scopes.Collection
+scope_in deposit collection = None
+
+-- what is told is what the row of the hold says
+pub record IsHoldOf (row : HoldRow) (told : LiveHold) : Type 0 where
+  pub number : pos told.number ≡ row.number
+  pub matter : told.matter ≡ row.matter
+  pub on : Some told.on ≡ scope_in row.deposit row.collection
+  pub placed : epoch_day told.placed ≡ row.placed

@@ -1,0 +1,61 @@
+//! What the row of a hold tells.
+
+ghost use Rattle.std.specs.Prelude.{◌≡◌, IfErr, IfOk, Some};
+ghost use Rattle.office_tables.specs.Faults.{IsFailure};
+ghost use Rattle.office_tables.specs.Calls.{CommitsNothing, Continues};
+ghost use Rattle.office_history.specs.Answers.{told_hold};
+ghost use Rattle.office_asking.specs.Serving.{Finds};
+ghost use Rattle.office_asking.specs.Holds.{IsHoldOf, scope_in};
+
+use crate::rows::{day_numbered, matter_in};
+use office_core::{LiveHold, Scope};
+use office_tables::{HoldRow, TableFault, hold_row};
+use sqlite::{Alter, Transaction};
+use std::alloc::Global;
+
+/// What a row names: a deposit, or a collection.
+fn scope_of(row: &HoldRow) -> Result<Scope, TableFault>
+    ensures scope { IfOk result (λ scope. Some scope ≡ scope_in row.now.deposit row.now.collection) }
+    ensures failure { IfErr result IsFailure }
+{
+    match (&row.deposit, &row.collection) {
+        (Some(_), None) => Ok(Scope::Deposit),
+        (None, Some(_)) => Ok(Scope::Collection),
+        _ => Err(TableFault::Store),
+    }
+}
+
+/// What a row tells of its hold.
+///
+/// Fails with `Memory` or `Store`.
+pub fn hold_in(alloc: Global, row: &HoldRow) -> Result<LiveHold, TableFault>
+    ensures told { IfOk result (λ told. IsHoldOf row.now told) }
+    ensures failure { IfErr result IsFailure }
+{
+    Ok(LiveHold {
+        number: row.number,
+        matter: matter_in(alloc, &row.matter)?,
+        on: scope_of(row)?,
+        placed: day_numbered(row.placed)?,
+    })
+}
+
+/// What is told of the hold of that number.
+///
+/// Fails with `Memory` or `Store`.
+pub fn told_hold<S: Alter>(
+    alloc: Global,
+    tx: &mut Transaction<'_, S>,
+    number: u32,
+) -> Result<LiveHold, TableFault>
+    ensures same_reference { tx.new.conn.ghost_name ≡ tx.old.conn.ghost_name }
+    ensures stays { CommitsNothing S.Store tx.old.conn.now tx.new.conn.now }
+    ensures goes_on { Continues S.Store tx.old.conn.now tx.new.conn.now result }
+    ensures failure { IfErr result IsFailure }
+    ensures told { Finds S.Store tx.old.conn.now tx.new.conn.now result (λ h told. Some told ≡ told_hold h number) }
+{
+    match hold_row(tx, number)? {
+        Some(row) => hold_in(alloc, &row),
+        None => Err(TableFault::Store),
+    }
+}
