@@ -61,7 +61,7 @@ module _ {S : Type 0} (g : Ghosts S) (first : Held S) (last end : State) (stays 
           (last.now, makes h legal (keeps was_open).0, settled db shows.is_open left ∙ ap (λ (found : Database). found.trees) shows.committed_is)
 
       pub commits : (db : Trees) → db ≡ last.now.trees → CommitsTo (state g first) next db
-      commits db is h legal keeps = (last.now, makes h legal (keeps was_open).0, is)
+      commits db is = (was_open, λ h legal keeps. (last.now, makes h legal (keeps was_open).0, is))
 
     -- a commit that fails has rolled back
     pub failed_back : (e : Error) → FailsToCommit last end e → IsRolledBack last end
@@ -112,5 +112,5 @@ pub left_by : (old new : State) (next : History → History) → ((db : Trees) �
     → LeavesEither old new next
 left_by old new next settled survives clean h legal is_open keeps db may = elim (survives.crash clean db may) [
   | inl was ↦ inl (old.now, (keeps is_open).0, settled db is_open was ∙ ap (λ (d : Database). d.trees) (keeps is_open).1)
-  | inr made ↦ inr (made h legal keeps)
+  | inr made ↦ inr (made.1 h legal keeps)
 ]

@@ -1,5 +1,6 @@
 pub mod Accepted
 pub mod Ends
+pub mod FoundAfter
 pub mod Kept
 pub mod RunTurns
 pub mod Stopping

@@ -1,16 +1,17 @@
 -- What is found again after a stop.
-use Rattle.std.proofs.Common.{◌⊎◌, inl, inr, List}
+use Rattle.std.proofs.Common.{◌⊎◌, inl, inr, List, Result, Ok, Err, OnErr}
 use Rattle.std.proofs.Math.Logic.{∥∥₁_map}
 use Rattle.sqlite.specs.Tree.{Trees}
 use Rattle.sqlite.specs.Recovery.{Image}
 use Rattle.sqlite.specs.Files.{HoldsDatabase}
 use Rattle.sqlite.specs.State.{State}
+use Rattle.office_core.specs.declared.answer.Answer.{Answer}
 use Rattle.office_rows.specs.Rows.{this_version}
 use Rattle.office_history.specs.Histories.{History}
 use Rattle.office_history.specs.Pictures.{picture}
 use Rattle.office_history.specs.Runs.{Item}
 use Rattle.office_recovery.specs.Found.{HoldsWhere, PicksUp}
-use Rattle.office_engine.specs.Keeping.{IsAfterSome, IsKeptBy, IsLeftOf, IsLeftOfEither, IsLeftOfRun}
+use Rattle.office_engine.specs.Keeping.{IsKeptBy, IsKeptOfRun, IsLeftOf, IsLeftOfEither, IsLeftOfRun}
 use Rattle.office_engine.proofs.Kept.{rows_left}
 
 -- what files hold of a history is picked up as that history
@@ -24,10 +25,13 @@ either_found image s g h picks holds = ∥∥₁_map holds (λ d. one d.0 d.2 d.
     one db held (inl left) = inl (picked image s picks db held g left)
     one db held (inr left) = inr (picked image s picks db held h left)
 
-pub some_found : (image : Image) (s : State) (h : History) (items : List Item) → PicksUp image s → HoldsWhere (IsLeftOfRun h items) image → ∥ IsAfterSome h items s ∥₁
-some_found image s h items picks holds =
-    ∥∥₁_map holds (λ d. record { count = d.1.count; within = d.1.within; given = d.1.given; next = d.1.next; run = d.1.run; kept = picked image s picks d.0 d.2 d.1.next d.1.is_left })
+pub run_found : (image : Image) (s : State) (h : History) (items : List Item) (given : List Answer) → PicksUp image s → HoldsWhere (IsLeftOfRun h items given) image → ∥ IsKeptOfRun h items given s ∥₁
+run_found image s h items given picks holds = ∥∥₁_map holds (λ d. (d.1.0, d.1.1, picked image s picks d.0 d.2 d.1.0 d.1.2))
 
 -- what is so of all that a crash may leave is so of what the files hold
 pub holds_all : (image : Image) (new : State) (P : Trees → Type 0) → ((left : Trees) → new.may_leave left → P left) → HoldsWhere new.may_leave image → HoldsWhere P image
 holds_all image new P leaves holds = ∥∥₁_map holds (λ d. (d.0, leaves d.0 d.1, d.2))
+
+pub on_err_both : {T E P Q R : Type 0} (r : Result T E) → (P → Q → R) → OnErr r P → OnErr r Q → OnErr r R
+on_err_both (Ok x) f p q = tt
+on_err_both (Err e) f p q = f p q

@@ -1,18 +1,17 @@
 -- What an office keeps over its connection, what a request does to it, and what a crash may leave. `old` is the store before a call
 -- and `new` the store after it.
-use Rattle.std.specs.Prelude.{◌⊎◌, ◌≡◌, ◌≢◌, List, [], ◌∷◌, ℕ, ◌≤◌, Bool, true, false, IsTrue, All, length, take}
+use Rattle.std.specs.Prelude.{◌⊎◌, ◌≡◌, ◌≢◌, List, [], ◌∷◌, ℕ, Bool, true, false, IsTrue, All, drop}
 use Rattle.jiff.specs.Types.{Date}
 use Rattle.sqlite.specs.Tree.{Trees}
 use Rattle.sqlite.specs.Effect.{Database}
 use Rattle.sqlite.specs.Store.{Ghosts}
-use Rattle.sqlite.specs.State.{State}
+use Rattle.sqlite.specs.State.{State, Survives}
 use Rattle.sqlite.specs.Held.{Held, state}
 use Rattle.office_core.specs.Policies.{Contents}
 use Rattle.office_core.specs.declared.answer.Answer.{Answer}
 use Rattle.office_core.specs.declared.answer.Answer.TheVariants as answers
 use Rattle.office_core.specs.declared.request.Request.{Request}
 use Rattle.office_core.specs.declared.request.Request.TheVariants.{Audit}
-use Rattle.office_tables.specs.Opening.{IsKept}
 use Rattle.office_tables.specs.Tables.{IsOffice, tables_of}
 use Rattle.office_history.specs.Histories.{History, Installed, with_changes}
 use Rattle.office_history.specs.Answers.{change, after, due_list}
@@ -26,6 +25,10 @@ use Rattle.office_serving.specs.Audits.{IsAuditOf}
 abbrev pub IsKeptBy : History → State → Type 0
 IsKeptBy h s = IsTrue s.is_open → Pictures h s.now × (s.committed ≡ s.now)
 
+-- the tables are as they were, and all of it is committed
+abbrev pub IsUnchanged : State → State → Type 0
+IsUnchanged old new = IsTrue new.is_open → IsTrue old.is_open × (new.now ≡ old.now) × (new.committed ≡ old.now)
+
 -- what a crash leaves pictures the history
 abbrev pub IsLeftOf : History → Trees → Type 0
 IsLeftOf h left = (found : Database) × Pictures h found × (left ≡ found.trees)
@@ -34,14 +37,18 @@ IsLeftOf h left = (found : Database) × Pictures h found × (left ≡ found.tree
 abbrev pub IsLeftOfEither : History → History → Trees → Type 0
 IsLeftOfEither g h left = IsLeftOf g left ⊎ IsLeftOf h left
 
--- whichever legal history was kept, a crash may leave the one that this makes of it
+-- the store was open, and whichever legal history was kept, a crash may leave the one that this makes of it
 abbrev pub CommitsTo : State → (History → History) → Trees → Type 0
-CommitsTo old next left = (h : History) → IsLegal h → IsKeptBy h old → IsLeftOf (next h) left
+CommitsTo old next left = IsTrue old.is_open × ((h : History) → IsLegal h → IsKeptBy h old → IsLeftOf (next h) left)
 
 -- whichever legal history was kept, a crash leaves it, or the one that this makes of it
 abbrev pub LeavesEither : State → State → (History → History) → Type 0
 LeavesEither old new next =
     (h : History) → IsLegal h → IsTrue old.is_open → IsKeptBy h old → (left : Trees) → new.may_leave left → IsLeftOfEither h (next h) left
+
+-- a crash leaves the history that is kept, and nothing else
+abbrev pub LeavesKept : State → Type 0
+LeavesKept s = (h : History) → IsTrue s.is_open → IsKeptBy h s → (left : Trees) → s.may_leave left → IsLeftOf h left
 
 -- ---- one request
 
@@ -87,9 +94,12 @@ StaysShut old new given = old.is_open ≡ false → IsFailure given × (new.is_o
 -- what one request does and is answered, as each of a run is
 pub record IsTurn (old new : State) (item : Item) (given : Answer) : Type 0 where
   pub served : Serves old new item given
-  pub kept : is_accepted given ≡ false → IsKept old new
+  pub kept : is_accepted given ≡ false → IsUnchanged old new
   pub audited : Audits old item.2 given
   pub shut : StaysShut old new given
+  pub survives : Survives old new (CommitsTo old (after_item item))
+  pub durable : Lasts old new item given
+  pub leaves : LeavesEither old new (after_item item)
 
 -- the requests were served one after the other, each over the store that the one before it left
 abbrev pub InTurn : {S : Type 0} → Ghosts S → Held S → Held S → List Item → List Answer → Type 0
@@ -105,32 +115,39 @@ AllStayShut old new given = old.is_open ≡ false → All IsFailure given × (ne
 abbrev pub Runs : State → State → List Item → List Answer → Type 0
 Runs old new items given = (h : History) → IsLegal h → IsKeptBy h old → (next : History) × Run h items given next × IsReached next new
 
--- this is left of a run of some beginning of the items
-pub record IsLeftOfRun (h : History) (items : List Item) (left : Trees) : Type 0 where
+-- ---- what is left of a run
+
+-- this is the history with the change of one item more, which was answered with a failure, as was each item after it
+pub record AddsFailed (told : History) (items : List Item) (given : List Answer) (found : History) : Type 0 where
   pub count : ℕ
-  pub within : count ≤ length items
-  pub given : List Answer
-  pub next : History
-  pub run : Run h (take count items) given next
-  pub is_left : IsLeftOf next left
+  pub item : Item
+  pub rest : List Item
+  pub is_item : drop count items ≡ item ∷ rest
+  pub failed : All IsFailure (drop count given)
+  pub added : found ≡ after_item item told
 
--- the history after some beginning of the items is kept
-pub record IsAfterSome (h : History) (items : List Item) (s : State) : Type 0 where
-  pub count : ℕ
-  pub within : count ≤ length items
-  pub given : List Answer
-  pub next : History
-  pub run : Run h (take count items) given next
-  pub kept : IsKeptBy next s
+-- after a run that was answered so, a crash leaves this history: the one that the answers tell, or that one with the change of an item that failed
+pub record IsFoundAfter (h : History) (items : List Item) (given : List Answer) (found : History) : Type 0 where
+  pub told : History
+  pub run : Run h items given told
+  pub is_found : (found ≡ told) ⊎ AddsFailed told items given found
 
--- whichever legal history was kept, a crash may leave what some beginning of the items made of it
-abbrev pub CommitsRun : State → List Item → Trees → Type 0
-CommitsRun old items left = (h : History) → IsLegal h → IsKeptBy h old → IsLeftOfRun h items left
+-- what a crash leaves of such a run
+abbrev pub IsLeftOfRun : History → List Item → List Answer → Trees → Type 0
+IsLeftOfRun h items given left = (found : History) × IsFoundAfter h items given found × IsLeftOf found left
 
--- and leaves nothing else
-abbrev pub LeavesRun : State → State → List Item → Type 0
-LeavesRun old new items =
-    (h : History) → IsLegal h → IsTrue old.is_open → IsKeptBy h old → (left : Trees) → new.may_leave left → IsLeftOfRun h items left
+-- and what is kept of it, once it is found again
+abbrev pub IsKeptOfRun : History → List Item → List Answer → State → Type 0
+IsKeptOfRun h items given s = (found : History) × IsFoundAfter h items given found × IsKeptBy found s
+
+-- the store was open, and whichever legal history was kept, a crash may leave what such a run makes of it
+abbrev pub CommitsRun : State → List Item → List Answer → Trees → Type 0
+CommitsRun old items given left = IsTrue old.is_open × ((h : History) → IsLegal h → IsKeptBy h old → IsLeftOfRun h items given left)
+
+-- whichever legal history was kept, a crash leaves what such a run makes of it, and nothing else
+abbrev pub LeavesRun : State → State → List Item → List Answer → Type 0
+LeavesRun old new items given =
+    (h : History) → IsLegal h → IsTrue old.is_open → IsKeptBy h old → (left : Trees) → new.may_leave left → IsLeftOfRun h items given left
 
 -- ---- an install
 

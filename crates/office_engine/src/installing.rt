@@ -4,8 +4,7 @@ ghost use Rattle.std.specs.Prelude.{◌≡◌, IfErr, IsTrue, OnErr, OnOk, false
 ghost use Rattle.sqlite.specs.State.{HasCleanDisk, Survives};
 ghost use Rattle.sqlite.specs.Held.{state};
 ghost use Rattle.office_tables.specs.Faults.{IsFailure};
-ghost use Rattle.office_tables.specs.Opening.{IsKept};
-ghost use Rattle.office_engine.specs.Keeping.{CommitsTo, InstallLasts, Installs, LeavesEither, with_policy};
+ghost use Rattle.office_engine.specs.Keeping.{CommitsTo, InstallLasts, Installs, IsUnchanged, LeavesEither, with_policy};
 
 use office_core::Policy;
 use office_tables::TableFault;
@@ -25,14 +24,15 @@ fn install<S: Alter>(
         → OnOk result (Installs (state S.Store conn.old) (state S.Store conn.new) policy.now) }
     ensures open { HasCleanDisk (state S.Store conn.new) → OnOk result (IsTrue (state S.Store conn.old).is_open) }
     ensures kept { HasCleanDisk (state S.Store conn.new)
-        → OnErr result (IsKept (state S.Store conn.old) (state S.Store conn.new)) }
+        → OnErr result (IsUnchanged (state S.Store conn.old) (state S.Store conn.new)) }
     ensures survives { Survives (state S.Store conn.old) (state S.Store conn.new)
         (CommitsTo (state S.Store conn.old) (with_policy policy.now)) }
     ensures durable { HasCleanDisk (state S.Store conn.new)
         → OnOk result (InstallLasts (state S.Store conn.old) (state S.Store conn.new) policy.now) }
 {
-    // What the type of a policy says of its callers and rules.
+    // What the type of a policy says of its callers and rules, and the connection of its state.
     let _rules = policy.rules();
+    let _is_settled = conn.is_autocommit();
     let mut tx = conn.transaction();
     match office_defining::install(alloc, &mut tx, policy) {
         Ok(()) => match tx.commit() {
@@ -59,7 +59,7 @@ pub fn install_and_leave<S: Alter>(
         → OnOk result (Installs (state S.Store conn.old) (state S.Store conn.new) policy.now) }
     ensures open { HasCleanDisk (state S.Store conn.new) → OnOk result (IsTrue (state S.Store conn.old).is_open) }
     ensures kept { HasCleanDisk (state S.Store conn.new)
-        → OnErr result (IsKept (state S.Store conn.old) (state S.Store conn.new)) }
+        → OnErr result (IsUnchanged (state S.Store conn.old) (state S.Store conn.new)) }
     ensures survives { Survives (state S.Store conn.old) (state S.Store conn.new)
         (CommitsTo (state S.Store conn.old) (with_policy policy.now)) }
     ensures durable { HasCleanDisk (state S.Store conn.new)

@@ -1,16 +1,18 @@
 //! Laws of the office: those of its histories, and what its tables tell of them.
 
-ghost use Rattle.std.specs.Prelude.{◌≡◌, ◌↔◌, ℕ, List, pos};
+ghost use Rattle.std.specs.Prelude.{◌≡◌, ◌↔◌, ◌++◌, ℕ, List, [], ◌∷◌, pos};
 ghost use Rattle.jiff.specs.Types.{Date};
 ghost use Rattle.sqlite.specs.Effect.{Database};
+ghost use Rattle.office_core.specs.declared.answer.Answer.{Answer};
 ghost use Rattle.office_core.specs.declared.request.Request.{Request};
 ghost use Rattle.office_rows.specs.Rows.{empty_office, this_version};
 ghost use Rattle.office_tables.specs.Tables.{Becomes, tables_of};
 ghost use Rattle.office_history.specs.Histories.{History};
 ghost use Rattle.office_history.specs.Answers.{answer};
 ghost use Rattle.office_history.specs.RowRanges.{AreInRange};
-ghost use Rattle.office_history.specs.Runs.{IsLegal, new_history};
+ghost use Rattle.office_history.specs.Runs.{IsFailure, IsLater, IsLegal, Item, Run, new_history};
 ghost use Rattle.office_asking.specs.Pictures.{Pictures};
+ghost use Rattle.office_engine.specs.Keeping.{IsFoundAfter};
 
 pub use office_history::laws::{
     accessions_are_used_once, audits_are_valid, changes_stand, closed_by_the_day_of_deposit,
@@ -48,3 +50,14 @@ pub fn tables_are_in_range()
 {
     pictures_are_in_range();
 }
+
+/// What is found after a run has each change that its answers tell of. After a last answer that is
+/// no failure it has no other.
+pub fn accepted_changes_are_found()
+    ensures later { (h found : History) (items : List Item) (given : List Answer)
+        → IsFoundAfter h items given found
+        → (told : History) × Run h items given told × IsLater told found }
+    ensures exact { (h found : History) (items : List Item) (given : List Answer) (last : Answer)
+        → IsFoundAfter h items (given ++ last ∷ []) found
+        → (IsFailure last → ⊥) → Run h items (given ++ last ∷ []) found }
+{}

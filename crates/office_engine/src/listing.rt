@@ -4,8 +4,7 @@ ghost use Rattle.std.specs.Prelude.{◌≡◌, IfErr, IfOk, IsTrue, OnOk, false}
 ghost use Rattle.sqlite.specs.State.{HasCleanDisk, Survives};
 ghost use Rattle.sqlite.specs.Held.{state};
 ghost use Rattle.office_tables.specs.Faults.{IsFailure};
-ghost use Rattle.office_tables.specs.Opening.{IsKept};
-ghost use Rattle.office_engine.specs.Keeping.{ListsDue};
+ghost use Rattle.office_engine.specs.Keeping.{IsUnchanged, ListsDue};
 
 use office_core::Day;
 use office_serving::due_numbers;
@@ -26,9 +25,11 @@ pub fn due_list<S: Alter>(
     ensures listed { HasCleanDisk (state S.Store conn.new) → IfOk result (λ numbers.
         ListsDue (state S.Store conn.old) (state S.Store conn.new) day caller.now numbers.items) }
     ensures open { HasCleanDisk (state S.Store conn.new) → OnOk result (IsTrue (state S.Store conn.old).is_open) }
-    ensures kept { HasCleanDisk (state S.Store conn.new) → IsKept (state S.Store conn.old) (state S.Store conn.new) }
+    ensures kept { HasCleanDisk (state S.Store conn.new) → IsUnchanged (state S.Store conn.old) (state S.Store conn.new) }
     ensures survives { Survives (state S.Store conn.old) (state S.Store conn.new) (λ _. ⊥) }
 {
+    // What the connection says of its state.
+    let _is_settled = conn.is_autocommit();
     let mut tx = conn.transaction();
     let found = due_numbers(alloc, &mut tx, day, caller);
     tx.rollback();

@@ -8,6 +8,7 @@ ghost use Rattle.sqlite.specs.View.{IsClean};
 ghost use Rattle.sqlite.specs.State.{HasCleanDisk, Survives};
 ghost use Rattle.sqlite.specs.Held.{state};
 ghost use Rattle.sqlite.specs.Tree.{Trees};
+ghost use Rattle.office_core.specs.declared.answer.Answer.{Answer as AnswerValue};
 ghost use Rattle.office_tables.specs.Faults as faults;
 ghost use Rattle.office_tables.specs.Opening as opening;
 ghost use Rattle.office_tables.specs.Opening.{HasOtherVersion, HasVersion, IsKept, IsKnownAsOther, has_office};
@@ -19,7 +20,7 @@ ghost use Rattle.office_history.specs.Histories.{History};
 ghost use Rattle.office_history.specs.Answers.{after};
 ghost use Rattle.office_history.specs.Runs.{IsLegal, Item, new_history};
 ghost use Rattle.office_recovery.specs.Found.{HoldsWhere};
-ghost use Rattle.office_engine.specs.Keeping.{AllStayShut, Audits, CommitsRun, CommitsTo, InTurn, InstallLasts, Installs, IsAfterSome, IsKeptBy, IsLeftOf, IsLeftOfEither, IsLeftOfRun, Lasts, LeavesEither, LeavesRun, ListsDue, Runs, Serves, StaysShut, after_item, is_accepted, with_policy};
+ghost use Rattle.office_engine.specs.Keeping.{AllStayShut, Audits, CommitsRun, CommitsTo, InTurn, InstallLasts, Installs, IsKeptBy, IsKeptOfRun, IsLeftOf, IsLeftOfEither, IsLeftOfRun, IsUnchanged, Lasts, LeavesEither, LeavesKept, LeavesRun, ListsDue, Runs, Serves, StaysShut, after_item, is_accepted, with_policy};
 
 use crate::installing::install_and_leave;
 use crate::listing::due_list;
@@ -137,7 +138,7 @@ impl<S: Alter> Office<S> {
             → OnOk result (Installs (state S.Store self.old) (state S.Store self.new) policy.now) }
         ensures open { HasCleanDisk (state S.Store self.new) → OnOk result (IsTrue (state S.Store self.old).is_open) }
         ensures kept { HasCleanDisk (state S.Store self.new)
-            → OnErr result (IsKept (state S.Store self.old) (state S.Store self.new)) }
+            → OnErr result (IsUnchanged (state S.Store self.old) (state S.Store self.new)) }
         ensures survives { Survives (state S.Store self.old) (state S.Store self.new)
             (CommitsTo (state S.Store self.old) (with_policy policy.now)) }
         ensures durable { HasCleanDisk (state S.Store self.new)
@@ -154,7 +155,7 @@ impl<S: Alter> Office<S> {
         ensures served { HasCleanDisk (state S.Store self.new)
             → Serves (state S.Store self.old) (state S.Store self.new) (day, caller.entry, request.now) result }
         ensures kept { HasCleanDisk (state S.Store self.new) → is_accepted result ≡ false
-            → IsKept (state S.Store self.old) (state S.Store self.new) }
+            → IsUnchanged (state S.Store self.old) (state S.Store self.new) }
         // Whatever the tables of the office hold, an audit is the verdict on what stands there.
         ensures audited { HasCleanDisk (state S.Store self.new) → Audits (state S.Store self.old) request.now result }
         // Over a store that a fault has shut, it is a failure.
@@ -182,8 +183,12 @@ impl<S: Alter> Office<S> {
         ensures shut { HasCleanDisk (state S.Store self.new) → IfOk result (λ answers.
             AllStayShut (state S.Store self.old) (state S.Store self.new) answers.items) }
         ensures failed { OnErr result (self.new ≡ self.old) }
-        ensures survives { Survives (state S.Store self.old) (state S.Store self.new) (CommitsRun (state S.Store self.old) items.now) }
-        ensures leaves { HasCleanDisk (state S.Store self.new) → LeavesRun (state S.Store self.old) (state S.Store self.new) items.now }
+        ensures failed_leaves { OnErr result (LeavesKept (state S.Store self.new)) }
+        // What a crash leaves has every change that was answered as accepted.
+        ensures survives { IfOk result (λ answers. Survives (state S.Store self.old) (state S.Store self.new)
+            (CommitsRun (state S.Store self.old) items.now answers.items)) }
+        ensures leaves { HasCleanDisk (state S.Store self.new) → IfOk result (λ answers.
+            LeavesRun (state S.Store self.old) (state S.Store self.new) items.now answers.items) }
     {
         let mut answers = Vec::with_capacity(alloc, items.len())?;
         for item in items {
@@ -206,7 +211,7 @@ impl<S: Alter> Office<S> {
         ensures listed { HasCleanDisk (state S.Store self.new) → IfOk result (λ numbers.
             ListsDue (state S.Store self.old) (state S.Store self.new) day caller.now numbers.items) }
         ensures open { HasCleanDisk (state S.Store self.new) → OnOk result (IsTrue (state S.Store self.old).is_open) }
-        ensures kept { HasCleanDisk (state S.Store self.new) → IsKept (state S.Store self.old) (state S.Store self.new) }
+        ensures kept { HasCleanDisk (state S.Store self.new) → IsUnchanged (state S.Store self.old) (state S.Store self.new) }
         ensures survives { Survives (state S.Store self.old) (state S.Store self.new) (λ _. ⊥) }
     {
         due_list(alloc, &mut self.conn, day, caller)
@@ -238,18 +243,22 @@ pub fn stop_in<D: Disk + Drop>(
     stop(office.into_connection())
 }
 
-/// Serves requests one after the other, and stops there: the files as they are then.
+/// Serves requests one after the other, and stops there: what they were answered, and the files as
+/// they are then.
 pub fn stop_in_run<D: Disk + Drop>(
     alloc: Global,
     mut office: Office<FileStore<D>>,
     items: &[(Day, &str, Request<'_>)],
-) -> FileStore<D>
-    // They hold the office after some beginning of the requests.
-    ensures leaves { IsClean (view result) → (h : History) → IsLegal h → IsTrue (file_state office).is_open → IsKeptBy h (file_state office)
-        → (image : Image) → (files_state result).may_leave image → HoldsWhere (IsLeftOfRun h items.now) image }
+) -> (Result<Vec<Answer>, AllocError>, FileStore<D>)
+    // They hold the office that the answers tell, or that one with the change of a failed request.
+    ensures leaves { IsClean (view result.1) → IfOk result.0 (λ answers. (h : History) → IsLegal h → IsTrue (file_state office).is_open → IsKeptBy h (file_state office)
+        → (image : Image) → (files_state result.1).may_leave image → HoldsWhere (IsLeftOfRun h items.now answers.items) image) }
+    // Where there was no room for the answers, the office as it was.
+    ensures failed { IsClean (view result.1) → OnErr result.0 ((h : History) → IsTrue (file_state office).is_open → IsKeptBy h (file_state office)
+        → (image : Image) → (files_state result.1).may_leave image → HoldsWhere (IsLeftOf h) image) }
 {
-    let _answers = office.run(alloc, items);
-    stop(office.into_connection())
+    let answers = office.run(alloc, items);
+    (answers, stop(office.into_connection()))
 }
 
 /// The office that is found in files. `None` where they can't be opened, or are no office of this
@@ -266,9 +275,9 @@ pub fn reopen<D: Disk + Drop>(
     // Where they hold one of two offices, it is one of them.
     ensures either { IfSome result (λ office. HasCleanDisk (file_state office) → (g h : History)
         → HoldsWhere (IsLeftOfEither g h) (image_of D.Disk files) → ∥ (IsKeptBy g (file_state office) ⊎ IsKeptBy h (file_state office)) ∥₁) }
-    // Where they hold what some beginning of a run left, it is the office after some beginning.
-    ensures some_beginning { IfSome result (λ office. HasCleanDisk (file_state office) → (h : History) (items : List Item)
-        → HoldsWhere (IsLeftOfRun h items) (image_of D.Disk files) → ∥ IsAfterSome h items (file_state office) ∥₁) }
+    // Where they hold what a run left that was answered so, it is the office of that run.
+    ensures after_run { IfSome result (λ office. HasCleanDisk (file_state office) → (h : History) (items : List Item) (given : List AnswerValue)
+        → HoldsWhere (IsLeftOfRun h items given) (image_of D.Disk files) → ∥ IsKeptOfRun h items given (file_state office) ∥₁) }
 {
     Some(Office {
         conn: reopen_files(alloc, files, options)?,

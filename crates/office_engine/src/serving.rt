@@ -6,11 +6,10 @@ ghost use Rattle.sqlite.specs.Held.{state};
 ghost use Rattle.office_core.specs.declared.request.Request.TheVariants as requests;
 ghost use Rattle.office_tables.specs.Calls.{CommitsNothing, Continues, Tells};
 ghost use Rattle.office_tables.specs.Faults as faults;
-ghost use Rattle.office_tables.specs.Opening.{IsKept};
 ghost use Rattle.office_history.specs.Runs.{IsFailure};
 ghost use Rattle.office_asking.specs.Serving.{Decides};
 ghost use Rattle.office_serving.specs.Audits.{IsAuditOf};
-ghost use Rattle.office_engine.specs.Keeping.{Audits, CommitsTo, Lasts, LeavesEither, Serves, StaysShut, after_item, is_accepted};
+ghost use Rattle.office_engine.specs.Keeping.{Audits, CommitsTo, IsUnchanged, Lasts, LeavesEither, Serves, StaysShut, after_item, is_accepted};
 
 use office_core::{Answer, Day, Refusal, Request};
 use office_defining::{define_class, define_collection};
@@ -117,7 +116,7 @@ pub fn serve<S: Alter>(
     ensures outside { (state S.Store conn.new).in_transaction ≡ false }
     ensures served { HasCleanDisk (state S.Store conn.new)
         → Serves (state S.Store conn.old) (state S.Store conn.new) (day, caller.entry, request.now) result }
-    ensures kept { HasCleanDisk (state S.Store conn.new) → is_accepted result ≡ false → IsKept (state S.Store conn.old) (state S.Store conn.new) }
+    ensures kept { HasCleanDisk (state S.Store conn.new) → is_accepted result ≡ false → IsUnchanged (state S.Store conn.old) (state S.Store conn.new) }
     ensures audited { HasCleanDisk (state S.Store conn.new) → Audits (state S.Store conn.old) request.now result }
     ensures shut { HasCleanDisk (state S.Store conn.new) → StaysShut (state S.Store conn.old) (state S.Store conn.new) result }
     ensures survives { Survives (state S.Store conn.old) (state S.Store conn.new)
@@ -125,9 +124,10 @@ pub fn serve<S: Alter>(
     ensures durable { HasCleanDisk (state S.Store conn.new)
         → Lasts (state S.Store conn.old) (state S.Store conn.new) (day, caller.entry, request.now) result }
 {
-    // What the types of a day and of a request say of their values.
+    // What the types of a day and of a request say of their values, and the connection of its state.
     let _date = day.date();
     request.prove_in_range();
+    let _is_settled = conn.is_autocommit();
     let mut tx = conn.transaction();
     match decide(alloc, &mut tx, day, caller, request) {
         Ok(answer) => {
@@ -159,7 +159,7 @@ pub fn serve_and_leave<S: Alter>(
     ensures outside { (state S.Store conn.new).in_transaction ≡ false }
     ensures served { HasCleanDisk (state S.Store conn.new)
         → Serves (state S.Store conn.old) (state S.Store conn.new) (day, caller.entry, request.now) result }
-    ensures kept { HasCleanDisk (state S.Store conn.new) → is_accepted result ≡ false → IsKept (state S.Store conn.old) (state S.Store conn.new) }
+    ensures kept { HasCleanDisk (state S.Store conn.new) → is_accepted result ≡ false → IsUnchanged (state S.Store conn.old) (state S.Store conn.new) }
     ensures audited { HasCleanDisk (state S.Store conn.new) → Audits (state S.Store conn.old) request.now result }
     ensures shut { HasCleanDisk (state S.Store conn.new) → StaysShut (state S.Store conn.old) (state S.Store conn.new) result }
     ensures survives { Survives (state S.Store conn.old) (state S.Store conn.new)
