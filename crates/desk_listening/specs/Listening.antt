@@ -1,5 +1,5 @@
 -- What comes of connections, one after the other. `old` is the office before and `new` the office after. The rules are Depot's own.
-use Rattle.std.specs.Prelude.{◌≡◌, ℕ, List, [], ◌∷◌, Bool, true, false, Result, Ok, Err}
+use Rattle.std.specs.Prelude.{◌≡◌, ℕ, List, [], ◌∷◌, Bool, true, false, Result, Ok, Err, ⊤}
 use Rattle.jiff.specs.Types.{Date}
 use Rattle.sqlite.specs.Held.{Held, state}
 use Rattle.sqlite.specs.State.{HasCleanDisk}
@@ -29,6 +29,12 @@ IsAfter g day (served bytes item answer whole) old new =
     (heard : HeardValue) × Hears bytes (Ok heard) × (it : IsServed day heard (state g old) (state g new) answer) × (it.item ≡ item)
 IsAfter g day (refused bytes refusal) old new = Hears bytes (Err refusal) × (new ≡ old)
 IsAfter g day lost old new = new ≡ old
+
+-- these bytes were heard
+abbrev pub IsOf : List ℕ → Connection → Type 0
+IsOf input (served bytes item answer whole) = bytes ≡ input
+IsOf input (refused bytes refusal) = bytes ≡ input
+IsOf input lost = ⊤
 
 -- one connection after the other
 abbrev pub IsAfterAll : {S : Type 0} → Ghosts S → Date → List Connection → Held S → Held S → Type 0

@@ -1,7 +1,7 @@
 //! Connections, served one after the other.
 
-ghost use Rattle.std.specs.Prelude.{◌≡◌, ◌+◌, List, length, count_by};
-ghost use Rattle.desk_listening.specs.Listening.{Connection, IsAfter, IsAfterAll, IsRun, Tells, is_answered};
+ghost use Rattle.std.specs.Prelude.{◌≡◌, ◌+◌, List, length, count_by, IfSome};
+ghost use Rattle.desk_listening.specs.Listening.{Connection, IsAfter, IsAfterAll, IsOf, IsRun, Tells, is_answered};
 
 use crate::patience::Patience;
 use crate::stream::{Ends, hang_up};
@@ -22,6 +22,29 @@ pub struct Served {
     pub failed: u32,
 }
 
+/// Serves the one request that comes over these ends, and leaves the peer.
+fn serve_ends<S: Alter, C: Read + Write + OpenStream + Drop>(
+    alloc: Global,
+    office: &mut Office<S>,
+    day: Day,
+    ends: Ends<C>,
+    patience: &Patience,
+) -> Result<(), DeskFault>
+    // Where all that there is to read is known, it is what was heard.
+    ensures { (connection : Connection) × IsAfter S.Store day connection office.old office.new × Tells result connection
+        × IfSome (C.remaining ends.reader.device) (λ input. IsOf input connection) }
+{
+    let Ends {
+        mut reader,
+        mut writer,
+    } = ends;
+    let served = serve_one(alloc, office, day, &mut reader, &mut writer);
+    if served.is_ok() {
+        hang_up(&mut reader, patience);
+    }
+    served
+}
+
 /// Serves the one request of a connection, and leaves the peer.
 ///
 /// A stream that takes no waits, or gives no second handle, is a `Read`: nothing was done.
@@ -34,20 +57,10 @@ pub fn serve_stream<S: Alter, C: Read + Write + OpenStream + Drop>(
 ) -> Result<(), DeskFault>
     ensures { (connection : Connection) × IsAfter S.Store day connection office.old office.new × Tells result connection }
 {
-    let Ok(
-        Ends {
-            mut reader,
-            mut writer,
-        },
-    ) = Ends::of(stream, patience.talk)
-    else {
+    let Ok(ends) = Ends::of(stream, patience.talk) else {
         return Err(DeskFault::Read);
     };
-    let served = serve_one(alloc, office, day, &mut reader, &mut writer);
-    if served.is_ok() {
-        hang_up(&mut reader, patience);
-    }
-    served
+    serve_ends(alloc, office, day, ends, patience)
 }
 
 /// Waits for a connection, and serves it. A listener that gives none is a `Read`.

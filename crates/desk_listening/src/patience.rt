@@ -1,5 +1,8 @@
 //! How long the desk waits for a peer.
 
+ghost use Rattle.std.specs.Prelude.{◌≡◌};
+ghost use Rattle.std.specs.Duration.{as_nanos};
+
 use std::time::Duration;
 
 /// How long the desk waits for a peer, and how much it takes that it doesn't need.
@@ -16,6 +19,8 @@ pub struct Patience {
 }
 
 impl Default for Patience {
+    ghost is_default = { λ p. (as_nanos p.talk ≡ 30_000_000_000) × (as_nanos p.rest ≡ 1_000_000_000) × (p.rest_bytes ≡ 16_777_216) };
+
     /// 30 seconds for a read or a write, 1 second for a read behind the answer, and 16 MiB there.
     fn default() -> Patience {
         Patience {

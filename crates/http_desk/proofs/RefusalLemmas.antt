@@ -5,6 +5,8 @@ use Rattle.jiff.specs.Types.{Date}
 use Rattle.sqlite.specs.Held.{Held}
 use Rattle.sqlite.specs.Store.{Ghosts}
 use Rattle.desk_routes.specs.declared.refusal.DeskRefusal.{DeskRefusal}
+use Rattle.desk_routes.specs.declared.refusal.DeskRefusal.TheVariants.{Truncated}
+use Rattle.desk_hearing.specs.Asked.{HeardValue}
 use Rattle.desk_hearing.specs.Hearing.{Hears}
 use Rattle.desk_hearing.proofs.OneHearing.{one_hearing}
 use Rattle.desk_answers.specs.Answers.{refusal_text}
@@ -17,4 +19,15 @@ refused g true day bytes text refusal old new hears answered =
     search rules
 refused g false day bytes text refusal old new hears answered =
     let same = one_hearing bytes (Err answered.0) (Err refusal) answered.1 hears in
+    search rules
+
+-- a request that is heard is not cut short
+pub heard_whole : (bytes : List ℕ) (heard : HeardValue) → Hears bytes (Ok heard) → Hears bytes (Err Truncated) → ⊥
+heard_whole bytes heard hears short =
+    let same = one_hearing bytes (Ok heard) (Err Truncated) hears short in
+    search rules
+
+pub cut_short : (bytes : List ℕ) (refusal : DeskRefusal) → Hears bytes (Err refusal) → Hears bytes (Err Truncated) → refusal ≡ Truncated
+cut_short bytes refusal hears short =
+    let same = one_hearing bytes (Err refusal) (Err Truncated) hears short in
     search rules

@@ -1,7 +1,7 @@
 //! One request, heard, served and answered.
 
-ghost use Rattle.std.specs.Prelude.{◌≡◌, ◌<◌, ℕ, Bool, List, length, take, true, false, Err, OnOk, IfOk, IfErr, IfSome};
-ghost use Rattle.std.specs.Io.KnownBytes.{Appends, Consumes};
+ghost use Rattle.std.specs.Prelude.{◌≡◌, ◌≢◌, ◌<◌, ℕ, Bool, List, length, take, true, false, Err, OnOk, IfOk, IfErr, IfSome};
+ghost use Rattle.std.specs.Io.KnownBytes.{Appends, Consumes, IsAtEnd};
 ghost use Rattle.sqlite.specs.Held.{state};
 ghost use Rattle.office_core.specs.declared.answer.Answer.{Answer};
 ghost use Rattle.desk_devices.specs.Devices.{HasFailed};
@@ -81,7 +81,8 @@ pub(crate) fn respond<S: Alter, R: Read>(
 ) -> Result<Response, Unanswered>
     ensures answered { IfOk result (λ response. (given : List ℕ)
         × Consumes (R.remaining reader.old.device) (R.remaining reader.new.device) given
-        × IsAnswered S.Store response.done day given office.old office.new response.bytes.items) }
+        × IsAnswered S.Store response.done day given office.old office.new response.bytes.items
+        × (Hears given (Err DeskRefusal.Truncated) → IsAtEnd (R.remaining reader.new.device))) }
     ensures read { result ≡ Err Unanswered.Read → (given : List ℕ)
         × Consumes (R.remaining reader.old.device) (R.remaining reader.new.device) given
         × Hears given (Err DeskRefusal.Truncated) × HasFailed reader.old.failures reader.new.failures × (office.new ≡ office.old) }
@@ -89,6 +90,7 @@ pub(crate) fn respond<S: Alter, R: Read>(
         × Consumes (R.remaining reader.old.device) (R.remaining reader.new.device) given
         × ServesBytes day given (state S.Store office.old) (state S.Store office.new) answer }
     ensures not_served { result ≡ Err (Unanswered.Memory false) → office.new ≡ office.old }
+    ensures calm { result ≢ Err Unanswered.Read → reader.new.failures ≡ reader.old.failures }
     // Where all that the reader has is known, it is all that is heard.
     ensures whole { IfSome (R.remaining reader.old.device) (λ input. IfOk result (λ response.
         IsAnswered S.Store response.done day input office.old office.new response.bytes.items)) }
@@ -120,11 +122,12 @@ pub fn serve_one<S: Alter, R: Read, W: Write>(
     reader: &mut Counted<R>,
     writer: &mut Counted<W>,
 ) -> Result<(), DeskFault>
-    // The whole answer was written.
+    // The whole answer was written. What was given is cut short only at the end of the input.
     ensures answered { OnOk result ((given text : List ℕ) × (done : Bool)
         × Consumes (R.remaining reader.old.device) (R.remaining reader.new.device) given
         × IsAnswered S.Store done day given office.old office.new text
-        × Appends (W.contents writer.old.device) (W.contents writer.new.device) text) }
+        × Appends (W.contents writer.old.device) (W.contents writer.new.device) text
+        × (Hears given (Err DeskRefusal.Truncated) → IsAtEnd (R.remaining reader.new.device))) }
     // The reader failed in this call, and what it gave is no whole request.
     ensures read { result ≡ Err DeskFault.Read → (given : List ℕ)
         × Consumes (R.remaining reader.old.device) (R.remaining reader.new.device) given
@@ -135,12 +138,24 @@ pub fn serve_one<S: Alter, R: Read, W: Write>(
         × Consumes (R.remaining reader.old.device) (R.remaining reader.new.device) given
         × IsAnswered S.Store done day given office.old office.new text × (count < length text)
         × Appends (W.contents writer.old.device) (W.contents writer.new.device) (take count text)
-        × HasFailed writer.old.failures writer.new.failures }
+        × HasFailed writer.old.failures writer.new.failures
+        × (Hears given (Err DeskRefusal.Truncated) → IsAtEnd (R.remaining reader.new.device)) }
     // Memory ran out behind the office's answer, or before the office was asked.
     ensures memory_done { result ≡ Err (DeskFault.Memory true) → (given : List ℕ) × (answer : Answer)
         × Consumes (R.remaining reader.old.device) (R.remaining reader.new.device) given
         × ServesBytes day given (state S.Store office.old) (state S.Store office.new) answer × (writer.new ≡ writer.old) }
     ensures memory { result ≡ Err (DeskFault.Memory false) → (office.new ≡ office.old) × (writer.new ≡ writer.old) }
+    // Where all that the reader has is known, it is all that is answered.
+    ensures whole { OnOk result (IfSome (R.remaining reader.old.device) (λ input. (text : List ℕ) × (done : Bool)
+        × IsAnswered S.Store done day input office.old office.new text
+        × Appends (W.contents writer.old.device) (W.contents writer.new.device) text)) }
+    ensures whole_write { (done : Bool) → result ≡ Err (DeskFault.Write done) → IfSome (R.remaining reader.old.device) (λ input.
+        (text : List ℕ) × (count : ℕ) × IsAnswered S.Store done day input office.old office.new text × (count < length text)
+        × Appends (W.contents writer.old.device) (W.contents writer.new.device) (take count text)) }
+    ensures whole_memory_done { result ≡ Err (DeskFault.Memory true) → IfSome (R.remaining reader.old.device) (λ input.
+        (answer : Answer) × ServesBytes day input (state S.Store office.old) (state S.Store office.new) answer) }
+    ensures calm_reader { result ≢ Err DeskFault.Read → reader.new.failures ≡ reader.old.failures }
+    ensures calm_writer { ((done : Bool) → result ≢ Err (DeskFault.Write done)) → writer.new.failures ≡ writer.old.failures }
 {
     let Ok(routes) = Routes::new(alloc) else {
         return Err(DeskFault::Memory { done: false });

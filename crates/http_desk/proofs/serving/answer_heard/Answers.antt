@@ -8,7 +8,11 @@ returns g c = (
     item = (c.args.day, c.caller.result, c.request.result);
     asks = record { on_day = refl; caller = c.caller.ensures; asked = c.request.ensures };
     clean = λ clean. omega (arith, clean, c.step-answer.ensures.survives.clean);
+    survives = c.step-answer.ensures.survives;
     serves = c.step-answer.ensures.served;
+    kept = c.step-answer.ensures.kept;
+    audited = c.step-answer.ensures.audited;
+    shut = c.step-answer.ensures.shut;
     lasts = c.step-answer.ensures.durable;
     leaves = c.step-answer.ensures.leaves;
   },
