@@ -1,5 +1,5 @@
-//! Judges, packs and unpacks BagIt bags (RFC 8493), and says which rule of a policy decides, from the
-//! command line.
+//! Judges, packs and unpacks BagIt bags (RFC 8493), says which rule of a policy decides, and keeps an
+//! office of such bags in a file: from the command line.
 #![tactic(auto)]
 
 use commands::{Ending, refuse_words};

@@ -81,27 +81,3 @@ pub taken_as_held : {A E : Type 0} (r : Result A E) (shown : A → State) (image
 taken_as_held (Err e) shown image s cleans goes_on opened found = tt
 taken_as_held (Ok o) shown image s cleans goes_on opened found = λ clean h holds.
     let was = cleans clean in goes_on clean h (found_of image s (opened was).0 (opened was).1 (found was) h holds)
-
--- ---- closed
-
--- what connections made of an office
-pub served_on_files : {D E : Type 0} (g : Ghosts D) (r : Result (Files D) E) (day : Date) (count : ℕ) (first last : Held (FileStore D g)) (held holds : Option (List ℕ))
-    → ((port : ℕ) × Listens over_files day count port first last held holds) → IfOk r (λ files. AreClean g files.log files.db → IsCopied last files)
-    → IfOk r (λ files. AreClean g files.log files.db → (h : History) → IsLegal h → IsKeptBy h (file_state first)
-    → (next : History) × ServesFrom h count next × IsLegal next × HoldsWhere (IsLeftOf next) (image_of g files))
-served_on_files g (Err e) day count first last held holds listens copied = tt
-served_on_files g (Ok files) day count first last held holds listens copied = λ clean h legal keeps.
-    let it = copied clean in
-    let does = listens.1 in
-    let at = does.3 it.was_clean h legal keeps in
-    (at.0, (does.0, does.1, at.1), at.2.legal, held_of (image_of g files) (file_state last) it.was_open it.seen.both at.0 at.2)
-
-pub done_on_files : {D E : Type 0} (g : Ghosts D) (r : Result (Files D) E) (task : Task) (first last : Held (FileStore D g)) (was_left left held holds : Option (List ℕ))
-    → Does over_files task first last was_left left held holds → IfOk r (λ files. AreClean g files.log files.db → IsCopied last files)
-    → IfOk r (λ files. AreClean g files.log files.db → (h : History) → IsLegal h → IsKeptBy h (file_state first)
-    → (next : History) × DoesFrom task h next was_left left held holds × IsLegal next × HoldsWhere (IsLeftOf next) (image_of g files))
-done_on_files g (Err e) task first last was_left left held holds does copied = tt
-done_on_files g (Ok files) task first last was_left left held holds does copied = λ clean h legal keeps.
-    let it = copied clean in
-    let at = done_from over_files task first last was_left left held holds does it.was_clean h legal keeps in
-    (at.0, at.1, at.2.legal, held_of (image_of g files) (file_state last) it.was_open it.seen.both at.0 at.2)

@@ -6,3 +6,5 @@ pub mod TaskLemmas
 pub mod FileLemmas
 pub mod ReplayingLemmas
 pub mod ListeningLemmas
+pub mod CarryingLemmas
+pub mod CommandLemmas

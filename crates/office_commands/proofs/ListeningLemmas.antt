@@ -1,5 +1,5 @@
 -- What comes of connections, and the line that was printed before them.
-use Rattle.std.proofs.Common.{◌≡◌, ℕ, List, Option, Result, Ok, Err, IfOk, OnOk, length}
+use Rattle.std.proofs.Common.{◌≡◌, ℕ, List, Option, Result, Ok, Err, OnOk, length}
 use Rattle.std.specs.Prelude.{count_by}
 use Rattle.std.specs.Io.KnownBytes.{Appends}
 use Rattle.jiff.specs.Types.{Date}
@@ -18,7 +18,3 @@ pub tells_port : {S T E : Type 0} (g : Ghosts S) (r : Result T E) (day : Date) (
     → OnOk r ((port : ℕ) × Listens g day count port old new held holds) → OnOk r (TellsPort held holds)
 tells_port g (Ok x) day count old new held holds listens = (listens.0, listens.1.4)
 tells_port g (Err e) day count old new held holds listens = tt
-
-pub on_any : {T E : Type 0} (r : Result T E) (P : Type 0) → P → IfOk r (λ x. P)
-on_any (Ok x) P told = told
-on_any (Err e) P told = tt

@@ -9,10 +9,8 @@ use Rattle.office_core.specs.declared.policy_fault.PolicyFault.{PolicyFault}
 use Rattle.office_core.specs.declared.policy_fault.PolicyFault.TheVariants.{NotToml, BadVersion, UnknownKey, BadCaller, BadRule, TooMany, Memory}
 use Rattle.commands.specs.Explaining.{HasFault, Spells, bad_policy_reason, bad_policy_text}
 use Rattle.commands.specs.declared.ending.Ending.TheVariants.{Accepted, Refused}
-use Rattle.office_history.specs.Histories.{History}
 use Rattle.office_commands.specs.Policies.{ComesOfPolicy, IsRead, installed, refused, installed_text}
 use Rattle.office_commands.specs.declared.running.PolicyOutcome.{PolicyOutcome}
-use Rattle.office_commands.specs.Answering.{ReplaysFrom, ReplaysInMemory, after_install, made_office}
 
 abbrev Read : Type 0
 Read = Result Contents PolicyFault
@@ -31,25 +29,16 @@ refused_is_first bytes text (Err fault) same utf8 answers = elim (refusal_is fau
 
 -- ---- what is said of what was read
 
-pub says_installed : (read : Read) (policy : Contents) (held holds : Option (List ℕ)) → ((bytes : List ℕ) × IsRead bytes read) → read ≡ Ok policy → Appends held holds (installed_text policy)
-    → ComesOfPolicy held holds None Accepted
-says_installed read policy held holds is same writes = installed is.0 policy (subst (IsRead is.0) same is.1) writes refl refl
+pub says_installed : (IsInstalled : Contents → Type 0) (read : Read) (policy : Contents) (held holds : Option (List ℕ)) → ((bytes : List ℕ) × IsRead bytes read) → read ≡ Ok policy → IsInstalled policy
+    → Appends held holds (installed_text policy) → ComesOfPolicy IsInstalled held holds None Accepted
+says_installed IsInstalled read policy held holds is same on writes = installed is.0 policy (subst (IsRead is.0) same is.1) on writes refl refl
 
 -- what standard error is to be told
 abbrev why : PolicyOutcome → Option (List ℕ)
 why outcome = option_map string_bytes outcome.reason
 
-pub says_refused : {E : Type 0} (r : Result PolicyOutcome E) (read : Read) (fault : PolicyFault) (held holds : Option (List ℕ)) → ((bytes : List ℕ) × IsRead bytes read) → read ≡ Err fault
+pub says_refused : {E : Type 0} (IsInstalled : Contents → Type 0) (r : Result PolicyOutcome E) (read : Read) (fault : PolicyFault) (held holds : Option (List ℕ)) → ((bytes : List ℕ) × IsRead bytes read) → read ≡ Err fault
     → OnOk r (Appends held holds (bad_policy_text fault)) → IfOk r (λ outcome. why outcome ≡ Some (bad_policy_reason fault)) → IfOk r (λ outcome. outcome.ending ≡ Refused)
-    → IfOk r (λ outcome. ComesOfPolicy held holds (why outcome) outcome.ending)
-says_refused (Ok outcome) read fault held holds is same writes reason ending = refused is.0 fault (subst (IsRead is.0) same is.1) writes reason ending
-says_refused (Err e) read fault held holds is same writes reason ending = tt
-
--- ---- a replay under it
-
-pub replayed_in_memory : {T E : Type 0} (r : Result T E) (path : Option (Bor (List ℕ))) (it : Bor (List ℕ)) (read : Read) (policy : Contents) (was_left left held holds : Option (List ℕ)) → path ≡ Some it
-    → ((bytes : List ℕ) × IsRead bytes read) → read ≡ Ok policy → OnOk r ((next : History) × ReplaysFrom (after_install (Some policy) made_office) next was_left left held holds)
-    → OnOk r (ReplaysInMemory path was_left left held holds)
-replayed_in_memory (Err e) path it read policy was_left left held holds named is same replays = tt
-replayed_in_memory (Ok x) path it read policy was_left left held holds named is same replays =
-    subst (λ (p : Option (Bor (List ℕ))). ReplaysInMemory p was_left left held holds) (sym named) (Some policy, replays.0, (is.0, policy, subst (IsRead is.0) same is.1, refl), replays.1)
+    → IfOk r (λ outcome. ComesOfPolicy IsInstalled held holds (why outcome) outcome.ending)
+says_refused IsInstalled (Ok outcome) read fault held holds is same writes reason ending = refused is.0 fault (subst (IsRead is.0) same is.1) writes reason ending
+says_refused IsInstalled (Err e) read fault held holds is same writes reason ending = tt

@@ -1,5 +1,5 @@
 -- How an office answers the bytes of requests, said of its history.
-use Rattle.std.specs.Prelude.{◌≡◌, ℕ, List, [], Option, None, Some, Ok, Err}
+use Rattle.std.specs.Prelude.{◌≡◌, ℕ, List, [], Option, None, Some, Ok, Err, ◌+◌, length}
 use Rattle.std.specs.Io.KnownBytes.{Appends, Consumes, IsAtEnd}
 use denote.Ref.{Bor}
 use Rattle.jiff.specs.Types.{Date}
@@ -16,7 +16,9 @@ use Rattle.desk_hearing.specs.Hearing.{Hears}
 use Rattle.desk_answers.specs.Answers.{answer_text, refusal_text}
 use Rattle.desk_records.specs.RecordLists.{RequestRecord, HasRecords, answer_texts}
 use Rattle.http_desk.specs.Serving.{IsItemOf}
+use Rattle.http_desk.specs.Replaying.{IsNoRecord}
 use Rattle.http_desk.specs.ReplayRuns.{IsRunOf}
+use Rattle.office_commands.specs.Working.{whole_of}
 
 -- the history of an office that the program has just made
 abbrev pub made_office : History
@@ -34,9 +36,9 @@ pub data IsAnsweredFrom (h : History) (day : Date) (bytes text : List ℕ) (next
       → IsAnsweredFrom h day bytes text next
   refused : (refusal : DeskRefusal) → Hears bytes (Err refusal) → next ≡ h → text ≡ refusal_text refusal → IsAnsweredFrom h day bytes text next
 
--- the bytes that the input gives are answered so, and the text is written behind what the output held
+-- the bytes that the input gives, and no fewer than it had, are answered so, and the text is written behind what the output held
 abbrev pub AsksFrom : History → Date → History → Option (List ℕ) → Option (List ℕ) → Option (List ℕ) → Option (List ℕ) → Type 0
-AsksFrom h day next was_left left held holds = (given text : List ℕ) × Consumes was_left left given × IsAnsweredFrom h day given text next × Appends held holds text
+AsksFrom h day next was_left left held holds = (given text : List ℕ) × Consumes was_left left given × IsAnsweredFrom h day (whole_of was_left given) text next × Appends held holds text
 
 -- All that the input gives are records, to its end. What is heard of them is asked in their order, and what is written behind what the
 -- output held are the records of the answers of that run, and of the desk's refusals.
@@ -45,12 +47,15 @@ ReplaysFrom h next was_left left held holds =
     (given : List ℕ) × (items : List RequestRecord) × (texts : List (List ℕ)) × (run : List Item) × (answers : List Answer)
     × Consumes was_left left given × IsAtEnd left × HasRecords given items [] × IsRunOf items texts run answers × Run h run answers next × Appends held holds (answer_texts texts)
 
+-- What the input gives begins with records, and what follows them is none: this is its number, from 1. Those before it are asked in their
+-- order, and the records of the answers of that run, and of the desk's refusals, are written.
+abbrev pub StopsFrom : History → ℕ → History → Option (List ℕ) → Option (List ℕ) → Option (List ℕ) → Option (List ℕ) → Type 0
+StopsFrom h index next was_left left held holds =
+    (given rest : List ℕ) × (items : List RequestRecord) × (texts : List (List ℕ)) × (run : List Item) × (answers : List Answer)
+    × Consumes was_left left given × HasRecords given items rest × IsNoRecord left (length items) rest × (index ≡ length items + 1)
+    × IsRunOf items texts run answers × Run h run answers next × Appends held holds (answer_texts texts)
+
 -- the policy that a file spells, where one is named, and none where none is
 abbrev pub IsNamed : Option (Bor (List ℕ)) → Option Contents → Type 0
 IsNamed None policy = policy ≡ None
 IsNamed (Some path) policy = (bytes : List ℕ) × (contents : Contents) × Spells bytes contents × (policy ≡ Some contents)
-
--- the records are replayed in a new office with that policy
-abbrev pub ReplaysInMemory : Option (Bor (List ℕ)) → Option (List ℕ) → Option (List ℕ) → Option (List ℕ) → Option (List ℕ) → Type 0
-ReplaysInMemory path was_left left held holds =
-    (policy : Option Contents) × (next : History) × IsNamed path policy × ReplaysFrom (after_install policy made_office) next was_left left held holds

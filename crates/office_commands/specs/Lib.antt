@@ -4,3 +4,5 @@ pub mod Working
 pub mod Answering
 pub mod Listening
 pub mod Tasks
+pub mod Stores
+pub mod Commands

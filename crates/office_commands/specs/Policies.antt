@@ -15,8 +15,9 @@ IsRead bytes read = MatchResult read (Spells bytes) (HasFault bytes)
 abbrev pub installed_text : Contents → List ℕ
 installed_text policy = codes "installed " ++ (decimal (length policy.rules) ++ (codes " rules " ++ (decimal (length policy.callers) ++ (codes " callers" ++ 10 ∷ []))))
 
--- What comes of a policy's file: it was installed, or this is its first fault, which is printed, and standard error is to be told why.
-pub data ComesOfPolicy (held holds reason : Option (List ℕ)) (ending : Ending) : Type 0 where
-  installed : (bytes : List ℕ) (policy : Contents) → Spells bytes policy → Appends held holds (installed_text policy) → reason ≡ None → ending ≡ Accepted → ComesOfPolicy held holds reason ending
+-- What comes of a policy's file: its policy was installed, or this is its first fault, which is printed, and standard error is to be told why.
+pub data ComesOfPolicy (IsInstalled : Contents → Type 0) (held holds reason : Option (List ℕ)) (ending : Ending) : Type 0 where
+  installed : (bytes : List ℕ) (policy : Contents) → Spells bytes policy → IsInstalled policy → Appends held holds (installed_text policy) → reason ≡ None → ending ≡ Accepted
+      → ComesOfPolicy IsInstalled held holds reason ending
   refused : (bytes : List ℕ) (fault : PolicyFault) → HasFault bytes fault → Appends held holds (bad_policy_text fault) → reason ≡ Some (bad_policy_reason fault) → ending ≡ Refused
-      → ComesOfPolicy held holds reason ending
+      → ComesOfPolicy IsInstalled held holds reason ending

@@ -1,9 +1,9 @@
 -- What the commands on a store print, and how the program ends.
-use Rattle.std.specs.Prelude.{◌++◌, ◌∷◌, [], ℕ, List, codes, decimal}
+use Rattle.std.specs.Prelude.{◌++◌, ◌∷◌, [], ℕ, List, ⊤, codes, decimal}
 use Rattle.commands.specs.Explaining.{bad_policy_reason, bad_policy_text}
 use Rattle.commands.specs.declared.ending.Ending.{Ending}
 use Rattle.commands.specs.declared.ending.Ending.TheVariants as endings
-use Rattle.std.specs.Prelude.{None}
+use Rattle.std.specs.Prelude.{None, Some}
 use Rattle.std.specs.declared.io.ErrorKind.{ErrorKind}
 use Rattle.std.specs.declared.io.ErrorKind.TheVariants.{OutOfMemory}
 use Rattle.sqlite.specs.declared.error.Error.{Error}
@@ -15,6 +15,7 @@ use Rattle.http_desk.specs.declared.serving.DeskFault.{DeskFault}
 use Rattle.http_desk.specs.declared.serving.DeskFault.TheVariants as desk
 use Rattle.http_desk.specs.declared.replaying.ReplayStop.{ReplayStop}
 use Rattle.http_desk.specs.declared.replaying.ReplayStop.TheVariants as stops
+use Rattle.office_commands.specs.declared.fault.Cause.TheVariants.{Input, Output}
 use Rattle.office_commands.specs.declared.fault.CommandFault.{CommandFault}
 use Rattle.office_commands.specs.declared.fault.CommandFault.TheVariants.{Policy, BadRecord, Failed}
 use Rattle.office_commands.specs.declared.fault.StoreFault.{StoreFault}
@@ -46,6 +47,12 @@ ending_of (Failed fault cause) = endings.Failed
 
 -- ---- what the faults of the layers below come to
 
+-- neither a policy is refused nor a record bad: the store, memory or a device failed
+abbrev pub IsFailure : CommandFault → Type 0
+IsFailure (Policy fault) = ⊥
+IsFailure (BadRecord index) = ⊥
+IsFailure (Failed fault cause) = ⊤
+
 abbrev pub fails : StoreFault → CommandFault
 fails fault = Failed fault None
 
@@ -71,12 +78,12 @@ table_failure tables.Memory = fails Memory
 table_failure tables.Store = fails Store
 
 abbrev pub desk_failure : DeskFault → CommandFault
-desk_failure desk.Read = fails Device
-desk_failure (desk.Write done) = fails Device
+desk_failure desk.Read = Failed Device (Some Input)
+desk_failure (desk.Write done) = Failed Device (Some Output)
 desk_failure (desk.Memory done) = fails Memory
 
 abbrev pub replay_failure : ReplayStop → CommandFault
 replay_failure (stops.BadRecord index) = BadRecord index
-replay_failure stops.Read = fails Device
-replay_failure stops.Write = fails Device
+replay_failure stops.Read = Failed Device (Some Input)
+replay_failure stops.Write = Failed Device (Some Output)
 replay_failure stops.Memory = fails Memory

@@ -2,7 +2,7 @@
 
 ghost use Rattle.std.specs.Prelude.{◌≡◌, ◌++◌, IfOk, None, Some, string_bytes};
 ghost use Rattle.commands.specs.Explaining.{bad_policy_reason, bad_policy_text};
-ghost use Rattle.office_commands.specs.Texts.{ending_of, fault_text, message_of};
+ghost use Rattle.office_commands.specs.Texts.{IsFailure, ending_of, fault_text, message_of};
 ghost use Rattle.office_commands.specs.declared.fault.CommandFault.TheVariants.{Failed};
 
 use commands::Ending;
@@ -57,6 +57,14 @@ pub enum Cause {
     Close(sqlite::Error),
     /// The address of the desk could not be had.
     Listen(io::Error),
+    /// There is no file.
+    Missing,
+    /// The file is empty.
+    Empty,
+    /// Standard input could not be read.
+    Input,
+    /// Standard output could not be written.
+    Output,
 }
 
 impl fmt::Display for Cause {
@@ -67,6 +75,10 @@ impl fmt::Display for Cause {
             | Cause::Refused(error)
             | Cause::Listen(error) => write!(f, "{error}"),
             Cause::Open(error) | Cause::Close(error) => write!(f, "{error}"),
+            Cause::Missing => write!(f, "there is no file"),
+            Cause::Empty => write!(f, "the file is empty"),
+            Cause::Input => write!(f, "it can't be read"),
+            Cause::Output => write!(f, "it can't be written"),
         }
     }
 }
@@ -90,7 +102,8 @@ pub enum CommandFault {
 
 /// A failure, and what it came from.
 pub(crate) fn failed_by(fault: StoreFault, cause: Cause) -> CommandFault
-    ensures { result ≡ Failed fault (Some cause) }
+    ensures is { result ≡ Failed fault (Some cause) }
+    ensures failure { IsFailure result }
 {
     CommandFault::Failed {
         fault,
@@ -111,7 +124,8 @@ fn refused_lines(alloc: Global, fault: &PolicyFault) -> Result<String, AllocErro
 impl CommandFault {
     /// A failure of which no more is known.
     pub(crate) fn failed(fault: StoreFault) -> CommandFault
-        ensures { result ≡ Failed fault None }
+        ensures is { result ≡ Failed fault None }
+        ensures failure { IsFailure result }
     {
         CommandFault::Failed { fault, cause: None }
     }

@@ -1,8 +1,9 @@
 //! The desk behind a listening socket.
 
-ghost use Rattle.std.specs.Prelude.{◌≡◌, ℕ, IfOk, OnOk, Some, string_bytes};
+ghost use Rattle.std.specs.Prelude.{◌≡◌, ℕ, IfErr, IfOk, OnOk, Some, string_bytes};
 ghost use Rattle.std.specs.Io.KnownBytes.{Appends};
 ghost use Rattle.office_commands.specs.Listening.{Listens, listening_text};
+ghost use Rattle.office_commands.specs.Texts.{IsFailure};
 ghost use Rattle.office_commands.specs.declared.fault.Cause.TheVariants.{Listen};
 ghost use Rattle.office_commands.specs.declared.fault.CommandFault.TheVariants.{Failed};
 ghost use Rattle.office_commands.specs.declared.fault.StoreFault.TheVariants.{Device};
@@ -28,13 +29,16 @@ struct Desk {
 
 /// A port that can't be had.
 fn unheard(error: Error) -> CommandFault
-    ensures { result ≡ Failed Device (Some (Listen error)) }
+    ensures is { result ≡ Failed Device (Some (Listen error)) }
+    ensures failure { IsFailure result }
 {
     failed_by(StoreFault::Device, Cause::Listen(error))
 }
 
 /// The desk at that port of 127.0.0.1. With the port 0 the machine picks one.
-fn desk_at(rt: &HostRuntime, port: u16) -> Result<Desk, CommandFault> {
+fn desk_at(rt: &HostRuntime, port: u16) -> Result<Desk, CommandFault>
+    ensures failure { IfErr result IsFailure }
+{
     let listener = match TcpListener::bind(rt, (Ipv4Addr::LOCALHOST, port)) {
         Ok(listener) => listener,
         Err(error) => return Err(unheard(error)),
@@ -61,7 +65,8 @@ fn say_listening<O: Write>(
     port: u16,
     out: &mut Counted<O>,
 ) -> Result<(), CommandFault>
-    ensures { OnOk result (Appends (O.contents out.old.device) (O.contents out.new.device) (listening_text port)) }
+    ensures said { OnOk result (Appends (O.contents out.old.device) (O.contents out.new.device) (listening_text port)) }
+    ensures failure { IfErr result IsFailure }
 {
     match listening_line(alloc, port) {
         Ok(line) => print(line.as_str(), out),
@@ -79,8 +84,9 @@ fn serve_office<S: Alter, O: Write>(
     count: u32,
     out: &mut Counted<O>,
 ) -> Result<(), CommandFault>
-    ensures { OnOk result (Listens S.Store day count desk.now.port office.old office.new
+    ensures served { OnOk result (Listens S.Store day count desk.now.port office.old office.new
         (O.contents out.old.device) (O.contents out.new.device)) }
+    ensures failure { IfErr result IsFailure }
 {
     say_listening(alloc, desk.port, out)?;
     let patience = Patience::default();
@@ -98,8 +104,9 @@ pub fn serve_at<S: Alter, O: Write>(
     count: u32,
     out: &mut Counted<O>,
 ) -> Result<(), CommandFault>
-    ensures { OnOk result ((taken : ℕ) × Listens S.Store day count taken office.old office.new
+    ensures served { OnOk result ((taken : ℕ) × Listens S.Store day count taken office.old office.new
         (O.contents out.old.device) (O.contents out.new.device)) }
+    ensures failure { IfErr result IsFailure }
 {
     let desk = desk_at(rt, port)?;
     serve_office(rt.alloc(), office, day, &desk, count, out)

@@ -5,7 +5,7 @@ ghost use Rattle.std.specs.IoError.{error_kind};
 ghost use Rattle.commands.specs.Explaining.{HasFault, Spells};
 ghost use Rattle.office_core.specs.declared.policy_fault.PolicyFault.TheVariants.{Memory};
 ghost use Rattle.office_commands.specs.Policies.{IsRead};
-ghost use Rattle.office_commands.specs.Texts.{file_failure};
+ghost use Rattle.office_commands.specs.Texts.{IsFailure, file_failure};
 ghost use Rattle.office_commands.specs.declared.fault.Cause.TheVariants as causes;
 ghost use Rattle.office_commands.specs.declared.fault.CommandFault.TheVariants.{Failed};
 
@@ -29,7 +29,8 @@ fn policy_of_bytes(alloc: Global, bytes: &[u8]) -> Result<Policy, PolicyFault>
 
 /// A file that could not be read.
 fn unread(error: Error) -> CommandFault
-    ensures { result ≡ Failed (file_failure (error_kind error)) (Some (causes.Policy error)) }
+    ensures is { result ≡ Failed (file_failure (error_kind error)) (Some (causes.Policy error)) }
+    ensures failure { IsFailure result }
 {
     match error.kind() {
         ErrorKind::OutOfMemory => failed_by(StoreFault::Memory, Cause::Policy(error)),
@@ -49,7 +50,8 @@ pub fn policy_in_file<F: Files + AllocGlobal>(
     rt: &F,
     path: &str,
 ) -> Result<Result<Policy, PolicyFault>, CommandFault>
-    ensures { IfOk result (λ read. (bytes : List ℕ) × IsRead bytes read) }
+    ensures read { IfOk result (λ read. (bytes : List ℕ) × IsRead bytes read) }
+    ensures failure { IfErr result IsFailure }
 {
     let bytes = match bytes_of_file(rt, path) {
         Ok(bytes) => bytes,

@@ -1,13 +1,14 @@
 //! The commands on a store.
 
-ghost use Rattle.std.specs.Prelude.{◌≡◌, IfOk, OnOk, Some, codes, option_copied, option_map, string_bytes};
+ghost use Rattle.std.specs.Prelude.{◌≡◌, IfErr, IfOk, OnOk, Some, option_copied, option_map, string_bytes};
 ghost use Rattle.std.specs.Io.KnownBytes.{Appends};
+ghost use Rattle.sqlite.specs.WalFiles.{image_at};
 ghost use Rattle.commands.specs.Explaining.{bad_policy_reason, bad_policy_text};
 ghost use Rattle.commands.specs.declared.ending.Ending.TheVariants.{Accepted, Refused};
-ghost use Rattle.office_history.specs.Histories.{History};
-ghost use Rattle.office_commands.specs.Answering.{AsksFrom, ReplaysFrom, ReplaysInMemory, after_install, made_office};
+ghost use Rattle.office_commands.specs.Commands.{AsksOn, InstallsOn, ReplaysOn, ReplaysWith, ServesOn, StopsOn, StopsReplay};
 ghost use Rattle.office_commands.specs.Listening.{TellsPort};
 ghost use Rattle.office_commands.specs.Policies.{ComesOfPolicy, installed_text};
+ghost use Rattle.office_commands.specs.Texts.{IsFailure};
 
 use crate::fault::{CommandFault, StoreFault};
 use crate::policy_file::policy_in_file;
@@ -17,7 +18,8 @@ use crate::task::Task;
 use commands::Ending;
 use http_desk::Counted;
 use office_core::{Day, Policy, PolicyFault};
-use sqlite::Start;
+use sqlite::{FileFrom, Start};
+use sqlite_disk::Disk;
 use std::alloc::Global;
 use std::io::{Read, Write};
 use std::rt::HostRuntime;
@@ -28,7 +30,8 @@ fn say_installed<O: Write>(
     policy: &Policy,
     out: &mut Counted<O>,
 ) -> Result<(), CommandFault>
-    ensures { OnOk result (Appends (O.contents out.old.device) (O.contents out.new.device) (installed_text policy.now)) }
+    ensures said { OnOk result (Appends (O.contents out.old.device) (O.contents out.new.device) (installed_text policy.now)) }
+    ensures failure { IfErr result IsFailure }
 {
     match installed_line(alloc, policy) {
         Ok(line) => print(line.as_str(), out),
@@ -54,6 +57,7 @@ fn say_refused<O: Write>(
     ensures printed { OnOk result (Appends (O.contents out.old.device) (O.contents out.new.device) (bad_policy_text fault)) }
     ensures reason { IfOk result (λ outcome. option_map string_bytes outcome.reason ≡ Some (bad_policy_reason fault)) }
     ensures ending { IfOk result (λ outcome. outcome.ending ≡ Refused) }
+    ensures failure { IfErr result IsFailure }
 {
     let (Ok(line), Ok(reason)) = (refused_line(alloc, fault), reason_line(alloc, fault)) else {
         return Err(CommandFault::failed(StoreFault::Memory));
@@ -65,23 +69,34 @@ fn say_refused<O: Write>(
     })
 }
 
+/// Installs the policy in the store, beside an input and an output.
+fn install_beside<S: Start, R: Read, O: Write>(
+    rt: &HostRuntime,
+    start: S,
+    store: &str,
+    policy: &Policy,
+    input: &mut Counted<R>,
+    out: &mut Counted<O>,
+) -> Result<(), CommandFault>
+    ensures installed { OnOk result (InstallsOn ⟦<FileFrom<S> as Disk>⟧ (image_at S.Start) store.now policy.now) }
+    ensures failure { IfErr result IsFailure }
+{
+    in_store(rt, start, store, &Task::Install(policy), input, out)
+}
+
 /// Installs the policy in the store. A task that installs reads and prints nothing.
 fn install_in<S: Start>(
     rt: &HostRuntime,
     start: S,
     store: &str,
     policy: &Policy,
-) -> Result<(), CommandFault> {
+) -> Result<(), CommandFault>
+    ensures installed { OnOk result (InstallsOn ⟦<FileFrom<S> as Disk>⟧ (image_at S.Start) store.now policy.now) }
+    ensures failure { IfErr result IsFailure }
+{
     let mut nothing = Counted::new(b"".as_slice());
     let mut unsaid = Counted::new(Vec::new(rt.alloc()));
-    in_store(
-        rt,
-        start,
-        store,
-        &Task::Install(policy),
-        &mut nothing,
-        &mut unsaid,
-    )
+    install_beside(rt, start, store, policy, &mut nothing, &mut unsaid)
 }
 
 /// `policy STORE POLICY`: installs the policy, and makes the office first where there is no store.
@@ -95,10 +110,12 @@ pub fn policy_command<S: Start, O: Write>(
     policy: &str,
     out: &mut Counted<O>,
 ) -> Result<PolicyOutcome, CommandFault>
-    // What is printed tells of the bytes that were read: how many rules and callers their policy has,
-    // or their first fault, which is said in words too.
-    ensures { IfOk result (λ outcome. ComesOfPolicy (O.contents out.old.device) (O.contents out.new.device)
+    // The policy that the bytes that were read spell is installed, and what is printed tells how many
+    // rules and callers it has; or it is their first fault, which is said in words too.
+    ensures comes { IfOk result (λ outcome. ComesOfPolicy (InstallsOn ⟦<FileFrom<S> as Disk>⟧ (image_at S.Start) store.now)
+        (O.contents out.old.device) (O.contents out.new.device)
         (option_map string_bytes outcome.reason) outcome.ending) }
+    ensures failure { IfErr result IsFailure }
 {
     match policy_in_file(rt, policy)? {
         Ok(policy) => {
@@ -123,11 +140,12 @@ pub fn ask_command<S: Start, R: Read, O: Write>(
     out: &mut Counted<O>,
 ) -> Result<Ending, CommandFault>
     ensures accepted { IfOk result (λ ending. ending ≡ Accepted) }
-    // In memory a new office answers what the input gives, and the answer's text is written behind
-    // what the output held.
-    ensures memory { store.now ≡ codes ":memory:" → OnOk result ((next : History) × AsksFrom made_office day next
+    // A new office in memory, or the one in the file, answers what the input gives, and the answer's
+    // text is written behind what the output held.
+    ensures asked { OnOk result (AsksOn ⟦<FileFrom<S> as Disk>⟧ (image_at S.Start) store.now day
         (R.remaining input.old.device) (R.remaining input.new.device)
         (O.contents out.old.device) (O.contents out.new.device)) }
+    ensures failure { IfErr result IsFailure }
 {
     in_store(rt, start, store, &Task::Ask(day), input, out)?;
     Ok(Ending::Accepted)
@@ -143,7 +161,10 @@ fn replay_in<S: Start, R: Read, O: Write>(
     out: &mut Counted<O>,
 ) -> Result<Ending, CommandFault>
     ensures accepted { IfOk result (λ ending. ending ≡ Accepted) }
-    ensures memory { store.now ≡ codes ":memory:" → OnOk result ((next : History) × ReplaysFrom (after_install (option_copied policy.entry) made_office) next
+    ensures replayed { OnOk result (ReplaysWith ⟦<FileFrom<S> as Disk>⟧ (image_at S.Start) store.now (option_copied policy.entry)
+        (R.remaining input.old.device) (R.remaining input.new.device)
+        (O.contents out.old.device) (O.contents out.new.device)) }
+    ensures stopped { IfErr result (λ fault. StopsReplay ⟦<FileFrom<S> as Disk>⟧ (image_at S.Start) store.now (option_copied policy.entry) fault
         (R.remaining input.old.device) (R.remaining input.new.device)
         (O.contents out.old.device) (O.contents out.new.device)) }
 {
@@ -162,8 +183,14 @@ pub fn replay_command<S: Start, R: Read, O: Write>(
     out: &mut Counted<O>,
 ) -> Result<Ending, CommandFault>
     ensures accepted { IfOk result (λ ending. ending ≡ Accepted) }
-    // In memory: a new office, with the policy that the file spells, where one is named.
-    ensures memory { store.now ≡ codes ":memory:" → OnOk result (ReplaysInMemory policy.entry
+    // The records are replayed in a new office in memory, or in the one in the file, with the policy
+    // that the policy's file spells, where one is named.
+    ensures replayed { OnOk result (ReplaysOn ⟦<FileFrom<S> as Disk>⟧ (image_at S.Start) store.now policy.entry
+        (R.remaining input.old.device) (R.remaining input.new.device)
+        (O.contents out.old.device) (O.contents out.new.device)) }
+    // A policy that is refused leaves the input and the output as they were; before a bad record all
+    // are replayed so.
+    ensures stopped { IfErr result (λ fault. StopsOn ⟦<FileFrom<S> as Disk>⟧ (image_at S.Start) store.now policy.entry fault
         (R.remaining input.old.device) (R.remaining input.new.device)
         (O.contents out.old.device) (O.contents out.new.device)) }
 {
@@ -191,6 +218,10 @@ pub fn serve_command<S: Start, O: Write>(
 ) -> Result<Ending, CommandFault>
     ensures accepted { IfOk result (λ ending. ending ≡ Accepted) }
     ensures told { OnOk result (TellsPort (O.contents out.old.device) (O.contents out.new.device)) }
+    // So many connections are served with a new office in memory, or with the one in the file.
+    ensures served { OnOk result (ServesOn ⟦<FileFrom<S> as Disk>⟧ (image_at S.Start) store.now day count
+        (O.contents out.old.device) (O.contents out.new.device)) }
+    ensures failure { IfErr result IsFailure }
 {
     serve_store(rt, start, store, day, port, count, out)?;
     Ok(Ending::Accepted)

@@ -1,9 +1,9 @@
 //! The stores: an office in memory, or in a file.
 
-ghost use Rattle.std.specs.Prelude.{◌≡◌, ◌≢◌, false, IfOk, IsErr, OnOk, Some, codes};
+ghost use Rattle.std.specs.Prelude.{◌≡◌, ◌≢◌, false, IfErr, IfOk, IsErr, OnOk, Some, codes};
 ghost use Rattle.std.specs.IoError.{error_kind};
 ghost use Rattle.sqlite.specs.Closing.{IsCopied};
-ghost use Rattle.sqlite.specs.Files.{IsOpened, file_state, image_of};
+ghost use Rattle.sqlite.specs.Files.{IsOpened, file_state};
 ghost use Rattle.sqlite.specs.Start.{FindsIn};
 ghost use Rattle.sqlite.specs.State.{HasCleanDisk};
 ghost use Rattle.sqlite.specs.WalFiles.{image_at};
@@ -11,13 +11,11 @@ ghost use Rattle.sqlite_wal.specs.Reads.{AreClean};
 ghost use Rattle.office_rows.specs.Rows.{max_limit};
 ghost use Rattle.office_tables.specs.Schema.{no_schema};
 ghost use Rattle.office_history.specs.Histories.{History};
-ghost use Rattle.office_history.specs.Runs.{IsLegal};
 ghost use Rattle.office_recovery.specs.Found.{HoldsWhere};
 ghost use Rattle.office_engine.specs.Keeping.{IsKeptBy, IsLeftOf};
-ghost use Rattle.office_commands.specs.Answering.{made_office};
-ghost use Rattle.office_commands.specs.Listening.{ServesFrom, TellsPort};
-ghost use Rattle.office_commands.specs.Tasks.{DoesFrom};
-ghost use Rattle.office_commands.specs.Texts.{search_failure, store_failure};
+ghost use Rattle.office_commands.specs.Listening.{TellsPort};
+ghost use Rattle.office_commands.specs.Stores.{DoesAndCloses, DoesInFile, DoesInMemory, ServesAndCloses, ServesInFile, ServesInMemory, StopsAndCloses, StopsInFile, StopsInMemory};
+ghost use Rattle.office_commands.specs.Texts.{IsFailure, search_failure, store_failure};
 ghost use Rattle.office_commands.specs.declared.fault.Cause.TheVariants.{Search};
 ghost use Rattle.office_commands.specs.declared.fault.CommandFault.TheVariants.{Failed};
 
@@ -49,7 +47,10 @@ fn in_memory<R: Read, O: Write>(
     input: &mut Counted<R>,
     out: &mut Counted<O>,
 ) -> Result<(), CommandFault>
-    ensures { OnOk result ((next : History) × DoesFrom task.now made_office next
+    ensures done { OnOk result (DoesInMemory task.now
+        (R.remaining input.old.device) (R.remaining input.new.device)
+        (O.contents out.old.device) (O.contents out.new.device)) }
+    ensures stopped { IfErr result (λ fault. StopsInMemory task.now fault
         (R.remaining input.old.device) (R.remaining input.new.device)
         (O.contents out.old.device) (O.contents out.new.device)) }
 {
@@ -64,7 +65,8 @@ fn in_memory<R: Read, O: Write>(
 
 /// A search that failed.
 fn search_failure(error: io::Error) -> CommandFault
-    ensures { result ≡ Failed (search_failure (error_kind error)) (Some (Search error)) }
+    ensures is { result ≡ Failed (search_failure (error_kind error)) (Some (Search error)) }
+    ensures failure { IsFailure result }
 {
     match error.kind() {
         ErrorKind::OutOfMemory => failed_by(StoreFault::Memory, Cause::Search(error)),
@@ -83,10 +85,12 @@ fn store_fault(error: Error) -> StoreFault
 }
 
 /// Whether there is no file at the path. An empty one is no office, and stays empty.
-fn is_missing(rt: &HostRuntime, store: &str) -> Result<bool, CommandFault> {
+fn is_missing(rt: &HostRuntime, store: &str) -> Result<bool, CommandFault>
+    ensures failure { IfErr result IsFailure }
+{
     match fs::metadata(rt, store) {
         Ok(found) if found.is_file() && found.len() == 0 => {
-            Err(CommandFault::failed(StoreFault::NotAnOffice))
+            Err(failed_by(StoreFault::NotAnOffice, Cause::Empty))
         }
         Ok(_) => Ok(false),
         Err(error) if error.kind() == ErrorKind::NotFound => Ok(true),
@@ -115,6 +119,7 @@ fn open_store<S: Start>(
     ensures opened { IfOk result (λ conn. HasCleanDisk (file_state conn) → IsOpened conn) }
     ensures found { IfOk result (λ conn. HasCleanDisk (file_state conn)
         → FindsIn (image_at S.Start) (file_state conn)) }
+    ensures failure { IfErr result IsFailure }
 {
     match Connection::open_from(rt, store, false, start) {
         Ok(conn) => Ok(conn),
@@ -129,6 +134,7 @@ fn make_office<D: Disk + Drop>(
     requires outside { (file_state conn).in_transaction ≡ false }
     ensures clean { IfOk result (λ office. HasCleanDisk (file_state office) → HasCleanDisk (file_state conn)) }
     ensures not_empty { (file_state conn).now.schema ≢ no_schema → IsErr result }
+    ensures failure { IfErr result IsFailure }
 {
     match Office::create(conn, limits()) {
         Ok(office) => Ok(office),
@@ -144,6 +150,7 @@ fn take_office<D: Disk + Drop>(
     ensures clean { IfOk result (λ office. HasCleanDisk (file_state office) → HasCleanDisk (file_state conn)) }
     ensures goes_on { IfOk result (λ office. HasCleanDisk (file_state office)
         → (h : History) → IsLeftOf h (file_state conn).now.trees → IsKeptBy h (file_state office)) }
+    ensures failure { IfErr result IsFailure }
 {
     match Office::adopt(conn) {
         Ok(office) => Ok(office),
@@ -161,10 +168,11 @@ fn open_office<S: Start>(
     // Where the files hold an office, it is that office.
     ensures found { IfOk result (λ office. HasCleanDisk (file_state office)
         → (h : History) → HoldsWhere (IsLeftOf h) (image_at S.Start) → IsKeptBy h (file_state office)) }
+    ensures failure { IfErr result IsFailure }
 {
     let is_new = is_missing(rt, store)?;
     if is_new && !makes {
-        return Err(CommandFault::failed(StoreFault::NotAnOffice));
+        return Err(failed_by(StoreFault::NotAnOffice, Cause::Missing));
     }
     let conn = open_store(rt, start, store)?;
     if is_new {
@@ -177,6 +185,7 @@ fn open_office<S: Start>(
 /// Copies the log into the file of the store, and hands both back.
 fn close_office<D: Disk + Drop>(office: Office<FileStore<D>>) -> Result<Files<D>, CommandFault>
     ensures copied { IfOk result (λ files. AreClean D.Disk files.log files.db → IsCopied office files) }
+    ensures failure { IfErr result IsFailure }
 {
     match office.into_connection().close_files() {
         Ok(files) => Ok(files),
@@ -187,7 +196,8 @@ fn close_office<D: Disk + Drop>(office: Office<FileStore<D>>) -> Result<Files<D>
     }
 }
 
-/// Does the task with an open office, and closes it: the files.
+/// Does the task with an open office, and closes it: the files. Where the close fails, that is the
+/// fault, whatever the task came to.
 fn on_files<D: Disk + Drop, R: Read, O: Write>(
     alloc: Global,
     mut office: Office<FileStore<D>>,
@@ -195,18 +205,17 @@ fn on_files<D: Disk + Drop, R: Read, O: Write>(
     input: &mut Counted<R>,
     out: &mut Counted<O>,
 ) -> Result<Files<D>, CommandFault>
-    // The task is done with the office that was open, and the files hold the office that it leads to.
-    ensures done { IfOk result (λ files. AreClean D.Disk files.log files.db
-        → (h : History) → IsLegal h → IsKeptBy h (file_state office)
-        → (next : History) × DoesFrom task.now h next
+    ensures done { IfOk result (λ files. DoesAndCloses D.Disk office files task.now
         (R.remaining input.old.device) (R.remaining input.new.device)
-        (O.contents out.old.device) (O.contents out.new.device)
-        × IsLegal next × HoldsWhere (IsLeftOf next) (image_of D.Disk files)) }
+        (O.contents out.old.device) (O.contents out.new.device)) }
+    ensures stopped { IfErr result (λ fault. StopsAndCloses D.Disk office task.now fault
+        (R.remaining input.old.device) (R.remaining input.new.device)
+        (O.contents out.old.device) (O.contents out.new.device)) }
 {
     let done = perform(alloc, &mut office, task, input, out);
-    let closed = close_office(office);
+    let files = close_office(office)?;
     done?;
-    closed
+    Ok(files)
 }
 
 /// Does the task with the office in the file of the store.
@@ -217,7 +226,14 @@ fn in_file<S: Start, R: Read, O: Write>(
     task: &Task<'_>,
     input: &mut Counted<R>,
     out: &mut Counted<O>,
-) -> Result<(), CommandFault> {
+) -> Result<(), CommandFault>
+    ensures done { OnOk result (DoesInFile ⟦<FileFrom<S> as Disk>⟧ (image_at S.Start) task.now
+        (R.remaining input.old.device) (R.remaining input.new.device)
+        (O.contents out.old.device) (O.contents out.new.device)) }
+    ensures stopped { IfErr result (λ fault. StopsInFile ⟦<FileFrom<S> as Disk>⟧ (image_at S.Start) task.now fault
+        (R.remaining input.old.device) (R.remaining input.new.device)
+        (O.contents out.old.device) (O.contents out.new.device)) }
+{
     let office = open_office(rt, start, store, task.makes_office())?;
     on_files(rt.alloc(), office, task, input, out)?;
     Ok(())
@@ -232,7 +248,18 @@ pub fn in_store<S: Start, R: Read, O: Write>(
     input: &mut Counted<R>,
     out: &mut Counted<O>,
 ) -> Result<(), CommandFault>
-    ensures memory { store.now ≡ codes ":memory:" → OnOk result ((next : History) × DoesFrom task.now made_office next
+    ensures memory { store.now ≡ codes ":memory:" → OnOk result (DoesInMemory task.now
+        (R.remaining input.old.device) (R.remaining input.new.device)
+        (O.contents out.old.device) (O.contents out.new.device)) }
+    ensures memory_stopped { store.now ≡ codes ":memory:" → IfErr result (λ fault. StopsInMemory task.now fault
+        (R.remaining input.old.device) (R.remaining input.new.device)
+        (O.contents out.old.device) (O.contents out.new.device)) }
+    ensures file { store.now ≢ codes ":memory:"
+        → OnOk result (DoesInFile ⟦<FileFrom<S> as Disk>⟧ (image_at S.Start) task.now
+        (R.remaining input.old.device) (R.remaining input.new.device)
+        (O.contents out.old.device) (O.contents out.new.device)) }
+    ensures file_stopped { store.now ≢ codes ":memory:"
+        → IfErr result (λ fault. StopsInFile ⟦<FileFrom<S> as Disk>⟧ (image_at S.Start) task.now fault
         (R.remaining input.old.device) (R.remaining input.new.device)
         (O.contents out.old.device) (O.contents out.new.device)) }
 {
@@ -250,7 +277,9 @@ fn serve_in_memory<O: Write>(
     count: u32,
     out: &mut Counted<O>,
 ) -> Result<(), CommandFault>
-    ensures { OnOk result (TellsPort (O.contents out.old.device) (O.contents out.new.device)) }
+    ensures told { OnOk result (TellsPort (O.contents out.old.device) (O.contents out.new.device)) }
+    ensures served { OnOk result (ServesInMemory day count (O.contents out.old.device) (O.contents out.new.device)) }
+    ensures failure { IfErr result IsFailure }
 {
     let Ok(conn) = Connection::open_in_memory(rt.alloc()) else {
         return Err(CommandFault::failed(StoreFault::Memory));
@@ -261,7 +290,8 @@ fn serve_in_memory<O: Write>(
     }
 }
 
-/// Serves connections with an open office, and closes it.
+/// Serves connections with an open office, and closes it: the files. Where the close fails, that is
+/// the fault.
 fn serve_on_files<D: Disk + Drop, O: Write>(
     rt: &HostRuntime,
     mut office: Office<FileStore<D>>,
@@ -271,16 +301,34 @@ fn serve_on_files<D: Disk + Drop, O: Write>(
     out: &mut Counted<O>,
 ) -> Result<Files<D>, CommandFault>
     ensures told { IfOk result (λ _. TellsPort (O.contents out.old.device) (O.contents out.new.device)) }
-    // The files hold the office that so many connections led to.
-    ensures served { IfOk result (λ files. AreClean D.Disk files.log files.db
-        → (h : History) → IsLegal h → IsKeptBy h (file_state office)
-        → (next : History) × ServesFrom h count next
-        × IsLegal next × HoldsWhere (IsLeftOf next) (image_of D.Disk files)) }
+    ensures served { IfOk result (λ files. ServesAndCloses D.Disk office files day count
+        (O.contents out.old.device) (O.contents out.new.device)) }
+    ensures failure { IfErr result IsFailure }
 {
     let served = serve_at(rt, &mut office, day, port, count, out);
-    let closed = close_office(office);
+    let files = close_office(office)?;
     served?;
-    closed
+    Ok(files)
+}
+
+/// Serves connections with the office in the file of the store.
+fn serve_in_file<S: Start, O: Write>(
+    rt: &HostRuntime,
+    start: S,
+    store: &str,
+    day: Day,
+    port: u16,
+    count: u32,
+    out: &mut Counted<O>,
+) -> Result<(), CommandFault>
+    ensures told { OnOk result (TellsPort (O.contents out.old.device) (O.contents out.new.device)) }
+    ensures served { OnOk result (ServesInFile ⟦<FileFrom<S> as Disk>⟧ (image_at S.Start) day count
+        (O.contents out.old.device) (O.contents out.new.device)) }
+    ensures failure { IfErr result IsFailure }
+{
+    let office = open_office(rt, start, store, false)?;
+    serve_on_files(rt, office, day, port, count, out)?;
+    Ok(())
 }
 
 /// Opens the store, takes the port and serves connections there; `:memory:` is a new office in memory.
@@ -293,12 +341,16 @@ pub fn serve_store<S: Start, O: Write>(
     count: u32,
     out: &mut Counted<O>,
 ) -> Result<(), CommandFault>
-    ensures { OnOk result (TellsPort (O.contents out.old.device) (O.contents out.new.device)) }
+    ensures told { OnOk result (TellsPort (O.contents out.old.device) (O.contents out.new.device)) }
+    ensures memory { store.now ≡ codes ":memory:" → OnOk result (ServesInMemory day count
+        (O.contents out.old.device) (O.contents out.new.device)) }
+    ensures file { store.now ≢ codes ":memory:"
+        → OnOk result (ServesInFile ⟦<FileFrom<S> as Disk>⟧ (image_at S.Start) day count
+        (O.contents out.old.device) (O.contents out.new.device)) }
+    ensures failure { IfErr result IsFailure }
 {
     if store == ":memory:" {
         return serve_in_memory(rt, day, port, count, out);
     }
-    let office = open_office(rt, start, store, false)?;
-    serve_on_files(rt, office, day, port, count, out)?;
-    Ok(())
+    serve_in_file(rt, start, store, day, port, count, out)
 }

@@ -1,7 +1,7 @@
 //! What is to be done with an office.
 
-ghost use Rattle.std.specs.Prelude.{◌≡◌, OnOk};
-ghost use Rattle.office_commands.specs.Tasks.{Does, makes_office};
+ghost use Rattle.std.specs.Prelude.{◌≡◌, IfErr, OnOk};
+ghost use Rattle.office_commands.specs.Tasks.{Does, Stops, makes_office};
 
 use crate::fault::CommandFault;
 use crate::working::{ask_office, install_policy, replay_under};
@@ -40,7 +40,10 @@ pub fn perform<S: Alter, R: Read, O: Write>(
     input: &mut Counted<R>,
     out: &mut Counted<O>,
 ) -> Result<(), CommandFault>
-    ensures { OnOk result (Does S.Store task.now office.old office.new
+    ensures done { OnOk result (Does S.Store task.now office.old office.new
+        (R.remaining input.old.device) (R.remaining input.new.device)
+        (O.contents out.old.device) (O.contents out.new.device)) }
+    ensures stopped { IfErr result (λ fault. Stops S.Store task.now fault office.old office.new
         (R.remaining input.old.device) (R.remaining input.new.device)
         (O.contents out.old.device) (O.contents out.new.device)) }
 {

@@ -1,14 +1,15 @@
 //! What is done with an open office, over any store.
 
-ghost use Rattle.std.specs.Prelude.{◌≡◌, OnErr, OnOk, option_copied};
+ghost use Rattle.std.specs.Prelude.{◌≡◌, IfErr, OnErr, OnOk, option_copied};
 ghost use Rattle.sqlite.specs.Held.{state};
 ghost use Rattle.sqlite.specs.State.{HasCleanDisk, Survives};
-ghost use Rattle.office_tables.specs.Opening.{IsKept};
-ghost use Rattle.office_engine.specs.Keeping.{CommitsTo, InstallLasts, Installs, LeavesEither, with_policy};
-ghost use Rattle.office_commands.specs.Texts.{desk_failure, replay_failure, table_failure};
+ghost use Rattle.office_engine.specs.Keeping.{CommitsTo, InstallLasts, Installs, IsUnchanged, LeavesEither, with_policy};
+ghost use Rattle.office_commands.specs.Tasks.{Stops};
+ghost use Rattle.office_commands.specs.Texts.{IsFailure, desk_failure, replay_failure, table_failure};
 ghost use Rattle.office_commands.specs.Working.{Asks, AsksInPart, EndsReplay, InstallsFirst, ReplaysUnder};
+ghost use Rattle.office_commands.specs.declared.task.Task.TheVariants.{Replay};
 
-use crate::fault::{CommandFault, StoreFault};
+use crate::fault::{Cause, CommandFault, StoreFault, failed_by};
 use crate::printing::flush;
 use http_desk::{Counted, DeskFault, ReplayStop, replay, serve_one};
 use office_core::{Day, Policy};
@@ -20,7 +21,8 @@ use std::io::{Read, Write};
 
 /// What a fault of the tables comes to.
 pub fn table_failure(fault: TableFault) -> CommandFault
-    ensures { result ≡ table_failure fault }
+    ensures is { result ≡ table_failure fault }
+    ensures failure { IsFailure result }
 {
     CommandFault::failed(match fault {
         TableFault::NotAnOffice => StoreFault::NotAnOffice,
@@ -32,12 +34,14 @@ pub fn table_failure(fault: TableFault) -> CommandFault
 
 /// What a fault of the desk comes to.
 fn desk_failure(fault: DeskFault) -> CommandFault
-    ensures { result ≡ desk_failure fault }
+    ensures is { result ≡ desk_failure fault }
+    ensures failure { IsFailure result }
 {
-    CommandFault::failed(match fault {
-        DeskFault::Read | DeskFault::Write { .. } => StoreFault::Device,
-        DeskFault::Memory { .. } => StoreFault::Memory,
-    })
+    match fault {
+        DeskFault::Read => failed_by(StoreFault::Device, Cause::Input),
+        DeskFault::Write { .. } => failed_by(StoreFault::Device, Cause::Output),
+        DeskFault::Memory { .. } => CommandFault::failed(StoreFault::Memory),
+    }
 }
 
 /// Installs a policy, in place of the one before: all of it, or nothing.
@@ -49,13 +53,14 @@ pub fn install_policy<S: Alter>(
     ensures installed { HasCleanDisk (state S.Store office.new)
         → OnOk result (Installs (state S.Store office.old) (state S.Store office.new) policy.now) }
     ensures kept { HasCleanDisk (state S.Store office.new)
-        → OnErr result (IsKept (state S.Store office.old) (state S.Store office.new)) }
+        → OnErr result (IsUnchanged (state S.Store office.old) (state S.Store office.new)) }
     ensures survives { Survives (state S.Store office.old) (state S.Store office.new)
         (CommitsTo (state S.Store office.old) (with_policy policy.now)) }
     ensures durable { HasCleanDisk (state S.Store office.new)
         → OnOk result (InstallLasts (state S.Store office.old) (state S.Store office.new) policy.now) }
     ensures leaves { HasCleanDisk (state S.Store office.new)
         → LeavesEither (state S.Store office.old) (state S.Store office.new) (with_policy policy.now) }
+    ensures failure { IfErr result IsFailure }
 {
     match office.install(alloc, policy) {
         Ok(()) => Ok(()),
@@ -79,6 +84,7 @@ pub fn ask_office<S: Alter, R: Read, W: Write>(
     ensures failed { OnErr result (AsksInPart S.Store day office.old office.new
         (R.remaining input.old.device) (R.remaining input.new.device)
         (W.contents out.old.device) (W.contents out.new.device)) }
+    ensures failure { IfErr result IsFailure }
 {
     match serve_one(alloc, office, day, input, out) {
         Ok(()) => flush(out),
@@ -92,7 +98,8 @@ fn replay_failure(stop: ReplayStop) -> CommandFault
 {
     match stop {
         ReplayStop::BadRecord { index } => CommandFault::BadRecord { index },
-        ReplayStop::Read | ReplayStop::Write => CommandFault::failed(StoreFault::Device),
+        ReplayStop::Read => failed_by(StoreFault::Device, Cause::Input),
+        ReplayStop::Write => failed_by(StoreFault::Device, Cause::Output),
         ReplayStop::Memory => CommandFault::failed(StoreFault::Memory),
     }
 }
@@ -121,7 +128,8 @@ fn install_first<S: Alter>(
     office: &mut Office<S>,
     policy: Option<&Policy>,
 ) -> Result<(), CommandFault>
-    ensures { OnOk result (InstallsFirst S.Store (option_copied policy.entry) office.old office.new) }
+    ensures installed { OnOk result (InstallsFirst S.Store (option_copied policy.entry) office.old office.new) }
+    ensures failure { IfErr result IsFailure }
 {
     match policy {
         Some(policy) => install_policy(alloc, office, policy),
@@ -137,7 +145,11 @@ pub fn replay_under<S: Alter, R: Read, W: Write>(
     input: &mut Counted<R>,
     out: &mut Counted<W>,
 ) -> Result<(), CommandFault>
-    ensures { OnOk result (ReplaysUnder S.Store (option_copied policy.entry) office.old office.new
+    ensures replayed { OnOk result (ReplaysUnder S.Store (option_copied policy.entry) office.old office.new
+        (R.remaining input.old.device) (R.remaining input.new.device)
+        (W.contents out.old.device) (W.contents out.new.device)) }
+    // It is stopped by a failure, or at a bad record, and then those before it are answered.
+    ensures stopped { IfErr result (λ fault. Stops S.Store (Replay policy.entry) fault office.old office.new
         (R.remaining input.old.device) (R.remaining input.new.device)
         (W.contents out.old.device) (W.contents out.new.device)) }
 {

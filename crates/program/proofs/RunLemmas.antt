@@ -3,6 +3,8 @@ use Rattle.std.proofs.Common.{◌≡◌, ◌⊎◌, ℕ, List, Option, Result, O
 use Rattle.std.specs.Prelude.{option_map, string_bytes}
 use Rattle.std.specs.Io.KnownBytes.{Appends}
 use Rattle.clap.specs.Words.{Text}
+use Rattle.sqlite.specs.Recovery.{Image}
+use Rattle.sqlite_disk.specs.declared.Disk.{Ghosts}
 use Rattle.commands.specs.Failing.{MayGrow}
 use Rattle.commands.specs.declared.ending.Ending.{Ending}
 use Rattle.commands.specs.declared.ending.Ending.TheVariants.{Unsaid}
@@ -59,11 +61,11 @@ unpacks unpacking said (Ok done) held holds may says printed = (unpacking, said,
 unpacks unpacking said (Err stopped) held holds may says printed = tt
 
 -- what words that name a subcommand come to
-pub asked : (words : List Text) (read : Result StoreLine UseFault) (line : StoreLine) (was_left left held holds told tells : Option (List ℕ)) (quiet unwritten unread : Type 0)
+pub asked : {D : Type 0} (g : Ghosts D) (first : Image) (words : List Text) (read : Result StoreLine UseFault) (line : StoreLine) (was_left left held holds told tells : Option (List ℕ)) (quiet unwritten unread : Type 0)
     (ending : Ending) → Asks words line → IfOk read (Asks words) → IfErr read (λ fault. (fault ≡ Memory) ⊎ AskNothing words)
-    → IfOk read (λ line. Comes line was_left left held holds told tells quiet ending) → IfErr read (λ fault. IsToldOfUse fault told tells ending × unwritten × unread)
-    → ComesOfWords words was_left left held holds told tells quiet ending
-asked words (Ok read) line was_left left held holds told tells quiet unwritten unread ending asks taken refused comes why = inl (read, taken, comes)
-asked words (Err fault) line was_left left held holds told tells quiet unwritten unread ending asks taken (inl memory) comes why =
+    → IfOk read (λ line. Comes g first line was_left left held holds told tells quiet ending) → IfErr read (λ fault. IsToldOfUse fault told tells ending × unwritten × unread)
+    → ComesOfWords g first words was_left left held holds told tells quiet ending
+asked g first words (Ok read) line was_left left held holds told tells quiet unwritten unread ending asks taken refused comes why = inl (read, taken, comes)
+asked g first words (Err fault) line was_left left held holds told tells quiet unwritten unread ending asks taken (inl memory) comes why =
     inr (subst (λ f. IsToldOfUse f told tells ending) memory why.0)
-asked words (Err fault) line was_left left held holds told tells quiet unwritten unread ending asks taken (inr none) comes why = absurd (none line asks)
+asked g first words (Err fault) line was_left left held holds told tells quiet unwritten unread ending asks taken (inr none) comes why = absurd (none line asks)

@@ -1,8 +1,11 @@
 //! What the subcommands on folders and stores do.
 
-ghost use Rattle.std.specs.Prelude.{◌≡◌, IfOk, None, option_map, string_bytes};
+ghost use Rattle.std.specs.Prelude.{◌≡◌, IfErr, IfOk, None, option_map, string_bytes};
+ghost use Rattle.sqlite.specs.WalFiles.{image_at};
+ghost use Rattle.office_commands.specs.declared.fault.CommandFault.{CommandFault};
 ghost use Rattle.office_commands.specs.declared.running.PolicyOutcome.{PolicyOutcome};
-ghost use Rattle.program.specs.Running.{IsDone};
+ghost use Rattle.program.specs.Running.{CanStop, IsDone};
+ghost use Rattle.program.specs.declared.stopped.Stopped.TheVariants.{Store};
 
 use crate::done::Done;
 use crate::folders::{pack_folder, unpack_form};
@@ -12,14 +15,16 @@ use desk_devices::Counted;
 use office_commands::{
     CommandFault, PolicyOutcome, ask_command, policy_command, replay_command, serve_command,
 };
-use sqlite::Start;
+use sqlite::{FileFrom, Start};
+use sqlite_disk::Disk;
 use std::io::{Read, Write};
 use std::rt::HostRuntime;
 use store_words::StoreLine;
 
 /// What a command on a store comes to.
 fn stored(ended: Result<Ending, CommandFault>) -> Result<Done, Stopped>
-    ensures { IfOk result (λ done. (ended ≡ Ok done.ending) × (done.reason ≡ None)) }
+    ensures done { IfOk result (λ done. (ended ≡ Ok done.ending) × (done.reason ≡ None)) }
+    ensures stopped { IfErr result (λ stopped. (fault : CommandFault) × (ended ≡ Err fault) × (stopped ≡ Store fault)) }
 {
     match ended {
         Ok(ending) => Ok(Done {
@@ -32,8 +37,9 @@ fn stored(ended: Result<Ending, CommandFault>) -> Result<Done, Stopped>
 
 /// What an install of a policy comes to.
 fn installed(came: Result<PolicyOutcome, CommandFault>) -> Result<Done, Stopped>
-    ensures { IfOk result (λ done. (outcome : PolicyOutcome) × (came ≡ Ok outcome)
+    ensures done { IfOk result (λ done. (outcome : PolicyOutcome) × (came ≡ Ok outcome)
         × (outcome.reason ≡ done.reason) × (outcome.ending ≡ done.ending)) }
+    ensures stopped { IfErr result (λ stopped. (fault : CommandFault) × (came ≡ Err fault) × (stopped ≡ Store fault)) }
 {
     match came {
         Ok(PolicyOutcome { reason, ending }) => Ok(Done { reason, ending }),
@@ -49,9 +55,13 @@ pub fn perform<S: Start, R: Read, O: Write>(
     input: &mut Counted<R>,
     out: &mut Counted<O>,
 ) -> Result<Done, Stopped>
-    ensures { IfOk result (λ done. IsDone line.now (R.remaining input.old.device)
-        (R.remaining input.new.device) (O.contents out.old.device) (O.contents out.new.device)
+    ensures done { IfOk result (λ done. IsDone ⟦<FileFrom<S> as Disk>⟧ (image_at S.Start) line.now
+        (R.remaining input.old.device) (R.remaining input.new.device)
+        (O.contents out.old.device) (O.contents out.new.device)
         (option_map string_bytes done.reason) done.ending) }
+    ensures stopped { IfErr result (λ stopped. CanStop ⟦<FileFrom<S> as Disk>⟧ (image_at S.Start) line.now stopped
+        (R.remaining input.old.device) (R.remaining input.new.device)
+        (O.contents out.old.device) (O.contents out.new.device)) }
 {
     match *line {
         StoreLine::Pack { folder, file } => pack_folder(rt, folder, file, out),

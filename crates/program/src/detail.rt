@@ -14,6 +14,8 @@ pub(crate) enum Detail<'a> {
     Trouble(&'a Trouble),
     /// The record with this number is none.
     Record(u64),
+    /// This port of 127.0.0.1 can't be had.
+    Port(u16, io::Error),
     Told(Told<'a>),
 }
 
@@ -40,6 +42,14 @@ fn names_in<'a>(line: &StoreLine<'a>) -> (&'a str, &'a str) {
         StoreLine::Policy { store, policy } => (store, policy),
         StoreLine::Replay { policy, store } => (store, policy.unwrap_or("")),
         StoreLine::Ask { store, .. } | StoreLine::Serve { store, .. } => (store, ""),
+    }
+}
+
+/// The port to listen on, 0 where the line has none.
+fn port_in(line: &StoreLine<'_>) -> u16 {
+    match *line {
+        StoreLine::Serve { port, .. } => port,
+        _ => 0,
     }
 }
 
@@ -81,12 +91,16 @@ fn cause_told<'a>(store: &'a str, policy: &'a str, cause: Cause) -> Told<'a> {
         Cause::Refused(_) | Cause::Open(_) => failed_on("cannot open ", store, why),
         Cause::Close(_) => failed_on("cannot close ", store, why),
         Cause::Listen(_) => failed_on("cannot listen on ", "127.0.0.1", why),
+        Cause::Missing => said_of(store, " is not there"),
+        Cause::Empty => said_of(store, " is an empty file, and no office"),
+        Cause::Input => text("standard input failed"),
+        Cause::Output => text("standard output failed"),
     }
 }
 
 fn fault_told<'a>(store: &'a str, fault: StoreFault) -> Told<'a> {
     match fault {
-        StoreFault::NotAnOffice => said_of(store, " is no office"),
+        StoreFault::NotAnOffice => said_of(store, " is another database, and no office"),
         StoreFault::OtherVersion => said_of(store, " is an office of another version"),
         StoreFault::Memory => text("out of memory"),
         StoreFault::Store => said_of(store, " failed"),
@@ -99,6 +113,10 @@ fn command_detail<'a>(line: &StoreLine<'a>, fault: &CommandFault) -> Detail<'a> 
     match *fault {
         CommandFault::Policy(_) => Detail::Told(said_of(policy, " is no policy")),
         CommandFault::BadRecord { index } => Detail::Record(index),
+        CommandFault::Failed {
+            cause: Some(Cause::Listen(error)),
+            ..
+        } => Detail::Port(port_in(line), error),
         CommandFault::Failed {
             cause: Some(cause),
             ..
@@ -147,6 +165,7 @@ impl fmt::Display for Detail<'_> {
         match self {
             Detail::Trouble(trouble) => write!(f, "{trouble}"),
             Detail::Record(index) => write!(f, "record {index} of the input is none"),
+            Detail::Port(port, error) => { write!(f, "cannot listen on 127.0.0.1:{port}: {error}") }
             Detail::Told(told) => write!(f, "{told}"),
         }
     }

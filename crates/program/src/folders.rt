@@ -1,8 +1,9 @@
 //! `pack` and `unpack`: what they do, and what they print.
 
-ghost use Rattle.std.specs.Prelude.{◌≡◌, IfOk, if◌then◌else◌, option_map, string_bytes};
+ghost use Rattle.std.specs.Prelude.{◌≡◌, IfErr, IfOk, if◌then◌else◌, option_map, string_bytes};
 ghost use Rattle.commands.specs.declared.ending.Ending.TheVariants.{Accepted, Refused};
 ghost use Rattle.program.specs.Folders.{IsPrinted, Packs, Unpacks};
+ghost use Rattle.program.specs.Running.{StopsFolders};
 
 use crate::done::Done;
 use crate::stopped::Stopped;
@@ -24,8 +25,9 @@ fn ending_by(is_done: bool) -> Ending
 
 /// Prints what is said, and says how the program is to end and why.
 fn print<O: Write>(said: Said, out: &mut O) -> Result<Done, Stopped>
-    ensures { IfOk result (λ done. IsPrinted said (O.contents out.old) (O.contents out.new)
+    ensures done { IfOk result (λ done. IsPrinted said (O.contents out.old) (O.contents out.new)
         (option_map string_bytes done.reason) done.ending) }
+    ensures stopped { IfErr result StopsFolders }
 {
     let Said {
         text,
@@ -48,8 +50,9 @@ pub fn pack_folder<F: Files + AllocGlobal, O: Write>(
     file: &str,
     out: &mut O,
 ) -> Result<Done, Stopped>
-    ensures { IfOk result (λ done. Packs (O.contents out.old) (O.contents out.new)
+    ensures done { IfOk result (λ done. Packs (O.contents out.old) (O.contents out.new)
         (option_map string_bytes done.reason) done.ending) }
+    ensures stopped { IfErr result StopsFolders }
 {
     match pack_said(rt.alloc(), pack(rt, folder, file)) {
         Ok(said) => print(said, out),
@@ -64,8 +67,9 @@ pub fn unpack_form<F: Files + AllocGlobal, O: Write>(
     folder: &str,
     out: &mut O,
 ) -> Result<Done, Stopped>
-    ensures { IfOk result (λ done. Unpacks (O.contents out.old) (O.contents out.new)
+    ensures done { IfOk result (λ done. Unpacks (O.contents out.old) (O.contents out.new)
         (option_map string_bytes done.reason) done.ending) }
+    ensures stopped { IfErr result StopsFolders }
 {
     match unpack_said(rt.alloc(), unpack(rt, file, folder)) {
         Ok(said) => print(said, out),

@@ -1,12 +1,14 @@
 //! The program's whole work.
 
 ghost use Rattle.std.specs.Prelude.{◌≡◌, ◌≢◌, ◌⊎◌, ℕ, IfErr, IfOk, IfSome, List, None, codes, false, take, true};
+ghost use Rattle.sqlite.specs.WalFiles.{image_at};
 ghost use Rattle.commands.specs.Checking.{too_many};
 ghost use Rattle.commands.specs.CommandLine.{AsksToCheck, command_in, is_taken, texts, uses_text};
 ghost use Rattle.commands.specs.Failing.{BeginsWith, IsCutShort, message_of};
 ghost use Rattle.commands.specs.Running.{CanFail, DoesWords, IsToBeSaid, Judges, UnlessFailed};
 ghost use Rattle.commands.specs.declared.ending.Ending.TheVariants.{Failed, Misused, Unsaid};
 ghost use Rattle.commands.specs.declared.program.Failure.{Failure};
+ghost use Rattle.commands.specs.declared.use_fault.UseFault.{UseFault};
 ghost use Rattle.store_words.specs.StoreLine.{AskNothing, Asks, NamesNone, NamesOne};
 ghost use Rattle.store_words.specs.declared.store_line.StoreLine.{StoreLine};
 ghost use Rattle.program.specs.Running.{Comes, ComesOfWords};
@@ -16,7 +18,8 @@ use crate::acting::perform;
 use crate::reporting::report;
 use commands::{Ending, Failure, UseFault, fail, refuse, tell_why};
 use desk_devices::Counted;
-use sqlite::Start;
+use sqlite::{FileFrom, Start};
+use sqlite_disk::Disk;
 use std::io::{Read, Write};
 use std::rt::HostRuntime;
 use store_words::{StoreLine, read_store_line};
@@ -41,8 +44,8 @@ fn run_line<S: Start, R: Read, O: Write, E: Write>(
     out: &mut Counted<O>,
     err: &mut E,
 ) -> Ending
-    ensures { Comes line.now (R.remaining input.old.device) (R.remaining input.new.device)
-        (O.contents out.old.device) (O.contents out.new.device)
+    ensures { Comes ⟦<FileFrom<S> as Disk>⟧ (image_at S.Start) line.now (R.remaining input.old.device)
+        (R.remaining input.new.device) (O.contents out.old.device) (O.contents out.new.device)
         (E.contents err.old) (E.contents err.new) (err.new ≡ err.old) result }
 {
     match perform(rt, start, line, input, out) {
@@ -60,7 +63,7 @@ fn run_named<S: Start, R: Read, O: Write, E: Write>(
     out: &mut Counted<O>,
     err: &mut E,
 ) -> Ending
-    ensures line { IfOk read.entry (λ line. Comes line (R.remaining input.old.device)
+    ensures line { IfOk read.entry (λ line. Comes ⟦<FileFrom<S> as Disk>⟧ (image_at S.Start) line (R.remaining input.old.device)
         (R.remaining input.new.device) (O.contents out.old.device) (O.contents out.new.device)
         (E.contents err.old) (E.contents err.new) (err.new ≡ err.old) result) }
     ensures refused { IfErr read.entry (λ fault. IsToldOfUse fault (E.contents err.old) (E.contents err.new) result
@@ -82,15 +85,18 @@ pub fn run<S: Start, R: Read, O: Write, E: Write>(
     err: &mut E,
 ) -> Ending
     // Words that name a subcommand on folders or a store, and ask for nothing, end as a fault of use,
-    // unless memory fails. They print nothing on standard output, and the input is left as it was.
+    // unless memory fails, and standard error is told so. They print nothing on standard output, and
+    // the input is left as it was.
     ensures refused { NamesOne (texts words.now) → AskNothing (texts words.now)
         → UnlessFailed result (result ≡ Misused) }
+    ensures told { NamesOne (texts words.now) → AskNothing (texts words.now)
+        → (fault : UseFault) × IsToldOfUse fault (E.contents err.old) (E.contents err.new) result }
     ensures left { NamesOne (texts words.now) → AskNothing (texts words.now)
         → (out.new ≡ out.old) × (input.new ≡ input.old) }
     // What such words ask for is done, and standard error told why the answer is no, where that is so,
-    // and nothing else; or it comes to no end, and standard error is told why.
+    // and nothing else; or it comes to no end, of what can stop it, and standard error is told why.
     ensures asked { (line : StoreLine) → Asks (texts words.now) line
-        → ComesOfWords (texts words.now) (R.remaining input.old.device)
+        → ComesOfWords ⟦<FileFrom<S> as Disk>⟧ (image_at S.Start) (texts words.now) (R.remaining input.old.device)
         (R.remaining input.new.device) (O.contents out.old.device) (O.contents out.new.device)
         (E.contents err.old) (E.contents err.new) (err.new ≡ err.old) result }
 
