@@ -16,7 +16,7 @@ enum Group {
 }
 
 /// All groups, in the order in which they are run.
-const GROUPS: [Group; 4] = [Group::Bags, Group::Tables, Group::Office, Group::Stored];
+static GROUPS: [Group; 4] = [Group::Bags, Group::Tables, Group::Office, Group::Stored];
 
 impl Group {
     fn read(word: &str) -> Option<Group> {
@@ -50,8 +50,8 @@ pub fn answer(rt: &HostRuntime) -> io::Result<bool> {
     let mut room = [0_u8; 16];
     let length = rt.stdin().read(&mut room)?;
     let only = said_group(room.get(..length).unwrap_or(&[]));
-    for group in GROUPS {
-        if only.is_none() || only == Some(group) {
+    for group in &GROUPS {
+        if only.is_none() || only == Some(*group) {
             group.run(rt)?;
         }
     }

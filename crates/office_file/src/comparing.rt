@@ -23,6 +23,14 @@ struct Offices<S: Alter> {
     kept: Office<S>,
 }
 
+/// All that an answer says, and whether the request was accepted.
+fn said(alloc: Global, answer: Answer) -> Result<(String, bool)> {
+    Ok((
+        format!(in alloc; "{answer:?}")?,
+        !matches!(answer, Answer::Refused(_)),
+    ))
+}
+
 impl<S: Alter + Drop> Offices<S> {
     /// Two new offices, with room for a few deposits and holds, one of them in the empty database.
     fn create(alloc: Global, conn: Connection<S>) -> Result<Offices<S>> {
@@ -53,16 +61,14 @@ impl<S: Alter + Drop> Offices<S> {
         caller: &str,
         request: &Request<'_>,
     ) -> Result<bool> {
-        let wanted = self.plain.step(alloc, day, caller, request);
-        let found = self.kept.step(alloc, day, caller, request);
-        let wanted_text = format!(in alloc; "{wanted:?}")?;
-        let found_text = format!(in alloc; "{found:?}")?;
-        if wanted_text != found_text {
+        let (wanted, is_accepted) = said(alloc, self.plain.step(alloc, day, caller, request))?;
+        let (found, _) = said(alloc, self.kept.step(alloc, day, caller, request))?;
+        if wanted != found {
             bail!(
-                "{request:?} on {day} by {caller:?} is answered {found_text}, by the plain office {wanted_text}"
+                "{request:?} on {day} by {caller:?} is answered {found}, by the plain office {wanted}"
             );
         }
-        Ok(!matches!(wanted, Answer::Refused(_)))
+        Ok(is_accepted)
     }
 
     /// Defines what is there from the beginning.

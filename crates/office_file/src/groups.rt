@@ -6,9 +6,20 @@ use sqlite::{Connection, MemStore};
 use std::io;
 use worked_bags::{
     CHECKSUM, COUNTED, DENIED_EVERYTHING, LISTED_IN_ONE, PERCENT_SIGN_0_97, PRINTED_NAME, SMALL,
-    TAG_MANIFEST, TWO_LINES,
+    TAG_MANIFEST, TWO_LINES, WorkedBag,
 };
 use worked_sessions::AnyOffice;
+
+static BAGS: [(&str, WorkedBag); 8] = [
+    ("a valid bag", SMALL),
+    ("a decoded path", PERCENT_SIGN_0_97),
+    ("an unlisted file", LISTED_IN_ONE),
+    ("two lines for one path", TWO_LINES),
+    ("a wrong checksum", CHECKSUM),
+    ("a strange name", PRINTED_NAME),
+    ("a tag manifest", TAG_MANIFEST),
+    ("a counted payload", COUNTED),
+];
 
 /// Prints how a case came out.
 fn say(rt: &HostRuntime, name: &str, outcome: Outcome) -> io::Result<()> {
@@ -17,18 +28,8 @@ fn say(rt: &HostRuntime, name: &str, outcome: Outcome) -> io::Result<()> {
 
 /// Bags, the words of a command line, a question of `explain`.
 pub fn bags(rt: &HostRuntime) -> io::Result<()> {
-    let bags = [
-        ("a valid bag", SMALL),
-        ("a decoded path", PERCENT_SIGN_0_97),
-        ("an unlisted file", LISTED_IN_ONE),
-        ("two lines for one path", TWO_LINES),
-        ("a wrong checksum", CHECKSUM),
-        ("a strange name", PRINTED_NAME),
-        ("a tag manifest", TAG_MANIFEST),
-        ("a counted payload", COUNTED),
-    ];
-    for (name, worked) in bags {
-        say(rt, name, lines::judge(rt, worked))?;
+    for (name, worked) in &BAGS {
+        say(rt, name, lines::judge(rt, *worked))?;
     }
     say(
         rt,
@@ -60,8 +61,8 @@ pub fn tables(rt: &HostRuntime) -> io::Result<()> {
 }
 
 fn session(rt: &HostRuntime, conn: &mut Connection<MemStore>) -> io::Result<()> {
-    for (name, step) in tables::SESSION {
-        say(rt, name, tables::come_out(rt.alloc(), conn, step))?;
+    for (name, step) in &tables::SESSION {
+        say(rt, name, tables::come_out(rt.alloc(), conn, *step))?;
     }
     Ok(())
 }
@@ -105,8 +106,8 @@ fn asked<O: AnyOffice>(rt: &HostRuntime, office: &mut O) -> io::Result<()> {
         "a policy installed",
         offices::installed(rt.alloc(), office),
     )?;
-    for (name, day, part) in offices::SESSION {
-        say(rt, name, offices::come_out(rt.alloc(), office, day, part))?;
+    for (name, day, part) in &offices::SESSION {
+        say(rt, name, offices::come_out(rt.alloc(), office, day, *part))?;
     }
     say(
         rt,
@@ -117,8 +118,8 @@ fn asked<O: AnyOffice>(rt: &HostRuntime, office: &mut O) -> io::Result<()> {
 
 /// The end of the session.
 fn asked_last<O: AnyOffice>(rt: &HostRuntime, office: &mut O) -> io::Result<()> {
-    for (name, day, part) in offices::END {
-        say(rt, name, offices::come_out(rt.alloc(), office, day, part))?;
+    for (name, day, part) in &offices::END {
+        say(rt, name, offices::come_out(rt.alloc(), office, day, *part))?;
     }
     Ok(())
 }

@@ -2,7 +2,8 @@
 
 use crate::outcome::Outcome;
 use office_core::{
-    Accession, Answer, Day, Limits, Matter, Name, PolicyFault, Refusal, Request, Years, read_policy,
+    Accession, Answer, AuditReport, Day, DepositRecord, Limits, Matter, Name, PolicyFault, Refusal,
+    Request, Years, read_policy,
 };
 use office_engine::Office;
 use office_history::{Stock, plain};
@@ -35,7 +36,7 @@ pub enum Part {
 }
 
 /// The session up to the releases: each request with its name and its day, in turn.
-pub const SESSION: [(&str, &str, Part); 15] = [
+pub static SESSION: [(&str, &str, Part); 15] = [
     ("a class defined", "2024-03-01", Part::Class),
     ("a collection defined", "2024-03-01", Part::Collection),
     ("a bad bag refused", "2024-03-01", Part::BadBag),
@@ -54,10 +55,10 @@ pub const SESSION: [(&str, &str, Part); 15] = [
 ];
 
 /// What one run asks then. None of it changes anything.
-const TOGETHER: [Part; 3] = [Part::DueList, Part::List, Part::Bag];
+static TOGETHER: [Part; 3] = [Part::DueList, Part::List, Part::Bag];
 
 /// And the end of the session.
-pub const END: [(&str, &str, Part); 3] = [
+pub static END: [(&str, &str, Part); 3] = [
     ("a due list", "2030-01-02", Part::DueList),
     ("a disposal", "2030-01-02", Part::Disposal),
     ("an accession refused", "2030-01-02", Part::Taken),
@@ -198,6 +199,23 @@ fn request(part: Part) -> Option<Request<'static>> {
     }
 }
 
+/// Whether this is the record of the bag that was deposited.
+fn is_worked(record: &DepositRecord) -> bool {
+    record.number == 1
+        && record.accession.as_str() == "A-1"
+        && record.collection.as_str() == "maps"
+        && record.class.as_str() == "y1"
+        && (record.files, record.bytes) == (1, 3)
+}
+
+/// Whether an audit says what was worked out.
+fn is_valid(report: &AuditReport) -> bool {
+    match report {
+        AuditReport::Valid(report) => report.files == 1 && report.bytes == 3,
+        AuditReport::Invalid(_) => false,
+    }
+}
+
 /// Whether the answer is the one that was worked out.
 fn fits(part: Part, answer: &Answer) -> bool {
     match (part, answer) {
@@ -207,12 +225,22 @@ fn fits(part: Part, answer: &Answer) -> bool {
         (Part::Deposit, Answer::Deposited { deposit }) => *deposit == 1,
         (Part::Hold, Answer::HoldPlaced { hold }) => *hold == 1,
         (Part::DepositHold, Answer::HoldPlaced { hold }) => *hold == 2,
-        (Part::List, Answer::List { deposits }) => deposits.as_slice().len() == 1,
-        (Part::Record, Answer::Record(record)) => record.number == 1,
-        (Part::Holds, Answer::Holds { holds }) => holds.as_slice().len() == 2,
+        (Part::List, Answer::List { deposits }) => match deposits.as_slice() {
+            [record] => is_worked(record),
+            _ => false,
+        },
+        (Part::Record, Answer::Record(record)) => is_worked(record),
+        (Part::Holds, Answer::Holds { holds }) => match holds.as_slice() {
+            [first, second] => {
+                (first.number, second.number) == (1, 2)
+                    && first.matter.as_str() == "suit"
+                    && second.matter.as_str() == "audit"
+            }
+            _ => false,
+        },
         (Part::Bag, Answer::Bag { bytes }) => bytes.as_slice() == BAG,
         (Part::File, Answer::File { bytes }) => bytes.as_slice() == b"abc".as_slice(),
-        (Part::Audit, Answer::Audit { deposit, .. }) => *deposit == 1,
+        (Part::Audit, Answer::Audit { deposit, report }) => *deposit == 1 && is_valid(report),
         (Part::HeldDisposal, Answer::Refused(Refusal::Held(hold))) => *hold == 1,
         (Part::Release, Answer::HoldReleased { hold, .. }) => *hold == 1,
         (Part::DepositRelease, Answer::HoldReleased { hold, .. }) => *hold == 2,
@@ -250,8 +278,8 @@ fn answered(part: Part, answer: &Answer) -> Outcome {
 /// The requests of one run.
 fn items(alloc: Global) -> Result<Vec<(Day, &'static str, Request<'static>)>, AllocError> {
     let mut items = Vec::new(alloc);
-    for part in TOGETHER {
-        if let (Some(day), Some(request)) = (Day::read("2030-01-02"), request(part)) {
+    for part in &TOGETHER {
+        if let (Some(day), Some(request)) = (Day::read("2030-01-02"), request(*part)) {
             items.push((day, "anna", request))?;
         }
     }

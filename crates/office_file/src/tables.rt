@@ -25,7 +25,7 @@ pub enum Step {
 }
 
 /// The session: each step with its name, in turn.
-pub const SESSION: [(&str, Step); 9] = [
+pub static SESSION: [(&str, Step); 9] = [
     ("tables made", Step::Create),
     ("tables opened", Step::Open),
     ("a class and a collection", Step::Define),

@@ -222,7 +222,7 @@ fn a_decision_by_its_call(rt: HostRuntime) -> Result<(), Fail> {
 static ERRORS: [(ErrorKind, &str, Ending); 3] = [
     (
         ErrorKind::InvalidData,
-        "a word is not UTF-8\n",
+        "a word is not UTF-8: give names of files and folders in UTF-8\n",
         Ending::Misused,
     ),
     (ErrorKind::BrokenPipe, "device\n", Ending::Failed),

@@ -187,6 +187,11 @@ pub static DEPOSITS: [Part; 9] = [
          record 1 > Store\n\
          list > Store\n\
          dispose 1 > Store\n\
+         bag 1 > Store\n\
+         file 1 data/a > Store\n\
+         audit 1 > Store\n\
+         holds 1 > Store\n\
+         hold 1 > Store\n\
          record 2 > record 2 A-2 tax y10 closed 2024-02-29 deposited 2024-03-01 due 2034-02-28 \
          files 1 bytes 3\n\
          list-of tax > list: 2\n\
@@ -217,6 +222,8 @@ pub static DEPOSITS: [Part; 9] = [
         "UPDATE deposit SET deposited = 2859849 WHERE number = 1\n\
          UPDATE deposit SET deposited = 19783 WHERE number = 1\n\
          record 1 > Store\n\
+         bag 1 > Store\n\
+         hold 1 > Store\n\
          list-of maps > Store\n\
          record 3 > record 3 A-3 maps y10 closed 2024-02-29 deposited 2024-03-01 due 2034-02-28 \
          files 1 bytes 3\n\
@@ -334,7 +341,8 @@ pub static RULES: [Part; 4] = [
 ];
 
 /// A hold names nothing, two things, or what isn't there; its days, its matter and its number are
-/// none. Of a hold whose number alone is told, the row isn't read.
+/// none. The row of a hold that refuses a disposal is read, too; the others that cover the deposit are
+/// not, and a hold that names nothing covers none.
 pub static HOLDS: [Part; 8] = [
     (
         "",
@@ -358,8 +366,9 @@ pub static HOLDS: [Part; 8] = [
          record 3 > record 3 A-3 maps y10 closed 2024-02-29 deposited 2024-03-01 due 2034-02-28 \
          files 1 bytes 3\n\
          2040-01-01 anna\n\
-         dispose 3 > Held 1\n\
-         due > due on 2040-01-01: 1",
+         dispose 3 > Store\n\
+         2030-01-01 anna\n\
+         due > Store",
     ),
     (
         "",
@@ -382,7 +391,13 @@ pub static HOLDS: [Part; 8] = [
          UPDATE hold SET placed = 19784 WHERE number = 1\n\
          holds 3 > Store\n\
          holds 1 > holds:\n\
-         bag 3 > whole",
+         bag 3 > whole\n\
+         release 1 > Store\n\
+         2030-01-01 carl\n\
+         release 1 > Denied default\n\
+         2040-01-01 anna\n\
+         dispose 3 > Store\n\
+         due > Store",
     ),
     (
         "",
@@ -397,8 +412,10 @@ pub static HOLDS: [Part; 8] = [
         "UPDATE hold SET matter = '' WHERE number = 1\n\
          UPDATE hold SET matter = 'Case 7' WHERE number = 1\n\
          holds 3 > Store\n\
+         release 1 > Store\n\
          2040-01-01 anna\n\
-         due > due on 2040-01-01: 1",
+         dispose 3 > Store\n\
+         due > Store",
     ),
     (
         "",

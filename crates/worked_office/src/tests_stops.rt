@@ -1,11 +1,11 @@
-//! A stop in a request and in a run, and what is found again in the files.
+//! A stop in a request, and what is found again in the files.
 
 use crate::files::SMALL;
 use crate::offices::{Way, put};
 use crate::parts::{Part, agree};
 use crate::stores::in_files;
 use office_core::Day;
-use office_engine::{Office, reopen, stop_in, stop_in_run};
+use office_engine::{Office, reopen, stop_in};
 use sqlite::{FileStore, Files};
 use sqlite_disk::Disk;
 use std::alloc::Global;
@@ -27,10 +27,6 @@ const AFTER_THE_REQUEST: &str = "2024-03-02 anna\n\
      2025-02-28 anna\n\
      dispose 1 > Held 1";
 
-const AFTER_THE_RUN: &str = "2025-02-28 anna\n\
-     dispose 1 > Held 2\n\
-     release 1 > Released 2024-03-02";
-
 /// The office that is found in the files.
 fn found<D: Disk + Drop>(alloc: Global, files: Files<D>) -> Option<Office<FileStore<D>>> {
     if !files.may_be_used() {
@@ -39,27 +35,17 @@ fn found<D: Disk + Drop>(alloc: Global, files: Files<D>) -> Option<Office<FileSt
     reopen(alloc, files, SMALL)
 }
 
-/// Stops in a hold of deposit 1, and then in a run of a hold of its collection and a release of the
-/// first hold. After each the files show the office after it.
-fn stop_twice<D: Disk + Drop>(alloc: Global, files: Files<D>) -> Option<String> {
+/// Stops in a hold of deposit 1. Then the files show the office after it.
+fn stop_once<D: Disk + Drop>(alloc: Global, files: Files<D>) -> Option<String> {
     let day = Day::read("2024-03-02")?;
     let hold = Asked::HoldDeposit(1).request()?;
-    let hold_all = Asked::HoldCollection("maps").request()?;
-    let release = Asked::Release(1).request()?;
     let store = stop_in(alloc, found(alloc, files)?, day, "anna", &hold);
     let mut office = found(alloc, store.close())?;
-    let differs = put(alloc, &mut office, Way::Steps, AFTER_THE_REQUEST)?;
-    if !differs.is_empty() {
-        return Some(differs);
-    }
-    let items = [(day, "anna", hold_all), (day, "anna", release)];
-    let store = stop_in_run(alloc, office, &items);
-    let mut office = found(alloc, store.close())?;
-    put(alloc, &mut office, Way::Steps, AFTER_THE_RUN)
+    put(alloc, &mut office, Way::Steps, AFTER_THE_REQUEST)
 }
 
 #[test]
 fn a_stop_leaves_the_office_after_its_last_request(rt: HostRuntime) -> Result<(), Fail> {
     let files = in_files(rt.alloc(), Way::Steps, &BEFORE)?;
-    agree(stop_twice(rt.alloc(), files))
+    agree(stop_once(rt.alloc(), files))
 }

@@ -13,15 +13,15 @@ static FILES: [(&str, &str); 2] = [
 
 /// Runs that make no office.
 static NOTHING_MADE: [&str; 10] = [
-    "ask,o/office.db,2024-03-02|~maps~|Failed||~no office~o/office.db is no office\n",
-    "replay,o/office.db|~records~|Failed||~no office~o/office.db is no office\n",
-    "serve,--port,0,--count,1,o/office.db,2024-03-02||Failed||~no office~o/office.db is no office\n",
+    "ask,o/office.db,2024-03-02|~maps~|Failed||~no office~o/office.db is not there\n",
+    "replay,o/office.db|~records~|Failed||~no office~o/office.db is not there\n",
+    "serve,--port,0,--count,1,o/office.db,2024-03-02||Failed||~no office~o/office.db is not there\n",
     "policy,o/office.db,o/other.toml||Refused|policy Y2\n|~Y2~",
     "replay,--policy,o/other.toml,o/office.db|~records~|Refused||policy Y2\n~Y2~depot: o/other.toml is no policy\n",
     "policy,o/office.db,o/none.toml||Failed||~unread~o/none.toml~none~",
     "replay,--policy,o/none.toml,o/office.db|~records~|Failed||~unread~o/none.toml~none~",
     "policy,o/none/office.db,o/policy.toml||Failed||~unopened~o/none/office.db~none~",
-    "ask,o/none/office.db,2024-03-02|~maps~|Failed||~no office~o/none/office.db is no office\n",
+    "ask,o/none/office.db,2024-03-02|~maps~|Failed||~no office~o/none/office.db is not there\n",
     "policy,o/policy.toml/office.db,o/policy.toml||Failed||store Q4\ndepot: cannot look at o/policy.toml/office.db: Not a directory (os error 20)\n",
 ];
 
@@ -40,11 +40,11 @@ static MADE: [&str; 7] = [
 
 /// A request whose last byte does not come, as the input fails.
 static INPUT_FAILS: &str =
-    "ask,o/office.db,2024-03-01|~maps~|Failed||device\ndepot: standard input or output failed\n";
+    "ask,o/office.db,2024-03-01|~maps~|Failed||device\ndepot: standard input failed\n";
 
 /// Records, where standard output takes nothing.
 static OUTPUT_FAILS: &str =
-    "replay,--policy,o/policy.toml,o/office.db|~days~|Failed||device\ndepot: standard input or output failed\n";
+    "replay,--policy,o/policy.toml,o/office.db|~days~|Failed||device\ndepot: standard output failed\n";
 
 /// The office goes on, others are made, and one is served.
 static GOES_ON: [&str; 14] = [
@@ -77,7 +77,7 @@ fn run_at_taken_port(rt: &HostRuntime) -> Result<(), Fail> {
     let listener = TcpListener::bind(rt, (Ipv4Addr::LOCALHOST, 0))?;
     let port = listener.local_addr()?.port();
     let text = format!(in rt.alloc();
-        "serve,--port,{port},--count,1,o/served.db,2024-03-01||Failed||device\ndepot: cannot listen on 127.0.0.1: Address already in use (os error 98)\n"
+        "serve,--port,{port},--count,1,o/served.db,2024-03-01||Failed||device\ndepot: cannot listen on 127.0.0.1:{port}: Address already in use (os error 98)\n"
     )?;
     run_one(rt, text.as_str(), u64::MAX, usize::MAX)
 }

@@ -50,7 +50,7 @@ static STORES: [Store; 13] = [
     Store {
         path: "s/empty.db",
         length: Some(0),
-        told: "~no office~STORE is no office\n",
+        told: "~no office~STORE is an empty file, and no office\n",
         ..OFFICE
     },
     // A database without tables, as sqlite3 makes it in pages of 512 bytes.
@@ -58,7 +58,7 @@ static STORES: [Store; 13] = [
         path: "s/bare.db",
         own: b"SQLite format 3\0\x02\0\x01\x01\0\x40  \0\0\0\x01\0\0\0\x01\0\0\0\0\0\0\0\0\0\0\0\x01\0\0\0\0\0\0\0\0\0\0\0\0\0\0\0\0\0\0\0\0\0\0\0\0\0\0\0\0\0\0\0\0\0\0\0\0\0\0\0\0\0\0\0\0\0\0\0\0\0\0\0\x01\0\x2Ec\x01\x0D\0\0\0\0\x02",
         length: Some(512),
-        told: "~no office~STORE is no office\n",
+        told: "~no office~STORE is another database, and no office\n",
         ..OFFICE
     },
     // A database of another program: its tables have other names.
@@ -66,7 +66,7 @@ static STORES: [Store; 13] = [
         path: "s/notes.db",
         from: b"office",
         to: b"notice",
-        told: "~no office~STORE is no office\n",
+        told: "~no office~STORE is another database, and no office\n",
         ..OFFICE
     },
     // The row of the table `office`, with the version 2 in the place of 1, and fewer deposits.
