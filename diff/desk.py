@@ -209,7 +209,7 @@ QUERIES = [
 
 def body(line, text, caller="anna"):
     """A request with this body."""
-    return f"{line} HTTP/1.1\nDepot-Caller: {caller}\nContent-Length: {len(text)}\n\n{text}"
+    return f"{line} HTTP/1.1\nDepot-Caller: {caller}\nContent-Length: {len(text.encode())}\n\n{text}"
 
 
 CLASS, HOLD = "PUT /classes/y10", "POST /holds"
@@ -336,6 +336,10 @@ DEPOSITS = [(f"POST /deposits?{query} HTTP/1.1\nDepot-Caller: anna\nContent-Leng
     ("closed=2024-02-29&accession=A-1&class=y10&collection=maps", TAKEN),
     ("&collection=maps&&class=y10&accession=A-1&closed=2024-02-29&", TAKEN),
     ("c%6Fllection=m%61ps&class=y10&accession=%41%2D1&closed=2024%2d02%2d29", TAKEN),
+    ("collection=maps&class=y10&accession=A-1&closed=1900-01-01", TAKEN),
+    ("collection=maps&class=y10&accession=A-1&closed=9799-12-31", TAKEN),
+    (f"collection=none&class=y10&accession={'A' * 64}&closed=2024-02-29", none("collection")),
+    (f"collection=none&class=y10&accession={'A' * 65}&closed=2024-02-29", refused("BadQuery")),
     *((query, refused("BadQuery")) for query in [
         "", "class=y10&accession=A-1&closed=2024-02-29", "collection=maps&accession=A-1&closed=2024-02-29",
         "collection=maps&class=y10&closed=2024-02-29", "collection=maps&class=y10&accession=A-1", ALL_FOUR + "&closed=2024-02-29",
@@ -367,6 +371,10 @@ HOLDS = [(body(HOLD, text), given, "2025-03-01") for text, given in [
     ('{"matter":"Case 7","collection":"tax"}', (201, '{"hold":4}')),
     ('{"deposit":1,"deposit":2,"matter":"a"}', (201, '{"hold":5}')),
     ('{"deposit":0,"matter":"a","deposit":3}', none("deposit")),
+    ('{"deposit":3,"matter":"%s"}' % ("m" * 200), none("deposit")),
+    ('{"deposit":3,"matter":"%s"}' % ("\u00e9" * 100), none("deposit")),
+    ('{"deposit":3,"matter":"%s"}' % ("m" * 201), refused("BadBody")),
+    ('{"deposit":3,"matter":"%sm"}' % ("\u00e9" * 100), refused("BadBody")),
     *((text, refused("BadBody")) for text in [
         '{"deposit":4294967297,"matter":"a"}', '{"deposit":-1,"matter":"a"}', '{"deposit":1.0,"matter":"a"}', '{"deposit":"1","matter":"a"}',
         '{"deposit":null,"matter":"a"}', '{"collection":1,"matter":"a"}', '{"collection":"Tax","matter":"a"}', '{"collection":"","matter":"a"}',

@@ -9,7 +9,7 @@ room=$(mktemp -d)
 trap 'rm -rf "$room"' EXIT
 
 mkdir -p "$room/crates/lending/src"
-for crate in bag_text bag_check office_core desk_devices desk_forms desk_heads desk_routes desk_hearing; do
+for crate in bag_text bag_check office_rows office_core desk_devices desk_forms desk_heads desk_routes desk_hearing; do
     cp -a "$top/crates/$crate" "$room/crates/"
     grep "^$crate:" "$top/crates.txt" >>"$room/crates.txt"
 done

@@ -7,6 +7,11 @@ before those of the C library (`LD_PRELOAD`). Each run ends by itself, and print
 answer of the session that nothing is refused to, or 503, and then it has done nothing: the next time it
 has the answer that it would have had. Or the program ends with `memory`, and what was answered before.
 
+`ask`: `depot ask` over a file, a request each: a deposit, a download, a release that the office refuses, and
+a request that the desk refuses. It is answered as with all memory, or by 503, or the program ends with
+`memory`; and the same request to the same file, with all memory, is then answered as the first or the
+second time that it is asked, and as the first time where 503 was answered for want of memory.
+
 `bags`, `office`, `tables`, `stored`: the cases of `crates/office_file`, each of which comes out as worked
 out, or with want of memory.
 
@@ -16,6 +21,7 @@ alone. DEPOT and OFFICE_FILE name other programs than those in `crates/depot/out
 """
 import os
 import pathlib
+import shutil
 import subprocess
 import sys
 import tempfile
@@ -67,12 +73,17 @@ def run(library, number, words, given):
         return ended, bool(file.read())
 
 
-def record(day, caller, line, body=b""):
-    """The record of a request."""
+def request(caller, line, body=b""):
+    """A request."""
     head = f"{line} HTTP/1.1\r\nDepot-Caller: {caller}\r\n"
     if body:
         head += f"Content-Length: {len(body)}\r\n"
-    text = (head + "\r\n").encode() + body
+    return (head + "\r\n").encode() + body
+
+
+def record(day, caller, line, body=b""):
+    """The record of a request."""
+    text = request(caller, line, body)
     return b"REQ %s %d\n" % (day.encode(), len(text)) + text + b"\n"
 
 
@@ -166,6 +177,62 @@ def desk(library, first, last):
     print(f"desk: {len(wanted)} requests, {sum(tally.values())} allocations refused: {said}", flush=True)
 
 
+def fault_of_asking(ended, again, wanted):
+    """What is wrong with the end of `ask`, or of the same request asked again, if anything is."""
+    may_be_done = True
+    if ended.returncode == 0:
+        if ended.stdout != wanted[0] and not is_wanting(ended.stdout):
+            return f"it answers {ended.stdout!r}"
+        may_be_done = not ended.stdout.endswith(b'{"error":"Memory"}')
+    elif ended.returncode != 3 or ended.stderr.split(b"\n")[0] not in (b"memory", b"device", b"store Q4"):
+        return f"it ended with {ended.returncode} and {ended.stderr!r}"
+    elif not wanted[0].startswith(ended.stdout) and not is_wanting(ended.stdout):
+        return f"it wrote {ended.stdout!r}"
+    if again.returncode != 0 or again.stdout not in (wanted if may_be_done else wanted[:1]):
+        return f"asked again it ended with {again.returncode} and answers {again.stdout!r}"
+    return None
+
+
+def ask(library, first, last):
+    """Single requests over a file."""
+    bag = (TOP / "examples/bag-a.bagset").read_bytes()
+    deposit = "POST /deposits?collection=maps&class=y1&accession=A-%d&closed=2024-02-29"
+    day = "2024-03-01"
+    given = [
+        request("anna", deposit % 2, bag),
+        request("anna", "GET /deposits/1/bag"),
+        request("anna", "DELETE /holds/1"),
+        request("anna", "GET /nothing"),
+    ]
+    refused = 0
+    with tempfile.TemporaryDirectory() as room:
+        kept, used = pathlib.Path(room, "kept"), pathlib.Path(room, "used")
+        kept.mkdir()
+        subprocess.run([DEPOT, "policy", kept / "office.db", POLICY], check=True, capture_output=True)
+        for text in (request("anna", "PUT /classes/y1", b'{"years":1}'), request("anna", "PUT /collections/maps"), request("anna", deposit % 1, bag)):
+            subprocess.run([DEPOT, "ask", kept / "office.db", day], input=text, check=True, capture_output=True)
+
+        def asks(number, text):
+            return run(library, number, [DEPOT, "ask", used / "office.db", day], text)
+
+        for place, text in enumerate(given):
+            shutil.copytree(kept, used)
+            wanted = [asks(0, text)[0].stdout for _ in range(2)]
+            shutil.rmtree(used)
+            for number in range(first, last + 1):
+                shutil.copytree(kept, used)
+                ended, was_refused = asks(number, text)
+                again = asks(0, text)[0] if was_refused else None
+                shutil.rmtree(used)
+                if not was_refused:
+                    break
+                why = fault_of_asking(ended, again, wanted)
+                if why:
+                    sys.exit(f"ask, request {place + 1}, allocation {number}: {why}")
+                refused += 1
+    print(f"ask: {len(given)} requests, {refused} allocations refused", flush=True)
+
+
 def cases(group):
     """The trial of a group of cases."""
 
@@ -192,7 +259,7 @@ def cases(group):
     return trial
 
 
-GROUPS = {"desk": desk, **{it: cases(it) for it in ("bags", "office", "tables", "stored")}}
+GROUPS = {"desk": desk, "ask": ask, **{it: cases(it) for it in ("bags", "office", "tables", "stored")}}
 
 
 def main():
@@ -208,7 +275,7 @@ def main():
         library = compiled(pathlib.Path(folder))
         for name in names:
             GROUPS[name](library, first, last)
-    print("no run printed anything wrong")
+    print(f"memory: each allocation refused in turn in {', '.join(names)}: nothing but want of memory, and nothing lost")
 
 
 if __name__ == "__main__":

@@ -1,5 +1,5 @@
 #!/usr/bin/env bash
-# Has `depot serve` answer curl, each route and refusal once, and then `serve_client.py`, which sends
+# Has `depot serve` answer curl, each route and each refusal but want of memory once, and then `serve_client.py`, which sends
 # bytes that are cut, dribbled, stopped or too many, and kills the office 200 times, between requests
 # and in them, to compare what is there after each restart with what was answered.
 # Needs curl, python3 and sqlite3. Words: the program, `depot` of the repository if left out, and how
@@ -16,14 +16,15 @@ first='{"accession":"A-1","bytes":3,"class":"y0","closed":"2024-02-29","collecti
 second='{"accession":"A-2","bytes":3,"class":"y10","closed":"2024-02-29","collection":"tax","deposit":2,"deposited":"2024-03-01","due":"2034-02-28","files":1}'
 long=$(printf 'x%.0s' {1..9000})
 
-# Who asks, the status and the body that are wanted, the target, and what else curl is told.
+# Who asks, the status (for a wrong method with what `Allow` says) and the body that are wanted, the
+# target, and what else curl is told.
 asks() {
     local caller=$1 status=$2 body=$3 target=$4
     shift 4
     cases+=("$target")
     local said
-    said=$(curl -sS -H "Depot-Caller: $caller" -w '\n%{http_code}' "$@" "$office$target" 2>&1) || true
-    if [ "$said" != "$body"$'\n'"$status" ]; then
+    said=$(curl -sS -H "Depot-Caller: $caller" -w '\n%{http_code} %header{allow}' "$@" "$office$target" 2>&1) || true
+    if [ "${said% }" != "$body"$'\n'"$status" ]; then
         echo "$target by $caller: $status $body is wanted, and this came: $said" >&2
         exit 1
     fi
@@ -59,6 +60,7 @@ all() {
     asks anna 409 '{"day":"2024-03-01","error":"Released"}' /holds/1 -X DELETE
     asks anna 404 '{"error":"NoSuch","what":"hold"}' /holds/9 -X DELETE
     asks anna 201 '{"hold":2}' /holds -d '{"deposit":2,"matter":"Case 8"}'
+    asks anna 409 '{"error":"Full"}' /holds -d '{"deposit":2,"matter":"Case 9"}'
     asks anna 200 '{"day":"2024-03-01","deposits":[1]}' /due
     asks anna 200 "$(cat "$bag")"$'\n' /deposits/1/bag
     asks anna 200 abc /deposits/1/files/data/a
@@ -69,8 +71,12 @@ all() {
     asks anna 409 '{"due":"permanent","error":"NotDue"}' /deposits/4 -X DELETE
     asks anna 200 '{"day":"2024-03-01","destroyed":1}' /deposits/1 -X DELETE
     asks anna 410 '{"day":"2024-03-01","error":"Gone"}' /deposits/1
+    asks anna 201 '{"deposit":5}' '/deposits?collection=maps&class=odd&accession=A-5&closed=2024-02-29' --data-binary "@$bag"
+    asks anna 503 '{"error":"Store"}' /deposits/5
+    asks anna 409 '{"error":"Full"}' '/deposits?collection=maps&class=y0&accession=A-6&closed=2024-02-29' --data-binary "@$bag"
     asks anna 404 '{"error":"NoRoute"}' /nowhere
-    asks anna 405 '{"error":"Method"}' /due -X PUT
+    asks anna '405 GET' '{"error":"Method"}' /due -X PUT
+    asks anna '405 GET, POST' '{"error":"Method"}' /deposits -X DELETE
     asks anna 400 '{"error":"BadQuery"}' '/due?a=b'
     asks anna 400 '{"error":"BadBody"}' /classes/y1 -X PUT -d '{}'
     asks anna 400 '{"error":"Chunked"}' /classes/y1 -X PUT -H 'Transfer-Encoding: chunked' -d '{}'
@@ -81,6 +87,8 @@ all() {
 }
 
 "$program" policy "$store" "$top/examples/policy.toml" >"$folder/installed"
+# Limits that are met soon, and a class whose years no request can write.
+sqlite3 "$store" "UPDATE office SET max_deposits = 5, max_holds = 2; INSERT INTO class VALUES ('odd', 300)"
 cases=()
 count=$(declare -f all | grep -c '^ *asks ')
 "$program" serve --port 0 --count "$count" "$store" 2024-03-01 >"$folder/said" &
@@ -90,6 +98,8 @@ while ! grep -q listening "$folder/said"; do
     sleep 0.05
 done
 office=http://127.0.0.1:$(sed 's/listening //' "$folder/said")
+sqlite3 "$store" 'SELECT count(*) FROM deposit' >"$folder/locked" 2>&1 && { echo "sqlite3 reads a store that is served" >&2; exit 1; }
+grep -q 'database is locked' "$folder/locked" || { cat "$folder/locked" >&2; exit 1; }
 all
 wait "$serving"
 echo "curl: ${#cases[@]} requests answered as worked out"

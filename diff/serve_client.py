@@ -163,6 +163,31 @@ def going_away():
     print("100 peers that went, 2 that stopped, bodies of 16 MiB and more: the next is served")
 
 
+def never_reading():
+    """A peer that asks for a bag of 16 MB and reads nothing of it: it holds the office for 30 seconds."""
+    office = opened("unread.db")
+    form = bag(b"x" * 16000000)
+    wants(ask(office, "POST", deposit_target("A-1"), form), 201, '{"deposit":1}')
+    with socket.socket() as peer:
+        peer.setsockopt(socket.SOL_SOCKET, socket.SO_RCVBUF, 4096)
+        peer.connect(("127.0.0.1", office.port))
+        peer.sendall(request("GET", "/deposits/1/bag"))
+        began = time.monotonic()
+        wants(ask(office, "GET", "/due"), 200, '{"day":"2024-03-01","deposits":[1]}')
+        waited = time.monotonic() - began
+        assert 25 < waited < 45, waited
+        got = 0
+        try:
+            while chunk := peer.recv(65536):
+                got += len(chunk)
+        except ConnectionResetError:
+            pass
+        assert got < len(form), got
+    wants(ask(office, "GET", "/deposits/1/bag"), 200, form)
+    office.kill()
+    print("a peer that reads nothing of its answer: its connection ends, and the next is served")
+
+
 class Kept:
     """What an office has to have: what was answered, and what may have been done."""
 
@@ -235,8 +260,8 @@ def compare(office, kept, numbers):
     assert [record["deposit"] for record in listed] == sorted(set(kept.bags) - kept.gone)
     for number in kept.gone:
         wants(ask(office, "GET", f"/deposits/{number}"), 410, '{"day":"2024-03-01","error":"Gone"}')
-    covered = {n for k, n in kept.holds.items()} - kept.gone
-    for number in covered:
+    covered = set(kept.holds.values()) | set(numbers) & set(kept.bags)
+    for number in covered - kept.gone:
         live = {k for k, n in kept.holds.items() if n == number and k not in kept.released}
         assert holds_over(office, number) == live, (number, live)
     for number in numbers:
@@ -299,5 +324,6 @@ def killed():
 
 cut_and_dribbled()
 going_away()
+never_reading()
 killed()
-print(f"serve: curl, cut and dribbled requests, peers that stop, and {KILLS} kills: as docs/HTTP.md says")
+print(f"serve: curl, cut and dribbled requests, peers that stop or don't read, and {KILLS} kills: as docs/HTTP.md says")

@@ -37,6 +37,8 @@ done = subprocess.run(
     ["bash"], input="\n".join(shell) + "\n", cwd=room, stdout=subprocess.PIPE, stderr=subprocess.STDOUT, text=True
 )
 printed = [part.strip("\n").replace("\r", "") for part in done.stdout.split(MARK + "\n")]
+if len(printed) != len(commands) + 1:
+    sys.exit(f"{len(commands)} commands are wanted, and the shell ended behind {len(printed) - 1}")
 for (command, wanted), found in zip(commands, printed):
     lines = [line.strip() for line in found.splitlines()]
     if [line for line in lines if line] != [line for line in wanted if line]:
