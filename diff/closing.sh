@@ -17,10 +17,11 @@ request() {
     cat "${3:-/dev/null}"
 }
 
-# The line of a record of a replay, and its request.
+# A record of a replay: its line, its request and a line feed.
 record() {
-    printf '%s %s\n' "$day" "$(stat -c %s "$1")"
+    printf 'REQ %s %s\n' "$day" "$(stat -c %s "$1")"
     cat "$1"
+    echo
 }
 
 # Runs the program where no file may be written past 512 KiB.
