@@ -7,4 +7,4 @@ mod listing;
 mod office;
 mod serving;
 
-pub use office::{Office, reopen, stop_in, stop_in_run};
+pub use office::{Office, StoppedRun, reopen, stop_in, stop_in_run};

@@ -243,22 +243,33 @@ pub fn stop_in<D: Disk + Drop>(
     stop(office.into_connection())
 }
 
-/// Serves requests one after the other, and stops there: what they were answered, and the files as
-/// they are then.
+/// What is left of a run that was stopped behind its last request.
+#[derive(Drop)]
+pub struct StoppedRun<D: Disk + Drop> {
+    /// What the requests were answered.
+    pub answers: Result<Vec<Answer>, AllocError>,
+    /// The files as they are then, which may be what a crash leaves.
+    pub files: FileStore<D>,
+}
+
+/// Serves requests one after the other, and stops there.
 pub fn stop_in_run<D: Disk + Drop>(
     alloc: Global,
     mut office: Office<FileStore<D>>,
     items: &[(Day, &str, Request<'_>)],
-) -> (Result<Vec<Answer>, AllocError>, FileStore<D>)
+) -> StoppedRun<D>
     // They hold the office that the answers tell, or that one with the change of a failed request.
-    ensures leaves { IsClean (view result.1) → IfOk result.0 (λ answers. (h : History) → IsLegal h → IsTrue (file_state office).is_open → IsKeptBy h (file_state office)
-        → (image : Image) → (files_state result.1).may_leave image → HoldsWhere (IsLeftOfRun h items.now answers.items) image) }
+    ensures leaves { IsClean (view result.files) → IfOk result.answers (λ answers. (h : History) → IsLegal h → IsTrue (file_state office).is_open → IsKeptBy h (file_state office)
+        → (image : Image) → (files_state result.files).may_leave image → HoldsWhere (IsLeftOfRun h items.now answers.items) image) }
     // Where there was no room for the answers, the office as it was.
-    ensures failed { IsClean (view result.1) → OnErr result.0 ((h : History) → IsTrue (file_state office).is_open → IsKeptBy h (file_state office)
-        → (image : Image) → (files_state result.1).may_leave image → HoldsWhere (IsLeftOf h) image) }
+    ensures failed { IsClean (view result.files) → OnErr result.answers ((h : History) → IsTrue (file_state office).is_open → IsKeptBy h (file_state office)
+        → (image : Image) → (files_state result.files).may_leave image → HoldsWhere (IsLeftOf h) image) }
 {
     let answers = office.run(alloc, items);
-    (answers, stop(office.into_connection()))
+    StoppedRun {
+        answers,
+        files: stop(office.into_connection()),
+    }
 }
 
 /// The office that is found in files. `None` where they can't be opened, or are no office of this
