@@ -1,16 +1,16 @@
-//! A stop in a request, and what is found again in the files.
+//! A stop in a request and in a run, and what is found again in the files.
 
 use crate::files::SMALL;
 use crate::offices::{Way, put};
 use crate::parts::{Part, agree};
 use crate::stores::in_files;
-use office_core::Day;
-use office_engine::{Office, reopen, stop_in};
+use office_core::{Answer, Day};
+use office_engine::{Office, StoppedRun, reopen, stop_in, stop_in_run};
 use sqlite::{FileStore, Files};
 use sqlite_disk::Disk;
 use std::alloc::Global;
 use std::test::*;
-use worked_sessions::Asked;
+use worked_sessions::{Asked, words};
 
 static BEFORE: [Part; 2] = [
     ("office", "1000000"),
@@ -26,6 +26,12 @@ const AFTER_THE_REQUEST: &str = "2024-03-02 anna\n\
      list > list: 1\n\
      2025-02-28 anna\n\
      dispose 1 > Held 1";
+
+const TOLD_OF_THE_RUN: &str = "hold 2\nreleased 1 2024-03-02\n";
+
+const AFTER_THE_RUN: &str = "2025-02-28 anna\n\
+     dispose 1 > Held 2\n\
+     release 1 > Released 2024-03-02";
 
 /// The office that is found in the files.
 fn found<D: Disk + Drop>(alloc: Global, files: Files<D>) -> Option<Office<FileStore<D>>> {
@@ -44,8 +50,44 @@ fn stop_once<D: Disk + Drop>(alloc: Global, files: Files<D>) -> Option<String> {
     put(alloc, &mut office, Way::Steps, AFTER_THE_REQUEST)
 }
 
+/// The answers in words, a line each.
+fn told(alloc: Global, answers: &[Answer]) -> Option<String> {
+    let mut text = String::new(alloc);
+    for answer in answers {
+        text.push_str(words(alloc, answer).ok()?.as_str()).ok()?;
+        text.push_str("\n").ok()?;
+    }
+    Some(text)
+}
+
+/// Stops in a run of a hold of deposit 1's collection and a release of the first hold, which its
+/// answers tell. Then the files show the office after both.
+fn stop_in_two<D: Disk + Drop>(alloc: Global, files: Files<D>) -> Option<String> {
+    let day = Day::read("2024-03-02")?;
+    let hold = Asked::HoldDeposit(1).request()?;
+    let mut office = found(alloc, files)?;
+    let _placed = office.step(alloc, day, "anna", &hold);
+    let items = [
+        (day, "anna", Asked::HoldCollection("maps").request()?),
+        (day, "anna", Asked::Release(1).request()?),
+    ];
+    let StoppedRun { answers, files } = stop_in_run(alloc, office, &items);
+    let told = told(alloc, answers.ok()?.as_slice())?;
+    if told.as_str() != TOLD_OF_THE_RUN {
+        return Some(told);
+    }
+    let mut office = found(alloc, files.close())?;
+    put(alloc, &mut office, Way::Steps, AFTER_THE_RUN)
+}
+
 #[test]
 fn a_stop_leaves_the_office_after_its_last_request(rt: HostRuntime) -> Result<(), Fail> {
     let files = in_files(rt.alloc(), Way::Steps, &BEFORE)?;
     agree(stop_once(rt.alloc(), files))
+}
+
+#[test]
+fn a_stop_leaves_the_office_after_the_run(rt: HostRuntime) -> Result<(), Fail> {
+    let files = in_files(rt.alloc(), Way::Steps, &BEFORE)?;
+    agree(stop_in_two(rt.alloc(), files))
 }
