@@ -43,11 +43,10 @@ def ours(*words):
 
 
 def opened(file):
-    """The file, as Python opens it. Like the program, it copies the log into the file as it closes alone."""
+    """The file, as Python opens it. Like the program, it copies a log of 1,000 pages into the file."""
     conn = sqlite3.connect(file, isolation_level=None)
     conn.execute("PRAGMA journal_mode = WAL").fetchall()
     conn.execute("PRAGMA synchronous = FULL")
-    conn.execute("PRAGMA wal_autocheckpoint = 0").fetchall()
     conn.execute("PRAGMA foreign_keys = ON")
     return conn
 

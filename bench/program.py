@@ -111,6 +111,10 @@ class Mixed(Statements):
         self.rows("UPDATE hold SET released = ?2 WHERE number = ?1", number, self.day)
 
 
+# What each of the mixed requests is answered: the disposal is refused for a hold.
+STATUS = {"deposit": 201, "record": 200, "hold": 201, "disposal": 409, "bag": 200, "release": 200}
+
+
 def mixed(turn):
     """Ten mixed requests: the records of a replay, and what each of them is by name and numbers."""
     new, hold = 101 + 2 * turn, Mixed.HOLDS + 1 + turn
@@ -141,8 +145,9 @@ def replay(folder):
         begin = time.perf_counter()
         done = subprocess.run([str(DEPOT), "replay", str(to)], input=text, capture_output=True)
         took = time.perf_counter() - begin
-        if done.returncode != 0 or done.stdout.count(b"\nANS ") != len(items) - 1:
-            sys.exit(f"replay ended with {done.returncode}: {done.stderr.decode()}")
+        statuses = [int(it) for it in re.findall(rb"^ANS \d+\nHTTP/1.1 (\d+) ", done.stdout, re.M)]
+        if done.returncode != 0 or statuses != [STATUS[name] for _, (name, *_) in items]:
+            sys.exit(f"replay ended with {done.returncode}, or answers otherwise: {done.stderr.decode()}")
         return took * 1e6
 
     def theirs():

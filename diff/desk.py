@@ -266,7 +266,7 @@ def told(number, accession, kind, until):
 ONE, TWO = told(1, "A-1", "y1", "2025-02-28"), told(2, "A-2", "good", "permanent")
 VALID = '{"bytes":3,"deposit":1,"files":1,"manifests":1,"valid":true,"version":"1.0"}'
 ON_ONE = '{"hold":1,"matter":"Case 7","on":"deposit","placed":"2024-03-02"}'
-ON_MAPS = '{"hold":2,"matter":"\\"\\\\/ \u00e9\u20ac\U0001f600","on":"collection","placed":"2024-03-02"}'
+ON_MAPS = '{"hold":2,"matter":"\\"\\\\/ \u00e9\u20ac\U0001f600\u0080\u009f\u2028","on":"collection","placed":"2024-03-02"}'
 
 # A request, its answer, and its day where that isn't the first.
 SESSION = [
@@ -295,7 +295,7 @@ SESSION = [
     (asked("GET /deposits/1/audit"), (200, VALID)),
     (asked("GET /deposits/1/holds"), (200, '{"holds":[]}')),
     (body(HOLD, '{"deposit":1,"matter":"Case 7"}'), (201, '{"hold":1}'), "2024-03-02"),
-    (body(HOLD, '{"matter":"\\"\\\\\\/ \\u00e9\\u20ac\\ud83d\\ude00","collection":"maps"}'), (201, '{"hold":2}'), "2024-03-02"),
+    (body(HOLD, '{"matter":"\\"\\\\\\/ \\u00e9\\u20ac\\ud83d\\ude00\\u0080\\u009f\\u2028","collection":"maps"}'), (201, '{"hold":2}'), "2024-03-02"),
     (asked("GET /deposits/1/holds"), (200, '{"holds":[%s,%s]}' % (ON_ONE, ON_MAPS)), "2024-03-02"),
     (asked("DELETE /deposits/1"), (409, '{"error":"Held","hold":1}'), "2025-02-28"),
     (asked("DELETE /holds/1"), (200, '{"hold":1,"released":"2025-02-27"}'), "2025-02-27"),
@@ -310,6 +310,7 @@ SESSION = [
     (asked("GET /due", caller="carl"), due(day="2025-02-28"), "2025-02-28"),
     (asked("DELETE /deposits/1"), (200, '{"day":"2025-02-28","destroyed":1}'), "2025-02-28"),
     (asked("GET /deposits/1"), (410, '{"day":"2025-02-28","error":"Gone"}'), "2025-03-01"),
+    (asked("DELETE /holds/1"), (409, '{"day":"2025-02-27","error":"Released"}'), "2025-03-01"),
     (deposited("A-1"), (409, '{"deposit":1,"error":"Taken"}'), "2025-03-01"),
     (asked("GET /deposits"), (200, '{"deposits":[%s]}' % TWO), "2025-03-01"),
 ]

@@ -9,8 +9,10 @@ has the answer that it would have had. Or the program ends with `memory`, and wh
 
 `ask`: `depot ask` over a file, a request each: a deposit, a download, a release that the office refuses, and
 a request that the desk refuses. It is answered as with all memory, or by 503, or the program ends with
-`memory`; and the same request to the same file, with all memory, is then answered as the first or the
-second time that it is asked, and as the first time where 503 was answered for want of memory.
+`memory`; and the same request to the same file, with all memory, is then answered as the second time that it
+is asked where it was answered, as the first time where 503 was answered for want of memory, else as one of both.
+
+`hear`: `office_file hear`, a deposit that `read_request` hears: all of its bag, or nothing is heard.
 
 `bags`, `office`, `tables`, `stored`: the cases of `crates/office_file`, each of which comes out as worked
 out, or with want of memory.
@@ -179,16 +181,19 @@ def desk(library, first, last):
 
 def fault_of_asking(ended, again, wanted):
     """What is wrong with the end of `ask`, or of the same request asked again, if anything is."""
-    may_be_done = True
-    if ended.returncode == 0:
-        if ended.stdout != wanted[0] and not is_wanting(ended.stdout):
+    # (what was answered is done, what wanted memory isn't, and of a failure of the store nothing is known)
+    wants = wanted
+    if ended.returncode == 0 and ended.stdout == wanted[0]:
+        wants = wanted[1:]
+    elif ended.returncode == 0:
+        if not is_wanting(ended.stdout):
             return f"it answers {ended.stdout!r}"
-        may_be_done = not ended.stdout.endswith(b'{"error":"Memory"}')
+        wants = wanted[:1] if ended.stdout.endswith(b'{"error":"Memory"}') else wanted
     elif ended.returncode != 3 or ended.stderr.split(b"\n")[0] not in (b"memory", b"device", b"store Q4"):
         return f"it ended with {ended.returncode} and {ended.stderr!r}"
     elif not wanted[0].startswith(ended.stdout) and not is_wanting(ended.stdout):
         return f"it wrote {ended.stdout!r}"
-    if again.returncode != 0 or again.stdout not in (wanted if may_be_done else wanted[:1]):
+    if again.returncode != 0 or again.stdout not in wants:
         return f"asked again it ended with {again.returncode} and answers {again.stdout!r}"
     return None
 
@@ -233,6 +238,28 @@ def ask(library, first, last):
     print(f"ask: {len(given)} requests, {refused} allocations refused", flush=True)
 
 
+def hear(library, first, last):
+    """A deposit that is heard alone, by `read_request`."""
+    bag = (TOP / "examples/bag-a.bagset").read_bytes()
+    given = request("anna", "POST /deposits?collection=maps&class=y1&accession=A-1&closed=2024-02-29", bag)
+    words = [OFFICE_FILE, "hear"]
+    heard = [str(len(bag)).encode()]
+    if run(library, 0, words, given)[0].stdout.split()[:1] != heard:
+        sys.exit("hear: with all memory the bag isn't heard")
+    refused = unheard = 0
+    for number in range(first, last + 1):
+        ended, was_refused = run(library, number, words, given)
+        if not was_refused:
+            break
+        is_unheard = ended.returncode == 1 and not ended.stdout and b"no request is heard" in ended.stderr
+        is_unsaid = ended.returncode == 1 and not ended.stdout and b"reading the status" in ended.stderr
+        if not (is_unheard or is_unsaid or ended.returncode == 0 and ended.stdout.split()[:1] == heard):
+            sys.exit(f"hear, allocation {number}: it ended with {ended.returncode}, {ended.stdout!r} {ended.stderr!r}")
+        refused += 1
+        unheard += is_unheard
+    print(f"hear: {refused} allocations refused, {unheard} of them left the request unheard", flush=True)
+
+
 def cases(group):
     """The trial of a group of cases."""
 
@@ -259,7 +286,7 @@ def cases(group):
     return trial
 
 
-GROUPS = {"desk": desk, "ask": ask, **{it: cases(it) for it in ("bags", "office", "tables", "stored")}}
+GROUPS = {"desk": desk, "ask": ask, "hear": hear, **{it: cases(it) for it in ("bags", "office", "tables", "stored")}}
 
 
 def main():

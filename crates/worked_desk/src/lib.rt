@@ -10,6 +10,8 @@ mod forms;
 #[cfg(test)]
 mod heads;
 #[cfg(test)]
+mod hearing;
+#[cfg(test)]
 mod records;
 #[cfg(test)]
 mod routes;
