@@ -47,7 +47,7 @@ static OUTPUT_FAILS: &str =
     "replay,--policy,o/policy.toml,o/office.db|~days~|Failed||device\ndepot: standard output failed\n";
 
 /// The office goes on, others are made, and one is served.
-static GOES_ON: [&str; 14] = [
+static GOES_ON: [&str; 15] = [
     "replay,o/office.db|~days~|Accepted|~days answered~|",
     // What was written is there in the next run. The second deposit is in a collection of which nothing
     // may be destroyed.
@@ -63,6 +63,7 @@ static GOES_ON: [&str; 14] = [
     "replay,:memory:|~torn records~|Refused|~one answer~|record 2\ndepot: record 2 of the input is none\n",
     "replay,--policy,o/policy.toml,:memory:|~records~|Accepted|~answers~|",
     "replay,--policy=o/other.toml,--,:memory:|~records~|Refused||policy Y2\n~Y2~depot: o/other.toml is no policy\n",
+    "serve,--port,0,--count,1,:memory:,2024-03-01|~maps~|Accepted|~denied~#|",
     // An office that is served to peers, and what they wrote in the run that follows.
     "policy,o/served.db,o/policy.toml||Accepted|~installed~|",
     "serve,--port,0,--count,5,o/served.db,2024-03-01|~asks~#~maps~#~y1~#POST /deposits?collection=maps&class=y1&accession=A-1~closed~#GET /deposits~anna~|Accepted|~no such~#~maps made~#~y1 made~#~deposited~1}#~ok~165~close~{\"deposits\":[{\"accession\":\"A-1\",\"bytes\":3,\"class\":\"y1~shown~maps\",\"deposit\":1,\"deposited\":\"2024-03-01\",\"due\":\"2025-02-28\",\"files\":1}]}#|",

@@ -5,7 +5,7 @@ use crate::runs::{begin, run_all, run_one};
 use os::RangeLock;
 use std::alloc::{AllocError, Global};
 use std::fs;
-use std::fs::{File, Permissions};
+use std::fs::{File, OpenOptions, Permissions};
 use std::os::fd::AsRawFd;
 use std::os::unix::fs::PermissionsExt;
 use std::test::Fail;
@@ -203,11 +203,17 @@ fn take_locked(rt: &HostRuntime, path: &str, told: &str, bytes: &[u8]) -> Result
     take(rt, path, told, bytes)
 }
 
-/// The same with a file that nobody may read or write. Root may all the same, and it is left out.
-fn take_closed(rt: &HostRuntime, path: &str, told: &str, bytes: &[u8]) -> Result<(), Fail> {
+/// The same with a file of this mode, which nobody may write. Root may all the same, and it is left out.
+fn take_closed(
+    rt: &HostRuntime,
+    path: &str,
+    mode: u32,
+    told: &str,
+    bytes: &[u8],
+) -> Result<(), Fail> {
     fs::write(rt, path, bytes)?;
-    fs::set_permissions(rt, path, Permissions::from_mode(0))?;
-    if File::open(rt, path).is_err() {
+    fs::set_permissions(rt, path, Permissions::from_mode(mode))?;
+    if OpenOptions::new().append(true).open(rt, path).is_err() {
         refuse(rt, path, told)?;
     }
     fs::set_permissions(rt, path, Permissions::from_mode(0o644))?;
@@ -238,12 +244,19 @@ fn what_is_no_office(rt: HostRuntime) -> Result<(), Fail> {
         "~unopened~STORE: database is locked\n",
         office.as_slice(),
     )?;
-    take_closed(
-        &rt,
-        "s/closed.db",
-        "~unopened~STORE: Permission denied (os error 13)\n",
-        office.as_slice(),
-    )?;
+    for mode in [0, 0o444] {
+        take_closed(
+            &rt,
+            "s/closed.db",
+            mode,
+            "~unopened~STORE: Permission denied (os error 13)\n",
+            office.as_slice(),
+        )?;
+    }
+    // What can't be opened got no log beside it.
+    for path in ["s/folder-wal", "s/locked.db-wal", "s/closed.db-wal"] {
+        assert!(rt; !fs::exists(&rt, path)?);
+    }
     fs::remove_dir_all(&rt, "s")?;
     Ok(())
 }
