@@ -1,8 +1,10 @@
 #!/usr/bin/env bash
-# Has the closing of a store fail: under a limit on how far a file may be written (`ulimit -f`) the log takes a commit, and
-# the file, which is longer, doesn't take it from the log. `ask` and `replay` have to say so
-# and end with 3, their answers given, and what they answered has to be there afterwards.
-# Needs sha256sum. Words: the program, `depot` of the repository if left out.
+# What stands where the end of a command goes wrong. First the closing fails: under a limit on how far a
+# file may be written (`ulimit -f`) the log takes a commit, and the file, which is longer, doesn't take
+# it from the log. `ask`, `replay` and `serve` have to say so and end with 3, their answers given, and
+# what they answered has to be there afterwards; so too where the output fails as well. Then the output alone fails
+# (`/dev/full`): the command ends with 3, and the file has the change without its log.
+# Needs sha256sum and curl. Words: the program, `depot` of the repository if left out.
 set -eu
 top=$(dirname "$(readlink -f "$0")")/..
 program=${1:-$top/depot}
@@ -10,6 +12,9 @@ folder=$(mktemp -d)
 trap 'rm -rf "$folder"' EXIT
 store=$folder/office.db
 day=2024-03-01
+target='/deposits?collection=maps&class=y0&closed=2024-02-29&accession='
+small=$top/examples/bag-a.bagset
+cases=0
 
 # A request of anna: its method, its target, and the file that is its body.
 request() {
@@ -33,26 +38,19 @@ limited() {
     )
 }
 
-# What is wanted: the first line of standard output, the standard error, the status; then the command.
-fails_to_close() {
-    local first=$1 status=0
-    shift
-    limited "$@" <"$folder/input" >"$folder/out" 2>"$folder/err" || status=$?
-    local said
-    said="$(head -n 1 "$folder/out" | tr -d '\r'); $(tr '\n' '|' <"$folder/err"); $status"
-    case "$said" in
-    "$first; store Q4|"*"; 3") ;;
-    *)
-        echo "$1 in a store that can't be closed: '$first', 'store Q4' and 3 are wanted, and this came: $said" >&2
-        exit 1
-        ;;
-    esac
+# What is wanted: the status line of an answer on standard output, or nothing, and the line on standard
+# error and the status; and what came.
+compare() {
+    local wanted=$1 status=$2 said
+    said="$(tr -d '\r' <"$folder/out" | grep -a '^HTTP' || true); $(head -n 1 "$folder/err"); $status"
+    [ "$said" = "$wanted" ] || { echo "'$wanted' is wanted, and this came: '$said'" >&2; exit 1; }
+    cases=$((cases + 1))
 }
 
-# What is there: the deposit of this number.
+# The deposit of this number is in the store.
 is_kept() {
-    request GET "/deposits/$1" >"$folder/input"
-    "$program" ask "$store" "$day" <"$folder/input" | head -n 1 | grep -q '^HTTP/1.1 200 ' || {
+    local in=${2:-$store}
+    request GET "/deposits/$1" | "$program" ask "$in" "$day" | head -n 1 | grep -q '^HTTP/1.1 200 ' || {
         echo "deposit $1 was answered, and it isn't there" >&2
         exit 1
     }
@@ -64,20 +62,48 @@ printf 'BagIt-Version: 1.0\nTag-File-Character-Encoding: UTF-8\n' >"$folder/larg
 (cd "$folder/large" && sha256sum data/a >manifest-sha256.txt)
 "$program" pack "$folder/large" "$folder/large.bagset" >/dev/null
 "$program" policy "$store" "$top/examples/policy.toml" >/dev/null
-
 printf '{"years":0}' >"$folder/years"
 request PUT /classes/y0 "$folder/years" >"$folder/class"
 request PUT /collections/maps >"$folder/collection"
-target='/deposits?collection=maps&class=y0&closed=2024-02-29&accession='
 request POST "${target}A-1" "$folder/large.bagset" >"$folder/first"
 for each in class collection first; do record "$folder/$each"; done >"$folder/input"
-"$program" replay "$store" <"$folder/input" | grep -q '^HTTP/1.1 201 ' || { echo "no deposit was made" >&2; exit 1; }
+"$program" replay "$store" <"$folder/input" | grep -aq '^HTTP/1.1 201 ' || { echo "no deposit was made" >&2; exit 1; }
 
-request POST "${target}A-2" "$top/examples/bag-a.bagset" >"$folder/input"
-fails_to_close 'HTTP/1.1 201 Created' ask "$store" "$day"
+status=0
+request POST "${target}A-2" "$small" | limited ask "$store" "$day" >"$folder/out" 2>"$folder/err" || status=$?
+compare 'HTTP/1.1 201 Created; store Q4; 3' "$status"
 is_kept 2
-request POST "${target}A-3" "$top/examples/bag-a.bagset" >"$folder/third"
-record "$folder/third" >"$folder/input"
-fails_to_close 'HTTP/1.1 201 Created' replay "$store"
+
+status=0
+request POST "${target}A-3" "$small" >"$folder/third"
+record "$folder/third" | limited replay "$store" >"$folder/out" 2>"$folder/err" || status=$?
+compare 'HTTP/1.1 201 Created; store Q4; 3' "$status"
 is_kept 3
-echo "ask and replay each tell that the store could not be closed, and what they answered stands"
+
+status=0
+limited serve --port 0 --count 1 "$store" "$day" >"$folder/listening" 2>"$folder/err" &
+serving=$!
+while ! grep -q listening "$folder/listening"; do
+    kill -0 "$serving" 2>/dev/null || { echo "no office listens" >&2; exit 1; }
+    sleep 0.05
+done
+curl -sS -i -H 'Depot-Caller: anna' --data-binary "@$small" \
+    "http://127.0.0.1:$(sed 's/listening //' "$folder/listening")${target}A-4" >"$folder/out"
+wait "$serving" || status=$?
+compare 'HTTP/1.1 201 Created; store Q4; 3' "$status"
+is_kept 4
+
+# The output fails, and the closing too: the closing is told.
+status=0
+: >"$folder/out"
+request POST "${target}A-5" "$small" | limited ask "$store" "$day" >/dev/full 2>"$folder/err" || status=$?
+compare '; store Q4; 3' "$status"
+is_kept 5
+
+# The output alone fails: the file is closed, and needs no log.
+status=0
+request POST "${target}A-6" "$small" | "$program" ask "$store" "$day" >/dev/full 2>"$folder/err" || status=$?
+compare '; device; 3' "$status"
+cp "$store" "$folder/alone.db"
+is_kept 6 "$folder/alone.db"
+echo "$cases commands whose end goes wrong say so, and what they did stands"
