@@ -21,7 +21,7 @@ from statistics import median
 from bench import DEPOT, TOP, bag, form
 from desk import record as request_record
 from office_file import FILES, PUT_HOLD, copy, filled, main, opened, put_bag, say, turns
-from requests import Statements
+from requests import HOLD, Statements
 
 SERVING = TOP / "bench" / "serving.py"
 DAY = "2026-02-16"
@@ -105,7 +105,7 @@ class Mixed(Statements):
         self.rows(PUT_HOLD, number, other, None, "suit", self.day, None)
 
     def release(self, number):
-        found = self.rows("SELECT number, deposit, collection, matter, placed, released FROM hold WHERE number = ?1", number)
+        found = self.rows(HOLD + " WHERE number = ?1", number)
         self.row(found[0][1])
         self.asker()
         self.rows("UPDATE hold SET released = ?2 WHERE number = ?1", number, self.day)

@@ -16,6 +16,7 @@ from office_file import FILE_OF, FILES, PROGRAM, PUT_DEPOSIT, PUT_FILE
 from office_file import copy, filled, main, opened, ours, put_bag, say, turns
 
 DEPOSIT = "SELECT number, accession, collection, class, closed, deposited, files, bytes, gone FROM deposit"
+HOLD = "SELECT number, deposit, collection, matter, placed, released FROM hold"
 HOLDS_ON_DEPOSIT = (
     "SELECT number FROM hold WHERE deposit = ?1 AND released IS NULL ORDER BY number"
 )
@@ -61,8 +62,8 @@ class Statements:
     def disposal(self, number):
         self.row(number)
         self.asker()
-        self.rows(HOLDS_ON_DEPOSIT, number)
-        self.rows(HOLDS_ON_COLLECTION, number, "tax")
+        holds = self.rows(HOLDS_ON_DEPOSIT, number) + self.rows(HOLDS_ON_COLLECTION, number, "tax")
+        self.rows(HOLD + " WHERE number = ?1", min(holds)[0])
         self.years()
 
     def bag(self, number):
