@@ -1,9 +1,10 @@
-"""What `depot serve` does with peers that cut, dribble, stop and go on, and with being killed.
+"""What `depot serve` does with peers that cut, dribble, go, reset, stop, stay and go on, and with being killed.
 
 Words: the program, a folder of its own, a policy, how many times the office is killed. Called by
 `serve.sh`. Fails at the first thing that is otherwise than `docs/HTTP.md` says.
 """
 
+import atexit
 import hashlib
 import json
 import os
@@ -11,12 +12,22 @@ import random
 import shutil
 import signal
 import socket
+import struct
 import subprocess
 import sys
 import time
 
 PROGRAM, FOLDER, POLICY, KILLS = sys.argv[1], sys.argv[2], sys.argv[3], int(sys.argv[4])
 DAY = "2024-03-01"
+NOTHING_DUE = '{"day":"2024-03-01","deposits":[]}'
+
+# What decides an answer before all has come, how many bytes are sent behind it, and the answer.
+EARLY = [
+    (b"GET /due HTTP/1.1\r\nDepot-Caller: anna\r\n\r\n", 1 << 22, 200, NOTHING_DUE),
+    (b"POST /deposits HTTP/1.1\r\nContent-Length: 16777217\r\n\r\n", 1 << 22, 413, '{"error":"TooLarge"}'),
+    (b"GET HTTP/1.1\r\n\r\n", 1 << 22, 400, '{"error":"BadHead"}'),
+    (b"POST /nowhere HTTP/1.1\r\nContent-Length: 8388608\r\n\r\n", 1 << 23, 404, '{"error":"NoRoute"}'),
+]
 
 
 class Office:
@@ -25,6 +36,7 @@ class Office:
     def __init__(self, store):
         words = [PROGRAM, "serve", "--port", "0", "--count", "1000000", store, DAY]
         self.process = subprocess.Popen(words, stdout=subprocess.PIPE, stderr=subprocess.DEVNULL)
+        atexit.register(self.process.kill)
         line = self.process.stdout.readline().decode()
         assert line.startswith("listening "), line
         self.port = int(line.split()[1])
@@ -52,16 +64,23 @@ def request(method, target, body=b""):
     return head.encode() + body
 
 
-def heard(peer):
-    """All that a peer gets: the status, and the body in full."""
-    got = b""
+def heard_to_end(peer):
+    """All that a peer gets, the status and the body in full, and how many seconds its end comes behind its last byte."""
+    got, last = b"", time.monotonic()
     while chunk := peer.recv(65536):
         got += chunk
+        last = time.monotonic()
+    waited = time.monotonic() - last
     head, body = got.split(b"\r\n\r\n", 1)
     lines = head.decode().split("\r\n")
     lengths = [line.split(": ")[1] for line in lines if line.startswith("Content-Length: ")]
     assert lengths == [str(len(body))] and "Connection: close" in lines, lines
-    return int(lines[0].split()[1]), body
+    return (int(lines[0].split()[1]), body), waited
+
+
+def heard(peer):
+    """The status and the body that a peer gets."""
+    return heard_to_end(peer)[0]
 
 
 def ask(office, method, target, body=b""):
@@ -132,6 +151,12 @@ def cut_and_dribbled():
     print(f"cut or dribbled: {tried} requests answered as worked out")
 
 
+def reset(peer):
+    """Closes a connection by a RST, where `close` alone sends a FIN."""
+    peer.setsockopt(socket.SOL_SOCKET, socket.SO_LINGER, struct.pack("ii", 1, 0))
+    peer.close()
+
+
 def going_away():
     """A hundred peers that go after a tenth of a second, one that says nothing, and bodies that are large."""
     office = opened("away.db")
@@ -140,10 +165,21 @@ def going_away():
     for index, peer in enumerate(peers):
         peer.sendall(texts[index % 4])
     time.sleep(0.1)
-    for peer in peers:
-        peer.close()
+    for index, peer in enumerate(peers):
+        # One of four resets, and in turn one that sent each of the texts.
+        if index % 4 == index // 4 % 4:
+            reset(peer)
+        else:
+            peer.close()
     began = time.monotonic()
-    wants(ask(office, "GET", "/due"), 200, '{"day":"2024-03-01","deposits":[]}')
+    wants(ask(office, "GET", "/due"), 200, NOTHING_DUE)
+    # Now the office is at each of them, in a read or behind its answer.
+    for text in texts:
+        peer = office.connect()
+        peer.sendall(text)
+        time.sleep(0.1)
+        reset(peer)
+        wants(ask(office, "GET", "/due"), 200, NOTHING_DUE)
     assert time.monotonic() - began < 20
     wants(ask(office, "POST", deposit_target("A-1"), b"x" * 16777216), 422, '{"error":"BadBag","fault":"S1"}')
     for length in (16777217, 20000000):
@@ -155,16 +191,63 @@ def going_away():
     slow = office.connect()
     slow.sendall(request("GET", "/due")[:-1])
     began = time.monotonic()
-    wants(ask(office, "GET", "/due"), 200, '{"day":"2024-03-01","deposits":[]}')
+    wants(ask(office, "GET", "/due"), 200, NOTHING_DUE)
     waited = time.monotonic() - began
     assert 55 < waited < 70, waited
     assert silent.recv(1) == b"" and slow.recv(1) == b""
     office.kill()
-    print("100 peers that went, 2 that stopped, bodies of 16 MiB and more: the next is served")
+    print("104 peers that went, 29 of them by a reset, 2 that stopped, bodies of 16 MiB and more: the next is served")
+
+
+def at_one_address():
+    """At 127.0.0.2, which is this machine too, nobody listens: who listened at all its addresses would be reached there."""
+    office = opened("here.db")
+    with socket.create_server(("0.0.0.0", 0)) as everywhere:
+        socket.create_connection(("127.0.0.2", everywhere.getsockname()[1]), timeout=10).close()
+    try:
+        socket.create_connection(("127.0.0.2", office.port), timeout=10).close()
+        raise AssertionError("127.0.0.2 is to be refused, and the office took it")
+    except ConnectionRefusedError:
+        pass
+    wants(ask(office, "GET", "/due"), 200, NOTHING_DUE)
+    office.kill()
+    print("a connection to 127.0.0.2 is refused")
+
+
+def sending_on():
+    """Peers that have their answer, and first send megabytes more: it is there before they do, and whole when they have."""
+    office = opened("on.db")
+    for text, more, status, body in EARLY:
+        half = b"x" * (more // 2)
+        with office.connect() as peer:
+            peer.sendall(text + half)
+            assert peer.recv(1, socket.MSG_PEEK), text
+            peer.sendall(half)
+            wants(heard(peer), status, body)
+    office.kill()
+    print(f"{len(EARLY)} answers that were decided early reached peers that went on for 4 or 8 MiB")
+
+
+def staying():
+    """Peers that have their answer and stay: each sees its end at once, and the next one waits a second for them."""
+    office = opened("stays.db")
+    for text, _, status, body in EARLY:
+        for more in (0, 60000):
+            with office.connect() as peer:
+                peer.sendall(text + b"x" * more)
+                found, waited = heard_to_end(peer)
+                wants(found, status, body)
+                assert waited < 0.5, (text, waited)
+                began = time.monotonic()
+                wants(ask(office, "GET", "/due"), 200, NOTHING_DUE)
+                waited = time.monotonic() - began
+                assert waited < 2, (text, waited)
+    office.kill()
+    print(f"{2 * len(EARLY)} peers that stayed saw the end of their answers at once, and held the office for a second")
 
 
 def never_reading():
-    """A peer that asks for a bag of 16 MB and reads nothing of it: it holds the office for 30 seconds."""
+    """A peer that asks for a bag of 16 MB and reads nothing of it holds the office for 30 seconds; one that resets doesn't."""
     office = opened("unread.db")
     form = bag(b"x" * 16000000)
     wants(ask(office, "POST", deposit_target("A-1"), form), 201, '{"deposit":1}')
@@ -183,9 +266,15 @@ def never_reading():
         except ConnectionResetError:
             pass
         assert got < len(form), got
+    peer = office.connect()
+    peer.sendall(request("GET", "/deposits/1/bag"))
+    assert peer.recv(1) == b"H"
+    reset(peer)
+    began = time.monotonic()
     wants(ask(office, "GET", "/deposits/1/bag"), 200, form)
+    assert time.monotonic() - began < 20
     office.kill()
-    print("a peer that reads nothing of its answer: its connection ends, and the next is served")
+    print("a peer that reads nothing of its answer, and one that resets in it: their connections end, and the next is served")
 
 
 class Kept:
@@ -288,7 +377,7 @@ def killed():
     kept = Kept()
     store = os.path.join(FOLDER, "killed.db")
     office = opened("killed.db")
-    answered, found_done, found_undone = 0, 0, 0
+    answered, found_done, found_undone, halves = 0, 0, 0, 0
     for turn in range(KILLS):
         for _ in range(chance.randrange(1, 5)):
             (method, target, body), change = kept.next_request(chance)
@@ -300,15 +389,21 @@ def killed():
         if turn % 2:
             (method, target, body), pending = kept.next_request(chance)
             text = request(method, target, body)
+            is_half = chance.randrange(3) == 0
             peer = office.connect()
-            peer.sendall(text[: chance.choice((len(text) // 2, len(text), len(text)))])
-            time.sleep(chance.random() * 0.006)
+            peer.sendall(text[: len(text) // 2] if is_half else text)
+            # Some are killed at once and some late, so that there are both, however fast the disk is.
+            time.sleep(chance.random() * chance.choice((0, 0.006, 0.006, 0.05)))
         office.kill()
         is_whole(store)
         office = Office(store)
         if pending:
             peer.close()
-            if was_done(office, kept, pending):
+            is_done = was_done(office, kept, pending)
+            if is_half:
+                assert not is_done, f"half of a request was sent, and it was done: {method} {target}"
+                halves += 1
+            elif is_done:
                 kept.done(pending)
                 found_done += 1
             else:
@@ -316,14 +411,22 @@ def killed():
         compare(office, kept, set(list(kept.bags)[-5:]) | set(chance.sample(sorted(kept.bags), min(3, len(kept.bags)))))
     compare(office, kept, kept.bags)
     office.kill()
+    if KILLS >= 100:
+        assert found_done and found_undone, f"of the requests that it was killed in {found_done} were done and {found_undone} not"
     print(
         f"killed {KILLS} times: {answered} answers were kept, and of the requests that it was killed in "
-        f"{found_done} were done and {found_undone} not"
+        f"{found_done} were done and {found_undone} not, and none of {halves} that were sent by half"
     )
 
 
 cut_and_dribbled()
+at_one_address()
+sending_on()
+staying()
 going_away()
 never_reading()
 killed()
-print(f"serve: curl, cut and dribbled requests, peers that stop or don't read, and {KILLS} kills: as docs/HTTP.md says")
+print(
+    "serve_client: cut and dribbled requests, another address, answers before all has come, peers that go, reset, stay, stop "
+    f"or don't read, and {KILLS} kills: as docs/HTTP.md says"
+)

@@ -7,6 +7,7 @@ use office_core::{
 };
 use office_engine::Office;
 use office_history::{Stock, plain};
+use office_tables::TableFault;
 use sqlite::{Connection, MemStore};
 use std::alloc::{AllocError, Global};
 use worked_bags::{BAG, POLICY};
@@ -94,10 +95,13 @@ pub fn stored(alloc: Global) -> Option<(Outcome, Office<MemStore>)> {
     };
     match Office::create(conn, limits) {
         Ok(office) => Some((outcome, office)),
-        Err((conn, _)) => match Office::create(conn, limits) {
-            Ok(office) => Some((Outcome::Memory, office)),
-            Err(_) => None,
-        },
+        Err((conn, TableFault::Memory | TableFault::Store)) => {
+            match Office::create(conn, limits) {
+                Ok(office) => Some((Outcome::Memory, office)),
+                Err(_) => None,
+            }
+        }
+        Err(_) => None,
     }
 }
 
@@ -105,10 +109,11 @@ pub fn stored(alloc: Global) -> Option<(Outcome, Office<MemStore>)> {
 pub fn adopted(office: Office<MemStore>) -> Option<(Outcome, Office<MemStore>)> {
     match Office::adopt(office.into_connection()) {
         Ok(office) => Some((Outcome::Expected, office)),
-        Err((conn, _)) => match Office::adopt(conn) {
+        Err((conn, TableFault::Memory | TableFault::Store)) => match Office::adopt(conn) {
             Ok(office) => Some((Outcome::Memory, office)),
             Err(_) => None,
         },
+        Err(_) => None,
     }
 }
 
@@ -119,7 +124,8 @@ pub fn due(alloc: Global, office: &mut Office<MemStore>) -> Outcome {
     };
     match office.due_list(alloc, day, "anna") {
         Ok(numbers) => Outcome::expected(numbers.as_slice() == [1].as_slice()),
-        Err(_) => match office.due_list(alloc, day, "anna") {
+        Err(TableFault::NotAnOffice | TableFault::OtherVersion) => Outcome::Wrong,
+        Err(TableFault::Memory | TableFault::Store) => match office.due_list(alloc, day, "anna") {
             Ok(numbers) => Outcome::memory(numbers.as_slice() == [1].as_slice()),
             Err(_) => Outcome::Wrong,
         },
