@@ -1,5 +1,7 @@
 #!/usr/bin/env bash
-# Has `depot serve` answer curl, each route and each refusal but want of memory once, and then `serve_client.py`, which sends
+# Has `depot serve` answer curl, each route and each refusal but want of memory once. Puts each command to
+# databases that have commits in a log and are no office of this version, and to offices that another process has
+# open: each is refused, and leaves what is there as it was. And then `serve_client.py`, which sends
 # bytes that are cut, dribbled, stopped or too many, and kills the office 200 times, between requests
 # and in them, to compare what is there after each restart with what was answered.
 # Needs curl, python3 and sqlite3. Words: the program, `depot` of the repository if left out, and how
@@ -9,9 +11,12 @@ top=$(dirname "$(readlink -f "$0")")/..
 program=${1:-$top/depot}
 kills=${2:-200}
 folder=$(mktemp -d)
-trap 'rm -rf "$folder"' EXIT
+trap 'kill $(jobs -p) 2>/dev/null || true; rm -rf "$folder"' EXIT
 bag=$top/examples/bag-a.bagset
+policy=$top/examples/policy.toml
+day=2024-03-01
 store=$folder/office.db
+commands=(policy ask replay 'replay --policy' serve)
 first='{"accession":"A-1","bytes":3,"class":"y0","closed":"2024-02-29","collection":"maps","deposit":1,"deposited":"2024-03-01","due":"2024-02-29","files":1}'
 second='{"accession":"A-2","bytes":3,"class":"y10","closed":"2024-02-29","collection":"tax","deposit":2,"deposited":"2024-03-01","due":"2034-02-28","files":1}'
 long=$(printf 'x%.0s' {1..9000})
@@ -86,21 +91,168 @@ all() {
     asks anna 400 '{"error":"TwoCallers"}' /due -H 'depot-caller: carl'
 }
 
-"$program" policy "$store" "$top/examples/policy.toml" >"$folder/installed"
+# Waits until the process has said this word.
+await() {
+    while ! grep -qs "$2" "$folder/said"; do
+        kill -0 "$1" 2>/dev/null || { echo "a process that says '$2' is wanted, and it ended" >&2; exit 1; }
+        sleep 0.05
+    done
+}
+
+# Has so many connections served from a store.
+serve() {
+    rm -f "$folder/said"
+    "$program" serve --port 0 --count "$1" "$2" "$day" >"$folder/said" &
+    serving=$!
+    await "$serving" listening
+    office=http://127.0.0.1:$(sed 's/listening //' "$folder/said")
+}
+
+# Puts a command to a store, with something to do for it. One that would serve is ended after a minute.
+put() {
+    local input=$folder/record
+    case $1 in
+    policy) set -- policy "$2" "$policy" ;;
+    ask) set -- ask "$2" "$day" && input=$folder/request ;;
+    replay) set -- replay "$2" ;;
+    'replay --policy') set -- replay --policy "$policy" "$2" ;;
+    serve) set -- serve --port 0 --count 1 "$2" "$day" ;;
+    esac
+    timeout 60 "$program" "$@" <"$input"
+}
+
+# A command, a store, and what standard error is to be told, where STORE is its path: the command prints
+# nothing and ends with 3, and the bytes of the store and the names beside it stay as they were.
+refuses() {
+    local wanted=${3//STORE/"$2"} status=0 said
+    cp "$2" "$folder/before"
+    ls -A "$(dirname "$2")" >"$folder/names"
+    put "$1" "$2" >"$folder/out" 2>"$folder/err" || status=$?
+    said=$(cat "$folder/out" "$folder/err")
+    if [ "$said; $status" != "$wanted; 3" ]; then
+        echo "$1 on $2: '$wanted; 3' is wanted, and this came: '$said; $status'" >&2
+        exit 1
+    fi
+    cmp "$folder/before" "$2" >&2 || { echo "$1 was refused, and changed $2" >&2; exit 1; }
+    ls -A "$(dirname "$2")" >"$folder/names-now"
+    diff "$folder/names" "$folder/names-now" >&2 || { echo "$1 was refused, and changed what is beside $2" >&2; exit 1; }
+}
+
+# Makes a database with commits in its log: at the first path, where there may be one, and then copies the two to
+# the second while they are open, so that the log keeps its commits. The third word goes into the file, the fourth
+# into the log.
+logged() {
+    python3 - "$@" <<'SCRIPT'
+import shutil
+import sqlite3
+import sys
+
+made, copy, in_file, in_log = sys.argv[1:]
+database = sqlite3.connect(made, isolation_level=None)
+database.executescript(in_file)
+assert database.execute("PRAGMA journal_mode = WAL").fetchall() == [("wal",)]
+database.execute("PRAGMA wal_autocheckpoint = 0").fetchall()
+database.executescript(in_log)
+shutil.copy(made, copy)
+shutil.copy(f"{made}-wal", f"{copy}-wal")
+SCRIPT
+}
+
+# The rows that sqlite3 finds in a copy of a database, with a log where one is named.
+rows() {
+    rm -rf "$folder/looked"
+    mkdir "$folder/looked"
+    cp "$1" "$folder/looked/db"
+    [ $# -eq 1 ] || cp "$2" "$folder/looked/db-wal"
+    sqlite3 -batch "$folder/looked/db" .dump
+}
+
+# A database with a log, what standard error is to be told, and a row that the log has and the file hasn't: each
+# command refuses a fresh copy of the two, and sqlite3 finds the same rows as before.
+refused_with_log() {
+    local command fresh=$folder/fresh/office.db
+    rows "$1" >"$folder/alone"
+    rows "$1" "$1-wal" >"$folder/rows"
+    if grep -qF "$3" "$folder/alone" || ! grep -qF "$3" "$folder/rows"; then
+        echo "$3 is wanted in the log of $1, and not in its file" >&2
+        exit 1
+    fi
+    for command in "${commands[@]}"; do
+        rm -rf "$folder/fresh"
+        mkdir "$folder/fresh"
+        cp "$1" "$fresh"
+        cp "$1-wal" "$fresh-wal"
+        refuses "$command" "$fresh" "$2"
+        rows "$fresh" "$fresh-wal" >"$folder/rows-now"
+        diff "$folder/rows" "$folder/rows-now" >&2 || { echo "$command was refused, and changed rows" >&2; exit 1; }
+    done
+}
+
+# Each command refuses a store that another process has open.
+refused_open() {
+    local command
+    for command in "${commands[@]}"; do
+        refuses "$command" "$1" $'store Q4\ndepot: cannot open STORE: database is locked'
+    done
+}
+
+# Has SQLite in a process of its own run these statements on a store, the last of which reads, and hold it open.
+reads() {
+    rm -f "$folder/said"
+    python3 - "$@" >"$folder/said" <<'SCRIPT' &
+import sqlite3
+import sys
+import time
+
+database = sqlite3.connect(sys.argv[1], isolation_level=None)
+for text in sys.argv[2:]:
+    rows = database.execute(text).fetchall()
+assert rows
+print("reading", flush=True)
+time.sleep(600)
+SCRIPT
+    reading=$!
+    await "$reading" reading
+}
+
+"$program" policy "$store" "$policy" >"$folder/installed"
 # Limits that are met soon, and a class whose years no request can write.
 sqlite3 "$store" "UPDATE office SET max_deposits = 5, max_holds = 2; INSERT INTO class VALUES ('odd', 300)"
 cases=()
 count=$(declare -f all | grep -c '^ *asks ')
-"$program" serve --port 0 --count "$count" "$store" 2024-03-01 >"$folder/said" &
-serving=$!
-while ! grep -q listening "$folder/said"; do
-    kill -0 "$serving" 2>/dev/null || { echo "no office listens" >&2; exit 1; }
-    sleep 0.05
-done
-office=http://127.0.0.1:$(sed 's/listening //' "$folder/said")
+serve "$count" "$store"
 sqlite3 "$store" 'SELECT count(*) FROM deposit' >"$folder/locked" 2>&1 && { echo "sqlite3 reads a store that is served" >&2; exit 1; }
 grep -q 'database is locked' "$folder/locked" || { cat "$folder/locked" >&2; exit 1; }
 all
 wait "$serving"
 echo "curl: ${#cases[@]} requests answered as worked out"
-python3 "$top/diff/serve_client.py" "$program" "$folder" "$top/examples/policy.toml" "$kills"
+
+printf 'PUT /collections/maps HTTP/1.1\r\nDepot-Caller: anna\r\n\r\n' >"$folder/request"
+{ echo "REQ $day $(stat -c %s "$folder/request")"; cat "$folder/request"; echo; } >"$folder/record"
+mkdir "$folder/made" "$folder/logged" "$folder/held"
+logged "$folder/made/notes.db" "$folder/logged/notes.db" \
+    "CREATE TABLE note (number INTEGER PRIMARY KEY, said TEXT NOT NULL); INSERT INTO note VALUES (1, 'first')" \
+    "UPDATE note SET said = 'changed'; INSERT INTO note VALUES (2, 'second')"
+refused_with_log "$folder/logged/notes.db" $'store Q1\ndepot: STORE is another database, and no office' "(1,'changed')"
+"$program" policy "$folder/made/later.db" "$policy" >"$folder/installed"
+logged "$folder/made/later.db" "$folder/logged/later.db" "" "UPDATE office SET version = 2"
+refused_with_log "$folder/logged/later.db" $'store Q2\ndepot: STORE is an office of another version' '(1,2,1000000,1000000)'
+echo "commits in a log: ${#commands[@]} commands refuse another database and another version's office, and leave both as they were"
+
+held=$folder/held/office.db
+"$program" policy "$held" "$policy" >"$folder/installed"
+for begin in BEGIN 'SELECT 1'; do
+    reads "$held" "$begin" 'SELECT version FROM office'
+    refused_open "$held"
+    { kill "$reading" && wait "$reading"; } 2>/dev/null || true
+    put ask "$held" >"$folder/out"
+    grep -q '{"collection":"maps"}' "$folder/out" || { echo "ask doesn't answer behind the reader" >&2; exit 1; }
+done
+serve 1 "$held"
+refused_open "$held"
+asks anna 200 '{"collection":"maps"}' /collections/maps -X PUT
+wait "$serving"
+echo "open elsewhere: ${#commands[@]} commands refuse a store that SQLite reads, has read or depot serves, and leave it as it was"
+
+python3 "$top/diff/serve_client.py" "$program" "$folder" "$policy" "$kills"
+echo "serve: curl, refused databases with a log, stores that are open elsewhere, all kinds of peers and $kills kills: as docs/ says"

@@ -158,7 +158,7 @@ def reset(peer):
 
 
 def going_away():
-    """A hundred peers that go after a tenth of a second, one that says nothing, and bodies that are large."""
+    """A hundred peers that go after a tenth of a second, a quarter by a reset, one that says nothing, and large bodies."""
     office = opened("away.db")
     texts = [b"", request("GET", "/due")[:20], request("GET", "/due"), request("POST", deposit_target("A-1"), bag(b"abc"))[:-3]]
     peers = [office.connect() for _ in range(100)]
