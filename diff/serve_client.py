@@ -221,7 +221,7 @@ def sending_on():
         half = b"x" * (more // 2)
         with office.connect() as peer:
             peer.sendall(text + half)
-            assert peer.recv(1, socket.MSG_PEEK), text
+            assert peer.recv(1, socket.MSG_PEEK), f"{text}: an answer is wanted before the rest is sent, and none came"
             peer.sendall(half)
             wants(heard(peer), status, body)
     office.kill()
@@ -237,20 +237,27 @@ def staying():
                 peer.sendall(text + b"x" * more)
                 found, waited = heard_to_end(peer)
                 wants(found, status, body)
-                assert waited < 0.5, (text, waited)
+                assert waited < 0.5, f"{text}: the end is wanted within 0.5 seconds of the answer, and came after {waited}"
                 began = time.monotonic()
                 wants(ask(office, "GET", "/due"), 200, NOTHING_DUE)
                 waited = time.monotonic() - began
-                assert waited < 2, (text, waited)
+                assert waited < 2, f"{text}: the next one is to be answered within 2 seconds, and was after {waited}"
     office.kill()
     print(f"{2 * len(EARLY)} peers that stayed saw the end of their answers at once, and held the office for a second")
 
 
 def never_reading():
-    """A peer that asks for a bag of 16 MB and reads nothing of it holds the office for 30 seconds; one that resets doesn't."""
+    """Two peers ask for a bag of 16 MB: one resets in the answer, and one reads nothing and holds the office until a write has waited in vain."""
     office = opened("unread.db")
     form = bag(b"x" * 16000000)
     wants(ask(office, "POST", deposit_target("A-1"), form), 201, '{"deposit":1}')
+    peer = office.connect()
+    peer.sendall(request("GET", "/deposits/1/bag"))
+    assert peer.recv(1) == b"H"
+    reset(peer)
+    began = time.monotonic()
+    wants(ask(office, "GET", "/due"), 200, '{"day":"2024-03-01","deposits":[1]}')
+    assert time.monotonic() - began < 20
     with socket.socket() as peer:
         peer.setsockopt(socket.SOL_SOCKET, socket.SO_RCVBUF, 4096)
         peer.connect(("127.0.0.1", office.port))
@@ -258,7 +265,8 @@ def never_reading():
         began = time.monotonic()
         wants(ask(office, "GET", "/due"), 200, '{"day":"2024-03-01","deposits":[1]}')
         waited = time.monotonic() - began
-        assert 25 < waited < 45, waited
+        # (a write that waited may have handed on a part, and then the next one waits)
+        assert 25 < waited < 130, waited
         got = 0
         try:
             while chunk := peer.recv(65536):
@@ -266,15 +274,9 @@ def never_reading():
         except ConnectionResetError:
             pass
         assert got < len(form), got
-    peer = office.connect()
-    peer.sendall(request("GET", "/deposits/1/bag"))
-    assert peer.recv(1) == b"H"
-    reset(peer)
-    began = time.monotonic()
     wants(ask(office, "GET", "/deposits/1/bag"), 200, form)
-    assert time.monotonic() - began < 20
     office.kill()
-    print("a peer that reads nothing of its answer, and one that resets in it: their connections end, and the next is served")
+    print("a peer that resets in its answer, and one that reads nothing of it: its connection ends, and the next is served")
 
 
 class Kept:
@@ -288,8 +290,8 @@ class Kept:
         self.last = 0
         self.asked = 0
 
-    def next_request(self, chance):
-        """A request, and what it does where it is served."""
+    def next_request(self, chance, sizes):
+        """A request, and what it does where it is served. The file of a bag has one of these sizes."""
         kept = [n for n in self.bags if n not in self.gone]
         live = [k for k in self.holds if k not in self.released]
         free = [n for n in kept if n not in {self.holds[k] for k in live}]
@@ -303,7 +305,7 @@ class Kept:
         if pick < 0.40 and free:
             return ("DELETE", f"/deposits/{(number := chance.choice(free))}", b""), ("dispose", number, None)
         self.asked += 1
-        form = bag(chance.randbytes(chance.choice((3, 4000, 100000))))
+        form = bag(chance.randbytes(chance.choice(sizes)))
         return ("POST", deposit_target(f"B-{self.asked}"), form), ("deposit", self.last + 1, form)
 
     def done(self, change):
@@ -380,19 +382,19 @@ def killed():
     answered, found_done, found_undone, halves = 0, 0, 0, 0
     for turn in range(KILLS):
         for _ in range(chance.randrange(1, 5)):
-            (method, target, body), change = kept.next_request(chance)
+            (method, target, body), change = kept.next_request(chance, (3, 4000, 100000))
             status, text = ANSWERS[change[0]]
             wants(ask(office, method, target, body), status, text.format(change[1]))
             kept.done(change)
             answered += 1
         pending = None
         if turn % 2:
-            (method, target, body), pending = kept.next_request(chance)
+            (method, target, body), pending = kept.next_request(chance, (4000, 100000, 1000000))
             text = request(method, target, body)
             is_half = chance.randrange(3) == 0
             peer = office.connect()
             peer.sendall(text[: len(text) // 2] if is_half else text)
-            # Some are killed at once and some late, so that there are both, however fast the disk is.
+            # Some are killed at once, and some late: so some are done and some not, however fast the machine is.
             time.sleep(chance.random() * chance.choice((0, 0.006, 0.006, 0.05)))
         office.kill()
         is_whole(store)
@@ -401,7 +403,7 @@ def killed():
             peer.close()
             is_done = was_done(office, kept, pending)
             if is_half:
-                assert not is_done, f"half of a request was sent, and it was done: {method} {target}"
+                assert not is_done, f"half of {method} {target} was sent, and it was done"
                 halves += 1
             elif is_done:
                 kept.done(pending)
@@ -412,7 +414,7 @@ def killed():
     compare(office, kept, kept.bags)
     office.kill()
     if KILLS >= 100:
-        assert found_done and found_undone, f"of the requests that it was killed in {found_done} were done and {found_undone} not"
+        assert found_done and found_undone, f"some done and some not are wanted, and {found_done} were done and {found_undone} not"
     print(
         f"killed {KILLS} times: {answered} answers were kept, and of the requests that it was killed in "
         f"{found_done} were done and {found_undone} not, and none of {halves} that were sent by half"
