@@ -1,7 +1,7 @@
 //! What a file system that fails leaves.
 
 use crate::failing::{Failing, Fault};
-use crate::folders::{BAG_FILES, begin, is_bag, lay, pack_here};
+use crate::folders::{BAG_FILES, begin, compare, is_bag, lay, pack_here};
 use crate::marks::bytes_of;
 use bag_folders::{PackFault, Packed, UnpackFault, Unpacked, pack, unpack};
 use std::fs;
@@ -27,50 +27,48 @@ fn names_in(rt: &HostRuntime, folder: &str) -> Result<usize, Fail> {
     Ok(count)
 }
 
+/// Whether a device fails as a folder is packed over files with this fault. Then there are so many names
+/// in the folder of the form, or the test fails.
+fn is_stopped_by(rt: &HostRuntime, fault: Fault, names: usize) -> Result<bool, Fail> {
+    let failing = Failing::new(rt, fault);
+    let form = "half-forms/out/failing.bagset";
+    match pack_with(&failing, "half-forms/failing", form) {
+        Err(PackFault::Device(_)) => {}
+        Err(fault) => return Err(Fail::new(fault)),
+        Ok(_) => return Ok(false),
+    }
+    if failing.has_failed() && names_in(rt, "half-forms/out")? == names {
+        return Ok(true);
+    }
+    Err(Fail::new("half of a form"))
+}
+
 #[test]
 fn no_half_of_a_form_is_left(rt: HostRuntime) -> Result<(), Fail> {
+    let form = "half-forms/out/failing.bagset";
     begin(&rt, "half-forms")?;
     lay(&rt, "half-forms/failing", BAG_FILES)?;
     fs::create_dir(&rt, "half-forms/out")?;
     let mut failed = 0u32;
     for number in 0..100 {
-        let failing = Failing::new(&rt, Fault::Call(number));
-        match pack_with(
-            &failing,
-            "half-forms/failing",
-            "half-forms/out/failing.bagset",
-        ) {
-            Err(PackFault::Device(_)) => {
-                assert!(rt; failing.has_failed());
-                assert!(rt; names_in(&rt, "half-forms/out")? == 0, "{number}");
-                failed = number;
-            }
-            Ok(_) => break,
-            Err(fault) => return Err(Fail::new(fault)),
+        if !is_stopped_by(&rt, Fault::Call(number), 0)? {
+            break;
         }
+        failed = number;
     }
     // Two folders, four entries, three files, the name, the file beside it, its last name.
     assert!(rt; failed == 11);
-    assert!(rt; is_bag(&rt, "half-forms/out/failing.bagset")?);
+    assert!(rt; is_bag(&rt, form)?);
     // What stood there stays.
     fs::remove_file(&rt, "half-forms/failing/data/a")?;
     for fault in [Fault::Write, Fault::Sync, Fault::Call(9)] {
-        let failing = Failing::new(&rt, fault);
-        let packed = pack_with(
-            &failing,
-            "half-forms/failing",
-            "half-forms/out/failing.bagset",
-        );
-        let Err(PackFault::Device(_)) = packed else {
-            return Err(Fail::new("a file that can't be written"));
-        };
-        assert!(rt; is_bag(&rt, "half-forms/out/failing.bagset")?);
-        assert!(rt; names_in(&rt, "half-forms/out")? == 1);
+        assert!(rt; is_stopped_by(&rt, fault, 1)?);
+        assert!(rt; is_bag(&rt, form)?);
     }
     // A name that is taken is left alone.
     fs::write(&rt, "half-forms/out/.depot-pack-0", b"taken")?;
-    assert!(rt; pack_here(&rt, "half-forms/failing", "half-forms/out/failing.bagset")?.files == 2);
-    assert!(rt; fs::read(&rt, "half-forms/out/.depot-pack-0")?.as_slice() == b"taken".as_slice());
+    assert!(rt; pack_here(&rt, "half-forms/failing", form)?.files == 2);
+    compare(&rt, "half-forms/out/.depot-pack-0", b"taken")?;
     assert!(rt; names_in(&rt, "half-forms/out")? == 2);
     // Such a name may be the one that is wanted.
     pack_here(&rt, "half-forms/failing", "half-forms/out/.depot-pack-1")?;

@@ -1,6 +1,6 @@
 //! Folders and forms at their limits.
 
-use crate::folders::{begin, lay, pack_here, pack_line, reason_of, unpack_line};
+use crate::folders::{begin, lay, pack_here, packs_as, unpacks_as};
 use std::fs::File;
 use std::test::*;
 use std::{fs, io};
@@ -8,6 +8,12 @@ use std::{fs, io};
 /// Makes a file of so many bytes, all of them zero, of which no disk keeps any.
 fn make_sparse(rt: &HostRuntime, path: &str, size: u64) -> io::Result<()> {
     File::create(rt, path)?.set_len(size)
+}
+
+/// Writes a line feed behind the bytes of the file.
+fn add_a_line_feed(rt: &HostRuntime, path: &str) -> io::Result<()> {
+    let mut file = fs::OpenOptions::new().append(true).open(rt, path)?;
+    io::Write::write_all(&mut file, b"\n")
 }
 
 /// How long a file `b` is, what is said of a folder with it and an empty file `a`, and why.
@@ -41,15 +47,18 @@ fn packs_up_to_the_limit(rt: HostRuntime) -> Result<(), Fail> {
     lay(&rt, "sizes/large", "a=")?;
     for (size, line, reason) in &SIZES {
         make_sparse(&rt, "sizes/large/b", *size)?;
-        let said = pack_line(&rt, "sizes/large", "sizes/large.bagset")?;
-        assert!(rt; said.text.as_str() == *line);
-        assert!(rt; reason_of(&said) == *reason);
+        packs_as(&rt, "sizes/large", "sizes/large.bagset", line, reason)?;
     }
     // Its place is that in the order of paths, and it comes before names that clash.
     fs::write(&rt, "sizes/large/a0", b"")?;
     fs::write(&rt, "sizes/large/data", b"")?;
-    let said = pack_line(&rt, "sizes/large", "sizes/large.bagset")?;
-    assert!(rt; said.text.as_str() == "unpackable S2 2\n");
+    packs_as(
+        &rt,
+        "sizes/large",
+        "sizes/large.bagset",
+        "unpackable S2 2\n",
+        "",
+    )?;
     fs::remove_dir_all(&rt, "sizes")?;
     Ok(())
 }
@@ -62,15 +71,17 @@ fn unpacks_up_to_the_limit(rt: HostRuntime) -> Result<(), Fail> {
     assert!(rt;
         pack_here(&rt, "whole-forms/whole", "whole-forms/whole.bagset")?.bytes == 16_777_216
     );
-    let said = unpack_line(&rt, "whole-forms/whole.bagset", "whole-forms/whole-again")?;
-    assert!(rt; said.text.as_str() == "unpacked 1 files\n");
+    let form = "whole-forms/whole.bagset";
+    unpacks_as(
+        &rt,
+        form,
+        "whole-forms/whole-again",
+        "unpacked 1 files\n",
+        "",
+    )?;
     // One byte more, whatever it is.
-    let mut file = fs::OpenOptions::new()
-        .append(true)
-        .open(&rt, "whole-forms/whole.bagset")?;
-    io::Write::write_all(&mut file, b"\n")?;
-    let said = unpack_line(&rt, "whole-forms/whole.bagset", "whole-forms/too-long")?;
-    assert!(rt; said.text.as_str() == "unreadable SIZE\n");
+    add_a_line_feed(&rt, form)?;
+    unpacks_as(&rt, form, "whole-forms/too-long", "unreadable SIZE\n", "")?;
     assert!(rt; !fs::exists(&rt, "whole-forms/too-long")?);
     fs::remove_dir_all(&rt, "whole-forms")?;
     Ok(())
@@ -85,18 +96,21 @@ fn packs_no_more_than_2000_files(rt: HostRuntime) -> Result<(), Fail> {
         fs::write(&rt, path, b"")?;
     }
     assert!(rt; pack_here(&rt, "many-files/many", "many-files/many.bagset")?.files == 2000);
+    let form = "many-files/many.bagset";
     fs::write(&rt, "many-files/many/a", b"")?;
-    let said = pack_line(&rt, "many-files/many", "many-files/many.bagset")?;
-    assert!(rt; said.text.as_str() == "unpackable S6\n");
+    packs_as(&rt, "many-files/many", form, "unpackable S6\n", "")?;
     // A file too long at the 2,001st place, in the order of paths.
     make_sparse(&rt, "many-files/many/a", 16_777_217)?;
-    let said = pack_line(&rt, "many-files/many", "many-files/many.bagset")?;
-    assert!(rt; said.text.as_str() == "unpackable S2 2000\n");
-    assert!(rt; reason_of(&said).starts_with("a has more than "));
+    packs_as(
+        &rt,
+        "many-files/many",
+        form,
+        "unpackable S2 2000\n",
+        "a has more than ",
+    )?;
     make_sparse(&rt, "many-files/many/b", 16_777_217)?;
     fs::write(&rt, "many-files/many/a", b"")?;
-    let said = pack_line(&rt, "many-files/many", "many-files/many.bagset")?;
-    assert!(rt; said.text.as_str() == "unpackable S6\n");
+    packs_as(&rt, "many-files/many", form, "unpackable S6\n", "")?;
     fs::remove_dir_all(&rt, "many-files")?;
     Ok(())
 }
@@ -113,9 +127,13 @@ fn packs_no_path_of_more_than_1024_bytes(rt: HostRuntime) -> Result<(), Fail> {
     assert!(rt; pack_here(&rt, "long-paths/deep", "long-paths/deep.bagset")?.files == 1);
     let path = format!(in rt.alloc(); "{folder}/{name}d")?;
     fs::write(&rt, path.as_str(), b"")?;
-    let said = pack_line(&rt, "long-paths/deep", "long-paths/deep.bagset")?;
-    assert!(rt; said.text.as_str() == "unpackable S5 1\n");
-    assert!(rt; reason_of(&said).contains("d is no good path: "));
+    packs_as(
+        &rt,
+        "long-paths/deep",
+        "long-paths/deep.bagset",
+        "unpackable S5 1\n",
+        "d is no good path: ",
+    )?;
     fs::remove_dir_all(&rt, "long-paths")?;
     Ok(())
 }

@@ -18,22 +18,62 @@ pub fn unpack_here(rt: &HostRuntime, file: &str, folder: &str) -> Result<Unpacke
     unpack(rt, file, folder)
 }
 
-/// What is said of a folder that is packed.
-pub fn pack_line(rt: &HostRuntime, folder: &str, file: &str) -> Result<Said, Fail> {
-    Ok(pack_said(rt.alloc(), pack_here(rt, folder, file))?)
-}
-
-/// What is said of a form that is unpacked.
-pub fn unpack_line(rt: &HostRuntime, file: &str, folder: &str) -> Result<Said, Fail> {
-    Ok(unpack_said(rt.alloc(), unpack_here(rt, file, folder))?)
-}
-
 /// Why the work wasn't done, or nothing.
-pub fn reason_of(said: &Said) -> &str {
+fn reason_of(said: &Said) -> &str {
     match &said.reason {
         Some(reason) => reason.as_str(),
         None => "",
     }
+}
+
+/// Fails where another line is said, or another reason: all of it, or what stands in it, where that is
+/// no whole line.
+fn agree(said: Said, line: &str, reason: &str) -> Result<(), Fail> {
+    let told = reason_of(&said);
+    let is_told = told == reason || (!reason.ends_with('\n') && told.contains(reason));
+    let is_done = line.starts_with("packed ") || line.starts_with("unpacked ");
+    if said.text.as_str() == line && is_told && said.is_done == is_done {
+        return Ok(());
+    }
+    Err(Fail::new(said.text))
+}
+
+/// Packs the folder, and fails where something else is said.
+pub fn packs_as(
+    rt: &HostRuntime,
+    folder: &str,
+    file: &str,
+    line: &str,
+    reason: &str,
+) -> Result<(), Fail> {
+    agree(
+        pack_said(rt.alloc(), pack_here(rt, folder, file))?,
+        line,
+        reason,
+    )
+}
+
+/// Unpacks the form, and fails where something else is said.
+pub fn unpacks_as(
+    rt: &HostRuntime,
+    file: &str,
+    folder: &str,
+    line: &str,
+    reason: &str,
+) -> Result<(), Fail> {
+    agree(
+        unpack_said(rt.alloc(), unpack_here(rt, file, folder))?,
+        line,
+        reason,
+    )
+}
+
+/// Fails where the file has other bytes.
+pub fn compare(rt: &HostRuntime, file: &str, bytes: &[u8]) -> Result<(), Fail> {
+    if fs::read(rt, file)?.as_slice() == bytes {
+        return Ok(());
+    }
+    Err(Fail::new(file))
 }
 
 /// Makes the folder of a test, anew where an earlier run left one.
@@ -78,25 +118,26 @@ pub fn is_bag(rt: &HostRuntime, file: &str) -> Result<bool, Fail> {
 fn packs_and_unpacks_a_bag(rt: HostRuntime) -> Result<(), Fail> {
     begin(&rt, "bag-and-back")?;
     lay(&rt, "bag-and-back/bag-a", BAG_FILES)?;
-    let said = pack_line(&rt, "bag-and-back/bag-a", "bag-and-back/bag-a.bagset")?;
-    assert!(rt; said.text.as_str() == "packed 3 files 210 bytes\n");
-    assert!(rt; said.is_done);
-    assert!(rt; is_bag(&rt, "bag-and-back/bag-a.bagset")?);
-    let said = unpack_line(&rt, "bag-and-back/bag-a.bagset", "bag-and-back/copy")?;
-    assert!(rt; said.text.as_str() == "unpacked 3 files\n");
-    assert!(rt; said.is_done);
-    let packed = pack_here(&rt, "bag-and-back/copy", "bag-and-back/copy.bagset")?;
-    assert!(rt; packed.files == 3 && packed.bytes == 210);
-    assert!(rt; is_bag(&rt, "bag-and-back/copy.bagset")?);
+    let form = "bag-and-back/bag-a.bagset";
+    let copy = "bag-and-back/copy";
+    let again = "bag-and-back/copy.bagset";
+    packs_as(
+        &rt,
+        "bag-and-back/bag-a",
+        form,
+        "packed 3 files 210 bytes\n",
+        "",
+    )?;
+    assert!(rt; is_bag(&rt, form)?);
+    unpacks_as(&rt, form, copy, "unpacked 3 files\n", "")?;
+    packs_as(&rt, copy, again, "packed 3 files 210 bytes\n", "")?;
+    assert!(rt; is_bag(&rt, again)?);
     // What stands there isn't touched.
-    let said = unpack_line(&rt, "bag-and-back/bag-a.bagset", "bag-and-back/copy")?;
-    assert!(rt; said.text.as_str() == "exists\n");
-    assert!(rt; !said.is_done);
-    let said = unpack_line(&rt, "bag-and-back/bag-a.bagset", "bag-and-back/copy.bagset")?;
-    assert!(rt; said.text.as_str() == "exists\n");
-    assert!(rt; is_bag(&rt, "bag-and-back/copy.bagset")?);
-    let unpacked = unpack_here(&rt, "bag-and-back/copy.bagset", "bag-and-back/other")?;
-    assert!(rt; unpacked.files == 3);
+    unpacks_as(&rt, form, copy, "exists\n", "")?;
+    unpacks_as(&rt, form, again, "exists\n", "")?;
+    assert!(rt; is_bag(&rt, again)?);
+    assert!(rt; pack_here(&rt, copy, again)?.bytes == 210);
+    assert!(rt; unpack_here(&rt, again, "bag-and-back/other")?.files == 3);
     fs::remove_dir_all(&rt, "bag-and-back")?;
     Ok(())
 }
@@ -112,6 +153,21 @@ a b=x, a%0Ab=, l\nf\r=y\n, é=, .hidden=h, d/.e/f= => BAGSET 1\nFILE 7 1\n.hidde
 ..a=, .../b= => BAGSET 1\nFILE 5 0\n.../b\nFILE 3 0\n..a\nEND\n => packed 2 files 41 bytes\n
 ";
 
+/// Packs these files, and what the form gives once more.
+fn pack_row(rt: &HostRuntime, files: &str, form: &[u8], line: &str) -> Result<(), Fail> {
+    lay(rt, "folders/worked", files)?;
+    fs::create_dir_all(rt, "folders/worked/empty/.folder")?;
+    packs_as(rt, "folders/worked", "folders/worked.bagset", line, "")?;
+    compare(rt, "folders/worked.bagset", form)?;
+    // A folder may be named with a slash behind it.
+    unpack_here(rt, "folders/worked.bagset", "folders/unpacked")?;
+    pack_here(rt, "folders/unpacked/", "folders/again.bagset")?;
+    compare(rt, "folders/again.bagset", form)?;
+    fs::remove_dir_all(rt, "folders/worked")?;
+    fs::remove_dir_all(rt, "folders/unpacked")?;
+    Ok(())
+}
+
 #[test]
 fn packs_what_was_worked_out(rt: HostRuntime) -> Result<(), Fail> {
     begin(&rt, "folders")?;
@@ -120,22 +176,8 @@ fn packs_what_was_worked_out(rt: HostRuntime) -> Result<(), Fail> {
         if let Some((files, rest)) = row.split_once(" => ") {
             let (form, line) = rest.split_once(" => ").ok_or(row)?;
             let form = bytes_of(rt.alloc(), form)?;
-            lay(&rt, "folders/worked", files)?;
-            fs::create_dir_all(&rt, "folders/worked/empty/.folder")?;
-            let said = pack_line(&rt, "folders/worked", "folders/worked.bagset")?;
-            assert!(rt;
-                said.text.as_str() == text_of(rt.alloc(), line)?.as_str(),
-                "{row}"
-            );
-            let packed = fs::read(&rt, "folders/worked.bagset")?;
-            assert!(rt; packed.as_slice() == form.as_slice(), "{row}");
-            // A folder may be named with a slash behind it.
-            unpack_here(&rt, "folders/worked.bagset", "folders/unpacked")?;
-            pack_here(&rt, "folders/unpacked/", "folders/again.bagset")?;
-            let packed = fs::read(&rt, "folders/again.bagset")?;
-            assert!(rt; packed.as_slice() == form.as_slice(), "{row}");
-            fs::remove_dir_all(&rt, "folders/worked")?;
-            fs::remove_dir_all(&rt, "folders/unpacked")?;
+            let line = text_of(rt.alloc(), line)?;
+            pack_row(&rt, files, form.as_slice(), line.as_str())?;
             rows = rows.saturating_add(1);
         }
     }
@@ -148,11 +190,22 @@ fn packs_what_was_worked_out(rt: HostRuntime) -> Result<(), Fail> {
 fn the_form_may_stand_in_the_folder(rt: HostRuntime) -> Result<(), Fail> {
     begin(&rt, "form-inside")?;
     lay(&rt, "form-inside/inside", "a=1")?;
-    let said = pack_line(&rt, "form-inside/inside", "form-inside/inside/form")?;
-    assert!(rt; said.text.as_str() == "packed 1 files 25 bytes\n");
+    let form = "form-inside/inside/form";
+    packs_as(
+        &rt,
+        "form-inside/inside",
+        form,
+        "packed 1 files 25 bytes\n",
+        "",
+    )?;
     // Now it is one of the files.
-    let said = pack_line(&rt, "form-inside/inside", "form-inside/inside/form")?;
-    assert!(rt; said.text.as_str() == "packed 2 files 65 bytes\n");
+    packs_as(
+        &rt,
+        "form-inside/inside",
+        form,
+        "packed 2 files 65 bytes\n",
+        "",
+    )?;
     fs::remove_dir_all(&rt, "form-inside")?;
     Ok(())
 }
@@ -165,19 +218,15 @@ fn follows_no_link(rt: HostRuntime) -> Result<(), Fail> {
     begin(&rt, "links")?;
     // A file `data` clashes, which comes behind a name.
     lay(&rt, "links/linked", "data=")?;
-    let said = pack_line(&rt, "links/linked", "links/linked.bagset")?;
-    assert!(rt; said.text.as_str() == "unpackable S8\n");
-    assert!(rt; !said.is_done);
+    let form = "links/linked.bagset";
+    packs_as(&rt, "links/linked", form, "unpackable S8\n", " (S8)")?;
     fs::create_dir(&rt, "links/linked/folder")?;
     for target in &TARGETS {
         symlink(&rt, *target, "links/linked/folder/link")?;
-        let said = pack_line(&rt, "links/linked", "links/linked.bagset")?;
-        assert!(rt; said.text.as_str() == "unpackable NAME\n", "{target}");
-        assert!(rt; reason_of(&said).ends_with(" (NAME)\n"));
-        assert!(rt; !said.is_done);
+        packs_as(&rt, "links/linked", form, "unpackable NAME\n", " (NAME)")?;
         fs::remove_file(&rt, "links/linked/folder/link")?;
     }
-    assert!(rt; !fs::exists(&rt, "links/linked.bagset")?);
+    assert!(rt; !fs::exists(&rt, form)?);
     fs::remove_dir_all(&rt, "links")?;
     Ok(())
 }
@@ -192,6 +241,17 @@ BAGSET 1\nFILE 1 0\na\nFILE 3 0\na/b\nEND\n => unreadable S8\n => a path of the 
 BAGSET 1\nEND\n\n => unreadable S7\n => the form goes on behind its line END (S7)\n
 ";
 
+/// Unpacks what is no form.
+fn unpack_row(rt: &HostRuntime, line: &str, reason: &str) -> Result<(), Fail> {
+    let form = "no-forms/none.bagset";
+    unpacks_as(rt, form, "no-forms/none", line, reason)?;
+    if fs::exists(rt, "no-forms/none")? {
+        return Err(Fail::new("a folder"));
+    }
+    // That comes before what stands there.
+    unpacks_as(rt, form, form, line, reason)
+}
+
 #[test]
 fn refuses_what_is_no_form(rt: HostRuntime) -> Result<(), Fail> {
     begin(&rt, "no-forms")?;
@@ -203,14 +263,7 @@ fn refuses_what_is_no_form(rt: HostRuntime) -> Result<(), Fail> {
             let reason = text_of(rt.alloc(), reason)?;
             let text = bytes_of(rt.alloc(), text)?;
             fs::write(&rt, "no-forms/none.bagset", text.as_slice())?;
-            let said = unpack_line(&rt, "no-forms/none.bagset", "no-forms/none")?;
-            assert!(rt; said.text.as_str() == line.as_str(), "{row}");
-            assert!(rt; reason_of(&said) == reason.as_str(), "{row}");
-            assert!(rt; !said.is_done);
-            assert!(rt; !fs::exists(&rt, "no-forms/none")?, "{row}");
-            // That comes before what stands there.
-            let said = unpack_line(&rt, "no-forms/none.bagset", "no-forms/none.bagset")?;
-            assert!(rt; said.text.as_str() == line.as_str(), "{row}");
+            unpack_row(&rt, line.as_str(), reason.as_str())?;
             rows = rows.saturating_add(1);
         }
     }

@@ -5,10 +5,10 @@ use crate::offices::{Way, put};
 use crate::parts::{Part, agree};
 use crate::stores::in_files;
 use office_core::{Answer, Day};
-use office_engine::{Office, StoppedRun, reopen, stop_in, stop_in_run};
+use office_engine::{Office, reopen, stop_in, stop_in_run};
 use sqlite::{FileStore, Files};
 use sqlite_disk::Disk;
-use std::alloc::Global;
+use std::alloc::{AllocError, Global};
 use std::test::*;
 use worked_sessions::{Asked, words};
 
@@ -51,9 +51,9 @@ fn stop_once<D: Disk + Drop>(alloc: Global, files: Files<D>) -> Option<String> {
 }
 
 /// The answers in words, a line each.
-fn told(alloc: Global, answers: &[Answer]) -> Option<String> {
+fn told(alloc: Global, answers: &Result<Vec<Answer>, AllocError>) -> Option<String> {
     let mut text = String::new(alloc);
-    for answer in answers {
+    for answer in answers.as_ref().ok()? {
         text.push_str(words(alloc, answer).ok()?.as_str()).ok()?;
         text.push_str("\n").ok()?;
     }
@@ -71,12 +71,13 @@ fn stop_in_two<D: Disk + Drop>(alloc: Global, files: Files<D>) -> Option<String>
         (day, "anna", Asked::HoldCollection("maps").request()?),
         (day, "anna", Asked::Release(1).request()?),
     ];
-    let StoppedRun { answers, files } = stop_in_run(alloc, office, &items);
-    let told = told(alloc, answers.ok()?.as_slice())?;
+    let stopped = stop_in_run(alloc, office, &items);
+    let files = stopped.files.close();
+    let told = told(alloc, &stopped.answers)?;
+    let mut office = found(alloc, files)?;
     if told.as_str() != TOLD_OF_THE_RUN {
         return Some(told);
     }
-    let mut office = found(alloc, files.close())?;
     put(alloc, &mut office, Way::Steps, AFTER_THE_RUN)
 }
 
