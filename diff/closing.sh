@@ -13,7 +13,7 @@ trap 'rm -rf "$folder"' EXIT
 store=$folder/office.db
 day=2024-03-01
 target='/deposits?collection=maps&class=y0&closed=2024-02-29&accession='
-small=$top/examples/bag-a.bagset
+small=$folder/small.bagset
 cases=0
 
 # A request of anna: its method, its target, and the file that is its body.
@@ -56,11 +56,18 @@ is_kept() {
     }
 }
 
-mkdir -p "$folder/large/data"
-head -c 2000000 /dev/urandom >"$folder/large/data/a"
-printf 'BagIt-Version: 1.0\nTag-File-Character-Encoding: UTF-8\n' >"$folder/large/bagit.txt"
-(cd "$folder/large" && sha256sum data/a >manifest-sha256.txt)
-"$program" pack "$folder/large" "$folder/large.bagset" >/dev/null
+# A bag with one file of so many bytes. What it adds to a store stands at the end of the file, past the limit
+# once a large one is there.
+make_bag() {
+    mkdir -p "$folder/$1/data"
+    head -c "$2" /dev/urandom >"$folder/$1/data/a"
+    printf 'BagIt-Version: 1.0\nTag-File-Character-Encoding: UTF-8\n' >"$folder/$1/bagit.txt"
+    (cd "$folder/$1" && sha256sum data/a >manifest-sha256.txt)
+    "$program" pack "$folder/$1" "$folder/$1.bagset" >/dev/null
+}
+
+make_bag large 2000000
+make_bag small 20000
 "$program" policy "$store" "$top/examples/policy.toml" >/dev/null
 printf '{"years":0}' >"$folder/years"
 request PUT /classes/y0 "$folder/years" >"$folder/class"
