@@ -1,15 +1,15 @@
 -- Which rows a longer history leaves as they were.
-use Rattle.std.proofs.Common.{◌≡◌, ℕ, pos, List, [], ◌++◌, map, filter, length, Option, None, option_map, unwrap_or, is_none, ap, ◌∙◌, append-nil}
+use Rattle.std.proofs.Common.{◌≡◌, ℕ, pos, List, [], ◌∷◌, ◌++◌, map, filter, length, Option, None, option_map, unwrap_or, is_none, sym, ap, ◌∙◌, append-nil}
 use Rattle.std.specs.List.{filter_map, flat_map}
 use Rattle.std.specs.Option.{option_or, option_map_or}
 use Rattle.std.proofs.lemmas.List.Elements.{filter_map-append}
 use Rattle.jiff.specs.Types.{Date}
 use Rattle.jiff.specs.Words.{epoch_day}
 use Rattle.bag_check.specs.Validity.{payload_files, payload_bytes}
-use Rattle.office_rows.specs.Rows.{DepositRow, HoldRow}
+use Rattle.office_rows.specs.Rows.{ClassRow, DepositRow, FileRow, HoldRow, this_version}
 use Rattle.office_history.specs.Lists.{first_said, last_said, item_numbered, numbers, in_first_places}
 use Rattle.office_history.specs.Histories.{History, Change, Deposit, Hold, with_changes, installed_in, policy, years_in, years_of, collection_in, deposit_in, deposits, destroyed_in, destruction_day, hold_in, holds, released_in, release_day}
-use Rattle.office_history.specs.Pictures.{class_in, class_row, class_rows, held_deposit, held_collection, collection_rows, deposit_rows, file_row, file_rows, hold_rows}
+use Rattle.office_history.specs.Pictures.{class_in, class_row, class_rows, caller_row, rule_rows, office_row, held_deposit, held_collection, collection_rows, deposit_rows, file_row, file_rows, hold_rows, picture}
 use Rattle.office_history.proofs.Alike.{or_none, last_said-append, policy_grown, gone_grown, released_grown}
 
 -- a deposit's row by the day on which it was destroyed, and a hold's by the day on which it was released
@@ -82,3 +82,23 @@ module _ (h : History) (more : List Change) where
 
   pub same_hold_rows : filter_map hold_in more ≡ [] → ((k : ℕ) → first_said (released_in k) more ≡ None) → hold_rows (with_changes h more) ≡ hold_rows h
   same_hold_rows none live = λ i. filter_map (λ k. option_map (row_by_release k (same_released live k i)) (item_numbered (same_holds none i) k)) (numbers (length (same_holds none i)))
+
+  -- the picture of a history that goes on under the same policy, by the tables that are left
+  pub pictured_by : {classes : List ClassRow} {collections : List (List ℕ)} {deposits : List DepositRow} {files : List FileRow} {holds : List HoldRow}
+      → last_said installed_in more ≡ None
+      → classes ≡ class_rows (with_changes h more)
+      → collections ≡ collection_rows (with_changes h more)
+      → deposits ≡ deposit_rows (with_changes h more)
+      → files ≡ file_rows (with_changes h more)
+      → holds ≡ hold_rows (with_changes h more)
+      → record (picture this_version h) { classes = classes; collections = collections; deposits = deposits; files = files; holds = holds } ≡ picture this_version (with_changes h more)
+  pictured_by none classes_are collections_are deposits_are files_are holds_are = λ i. record {
+    office = office_row this_version h ∷ [];
+    callers = map caller_row (sym (same_policy none) i).callers;
+    rules = rule_rows 1 (sym (same_policy none) i).rules;
+    classes = classes_are i;
+    collections = collections_are i;
+    deposits = deposits_are i;
+    files = files_are i;
+    holds = holds_are i;
+  }

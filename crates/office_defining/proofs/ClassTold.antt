@@ -9,10 +9,10 @@ use Rattle.jiff.specs.Types.{Date}
 use Rattle.office_rows.specs.Rows.{Tables, ClassRow, is_class, has_class, with_class, with_years, with_new_class, this_version}
 use Rattle.office_history.specs.Lists.{in_first_places}
 use Rattle.office_history.specs.Histories.{History, DefinedClass, with_changes, years_of}
-use Rattle.office_history.specs.Pictures.{class_in, class_row, years_number, class_rows, picture, caller_row, rule_rows, office_row}
+use Rattle.office_history.specs.Pictures.{class_in, class_row, years_number, class_rows, picture}
 use Rattle.office_history.proofs.AlikeAnswers.{among_first_places}
 use Rattle.office_history.proofs.Pictured.{rows_by, HasYears, all_have_years, all_distinct}
-use Rattle.office_asking.proofs.Unchanged.{same_policy, years_grown, same_collections, same_deposit_rows, same_file_rows, same_hold_rows}
+use Rattle.office_asking.proofs.Unchanged.{years_grown, same_collections, same_deposit_rows, same_file_rows, same_hold_rows, pictured_by}
 use Rattle.office_asking.proofs.CollectionTold.{bytes_eq-sym}
 use Rattle.office_defining.proofs.FirstPlaces.{first_places_last}
 
@@ -101,16 +101,8 @@ module _ (h : History) (day : Date) (name : List ℕ) (y : Option ℕ) where
   pub class_told : with_class name (years_number y) (picture this_version h) ≡ picture this_version longer
   class_told =
       by (has_class name (picture this_version h))
-      ∙ (λ i. record {
-        office = office_row this_version h ∷ [];
-        callers = map caller_row (sym (same_policy h (DefinedClass day name y ∷ []) refl) i).callers;
-        rules = rule_rows 1 (sym (same_policy h (DefinedClass day name y ∷ []) refl) i).rules;
-        classes = classes_told i;
-        collections = sym (same_collections h (DefinedClass day name y ∷ []) refl) i;
-        deposits = sym (same_deposit_rows h (DefinedClass day name y ∷ []) refl (λ n. refl)) i;
-        files = sym (same_file_rows h (DefinedClass day name y ∷ []) refl (λ n. refl)) i;
-        holds = sym (same_hold_rows h (DefinedClass day name y ∷ []) refl (λ k. refl)) i;
-      })
+      ∙ pictured_by h (DefinedClass day name y ∷ []) refl classes_told (sym (same_collections h (DefinedClass day name y ∷ []) refl))
+      (sym (same_deposit_rows h (DefinedClass day name y ∷ []) refl (λ n. refl))) (sym (same_file_rows h (DefinedClass day name y ∷ []) refl (λ n. refl))) (sym (same_hold_rows h (DefinedClass day name y ∷ []) refl (λ k. refl)))
     where
       by : (b : Bool) → (if b then with_years name (years_number y) (picture this_version h) else with_new_class name (years_number y) (picture this_version h))
           ≡ record (picture this_version h) { classes = if b then map (revise name y (years_of h)) (class_rows h) else class_rows h ++ record { name = name; years = years_number y } ∷ [] }

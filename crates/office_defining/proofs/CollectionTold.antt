@@ -1,13 +1,13 @@
 -- The rows of collections, and the history that they picture.
-use Rattle.std.proofs.Common.{◌≡◌, ℕ, Bool, true, false, List, [], ◌∷◌, ◌++◌, map, refl, sym, ap, ◌∙◌, if◌then◌else◌}
+use Rattle.std.proofs.Common.{◌≡◌, ℕ, Bool, true, false, List, [], ◌∷◌, ◌++◌, refl, sym, ap, ◌∙◌, if◌then◌else◌}
 use Rattle.std.specs.List.{filter_map}
 use Rattle.std.proofs.lemmas.List.Elements.{filter_map-append}
 use Rattle.jiff.specs.Types.{Date}
 use Rattle.office_rows.specs.Rows.{with_collection, with_new_collection, this_version}
 use Rattle.office_history.specs.Lists.{in_first_places}
 use Rattle.office_history.specs.Histories.{History, Change, DefinedCollection, with_changes, has_collection, collection_in}
-use Rattle.office_history.specs.Pictures.{collection_rows, picture, caller_row, rule_rows, office_row}
-use Rattle.office_asking.proofs.Unchanged.{same_policy, same_classes, same_deposit_rows, same_file_rows, same_hold_rows}
+use Rattle.office_history.specs.Pictures.{collection_rows, picture}
+use Rattle.office_asking.proofs.Unchanged.{same_classes, same_deposit_rows, same_file_rows, same_hold_rows, pictured_by}
 use Rattle.office_asking.proofs.Serving.{grown_none}
 use Rattle.office_asking.proofs.CollectionTold.{collection_there}
 use Rattle.office_defining.proofs.FirstPlaces.{first_places_last}
@@ -23,16 +23,9 @@ module _ (h : History) (day : Date) (name : List ℕ) where
       ∙ ap (λ b. collection_rows h ++ (if b then [] else name ∷ [])) none
 
   new_told : has_collection h name ≡ false → with_new_collection name (picture this_version h) ≡ picture this_version (with_changes h defined)
-  new_told none = λ i. record {
-    office = office_row this_version h ∷ [];
-    callers = map caller_row (sym (same_policy h defined refl) i).callers;
-    rules = rule_rows 1 (sym (same_policy h defined refl) i).rules;
-    classes = sym (same_classes h defined refl (λ n. refl)) i;
-    collections = sym (rows_with none) i;
-    deposits = sym (same_deposit_rows h defined refl (λ n. refl)) i;
-    files = sym (same_file_rows h defined refl (λ n. refl)) i;
-    holds = sym (same_hold_rows h defined refl (λ k. refl)) i;
-  }
+  new_told none =
+      pictured_by h defined refl (sym (same_classes h defined refl (λ n. refl))) (sym (rows_with none))
+      (sym (same_deposit_rows h defined refl (λ n. refl))) (sym (same_file_rows h defined refl (λ n. refl))) (sym (same_hold_rows h defined refl (λ k. refl)))
 
   -- a collection that is there changes nothing
   pub collection_told : with_collection name (picture this_version h) ≡ picture this_version (with_changes h (if has_collection h name then [] else defined))

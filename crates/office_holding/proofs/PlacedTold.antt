@@ -1,5 +1,5 @@
 -- The rows of an office after a hold was placed.
-use Rattle.std.proofs.Common.{◌≡◌, ℕ, ◌+◌, ℤ, pos, List, [], ◌∷◌, ◌++◌, length, map, None, Less, refl, sym, ap, subst, ◌∙◌, arith}
+use Rattle.std.proofs.Common.{◌≡◌, ℕ, ◌+◌, ℤ, pos, List, [], ◌∷◌, ◌++◌, length, None, Less, refl, sym, ap, subst, ◌∙◌, arith}
 use Rattle.std.specs.List.{AllByRecursion}
 use Rattle.std.specs.Ordering.{int_cmp}
 use Rattle.jiff.specs.Types.{Date}
@@ -12,7 +12,7 @@ use Rattle.office_tables.specs.ShownHolds as shown
 use Rattle.office_tables.specs.declared.holds.HoldTarget.{HoldTarget}
 use Rattle.office_tables.specs.declared.holds.HoldTarget.TheVariants as targets
 use Rattle.office_history.specs.Histories.{History, Change, PlacedHold, Hold, with_changes, holds, release_day}
-use Rattle.office_history.specs.Pictures.{held_deposit, held_collection, hold_row, hold_rows, picture, caller_row, rule_rows, office_row}
+use Rattle.office_history.specs.Pictures.{held_deposit, held_collection, hold_row, hold_rows, picture}
 use Rattle.office_history.specs.Runs.{IsLegal}
 use Rattle.office_history.proofs.HistoryLemmas.{holds_grown}
 use Rattle.office_history.proofs.LegalReadings.{none_released}
@@ -20,7 +20,7 @@ use Rattle.office_asking.specs.Pictures.{Pictures}
 use Rattle.office_asking.proofs.NumberedRows.{rows_from, rows_append, below, none_next}
 use Rattle.office_asking.proofs.HoldTold.{hold_rows_are}
 use Rattle.office_asking.proofs.Serving.{pictures_grown}
-use Rattle.office_asking.proofs.Unchanged.{row_by_release, same_policy, same_classes, same_collections, same_deposit_rows, same_file_rows, same_released}
+use Rattle.office_asking.proofs.Unchanged.{row_by_release, same_classes, same_collections, same_deposit_rows, same_file_rows, same_released, pictured_by}
 use Rattle.office_holding.specs.Holds.{IsNext, target_of}
 
 module _ (h : History) (day : Date) (hold : Hold) (not_released : release_day h (1 + length (holds h)) ≡ None) where
@@ -46,16 +46,9 @@ module _ (h : History) (day : Date) (hold : Hold) (not_released : release_day h 
       ∙ sym (hold_rows_are longer)
 
   placed_told : with_hold new_row (picture this_version h) ≡ picture this_version longer
-  placed_told = λ i. record {
-    office = office_row this_version h ∷ [];
-    callers = map caller_row (sym (same_policy h more refl) i).callers;
-    rules = rule_rows 1 (sym (same_policy h more refl) i).rules;
-    classes = sym (same_classes h more refl (λ name. refl)) i;
-    collections = sym (same_collections h more refl) i;
-    deposits = sym (same_deposit_rows h more refl (λ n. refl)) i;
-    files = sym (same_file_rows h more refl (λ n. refl)) i;
-    holds = holds_told i;
-  }
+  placed_told =
+      pictured_by h more refl (sym (same_classes h more refl (λ name. refl))) (sym (same_collections h more refl))
+      (sym (same_deposit_rows h more refl (λ n. refl))) (sym (same_file_rows h more refl (λ n. refl))) holds_told
 
 -- the next hold is none that was released
 not_yet : (h : History) → IsLegal h → release_day h (1 + length (holds h)) ≡ None

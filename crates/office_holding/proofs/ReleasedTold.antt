@@ -7,13 +7,13 @@ use Rattle.sqlite.specs.Effect.{Database}
 use Rattle.office_rows.specs.Rows.{HoldRow, is_hold, with_released, this_version}
 use Rattle.office_tables.specs.Tables.{Becomes, tables_of}
 use Rattle.office_history.specs.Histories.{History, Change, ReleasedHold, with_changes, holds, release_day}
-use Rattle.office_history.specs.Pictures.{hold_row, hold_rows, picture, caller_row, rule_rows, office_row}
+use Rattle.office_history.specs.Pictures.{hold_row, hold_rows, picture}
 use Rattle.office_history.proofs.Alike.{or_none, released_grown}
 use Rattle.office_asking.specs.Pictures.{Pictures}
 use Rattle.office_asking.proofs.NumberedRows.{rows_from, rows_changed, mark}
 use Rattle.office_asking.proofs.HoldTold.{hold_rows_are}
 use Rattle.office_asking.proofs.Serving.{pictures_grown}
-use Rattle.office_asking.proofs.Unchanged.{row_by_release, same_policy, same_classes, same_collections, same_deposit_rows, same_file_rows, same_holds}
+use Rattle.office_asking.proofs.Unchanged.{row_by_release, same_classes, same_collections, same_deposit_rows, same_file_rows, same_holds, pictured_by}
 
 module _ (h : History) (day : Date) (k : ℕ) (live : release_day h k ≡ None) where
   abbrev more : List Change
@@ -36,16 +36,9 @@ module _ (h : History) (day : Date) (k : ℕ) (live : release_day h k ≡ None) 
       ∙ sym (hold_rows_are longer)
 
   released_told : with_released (pos k) (epoch_day day) (picture this_version h) ≡ picture this_version longer
-  released_told = λ i. record {
-    office = office_row this_version h ∷ [];
-    callers = map caller_row (sym (same_policy h more refl) i).callers;
-    rules = rule_rows 1 (sym (same_policy h more refl) i).rules;
-    classes = sym (same_classes h more refl (λ name. refl)) i;
-    collections = sym (same_collections h more refl) i;
-    deposits = sym (same_deposit_rows h more refl (λ n. refl)) i;
-    files = sym (same_file_rows h more refl (λ n. refl)) i;
-    holds = holds_told i;
-  }
+  released_told =
+      pictured_by h more refl (sym (same_classes h more refl (λ name. refl))) (sym (same_collections h more refl))
+      (sym (same_deposit_rows h more refl (λ n. refl))) (sym (same_file_rows h more refl (λ n. refl))) holds_told
 
   -- a live hold is ended
   pub released : (old new : Database) → Pictures h old → Becomes new (with_released (pos k) (epoch_day day) (tables_of old)) → Pictures longer new

@@ -15,7 +15,7 @@ use Rattle.office_rows.proofs.Order.{put_last}
 use Rattle.office_rows.specs.Rows.{Tables, DepositRow, FileRow, put_by, with_deposit, with_file, this_version}
 use Rattle.office_history.specs.Lists.{item_numbered, numbers}
 use Rattle.office_history.specs.Histories.{History, Change, Deposited, Deposit, with_changes, deposits, destruction_day}
-use Rattle.office_history.specs.Pictures.{deposit_row, deposit_rows, file_row, file_rows, picture, caller_row, rule_rows, office_row}
+use Rattle.office_history.specs.Pictures.{deposit_row, deposit_rows, file_row, file_rows, picture}
 use Rattle.office_history.specs.Runs.{IsLegal}
 use Rattle.office_history.proofs.LegalReadings.{none_gone}
 use Rattle.office_asking.specs.Pictures.{Pictures}
@@ -23,7 +23,7 @@ use Rattle.office_history.proofs.HistoryLemmas.{deposits_grown}
 use Rattle.office_keeping.specs.Depositing.{with_files}
 use Rattle.office_asking.proofs.NumberedRows.{rows_from, rows_append, below, none_next}
 use Rattle.office_asking.proofs.DepositTold.{deposit_rows_are}
-use Rattle.office_asking.proofs.Unchanged.{row_by_gone, same_policy, same_classes, same_collections, same_gone, same_hold_rows}
+use Rattle.office_asking.proofs.Unchanged.{row_by_gone, same_classes, same_collections, same_gone, same_hold_rows, pictured_by}
 
 pub files_added : (n : ℕ) (files : List File) (t : Tables) → with_files (pos n) files t ≡ record t { files = t.files ++ map (file_row n) files }
 files_added n [] t = λ i. record t { files = sym (append-nil t.files) i }
@@ -121,16 +121,10 @@ module _ (h : History) (day : Date) (d : Deposit) (not_gone : destruction_day h 
           ∙ append-nil (map (file_row next) d.bag)
 
   pub deposited_told : with_files (pos next) d.bag (with_deposit new_row (picture this_version h)) ≡ picture this_version longer
-  deposited_told = files_added next d.bag (with_deposit new_row (picture this_version h)) ∙ (λ i. record {
-    office = office_row this_version h ∷ [];
-    callers = map caller_row (sym (same_policy h more refl) i).callers;
-    rules = rule_rows 1 (sym (same_policy h more refl) i).rules;
-    classes = sym (same_classes h more refl (λ name. refl)) i;
-    collections = sym (same_collections h more refl) i;
-    deposits = deposits_told i;
-    files = files_told i;
-    holds = sym (same_hold_rows h more refl (λ k. refl)) i;
-  })
+  deposited_told =
+      files_added next d.bag (with_deposit new_row (picture this_version h))
+      ∙ pictured_by h more refl (sym (same_classes h more refl (λ name. refl))) (sym (same_collections h more refl))
+      deposits_told files_told (sym (same_hold_rows h more refl (λ k. refl)))
 
 -- one file after another
 pub next_file : (n : ℤ) (fs : List (Bor (List ℕ) × Bor (List ℕ))) (i : ℕ) (d : Bor (List ℕ) × Bor (List ℕ)) → i < length fs → (t : Tables) (now new : Database)

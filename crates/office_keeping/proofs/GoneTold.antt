@@ -14,11 +14,11 @@ use Rattle.office_asking.specs.Pictures.{Pictures}
 use Rattle.office_history.specs.Lists.{item_numbered, numbers}
 use Rattle.office_history.specs.Histories.{History, Change, Destroyed, Deposit, with_changes, deposits, destruction_day}
 use Rattle.office_history.specs.Stocks.{files_of}
-use Rattle.office_history.specs.Pictures.{deposit_row, deposit_rows, file_row, file_rows, picture, caller_row, rule_rows, office_row}
+use Rattle.office_history.specs.Pictures.{deposit_row, deposit_rows, file_row, file_rows, picture}
 use Rattle.office_history.proofs.Alike.{gone_grown, or_none}
 use Rattle.office_asking.proofs.NumberedRows.{rows_from, rows_changed, itself, another, mark}
 use Rattle.office_asking.proofs.DepositTold.{deposit_rows_are}
-use Rattle.office_asking.proofs.Unchanged.{row_by_gone, same_policy, same_classes, same_collections, same_deposits, same_hold_rows}
+use Rattle.office_asking.proofs.Unchanged.{row_by_gone, same_classes, same_collections, same_deposits, same_hold_rows, pictured_by}
 
 module _ (h : History) (day : Date) (n : ℕ) (kept_before : destruction_day h n ≡ None) where
   abbrev more : List Change
@@ -99,16 +99,9 @@ module _ (h : History) (day : Date) (n : ℕ) (kept_before : destruction_day h n
       ∙ (λ i. let ds = sym (same_deposits h more refl) i in flat_map (λ m. map (file_row m) (option_map_or (λ (f : Date × Deposit). f.1.bag) (item_numbered ds m) [])) (filter (λ m. is_none (destruction_day longer m)) (numbers (length ds))))
 
   pub gone_told : without_files (pos n) (with_gone (pos n) (epoch_day day) (picture this_version h)) ≡ picture this_version longer
-  gone_told = λ i. record {
-    office = office_row this_version h ∷ [];
-    callers = map caller_row (sym (same_policy h more refl) i).callers;
-    rules = rule_rows 1 (sym (same_policy h more refl) i).rules;
-    classes = sym (same_classes h more refl (λ name. refl)) i;
-    collections = sym (same_collections h more refl) i;
-    deposits = deposits_told i;
-    files = files_told i;
-    holds = sym (same_hold_rows h more refl (λ k. refl)) i;
-  }
+  gone_told =
+      pictured_by h more refl (sym (same_classes h more refl (λ name. refl))) (sym (same_collections h more refl))
+      deposits_told files_told (sym (same_hold_rows h more refl (λ k. refl)))
 
   -- so do the two changes of the tables
   pub destroyed : (old mid new : Database) → Pictures h old → Becomes mid (with_gone (pos n) (epoch_day day) (tables_of old)) → Becomes new (without_files (pos n) (tables_of mid)) → Pictures longer new
