@@ -1,9 +1,11 @@
 //! What the numbers and matters of rows stand for. What stands for nothing is of a row that no accepted
 //! change writes, which is a fault of the store.
 
-ghost use Rattle.std.specs.Prelude.{◌≡◌, IfErr, IfOk, option_map};
+ghost use Rattle.std.specs.Prelude.{◌≡◌, Err, IfErr, IfOk, option_map};
 ghost use Rattle.jiff.specs.Words.{epoch_day};
+ghost use Rattle.office_core.specs.Names.{IsMatter};
 ghost use Rattle.office_tables.specs.Faults.{IsFailure};
+ghost use Rattle.office_tables.specs.declared.fault.TableFault.TheVariants.{Memory, Store};
 ghost use Rattle.office_history.specs.Pictures.{years_back, years_number};
 
 use office_core::{Day, Matter, OwnedMatter, Years};
@@ -57,6 +59,8 @@ pub fn years_numbered(number: i64) -> Result<Years, TableFault>
 pub fn matter_in(alloc: Global, text: &str) -> Result<OwnedMatter, TableFault>
     ensures matter { IfOk result (λ matter. matter ≡ text.now) }
     ensures failure { IfErr result IsFailure }
+    ensures memory { IsMatter text.now → IfErr result (λ fault. fault ≡ Memory) }
+    ensures store { (IsMatter text.now → ⊥) → result ≡ Err Store }
 {
     match Matter::read(text) {
         Some(matter) => Ok(matter.to_owned(alloc)?),
