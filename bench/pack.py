@@ -1,10 +1,11 @@
 #!/usr/bin/env python3
 """Speed and memory of `depot pack` and `depot unpack` beside `tar`.
 
-`pack` is measured beside `tar -cf` and `sync` of what it wrote, since `pack` brings its file to the
-disk; `unpack` beside `tar -xf`. Prints a ratio for each case: the median time of `depot` over that of the
-other, which take turns (RUNS=n, 15 if left out), in going first too. Run it after `./depot check examples/bag-a.bagset` has
-built the program. Words behind `pack.py` name the cases that are run; with none, all are.
+`pack` is measured beside `tar -cf`, and beside `tar -cf` and `sync` of what it wrote, since `pack` brings
+its file to the disk; `unpack` beside `tar -xf`. Prints the ratios of each case: the median time of `depot`
+over that of the other, which take turns (RUNS=n, 15 if left out), in going first too. Run it after
+`./depot check examples/bag-a.bagset` has built the program. Words behind `pack.py` name the cases that are
+run; with none, all are.
 """
 import os
 import pathlib
@@ -17,8 +18,9 @@ from turns import ratio, say_machine, spreads, turns
 
 
 def cleared(clear, commands):
-    """The seconds that commands take once what was written before is gone."""
+    """The seconds that commands take once what was written before is gone, or is on the disk."""
     clear()
+    os.sync()
     return bench.run(commands)
 
 
@@ -36,13 +38,15 @@ def round_trip(folder, name, files):
     pack = [str(bench.DEPOT), "pack", str(base), written]
     unpack = [str(bench.DEPOT), "unpack", written, str(there)]
     size = text.stat().st_size
-    packs = [["tar", "-cf", archive, "-C", str(base), "."], ["sync", archive]]
-    found = turns(lambda: cleared(clear, [pack]), lambda: cleared(clear, packs), bench.RUNS)
+    tar = ["tar", "-cf", archive, "-C", str(base), "."]
+    plain = turns(lambda: cleared(clear, [pack]), lambda: cleared(clear, [tar]), bench.RUNS)
+    synced = turns(lambda: cleared(clear, [pack]), lambda: cleared(clear, [tar, ["sync", archive]]), bench.RUNS)
     if pathlib.Path(written).read_bytes() != text.read_bytes():
         sys.exit(f"{name}: another form")
     memory = max(bench.peak(pack) for _ in range(3)) - 2 * size
     print(
-        f"pack {name}: {ratio(*found):.2f} times tar -cf and sync (at most 1.5; {spreads(*found)});"
+        f"pack {name}: {ratio(*plain):.2f} times tar -cf (at most 1.5; {spreads(*plain)}), and"
+        f" {ratio(*synced):.2f} times tar -cf and sync ({spreads(*synced)});"
         f" memory: twice the form and {memory / 2**20:.1f} MiB (at most 8)",
         flush=True,
     )

@@ -6,7 +6,8 @@ and sqlite3, WAL, synchronous FULL); the same client asks both, over a connectio
 their bodies are compared. `replay` is 2,000 mixed requests into a file, beside the SQL statements alone
 that they make, in their order and in one transaction each, through Python's sqlite3; the start of the
 program, the opening of the file and its closing count on both sides. `open` is the time of a request that
-changes nothing by `depot ask`, of files of several sizes: figures alone.
+changes nothing by `depot ask`, of files of several sizes with rows of 1 MiB, and of one with 100 MiB of
+bags of 10 KiB: figures alone.
 Prints a ratio for each case: of the medians of runs that take turns (RUNS=n, 7 if left out). The programs
 `depot` and crates/office_file have to be built. Words behind `program.py` name the cases that are run;
 with none, all are.
@@ -165,10 +166,22 @@ def replay(folder):
     say("replay", len(items), first, second, "its statements through Python", 2)
 
 
+def opens(file, rows):
+    """A request that changes nothing, of this file: the figure alone."""
+    text, found = head("GET", "/deposits/1"), []
+    for _ in range(3):
+        begin = time.perf_counter()
+        done = subprocess.run([str(DEPOT), "ask", str(file), DAY], input=text, capture_output=True)
+        found.append(time.perf_counter() - begin)
+        if not done.stdout.startswith(b"HTTP/1.1 200 "):
+            sys.exit(f"ask ended with {done.returncode}: {done.stderr.decode()}")
+    size = file.stat().st_size / 2**20
+    print(f"open: {median(found):.2f} seconds of a file of {size:.0f} MiB, {rows}", flush=True)
+
+
 def opening(folder):
-    """A request that changes nothing, of files of several sizes."""
+    """Files of several sizes with rows of 1 MiB, and one with 100 MiB of bags of 10 KiB."""
     file = filled(folder, 100)
-    text = head("GET", "/deposits/1")
     for size in (10, 50, 100):
         large = copy(file, f"large-{size}.db")
         conn = opened(large)
@@ -180,14 +193,8 @@ def opening(folder):
         conn.execute("COMMIT")
         conn.execute("PRAGMA wal_checkpoint(TRUNCATE)").fetchall()
         conn.close()
-        found = []
-        for _ in range(3):
-            begin = time.perf_counter()
-            done = subprocess.run([str(DEPOT), "ask", str(large), DAY], input=text, capture_output=True)
-            found.append(time.perf_counter() - begin)
-            if not done.stdout.startswith(b"HTTP/1.1 200 "):
-                sys.exit(f"ask ended with {done.returncode}: {done.stderr.decode()}")
-        print(f"open: {median(found):.2f} seconds of a file of {size} MiB", flush=True)
+        opens(large, f"{size} rows of 1 MiB in one deposit")
+    opens(filled(folder, 10_240), "10,240 deposits of 10 KiB with three files each, and as many holds")
 
 
 CASES = {"get": get, "deposit": deposit, "replay": replay, "open": opening}

@@ -4,12 +4,19 @@ answers, worked out from `docs/HTTP.md`. Each row of the tables below is a reque
 refusal of the desk beside what is heard at its limit, where more than one stands the later ones stand
 too; then a session with every kind of answer and every refusal of the office that a caller can bring about.
 
-`desk.py` says whether `crates/depot/stdin` and `stdout` have these rows; `desk.py write` writes them.
+`desk.py` says whether `crates/depot/stdin` and `stdout` have these rows; `desk.py write` writes them. Then
+the built program answers the requests, to the byte as the rows have it. DEPOT names another program than
+the one in `crates/depot/out` (`./depot check examples/bag-a.bagset` builds it); where neither is there, the
+last line says that the program wasn't asked.
 """
+import os
 import pathlib
+import subprocess
 import sys
 
 TOP = pathlib.Path(__file__).resolve().parent.parent
+CRATE = TOP / "crates/depot"
+DEPOT = os.environ.get("DEPOT", str(CRATE / "out/depot-program"))
 DAY = "2024-03-01"
 STATUS = {200: "OK", 201: "Created", 400: "Bad Request", 403: "Forbidden", 404: "Not Found", 405: "Method Not Allowed",
           409: "Conflict", 410: "Gone", 413: "Content Too Large", 422: "Unprocessable Content"}
@@ -292,6 +299,9 @@ SESSION = [
     (asked("GET /deposits/1/files/data/%2561"), (404, '{"error":"NoFile"}')),
     (asked("GET /deposits/1/files/data/a%4"), (404, '{"error":"NoFile"}')),
     (asked("GET /deposits/1/files/%ff"), (404, '{"error":"NoFile"}')),
+    # A bad path is refused in its place: behind no deposit, a denial and (below) a deposit that is gone.
+    (asked("GET /deposits/3/files/%ff"), none("deposit")),
+    (asked("GET /deposits/1/files/%ff", caller="carl"), (403, '{"error":"Denied","rule":4}')),
     (asked("GET /deposits/1/audit"), (200, VALID)),
     (asked("GET /deposits/1/holds"), (200, '{"holds":[]}')),
     (body(HOLD, '{"deposit":1,"matter":"Case 7"}'), (201, '{"hold":1}'), "2024-03-02"),
@@ -310,6 +320,7 @@ SESSION = [
     (asked("GET /due", caller="carl"), due(day="2025-02-28"), "2025-02-28"),
     (asked("DELETE /deposits/1"), (200, '{"day":"2025-02-28","destroyed":1}'), "2025-02-28"),
     (asked("GET /deposits/1"), (410, '{"day":"2025-02-28","error":"Gone"}'), "2025-03-01"),
+    (asked("GET /deposits/1/files//"), (410, '{"day":"2025-02-28","error":"Gone"}'), "2025-03-01"),
     (asked("DELETE /holds/1"), (409, '{"day":"2025-02-27","error":"Released"}'), "2025-03-01"),
     (deposited("A-1"), (409, '{"deposit":1,"error":"Taken"}'), "2025-03-01"),
     (asked("GET /deposits"), (200, '{"deposits":[%s]}' % TWO), "2025-03-01"),
@@ -413,6 +424,13 @@ collection = "*"
 class = "*"
 
 [[rule]]
+effect = "deny"
+role = "clerk"
+action = "download"
+collection = "*"
+class = "*"
+
+[[rule]]
 effect = "allow"
 role = "*"
 action = "*"
@@ -443,12 +461,25 @@ def rows():
             yield record(day[0] if day else DAY, request), answer(*given)
 
 
+def run_program(policy):
+    """Ends where the program doesn't answer each request as its row has it."""
+    words = [DEPOT, "replay", "--policy", str(policy), ":memory:"]
+    done = subprocess.run(words, input=b"".join(request for request, _ in rows()), capture_output=True)
+    at = 0
+    for place, (request, wanted) in enumerate(rows(), 1):
+        if not done.stdout.startswith(wanted, at):
+            found = done.stdout[at : at + len(wanted) + 200]
+            sys.exit(f"request {place}, {request[:200]!r}: {wanted!r} is wanted, and this came: {found!r}; {done.stderr!r}")
+        at += len(wanted)
+    if (len(done.stdout), done.stderr, done.returncode) != (at, b"", 0):
+        sys.exit(f"the program ended with {done.returncode}, {done.stderr!r} and {len(done.stdout) - at} bytes behind its answers")
+
+
 def main():
-    crate = TOP / "crates/depot"
     files = {
-        crate / "stdin": b"".join(asked for asked, _ in rows()),
-        crate / "stdout": b"".join(given for _, given in rows()),
-        crate / "data/policy.toml": POLICY.encode(),
+        CRATE / "stdin": b"".join(asked for asked, _ in rows()),
+        CRATE / "stdout": b"".join(given for _, given in rows()),
+        CRATE / "data/policy.toml": POLICY.encode(),
     }
     if sys.argv[1:] == ["write"]:
         for path, data in files.items():
@@ -459,7 +490,14 @@ def main():
     for path, data in files.items():
         if not path.is_file() or path.read_bytes() != data:
             sys.exit(f"{path.relative_to(TOP)} isn't as the tables have it")
-    print(f"{sum(1 for _ in rows())} requests and their answers, as crates/depot has them")
+    if os.access(DEPOT, os.X_OK):
+        run_program(CRATE / "data/policy.toml")
+        said = "and the built program answers them to the byte"
+    elif "DEPOT" in os.environ:
+        sys.exit(f"{DEPOT} isn't there")
+    else:
+        said = "but the program isn't built, and wasn't asked"
+    print(f"{sum(1 for _ in rows())} requests and their answers, as crates/depot has them, {said}")
 
 
 if __name__ == "__main__":

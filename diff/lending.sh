@@ -52,4 +52,4 @@ grep -q '^logic=proved' <<<"$said" || { echo "the program without the drop is re
 write "drop(heard);"
 said=$(check)
 grep -q 'borrow-e0505' <<<"$said" || { echo "the program with the drop is not refused by borrow-e0505:" "$said" >&2; exit 1; }
-echo "a Heard that is dropped is refused by borrow-e0505, and one that is kept lends its bag"
+echo "2 programs were checked: one that drops a Heard is refused by borrow-e0505, and one that keeps it lends its bag"

@@ -177,6 +177,7 @@ def desk(library, first, last):
         tally["ended" if ended.returncode else "answered" if wants else "did without"] += 1
     said = f"{tally['answered']} answered with 503, {tally['ended']} ended the program, {tally['did without']} made no difference"
     print(f"desk: {len(wanted)} requests, {sum(tally.values())} allocations refused: {said}", flush=True)
+    return sum(tally.values())
 
 
 def fault_of_asking(ended, again, wanted):
@@ -236,6 +237,7 @@ def ask(library, first, last):
                     sys.exit(f"ask, request {place + 1}, allocation {number}: {why}")
                 refused += 1
     print(f"ask: {len(given)} requests, {refused} allocations refused", flush=True)
+    return refused
 
 
 def hear(library, first, last):
@@ -259,6 +261,7 @@ def hear(library, first, last):
         refused += 1
         unheard += is_unheard
     print(f"hear: {refused} allocations refused, {unheard} of them left the request unheard", flush=True)
+    return refused
 
 
 def cases(group):
@@ -283,10 +286,12 @@ def cases(group):
             refused += 1
             without += wants == 0 and len(lines) == ended.stdout.count(b"\n")
         print(f"{group}: {count} cases, {refused} allocations refused, {without} of them made no difference", flush=True)
+        return refused
 
     return trial
 
 
+# Each group gives how many allocations were refused.
 GROUPS = {"desk": desk, "ask": ask, "hear": hear, **{it: cases(it) for it in ("bags", "office", "tables", "stored")}}
 
 
@@ -301,9 +306,8 @@ def main():
         sys.exit("the groups are " + ", ".join(GROUPS))
     with tempfile.TemporaryDirectory() as folder:
         library = compiled(pathlib.Path(folder))
-        for name in names:
-            GROUPS[name](library, first, last)
-    print(f"memory: each allocation refused in turn in {', '.join(names)}: nothing but want of memory, and nothing lost")
+        refused = sum(GROUPS[name](library, first, last) for name in names)
+    print(f"memory: {refused} allocations refused in turn in {', '.join(names)}: nothing but want of memory, and nothing lost")
 
 
 if __name__ == "__main__":

@@ -17,6 +17,7 @@ policy=$top/examples/policy.toml
 day=2024-03-01
 store=$folder/office.db
 commands=(policy ask replay 'replay --policy' serve)
+refusals=0
 first='{"accession":"A-1","bytes":3,"class":"y0","closed":"2024-02-29","collection":"maps","deposit":1,"deposited":"2024-03-01","due":"2024-02-29","files":1}'
 second='{"accession":"A-2","bytes":3,"class":"y10","closed":"2024-02-29","collection":"tax","deposit":2,"deposited":"2024-03-01","due":"2034-02-28","files":1}'
 long=$(printf 'x%.0s' {1..9000})
@@ -125,6 +126,7 @@ put() {
 # nothing and ends with 3, and the bytes of the store and the names beside it stay as they were.
 refuses() {
     local wanted=${3//STORE/"$2"} status=0 said
+    refusals=$((refusals + 1))
     cp "$2" "$folder/before"
     ls -A "$(dirname "$2")" >"$folder/names"
     put "$1" "$2" >"$folder/out" 2>"$folder/err" || status=$?
@@ -255,4 +257,4 @@ wait "$serving"
 echo "open elsewhere: ${#commands[@]} commands refuse a store that SQLite reads, has read or depot serves, and leave it as it was"
 
 python3 "$top/diff/serve_client.py" "$program" "$folder" "$policy" "$kills"
-echo "serve: curl, refused databases with a log, stores that are open elsewhere, all kinds of peers and $kills kills: as docs/ says"
+echo "serve: ${#cases[@]} requests by curl, $refusals refused commands on databases with a log and stores that are open elsewhere, all kinds of peers and $kills kills: as docs/ says"

@@ -16,6 +16,7 @@ import struct
 import subprocess
 import sys
 import time
+import tomllib
 
 PROGRAM, FOLDER, POLICY, KILLS = sys.argv[1], sys.argv[2], sys.argv[3], int(sys.argv[4])
 DAY = "2024-03-01"
@@ -30,8 +31,24 @@ EARLY = [
 ]
 
 
+# The rows that are counted in a copy of an office's file, and where they stand.
+COUNTED = {
+    "classes": "class",
+    "collections": "collection",
+    "kept deposits": "deposit WHERE gone IS NULL",
+    "destroyed deposits": "deposit WHERE gone IS NOT NULL",
+    "files": "file",
+    "live holds": "hold WHERE released IS NULL",
+    "released holds": "hold WHERE released IS NOT NULL",
+    "rules": "rule",
+    "callers": "caller",
+}
+
+
 class Office:
     """An office that serves over a file, until it is killed."""
+
+    peers = 0
 
     def __init__(self, store):
         words = [PROGRAM, "serve", "--port", "0", "--count", "1000000", store, DAY]
@@ -42,6 +59,7 @@ class Office:
         self.port = int(line.split()[1])
 
     def connect(self, patience=120):
+        Office.peers += 1
         peer = socket.create_connection(("127.0.0.1", self.port), timeout=patience)
         peer.setsockopt(socket.IPPROTO_TCP, socket.TCP_NODELAY, 1)
         return peer
@@ -261,6 +279,7 @@ def never_reading():
     with socket.socket() as peer:
         peer.setsockopt(socket.SOL_SOCKET, socket.SO_RCVBUF, 4096)
         peer.connect(("127.0.0.1", office.port))
+        Office.peers += 1
         peer.sendall(request("GET", "/deposits/1/bag"))
         began = time.monotonic()
         wants(ask(office, "GET", "/due"), 200, '{"day":"2024-03-01","deposits":[1]}')
@@ -320,6 +339,25 @@ class Kept:
         else:
             self.gone.add(number)
 
+    def counts(self):
+        """How many rows there have to be, of all that `COUNTED` names."""
+        with open(POLICY, "rb") as file:
+            policy = tomllib.load(file)
+        kept = len(self.bags) - len(self.gone)
+        return {
+            # (what `opened` puts there)
+            "classes": 1,
+            "collections": 1,
+            "kept deposits": kept,
+            "destroyed deposits": len(self.gone),
+            # (each bag has three)
+            "files": 3 * kept,
+            "live holds": len(self.holds) - len(self.released),
+            "released holds": len(self.released),
+            "rules": len(policy["rule"]),
+            "callers": len(policy["callers"]),
+        }
+
 
 ANSWERS = {
     "deposit": (201, '{{"deposit":{0}}}'),
@@ -360,8 +398,8 @@ def compare(office, kept, numbers):
             wants(ask(office, "GET", f"/deposits/{number}/bag"), 200, kept.bags[number])
 
 
-def is_whole(store):
-    """SQLite finds a copy of the file and its log whole."""
+def counted(store):
+    """SQLite finds a copy of the file and its log whole. Gives how many rows it has, by the names of `COUNTED`."""
     folder = os.path.join(FOLDER, "copy")
     shutil.rmtree(folder, ignore_errors=True)
     os.mkdir(folder)
@@ -369,8 +407,12 @@ def is_whole(store):
         if name.startswith(os.path.basename(store)):
             shutil.copy(os.path.join(FOLDER, name), folder)
     copy = os.path.join(folder, os.path.basename(store))
-    said = subprocess.run(["sqlite3", "-batch", copy, "PRAGMA integrity_check"], capture_output=True, text=True)
-    assert said.stdout == "ok\n", said
+    counts = ", ".join(f"(SELECT count(*) FROM {rows})" for rows in COUNTED.values())
+    text = f"PRAGMA integrity_check; SELECT {counts};"
+    said = subprocess.run(["sqlite3", "-batch", "-list", copy, text], capture_output=True, text=True)
+    lines = said.stdout.splitlines()
+    assert lines[:1] == ["ok"] and len(lines) == 2, said
+    return dict(zip(COUNTED, map(int, lines[1].split("|"))))
 
 
 def killed():
@@ -397,7 +439,7 @@ def killed():
             # Some are killed at once, and some late: so some are done and some not, however fast the machine is.
             time.sleep(chance.random() * chance.choice((0, 0.006, 0.006, 0.05)))
         office.kill()
-        is_whole(store)
+        found = counted(store)
         office = Office(store)
         if pending:
             peer.close()
@@ -410,14 +452,19 @@ def killed():
                 found_done += 1
             else:
                 found_undone += 1
+        # What stood there when it was killed is what was answered, and what the request that it was killed in did.
+        assert found == kept.counts(), (found, kept.counts())
         compare(office, kept, set(list(kept.bags)[-5:]) | set(chance.sample(sorted(kept.bags), min(3, len(kept.bags)))))
     compare(office, kept, kept.bags)
     office.kill()
+    found = counted(store)
+    assert found == kept.counts(), (found, kept.counts())
     if KILLS >= 100:
         assert found_done and found_undone, f"some done and some not are wanted, and {found_done} were done and {found_undone} not"
     print(
         f"killed {KILLS} times: {answered} answers were kept, and of the requests that it was killed in "
-        f"{found_done} were done and {found_undone} not, and none of {halves} that were sent by half"
+        f"{found_done} were done and {found_undone} not, and none of {halves} that were sent by half; each time sqlite3 "
+        f"counted just the rows of these, and at last {', '.join(f'{count} {rows}' for rows, count in found.items())}"
     )
 
 
@@ -429,6 +476,6 @@ going_away()
 never_reading()
 killed()
 print(
-    "serve_client: cut and dribbled requests, another address, answers before all has come, peers that go, reset, stay, stop "
-    f"or don't read, and {KILLS} kills: as docs/HTTP.md says"
+    f"serve_client: {Office.peers} connections, with cut and dribbled requests, another address, answers before all has come, "
+    f"peers that go, reset, stay, stop or don't read, and {KILLS} kills: as docs/HTTP.md says"
 )

@@ -24,4 +24,4 @@ if "$program" write "$file" >/dev/null 2>&1; then
     exit 1
 fi
 sqlite3 -batch "$file" <"$top/diff/rows.sql" | diff -u "$top/diff/rows.txt" -
-echo "sqlite3 finds the $(wc -l <"$top/diff/rows.txt") rows that were written"
+echo "sqlite3 finds the $(wc -l <"$top/diff/rows.txt") rows that were written and the $(wc -l <"$top/diff/schema.sql") texts of the schema, and its own tests pass"
