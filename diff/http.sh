@@ -1,0 +1,85 @@
+#!/usr/bin/env bash
+# Asks an office all that docs/HTTP.md has by an example, in the order of the page: each route, what the desk
+# refuses and what the office refuses. A new office is made and served as the page says, on a port that the
+# machine picks, and each answer is compared with the page's: its status and its body (of the desk's refusals
+# the name). Needs curl and python3, which stands in for `nc`. Words: the program, `depot` of the
+# repository if left out.
+set -eu
+top=$(dirname "$(readlink -f "$0")")/..
+program=$(readlink -f "${1:-$top/depot}")
+room=$(mktemp -d)
+serving=
+trap '[ -z "$serving" ] || kill "$serving" 2>/dev/null; rm -rf "$room"' EXIT
+cp -a "$top/examples" "$room/examples"
+cd "$room"
+
+# The requests of a section of the page, a line each with its answer: REQUEST TAB ANSWER.
+examples() {
+    python3 - "$top/docs/HTTP.md" "$1" <<'SCRIPT'
+import re
+import sys
+
+page, heading = open(sys.argv[1], encoding="utf-8").read(), sys.argv[2]
+part = page.split(f"\n## {heading}\n", 1)[1].split("\n## ", 1)[0]
+request = None
+for block in re.findall(r"^```\n(.*?)^```$", part, re.M | re.S):
+    for line in block.replace("\\\n     ", "").splitlines():
+        if line.startswith("# "):
+            print(f"{request}\t{line[2:]}")
+        elif line.startswith(("curl ", "printf ")):
+            request = line
+            if cut := re.search(r" +# (\d.*)$", line):
+                print(f"{line[:cut.start()]}\t{cut[1]}")
+SCRIPT
+}
+
+curl() { command curl -sS -w '\n%{http_code}' "$@"; }
+
+# Sends what comes, ends its side, and prints what is answered.
+nc() {
+    python3 -c '
+import socket, sys
+peer = socket.create_connection((sys.argv[2], int(sys.argv[3])), timeout=60)
+peer.sendall(sys.stdin.buffer.read())
+peer.shutdown(socket.SHUT_WR)
+while chunk := peer.recv(65536):
+    sys.stdout.buffer.write(chunk)
+' "$@"
+}
+
+"$program" policy office.db examples/policy.toml >/dev/null
+"$program" serve --port 0 --count 1000 office.db 2024-03-01 >said &
+serving=$!
+until grep -qs listening said; do
+    kill -0 "$serving" || exit 1
+    sleep 0.1
+done
+port=$(sed 's/listening //' said)
+OFFICE=http://127.0.0.1:$port
+
+asked=0
+for section in 'Each route by an example' 'What the desk refuses' 'What the office refuses'; do
+    while IFS=$'\t' read -r request wanted <&3; do
+        came=$(eval "${request//127.0.0.1 8080/127.0.0.1 $port}" 2>&1 </dev/null | tr -d '\r')
+        if [[ $request == printf* ]]; then
+            came="$(sed -n '1s/HTTP.1.1 \([0-9]*\).*/\1/p' <<<"$came") $(tail -n 1 <<<"$came")"
+        else
+            body=$(sed '$d' <<<"$came")
+            allow=$(sed -n 's/^Allow: //p' <<<"$body")
+            came="$(tail -n 1 <<<"$came") $(tail -n 1 <<<"$body")${allow:+, and Allow: $allow}"
+        fi
+        if [ "$section" = 'What the desk refuses' ]; then
+            came=$(sed 's/{"error":"\([A-Za-z]*\)"}/\1/' <<<"$came")
+        fi
+        if [[ $request == *back.bagset* ]] && cmp -s back.bagset examples/bag-a.bagset; then
+            came="200, and back.bagset is what was deposited, byte for byte"
+        fi
+        if [ "$came" != "${wanted#E[0-9]*: }" ]; then
+            printf 'docs/HTTP.md: %s\nis answered there with: %s\nand this came: %s\n' "$request" "$wanted" "$came" >&2
+            exit 1
+        fi
+        asked=$((asked + 1))
+    done 3< <(examples "$section")
+done
+[ "$asked" -ge 47 ] || { echo "docs/HTTP.md has $asked examples, and 47 or more are wanted" >&2; exit 1; }
+echo "http: $asked examples of docs/HTTP.md, answered as the page says"
