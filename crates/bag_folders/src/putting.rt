@@ -55,7 +55,7 @@ fn fill_and_rename<R: Files + AllocGlobal>(
 ) -> Result<(), Failed> {
     if let Err(error) = fill(opened, bytes) {
         let _ = fs::remove_file(rt, beside);
-        return Err(failed_at(rt.alloc(), Tried::Write, beside, error));
+        return Err(failed_at(rt.alloc(), Tried::Write, file, error));
     }
     if let Err(error) = fs::rename(rt, beside, file) {
         let _ = fs::remove_file(rt, beside);
@@ -80,7 +80,7 @@ pub fn put<R: Files + AllocGlobal>(rt: &R, file: &str, bytes: &[u8]) -> Result<(
             Ok(opened) => return fill_and_rename(rt, opened, beside.as_str(), file, bytes),
             Err(error) => {
                 if error.kind() != ErrorKind::AlreadyExists {
-                    return Err(failed_at(rt.alloc(), Tried::Make, beside.as_str(), error));
+                    return Err(failed_at(rt.alloc(), Tried::Make, file, error));
                 }
             }
         }

@@ -22,8 +22,8 @@ use Rattle.office_recovery.specs.Found.{HoldsWhere}
 use Rattle.office_engine.specs.Keeping.{IsKeptBy, IsLeftOf, IsReached, with_policy}
 use Rattle.desk_listening.specs.Listening.{Connection, served, refused, lost, IsAfterAll}
 use Rattle.office_commands.specs.Answering.{StopsFrom, after_install, made_office}
-use Rattle.office_commands.specs.Listening.{Listens, ServesFrom}
-use Rattle.office_commands.specs.Stores.{DoesAndCloses, DoesInMemory, IsDoneAndClosed, IsDoneInFile, IsDoneInMemory, LeadsInto, ServesAndCloses, ServesInMemory, StopsAndCloses, StopsInFile, StopsInMemory}
+use Rattle.office_commands.specs.Listening.{Listens, ListensSomewhere, RunsBy, SoMany}
+use Rattle.office_commands.specs.Stores.{DoesAndCloses, DoesInMemory, IsDoneAndClosed, IsDoneInFile, IsDoneInMemory, LeadsInto, ServesAndCloses, ServesInFile, ServesInMemory, StopsAndCloses, StopsInFile, StopsInMemory}
 use Rattle.office_commands.specs.Tasks.{Does, DoesFrom, Stops}
 use Rattle.office_commands.specs.Working.{StopsUnder, whole_of}
 use Rattle.office_commands.specs.declared.fault.CommandFault.{CommandFault}
@@ -66,11 +66,11 @@ serves_cleans g day (served bytes item answer whole ∷ more) old new all clean 
 serves_cleans g day (refused bytes refusal ∷ more) old new all clean = subst (λ (s : Held _). HasCleanDisk (state g s)) all.1.1 (serves_cleans g day more all.0 new all.2 clean)
 serves_cleans g day (lost ∷ more) old new all clean = subst (λ (s : Held _). HasCleanDisk (state g s)) all.1 (serves_cleans g day more all.0 new all.2 clean)
 
-pub carries_connections : {S : Type 0} (g : Ghosts S) (day : Date) (count : ℕ) (held holds : Option (List ℕ))
-    → Carries g (λ old new. (port : ℕ) × Listens g day count port old new held holds) (λ h next. ServesFrom h count next)
-carries_connections g day count held holds = record {
-  cleans = λ old new listens clean. serves_cleans g day listens.1.0 old new listens.1.2 clean;
-  leads = λ old new listens clean h legal keeps. let it = listens.1.3 clean h legal keeps in (it.0, (listens.1.0, listens.1.1, it.1), it.2);
+pub carries_connections : {S : Type 0} (g : Ghosts S) (day : Date) (connections : List Connection) (held holds : Option (List ℕ))
+    → Carries g (λ old new. ListensSomewhere g day connections old new held holds) (RunsBy connections)
+carries_connections g day connections held holds = record {
+  cleans = λ old new listens clean. serves_cleans g day connections old new listens.1.0 clean;
+  leads = λ old new listens clean h legal keeps. listens.1.1 clean h legal keeps;
 }
 
 -- ---- with an office that was just made in memory, whose disk is always clean
@@ -95,9 +95,10 @@ stop_in_memory r task a b first last was_left left held holds limits made stops 
     stopped_alike r task _ _ (λ policy index is. done_in_memory _ _ a b first last (carries_stop over_memory policy index was_left left held holds) limits made is) stops
 
 pub served_in_memory : {T E : Type 0} (r : Result T E) (day : Date) (count a b : ℕ) (first last : Held MemStore) (held holds : Option (List ℕ)) → (a ≡ max_limit) × (b ≡ max_limit)
-    → (HasCleanDisk (state over_memory first) → IsKeptBy (new_history a b) (state over_memory first)) → OnOk r ((port : ℕ) × Listens over_memory day count port first last held holds)
+    → (HasCleanDisk (state over_memory first) → IsKeptBy (new_history a b) (state over_memory first)) → OnOk r ((port : ℕ) × SoMany count (λ connections. Listens over_memory day port connections first last held holds))
     → OnOk r (ServesInMemory day count held holds)
-served_in_memory (Ok x) day count a b first last held holds limits made listens = done_in_memory _ _ a b first last (carries_connections over_memory day count held holds) limits made listens
+served_in_memory (Ok x) day count a b first last held holds limits made listens =
+    let it = listens.1 in (it.0, it.1, done_in_memory _ _ a b first last (carries_connections over_memory day it.0 held holds) limits made (listens.0, it.2))
 served_in_memory (Err e) day count a b first last held holds limits made listens = tt
 
 -- ---- with an office in a file
@@ -136,8 +137,14 @@ stop_and_closed g task fault first last files was_left left held holds copied st
     stopped_so task fault _ _ (λ policy index is. (files, done_and_closed g _ _ first last files (carries_stop over_files policy index was_left left held holds) copied is)) stops
 
 pub served_and_closed : {D : Type 0} (g : Disks D) (day : Date) (count : ℕ) (first last : Held (FileStore D g)) (files : Files D) (held holds : Option (List ℕ))
-    → (AreClean g files.log files.db → IsCopied last files) → ((port : ℕ) × Listens over_files day count port first last held holds) → ServesAndCloses g first files day count held holds
-served_and_closed g day count first last files held holds copied listens = done_and_closed g _ _ first last files (carries_connections over_files day count held holds) copied listens
+    → (AreClean g files.log files.db → IsCopied last files) → ((port : ℕ) × SoMany count (λ connections. Listens over_files day port connections first last held holds)) → ServesAndCloses g first files day count held holds
+served_and_closed g day count first last files held holds copied listens =
+    let it = listens.1 in (it.0, it.1, done_and_closed g _ _ first last files (carries_connections over_files day it.0 held holds) copied (listens.0, it.2))
+
+-- so many connections, with an office in a file
+pub served_in_file : {D : Type 0} (g : Disks D) (first : Image) (day : Date) (count : ℕ) (old : Held (FileStore D g)) (files : Files D) (held holds : Option (List ℕ))
+    → (HasCleanDisk (file_state old) → (h : History) → HoldsWhere (IsLeftOf h) first → IsKeptBy h (file_state old)) → ServesAndCloses g old files day count held holds → ServesInFile g first day count held holds
+served_in_file g first day count old files held holds found all = (all.0, all.1, done_in_file g first _ _ old files found all.2)
 
 -- what a stop comes to in the file
 pub stop_in_file : {D : Type 0} (g : Disks D) (first : Image) (task : Task) (fault : CommandFault) (old : Held (FileStore D g)) (was_left left held holds : Option (List ℕ))

@@ -27,7 +27,6 @@ use Rattle.office_recovery.proofs.Settled.{left_from}
 use Rattle.office_engine.specs.Keeping.{IsKeptBy, IsLeftOf, IsReached}
 use Rattle.office_engine.proofs.Kept.{rows_left}
 use Rattle.jiff.specs.Types.{Date}
-use Rattle.office_commands.specs.Listening.{Listens, ServesFrom}
 use Rattle.office_commands.specs.Tasks.{Does, DoesFrom}
 use Rattle.office_commands.specs.declared.task.Task.{Task}
 use Rattle.office_commands.proofs.TaskLemmas.{done_from}

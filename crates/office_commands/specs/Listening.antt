@@ -12,15 +12,22 @@ use Rattle.desk_listening.specs.Listening.{Connection, IsAfterAll, IsRun, answer
 abbrev pub listening_text : ℕ → List ℕ
 listening_text port = codes "listening " ++ (decimal port ++ 10 ∷ [])
 
--- so many connections make this history of an office: what was served in them is a run
-abbrev pub ServesFrom : History → ℕ → History → Type 0
-ServesFrom h count next = (connections : List Connection) × (length connections ≡ count) × Run h (items_of connections) (answers_of connections) next
+-- so many connections, of which this is so
+abbrev pub SoMany : ℕ → (List Connection → Type 0) → Type 0
+SoMany count Are = (connections : List Connection) × (length connections ≡ count) × Are connections
+
+-- what the office served in these connections is a run
+abbrev pub RunsBy : List Connection → History → History → Type 0
+RunsBy connections h next = Run h (items_of connections) (answers_of connections) next
 
 -- the line of some port is printed
 abbrev pub TellsPort : Option (List ℕ) → Option (List ℕ) → Type 0
 TellsPort held holds = (port : ℕ) × Appends held holds (listening_text port)
 
--- the port is told, and so many connections are served on that day, one after the other; what the office serves in them is a run
-abbrev pub Listens : {S : Type 0} → Ghosts S → Date → ℕ → ℕ → Held S → Held S → Option (List ℕ) → Option (List ℕ) → Type 0
-Listens g day count port old new held holds =
-    (connections : List Connection) × (length connections ≡ count) × IsAfterAll g day connections old new × IsRun g connections old new × Appends held holds (listening_text port)
+-- the port is told, and these connections are served on that day, one after the other; what the office serves in them is a run
+abbrev pub Listens : {S : Type 0} → Ghosts S → Date → ℕ → List Connection → Held S → Held S → Option (List ℕ) → Option (List ℕ) → Type 0
+Listens g day port connections old new held holds = IsAfterAll g day connections old new × IsRun g connections old new × Appends held holds (listening_text port)
+
+-- the same, of some port
+abbrev pub ListensSomewhere : {S : Type 0} → Ghosts S → Date → List Connection → Held S → Held S → Option (List ℕ) → Option (List ℕ) → Type 0
+ListensSomewhere g day connections old new held holds = (port : ℕ) × Listens g day port connections old new held holds

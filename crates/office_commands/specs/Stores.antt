@@ -17,7 +17,7 @@ use Rattle.office_history.specs.Runs.{IsLegal}
 use Rattle.office_recovery.specs.Found.{HoldsWhere}
 use Rattle.office_engine.specs.Keeping.{IsKeptBy, IsLeftOf, IsReached}
 use Rattle.office_commands.specs.Answering.{StopsFrom, after_install, made_office}
-use Rattle.office_commands.specs.Listening.{Listens, ServesFrom}
+use Rattle.office_commands.specs.Listening.{ListensSomewhere, RunsBy, SoMany}
 use Rattle.office_commands.specs.Tasks.{Does, DoesFrom, IsStoppedBy}
 use Rattle.office_commands.specs.Working.{StopsUnder}
 use Rattle.office_commands.specs.declared.fault.CommandFault.{CommandFault}
@@ -101,15 +101,17 @@ StopsInFile g first task fault was_left left held holds =
 
 -- ---- connections
 
--- so many connections are served with a new office in memory, behind the line of some port
+-- so many connections are served with a new office in memory, behind the line of some port, and it is their run that its history leads by
 abbrev pub ServesInMemory : Date → ℕ → Option (List ℕ) → Option (List ℕ) → Type 0
-ServesInMemory day count held holds = IsDoneInMemory (λ old new. (port : ℕ) × Listens over_memory day count port old new held holds) (λ h next. ServesFrom h count next)
+ServesInMemory day count held holds =
+    SoMany count (λ connections. IsDoneInMemory (λ old new. ListensSomewhere over_memory day connections old new held holds) (RunsBy connections))
 
 -- with an open office, that is closed into these files
 abbrev pub ServesAndCloses : {D : Type 0} (g : disk.Ghosts D) → Held (FileStore D g) → Files D → Date → ℕ → Option (List ℕ) → Option (List ℕ) → Type 0
 ServesAndCloses g old files day count held holds =
-    IsDoneAndClosed g old files (λ old new. (port : ℕ) × Listens over_files day count port old new held holds) (λ h next. ServesFrom h count next)
+    SoMany count (λ connections. IsDoneAndClosed g old files (λ old new. ListensSomewhere over_files day connections old new held holds) (RunsBy connections))
 
 -- with the office in a file
 abbrev pub ServesInFile : {D : Type 0} → disk.Ghosts D → Image → Date → ℕ → Option (List ℕ) → Option (List ℕ) → Type 0
-ServesInFile g first day count held holds = IsDoneInFile g first (λ old new. (port : ℕ) × Listens over_files day count port old new held holds) (λ h next. ServesFrom h count next)
+ServesInFile g first day count held holds =
+    SoMany count (λ connections. IsDoneInFile g first (λ old new. ListensSomewhere over_files day connections old new held holds) (RunsBy connections))

@@ -2,7 +2,7 @@
 
 ghost use Rattle.std.specs.Prelude.{◌≡◌, ℕ, IfErr, IfOk, OnOk, Some, string_bytes};
 ghost use Rattle.std.specs.Io.KnownBytes.{Appends};
-ghost use Rattle.office_commands.specs.Listening.{Listens, listening_text};
+ghost use Rattle.office_commands.specs.Listening.{Listens, SoMany, listening_text};
 ghost use Rattle.office_commands.specs.Texts.{IsFailure};
 ghost use Rattle.office_commands.specs.declared.fault.Cause.TheVariants.{Listen};
 ghost use Rattle.office_commands.specs.declared.fault.CommandFault.TheVariants.{Failed};
@@ -84,8 +84,8 @@ fn serve_office<S: Alter, O: Write>(
     count: u32,
     out: &mut Counted<O>,
 ) -> Result<(), CommandFault>
-    ensures served { OnOk result (Listens S.Store day count desk.now.port office.old office.new
-        (O.contents out.old.device) (O.contents out.new.device)) }
+    ensures served { OnOk result (SoMany count (λ connections. Listens S.Store day desk.now.port connections
+        office.old office.new (O.contents out.old.device) (O.contents out.new.device))) }
     ensures failure { IfErr result IsFailure }
 {
     say_listening(alloc, desk.port, out)?;
@@ -104,8 +104,8 @@ pub fn serve_at<S: Alter, O: Write>(
     count: u32,
     out: &mut Counted<O>,
 ) -> Result<(), CommandFault>
-    ensures served { OnOk result ((taken : ℕ) × Listens S.Store day count taken office.old office.new
-        (O.contents out.old.device) (O.contents out.new.device)) }
+    ensures served { OnOk result ((taken : ℕ) × SoMany count (λ connections. Listens S.Store day taken connections
+        office.old office.new (O.contents out.old.device) (O.contents out.new.device))) }
     ensures failure { IfErr result IsFailure }
 {
     let desk = desk_at(rt, port)?;

@@ -1,5 +1,5 @@
 -- What a command on a store comes to, where it ends.
-use Rattle.std.proofs.Common.{◌≡◌, ap, subst, sym}
+use Rattle.std.proofs.Common.{◌≡◌, ap, refl, subst, sym}
 use Rattle.std.specs.Prelude.{ℕ, List, Option, Result, Ok, Err, None, IfErr, IfOk, OnOk, option_map, string_bytes}
 use denote.Ref.{Bor}
 use Rattle.jiff.specs.Types.{Date}
@@ -14,8 +14,8 @@ use Rattle.office_commands.specs.Texts.{IsFailure}
 use Rattle.office_commands.specs.declared.fault.CommandFault.{CommandFault}
 use Rattle.office_commands.specs.declared.running.PolicyOutcome.{PolicyOutcome}
 use Rattle.store_words.specs.declared.store_line.StoreLine.{StoreLine}
-use Rattle.store_words.specs.declared.store_line.StoreLine.TheVariants.{Ask, Policy, Replay, Serve}
-use Rattle.program.specs.Running.{CanStop, IsDone, IsStored, StopsStore}
+use Rattle.store_words.specs.declared.store_line.StoreLine.TheVariants.{Ask, Pack, Policy, Replay, Serve, Unpack}
+use Rattle.program.specs.Running.{CanStop, IsDone, IsStored, LeavesInput, StopsStore}
 use Rattle.program.specs.declared.done.Done.{Done}
 use Rattle.program.specs.declared.stopped.Stopped.{Stopped}
 use Rattle.program.specs.declared.stopped.Stopped.TheVariants.{Store}
@@ -91,3 +91,19 @@ module _ {D : Type 0} (g : Ghosts D) (first : Image) (line : StoreLine) (was_lef
 
     pub serve_stopped : (port count : ℕ) (store : Bor (List ℕ)) (day : Date) → line ≡ Serve port count store day → IfErr ended IsFailure → IsStoppedOf line
     serve_stopped port count store day at fails = subst IsStoppedOf (sym at) (stored_stopped IsFailure ended result is fails)
+
+-- what is not touched is left as it was, whatever the line asks for
+pub untouched : (line : StoreLine) (left : Option (List ℕ)) → LeavesInput line left left
+untouched (Pack folder file) left = refl
+untouched (Unpack file folder) left = refl
+untouched (Policy store policy) left = refl
+untouched (Ask store day) left = tt
+untouched (Replay policy store) left = tt
+untouched (Serve port count store day) left = refl
+
+-- the input may be read for a request, or for records
+pub may_ask : (line : StoreLine) (store : Bor (List ℕ)) (day : Date) (was_left left : Option (List ℕ)) → line ≡ Ask store day → LeavesInput line was_left left
+may_ask line store day was_left left at = subst (λ l. LeavesInput l was_left left) (sym at) tt
+
+pub may_replay : (line : StoreLine) (policy : Option (Bor (List ℕ))) (store : Bor (List ℕ)) (was_left left : Option (List ℕ)) → line ≡ Replay policy store → LeavesInput line was_left left
+may_replay line policy store was_left left at = subst (λ l. LeavesInput l was_left left) (sym at) tt

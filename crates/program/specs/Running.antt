@@ -34,6 +34,15 @@ IsDone g first (Ask store day) was_left left held holds reason ending = IsStored
 IsDone g first (Replay policy store) was_left left held holds reason ending = IsStored reason ending (ReplaysOn g first store.now policy was_left left held holds)
 IsDone g first (Serve port count store day) was_left left held holds reason ending = IsStored reason ending (TellsPort held holds × ServesOn g first store.now day count held holds)
 
+-- the input is left as it was, where the line asks neither for a request nor for records of requests
+abbrev pub LeavesInput : StoreLine → Option (List ℕ) → Option (List ℕ) → Type 0
+LeavesInput (Pack folder file) was_left left = left ≡ was_left
+LeavesInput (Unpack file folder) was_left left = left ≡ was_left
+LeavesInput (Policy store policy) was_left left = left ≡ was_left
+LeavesInput (Ask store day) was_left left = ⊤
+LeavesInput (Replay policy store) was_left left = ⊤
+LeavesInput (Serve port count store day) was_left left = left ≡ was_left
+
 -- a folder, a file, memory or standard output failed
 abbrev pub StopsFolders : Stopped → Type 0
 StopsFolders (Folder failed) = ⊤
@@ -56,12 +65,13 @@ CanStop g first (Ask store day) stopped was_left left held holds = StopsStore Is
 CanStop g first (Replay policy store) stopped was_left left held holds = StopsStore (λ fault. StopsOn g first store.now policy fault was_left left held holds) stopped
 CanStop g first (Serve port count store day) stopped was_left left held holds = StopsStore IsFailure stopped
 
--- what the line asks for is done, and standard error is told why the answer is no, where that is so, and nothing else; or it comes to no end, of what
--- can stop it, and standard error is told why
+-- What the line asks for is done, and standard error is told why the answer is no, where that is so, and nothing else; or it comes to no end, of what
+-- can stop it, and standard error is told why. The input is left as it was, where the line doesn't ask for it.
 abbrev pub Comes : {D : Type 0} → Ghosts D → Image → StoreLine → Option (List ℕ) → Option (List ℕ) → Option (List ℕ) → Option (List ℕ) → Option (List ℕ) → Option (List ℕ) → Type 0 → Ending → Type 0
 Comes g first line was_left left held holds told tells quiet ending =
-    ((reason : Option (List ℕ)) × (end : Ending) × IsDone g first line was_left left held holds reason end × IsToldWhy reason end told tells quiet ending)
-    ⊎ ((stopped : Stopped) × CanStop g first line stopped was_left left held holds × IsToldOf stopped told tells ending)
+    LeavesInput line was_left left
+    × (((reason : Option (List ℕ)) × (end : Ending) × IsDone g first line was_left left held holds reason end × IsToldWhy reason end told tells quiet ending)
+    ⊎ ((stopped : Stopped) × CanStop g first line stopped was_left left held holds × IsToldOf stopped told tells ending))
 
 -- the words ask for a line, and it comes to this; or there was no memory to read them
 abbrev pub ComesOfWords : {D : Type 0} → Ghosts D → Image → List Text → Option (List ℕ) → Option (List ℕ) → Option (List ℕ) → Option (List ℕ) → Option (List ℕ) → Option (List ℕ) → Type 0 → Ending → Type 0

@@ -4,7 +4,7 @@ ghost use Rattle.std.specs.Prelude.{◌≡◌, IfErr, IfOk, None, option_map, st
 ghost use Rattle.sqlite.specs.WalFiles.{image_at};
 ghost use Rattle.office_commands.specs.declared.fault.CommandFault.{CommandFault};
 ghost use Rattle.office_commands.specs.declared.running.PolicyOutcome.{PolicyOutcome};
-ghost use Rattle.program.specs.Running.{CanStop, IsDone};
+ghost use Rattle.program.specs.Running.{CanStop, IsDone, LeavesInput};
 ghost use Rattle.program.specs.declared.stopped.Stopped.TheVariants.{Store};
 
 use crate::done::Done;
@@ -62,6 +62,7 @@ pub fn perform<S: Start, R: Read, O: Write>(
     ensures stopped { IfErr result (λ stopped. CanStop ⟦<FileFrom<S> as Disk>⟧ (image_at S.Start) line.now stopped
         (R.remaining input.old.device) (R.remaining input.new.device)
         (O.contents out.old.device) (O.contents out.new.device)) }
+    ensures leaves { LeavesInput line.now (R.remaining input.old.device) (R.remaining input.new.device) }
 {
     match *line {
         StoreLine::Pack { folder, file } => pack_folder(rt, folder, file, out),

@@ -94,7 +94,8 @@ pub fn run<S: Start, R: Read, O: Write, E: Write>(
     ensures left { NamesOne (texts words.now) → AskNothing (texts words.now)
         → (out.new ≡ out.old) × (input.new ≡ input.old) }
     // What such words ask for is done, and standard error told why the answer is no, where that is so,
-    // and nothing else; or it comes to no end, of what can stop it, and standard error is told why.
+    // and nothing else; or it comes to no end, of what can stop it, and standard error is told why. Only
+    // `ask` and `replay` touch the input.
     ensures asked { (line : StoreLine) → Asks (texts words.now) line
         → ComesOfWords ⟦<FileFrom<S> as Disk>⟧ (image_at S.Start) (texts words.now) (R.remaining input.old.device)
         (R.remaining input.new.device) (O.contents out.old.device) (O.contents out.new.device)

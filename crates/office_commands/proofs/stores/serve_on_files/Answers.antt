@@ -2,7 +2,7 @@ use Rattle.office_commands.proofs.CarryingLemmas.{served_and_closed}
 use Rattle.office_commands.proofs.stores.serve_on_files.Goals as goal
 
 pub returns-clause-told : goal.returns-clause-told
-returns-clause-told g c = (c.in_ok-served.ensures.served.0, c.in_ok-served.ensures.served.1.4)
+returns-clause-told g c = (c.in_ok-served.ensures.served.0, c.in_ok-served.ensures.served.1.2.2)
 
 pub returns-clause-served : goal.returns-clause-served
 returns-clause-served g c =
