@@ -1,5 +1,5 @@
 -- Reading the value of a `Payload-Oxum` gives the counts that it names.
-use Rattle.std.proofs.Common.{◌≡◌, ℕ, ◌+◌, ◌≤◌, suc, Bool, true, false, cond, not, eqb, ◌&&◌, List, [], ◌∷◌, ◌++◌, length, take, drop, refl, sym, ap, subst, ◌∙◌, arith, append_assoc}
+use Rattle.std.proofs.Common.{◌≡◌, ℕ, ◌+◌, ◌≤◌, Bool, true, false, cond, not, eqb, ◌&&◌, List, [], ◌∷◌, ◌++◌, length, take, drop, refl, sym, ap, subst, ◌∙◌, arith, append_assoc}
 use Rattle.std.specs.Prelude.{Option, Some, None, nat_le}
 use Rattle.std.specs.List.{list_all}
 use Rattle.std.specs.Char.{is_ascii_digit}
@@ -9,15 +9,12 @@ use Rattle.std.proofs.lemmas.List.{take-append-drop}
 use Rattle.std.proofs.lemmas.List.Sums.{prefix_len-le-length}
 use Rattle.std.proofs.lemmas.Option.{same_Some}
 use Rattle.bag_text.specs.Text.{is_blank, AreBlanks}
+use Rattle.bag_text.proofs.LineLemmas.{one_plus}
 use Rattle.bag_check.specs.Validity.{number_from, IsNumber, NamesCounts}
 use Rattle.bag_check.specs.OxumReading.{digit_len, digits_in, behind_digits, number_of, behind_stop, last_number, with_files, with_rest, with_bytes, counts_of}
 use Rattle.bag_check.proofs.OxumLemmas.{Stops, same_run, blanks_stop}
 
 -- ---- the digits at the front
-
--- one more than a number is the next
-one_plus : (n : ℕ) → 1 + n ≡ suc n
-one_plus n = omega arith
 
 -- they stand within the text
 pub digits_fit : (t : List ℕ) → digit_len t ≤ length t

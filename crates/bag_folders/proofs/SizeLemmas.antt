@@ -1,5 +1,5 @@
 -- The fault of files, told by their paths and sizes.
-use Rattle.std.proofs.Common.{◌≡◌, ◌≢◌, ℕ, zero, suc, ◌+◌, ◌<◌, ◌≤◌, Bool, true, false, ltb, leb, not, cond, ◌||◌, List, [], ◌∷◌, ◌++◌, length, take, map, refl, sym, ap, ap₂, subst, ◌∙◌, arith}
+use Rattle.std.proofs.Common.{◌≡◌, ◌≢◌, ℕ, zero, suc, ◌+◌, ◌<◌, ◌≤◌, Bool, true, false, ltb, leb, cond, ◌||◌, List, [], ◌∷◌, ◌++◌, length, take, map, refl, sym, ap, ap₂, subst, ◌∙◌, arith}
 use Rattle.std.specs.Prelude.{Option, Some, None, Result, Ok, Err, bytes_eq, codes, string_bytes}
 use Rattle.std.specs.List.{list_any, position_from, sum_by, flat_map}
 use Rattle.std.specs.Borrow.{Bor}
@@ -11,15 +11,12 @@ use Rattle.bag_text.specs.TransferReading.{files_of}
 use Rattle.bag_text.specs.BagList.{ListFault, file_fault, or_else, fault_from, clash_fault, list_fault}
 use Rattle.bag_text.specs.declared.set_fault.SetFault.{SetFault}
 use Rattle.bag_text.specs.declared.set_fault.SetFault.TheVariants.{BadOpening, BadEntry, Truncated, OutOfOrder, BadPath, TooManyFiles, TrailingBytes, PathClash, Memory}
-use Rattle.bag_text.proofs.ListLemmas.{list_fault_law, list_bag_law}
+use Rattle.bag_text.proofs.ListLemmas.{judged, list_fault_law, list_bag_law, some}
 use Rattle.bag_folders.specs.declared.listed.Listed.{Listed}
 use Rattle.bag_folders.specs.declared.pack_fault.PackFault.{PackFault}
 use Rattle.bag_folders.specs.declared.pack_fault.PackFault.TheVariants as packing
 use Rattle.bag_folders.specs.Packing.{AreFilesOf, HasNoForm, IsNamedAs, listed_paths, path_at_fault, paths_of}
 use Rattle.bag_folders.specs.Sizes.{Judged, emptied, is_too_long, with_long}
-
-abbrev some : SetFault → Option SetFault
-some f = Some f
 
 -- ---- one file
 
@@ -34,9 +31,6 @@ long_fault : (place : ℕ) (before : List ℕ) (l : Listed) (f : File) → lengt
 long_fault place before l f size long =
     let a : ltb max_content (length f.content) ≡ true = rw size long in
     rw a refl
-
-abbrev judged : ℕ → Bool → Bool → Bool → Bool → Option SetFault
-judged place long full good up = cond long (Some (BadEntry place)) (cond full (Some TooManyFiles) (cond (not good) (Some (BadPath place)) (cond (not up) (Some (OutOfOrder place)) None)))
 
 -- one file doesn't clash
 one_apart : (place : ℕ) (before : List ℕ) (f : File) → file_fault place before f ≡ Some PathClash → ⊥

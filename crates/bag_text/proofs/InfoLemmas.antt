@@ -4,7 +4,7 @@ use Rattle.std.specs.Prelude.{Result, Ok, Err, ◌↔◌}
 use Rattle.std.specs.List.{list_any, list_all, position_or_len, flat_map}
 use Rattle.std.specs.Str.{is_utf8}
 use Rattle.std.proofs.lemmas.List.{append-nil}
-use Rattle.std.proofs.lemmas.Bool.{or_parts}
+use Rattle.std.proofs.lemmas.Bool.{and_parts, or_parts}
 use Rattle.std.proofs.lemmas.Bool.Decides.{nat_tests}
 use Rattle.std.proofs.lemmas.List.Folds.{list_any-append}
 use Rattle.bag_text.specs.Text.{is_blank, AreBlanks, has_mark, begins_with, skip_blanks, drop_last_blanks}
@@ -15,9 +15,7 @@ use Rattle.bag_text.specs.BagInfo.{Pair, begins_blank, is_colon, IsPairLine, Are
 use Rattle.bag_text.specs.Answers.{◌>>=◌}
 use Rattle.bag_text.specs.InfoReading.{label_of, value_of, pair_of, extend_last, add_info_line, pairs_from, info_of}
 use Rattle.bag_text.proofs.BlankLemmas.{skipped, dropped, skip_front, drop_back}
-
-one_plus : (n : ℕ) → 1 + n ≡ suc n
-one_plus n = omega arith
+use Rattle.bag_text.proofs.LineLemmas.{one_plus}
 
 -- ---- a line that is a pair
 
@@ -59,14 +57,10 @@ has_colon (b ∷ line) e = by_first (is_colon b) refl e (λ e. has_colon line e)
 blanks_no_colon : (t : List ℕ) → AreBlanks t → list_any is_colon t ≡ false
 blanks_no_colon [] h = refl
 blanks_no_colon (b ∷ t) h =
-    let parts = both_so (is_blank b) _ h in
+    let parts = and_parts (is_blank b) _ h in
     let none : is_colon b ≡ false = colon_apart b parts.0 in
     rw none (blanks_no_colon t parts.1)
   where
-    both_so : (x y : Bool) → (x && y) ≡ true → (x ≡ true) × (y ≡ true)
-    both_so true y h = (refl, h)
-    both_so false y h = absurd cc
-
     colon_apart : (b : ℕ) → is_blank b ≡ true → is_colon b ≡ false
     colon_apart b e = by_colon (eqb b 58) refl
       where

@@ -10,7 +10,7 @@ use Rattle.std.proofs.lemmas.List.Sums.{prefix_len-le-length}
 use Rattle.std.proofs.lemmas.List.{append-nil, map_push}
 use Rattle.std.proofs.lemmas.List.Folds.{list_any-append}
 use Rattle.std.proofs.lemmas.List.Elements.{Contains-append_left, Contains-push_cases}
-use Rattle.std.proofs.lemmas.Bool.{or_parts, eqb-true}
+use Rattle.std.proofs.lemmas.Bool.{and_parts, or_parts, eqb-true}
 use Rattle.std.proofs.Math.Seq.{get_or-append_seam, take-append_seam, drop-append-add, take-length}
 use Rattle.bag_text.specs.Text.{is_blank, AreBlanks, skip_blanks, drop_last_blanks}
 use Rattle.bag_text.specs.Lines.{is_end, lines, End, LF, CR, CRLF, end_bytes, EndsBefore, AreLines}
@@ -21,7 +21,7 @@ use Rattle.bag_text.specs.Answers.{◌>>=◌, FailsAs}
 use Rattle.bag_text.proofs.ResultLemmas.{fails_on}
 use Rattle.bag_text.specs.InfoReading.{label_of, value_of, colon_cut, pair_of, extend_last, add_info_line, pairs_from, named_info_fault, Kept, pair_in, pairs_of, has_line_feed, IsMarked, AreMarked}
 use Rattle.bag_text.proofs.BlankLemmas.{dropped}
-use Rattle.bag_text.proofs.LineLemmas.{no_lines, are_lines}
+use Rattle.bag_text.proofs.LineLemmas.{no_lines, are_lines, one_plus}
 use Rattle.bag_text.proofs.InfoLemmas.{cut_again, has_colon, extended, some_pairs, unfolded_lines, no_lines_left}
 
 -- ---- the first colon
@@ -29,9 +29,6 @@ use Rattle.bag_text.proofs.InfoLemmas.{cut_again, has_colon, extended, some_pair
 -- the first colon stands within the line
 pub colon_fits : (line : List ℕ) → position_or_len is_colon line ≤ length line
 colon_fits line = prefix_len-le-length (λ b. not (is_colon b)) line
-
-one_plus : (n : ℕ) → 1 + n ≡ suc n
-one_plus n = omega arith
 
 -- where nothing stands from the first colon on, there is none
 pub no_colon_left : (line : List ℕ) → drop (position_or_len is_colon line) line ≡ [] → list_any is_colon line ≡ false
@@ -90,10 +87,6 @@ cut_text a b c e small =
       is_utf8-from_IsUtf8 c (subst IsUtf8 (drop-append-add a (b ∷ c) 1) (IsUtf8-drop (a ++ b ∷ c) (length a + 1) whole back)),
     )
 
-both_so : (x y : Bool) → (x && y) ≡ true → (x ≡ true) × (y ≡ true)
-both_so true y h = (refl, h)
-both_so false y h = absurd cc
-
 -- a blank is an ASCII character
 blank_is_ascii : (b : ℕ) → is_blank b ≡ true → b < 128
 blank_is_ascii b e = by_space (eqb b 32) refl e
@@ -117,7 +110,7 @@ dropped_text t e = let back = dropped t in by_after back.after back.blanks back.
   where
     by_after : (after : List ℕ) → AreBlanks after → t ≡ drop_last_blanks t ++ after → is_utf8 (drop_last_blanks t) ≡ true
     by_after [] blanks is = ap is_utf8 (sym (is ∙ append-nil (drop_last_blanks t))) ∙ e
-    by_after (b ∷ after) blanks is = (cut_text (drop_last_blanks t) b after (ap is_utf8 (sym is) ∙ e) (blank_is_ascii b (both_so (is_blank b) _ blanks).0)).0
+    by_after (b ∷ after) blanks is = (cut_text (drop_last_blanks t) b after (ap is_utf8 (sym is) ∙ e) (blank_is_ascii b (and_parts (is_blank b) _ blanks).0)).0
 
 -- what stands before the first colon of a text, and behind it, is text
 pub parts_text : (line : List ℕ) → is_utf8 line ≡ true → list_any is_colon line ≡ true → (is_utf8 (take (position_or_len is_colon line) line) ≡ true) × (is_utf8 (drop (position_or_len is_colon line + 1) line) ≡ true)

@@ -16,7 +16,6 @@ pub mod NumberLemmas
 pub mod HeaderLemmas
 pub mod FormLemmas
 pub mod ManifestLemmas
-pub mod GoodPathLemmas
 pub mod ManifestLineLemmas
 pub mod ManifestEntryLemmas
 pub mod ManifestReadLemmas

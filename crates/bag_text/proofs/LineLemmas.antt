@@ -21,7 +21,8 @@ after_end_shorter (b ∷ t) h = let e = by_test (eqb b 13 && begins_with 10 t) t
     by_test true t = omega (arith, length-drop 1 t)
     by_test false t = omega arith
 
-one_plus : (n : ℕ) → 1 + n ≡ suc n
+-- one more than a number is the next
+pub one_plus : (n : ℕ) → 1 + n ≡ suc n
 one_plus n = omega arith
 
 lines_nil : lines [] ≡ []

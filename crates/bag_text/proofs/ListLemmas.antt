@@ -10,7 +10,7 @@ use Rattle.bag_text.specs.TransferForm.{File, max_content, max_files, Ascends, c
 use Rattle.bag_text.specs.TransferFaults.{last_path}
 use Rattle.bag_text.specs.BagList.{IsFront, FileFault, ListFault, file_fault, or_else, fault_from, clash_fault, list_fault}
 
-abbrev some : SetFault → Option SetFault
+abbrev pub some : SetFault → Option SetFault
 some f = Some f
 
 some_is : (f g : SetFault) → some f ≡ some g → f ≡ g
@@ -24,7 +24,8 @@ pub record IsFine (place : ℕ) (before : List ℕ) (f : File) : Type 0 where
   pub fits : Fits f
   pub after : comes_before before f.path ≡ true
 
-abbrev judged : ℕ → Bool → Bool → Bool → Bool → Option SetFault
+-- the fault of a file at this place, by what is asked of it
+abbrev pub judged : ℕ → Bool → Bool → Bool → Bool → Option SetFault
 judged place long full good up = cond long (Some (BadEntry place)) (cond full (Some TooManyFiles) (cond (not good) (Some (BadPath place)) (cond (not up) (Some (OutOfOrder place)) None)))
 
 -- A file has no fault exactly where it is fine.

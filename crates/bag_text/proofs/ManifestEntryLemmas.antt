@@ -18,6 +18,7 @@ use Rattle.bag_text.specs.Paths.{comes_before}
 use Rattle.bag_text.specs.Manifest.{AscendingPaths}
 use Rattle.bag_text.specs.ManifestReading.{Entry, Entries, is_listed}
 use Rattle.bag_text.proofs.ElementLemmas.{Has}
+use Rattle.bag_text.proofs.OrderLemmas.{less}
 
 -- ---- places in a list of lines
 
@@ -168,12 +169,6 @@ paths_in es = map (λ e. e.0) es
 -- a path comes before another
 abbrev IsLater : List ℕ → List ℕ → Type 0
 IsLater path later = comes_before path later ≡ true
-
--- what is less compares so
-less : (o : Ordering) → is_lt o ≡ true → o ≡ Less
-less Less e = refl
-less Equal e = absurd cc
-less Greater e = absurd cc
 
 -- what comes before a path comes before those behind it
 later_still : (p q : List ℕ) (rs : List (List ℕ)) → IsLater p q → AllByRecursion (IsLater q) rs → AllByRecursion (IsLater p) rs

@@ -30,7 +30,7 @@ use Rattle.bag_text.specs.Manifest.{Spells, decode, has_coded, size_of, checksum
 use Rattle.bag_text.specs.Answers.{FailsAs, Gives}
 use Rattle.bag_text.proofs.ResultLemmas.{never_both, same_err}
 use Rattle.bag_text.specs.ManifestReading.{Entry, Entries, checksum_in, path_of, entry_of, manifest_of, is_owned, entry_in, entries_in, paths_of, HasEntry, HasPath, listing_at, is_listed, named_line_fault}
-use Rattle.bag_text.proofs.GoodPathLemmas.{good_from}
+use Rattle.bag_text.proofs.PathLemmas.{good_read}
 use Rattle.bag_text.proofs.ManifestLemmas.{spells_decoded, spelled_is_decoded, looked_up}
 use Rattle.bag_text.proofs.ManifestLineLemmas.{reads_bad_checksum, reads_no_path, reads_bad_path, entry_reads}
 use Rattle.bag_text.proofs.ManifestEntryLemmas.{At, at_same, same_path, itself}
@@ -77,7 +77,7 @@ no_path_of v spelled (inr (path, spells, bad)) = by_tests (begins_with 42 spelle
   where
     by_tests : (star good : Bool) → is_good (decode v spelled) ≡ good → cond star None (cond {A = Option (List ℕ × Bool)} good (Some (decode v spelled, has_coded v spelled)) None) ≡ None
     by_tests true good g = refl
-    by_tests false true g = absurd (bad (good_from path (subst (λ (p : List ℕ). is_good p ≡ true) (spelled_is_decoded v spelled path spells) g)))
+    by_tests false true g = absurd (bad (good_read path (subst (λ (p : List ℕ). is_good p ≡ true) (spelled_is_decoded v spelled path spells) g)))
     by_tests false false g = refl
 
 -- a fault of the table is of a line that is reached

@@ -19,7 +19,8 @@ use Rattle.bag_text.specs.Text.{is_blank, begins_with, skip_blanks}
 use Rattle.bag_text.specs.Paths.{GoodPath, is_good}
 use Rattle.bag_text.specs.Manifest.{Spells, has_coded, decode, size_of, checksum_of, IsEntry, sum_text, path_text}
 use Rattle.bag_text.specs.ManifestReading.{good_of, path_of, checksum_in, Entry, entry_of}
-use Rattle.bag_text.proofs.GoodPathLemmas.{good_from, good_again}
+use Rattle.bag_text.proofs.LineLemmas.{one_plus}
+use Rattle.bag_text.proofs.PathLemmas.{good_read, good_again}
 use Rattle.bag_text.proofs.ManifestLemmas.{spells_decoded, spelled_is_decoded}
 
 -- ---- the three parts of a line
@@ -55,10 +56,6 @@ skipped_twice (b ∷ t) = by_test (is_blank b) refl (skipped_twice t)
     by_test : (x : Bool) → is_blank b ≡ x → skip_blanks (skip_blanks t) ≡ skip_blanks t → skip_blanks (cond x (skip_blanks t) (b ∷ t)) ≡ cond x (skip_blanks t) (b ∷ t)
     by_test true e rest = rest
     by_test false e rest = rw e refl
-
--- one more, as a successor
-one_plus : (n : ℕ) → 1 + n ≡ suc n
-one_plus n = omega arith
 
 -- what stands behind the digits begins with a blank
 blank_first : (t : List ℕ) → drop (position_or_len is_blank t) t ≢ [] → first_blanks (drop (position_or_len is_blank t) t) ≢ []
@@ -285,7 +282,7 @@ path_parts v spelled p e = by_tests (begins_with 42 spelled) refl (is_good (deco
     by_tests : (star : Bool) → begins_with 42 spelled ≡ star → (good : Bool) → is_good (decode v spelled) ≡ good → cond star None (cond good (Some (decode v spelled, has_coded v spelled)) None) ≡ Some p → PathRead v spelled p
     by_tests true s good g e = absurd cc
     by_tests false s false g e = absurd cc
-    by_tests false s true g e = record { no_star = s; is = sym (same_Some (decode v spelled, has_coded v spelled) p e); good = good_from (decode v spelled) g }
+    by_tests false s true g e = record { no_star = s; is = sym (same_Some (decode v spelled, has_coded v spelled) p e); good = good_read (decode v spelled) g }
 
 -- an entry was read of a line that lists its path
 pub record EntryRead (v : Version) (a : Algorithm) (line path : List ℕ) (entry : Entry) : Type 0 where

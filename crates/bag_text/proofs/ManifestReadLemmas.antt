@@ -22,7 +22,7 @@ use Rattle.bag_text.specs.Paths.{GoodPath, is_good}
 use Rattle.bag_text.specs.Manifest.{Spells, decode, has_coded, size_of, checksum_of, IsEntry, LineIs, ListsOn, IsSoundBefore, AscendingPaths, sum_text, path_text, IsReached, ManifestFault}
 use Rattle.bag_text.specs.Answers.{◌>>=◌}
 use Rattle.bag_text.specs.ManifestReading.{Entry, Entries, checksum_in, path_of, entry_of, is_listed, add_line_of, entries_of, manifest_of}
-use Rattle.bag_text.proofs.GoodPathLemmas.{good_again}
+use Rattle.bag_text.proofs.PathLemmas.{good_again}
 use Rattle.bag_text.proofs.ManifestLemmas.{spells_decoded, spelled_is_decoded}
 use Rattle.bag_text.proofs.ManifestLineLemmas.{LineView, bad_checksum, no_path, bad_path, sound, line_view, reads_bad_checksum, reads_no_path, reads_bad_path, reads_sound, EntryRead, sound_entry, blank_is_no_entry, entry_digits, entry_spelled}
 use Rattle.bag_text.proofs.ManifestEntryLemmas.{At, at_front, at_within, at_back, at_last, at_push, listed_has, has_listed, put_new, put_old, put_cases, put_ascends, paths_in}

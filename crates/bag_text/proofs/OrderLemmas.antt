@@ -23,7 +23,8 @@ use Rattle.bag_text.specs.TransferReading.{file_of, files_of, IsPlaceOf}
 abbrev pub path_cmp : List ℕ → List ℕ → Ordering
 path_cmp = slice_cmp nat_cmp
 
-less : (o : Ordering) → is_lt o ≡ true → o ≡ Less
+-- what is less compares so
+pub less : (o : Ordering) → is_lt o ≡ true → o ≡ Less
 less Less e = refl
 less Equal e = absurd cc
 less Greater e = absurd cc

@@ -1,9 +1,9 @@
 -- Good paths.
-use Rattle.std.proofs.Common.{◌≡◌, ℕ, suc, zero, Bool, true, false, cond, eqb, ltb, ◌&&◌, List, [], ◌∷◌, length, refl, sym, ap, subst, ◌∙◌, arith, ◌≢◌}
+use Rattle.std.proofs.Common.{◌≡◌, ℕ, suc, zero, Bool, true, false, cond, eqb, ltb, List, [], ◌∷◌, length, refl, sym, ap, subst, ◌∙◌, arith, ◌≢◌}
 use Rattle.std.specs.Prelude.{Option, Some, None, is_none, codes, bytes_eq, Contains, IsUtf8, ◌↔◌}
 use Rattle.std.specs.List.{list_any}
 use Rattle.std.specs.Str.{is_utf8}
-use Rattle.std.proofs.lemmas.Bool.{ltb-false, or_parts, or_from, and_from, false_from_ne_true}
+use Rattle.std.proofs.lemmas.Bool.{ltb-false, or_parts, or_from, and_parts, and_from, false_from_ne_true}
 use Rattle.std.proofs.lemmas.Bool.Decides.{nat_tests}
 use Rattle.std.proofs.lemmas.Slice.Eq.{bytes_eq-Decides}
 use Rattle.std.proofs.lemmas.Str.{is_utf8-from_IsUtf8}
@@ -86,16 +86,12 @@ no_fault path good =
       no_nul = none_any (λ b. eqb b 0) path (λ b in_path. false_from_ne_true (eqb b 0) (λ e. let zero_is : b ≡ 0 = grind (arith, nat_tests, e) in good.no_nul (subst (Contains path) zero_is in_path)));
     })
 
-both_so : (x y : Bool) → (x && y) ≡ true → (x ≡ true) × (y ≡ true)
-both_so true y h = (refl, h)
-both_so false y h = absurd cc
-
 is_none_so : (o : Option PathFault) → is_none o ≡ true → o ≡ None
 is_none_so None e = refl
 is_none_so (Some f) e = absurd cc
 
 pub good_read : (path : List ℕ) → is_good path ≡ true → GoodPath path
-good_read path e = let both = both_so (is_utf8 path) (is_none (path_fault path)) e in without_fault path both.0 (is_none_so (path_fault path) both.1)
+good_read path e = let both = and_parts (is_utf8 path) (is_none (path_fault path)) e in without_fault path both.0 (is_none_so (path_fault path) both.1)
 
 pub good_again : (path : List ℕ) → GoodPath path → is_good path ≡ true
 good_again path good = and_from (is_utf8 path) (is_none (path_fault path)) good.utf8 (ap is_none (no_fault path good))

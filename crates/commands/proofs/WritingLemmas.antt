@@ -17,7 +17,7 @@ appends_both (Some xs) None new a b first then = absurd first
 appends_both (Some xs) (Some ys) None a b first then = absurd then
 appends_both (Some xs) (Some ys) (Some zs) a b first then = then ∙ ap (λ front. front ++ b) first ∙ append_assoc xs a b
 
-appends_kept : (old mid new : Option (List ℕ)) (a : List ℕ) → Appends old mid a → Keeps mid new → Appends old new a
+pub appends_kept : (old mid new : Option (List ℕ)) (a : List ℕ) → Appends old mid a → Keeps mid new → Appends old new a
 appends_kept None mid new a first kept = tt
 appends_kept (Some xs) None new a first kept = absurd first
 appends_kept (Some xs) (Some ys) None a first kept = absurd kept

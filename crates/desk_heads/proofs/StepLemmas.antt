@@ -4,7 +4,6 @@ use Rattle.std.specs.Prelude.{Result, nat_lt, if◌then◌else◌}
 use Rattle.std.proofs.lemmas.Bool.Decides.{nat_tests}
 use Rattle.std.proofs.lemmas.List.Elements.{All-weaker}
 use Rattle.std.proofs.lemmas.List.Sums.{AllPass-from_list_all, list_all-from_AllPass}
-use Rattle.std.specs.List.{list_all}
 use Rattle.std.specs.Char.{is_ascii_digit, IsAsciiDigit}
 use Rattle.std.specs.Str.Parse.{digits_value}
 use Rattle.httparse.specs.Grammar.{RequestHead}
@@ -17,6 +16,7 @@ use Rattle.desk_heads.specs.Heads.{SpellsHead, IsHead, HeadContents, occurrence_
 use Rattle.desk_heads.specs.Steps.{IsLengthText, StandsOfHead, Stands, step_of, StandsFirst, NamesCaller, AnnouncesBody, Says}
 use Rattle.desk_heads.specs.declared.refusal.HeadRefusal.{HeadRefusal}
 use Rattle.desk_heads.specs.declared.refusal.HeadRefusal.TheVariants.{BadHead, Chunked, BadLength, TooLarge, TwoCallers}
+use Rattle.desk_heads.proofs.DigitLemmas.{all_digits}
 
 -- ---- the refusals of a head
 
@@ -106,9 +106,6 @@ ascii_digit c h = (grind (arith, nat_tests), grind (arith, nat_tests))
 
 is_digit : (c : ℕ) → IsAsciiDigit c → is_ascii_digit c ≡ true
 is_digit c h = grind (arith, nat_tests)
-
-all_digits : (text : List ℕ) → is_length_text text ≡ true → list_all is_ascii_digit text ≡ true
-all_digits text h = grind (arith, nat_tests)
 
 length_text : (text : List ℕ) → is_length_text text ≡ true → IsLengthText text
 length_text text h = record {

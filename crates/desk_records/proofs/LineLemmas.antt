@@ -1,5 +1,5 @@
 -- The lines of records.
-use Rattle.std.proofs.Common.{◌≡◌, ◌≢◌, ℕ, zero, suc, ◌+◌, ◌/◌, ◌%◌, ◌<◌, ◌≤◌, ◌^◌, ◌==◌, ◌&&◌, Bool, true, false, List, [], ◌∷◌, ◌++◌, length, take, drop, get_or, codes, decimal, Some, refl, sym, ap, ◌∙◌, arith, not, drop-cons, unsigned_abs, ℤ, pos, negsuc, ◌≤ℤ◌}
+use Rattle.std.proofs.Common.{◌≡◌, ◌≢◌, ℕ, zero, suc, ◌+◌, ◌/◌, ◌%◌, ◌<◌, ◌≤◌, ◌^◌, ◌==◌, ◌&&◌, Bool, true, false, List, [], ◌∷◌, ◌++◌, length, take, drop, get_or, codes, decimal, Some, refl, sym, ap, ◌∙◌, arith, not, drop-cons, unsigned_abs}
 use Rattle.std.specs.Prelude.{nat_lt, bytes_eq, slice_index}
 use Rattle.std.specs.List.{list_all}
 use Rattle.std.specs.Char.{is_ascii_digit}
@@ -15,7 +15,7 @@ use Rattle.jiff_core.proofs.CalendarLemmas.{days_in_month_bounds}
 use Rattle.jiff.specs.Types.{Date}
 use Rattle.office_core.specs.Days.{IsDay, day_text}
 use Rattle.office_core.specs.DayReading.{parts_of}
-use Rattle.office_core.proofs.DayLemmas.{same_date, parts_of-day, parts_are}
+use Rattle.office_core.proofs.DayLemmas.{same_date, parts_of-day, parts_are, year_pos}
 use Rattle.desk_records.specs.Records.{line_text, IsLine, HasNoLineFeed}
 use Rattle.desk_records.specs.RecordReading.{has_marks, length_of}
 use Rattle.desk_records.proofs.LengthLemmas.{own, both, length_of-decimal, length_of-says}
@@ -29,10 +29,6 @@ day_text-injective a b in_a in_b e =
     let at_b = parts_are b p in_b (sym (parts_of-day b in_b)) in
     let at_a = parts_are a p in_a (sym (parts_of-day b in_b) ∙ ap parts_of (sym e)) in
     same_date a b (at_a.0 ∙ sym at_b.0) (at_a.1 ∙ sym at_b.1) (at_a.2 ∙ sym at_b.2)
-
-year_pos : (y : ℤ) → pos 1900 ≤ℤ y → y ≡ pos (unsigned_abs y)
-year_pos (pos n) h = refl
-year_pos (negsuc n) h = absurd (omega (arith, signed_arith, h))
 
 -- ten characters of ASCII
 ten_ascii : (a b c d e f g h : ℕ) → a < 10 → b < 10 → c < 10 → d < 10 → e < 10 → f < 10 → g < 10 → h < 10

@@ -11,7 +11,8 @@ use Rattle.http_desk.specs.Serving.{IsAnswered, ServesBytes}
 use Rattle.http_desk.specs.declared.serving.DeskFault.{DeskFault}
 use Rattle.http_desk.specs.declared.serving.DeskFault.TheVariants.{Read, Write, Memory}
 use Rattle.office_commands.specs.Working.{Asks, AsksInPart}
-use Rattle.office_commands.proofs.PrintingLemmas.{appends_kept, appends_nothing}
+use Rattle.commands.proofs.WritingLemmas.{appends_kept}
+use Rattle.office_commands.proofs.PrintingLemmas.{appends_nothing}
 
 module _ {S : Type 0} (g : Ghosts S) (day : Date) (old new : Held S) (was_left left : Option (List ℕ)) where
   -- what the input gave is answered, and all that it had

@@ -24,7 +24,7 @@ use Rattle.office_commands.specs.declared.fault.CommandFault.TheVariants.{BadRec
 use Rattle.office_commands.specs.declared.fault.StoreFault.TheVariants.{Device}
 use Rattle.office_commands.specs.declared.task.Task.TheVariants.{Replay}
 use Rattle.office_commands.proofs.AnsweringLemmas.{was_clean}
-use Rattle.office_commands.proofs.PrintingLemmas.{appends_kept}
+use Rattle.commands.proofs.WritingLemmas.{appends_kept}
 
 -- ---- the history
 

@@ -107,7 +107,7 @@ text_of_parts (a ∷ b ∷ c ∷ d ∷ x ∷ e ∷ f ∷ y ∷ g ∷ h ∷ []) p
     ∙ ap parts_text all
 text_of_parts _ p is = cc
 
-year_pos : (y : ℤ) → pos 1900 ≤ℤ y → y ≡ pos (unsigned_abs y)
+pub year_pos : (y : ℤ) → pos 1900 ≤ℤ y → y ≡ pos (unsigned_abs y)
 year_pos (pos n) h = refl
 year_pos (negsuc n) h = absurd (omega (arith, signed_arith, h))
 

@@ -24,29 +24,21 @@ use Rattle.office_history.specs.Refusals.{refusal_in, refusal, bad_as, of_deposi
 use Rattle.office_history.specs.Answers.{changes_unless, allowed_change, deposit_change}
 use Rattle.office_history.specs.Acceptance.{IsChange, IsAllowed, IsDeposit, IsHold, IsDepositable, IsPlaceable, IsReleasable, IsDisposable}
 use Rattle.office_history.specs.Runs.{IsLimit, IsLegal, new_history, new, install, serve}
+use Rattle.office_core.proofs.OptionLemmas.{none_of, answer_if_none}
 use Rattle.office_history.proofs.HistoryLemmas.{deposits_grown, holds_grown}
 
 -- ---- where no refusal stands
 
--- of refusals none stands where there is no first one
-pub none_of : {A : Type 0} (o : Option A) (os : List (Option A)) → first_some (o ∷ os) ≡ None → (o ≡ None) × (first_some os ≡ None)
-none_of None os e = (refl, e)
-none_of (Some x) os e = absurd cc
-
 pub map_none : {A B : Type 0} (f : A → B) (o : Option A) → option_map f o ≡ None → o ≡ None
 map_none f None e = refl
 map_none f (Some x) e = absurd cc
-
-not_so : {A : Type 0} (test : Bool) (x : A) → answer_if test x ≡ None → test ≡ false
-not_so true x e = absurd cc
-not_so false x e = refl
 
 is_so : {A : Type 0} (test : Bool) (x : A) → answer_if (not test) x ≡ None → test ≡ true
 is_so true x e = refl
 is_so false x e = absurd cc
 
 below : (most count : ℕ) → answer_if (nat_le most count) Full ≡ None → count < most
-below most count e = let no = not_so (nat_le most count) Full e in grind (arith, nat_tests)
+below most count e = let no = answer_if_none (nat_le most count) Full e in grind (arith, nat_tests)
 
 not_later : (day date : Date) → int_lt (epoch_day day) (epoch_day date) ≡ false → epoch_day date ≤ℤ epoch_day day
 not_later day date passed =
@@ -101,7 +93,7 @@ depositable h day caller collection class accession closed form e =
         collection = is_so (has_collection h collection) _ a.0;
         class = is_so (has_class h class) _ b.0;
         new_accession = map_none _ (accession_of h accession) d.0;
-        closed = not_later day closed (not_so _ _ f.0);
+        closed = not_later day closed (answer_if_none _ _ f.0);
         form = form;
         read = bag.1;
         room = below h.max_deposits (length (deposits h)) i.0;

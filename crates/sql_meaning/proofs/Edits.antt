@@ -75,7 +75,8 @@ all_below_next (x ∷ rows) shaped =
 above : (o p : Ordering) → o ≡ ordering_reverse p → p ≡ Less → o ≡ Greater
 above o p h k = h ∙ ap ordering_reverse k
 
-equal_is : (o : Ordering) → is_eq o ≡ true → o ≡ Equal
+-- what is equal compares so
+pub equal_is : (o : Ordering) → is_eq o ≡ true → o ≡ Equal
 equal_is Less h = absurd cc
 equal_is Equal h = refl
 equal_is Greater h = absurd cc

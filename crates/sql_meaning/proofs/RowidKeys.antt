@@ -1,7 +1,7 @@
 -- A key that is the rowid: the test by it, and that it names at most one row.
-use Rattle.std.proofs.Common.{◌≡◌, ◌⊎◌, ℤ, List, [], ◌∷◌, filter, Bool, true, Ordering, Equal, Less, Greater, IsTrue, refl, sym, ap, subst₂, ◌∙◌}
+use Rattle.std.proofs.Common.{◌≡◌, ◌⊎◌, ℤ, List, [], ◌∷◌, filter, Bool, true, Equal, IsTrue, sym, ap, subst₂, ◌∙◌}
 use Rattle.std.specs.List.{AllByRecursion}
-use Rattle.std.specs.Ordering.{is_eq, int_eq, int_cmp, ordering_reverse}
+use Rattle.std.specs.Ordering.{int_eq, int_cmp, ordering_reverse}
 use Rattle.std.proofs.lemmas.Cmp.{int_cmp_total}
 use Rattle.sqlite.specs.declared.types.Value.TheVariants.{Int}
 use Rattle.sqlite.specs.Order.{Row, value_cmp}
@@ -19,6 +19,7 @@ use Rattle.sqlite_rules.proofs.TableLemmas.{int_is}
 use Rattle.sqlite_trees.specs.View.{is_int, IsShaped}
 use Rattle.sqlite_trees.specs.declared.store.Shape.TheVariants as shape
 use Rattle.sql_meaning.specs.Columns.{int_at}
+use Rattle.sql_meaning.proofs.Edits.{equal_is}
 use Rattle.sql_meaning.proofs.Scanning.{passes}
 use Rattle.sql_meaning.proofs.Keys.{trailing, same_int, lone}
 
@@ -34,11 +35,6 @@ passes_number n more r whole = trailing _ ∙ ap (λ v. is_true (binary (Compare
 
 pub each_numbered : (n : ℤ) (more : Row) (rows : List Row) → IsShaped shape.Table rows → AllByRecursion (λ r. passes (Int n ∷ more) by_number r ≡ has_number n r) rows
 each_numbered n more rows shaped = all_from _ rows (λ r there. passes_number n more r (all_has _ rows r shaped.1 there))
-
-equal_is : (o : Ordering) → is_eq o ≡ true → o ≡ Equal
-equal_is Less h = absurd cc
-equal_is Equal h = refl
-equal_is Greater h = absurd cc
 
 -- two rows with one number are one
 pub one_numbered : (rows : List Row) → IsShaped shape.Table rows → (n : ℤ) (x y : Row) → Has rows x → Has rows y → has_number n x ≡ true → has_number n y ≡ true → x ≡ y
