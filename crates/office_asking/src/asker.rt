@@ -47,6 +47,7 @@ fn row_matches(rule: &RuleRow, ask: &Ask) -> bool
 fn effect_of(rule: &RuleRow) -> Result<Effect, TableFault>
     ensures effect { IfOk result (λ effect. effect_number effect ≡ rule.now.effect) }
     ensures failure { IfErr result IsFailure }
+    ensures store { IfErr result (λ fault. fault ≡ TableFault.Store) }
 {
     match rule.effect {
         1 => Ok(Effect::Allow),

@@ -17,6 +17,7 @@ use std::alloc::Global;
 fn scope_of(row: &HoldRow) -> Result<Scope, TableFault>
     ensures scope { IfOk result (λ scope. Some scope ≡ scope_in row.now.deposit row.now.collection) }
     ensures failure { IfErr result IsFailure }
+    ensures store { IfErr result (λ fault. fault ≡ TableFault.Store) }
 {
     match (&row.deposit, &row.collection) {
         (Some(_), None) => Ok(Scope::Deposit),

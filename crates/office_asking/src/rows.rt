@@ -16,6 +16,7 @@ use std::alloc::Global;
 pub fn day_numbered(number: i64) -> Result<Day, TableFault>
     ensures day { IfOk result (λ day. epoch_day day ≡ number) }
     ensures failure { IfErr result IsFailure }
+    ensures store { IfErr result (λ fault. fault ≡ TableFault.Store) }
 {
     let Ok(small) = i32::try_from(number) else {
         return Err(TableFault::Store);
@@ -42,6 +43,7 @@ pub fn years_numbered(number: i64) -> Result<Years, TableFault>
     ensures number { IfOk result (λ years. years_number years ≡ number) }
     ensures years { IfOk result (λ years. years ≡ years_back number) }
     ensures failure { IfErr result IsFailure }
+    ensures store { IfErr result (λ fault. fault ≡ TableFault.Store) }
 {
     if number == -1 {
         return Ok(Years::permanent());

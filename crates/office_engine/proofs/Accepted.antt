@@ -39,7 +39,7 @@ pub no_change : (h : History) (day : Date) (caller : List ℕ) (request : Reques
 no_change h day caller request given is e =
     unless_none (refusal h day caller request) (allowed_answer h day caller request) (allowed_change h day request) (none_allowed h day caller request) (ap is_accepted (sym is) ∙ e)
 
--- a failure is no audit
+-- a failure is a refusal
 pub failure_audits : (tables : Tables) (number : ℕ) (given : Answer) → IsFailure given → IsAuditOf tables number given
-failure_audits tables number (answers.Audit deposit report) fails = absurd fails
-failure_audits tables number _ fails = tt
+failure_audits tables number (answers.Refused why) fails = tt
+failure_audits tables number _ fails = absurd fails

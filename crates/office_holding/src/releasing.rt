@@ -25,6 +25,7 @@ fn named_in(hold: &HoldRow) -> Result<HoldTarget<'_>, TableFault>
     ensures deposit { IfOk result (λ target. held_deposit target ≡ hold.now.deposit) }
     ensures collection { IfOk result (λ target. held_collection target ≡ hold.now.collection) }
     ensures failure { IfErr result IsFailure }
+    ensures store { IfErr result (λ fault. fault ≡ TableFault.Store) }
 {
     match (hold.deposit, &hold.collection) {
         (Some(number), None) => Ok(HoldTarget::Deposit(number)),

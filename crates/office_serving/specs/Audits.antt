@@ -27,7 +27,8 @@ verdict_on files = verdict_unless (list_fault files) files
 abbrev pub stored_files : ℕ → Tables → List File
 stored_files n tables = map file_in (files_by_path (pos n) tables)
 
--- where the answer is an audit, it is one of that deposit, and its report is the verdict on the files that stand there
+-- the answer is an audit of that deposit, and its report is the verdict on the files that stand there; or it is a refusal
 abbrev pub IsAuditOf : Tables → ℕ → Answer → Type 0
 IsAuditOf tables n (answers.Audit deposit report) = (deposit ≡ n) × (report ≡ verdict_on (stored_files n tables))
-IsAuditOf tables n _ = ⊤
+IsAuditOf tables n (answers.Refused why) = ⊤
+IsAuditOf tables n _ = ⊥

@@ -42,6 +42,7 @@ pub fn accession_in(alloc: Global, text: &str) -> Result<OwnedAccession, TableFa
 pub fn count_in(number: i64) -> Result<usize, TableFault>
     ensures count { IfOk result (λ count. pos count ≡ number) }
     ensures failure { IfErr result IsFailure }
+    ensures store { IfErr result (λ fault. fault ≡ TableFault.Store) }
 {
     match usize::try_from(number) {
         Ok(count) => Ok(count),
