@@ -11,7 +11,7 @@ use Rattle.office_commands.specs.Listening.{Listens, SoMany, TellsPort, listenin
 pub listens : {S : Type 0} (g : Ghosts S) (day : Date) (count port answered : ℕ) (old new : Held S) (held holds : Option (List ℕ))
     → ((connections : List Connection) × (length connections ≡ count) × (count_by is_answered connections ≡ answered) × IsAfterAll g day connections old new × IsRun g connections old new)
     → Appends held holds (listening_text port) → SoMany count (λ connections. Listens g day port connections old new held holds)
-listens g day count port answered old new held holds it writes = (it.0, it.1, it.3, it.4, writes)
+listens g day count port answered old new held holds it writes = (it.0, it.1, (it.3, it.4, writes))
 
 -- the line of the port alone
 pub tells_port : {S T E : Type 0} (g : Ghosts S) (r : Result T E) (day : Date) (count : ℕ) (old new : Held S) (held holds : Option (List ℕ))

@@ -86,7 +86,7 @@ pub fn reopen<S: Start>(
     };
     match adopt(conn) {
         Ok(office) => Some(office),
-        Err(_) => None,
+        Err(_refused) => None,
     }
 }
 
