@@ -1,5 +1,5 @@
 -- What is done with an office over a store is done with its history.
-use Rattle.std.proofs.Common.{◌≡◌, ℕ, List, [], ◌∷◌, Option, Some, None, Result, Ok, Err, IfErr, OnOk, option_copied, refl, subst, ap₂}
+use Rattle.std.proofs.Common.{◌≡◌, ℕ, List, [], ◌∷◌, Option, Result, Ok, Err, IfErr, OnOk, option_copied, subst, ap₂}
 use Rattle.jiff.specs.Types.{Date}
 use Rattle.sqlite_disk.specs.declared.Disk.{Ghosts as Disks}
 use Rattle.sqlite_disk.specs.declared.Files.{Files}
@@ -19,7 +19,7 @@ use Rattle.office_core.specs.Policies.{Contents}
 use Rattle.office_history.specs.Histories.{History}
 use Rattle.office_history.specs.Runs.{IsLegal, new_history}
 use Rattle.office_recovery.specs.Found.{HoldsWhere}
-use Rattle.office_engine.specs.Keeping.{IsKeptBy, IsLeftOf, IsReached, with_policy}
+use Rattle.office_engine.specs.Keeping.{IsKeptBy, IsLeftOf, IsReached}
 use Rattle.desk_listening.specs.Listening.{Connection, served, refused, lost, IsAfterAll}
 use Rattle.office_commands.specs.Answering.{StopsFrom, after_install, made_office}
 use Rattle.office_commands.specs.Listening.{Listens, ListensSomewhere, RunsBy, SoMany}

@@ -1,6 +1,5 @@
 -- What a command does on a store, by where it is.
-use Rattle.std.proofs.Common.{◌≡◌, ◌≢◌, ℕ, List, Option, Some, None, Result, Ok, Err, IfErr, OnOk, Bor, codes, option_copied, refl, sym, subst}
-use Rattle.std.specs.Io.KnownBytes.{Appends}
+use Rattle.std.proofs.Common.{◌≡◌, ◌≢◌, ℕ, List, Option, Some, Result, Ok, Err, IfErr, OnOk, Bor, codes, option_copied, refl, sym, subst}
 use Rattle.jiff.specs.Types.{Date}
 use Rattle.sqlite_disk.specs.declared.Disk.{Ghosts}
 use Rattle.sqlite.specs.Recovery.{Image}
@@ -8,22 +7,18 @@ use Rattle.sqlite.specs.Files.{over_files}
 use Rattle.sqlite.specs.Steps.{over_memory}
 use Rattle.office_core.specs.Policies.{Contents}
 use Rattle.office_core.specs.declared.policy_fault.PolicyFault.{PolicyFault}
-use Rattle.commands.specs.Explaining.{Spells}
-use Rattle.office_history.specs.Histories.{History}
 use Rattle.office_engine.specs.Keeping.{with_policy}
-use Rattle.office_commands.specs.Answering.{IsNamed, StopsFrom, after_install}
-use Rattle.office_commands.specs.Commands.{AsksOn, InstallsOn, OnStore, ReplaysOn, ReplaysWith, StopsOn, StopsReplay, StopsWith}
+use Rattle.office_commands.specs.Answering.{IsNamed}
+use Rattle.office_commands.specs.Commands.{AsksOn, InstallsOn, ReplaysOn, ReplaysWith, StopsOn, StopsReplay}
 use Rattle.office_commands.specs.Policies.{IsRead}
-use Rattle.office_commands.specs.Stores.{DoesInFile, DoesInMemory, IsDoneInMemory, StopsInFile, StopsInMemory}
+use Rattle.office_commands.specs.Stores.{DoesInFile, DoesInMemory, StopsInFile, StopsInMemory}
 use Rattle.office_commands.specs.Tasks.{Does, DoesFrom, IsStoppedBy}
 use Rattle.office_commands.specs.Texts.{IsFailure}
-use Rattle.office_commands.specs.Working.{InstallsFirst, StopsUnder}
+use Rattle.office_commands.specs.Working.{InstallsFirst}
 use Rattle.office_commands.specs.declared.fault.CommandFault.{CommandFault}
 use Rattle.office_commands.specs.declared.fault.CommandFault.TheVariants.{Policy, BadRecord, Failed}
-use Rattle.office_commands.specs.declared.task.Task.{Task}
 use Rattle.office_commands.specs.declared.task.Task.TheVariants.{Install, Ask, Replay}
 use Rattle.office_commands.proofs.CarryingLemmas.{file_said, memory_said}
-use Rattle.office_commands.proofs.TaskLemmas.{stopped_so}
 
 -- ---- an install
 

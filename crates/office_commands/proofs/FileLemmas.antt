@@ -1,35 +1,24 @@
 -- An office that is found in files, and copied into them.
-use Rattle.std.proofs.Common.{◌≡◌, ◌≢◌, ◌∙◌, ℕ, List, [], ◌∷◌, Option, Result, Ok, Err, IfOk, IsErr, IsTrue, true, false, refl, sym, ap, subst}
+use Rattle.std.proofs.Common.{◌≡◌, ◌≢◌, ◌∙◌, List, [], ◌∷◌, Result, Ok, Err, IfOk, IsErr, IsTrue, true, false, refl, sym, ap, subst}
 use Rattle.std.proofs.Math.Logic.{∥∥₁_map}
 use Rattle.sqlite.specs.Recovery.{Image}
 use Rattle.sqlite.specs.Schema.{Schema}
 use Rattle.sqlite.specs.Table.{Table}
-use Rattle.sqlite.specs.declared.FileStore.{FileStore}
-use Rattle.sqlite_disk.specs.declared.Disk.{Ghosts}
-use Rattle.sqlite_disk.specs.declared.Files.{Files}
-use Rattle.sqlite_wal.specs.Reads.{AreClean}
-use Rattle.sqlite.specs.Closing.{IsCopied}
-use Rattle.sqlite.specs.Held.{Held}
 use Rattle.sqlite.specs.Tree.{Trees}
 use Rattle.sqlite.specs.Effect.{Database}
 use Rattle.sqlite.specs.State.{State, HasCleanDisk, Opens, IsLive}
 use Rattle.sqlite.specs.Start.{FindsIn}
-use Rattle.sqlite.specs.Files.{HoldsDatabase, file_state, image_of, over_files}
+use Rattle.sqlite.specs.Files.{HoldsDatabase}
 use Rattle.office_rows.specs.Rows.{this_version}
 use Rattle.office_tables.specs.Opening.{IsLeft}
 use Rattle.office_tables.specs.Schema.{no_schema, office_schema}
 use Rattle.office_history.specs.Histories.{History}
 use Rattle.office_history.specs.Pictures.{picture}
-use Rattle.office_history.specs.Runs.{IsLegal}
 use Rattle.office_recovery.specs.Found.{HoldsWhere}
 use Rattle.office_recovery.proofs.FoundAgain.{becomes_again}
 use Rattle.office_recovery.proofs.Settled.{left_from}
 use Rattle.office_engine.specs.Keeping.{IsKeptBy, IsLeftOf, IsReached}
 use Rattle.office_engine.proofs.Kept.{rows_left}
-use Rattle.jiff.specs.Types.{Date}
-use Rattle.office_commands.specs.Tasks.{Does, DoesFrom}
-use Rattle.office_commands.specs.declared.task.Task.{Task}
-use Rattle.office_commands.proofs.TaskLemmas.{done_from}
 
 -- what is left with the rows of a history is left of the history
 left_of : (h : History) (left : Trees) → IsLeft (picture this_version h) left → IsLeftOf h left

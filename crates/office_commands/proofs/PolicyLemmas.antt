@@ -1,12 +1,12 @@
 -- What a policy's text is read as.
-use Rattle.std.proofs.Common.{◌≡◌, ◌⊎◌, ◌∙◌, List, ℕ, Result, Ok, Err, IfOk, IfErr, IsUtf8, Option, Some, None, Bor, OnOk, inl, inr, refl, sym, ap, subst}
+use Rattle.std.proofs.Common.{◌≡◌, ◌⊎◌, ◌∙◌, List, ℕ, Result, Ok, Err, IfOk, IfErr, IsUtf8, Option, Some, None, OnOk, inl, inr, refl, sym, ap, subst}
 use Rattle.std.specs.Prelude.{option_map, string_bytes}
 use Rattle.std.specs.Io.KnownBytes.{Appends}
-use Rattle.bag_text.specs.Answers.{Answers, FailsAs}
+use Rattle.bag_text.specs.Answers.{Answers}
 use Rattle.office_core.proofs.PolicyAnswers.{refusal_is}
 use Rattle.office_core.specs.Policies.{Contents, named_policy_fault, policy_of}
 use Rattle.office_core.specs.declared.policy_fault.PolicyFault.{PolicyFault}
-use Rattle.office_core.specs.declared.policy_fault.PolicyFault.TheVariants.{NotToml, BadVersion, UnknownKey, BadCaller, BadRule, TooMany, Memory}
+use Rattle.office_core.specs.declared.policy_fault.PolicyFault.TheVariants.{Memory}
 use Rattle.commands.specs.Explaining.{HasFault, Spells, bad_policy_reason, bad_policy_text}
 use Rattle.commands.specs.declared.ending.Ending.TheVariants.{Accepted, Refused}
 use Rattle.office_commands.specs.Policies.{ComesOfPolicy, IsRead, installed, refused, installed_text}

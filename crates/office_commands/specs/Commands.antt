@@ -1,5 +1,5 @@
 -- What the commands do on a store: over `:memory:` with a new office, and else with the one in a file.
-use Rattle.std.specs.Prelude.{◌≡◌, ◌≢◌, ℕ, List, Option, None, Some, ⊤, codes}
+use Rattle.std.specs.Prelude.{◌≡◌, ◌≢◌, ℕ, List, Option, Some, ⊤, codes}
 use denote.Ref.{Bor}
 use Rattle.jiff.specs.Types.{Date}
 use Rattle.sqlite_disk.specs.declared.Disk as disk

@@ -1,5 +1,5 @@
 -- What the program does with an office that it makes in memory, or opens in a file and closes again.
-use Rattle.std.specs.Prelude.{◌≡◌, ℕ, List, Option}
+use Rattle.std.specs.Prelude.{ℕ, List, Option}
 use Rattle.jiff.specs.Types.{Date}
 use Rattle.sqlite_disk.specs.declared.Disk as disk
 use Rattle.sqlite_disk.specs.declared.Files.{Files}

@@ -1,6 +1,3 @@
-use Rattle.std.proofs.Common.{IfErr, OnOk}
-use Rattle.sqlite.specs.Steps.{over_memory}
-use Rattle.office_commands.specs.Tasks.{Does, DoesFrom}
 use Rattle.office_commands.proofs.CarryingLemmas.{task_in_memory, stop_in_memory}
 use Rattle.office_commands.proofs.stores.in_memory.Goals as goal
 
