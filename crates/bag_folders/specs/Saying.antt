@@ -1,5 +1,5 @@
 -- What the program says of a folder that was packed and of a form that was unpacked.
-use Rattle.std.specs.Prelude.{◌≡◌, ℕ, ◌++◌, ◌∷◌, [], Bool, true, false, List, Option, Some, None, Result, Ok, Err, codes, decimal, option_map, string_bytes}
+use Rattle.std.specs.Prelude.{◌≡◌, ℕ, ◌++◌, ◌∷◌, [], true, false, List, Option, Some, None, Result, Ok, Err, codes, decimal, option_map, string_bytes}
 use Rattle.bag_text.specs.FaultTexts.{set_fault_text}
 use Rattle.bag_text.specs.declared.set_fault.SetFault.{SetFault}
 use Rattle.bag_check.specs.FaultTexts.{printed_text}
