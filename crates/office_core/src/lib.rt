@@ -32,7 +32,7 @@ pub use closing::due;
 pub use day::Day;
 pub use deciding::{denial_verdict, verdict};
 pub use facts::{Facts, Verdict};
-pub use limits::{Limits, MAX_LIMIT};
+pub use limits::Limits;
 pub use names::{
     Accession, MAX_ACCESSION, MAX_MATTER, MAX_NAME, Matter, Name, OwnedAccession, OwnedMatter,
     OwnedName,

@@ -6,7 +6,7 @@ use Rattle.std.specs.FinMap.{int_cmp-IsAntisymmetric}
 use Rattle.std.specs.Ordering.{int_cmp, is_lt, ordering_reverse}
 use Rattle.std.proofs.lemmas.Cmp.{int_cmp_total}
 use Rattle.std.proofs.lemmas.List.Sorted.{IsPermutation-refl, IsPermutation-trans, IsPermutation-cons, IsPermutation-middle, IsPermutation-sym, IsPermutation-append_right}
-use Rattle.office_rows.specs.Rows.{put_by, put_each_by, sorted_by, NumbersRise, NumbersDiffer, last_number}
+use Rattle.office_rows.specs.Rows.{put_by, put_each_by, sorted_by, NumbersBelow, NumbersRise, NumbersDiffer, last_number}
 
 pub all_append : {X : Type 0} (P : X → Type 0) (xs ys : List X) → AllByRecursion P xs → AllByRecursion P ys → AllByRecursion P (xs ++ ys)
 all_append P [] ys h k = k
@@ -15,7 +15,7 @@ all_append P (x ∷ xs) ys h k = (h.0, all_append P xs ys h.1 k)
 module _ {Row : Type 0} (number : Row → ℤ) where
   -- each of the rows is lower
   abbrev AreBelow : List Row → Row → Type 0
-  AreBelow rows x = AllByRecursion (λ r. int_cmp (number r) (number x) ≡ Less) rows
+  AreBelow rows x = NumbersBelow number (number x) rows
 
   pub put_last : (x : Row) (rows : List Row) → AreBelow rows x → put_by number x rows ≡ rows ++ x ∷ []
   put_last x [] low = refl
@@ -101,8 +101,7 @@ module _ {Row : Type 0} (number : Row → ℤ) where
   -- ---- the highest number
 
   -- what is above the last number is above each
-  pub above_last : (rows : List Row) (last next : ℤ) → NumbersRise number rows → last_number number rows ≡ Some last → int_cmp last next ≡ Less
-      → AllByRecursion (λ r. int_cmp (number r) next ≡ Less) rows
+  pub above_last : (rows : List Row) (last next : ℤ) → NumbersRise number rows → last_number number rows ≡ Some last → int_cmp last next ≡ Less → NumbersBelow number next rows
   above_last [] last next up is less = tt
   above_last (r ∷ []) last next up is less = let same : last ≡ number r = cc in (subst (λ n. int_cmp n next ≡ Less) same less, tt)
   above_last (r ∷ s ∷ rows) last next up is less =
@@ -110,6 +109,6 @@ module _ {Row : Type 0} (number : Row → ℤ) where
       (int_cmp_total.trans (number r) (number s) next up.0.0 more.0, more)
 
   -- without a last number there is no row
-  pub above_none : (rows : List Row) (next : ℤ) → last_number number rows ≡ None → AllByRecursion (λ r. int_cmp (number r) next ≡ Less) rows
+  pub above_none : (rows : List Row) (next : ℤ) → last_number number rows ≡ None → NumbersBelow number next rows
   above_none [] next is = tt
   above_none (r ∷ rows) next is = absurd cc

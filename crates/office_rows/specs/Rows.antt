@@ -1,6 +1,6 @@
 -- The rows of the office's tables as plain records, what is looked up in them, and how they change. Nothing here speaks of SQL.
 -- Texts are lists of bytes. Days are day numbers, 0 for 1970-01-01. Sizes are in bytes, years are calendar years.
-use Rattle.std.specs.Prelude.{⊤, ℕ, ℤ, pos, negsuc, nat_le, List, [], ◌∷◌, ◌++◌, map, find, filter, Option, Some, None, bytes_eq, not, is_some, unwrap_or, option_map, ◌≡◌, ◌≢◌, ◌&&◌, ◌||◌, Bool, false, if◌then◌else◌}
+use Rattle.std.specs.Prelude.{⊤, ℕ, ℤ, pos, negsuc, nat_le, List, [], ◌∷◌, ◌++◌, map, find, filter, Option, Some, None, bytes_eq, not, is_some, unwrap_or, option_map, ◌≡◌, ◌≢◌, ◌&&◌, ◌||◌, Bool, false, true, if◌then◌else◌}
 use Rattle.std.specs.List.{AllByRecursion, list_any}
 use Rattle.std.specs.Ordering.{int_eq, int_cmp, is_lt}
 use Rattle.std.specs.declared.cmp.Ordering.TheVariants.{Less}
@@ -102,6 +102,10 @@ abbrev pub NumbersDiffer : {Row : Type 0} → (Row → ℤ) → List Row → Typ
 NumbersDiffer number [] = ⊤
 NumbersDiffer number (r ∷ rs) = AllByRecursion (λ s. number r ≢ number s) rs × NumbersDiffer number rs
 
+-- each number that is there is lower than n
+abbrev pub NumbersBelow : {Row : Type 0} → (Row → ℤ) → ℤ → List Row → Type 0
+NumbersBelow number n = AllByRecursion (λ r. int_cmp (number r) n ≡ Less)
+
 -- the highest number of a list whose numbers rise
 abbrev pub last_number : {Row : Type 0} → (Row → ℤ) → List Row → Option ℤ
 last_number number [] = None
@@ -131,9 +135,12 @@ abbrev pub max_limit : ℕ
 max_limit = 1_000_000
 
 -- a limit is from 1 to the greatest
-abbrev pub is_in_range : ℤ → Bool
-is_in_range (pos n) = nat_le 1 n && nat_le n max_limit
-is_in_range (negsuc n) = false
+abbrev pub is_limit : ℤ → Bool
+is_limit (pos n) = nat_le 1 n && nat_le n max_limit
+is_limit (negsuc n) = false
+
+abbrev pub IsLimit : ℤ → Type 0
+IsLimit n = is_limit n ≡ true
 
 -- the version of these tables
 abbrev pub this_version : ℤ
@@ -141,7 +148,7 @@ this_version = pos 1
 
 -- the row by which an office is known: it has the id 1, and limits in range
 abbrev pub is_known : OfficeRow → Bool
-is_known o = is_office_row o && (is_in_range o.max_deposits && is_in_range o.max_holds)
+is_known o = is_office_row o && (is_limit o.max_deposits && is_limit o.max_holds)
 
 -- the version that this row tells, if there is one
 abbrev pub version_of : Tables → Option ℤ
@@ -224,10 +231,6 @@ has_accession accession d = bytes_eq d.accession accession
 abbrev pub deposit_by : List ℕ → List DepositRow → Option DepositRow
 deposit_by accession = find (has_accession accession)
 
--- each number that is there is lower
-abbrev pub DepositsBelow : ℤ → List DepositRow → Type 0
-DepositsBelow n = AllByRecursion (λ d. int_cmp d.number n ≡ Less)
-
 -- the deposit is in its place by number
 abbrev pub with_deposit : DepositRow → Tables → Tables
 with_deposit d t = record t { deposits = put_by (λ e. e.number) d t.deposits }
@@ -263,10 +266,6 @@ is_hold k h = int_eq h.number k
 
 abbrev pub hold_numbered : ℤ → List HoldRow → Option HoldRow
 hold_numbered k = find (is_hold k)
-
--- each number that is there is lower
-abbrev pub HoldsBelow : ℤ → List HoldRow → Type 0
-HoldsBelow k = AllByRecursion (λ h. int_cmp h.number k ≡ Less)
 
 -- the hold is in its place by number
 abbrev pub with_hold : HoldRow → Tables → Tables

@@ -1,31 +1,29 @@
 //! Laws of the rows.
 
-ghost use Rattle.std.specs.Prelude.{◌≡◌, ◌≢◌, ℤ, List, [], ◌∷◌, ◌++◌, Some, None};
+ghost use Rattle.std.specs.Prelude.{◌≡◌, ◌≢◌, ◌≤◌, ◌↔◌, ℕ, ℤ, pos, List, [], ◌∷◌, ◌++◌, Some, None};
 ghost use Rattle.std.specs.List.{AllByRecursion};
 ghost use Rattle.std.specs.List.Sorted.{IsPermutation};
 ghost use Rattle.std.specs.Ordering.{int_cmp};
 ghost use Rattle.std.specs.declared.cmp.Ordering.TheVariants.{Less};
-ghost use Rattle.office_rows.specs.Rows.{Tables, CallerRow, RuleRow, DepositRow, HoldRow, AreInOrder, NumbersRise, NumbersDiffer, PlacesRise, sorted_by, last_number, DepositsBelow, HoldsBelow, with_policy, with_deposit, with_hold};
+ghost use Rattle.office_rows.specs.Rows.{Tables, CallerRow, RuleRow, IsLimit, NumbersBelow, NumbersRise, NumbersDiffer, PlacesRise, put_by, sorted_by, last_number, with_policy};
 
-/// A deposit or a hold whose number is above all others comes at the end.
-pub fn highest_comes_last()
-    ensures deposit { (deposit : DepositRow) (tables : Tables) → DepositsBelow deposit.number tables.deposits
-        → with_deposit deposit tables ≡ record tables { deposits = tables.deposits ++ deposit ∷ [] } }
-    ensures hold { (hold : HoldRow) (tables : Tables) → HoldsBelow hold.number tables.holds
-        → with_hold hold tables ≡ record tables { holds = tables.holds ++ hold ∷ [] } }
+/// A limit is one of the numbers from 1 to 1,000,000.
+pub fn limits_are_in_range()
+    ensures { (n : ℕ) → IsLimit (pos n) ↔ ((1 ≤ n) × (n ≤ 1_000_000)) }
+{}
+
+/// A row whose number is above all others comes at the end.
+pub fn highest_comes_last<Row>()
+    ensures { (number : Row → ℤ) (row : Row) (rows : List Row) → NumbersBelow number (number row) rows
+        → put_by number row rows ≡ rows ++ row ∷ [] }
 {}
 
 /// A row whose number is new comes to rows whose numbers rise in such a place that they still rise.
-pub fn new_rows_keep_the_order()
-    ensures deposits { (deposit : DepositRow) (tables : Tables)
-        → NumbersRise (λ d. d.number) tables.deposits
-        → AllByRecursion (λ d. d.number ≢ deposit.number) tables.deposits
-        → NumbersRise (λ d. d.number) (with_deposit deposit tables).deposits
-        × IsPermutation (deposit ∷ tables.deposits) (with_deposit deposit tables).deposits }
-    ensures holds { (hold : HoldRow) (tables : Tables) → NumbersRise (λ h. h.number) tables.holds
-        → AllByRecursion (λ h. h.number ≢ hold.number) tables.holds
-        → NumbersRise (λ h. h.number) (with_hold hold tables).holds
-        × IsPermutation (hold ∷ tables.holds) (with_hold hold tables).holds }
+pub fn new_rows_keep_the_order<Row>()
+    ensures rises { (number : Row → ℤ) (row : Row) (rows : List Row) → NumbersRise number rows
+        → AllByRecursion (λ r. number r ≢ number row) rows → NumbersRise number (put_by number row rows) }
+    ensures each { (number : Row → ℤ) (row : Row) (rows : List Row)
+        → IsPermutation (row ∷ rows) (put_by number row rows) }
 {}
 
 /// A policy has just these rules; their places rise where no two have one place; and the rules are
@@ -38,16 +36,10 @@ pub fn rules_are_sorted()
         → with_policy callers rules tables ≡ record tables { callers = callers; rules = rules } }
 {}
 
-/// The last number of deposits is the highest: what is above it is above each. Where there is none, there is no deposit.
-pub fn last_deposit_is_highest()
-    ensures above { (tables : Tables) → AreInOrder tables → (last next : ℤ) → last_number (λ d. d.number) tables.deposits ≡ Some last
-        → int_cmp last next ≡ Less → DepositsBelow next tables.deposits }
-    ensures first { (tables : Tables) → last_number (λ d. d.number) tables.deposits ≡ None → (next : ℤ) → DepositsBelow next tables.deposits }
-{}
-
-/// The last number of holds is the highest: what is above it is above each. Where there is none, there is no hold.
-pub fn last_hold_is_highest()
-    ensures above { (tables : Tables) → AreInOrder tables → (last next : ℤ) → last_number (λ h. h.number) tables.holds ≡ Some last
-        → int_cmp last next ≡ Less → HoldsBelow next tables.holds }
-    ensures first { (tables : Tables) → last_number (λ h. h.number) tables.holds ≡ None → (next : ℤ) → HoldsBelow next tables.holds }
+/// The last number of rows whose numbers rise is the highest: what is above it is above each. Where there is none, there is no row.
+pub fn last_number_is_highest<Row>()
+    ensures above { (number : Row → ℤ) (rows : List Row) (last next : ℤ) → NumbersRise number rows
+        → last_number number rows ≡ Some last → int_cmp last next ≡ Less → NumbersBelow number next rows }
+    ensures first { (number : Row → ℤ) (rows : List Row) (next : ℤ)
+        → last_number number rows ≡ None → NumbersBelow number next rows }
 {}

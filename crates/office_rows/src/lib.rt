@@ -3,3 +3,6 @@
 #![tactic(auto)]
 
 pub mod laws;
+mod limits;
+
+pub use limits::{MAX_LIMIT, is_limit};
