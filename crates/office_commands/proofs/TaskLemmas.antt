@@ -41,7 +41,7 @@ done_from g (Ask day) first last was_left left held holds does clean h legal kee
 done_from g (Replay policy) first last was_left left held holds does clean h legal keeps = replays_from g (option_copied policy) first last was_left left held holds does clean h legal keeps
 
 pub made_is_legal : IsLegal made_office
-made_is_legal = new max_limit max_limit (omega arith, omega arith) (omega arith, omega arith)
+made_is_legal = new max_limit max_limit refl refl
 
 -- ---- what stops a task
 

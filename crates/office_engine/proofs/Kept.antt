@@ -4,11 +4,11 @@ use Rattle.std.proofs.lemmas.Bool.Decides.{nat_tests}
 use Rattle.sqlite.specs.Tree.{Trees}
 use Rattle.sqlite.specs.State.{State, Survives}
 use Rattle.sqlite.proofs.StateLemmas.{survives_weaker}
-use Rattle.office_rows.specs.Rows.{empty_office, is_in_range, this_version, version_of}
+use Rattle.office_rows.specs.Rows.{empty_office, this_version, version_of}
 use Rattle.office_tables.specs.Opening.{IsLeft}
 use Rattle.office_history.specs.Histories.{History}
 use Rattle.office_history.specs.Pictures.{picture}
-use Rattle.office_history.specs.Runs.{IsLegal, IsLimit, new_history}
+use Rattle.office_history.specs.Runs.{IsLegal, new_history}
 use Rattle.office_history.proofs.RangeLemmas.{limits_hold}
 use Rattle.office_recovery.specs.Found.{GoesOnAs}
 use Rattle.office_engine.specs.Keeping.{IsKeptBy, IsLeftOf}
@@ -28,10 +28,7 @@ pub new_survives : (a b : ℕ) (old new : State) → Survives old new (IsLeft (e
 new_survives a b old new = survives_weaker old new _ _ (λ clean db left. new_left a b db left)
 
 -- the tables of a legal history are known as this version's
-in_range : (n : ℕ) → IsLimit n → is_in_range (pos n) ≡ true
-in_range n limit = let low : nat_le 1 n ≡ true = grind (arith, nat_tests, limit.0) in let high : nat_le n 1_000_000 ≡ true = grind (arith, nat_tests, limit.1) in rw (low, high) refl
-
 pub known_version : (h : History) → IsLegal h → version_of (picture this_version h) ≡ Some this_version
 known_version h legal =
     let within = limits_hold h legal in
-    rw (in_range h.max_deposits within.deposits_limit, in_range h.max_holds within.holds_limit) refl
+    rw (within.deposits_limit, within.holds_limit) refl

@@ -1,11 +1,12 @@
 -- Where a request is allowed its change is one that the history allows; so what each such change keeps, each legal history has.
-use Rattle.std.proofs.Common.{◌≡◌, ◌≤ℤ◌, ℕ, ◌<◌, Bool, true, false, not, List, [], ◌∷◌, ◌++◌, length, Option, Some, None, Result, Ok, Err, IsSome, option_map, slice_get, int_lt, refl, sym, ap, subst, ◌∙◌, append-nil, arith, rules, if◌then◌else◌}
+use Rattle.std.proofs.Common.{◌≡◌, ◌≤ℤ◌, ℕ, pos, ◌<◌, Bool, true, false, not, List, [], ◌∷◌, ◌++◌, length, Option, Some, None, Result, Ok, Err, IsSome, option_map, slice_get, int_lt, refl, sym, ap, subst, ◌∙◌, append-nil, arith, rules, if◌then◌else◌}
 use Rattle.std.specs.Prelude.{nat_le}
 use Rattle.std.proofs.lemmas.Bool.Decides.{nat_tests}
 use Rattle.std.proofs.lemmas.Int.{by_lt_z}
 use Rattle.jiff.specs.Types.{Date}
 use Rattle.jiff.specs.Words.{epoch_day}
 use Rattle.bag_text.specs.TransferForm.{File}
+use Rattle.office_rows.specs.Rows.{IsLimit}
 use Rattle.office_core.specs.Days.{IsDay}
 use Rattle.office_core.specs.FirstOf.{first_some, answer_if}
 use Rattle.office_core.specs.Requests.{IsRequest}
@@ -23,7 +24,7 @@ use Rattle.office_history.specs.Bags.{bag_of}
 use Rattle.office_history.specs.Refusals.{refusal_in, refusal, bad_as, of_deposit, of_hold, denial, denial_at, release_denial, gone_refusal, released_refusal, held_refusal, not_due_refusal, no_such_collection, no_such_class, taken_refusal, closed_ahead_refusal, bad_bag, full_of_deposits, full_of_holds}
 use Rattle.office_history.specs.Answers.{changes_unless, allowed_change, deposit_change}
 use Rattle.office_history.specs.Acceptance.{IsChange, IsAllowed, IsDeposit, IsHold, IsDepositable, IsPlaceable, IsReleasable, IsDisposable}
-use Rattle.office_history.specs.Runs.{IsLimit, IsLegal, new_history, new, install, serve}
+use Rattle.office_history.specs.Runs.{IsLegal, new_history, new, install, serve}
 use Rattle.office_core.proofs.OptionLemmas.{none_of, answer_if_none}
 use Rattle.office_history.proofs.HistoryLemmas.{deposits_grown, holds_grown}
 
@@ -225,7 +226,7 @@ after_change P h day caller request in_day asked more here None is =
     by (c ∷ d ∷ rest) ranged allowed = absurd ranged
 
 pub legal_by : (P : History → Type 0)
-    → ((max_deposits max_holds : ℕ) → IsLimit max_deposits → IsLimit max_holds → P (new_history max_deposits max_holds))
+    → ((max_deposits max_holds : ℕ) → IsLimit (pos max_deposits) → IsLimit (pos max_holds) → P (new_history max_deposits max_holds))
     → ((h : History) (c : Change) → IsLegal h → IsAccepted h c → P h → P (with_changes h (c ∷ [])))
     → (h : History) → IsLegal h → P h
 legal_by P begun more h (new a b a_in b_in) = begun a b a_in b_in

@@ -1,5 +1,5 @@
 -- What going over a history gives.
-use Rattle.std.proofs.Common.{◌≡◌, ◌≢◌, ℕ, ◌+◌, ◌-◌, ◌<◌, suc, zero, Bool, true, false, List, [], ◌∷◌, ◌++◌, length, Option, Some, None, option_map, refl, sym, ap, ◌∙◌, arith, append-nil, append_assoc, length-append, filter, if◌then◌else◌, cond, drop, get_or, drop-cons, is_none, is_some, not}
+use Rattle.std.proofs.Common.{◌≡◌, ◌≢◌, ℕ, ◌+◌, ◌-◌, ◌<◌, ◌≤◌, suc, zero, Bool, true, false, List, [], ◌∷◌, ◌++◌, length, Option, Some, None, option_map, refl, sym, ap, ◌∙◌, arith, append-nil, append_assoc, length-append, filter, if◌then◌else◌, cond, drop, get_or, drop-cons, is_none, is_some, not}
 use Rattle.std.specs.Prelude.{bytes_eq}
 use Rattle.std.specs.List.{range_with_len, position_from, filter_map, cons_option}
 use Rattle.std.proofs.lemmas.List.Elements.{filter_map-append}
@@ -8,6 +8,8 @@ use denote.Ref.{Bor}
 use Rattle.std.proofs.Common.{Result, IfOk}
 use Rattle.std.specs.declared.alloc.AllocError.{AllocError}
 use Rattle.std.proofs.lemmas.Result.{IfOk-weaker}
+use Rattle.std.proofs.lemmas.Bool.Decides.{nat_tests}
+use Rattle.office_rows.specs.Rows.{max_limit}
 use Rattle.office_core.specs.FirstOf.{first_some}
 use Rattle.office_core.specs.declared.refusal.Refusal.{Refusal}
 use Rattle.office_core.specs.declared.request.Request.TheVariants as requests
@@ -17,6 +19,13 @@ use Rattle.office_history.specs.Histories.{History, Change, Installed, DefinedCl
 use Rattle.office_history.specs.Lists.{item_numbered}
 use Rattle.office_history.specs.Runs.{IsWithin}
 use Rattle.office_history.specs.PlainOffices.{HasRoom}
+
+-- no more deposits and holds were accepted than the greatest limit
+pub few : (h : History) → IsWithin h → (length (deposits h) ≤ max_limit) × (length (holds h) ≤ max_limit)
+few h within = (
+  grind (arith, nat_tests, within.deposits_in, within.deposits_limit),
+  grind (arith, nat_tests, within.holds_in, within.holds_limit),
+)
 
 -- a change that is neither a deposit nor a hold adds none
 within_other : (h : History) (change : Change) → deposit_in change ≡ None → hold_in change ≡ None → IsWithin h → IsWithin (with_changes h (change ∷ []))

@@ -9,7 +9,9 @@ use Rattle.std.proofs.lemmas.Slice.Eq.{bytes_eq-Decides}
 use Rattle.jiff_core.proofs.SignedLemmas.{signed_arith}
 use Rattle.jiff.specs.Types.{Date}
 use Rattle.jiff.specs.Words.{epoch_day, IsBetween}
-use Rattle.bag_text.specs.TransferForm.{File, Fits}
+use Rattle.bag_text.specs.TransferForm.{File, Fits, max_content}
+use Rattle.bag_check.specs.Contents.{is_payload, payload_of}
+use Rattle.bag_check.specs.Validity.{payload_files, payload_bytes}
 use Rattle.bag_text.proofs.ElementLemmas.{Has, has_contains, any_has}
 use Rattle.office_core.proofs.DayLemmas.{day_number}
 use Rattle.office_core.specs.Days.{IsDay, IsDayNumber}
@@ -167,12 +169,31 @@ day_ranged : (o : Option Date) → ((day : Date) → o ≡ Some day → IsDay da
 day_ranged None so = tt
 day_ranged (Some day) so = day_number day (so day refl)
 
-deposit_ranged : (h : History) (version : ℤ) → IsLegal h → (n : ℕ) (row : DepositRow) → row_of_deposit h n ≡ Some row → IsDepositRow (picture version h) row
-deposit_ranged h version legal n row e =
+-- the payload has no more files than the bag, and each file no more bytes than one may have
+payload_few : (files : List File) → payload_files files ≤ length files
+payload_few [] = omega arith
+payload_few (file ∷ files) = by (is_payload file.path) (payload_few files)
+  where
+    by : (payload : Bool) → payload_files files ≤ length files → length (if payload then file ∷ payload_of files else payload_of files) ≤ length (file ∷ files)
+    by true few = omega (arith, few)
+    by false few = omega (arith, few)
+
+payload_small : (files : List File) → AllByRecursion Fits files → payload_bytes files ≤ length files * max_content
+payload_small [] all = omega arith
+payload_small (file ∷ files) all = by (is_payload file.path) (payload_small files all.1)
+  where
+    by : (payload : Bool) → payload_bytes files ≤ length files * max_content
+        → sum (map (λ f. length f.content) (if payload then file ∷ payload_of files else payload_of files)) ≤ length (file ∷ files) * max_content
+    by true small = omega (arith, small, all.0.small)
+    by false small = omega (arith, small)
+
+deposit_ranged : Reads → Judges → (h : History) (version : ℤ) → IsLegal h → (n : ℕ) (row : DepositRow) → row_of_deposit h n ≡ Some row → IsDepositRow (picture version h) row
+deposit_ranged reads judges h version legal n row e =
     let found = mapped_some (deposit_row h n) (deposit_numbered h n) row e in
     let made = all_numbered IsDeposited (deposits h) n found.0 (ranged_deposits h legal) found.1 in
     let closed = all_numbered WasClosed (deposits h) n found.0 (closed_deposits h legal) found.1 in
     let place = all_numbered (HasPlace h) (deposits h) n found.0 (placed_deposits h legal) found.1 in
+    let bag = (all_numbered HasSoundBag (deposits h) n found.0 (sound_deposits reads judges h legal) found.1).bag in
     subst (IsDepositRow (picture version h)) found.2 (record {
       accession = made.1.accession;
       collection = collection_there h found.0.1.collection place.0;
@@ -180,8 +201,8 @@ deposit_ranged h version legal n row e =
       closed = day_number found.0.1.closed made.1.closed;
       deposited = day_number found.0.0 made.0;
       in_turn = closed;
-      files = omega (arith, signed_arith);
-      bytes = omega (arith, signed_arith);
+      files = (omega (arith, signed_arith), omega (arith, signed_arith, bag.few, payload_few found.0.1.bag));
+      bytes = (omega (arith, signed_arith), omega (arith, signed_arith, bag.few, payload_small found.0.1.bag bag.each));
       gone = day_ranged (destruction_day h n) (gone_days h legal n);
     })
 
@@ -259,8 +280,8 @@ rows_in_range reads judges h version legal =
       office = record {
         id = refl;
         version = refl;
-        max_deposits = (omega (arith, signed_arith, within.deposits_limit.0), omega (arith, signed_arith, within.deposits_limit.1));
-        max_holds = (omega (arith, signed_arith, within.holds_limit.0), omega (arith, signed_arith, within.holds_limit.1));
+        max_deposits = within.deposits_limit;
+        max_holds = within.holds_limit;
       };
       few_deposits = omega (arith, signed_arith, within.deposits_in, few_told (row_of_deposit h) (numbers (length (deposits h))), length-range_with_len 1 (length (deposits h)));
       few_holds = omega (arith, signed_arith, within.holds_in, few_told (row_of_hold h) (numbers (length (holds h))), length-range_with_len 1 (length (holds h)));
@@ -271,7 +292,7 @@ rows_in_range reads judges h version legal =
       places = numbered_rules 1 (policy h).rules;
       classes = all_texts_told IsClassRow (row_of_class h) (class_ranged h legal) (in_first_places (filter_map class_in h.changes));
       collections = all_distinct IsName [] (filter_map collection_in h.changes) (named_collections h legal);
-      deposits = all_told (IsDepositRow (picture version h)) (row_of_deposit h) (deposit_ranged h version legal) (numbers (length (deposits h)));
+      deposits = all_told (IsDepositRow (picture version h)) (row_of_deposit h) (deposit_ranged reads judges h version legal) (numbers (length (deposits h)));
       deposit_numbers = numbered_rows (deposits h) (deposit_row h) (λ (row : DepositRow). row.number) (λ n x. refl) (length (deposits h)) 1 (omega arith) (omega arith);
       files = passing_rows (IsFileRow (picture version h)) (λ n. is_none (destruction_day h n)) (λ n. map (file_row n) (files_of h n)) (λ n passes. kept_ranged reads judges h version legal n (is_nothing (destruction_day h n) passes)) (numbers (length (deposits h)));
       holds = all_told (IsHoldRow (picture version h)) (row_of_hold h) (hold_ranged h version legal) (numbers (length (holds h)));

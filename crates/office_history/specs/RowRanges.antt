@@ -3,13 +3,13 @@
 use Rattle.std.specs.Prelude.{◌≡◌, ℕ, ◌+◌, ◌≤◌, ◌≤ℤ◌, ◌⊎◌, ℤ, pos, neg_ℤ, List, [], ◌∷◌, length, map, Option, Some, None, IsSome, IfSome, Contains, codes}
 use Rattle.std.specs.List.{AllByRecursion}
 use Rattle.jiff.specs.Words.{IsBetween}
-use Rattle.bag_text.specs.TransferForm.{Fits}
+use Rattle.bag_text.specs.TransferForm.{Fits, max_content, max_files}
 use Rattle.office_core.specs.Actions.{action_text}
 use Rattle.office_core.specs.Bounds.{max_callers, max_rules, max_years}
 use Rattle.office_core.specs.Days.{IsDayNumber}
 use Rattle.office_core.specs.Names.{IsName, IsAccession, IsMatter}
 use Rattle.office_core.specs.declared.action.Action.{Action}
-use Rattle.office_rows.specs.Rows.{OfficeRow, CallerRow, RuleRow, ClassRow, DepositRow, FileRow, HoldRow, Tables, max_limit}
+use Rattle.office_rows.specs.Rows.{OfficeRow, CallerRow, RuleRow, ClassRow, DepositRow, FileRow, HoldRow, Tables, IsLimit}
 use Rattle.office_history.specs.Lists.{item_numbered}
 
 -- the numbers of the rows are these: n, n + 1, n + 2 and so on
@@ -22,8 +22,8 @@ AreNumbered number n (row ∷ rows) = (number row ≡ pos n) × AreNumbered numb
 pub record IsOfficeRow (tables_version : ℤ) (row : OfficeRow) : Type 0 where
   pub id : row.id ≡ pos 1
   pub version : row.version ≡ tables_version
-  pub max_deposits : IsBetween (pos 1) (pos max_limit) row.max_deposits
-  pub max_holds : IsBetween (pos 1) (pos max_limit) row.max_holds
+  pub max_deposits : IsLimit row.max_deposits
+  pub max_holds : IsLimit row.max_holds
 
 pub record IsCallerRow (row : CallerRow) : Type 0 where
   pub name : IsName row.name
@@ -56,8 +56,8 @@ pub record IsDepositRow (tables : Tables) (row : DepositRow) : Type 0 where
   pub closed : IsDayNumber row.closed
   pub deposited : IsDayNumber row.deposited
   pub in_turn : row.closed ≤ℤ row.deposited
-  pub files : pos 0 ≤ℤ row.files
-  pub bytes : pos 0 ≤ℤ row.bytes
+  pub files : IsBetween (pos 0) (pos max_files) row.files
+  pub bytes : IsBetween (pos 0) (pos (max_files * max_content)) row.bytes
   pub gone : IfSome row.gone IsDayNumber
 
 -- a file that a bag may have, of a deposit that is there and was not destroyed

@@ -1,9 +1,9 @@
 -- Runs of requests, and the histories that they make.
-use Rattle.std.specs.Prelude.{◌≡◌, ℕ, ◌≤◌, ◌⊎◌, List, [], ◌∷◌, length}
+use Rattle.std.specs.Prelude.{◌≡◌, ℕ, pos, ◌≤◌, ◌⊎◌, List, [], ◌∷◌, length}
 use Rattle.std.specs.List.{AllByRecursion}
 use denote.Ref.{Bor}
 use Rattle.jiff.specs.Types.{Date}
-use Rattle.office_rows.specs.Rows.{max_limit}
+use Rattle.office_rows.specs.Rows.{IsLimit}
 use Rattle.office_core.specs.Days.{IsDay}
 use Rattle.office_core.specs.Policies.{Contents, IsPolicy}
 use Rattle.office_core.specs.Requests.{IsRequest}
@@ -57,13 +57,9 @@ abbrev pub new_history : ℕ → ℕ → History
 new_history max_deposits max_holds =
     record { max_deposits = max_deposits; max_holds = max_holds; changes = [] }
 
--- a limit of an office is from 1 to 1,000,000
-abbrev pub IsLimit : ℕ → Type 0
-IsLimit most = (1 ≤ most) × (most ≤ max_limit)
-
 -- A legal history is made from that of a new office by installs of policies and by requests, all in range.
 pub data IsLegal : History → Type 0 where
-  new : (max_deposits max_holds : ℕ) → IsLimit max_deposits → IsLimit max_holds → IsLegal (new_history max_deposits max_holds)
+  new : (max_deposits max_holds : ℕ) → IsLimit (pos max_deposits) → IsLimit (pos max_holds) → IsLegal (new_history max_deposits max_holds)
   install : (h : History) (policy : Contents) → IsPolicy policy → IsLegal h → IsLegal (with_changes h (Installed policy ∷ []))
   serve : (h : History) (day : Date) (caller : List ℕ) (request : Request)
       → IsDay day → IsRequest request → IsLegal h → IsLegal (after h day caller request)
@@ -80,8 +76,8 @@ pub record IsSound (files : List File) : Type 0 where
 pub record IsWithin (h : History) : Type 0 where
   pub deposits_in : length (deposits h) ≤ h.max_deposits
   pub holds_in : length (holds h) ≤ h.max_holds
-  pub deposits_limit : IsLimit h.max_deposits
-  pub holds_limit : IsLimit h.max_holds
+  pub deposits_limit : IsLimit (pos h.max_deposits)
+  pub holds_limit : IsLimit (pos h.max_holds)
 
 -- the history as it was when these were its changes
 abbrev pub as_of : History → List Change → History

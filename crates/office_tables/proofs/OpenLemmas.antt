@@ -33,10 +33,10 @@ use Rattle.sql_meaning.proofs.Scanning.{scan, as_program, passes, shown_of, Scan
 use Rattle.sql_meaning.proofs.Typed.{both, int_in, all_both}
 use Rattle.sql_meaning.proofs.Whole.{keeps_rule}
 use Rattle.office_tables.specs.Schema.{office_schema, office_table, needed}
-use Rattle.office_rows.specs.Rows.{OfficeRow, is_in_range, is_known, version_of}
+use Rattle.office_rows.specs.Rows.{OfficeRow, is_known, version_of}
 use Rattle.office_tables.specs.Tables.{IsOffice, tables_of, office_in}
 use Rattle.office_tables.proofs.Looking.{all_passed_over, known_there}
-use Rattle.office_tables.specs.Opening.{has_office, look_text, Looks, ShowsVersion, shows_office, is_one, is_limit, is_int as is_whole}
+use Rattle.office_tables.specs.Opening.{has_office, look_text, Looks, ShowsVersion, shows_office, is_one, is_limit_told, is_int as is_whole}
 
 -- a stored row of the office, as the rules of its table leave it
 abbrev IsOfficeRow : Row → Type 0
@@ -90,13 +90,9 @@ one_is (pos n) = elim (cases_Bool (n == 1)) [
 ]
 one_is (negsuc n) = refl
 
-limit_is : (n : ℤ) → is_limit (Int n) ≡ is_in_range n
-limit_is (pos n) = refl
-limit_is (negsuc n) = refl
-
 shows_is : (r : Row) → IsOfficeRow r → IsTrue (is_int (rowid r)) → shows_office (shown_of [] look_columns r) ≡ is_known (office_in r)
 shows_is r it whole =
-    ap₂ ◌&&◌ (ap is_one (int_is (rowid r) whole) ∙ one_is (int_at r 0)) (ap₂ ◌&&◌ (ap is_whole it.0) (ap₂ ◌&&◌ (ap is_limit it.1 ∙ limit_is (int_at r 3)) (ap is_limit it.2 ∙ limit_is (int_at r 4))))
+    ap₂ ◌&&◌ (ap is_one (int_is (rowid r) whole) ∙ one_is (int_at r 0)) (ap₂ ◌&&◌ (ap is_whole it.0) (ap₂ ◌&&◌ (ap is_limit_told it.1) (ap is_limit_told it.2)))
 
 module _ (db : Database) (office : IsOffice db) where
   abbrev known : Row → Bool

@@ -1,5 +1,5 @@
 -- When a database is an office, and what making and opening one leaves.
-use Rattle.std.specs.Prelude.{◌⊎◌, ◌&&◌, ◌==◌, nat_le, IsTrue, is_some, slice_get, option_and_then, find, ◌≡◌, ◌≢◌, ℕ, ℤ, Bool, true, false, List, [], codes, Option, Some, None, Ok, pos}
+use Rattle.std.specs.Prelude.{◌⊎◌, ◌&&◌, ◌==◌, IsTrue, is_some, slice_get, option_and_then, find, ◌≡◌, ◌≢◌, ℕ, ℤ, Bool, true, false, List, [], codes, Option, Some, None, Ok, pos}
 use Rattle.sqlite.specs.declared.types.Value.{Value}
 use Rattle.sqlite.specs.declared.types.Value.TheVariants.{Int}
 use Rattle.sqlite.specs.Order.{Row, column}
@@ -11,7 +11,7 @@ use Rattle.sqlite.specs.Effect.{Database, Reads}
 use Rattle.sqlite.specs.State.{State}
 use Rattle.sqlite_schema.specs.Names.{table_named, column_named}
 use Rattle.sqlite_resolve.specs.declared.compiled.Compiled.{Compiled}
-use Rattle.office_rows.specs.Rows.{Tables, max_limit, version_of}
+use Rattle.office_rows.specs.Rows.{Tables, is_limit, version_of}
 use Rattle.office_tables.specs.Tables.{Becomes}
 
 -- ---- what is left
@@ -51,9 +51,9 @@ abbrev pub is_one : Value → Bool
 is_one (Int (pos n)) = n == 1
 is_one _ = false
 
-abbrev pub is_limit : Value → Bool
-is_limit (Int (pos n)) = nat_le 1 n && nat_le n max_limit
-is_limit _ = false
+abbrev pub is_limit_told : Value → Bool
+is_limit_told (Int n) = is_limit n
+is_limit_told _ = false
 
 abbrev pub is_int : Value → Bool
 is_int (Int n) = true
@@ -61,7 +61,7 @@ is_int _ = false
 
 -- a row 1 of whole numbers, with limits in range
 abbrev pub shows_office : Row → Bool
-shows_office row = is_one (column row 0) && (is_int (column row 1) && (is_limit (column row 2) && is_limit (column row 3)))
+shows_office row = is_one (column row 0) && (is_int (column row 1) && (is_limit_told (column row 2) && is_limit_told (column row 3)))
 
 -- the first row that is so; a table without a key may have several, which come by version, and of which this one counts
 abbrev pub known_row : List Row → Option Row

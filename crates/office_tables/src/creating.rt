@@ -1,6 +1,6 @@
 //! Making an office.
 
-ghost use Rattle.std.specs.Prelude.{pos, [], ◌≡◌, ◌≢◌, ◌≤◌, Err, false, map, IfErr, OnOk, OnErr, IsTrue};
+ghost use Rattle.std.specs.Prelude.{pos, [], ◌≡◌, ◌≢◌, Err, false, map, IfErr, OnOk, OnErr, IsTrue};
 ghost use Rattle.sqlite.specs.Schema.{Schema};
 ghost use Rattle.sqlite.specs.Tree.{Trees};
 ghost use Rattle.sqlite.specs.State.{HasCleanDisk, Survives};
@@ -10,7 +10,7 @@ ghost use Rattle.sql_meaning.specs.Whole.{IsBlank};
 ghost use Rattle.office_tables.specs.Calls.{CommitsNothing, Continues, ContinuesInTurn};
 ghost use Rattle.office_tables.specs.Faults.{IsFailure};
 ghost use Rattle.office_tables.specs.Schema.{no_schema, office_schema};
-ghost use Rattle.office_rows.specs.Rows.{this_version, empty_office, max_limit};
+ghost use Rattle.office_rows.specs.Rows.{this_version, empty_office, IsLimit};
 ghost use Rattle.office_tables.specs.Tables.{Becomes};
 ghost use Rattle.office_tables.specs.Opening.{IsKept, IsMade, IsLeft};
 
@@ -119,10 +119,8 @@ pub fn create<S: Alter>(
     max_holds: u32,
 ) -> Result<(), TableFault>
     requires outside { (state S.Store conn.old).in_transaction ≡ false }
-    requires some_deposits { 1 ≤ max_deposits }
-    requires few_deposits { max_deposits ≤ max_limit }
-    requires some_holds { 1 ≤ max_holds }
-    requires few_holds { max_holds ≤ max_limit }
+    requires deposits { IsLimit (pos max_deposits) }
+    requires holds { IsLimit (pos max_holds) }
     ensures outside { (state S.Store conn.new).in_transaction ≡ false }
     ensures survives { Survives (state S.Store conn.old) (state S.Store conn.new) (IsLeft (empty_office this_version (pos max_deposits) (pos max_holds))) }
     ensures made { HasCleanDisk (state S.Store conn.new) → OnOk result (IsMade (state S.Store conn.new) (empty_office this_version (pos max_deposits) (pos max_holds))) }

@@ -13,12 +13,10 @@ ghost use Rattle.office_tables.specs.Opening.{shows_office, known_row, ShowsVers
 
 use crate::fault::TableFault;
 use crate::run::ask;
+use office_rows::is_limit;
 use sqlite::types::ValueRef;
 use sqlite::{Alter, Connection, Row, Transaction, params};
 use sqlite_schema::schema::Schema;
-
-/// The most deposits, and the most holds, that an office may be told to accept.
-const MAX_LIMIT: i64 = 1_000_000;
 
 /// The version that a row tells, where it is the row of an office.
 fn version_in(row: &Row) -> Option<i64>
@@ -30,12 +28,15 @@ fn version_in(row: &Row) -> Option<i64>
     let Ok(ValueRef::Int(version)) = row.get_ref(1) else {
         return None;
     };
-    let Ok(ValueRef::Int(1..=MAX_LIMIT)) = row.get_ref(2) else {
+    let Ok(ValueRef::Int(max_deposits)) = row.get_ref(2) else {
         return None;
     };
-    let Ok(ValueRef::Int(1..=MAX_LIMIT)) = row.get_ref(3) else {
+    let Ok(ValueRef::Int(max_holds)) = row.get_ref(3) else {
         return None;
     };
+    if !is_limit(max_deposits) || !is_limit(max_holds) {
+        return None;
+    }
     Some(version)
 }
 

@@ -1,8 +1,9 @@
 //! The plain office: its limits and the changes that it accepted.
 
 ghost use Rattle.std.specs.Prelude.{◌≡◌, ◌≤◌, length, [], ◌∷◌, IfErr, IfOk, OnOk, OnErr};
-ghost use Rattle.office_history.specs.Histories.{with_changes, Installed};
-ghost use Rattle.office_history.specs.Runs.{new_history, IsLegal, IsWithin};
+ghost use Rattle.office_rows.specs.Rows.{max_limit};
+ghost use Rattle.office_history.specs.Histories.{with_changes, Installed, deposits, holds};
+ghost use Rattle.office_history.specs.Runs.{new_history, IsLegal};
 ghost use Rattle.office_history.specs.PlainOffices.{HasRoom};
 ghost use Rattle.office_history.specs.PlainChanges.{change_seen};
 
@@ -56,9 +57,10 @@ impl Office {
 }
 
 /// The accepted changes, the oldest first.
+#[tactic(auto, using(crate::proofs::PlainLemmas::few))]
 pub fn changes_of(office: &Office) -> &[Change]
     ensures changes { result.now ≡ office.now.changes }
-    ensures within { IsWithin office.now }
+    ensures few { (length (deposits office.now) ≤ max_limit) × (length (holds office.now) ≤ max_limit) }
 {
     office.changes.as_slice()
 }
