@@ -8,7 +8,7 @@ use Rattle.commands.specs.declared.ending.Ending.TheVariants.{Failed, Unsaid}
 use Rattle.commands.specs.declared.outcome.Outcome.{Outcome}
 use Rattle.commands.specs.declared.program.Failure.{Failure}
 use Rattle.commands.specs.declared.program.Failure.TheVariants.{Memory}
-use Rattle.commands.specs.Failing.{IsToldWhy, message_of}
+use Rattle.commands.specs.Failing.{IsCutShort, IsToldWhy, message_of}
 use Rattle.commands.specs.Printing.{reason_of}
 use Rattle.commands.specs.declared.line.Line.{Line}
 use Rattle.commands.specs.declared.line.Line.TheVariants.{Check, Explain}
@@ -50,6 +50,11 @@ pub data IsToBeSaid (words : List Text) (text : List ℕ) : Type 0 where
   of_failure : (failure : Failure) → CanFail words failure → text ≡ message_of failure → IsToBeSaid words text
   of_use : is_taken words ≡ false → (command_in words ≡ None → text ≡ uses_text) → IsToBeSaid words text
   of_outcome : (line : Line) (outcome : Outcome) → HasValues words line → SaysOf line outcome → reason_of outcome ≡ Some text → IsToBeSaid words text
+
+-- the output is as it was, or has a beginning of what is said of the line that the words spell
+abbrev pub IsWrittenInPart : List Text → Option (List ℕ) → Option (List ℕ) → Type 0 → Type 0
+IsWrittenInPart words old new untouched =
+    untouched ⊎ ((line : Line) × (outcome : Outcome) × HasValues words line × SaysOf line outcome × IsCutShort (string_bytes outcome.text) old new)
 
 -- the words spell a line, and what it asks for is done: what is said of it is written and told, and the program ends so
 abbrev pub DoesWords : List Text → Option (List ℕ) → Option (List ℕ) → Option (List ℕ) → Option (List ℕ) → Type 0 → Ending → Type 0

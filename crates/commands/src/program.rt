@@ -7,7 +7,7 @@ ghost use Rattle.std.specs.declared.io.ErrorKind.TheVariants.{InvalidData};
 ghost use Rattle.commands.specs.CommandLine.{AsksToCheck, IsCheckOf, command_in, is_taken, texts, uses_text};
 ghost use Rattle.commands.specs.Failing.{BeginsWith, IsCutShort, IsToldWhy, failure_of, message_of, refusal_text};
 ghost use Rattle.commands.specs.Printing.{IsAnswer};
-ghost use Rattle.commands.specs.Running.{CanFail, DoesWords, Ends, HasFailed, IsToBeSaid, IsToBeTold, Judges, SaysOf, UnlessFailed};
+ghost use Rattle.commands.specs.Running.{CanFail, DoesWords, Ends, HasFailed, IsToBeSaid, IsToBeTold, IsWrittenInPart, Judges, SaysOf, UnlessFailed};
 ghost use Rattle.commands.specs.Checking.{Says, too_many};
 ghost use Rattle.commands.specs.Explaining.{Explains};
 ghost use Rattle.commands.specs.declared.program.Failure.{Failure};
@@ -219,6 +219,7 @@ fn say<O: Write, E: Write>(alloc: Global, outcome: &Outcome, out: &mut O, err: &
     ensures ends { UnlessFailed result (Ends outcome.now (O.contents out.old) (O.contents out.new)
         (E.contents err.old) (E.contents err.new) (err.new ≡ err.old) result) }
     ensures used { result ≢ Misused }
+    ensures cut { IsCutShort (string_bytes outcome.now.text) (O.contents out.old) (O.contents out.new) }
     ensures failed { result ≡ Failed → (failure : Failure)
         × BeginsWith (message_of failure) (E.contents err.old) (E.contents err.new) }
     ensures unsaid { result ≡ Unsaid → (text : List ℕ) × IsToBeTold outcome.now text
@@ -262,7 +263,10 @@ pub fn run<F: Files + AllocGlobal, R: Read, O: Write, E: Write>(
     // Nothing else touches the input.
     ensures untouched { (AsksToCheck (texts words.now) (codes "-") → ⊥) → input.new ≡ input.old }
 
-    // Where a device or memory fails, standard error says so.
+    // Where a device or memory fails, standard output has a beginning of what there was to write.
+    ensures cut { HasFailed result → IsWrittenInPart (texts words.now)
+        (O.contents out.old) (O.contents out.new) (out.new ≡ out.old) }
+    // Standard error says so.
     ensures failed { result ≡ Failed → (failure : Failure) × CanFail (texts words.now) failure
         × BeginsWith (message_of failure) (E.contents err.old) (E.contents err.new) }
     // Where standard error itself fails, it has a beginning of what there was to say.

@@ -5,7 +5,7 @@ ghost use Rattle.sqlite.specs.WalFiles.{image_at};
 ghost use Rattle.commands.specs.Checking.{too_many};
 ghost use Rattle.commands.specs.CommandLine.{AsksToCheck, command_in, is_taken, texts, uses_text};
 ghost use Rattle.commands.specs.Failing.{BeginsWith, IsCutShort, message_of};
-ghost use Rattle.commands.specs.Running.{CanFail, DoesWords, IsToBeSaid, Judges, UnlessFailed};
+ghost use Rattle.commands.specs.Running.{CanFail, DoesWords, HasFailed, IsToBeSaid, IsWrittenInPart, Judges, UnlessFailed};
 ghost use Rattle.commands.specs.declared.ending.Ending.TheVariants.{Failed, Misused, Unsaid};
 ghost use Rattle.commands.specs.declared.program.Failure.{Failure};
 ghost use Rattle.commands.specs.declared.use_fault.UseFault.{UseFault};
@@ -125,8 +125,10 @@ pub fn run<S: Start, R: Read, O: Write, E: Write>(
         (E.contents err.old) (E.contents err.new) (err.new ≡ err.old) result)) }
     ensures untouched { NamesNone (texts words.now)
         → (AsksToCheck (texts words.now) (codes "-") → ⊥) → input.new ≡ input.old }
-    // Where a device or memory fails, standard error says so, or has a beginning of what there was to
-    // say, where it fails itself.
+    // Where a device or memory fails, standard output has a beginning of what there was to write, and
+    // standard error says so, or has a beginning of what there was to say, where it fails itself.
+    ensures cut { NamesNone (texts words.now) → HasFailed result → IsWrittenInPart (texts words.now)
+        (O.contents out.old.device) (O.contents out.new.device) (out.new ≡ out.old) }
     ensures failed { NamesNone (texts words.now) → result ≡ Failed
         → (failure : Failure) × CanFail (texts words.now) failure
         × BeginsWith (message_of failure) (E.contents err.old) (E.contents err.new) }

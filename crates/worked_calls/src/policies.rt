@@ -1,4 +1,4 @@
-//! The calls of `office_core`: days, names, policies, decisions and verdicts.
+//! The calls of `office_core` and `office_rows`: days, limits, names, policies, decisions and verdicts.
 
 use crate::marks::text_of;
 use fault_words::InWords;
@@ -6,6 +6,7 @@ use office_core::{
     Accession, Action, Ask, Day, Decision, Due, Effect, Facts, Limits, Matter, Name, Policy,
     Verdict, Years, decide, denial_verdict, due, first_match, read_policy, verdict,
 };
+use office_rows::{MAX_LIMIT, is_limit};
 use std::alloc::{AllocError, Global};
 use std::fmt::Write;
 use std::test::*;
@@ -80,6 +81,8 @@ fn due_days_and_limits(rt: HostRuntime) -> Result<(), Fail> {
     assert!(rt; Limits::new(1, 1_000_000).is_some());
     assert!(rt; Limits::new(0, 1).is_none());
     assert!(rt; Limits::new(1, 1_000_001).is_none());
+    assert!(rt; is_limit(i64::from(MAX_LIMIT)));
+    assert!(rt; !is_limit(-1));
     Ok(())
 }
 

@@ -1,4 +1,4 @@
-use Rattle.std.proofs.Common.{codes, refl, sym, ◌∙◌}
+use Rattle.std.proofs.Common.{codes, inr, refl, sym, ◌∙◌}
 use Rattle.std.proofs.lemmas.Bool.{false≢true}
 use Rattle.commands.specs.CommandLine.{texts}
 use Rattle.commands.specs.Failing.{failure_in, message_of}
@@ -16,6 +16,10 @@ pub returns-in-Ok-answer-clause-judged : goal.returns-in-Ok-answer-clause-judged
 returns-in-Ok-answer-clause-judged g c = λ asks.
     judges_known (g.R.Read.remaining c.args.input.now) c.in-Ok-answer.outcome _ _ _ _ _ _
     (c.in-Ok-answer.ensures.judged (asks_check (texts c.args.words.now) c.in-Ok.line (codes "-") c.in-Ok.ensures.values asks)) c.say.ensures.ends
+
+pub returns-in-Ok-answer-clause-cut : goal.returns-in-Ok-answer-clause-cut
+returns-in-Ok-answer-clause-cut g c = λ failed.
+    inr (c.in-Ok.line, c.in-Ok-answer.outcome, c.in-Ok.ensures.values, c.in-Ok-answer.ensures.says, c.say.ensures.cut)
 
 pub returns-in-Ok-answer-clause-unsaid : goal.returns-in-Ok-answer-clause-unsaid
 returns-in-Ok-answer-clause-unsaid g c = λ unsaid.
