@@ -67,7 +67,7 @@ fn files_reason(alloc: Global, fault: SetFault, path: &Option<String>) -> Result
 }
 
 /// What is said where the work wasn't done: this line, and why in these words.
-fn refused(alloc: Global, line: &str, words: &str) -> Result<Said, AllocError>
+fn refusal_said(alloc: Global, line: &str, words: &str) -> Result<Said, AllocError>
     ensures { IfOk result (SaysWhy line.now (line_of words.now)) }
 {
     Ok(Said {
@@ -90,13 +90,13 @@ pub fn pack_said(alloc: Global, packing: Result<Packed, PackFault>) -> Result<Sa
             reason: None,
             is_done: true,
         }),
-        Err(PackFault::Name) => Ok(refused(alloc, "unpackable NAME\n", odd_entry_words())?),
+        Err(PackFault::Name) => Ok(refusal_said(alloc, "unpackable NAME\n", odd_entry_words())?),
         Err(PackFault::Set { fault, path }) => Ok(Said {
             text: format!(in alloc; "unpackable {fault}\n")?,
             reason: Some(files_reason(alloc, fault, &path)?),
             is_done: false,
         }),
-        Err(PackFault::Size) => Ok(refused(alloc, "unpackable SIZE\n", too_large_words())?),
+        Err(PackFault::Size) => Ok(refusal_said(alloc, "unpackable SIZE\n", too_large_words())?),
         Err(PackFault::Device(trouble)) => Err(Failed::Device(trouble)),
         Err(PackFault::Memory) => Err(Failed::Memory),
     }
@@ -120,7 +120,7 @@ pub fn unpack_said(alloc: Global, unpacking: Result<Unpacked, UnpackFault>) -> R
             reason: Some(form_lines(alloc, fault, other)?),
             is_done: false,
         }),
-        Err(UnpackFault::Size) => Ok(refused(alloc, "unreadable SIZE\n", too_long_words())?),
+        Err(UnpackFault::Size) => Ok(refusal_said(alloc, "unreadable SIZE\n", too_long_words())?),
         Err(UnpackFault::Exists) => Ok(Said {
             text: String::from_str(alloc, "exists\n")?,
             reason: None,

@@ -16,7 +16,7 @@ const LISTING: &[u8] =
 /// Reads the words of `check`.
 pub fn read_check(alloc: Global) -> Outcome {
     match read_line(alloc, ["check", "-"].as_slice()) {
-        Ok(Line::Check { file }) => Outcome::expected(file == "-"),
+        Ok(Line::Check { file }) => Outcome::expected_if(file == "-"),
         Err(UseFault::Memory) => Outcome::Memory,
         Ok(Line::Explain(_)) | Err(UseFault::Use(_)) => Outcome::Wrong,
     }
@@ -26,7 +26,7 @@ pub fn read_check(alloc: Global) -> Outcome {
 pub fn read_explain(alloc: Global) -> Outcome {
     let words = ["explain", "p", "anna", "list", "-", "y1"];
     match read_line(alloc, words.as_slice()) {
-        Ok(Line::Explain(asked)) => Outcome::expected(asked.caller == "anna"),
+        Ok(Line::Explain(asked)) => Outcome::expected_if(asked.caller == "anna"),
         Err(UseFault::Memory) => Outcome::Memory,
         Ok(Line::Check { .. }) | Err(UseFault::Use(_)) => Outcome::Wrong,
     }
@@ -36,7 +36,7 @@ pub fn read_explain(alloc: Global) -> Outcome {
 pub fn refuse_words(alloc: Global) -> Outcome {
     match read_line(alloc, ["check"].as_slice()) {
         Ok(_) => Outcome::Wrong,
-        Err(UseFault::Use(text)) => Outcome::expected(text.ends_with('\n')),
+        Err(UseFault::Use(text)) => Outcome::expected_if(text.ends_with('\n')),
         Err(UseFault::Memory) => Outcome::Memory,
     }
 }
@@ -44,8 +44,8 @@ pub fn refuse_words(alloc: Global) -> Outcome {
 /// Reads the transfer form of a bag.
 pub fn read_form(alloc: Global) -> Outcome {
     match read_bagset(alloc, BAG) {
-        Ok(bag) => Outcome::expected(bag.files().len() == 3),
-        Err(fault) => Outcome::memory(fault == SetFault::Memory),
+        Ok(bag) => Outcome::expected_if(bag.files().len() == 3),
+        Err(fault) => Outcome::memory_if(fault == SetFault::Memory),
     }
 }
 
@@ -53,10 +53,10 @@ pub fn read_form(alloc: Global) -> Outcome {
 pub fn judge_form(alloc: Global) -> Outcome {
     let bag = match read_bagset(alloc, BAG) {
         Ok(bag) => bag,
-        Err(fault) => return Outcome::memory(fault == SetFault::Memory),
+        Err(fault) => return Outcome::memory_if(fault == SetFault::Memory),
     };
     match check_bag(alloc, &bag) {
-        Ok(report) => Outcome::expected(report.files == 1 && report.bytes == 3),
+        Ok(report) => Outcome::expected_if(report.files == 1 && report.bytes == 3),
         Err(BagFault::Memory) => Outcome::Memory,
         Err(_) => Outcome::Wrong,
     }
@@ -65,16 +65,18 @@ pub fn judge_form(alloc: Global) -> Outcome {
 /// Reads a manifest that spells one of its paths.
 pub fn read_listing(alloc: Global) -> Outcome {
     match read_manifest(alloc, LISTING, Version::V1_0, Algorithm::Sha256) {
-        Ok(manifest) => Outcome::expected(manifest.lists("data/a\n") && manifest.lists("data/b")),
-        Err(fault) => Outcome::memory(fault == LineFault::Memory),
+        Ok(manifest) => Outcome::expected_if(
+            manifest.lists("data/a\n") && manifest.lists("data/b"),
+        ),
+        Err(fault) => Outcome::memory_if(fault == LineFault::Memory),
     }
 }
 
 /// Reads a text of `bag-info.txt`.
 pub fn read_pairs(alloc: Global) -> Outcome {
     match read_bag_info(alloc, b"A: b\n  c\n  d\nE: f\n") {
-        Ok(info) => Outcome::expected(info.pairs.len() == 2),
-        Err(fault) => Outcome::memory(fault == InfoFault::Memory),
+        Ok(info) => Outcome::expected_if(info.pairs.len() == 2),
+        Err(fault) => Outcome::memory_if(fault == InfoFault::Memory),
     }
 }
 
@@ -82,11 +84,11 @@ pub fn read_pairs(alloc: Global) -> Outcome {
 pub fn write_form(alloc: Global) -> Outcome {
     match BagSet::of(alloc, &[("a", b"b"), ("c", b"")]) {
         Ok(bag) => match write_bagset(alloc, &bag) {
-            Ok(text) => Outcome::expected(
+            Ok(text) => Outcome::expected_if(
                 text.as_slice() == b"BAGSET 1\nFILE 1 1\nab\nFILE 1 0\nc\nEND\n".as_slice(),
             ),
             Err(_) => Outcome::Memory,
         },
-        Err(fault) => Outcome::memory(fault == SetFault::Memory),
+        Err(fault) => Outcome::memory_if(fault == SetFault::Memory),
     }
 }

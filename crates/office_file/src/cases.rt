@@ -35,7 +35,7 @@ impl Group {
             Group::Bags => groups::bags(rt),
             Group::Tables => groups::tables(rt),
             Group::Office => groups::office(rt),
-            Group::Stored => groups::stored(rt),
+            Group::Stored => groups::office_over_tables(rt),
         }
     }
 }

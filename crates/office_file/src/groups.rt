@@ -73,22 +73,22 @@ pub fn office(rt: &HostRuntime) -> io::Result<()> {
     let Some(mut office) = offices::plain(alloc) else {
         return say(rt, "an office", Outcome::Wrong);
     };
-    asked(rt, &mut office)?;
+    ask_session(rt, &mut office)?;
     let outcome = offices::count(alloc, &office, offices::KEPT);
     say(rt, "contents counted", outcome)?;
-    asked_last(rt, &mut office)?;
+    ask_end(rt, &mut office)?;
     let outcome = offices::count(alloc, &office, offices::NOTHING);
     say(rt, "no contents counted", outcome)
 }
 
 /// The same session with the office over tables in memory.
-pub fn stored(rt: &HostRuntime) -> io::Result<()> {
-    let Some((outcome, mut office)) = offices::stored(rt.alloc()) else {
+pub fn office_over_tables(rt: &HostRuntime) -> io::Result<()> {
+    let Some((outcome, mut office)) = offices::over_tables(rt.alloc()) else {
         return say(rt, "an office over tables", Outcome::Wrong);
     };
     say(rt, "an office over tables", outcome)?;
-    asked(rt, &mut office)?;
-    let Some((outcome, mut office)) = offices::adopted(office) else {
+    ask_session(rt, &mut office)?;
+    let Some((outcome, mut office)) = offices::adopt_again(office) else {
         return say(rt, "the office again", Outcome::Wrong);
     };
     say(rt, "the office again", outcome)?;
@@ -97,14 +97,14 @@ pub fn stored(rt: &HostRuntime) -> io::Result<()> {
         "numbers that are due",
         offices::due(rt.alloc(), &mut office),
     )?;
-    asked_last(rt, &mut office)
+    ask_end(rt, &mut office)
 }
 
-fn asked<O: AnyOffice>(rt: &HostRuntime, office: &mut O) -> io::Result<()> {
+fn ask_session<O: AnyOffice>(rt: &HostRuntime, office: &mut O) -> io::Result<()> {
     say(
         rt,
         "a policy installed",
-        offices::installed(rt.alloc(), office),
+        offices::install_policy(rt.alloc(), office),
     )?;
     for (name, day, part) in &offices::SESSION {
         say(rt, name, offices::come_out(rt.alloc(), office, day, *part))?;
@@ -117,7 +117,7 @@ fn asked<O: AnyOffice>(rt: &HostRuntime, office: &mut O) -> io::Result<()> {
 }
 
 /// The end of the session.
-fn asked_last<O: AnyOffice>(rt: &HostRuntime, office: &mut O) -> io::Result<()> {
+fn ask_end<O: AnyOffice>(rt: &HostRuntime, office: &mut O) -> io::Result<()> {
     for (name, day, part) in &offices::END {
         say(rt, name, offices::come_out(rt.alloc(), office, day, *part))?;
     }

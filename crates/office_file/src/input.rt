@@ -18,7 +18,7 @@ pub enum Input {
 }
 
 impl Input {
-    pub fn named(word: &str) -> Option<Input> {
+    pub fn read(word: &str) -> Option<Input> {
         match word {
             "hear" => Some(Input::Heard),
             "read-all" => Some(Input::Whole),

@@ -9,7 +9,7 @@ use worked_bags::{WorkedBag, WorkedQuestion};
 
 /// What a run on these words and this standard input prints and how it ends, with room for the lines
 /// taken first.
-fn printed<R: Files + AllocGlobal>(
+fn run_words<R: Files + AllocGlobal>(
     rt: &R,
     words: &[&str],
     mut input: &[u8],
@@ -31,9 +31,9 @@ fn outcome(
     match found {
         Err(_) => Outcome::Memory,
         Ok((out, err, Ending::Failed)) => {
-            Outcome::memory(out.is_empty() && err.as_slice() == b"memory\n".as_slice())
+            Outcome::memory_if(out.is_empty() && err.as_slice() == b"memory\n".as_slice())
         }
-        Ok((out, err, found)) => Outcome::expected(
+        Ok((out, err, found)) => Outcome::expected_if(
             out.as_slice() == line.as_bytes()
                 && err.as_slice() == reason.as_bytes()
                 && found == ending,
@@ -44,7 +44,7 @@ fn outcome(
 /// Judges a bag from standard input.
 pub fn judge<R: Files + AllocGlobal>(rt: &R, worked: WorkedBag) -> Outcome {
     let (form, line, reason, ending) = worked;
-    let found = printed(rt, ["check", "-"].as_slice(), form);
+    let found = run_words(rt, ["check", "-"].as_slice(), form);
     outcome(found, line, reason, ending)
 }
 
@@ -61,7 +61,7 @@ pub fn explain<R: Files + AllocGlobal>(rt: &R, worked: WorkedQuestion) -> Outcom
         worked.collection,
         worked.class,
     ];
-    let found = printed(rt, words.as_slice(), b"");
+    let found = run_words(rt, words.as_slice(), b"");
     let _ = fs::remove_file(rt, "policy.toml");
     outcome(found, worked.line, worked.reason, worked.ending)
 }

@@ -169,7 +169,7 @@ fn take(rt: &HostRuntime, file: &str, task: Task) -> Result<()> {
 /// Does what the words after the program's name ask for.
 fn run(rt: &HostRuntime, words: &[String]) -> Result<()> {
     if let [_, word] = words {
-        return input::measure(rt, Input::named(word).context(USAGE)?);
+        return input::measure(rt, Input::read(word).context(USAGE)?);
     }
     if let [_, word, count, seed] = words {
         if word.as_str() == "draw" {

@@ -84,7 +84,7 @@ pub fn plain(alloc: Global) -> Option<plain::Office> {
 }
 
 /// A new office over tables in memory. Where memory was refused to a call, it is made once more.
-pub fn stored(alloc: Global) -> Option<(Outcome, Office<MemStore>)> {
+pub fn over_tables(alloc: Global) -> Option<(Outcome, Office<MemStore>)> {
     let limits = Limits::new(10, 10)?;
     let (outcome, conn) = match Connection::open_in_memory(alloc) {
         Ok(conn) => (Outcome::Expected, conn),
@@ -106,7 +106,7 @@ pub fn stored(alloc: Global) -> Option<(Outcome, Office<MemStore>)> {
 }
 
 /// The office of the same tables, taken out and adopted again. Where memory was refused, once more.
-pub fn adopted(office: Office<MemStore>) -> Option<(Outcome, Office<MemStore>)> {
+pub fn adopt_again(office: Office<MemStore>) -> Option<(Outcome, Office<MemStore>)> {
     match Office::adopt(office.into_connection()) {
         Ok(office) => Some((Outcome::Expected, office)),
         Err((conn, TableFault::Memory | TableFault::Store)) => match Office::adopt(conn) {
@@ -123,17 +123,17 @@ pub fn due(alloc: Global, office: &mut Office<MemStore>) -> Outcome {
         return Outcome::Wrong;
     };
     match office.due_list(alloc, day, "anna") {
-        Ok(numbers) => Outcome::expected(numbers.as_slice() == [1].as_slice()),
+        Ok(numbers) => Outcome::expected_if(numbers.as_slice() == [1].as_slice()),
         Err(TableFault::NotAnOffice | TableFault::OtherVersion) => Outcome::Wrong,
         Err(TableFault::Memory | TableFault::Store) => match office.due_list(alloc, day, "anna") {
-            Ok(numbers) => Outcome::memory(numbers.as_slice() == [1].as_slice()),
+            Ok(numbers) => Outcome::memory_if(numbers.as_slice() == [1].as_slice()),
             Err(_) => Outcome::Wrong,
         },
     }
 }
 
 /// Reads the policy and installs it.
-fn install_policy<O: AnyOffice>(alloc: Global, office: &mut O) -> Outcome {
+fn install_once<O: AnyOffice>(alloc: Global, office: &mut O) -> Outcome {
     let Ok(text) = str::from_utf8(POLICY) else {
         return Outcome::Wrong;
     };
@@ -142,15 +142,15 @@ fn install_policy<O: AnyOffice>(alloc: Global, office: &mut O) -> Outcome {
             Ok(()) => Outcome::Expected,
             Err(_) => Outcome::Memory,
         },
-        Err(fault) => Outcome::memory(fault == PolicyFault::Memory),
+        Err(fault) => Outcome::memory_if(fault == PolicyFault::Memory),
     }
 }
 
 /// Installs the policy; where memory was refused, once more, and then it has to be installed: what
 /// is asked next is denied by an office that has none.
-pub fn installed<O: AnyOffice>(alloc: Global, office: &mut O) -> Outcome {
-    match install_policy(alloc, office) {
-        Outcome::Memory => install_policy(alloc, office).again(),
+pub fn install_policy<O: AnyOffice>(alloc: Global, office: &mut O) -> Outcome {
+    match install_once(alloc, office) {
+        Outcome::Memory => install_once(alloc, office).again(),
         outcome => outcome,
     }
 }
@@ -267,17 +267,17 @@ pub fn come_out<O: AnyOffice>(alloc: Global, office: &mut O, day: &str, part: Pa
     };
     match office.step(alloc, day, "anna", &request) {
         Answer::Refused(Refusal::Memory | Refusal::Store) => {
-            Outcome::memory(fits(part, &office.step(alloc, day, "anna", &request)))
+            Outcome::memory_if(fits(part, &office.step(alloc, day, "anna", &request)))
         }
-        answer => Outcome::expected(fits(part, &answer)),
+        answer => Outcome::expected_if(fits(part, &answer)),
     }
 }
 
 /// How an answer came out.
-fn answered(part: Part, answer: &Answer) -> Outcome {
+fn outcome_of(part: Part, answer: &Answer) -> Outcome {
     match answer {
         Answer::Refused(Refusal::Memory | Refusal::Store) => Outcome::Memory,
-        answer => Outcome::expected(fits(part, answer)),
+        answer => Outcome::expected_if(fits(part, answer)),
     }
 }
 
@@ -296,9 +296,9 @@ fn items(alloc: Global) -> Result<Vec<(Day, &'static str, Request<'static>)>, Al
 fn run_together<O: AnyOffice>(alloc: Global, office: &mut O) -> Result<Outcome, AllocError> {
     let items = items(alloc)?;
     let answers = office.run(alloc, items.as_slice())?;
-    let mut outcome = Outcome::expected(answers.len() == TOGETHER.len());
+    let mut outcome = Outcome::expected_if(answers.len() == TOGETHER.len());
     for (part, answer) in TOGETHER.iter().zip(answers.iter()) {
-        outcome = outcome.and(answered(*part, answer));
+        outcome = outcome.and(outcome_of(*part, answer));
     }
     Ok(outcome)
 }
@@ -318,7 +318,7 @@ pub fn together<O: AnyOffice>(alloc: Global, office: &mut O) -> Outcome {
 /// Counts the contents of the office.
 pub fn count(alloc: Global, office: &plain::Office, kept: Stock) -> Outcome {
     match office.stock(alloc) {
-        Ok(found) => Outcome::expected(found == kept),
+        Ok(found) => Outcome::expected_if(found == kept),
         Err(_) => Outcome::Memory,
     }
 }

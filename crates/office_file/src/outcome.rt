@@ -13,7 +13,7 @@ pub enum Outcome {
 
 impl Outcome {
     /// The answer that was worked out, or a wrong one.
-    pub fn expected(holds: bool) -> Outcome {
+    pub fn expected_if(holds: bool) -> Outcome {
         if holds {
             Outcome::Expected
         } else {
@@ -22,7 +22,7 @@ impl Outcome {
     }
 
     /// Want of memory, or a wrong answer.
-    pub fn memory(holds: bool) -> Outcome {
+    pub fn memory_if(holds: bool) -> Outcome {
         if holds {
             Outcome::Memory
         } else {

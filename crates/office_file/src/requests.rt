@@ -1,6 +1,6 @@
 //! Requests that are timed, over bags of 10 KiB with three files.
 
-use crate::timed::{DECLARATION, MANIFEST, RECORD, RECORD_LENGTH, scattered};
+use crate::timed::{DECLARATION, MANIFEST, RECORD, RECORD_LENGTH, scattered_number};
 use anyhow::{Context, Result, bail};
 use bag_text::{BagSet, write_bagset};
 use office_core::{Accession, Answer, Day, Name, Refusal, Request};
@@ -96,7 +96,8 @@ pub fn repeat<S: Alter>(
     for turn in 1..=count {
         let next = last.wrapping_add(turn);
         let accession = format!(in alloc; "2026-{next:07}")?;
-        let request = request(asked, scattered(turn, last), &accession, &bag).context("a request")?;
+        let number = scattered_number(turn, last);
+        let request = request(asked, number, &accession, &bag).context("a request")?;
         let answer = office.step(alloc, day, CALLER, &request);
         if !is_answered(asked, &answer) {
             bail!("request {turn} is answered {answer:?}");

@@ -41,8 +41,8 @@ pub static SESSION: [(&str, Step); 9] = [
 /// refused has changed nothing.
 pub fn come_out<S: Alter>(alloc: Global, conn: &mut Connection<S>, step: Step) -> Outcome {
     match take(alloc, conn, step) {
-        Ok(holds) => Outcome::expected(holds),
-        Err(TableFault::Memory) => Outcome::memory(take(alloc, conn, step) == Ok(true)),
+        Ok(holds) => Outcome::expected_if(holds),
+        Err(TableFault::Memory) => Outcome::memory_if(take(alloc, conn, step) == Ok(true)),
         Err(_) => Outcome::Wrong,
     }
 }

@@ -64,7 +64,7 @@ pub fn last<S: Alter>(conn: &mut Connection<S>) -> Result<u32, TableFault> {
 }
 
 /// A number from 1 to `last`, here and there.
-pub fn scattered(turn: u32, last: u32) -> u32 {
+pub fn scattered_number(turn: u32, last: u32) -> u32 {
     let before = turn.wrapping_mul(7919).checked_rem(last).unwrap_or(0);
     before.wrapping_add(1)
 }
@@ -81,7 +81,7 @@ pub fn repeat<S: Alter>(
     for turn in 1..=count {
         match call {
             Call::Deposit => deposit(alloc, conn, last.wrapping_add(turn), &record)?,
-            _ if reads(alloc, conn, call, scattered(turn, last))? => {}
+            _ if reads(alloc, conn, call, scattered_number(turn, last))? => {}
             _ => bail!("a row is not as it was put in"),
         }
     }

@@ -22,7 +22,7 @@ use std::rt::HostRuntime;
 use store_words::StoreLine;
 
 /// What a command on a store comes to.
-fn stored(ended: Result<Ending, CommandFault>) -> Result<Done, Stopped>
+fn done_of_command(ended: Result<Ending, CommandFault>) -> Result<Done, Stopped>
     ensures done { IfOk result (λ done. (ended ≡ Ok done.ending) × (done.reason ≡ None)) }
     ensures stopped { IfErr result (λ stopped. (fault : CommandFault) × (ended ≡ Err fault) × (stopped ≡ Store fault)) }
 {
@@ -36,7 +36,7 @@ fn stored(ended: Result<Ending, CommandFault>) -> Result<Done, Stopped>
 }
 
 /// What an install of a policy comes to.
-fn installed(came: Result<PolicyOutcome, CommandFault>) -> Result<Done, Stopped>
+fn done_of_policy(came: Result<PolicyOutcome, CommandFault>) -> Result<Done, Stopped>
     ensures done { IfOk result (λ done. (outcome : PolicyOutcome) × (came ≡ Ok outcome)
         × (outcome.reason ≡ done.reason) × (outcome.ending ≡ done.ending)) }
     ensures stopped { IfErr result (λ stopped. (fault : CommandFault) × (came ≡ Err fault) × (stopped ≡ Store fault)) }
@@ -68,17 +68,19 @@ pub fn perform<S: Start, R: Read, O: Write>(
         StoreLine::Pack { folder, file } => pack_folder(rt, folder, file, out),
         StoreLine::Unpack { file, folder } => unpack_form(rt, file, folder, out),
         StoreLine::Policy { store, policy } => {
-            installed(policy_command(rt, start, store, policy, out))
+            done_of_policy(policy_command(rt, start, store, policy, out))
         }
-        StoreLine::Ask { store, day } => stored(ask_command(rt, start, store, day, input, out)),
+        StoreLine::Ask { store, day } => {
+            done_of_command(ask_command(rt, start, store, day, input, out))
+        }
         StoreLine::Replay { policy, store } => {
-            stored(replay_command(rt, start, store, policy, input, out))
+            done_of_command(replay_command(rt, start, store, policy, input, out))
         }
         StoreLine::Serve {
             port,
             count,
             store,
             day,
-        } => stored(serve_command(rt, start, store, day, port, count, out)),
+        } => done_of_command(serve_command(rt, start, store, day, port, count, out)),
     }
 }

@@ -128,7 +128,7 @@ fn names(rt: HostRuntime) -> Result<(), Fail> {
     Ok(())
 }
 
-fn decided(
+fn decision_of(
     policy: &Policy,
     caller: &str,
     action: Action,
@@ -152,20 +152,20 @@ fn decisions(rt: HostRuntime) -> Result<(), Fail> {
     assert!(rt; policy.role_of("carl") == "clerk");
     assert!(rt; policy.role_of("eve") == "stranger");
     assert!(rt;
-        decided(&policy, "anna", Action::Dispose, "tax", "y1")
+        decision_of(&policy, "anna", Action::Dispose, "tax", "y1")
             == Some(Decision {
                 rule: 1,
                 effect: Effect::Deny
             })
     );
     assert!(rt;
-        decided(&policy, "anna", Action::Dispose, "maps", "y1")
+        decision_of(&policy, "anna", Action::Dispose, "maps", "y1")
             == Some(Decision {
                 rule: 2,
                 effect: Effect::Allow
             })
     );
-    assert!(rt; decided(&policy, "eve", Action::List, "maps", "y10") == None);
+    assert!(rt; decision_of(&policy, "eve", Action::List, "maps", "y10") == None);
     let define = Ask {
         role: "archivist",
         action: Action::Class,

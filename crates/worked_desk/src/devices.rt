@@ -112,7 +112,7 @@ fn heads_at_devices_that_fail(rt: HostRuntime) {
 
 /// What comes of `body` by a device that works for so many calls, to stand behind the two bytes
 /// `a\n`: the bytes, and how many calls failed.
-fn filled(
+fn fill_at(
     alloc: Global,
     portion: Portion,
     calls: u64,
@@ -135,7 +135,7 @@ fn bytes_behind_a_head(rt: HostRuntime) -> Result<(), Fail> {
         (Portion::All, 2, 7, Err(FillFault::Truncated), "a\nbody", 0),
     ];
     for (portion, calls, want, answer, text, failures) in &rows {
-        let (result, bytes, failed) = filled(rt.alloc(), *portion, *calls, *want)?;
+        let (result, bytes, failed) = fill_at(rt.alloc(), *portion, *calls, *want)?;
         assert!(rt; result == *answer);
         assert!(rt; bytes.as_slice() == text.as_bytes());
         assert!(rt; failed == *failures);

@@ -1,19 +1,23 @@
 //! Rows that are altered behind an office's back.
 
-use crate::offices::{Way, asked};
+use crate::offices::{Way, adopt_and_put};
 use sqlite::{Alter, Connection};
 use std::alloc::Global;
-use worked_sessions::held;
+use worked_sessions::held_rows;
 
 /// Runs SQL on the tables of an office: what they held before, and what they hold after it.
 fn alter<S: Alter>(alloc: Global, conn: &mut Connection<S>, sql: &str) -> Option<(String, String)> {
-    let before = held(alloc, conn)?;
+    let before = held_rows(alloc, conn)?;
     conn.execute_batch(sql).ok()?;
-    Some((before, held(alloc, conn)?))
+    Some((before, held_rows(alloc, conn)?))
 }
 
 /// Alters rows for good: no text, but where none is altered.
-pub fn altered<S: Alter>(alloc: Global, conn: &mut Connection<S>, sql: &str) -> Option<String> {
+pub fn alter_for_good<S: Alter>(
+    alloc: Global,
+    conn: &mut Connection<S>,
+    sql: &str,
+) -> Option<String> {
     let (before, after) = alter(alloc, conn, sql)?;
     if before.as_str() == after.as_str() {
         return String::from_str(alloc, "nothing is altered").ok();
@@ -33,13 +37,13 @@ pub fn case<S: Alter + Drop>(
     let (restores, rows) = rest.split_once('\n').unwrap_or((rest, ""));
     let mut conn = conn;
     let before = alter(alloc, &mut conn, alters);
-    let (differs, mut conn) = asked(alloc, conn, Way::Steps, rows);
+    let (differs, mut conn) = adopt_and_put(alloc, conn, Way::Steps, rows);
     let after = alter(alloc, &mut conn, restores);
-    (compared(alloc, before, differs, after), conn)
+    (compare_rows(alloc, before, differs, after), conn)
 }
 
 /// The answer, where the rows were altered, were as altered after it was given, and are as before.
-fn compared(
+fn compare_rows(
     alloc: Global,
     before: Option<(String, String)>,
     answer: Option<String>,

@@ -38,7 +38,7 @@ fn copy(alloc: Global, from: &Fuse<Memory>) -> Result<Fuse<Memory>, Fail> {
 }
 
 /// Files that hold the same bytes, and don't stop.
-pub fn copied(alloc: Global, from: &Disks) -> Result<Disks, Fail> {
+pub fn copy_files(alloc: Global, from: &Disks) -> Result<Disks, Fail> {
     Ok(Files {
         log: copy(alloc, &from.log)?,
         db: copy(alloc, &from.db)?,
@@ -67,7 +67,7 @@ fn says(alloc: Global, told: &str) -> Option<String> {
 }
 
 /// Closes the files, which are handed back: as they are left, where they can't be closed, which is told.
-fn closed<D: Disk + Drop>(
+fn close_files<D: Disk + Drop>(
     alloc: Global,
     conn: Connection<FileStore<D>>,
 ) -> (Option<String>, Files<D>) {
@@ -94,7 +94,7 @@ pub fn take_once<D: Disk + Drop>(
         Ok(conn) => {
             let (differs, conn) = taken(alloc, conn, way, part);
             match differs {
-                Some(text) if text.is_empty() => closed(alloc, conn),
+                Some(text) if text.is_empty() => close_files(alloc, conn),
                 differs => (differs, conn.into_store().close()),
             }
         }

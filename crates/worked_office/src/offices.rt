@@ -131,7 +131,7 @@ pub fn made<S: Alter + Drop>(
 
 /// Adopts the connection as an office and puts the rows to it. The connection is handed back: with the
 /// code of the fault, where it isn't taken for an office.
-pub fn asked<S: Alter + Drop>(
+pub fn adopt_and_put<S: Alter + Drop>(
     alloc: Global,
     conn: Connection<S>,
     way: Way,

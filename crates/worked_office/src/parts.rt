@@ -1,7 +1,7 @@
 //! What is done between two openings of a database.
 
-use crate::altering::{altered, case};
-use crate::offices::{Way, asked, made};
+use crate::altering::{alter_for_good, case};
+use crate::offices::{Way, adopt_and_put, made};
 use crate::tables::steps::steps;
 use sqlite::{Alter, Connection};
 use std::alloc::Global;
@@ -39,17 +39,17 @@ pub fn taken<S: Alter + Drop>(
     let (kind, text) = part;
     match kind {
         "office" => made(alloc, conn, text),
-        "asks" => asked(alloc, conn, way, text),
+        "asks" => adopt_and_put(alloc, conn, way, text),
         "steps" => {
             let mut conn = conn;
             (steps(alloc, &mut conn, text), conn)
         }
         "alters" => {
             let mut conn = conn;
-            (altered(alloc, &mut conn, text), conn)
+            (alter_for_good(alloc, &mut conn, text), conn)
         }
         "refused" => {
-            let (told, conn) = asked(alloc, conn, way, "");
+            let (told, conn) = adopt_and_put(alloc, conn, way, "");
             (but_for(alloc, told, text), conn)
         }
         _ => {

@@ -38,7 +38,7 @@ fn bag(name: &str) -> &'static [u8] {
 }
 
 /// The day on which the records of a deposit were closed.
-fn closed(day: &'static str) -> &'static str {
+fn closing_day(day: &'static str) -> &'static str {
     match day {
         "" => "2024-02-29",
         _ => day,
@@ -47,7 +47,7 @@ fn closed(day: &'static str) -> &'static str {
 
 /// What the words ask. A deposit has its collection, class and accession, and may have the day on which
 /// it was closed and the name of its bag.
-fn asked(words: &[&'static str]) -> Option<Asked> {
+fn question_of(words: &[&'static str]) -> Option<Asked> {
     let name = word(words, 1);
     let of = number(words, 1);
     let second = word(words, 2);
@@ -59,7 +59,7 @@ fn asked(words: &[&'static str]) -> Option<Asked> {
             collection: name,
             class: second,
             accession: word(words, 3),
-            closed: closed(word(words, 4)),
+            closed: closing_day(word(words, 4)),
             bag: bag(word(words, 5)),
         }),
         "list" => Some(Asked::List),
@@ -89,7 +89,7 @@ pub fn rows(alloc: Global, text: &'static str) -> Option<Vec<Row>> {
         match line.split_once(" > ") {
             Some((asks, answer)) => {
                 let words: Vec<&'static str> = asks.split(' ').collect(alloc).ok()?;
-                rows.push((when.0, when.1, asked(&words)?, told(answer)))
+                rows.push((when.0, when.1, question_of(&words)?, told(answer)))
                     .ok()?;
             }
             None => when = line.split_once(' ')?,

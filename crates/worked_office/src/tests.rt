@@ -38,7 +38,7 @@ fn a_content_counts_once_and_while_it_is_kept(rt: HostRuntime) -> Result<(), Fai
 }
 
 /// The cases, behind the parts that prepare an office for them, and before those that find it as before.
-fn prepared(alloc: Global, cases: &[Part]) -> Option<Vec<Part>> {
+fn parts_around(alloc: Global, cases: &[Part]) -> Option<Vec<Part>> {
     let mut parts = Vec::new(alloc);
     parts.extend_from_slice(&PREPARED).ok()?;
     parts.extend_from_slice(cases).ok()?;
@@ -48,7 +48,7 @@ fn prepared(alloc: Global, cases: &[Part]) -> Option<Vec<Part>> {
 
 /// Takes the cases over an office that is prepared for them, which is as before in the end.
 fn alter(alloc: Global, cases: &[Part]) -> Result<(), Fail> {
-    let parts = prepared(alloc, cases).ok_or("memory")?;
+    let parts = parts_around(alloc, cases).ok_or("memory")?;
     in_memory(alloc, Way::Steps, &parts)
 }
 

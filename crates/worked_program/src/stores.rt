@@ -137,7 +137,12 @@ static STORES: [Store; 13] = [
 ];
 
 /// The bytes with the second text in each place of the first, which is as long.
-fn changed(alloc: Global, bytes: &[u8], from: &[u8], to: &[u8]) -> Result<Vec<u8>, AllocError> {
+fn replace_bytes(
+    alloc: Global,
+    bytes: &[u8],
+    from: &[u8],
+    to: &[u8],
+) -> Result<Vec<u8>, AllocError> {
     let mut made = Vec::new(alloc);
     let mut rest = bytes;
     for _ in 0..bytes.len() {
@@ -159,7 +164,7 @@ fn content(alloc: Global, store: &Store, office: &[u8]) -> Result<Vec<u8>, Alloc
     } else {
         store.own
     };
-    let mut made = changed(alloc, bytes, store.from, store.to)?;
+    let mut made = replace_bytes(alloc, bytes, store.from, store.to)?;
     if let Some(byte) = made.get_mut(store.turned) {
         *byte ^= 1;
     }

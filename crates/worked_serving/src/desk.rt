@@ -38,7 +38,7 @@ impl Devices {
 }
 
 /// What serving one request ends with, and what is written.
-pub fn served<S: Alter>(
+pub fn serve_request<S: Alter>(
     alloc: Global,
     office: &mut Office<S>,
     day: &str,
@@ -71,7 +71,7 @@ pub fn put<S: Alter>(
     ends: Result<(), DeskFault>,
     answer: &[u8],
 ) -> Result<(), Fail> {
-    let (ended, written) = served(alloc, office, "2024-03-01", request, devices)?;
+    let (ended, written) = serve_request(alloc, office, "2024-03-01", request, devices)?;
     compare(alloc, &written, answer)?;
     if ended != ends {
         return Err("a request ended otherwise".into());

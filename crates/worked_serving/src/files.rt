@@ -28,7 +28,12 @@ fn copy(alloc: Global, from: &Fuse<Memory>, calls: u64) -> Result<Fuse<Memory>, 
 }
 
 /// Files that hold the same bytes, and stop after so many calls.
-pub fn copied(alloc: Global, from: &Disks, log_calls: u64, db_calls: u64) -> Result<Disks, Fail> {
+pub fn copy_files(
+    alloc: Global,
+    from: &Disks,
+    log_calls: u64,
+    db_calls: u64,
+) -> Result<Disks, Fail> {
     Ok(Files {
         log: copy(alloc, &from.log, log_calls)?,
         db: copy(alloc, &from.db, db_calls)?,

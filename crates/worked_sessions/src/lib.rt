@@ -15,5 +15,5 @@ pub use bags::{BAG, BAG_0_97, PERCENT};
 pub use offices::AnyOffice;
 pub use session_fault::SessionFault;
 pub use sessions::{OPENING, POLICY, Row, differs, differs_in_run, open, said};
-pub use showing::{held, shown};
+pub use showing::{held_rows, shown};
 pub use wording::words;

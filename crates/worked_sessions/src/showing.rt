@@ -47,7 +47,7 @@ pub fn shown<S: Alter>(alloc: Global, conn: &mut Connection<S>, sql: &str) -> Op
 }
 
 /// What each table of an office holds, with the line `--` behind each. `None` where the store fails.
-pub fn held<S: Alter>(alloc: Global, conn: &mut Connection<S>) -> Option<String> {
+pub fn held_rows<S: Alter>(alloc: Global, conn: &mut Connection<S>) -> Option<String> {
     let mut text = String::new(alloc);
     for sql in QUERIES {
         text.push_str(&shown(alloc, conn, sql)?).ok()?;

@@ -9,7 +9,7 @@ use crate::tables::sizes::{find, put};
 use office_tables::{TableFault, create, open_tables};
 use sqlite::{Alter, Connection};
 use std::alloc::Global;
-use worked_sessions::{held, shown};
+use worked_sessions::{held_rows, shown};
 
 /// Takes the steps in turn: the first that is answered otherwise, with its answer, or no text.
 ///
@@ -44,16 +44,16 @@ fn said<S: Alter>(alloc: Global, conn: &mut Connection<S>, step: &str) -> Option
     let (word, rest) = step.split_once('|').unwrap_or((step, ""));
     match word {
         "show" => in_one_line(alloc, shown(alloc, conn, rest)?),
-        "held" => in_one_line(alloc, held(alloc, conn)?),
-        "do" => changed(alloc, conn, rest),
+        "held" => in_one_line(alloc, held_rows(alloc, conn)?),
+        "do" => try_changes(alloc, conn, rest),
         "put" => told(alloc, put(alloc, conn, rest)),
         "find" => told(alloc, find(alloc, conn, rest)),
-        _ => opened(alloc, conn, word, rest),
+        _ => ask_database(alloc, conn, word, rest),
     }
 }
 
 /// What a step answers that asks of the whole database, or reads of it.
-fn opened<S: Alter>(
+fn ask_database<S: Alter>(
     alloc: Global,
     conn: &mut Connection<S>,
     word: &str,
@@ -85,13 +85,13 @@ fn in_one_line(alloc: Global, text: String) -> Option<String> {
 }
 
 /// What the changes answer: that a row has changed, where they are refused and one has.
-fn changed<S: Alter>(alloc: Global, conn: &mut Connection<S>, changes: &str) -> Option<String> {
-    let before = held(alloc, conn).unwrap_or(String::new(alloc));
+fn try_changes<S: Alter>(alloc: Global, conn: &mut Connection<S>, changes: &str) -> Option<String> {
+    let before = held_rows(alloc, conn).unwrap_or(String::new(alloc));
     if !conn.is_autocommit() {
         return None;
     }
     let answer = done(alloc, conn, changes);
-    let after = held(alloc, conn).unwrap_or(String::new(alloc));
+    let after = held_rows(alloc, conn).unwrap_or(String::new(alloc));
     if answer.is_err() && before.as_str() != after.as_str() {
         return String::from_str(alloc, "a row has changed").ok();
     }

@@ -3,7 +3,7 @@
 mod steps;
 mod visits;
 
-use crate::files::{Disks, MANY, copied, empty, have_stopped, lose, small_caches};
+use crate::files::{Disks, MANY, copy_files, empty, have_stopped, lose, small_caches};
 use crate::offices::{Part, Task, perform};
 use std::test::Fail;
 use steps::WHOLE;
@@ -35,7 +35,7 @@ fn stop(
     log_calls: u64,
     db_calls: u64,
 ) -> Result<bool, Fail> {
-    let files = copied(rt.alloc(), made, log_calls, db_calls)?;
+    let files = copy_files(rt.alloc(), made, log_calls, db_calls)?;
     let (visit, mut left) = perform(rt, files, small_caches(), Task::Visit(way))?;
     let visit = visit.unwrap_or(START);
     let reached = visit.reached;
@@ -46,7 +46,7 @@ fn stop(
     if reached != WHOLE && !is_stopped {
         return Err("the store failed without a stop".into());
     }
-    find(rt, copied(rt.alloc(), &left, MANY, MANY)?, way, reached)?;
+    find(rt, copy_files(rt.alloc(), &left, MANY, MANY)?, way, reached)?;
     find(rt, lose(left), way, reached)?;
     Ok(is_stopped)
 }

@@ -1,7 +1,7 @@
 //! A session with an office, worked out by hand: its steps, the rows of the tables in between, and
 //! a session that goes on.
 
-use crate::desk::{Devices, compare, served};
+use crate::desk::{Devices, compare, serve_request};
 use http_desk::Portion;
 use office_core::read_policy;
 use office_engine::Office;
@@ -89,7 +89,7 @@ static STEPS: [Step; 6] = [
 /// How far the session goes: the policy is installed, and each step is taken.
 pub const WHOLE: usize = 7;
 
-/// What `held` shows of the tables before the session, behind its policy, and behind each step.
+/// What `held_rows` shows of the tables before the session, behind its policy and behind each step.
 pub static TABLES: [&[u8]; 8] = [
     b"1|1|1000000|1000000\n--\n--\n--\n--\n--\n--\n--\n--\n",
     b"1|1|1000000|1000000\n--\nanna|archivist\ncarl|clerk\n--\n1|1|archivist|*|*|*\n2|0|clerk|class|*|*\n--\n--\n--\n--\n--\n--\n",
@@ -138,7 +138,7 @@ fn takes<S: Alter>(
             is_accepted(alloc, text.as_bytes(), step.told, b"Store")
         }
         Way::Sent => {
-            let (ended, text) = served(
+            let (ended, text) = serve_request(
                 alloc,
                 office,
                 step.day,

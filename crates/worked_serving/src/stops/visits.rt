@@ -6,7 +6,7 @@ use office_tables::TableFault;
 use sqlite::{Alter, Connection};
 use std::alloc::Global;
 use std::test::Fail;
-use worked_sessions::held;
+use worked_sessions::held_rows;
 
 /// A visit, by numbers of steps that are done.
 #[derive(Clone, Copy, Drop)]
@@ -29,7 +29,7 @@ pub const START: Visit = Visit {
 /// How far the session has come by the rows of the tables, beyond its end where they are of another
 /// office. `None` where the store fails.
 fn place<S: Alter>(alloc: Global, conn: &mut Connection<S>) -> Option<usize> {
-    let found = held(alloc, conn)?;
+    let found = held_rows(alloc, conn)?;
     let mut done = 0_usize;
     for wanted in &TABLES {
         if found.as_bytes() == *wanted {
