@@ -1,11 +1,10 @@
 -- The laws of answers.
-use Rattle.std.proofs.Common.{◌≡◌, ◌≢◌, ◌↔◌, ◌⊎◌, inl, inr, ℕ, ◌^◌, ◌<◌, ◌≤◌, true, List, [], ◌∷◌, ◌++◌, length, map, reverse, decimal, codes, refl, sym, subst, ap, ◌∙◌, append_assoc, append-nil, lit<, lit≤, arith}
-use Rattle.std.specs.List.{All, flat_map, list_all}
+use Rattle.std.proofs.Common.{◌≡◌, ◌≢◌, ◌↔◌, ◌⊎◌, inl, inr, ℕ, ◌^◌, ◌<◌, ◌≤◌, List, [], ◌∷◌, length, map, decimal, codes, refl, sym, subst, ap, ◌∙◌, append_assoc, append-nil, lit<, lit≤, arith}
+use Rattle.std.specs.List.{All, flat_map}
 use Rattle.std.proofs.lemmas.List.Elements.{All-nil, All-cons}
 use Rattle.std.proofs.lemmas.List.Sums.{AllPass-from_list_all}
 use Rattle.serde_json.proofs.OnLiterals.{serde_json_on_literals}
-use Rattle.httparse.specs.Grammar.{AllPass, is_token_byte, is_value_byte, IsToken, skip_ows, trim_ows, Field, IsField, print_field, ResponseHead, ReadsResponse}
-use Rattle.httparse.proofs.TrimLemmas.{trim_ows_space}
+use Rattle.httparse.specs.Grammar.{is_token_byte, IsToken, Field, IsField, print_field, ResponseHead, ReadsResponse}
 use Rattle.httparse.proofs.GrammarLemmas.{response_unique}
 use Rattle.office_core.specs.declared.answer.Answer.{Answer}
 use Rattle.office_core.specs.declared.answer.Answer.TheVariants as answers
@@ -24,7 +23,8 @@ use Rattle.desk_answers.specs.Bodies.{status_of, content_of}
 use Rattle.desk_answers.specs.DeskRefusals.{desk_status, desk_data, methods_text, allow_fields, lines_text}
 use Rattle.desk_answers.specs.Answers.{answer_text, refusal_text}
 use Rattle.desk_answers.specs.Messages.{IsResponse, named_value, fields_of, values_of, IsInAlphabet}
-use Rattle.desk_answers.proofs.Readings.{line, reading}
+use Rattle.desk_answers.proofs.Values.{IsValue, is_value}
+use Rattle.desk_answers.proofs.Readings.{line, is_line, reading}
 
 -- ---- responses
 
@@ -37,31 +37,23 @@ token_allow : IsToken (codes "Allow")
 unfolding is_token_byte
 token_allow = (lit< tt, AllPass-from_list_all is_token_byte (codes "Allow") refl)
 
--- methods may stand behind a blank, are read there as they are, and are in the order of the alphabet
+-- the methods of a pattern may stand in a field, and are in the order of the alphabet
 record AreMethods (methods : List Method) : Type 0 where
-  value : AllPass is_value_byte (32 ∷ methods_text methods)
-  trimmed : trim_ows (32 ∷ methods_text methods) ≡ methods_text methods
+  value : IsValue (methods_text methods)
   in_order : IsInAlphabet (map method_text methods)
 
-are_methods : (methods : List Method) → list_all is_value_byte (32 ∷ methods_text methods) ≡ true → skip_ows (methods_text methods) ≡ methods_text methods → skip_ows (reverse (methods_text methods)) ≡ reverse (methods_text methods) → IsInAlphabet (map method_text methods) → AreMethods methods
-are_methods methods value front back in_order = record {
-  value = AllPass-from_list_all is_value_byte (32 ∷ methods_text methods) value;
-  trimmed = trim_ows_space (methods_text methods) front back;
-  in_order = in_order;
-}
-
 methods_are : (pattern : Pattern) → AreMethods (methods_of pattern)
-methods_are patterns.Class = are_methods (methods_of patterns.Class) refl refl refl tt
-methods_are patterns.Collection = are_methods (methods_of patterns.Collection) refl refl refl tt
-methods_are patterns.Deposits = are_methods (methods_of patterns.Deposits) refl refl refl (refl, tt)
-methods_are patterns.Deposit = are_methods (methods_of patterns.Deposit) refl refl refl (refl, tt)
-methods_are patterns.HoldsOfDeposit = are_methods (methods_of patterns.HoldsOfDeposit) refl refl refl tt
-methods_are patterns.Bag = are_methods (methods_of patterns.Bag) refl refl refl tt
-methods_are patterns.File = are_methods (methods_of patterns.File) refl refl refl tt
-methods_are patterns.Audit = are_methods (methods_of patterns.Audit) refl refl refl tt
-methods_are patterns.Holds = are_methods (methods_of patterns.Holds) refl refl refl tt
-methods_are patterns.Hold = are_methods (methods_of patterns.Hold) refl refl refl tt
-methods_are patterns.Due = are_methods (methods_of patterns.Due) refl refl refl tt
+methods_are patterns.Class = record { value = is_value (methods_text (methods_of patterns.Class)) refl refl refl; in_order = tt }
+methods_are patterns.Collection = record { value = is_value (methods_text (methods_of patterns.Collection)) refl refl refl; in_order = tt }
+methods_are patterns.Deposits = record { value = is_value (methods_text (methods_of patterns.Deposits)) refl refl refl; in_order = (refl, tt) }
+methods_are patterns.Deposit = record { value = is_value (methods_text (methods_of patterns.Deposit)) refl refl refl; in_order = (refl, tt) }
+methods_are patterns.HoldsOfDeposit = record { value = is_value (methods_text (methods_of patterns.HoldsOfDeposit)) refl refl refl; in_order = tt }
+methods_are patterns.Bag = record { value = is_value (methods_text (methods_of patterns.Bag)) refl refl refl; in_order = tt }
+methods_are patterns.File = record { value = is_value (methods_text (methods_of patterns.File)) refl refl refl; in_order = tt }
+methods_are patterns.Audit = record { value = is_value (methods_text (methods_of patterns.Audit)) refl refl refl; in_order = tt }
+methods_are patterns.Holds = record { value = is_value (methods_text (methods_of patterns.Holds)) refl refl refl; in_order = tt }
+methods_are patterns.Hold = record { value = is_value (methods_text (methods_of patterns.Hold)) refl refl refl; in_order = tt }
+methods_are patterns.Due = record { value = is_value (methods_text (methods_of patterns.Due)) refl refl refl; in_order = tt }
 
 pub methods_in_order : (pattern : Pattern) → IsInAlphabet (map method_text (methods_of pattern))
 methods_in_order pattern = (methods_are pattern).in_order
@@ -85,9 +77,9 @@ allow_is_read : (pattern : Pattern) → AreRead ((codes "Allow", methods_text (m
 allow_is_read pattern =
     let methods = methods_are pattern in
     record {
-      lines = All-cons IsField (line (codes "Allow") (methods_text (methods_of pattern))) [] (record { name = token_allow; raw = methods.value }) (All-nil IsField);
+      lines = All-cons IsField (line (codes "Allow") (methods_text (methods_of pattern))) [] (is_line (codes "Allow") (methods_text (methods_of pattern)) token_allow methods.value) (All-nil IsField);
       printed = simp (append_assoc, append-nil);
-      named = rw methods.trimmed;
+      named = rw methods.value.read;
       one_length = λ content. refl;
     }
 

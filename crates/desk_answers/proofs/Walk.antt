@@ -11,7 +11,7 @@ use Rattle.desk_answers.specs.Objects.{list_of, whole}
 use Rattle.desk_answers.specs.Rows.{deposit_row, hold_row}
 use Rattle.desk_answers.specs.Refusals.{refusal_data}
 use Rattle.desk_answers.specs.Bodies.{content_of}
-use Rattle.desk_answers.specs.Responses.{Content, HasNoFloat}
+use Rattle.desk_answers.specs.Responses.{HasNoFloat}
 use Rattle.desk_answers.specs.Keys.{has_ascending_keys, content_has_ascending_keys}
 
 -- the value has no number with a fraction, and the keys of its objects ascend
