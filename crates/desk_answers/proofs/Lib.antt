@@ -1,6 +1,5 @@
 pub mod Lists
-pub mod Floats
+pub mod Walk
 mod Values
 pub mod Readings
 pub mod LawLemmas
-pub mod Keys

@@ -1,6 +1,6 @@
 -- Responses, read by HTTP's grammar.
-use Rattle.std.proofs.Common.{◌≡◌, ℕ, ◌^◌, ◌<◌, ◌≤◌, true, List, [], ◌∷◌, ◌++◌, length, map, decimal, codes, Some, refl, sym, subst, ap, ◌∙◌, append_assoc, append-nil, IsTrue, lit<, lit≤, arith}
-use Rattle.std.specs.List.{All, flat_map}
+use Rattle.std.proofs.Common.{◌≡◌, ℕ, ◌^◌, ◌<◌, true, List, [], ◌∷◌, ◌++◌, length, map, decimal, codes, Some, refl, sym, ap, ◌∙◌, append_assoc, append-nil, lit<, lit≤}
+use Rattle.std.specs.List.{All, flat_map, list_all}
 use Rattle.std.specs.Fmt.{digits}
 use Rattle.std.proofs.lemmas.Fmt.{decimal_is_IsNumeral}
 use Rattle.std.proofs.lemmas.List.{map-append}
@@ -8,8 +8,7 @@ use Rattle.std.proofs.lemmas.List.Concat.{flat_map-append}
 use Rattle.std.proofs.lemmas.List.Elements.{All-nil, All-cons, All-append}
 use Rattle.std.proofs.lemmas.List.Sums.{AllPass-from_list_all}
 use Rattle.httparse.specs.Ascii.{crlf_bytes}
-use Rattle.httparse.specs.Grammar.{AllPass, is_token_byte, is_value_byte, IsToken, trim_ows, Field, IsField, crlf, print_field, ResponseHead, IsResponseHead, print_response, ReadsResponse}
-use Rattle.httparse.proofs.TrimLemmas.{trim_ows_space}
+use Rattle.httparse.specs.Grammar.{AllPass, is_token_byte, is_value_byte, IsToken, Field, IsField, crlf, print_field, ResponseHead, print_response}
 use Rattle.desk_answers.specs.Statuses.{code_of, reason_of}
 use Rattle.desk_answers.specs.Responses.{Content, media_text, media_type_of, body_of, response_text}
 use Rattle.desk_answers.specs.Messages.{named_value, IsResponse, fields_of}
@@ -17,7 +16,7 @@ use Rattle.desk_answers.specs.declared.head.MediaType.{MediaType}
 use Rattle.desk_answers.specs.declared.head.MediaType.TheVariants.{Json, OctetStream}
 use Rattle.desk_answers.specs.declared.status.Status.{Status}
 use Rattle.desk_answers.specs.declared.status.Status.TheVariants.{Success, Created, BadRequest, Forbidden, NotFound, MethodNotAllowed, Conflict, Gone, ContentTooLarge, UnprocessableContent, ServiceUnavailable}
-use Rattle.desk_answers.proofs.Values.{trim_ows-decimal, decimal_is_value, decimal_has_digits}
+use Rattle.desk_answers.proofs.Values.{IsValue, is_value, decimal_is_value, decimal_has_digits}
 
 -- a field's line, as the desk writes it
 abbrev pub line : List ℕ → List ℕ → Field
@@ -59,58 +58,37 @@ printed status extra content =
 
 -- ---- the status line
 
-code_is_small : (status : Status) → code_of status < 2 ^ 64
-code_is_small Success = lit< tt
-code_is_small Created = lit< tt
-code_is_small BadRequest = lit< tt
-code_is_small Forbidden = lit< tt
-code_is_small NotFound = lit< tt
-code_is_small MethodNotAllowed = lit< tt
-code_is_small Conflict = lit< tt
-code_is_small Gone = lit< tt
-code_is_small ContentTooLarge = lit< tt
-code_is_small UnprocessableContent = lit< tt
-code_is_small ServiceUnavailable = lit< tt
+-- a code has three digits, and a phrase may stand behind it
+record IsStatus (status : Status) : Type 0 where
+  small : code_of status < 2 ^ 64
+  three_digits : length (decimal (code_of status)) ≡ 3
+  reason : AllPass is_value_byte (reason_of status)
 
-code_has_three_digits : (status : Status) → length (decimal (code_of status)) ≡ 3
+is_status : (status : Status) → code_of status < 2 ^ 64 → length (decimal (code_of status)) ≡ 3 → list_all is_value_byte (reason_of status) ≡ true → IsStatus status
+is_status status small three_digits reason = record { small = small; three_digits = three_digits; reason = AllPass-from_list_all is_value_byte (reason_of status) reason }
+
+each_status : (status : Status) → IsStatus status
 unfolding digits
-code_has_three_digits Success = refl
-code_has_three_digits Created = refl
-code_has_three_digits BadRequest = refl
-code_has_three_digits Forbidden = refl
-code_has_three_digits NotFound = refl
-code_has_three_digits MethodNotAllowed = refl
-code_has_three_digits Conflict = refl
-code_has_three_digits Gone = refl
-code_has_three_digits ContentTooLarge = refl
-code_has_three_digits UnprocessableContent = refl
-code_has_three_digits ServiceUnavailable = refl
-
-reason_is_value : (status : Status) → AllPass is_value_byte (reason_of status)
-reason_is_value Success = AllPass-from_list_all is_value_byte (reason_of Success) refl
-reason_is_value Created = AllPass-from_list_all is_value_byte (reason_of Created) refl
-reason_is_value BadRequest = AllPass-from_list_all is_value_byte (reason_of BadRequest) refl
-reason_is_value Forbidden = AllPass-from_list_all is_value_byte (reason_of Forbidden) refl
-reason_is_value NotFound = AllPass-from_list_all is_value_byte (reason_of NotFound) refl
-reason_is_value MethodNotAllowed = AllPass-from_list_all is_value_byte (reason_of MethodNotAllowed) refl
-reason_is_value Conflict = AllPass-from_list_all is_value_byte (reason_of Conflict) refl
-reason_is_value Gone = AllPass-from_list_all is_value_byte (reason_of Gone) refl
-reason_is_value ContentTooLarge = AllPass-from_list_all is_value_byte (reason_of ContentTooLarge) refl
-reason_is_value UnprocessableContent = AllPass-from_list_all is_value_byte (reason_of UnprocessableContent) refl
-reason_is_value ServiceUnavailable = AllPass-from_list_all is_value_byte (reason_of ServiceUnavailable) refl
+each_status Success = is_status Success (lit< tt) refl refl
+each_status Created = is_status Created (lit< tt) refl refl
+each_status BadRequest = is_status BadRequest (lit< tt) refl refl
+each_status Forbidden = is_status Forbidden (lit< tt) refl refl
+each_status NotFound = is_status NotFound (lit< tt) refl refl
+each_status MethodNotAllowed = is_status MethodNotAllowed (lit< tt) refl refl
+each_status Conflict = is_status Conflict (lit< tt) refl refl
+each_status Gone = is_status Gone (lit< tt) refl refl
+each_status ContentTooLarge = is_status ContentTooLarge (lit< tt) refl refl
+each_status UnprocessableContent = is_status UnprocessableContent (lit< tt) refl refl
+each_status ServiceUnavailable = is_status ServiceUnavailable (lit< tt) refl refl
 
 -- ---- the fields
 
-media_is_value : (kind : MediaType) → AllPass is_value_byte (32 ∷ media_text kind)
-media_is_value Json = AllPass-from_list_all is_value_byte (32 ∷ media_text Json) refl
-media_is_value OctetStream = AllPass-from_list_all is_value_byte (32 ∷ media_text OctetStream) refl
+media_is_value : (kind : MediaType) → IsValue (media_text kind)
+media_is_value Json = is_value (media_text Json) refl refl refl
+media_is_value OctetStream = is_value (media_text OctetStream) refl refl refl
 
-trim_ows-media_text : (kind : MediaType) → trim_ows (32 ∷ media_text kind) ≡ media_text kind
-trim_ows-media_text Json = trim_ows_space (media_text Json) refl refl
-trim_ows-media_text OctetStream = trim_ows_space (media_text OctetStream) refl refl
-
-trim_ows-close : trim_ows (32 ∷ codes "close") ≡ codes "close"
-trim_ows-close = trim_ows_space (codes "close") refl refl
+close_is_value : IsValue (codes "close")
+close_is_value = is_value (codes "close") refl refl refl
 
 token_type : IsToken (codes "Content-Type")
 unfolding is_token_byte
@@ -124,43 +102,39 @@ token_connection : IsToken (codes "Connection")
 unfolding is_token_byte
 token_connection = (lit< tt, AllPass-from_list_all is_token_byte (codes "Connection") refl)
 
-is_type_line : (kind : MediaType) → IsField (line (codes "Content-Type") (media_text kind))
-is_type_line kind = record { name = token_type; raw = media_is_value kind }
-
-is_length_line : (n : ℕ) → n < 2 ^ 64 → IsField (line (codes "Content-Length") (decimal n))
-is_length_line n small = record { name = token_length; raw = All-cons (λ b. IsTrue (is_value_byte b)) 32 (decimal n) (refl {a = true}) (decimal_is_value n small) }
-
-is_connection_line : IsField (line (codes "Connection") (codes "close"))
-is_connection_line = record { name = token_connection; raw = AllPass-from_list_all is_value_byte (32 ∷ codes "close") refl }
+pub is_line : (name value : List ℕ) → IsToken name → IsValue value → IsField (line name value)
+is_line name value token is = record { name = token; raw = is.bytes }
 
 are_lines : (extra : List Field) (content : Content) → All IsField extra → length (body_of content) < 2 ^ 64 → All IsField (lines_of extra content)
 are_lines extra content are small =
-    let kind = line (codes "Content-Type") (media_text (media_type_of content)) in
-    let len = line (codes "Content-Length") (decimal (length (body_of content))) in
+    let media = media_text (media_type_of content) in
+    let number = decimal (length (body_of content)) in
+    let kind = line (codes "Content-Type") media in
+    let len = line (codes "Content-Length") number in
     let close = line (codes "Connection") (codes "close") in
-    let last = All-cons IsField close [] is_connection_line (All-nil IsField) in
+    let last = All-cons IsField close [] (is_line (codes "Connection") (codes "close") token_connection close_is_value) (All-nil IsField) in
     let behind = All-append IsField extra (close ∷ []) are last in
-    let more = All-cons IsField len (extra ++ close ∷ []) (is_length_line (length (body_of content)) small) behind in
-    All-cons IsField kind (len ∷ (extra ++ close ∷ [])) (is_type_line (media_type_of content)) more
+    let more = All-cons IsField len (extra ++ close ∷ []) (is_line (codes "Content-Length") number token_length (decimal_is_value (length (body_of content)) small)) behind in
+    All-cons IsField kind (len ∷ (extra ++ close ∷ [])) (is_line (codes "Content-Type") media token_type (media_is_value (media_type_of content))) more
 
 named_lines : (extra : List Field) (content : Content) → length (body_of content) < 2 ^ 64 → map named_value (lines_of extra content) ≡ fields_of (map named_value extra) content
 named_lines extra content small =
-    rw (trim_ows-media_text (media_type_of content), trim_ows-decimal (length (body_of content)) small, map-append named_value extra (line (codes "Connection") (codes "close") ∷ []), trim_ows-close)
+    rw ((media_is_value (media_type_of content)).read, (decimal_is_value (length (body_of content)) small).read, map-append named_value extra (line (codes "Connection") (codes "close") ∷ []), close_is_value.read)
 
 pub reading : (status : Status) (extra : List Field) (content : Content) → All IsField extra → length (body_of content) < 2 ^ 64 → IsResponse (response_text status (flat_map print_field extra) content) status (fields_of (map named_value extra) content) (body_of content)
-reading status extra content are small = record {
+reading status extra content are small = let is = each_status status in record {
   head = head_of status extra content;
   reads = (
     record {
       minor = lit≤ tt;
-      digits = (code_has_three_digits status, decimal_has_digits (code_of status) (code_is_small status));
-      reason = reason_is_value status;
+      digits = (is.three_digits, decimal_has_digits (code_of status) is.small);
+      reason = is.reason;
       fields = are_lines extra content are small;
     },
     printed status extra content,
   );
   version = refl;
-  code = (decimal_is_IsNumeral (code_of status) (code_is_small status)).1;
+  code = (decimal_is_IsNumeral (code_of status) is.small).1;
   reason = refl;
   fields_are = named_lines extra content small;
 }

@@ -1,11 +1,12 @@
 -- Field values: what may stand in one, and that the blank before it is dropped when it is read.
-use Rattle.std.proofs.Common.{◌≡◌, ℕ, ◌+◌, ◌^◌, ◌<◌, ◌≤◌, ◌%◌, false, IsTrue, List, [], ◌∷◌, ◌++◌, reverse, decimal, refl, sym, subst, arith}
-use Rattle.std.specs.List.{All}
+use Rattle.std.proofs.Common.{◌≡◌, ℕ, ◌+◌, ◌^◌, ◌<◌, ◌≤◌, ◌%◌, false, true, IsTrue, List, [], ◌∷◌, reverse, decimal, refl, sym, subst, arith}
+use Rattle.std.specs.List.{All, list_all}
 use Rattle.std.specs.Char.{is_ascii_digit}
 use Rattle.std.proofs.lemmas.Bool.Decides.{nat_tests}
 use Rattle.std.proofs.lemmas.Fmt.{decimal_by_steps}
 use Rattle.std.proofs.lemmas.List.{reverse-append}
 use Rattle.std.proofs.lemmas.List.Elements.{All-nil, All-cons, All-head, All-tail, All-push, All-weaker}
+use Rattle.std.proofs.lemmas.List.Sums.{AllPass-from_list_all}
 use Rattle.httparse.specs.Grammar.{AllPass, is_value_byte, is_ows, skip_ows, trim_ows}
 use Rattle.httparse.proofs.TrimLemmas.{trim_ows_space}
 
@@ -40,14 +41,24 @@ skip_ows-digits : (ds : List ℕ) → All IsDigit ds → skip_ows ds ≡ ds
 skip_ows-digits [] pass = refl
 skip_ows-digits (d ∷ ds) pass = rw (digit_no_blank d (All-head IsDigit d ds pass))
 
--- a number behind a blank is read as it is
-pub trim_ows-decimal : (n : ℕ) → n < 2 ^ 64 → trim_ows (32 ∷ decimal n) ≡ decimal n
-trim_ows-decimal n small =
-    let digits = decimal_digits n small in
-    trim_ows_space (decimal n) (skip_ows-digits (decimal n) digits) (skip_ows-digits (reverse (decimal n)) (All-reverse IsDigit (decimal n) digits))
+-- ---- values
 
-pub decimal_is_value : (n : ℕ) → n < 2 ^ 64 → AllPass is_value_byte (decimal n)
-decimal_is_value n small = All-weaker IsDigit (λ b. IsTrue (is_value_byte b)) digit_is_value (decimal n) (decimal_digits n small)
+-- the text may stand in a field behind a blank, and is read there as it is
+pub record IsValue (text : List ℕ) : Type 0 where
+  pub bytes : AllPass is_value_byte (32 ∷ text)
+  pub read : trim_ows (32 ∷ text) ≡ text
+
+-- of a text that is known, by computing
+pub is_value : (text : List ℕ) → list_all is_value_byte (32 ∷ text) ≡ true → skip_ows text ≡ text → skip_ows (reverse text) ≡ reverse text → IsValue text
+is_value text bytes front back = record { bytes = AllPass-from_list_all is_value_byte (32 ∷ text) bytes; read = trim_ows_space text front back }
+
+pub decimal_is_value : (n : ℕ) → n < 2 ^ 64 → IsValue (decimal n)
+decimal_is_value n small =
+    let digits = decimal_digits n small in
+    record {
+      bytes = All-cons (λ b. IsTrue (is_value_byte b)) 32 (decimal n) (refl {a = true}) (All-weaker IsDigit (λ b. IsTrue (is_value_byte b)) digit_is_value (decimal n) digits);
+      read = trim_ows_space (decimal n) (skip_ows-digits (decimal n) digits) (skip_ows-digits (reverse (decimal n)) (All-reverse IsDigit (decimal n) digits));
+    }
 
 pub decimal_has_digits : (n : ℕ) → n < 2 ^ 64 → AllPass is_ascii_digit (decimal n)
 decimal_has_digits n small = All-weaker IsDigit (λ b. IsTrue (is_ascii_digit b)) digit_is_digit (decimal n) (decimal_digits n small)

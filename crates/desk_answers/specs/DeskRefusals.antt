@@ -43,14 +43,22 @@ methods_text (method ∷ []) = method_text method
 methods_text (method ∷ next ∷ more) = method_text method ++ (codes ", " ++ methods_text (next ∷ more))
 
 -- RFC 9110, section 10.2.1: the field `Allow` names the methods that the target takes. It stands where the method was wrong (section 15.5.6), and nowhere else.
+abbrev pub allow_fields : DeskRefusal → List (List ℕ × List ℕ)
+allow_fields (WrongMethod pattern) = (codes "Allow", methods_text (methods_of pattern)) ∷ []
+allow_fields TooLarge = []
+allow_fields Truncated = []
+allow_fields BadHead = []
+allow_fields Chunked = []
+allow_fields BadLength = []
+allow_fields TwoCallers = []
+allow_fields NoRoute = []
+allow_fields BadQuery = []
+allow_fields BadBody = []
+
+-- fields, each by its name and its value, on a line of its own
+abbrev pub lines_text : List (List ℕ × List ℕ) → List ℕ
+lines_text [] = []
+lines_text (field ∷ fields) = field.0 ++ (codes ": " ++ (field.1 ++ (codes "\r\n" ++ lines_text fields)))
+
 abbrev pub allow_line : DeskRefusal → List ℕ
-allow_line (WrongMethod pattern) = codes "Allow: " ++ (methods_text (methods_of pattern) ++ codes "\r\n")
-allow_line TooLarge = []
-allow_line Truncated = []
-allow_line BadHead = []
-allow_line Chunked = []
-allow_line BadLength = []
-allow_line TwoCallers = []
-allow_line NoRoute = []
-allow_line BadQuery = []
-allow_line BadBody = []
+allow_line refusal = lines_text (allow_fields refusal)

@@ -5,12 +5,8 @@ use Rattle.std.specs.Ordering.{nat_cmp}
 use Rattle.std.specs.declared.cmp.Ordering.TheVariants.{Less}
 use Rattle.std.specs.Cmp.Lexicographic.{slice_cmp}
 use Rattle.httparse.specs.Grammar.{Field, field_value, ResponseHead, ReadsResponse, status_code, reason_phrase}
-use Rattle.desk_routes.specs.Routes.{methods_of}
-use Rattle.desk_routes.specs.declared.refusal.DeskRefusal.{DeskRefusal}
-use Rattle.desk_routes.specs.declared.refusal.DeskRefusal.TheVariants.{TooLarge, Truncated, BadHead, Chunked, BadLength, TwoCallers, NoRoute, Method as WrongMethod, BadQuery, BadBody}
 use Rattle.desk_answers.specs.Statuses.{code_of, reason_of}
 use Rattle.desk_answers.specs.Responses.{Content, media_text, media_type_of, body_of}
-use Rattle.desk_answers.specs.DeskRefusals.{methods_text}
 use Rattle.desk_answers.specs.declared.status.Status.{Status}
 
 -- a field's name and its value
@@ -32,19 +28,6 @@ fields_of allow content =
     (codes "Content-Type", media_text (media_type_of content))
     ∷ (codes "Content-Length", decimal (length (body_of content)))
     ∷ (allow ++ (codes "Connection", codes "close") ∷ [])
-
--- the field `Allow`, where the method was wrong
-abbrev pub allow_fields : DeskRefusal → List (List ℕ × List ℕ)
-allow_fields (WrongMethod pattern) = (codes "Allow", methods_text (methods_of pattern)) ∷ []
-allow_fields TooLarge = []
-allow_fields Truncated = []
-allow_fields BadHead = []
-allow_fields Chunked = []
-allow_fields BadLength = []
-allow_fields TwoCallers = []
-allow_fields NoRoute = []
-allow_fields BadQuery = []
-allow_fields BadBody = []
 
 -- the values of the fields of a name, which is in small letters: names are compared in any case (RFC 9110, section 5.1)
 abbrev pub values_of : List ℕ → List (List ℕ × List ℕ) → List (List ℕ)

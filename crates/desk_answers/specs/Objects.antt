@@ -1,6 +1,6 @@
 -- Values of JSON (RFC 8259), as `serde_json` has them: an object has its members in ascending order of their keys.
 use Rattle.std.specs.Prelude.{ℕ, List, [], ◌∷◌}
-use Rattle.serde_json.specs.Data.{Data, string, number, unsigned, array, object, Members, no_members, member}
+use Rattle.serde_json.specs.Data.{Data, number, unsigned, array, object, Members, no_members, member}
 use Rattle.serde_json.specs.View.{items_of}
 
 abbrev pub members_of : List (List ℕ × Data) → Members

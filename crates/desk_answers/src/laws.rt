@@ -12,10 +12,10 @@ ghost use Rattle.desk_routes.specs.declared.refusal.DeskRefusal.TheVariants.{Met
 ghost use Rattle.desk_answers.specs.Statuses.{code_of};
 ghost use Rattle.desk_answers.specs.Responses.{json, body_of};
 ghost use Rattle.desk_answers.specs.Bodies.{status_of, content_of};
-ghost use Rattle.desk_answers.specs.DeskRefusals.{desk_status, desk_data, methods_text};
+ghost use Rattle.desk_answers.specs.DeskRefusals.{desk_status, desk_data, methods_text, allow_fields};
 ghost use Rattle.desk_answers.specs.Answers.{answer_text, refusal_text};
 ghost use Rattle.desk_answers.specs.Keys.{has_ascending_keys, content_has_ascending_keys};
-ghost use Rattle.desk_answers.specs.Messages.{IsResponse, named_value, fields_of, allow_fields, values_of, IsInAlphabet};
+ghost use Rattle.desk_answers.specs.Messages.{IsResponse, named_value, fields_of, values_of, IsInAlphabet};
 
 /// The bytes of each answer, and of each refusal of the desk, are a response of HTTP/1.1 as its
 /// grammar reads them: the status, the fields `Content-Type`, `Content-Length`, `Allow` where the

@@ -193,25 +193,12 @@ stands_caller (value ∷ second ∷ more) h = refl
 of_head : (front : List ℕ) (head : RequestHead) (P : RequestHead → Type 0) → SpellsHead front head → (other : RequestHead) × SpellsHead front other × P other → P head
 of_head front head P spells h = subst P (spells_unique front h.0 head h.1 spells) h.2
 
-no_chunks : (front : List ℕ) (head : RequestHead) → SpellsHead front head → encoding head ≡ None → Stands front Chunked → ⊥
-no_chunks front head spells none h =
-    let some = stands_encoding _ (of_head front head (λ other. StandsOfHead other Chunked) spells h) in
-    let wrong : None ≡ Some Chunked = sym none ∙ some in cc
-
-no_bad_length : (front : List ℕ) (head : RequestHead) → SpellsHead front head → content_length head ≡ None → Stands front BadLength → ⊥
-no_bad_length front head spells none h =
-    let some = stands_bad _ (of_head front head (λ other. StandsOfHead other BadLength) spells h) in
-    let wrong : None ≡ Some BadLength = sym none ∙ some in cc
-
-no_large_length : (front : List ℕ) (head : RequestHead) → SpellsHead front head → content_length head ≡ None → Stands front TooLarge → ⊥
-no_large_length front head spells none h =
-    let some = stands_large _ (of_head front head (λ other. StandsOfHead other TooLarge) spells h) in
-    let wrong : None ≡ Some TooLarge = sym none ∙ some in cc
-
-no_callers : (front : List ℕ) (head : RequestHead) → SpellsHead front head → caller head ≡ None → Stands front TwoCallers → ⊥
-no_callers front head spells none h =
-    let some = stands_caller _ (of_head front head (λ other. StandsOfHead other TwoCallers) spells h) in
-    let wrong : None ≡ Some TwoCallers = sym none ∙ some in cc
+-- what a question of this head does not find stands of no head of the front
+never : (front : List ℕ) (head : RequestHead) (refusal : HeadRefusal) (found : Option HeadRefusal) → SpellsHead front head → found ≡ None → (StandsOfHead head refusal → found ≡ Some refusal)
+    → (other : RequestHead) × SpellsHead front other × StandsOfHead other refusal → ⊥
+never front head refusal found spells none finds h =
+    let some = finds (of_head front head (λ other. StandsOfHead other refusal) spells h) in
+    let wrong : None ≡ Some refusal = sym none ∙ some in cc
 
 before_1 : (front : List ℕ) (earlier : HeadRefusal) → step_of earlier < 1 → Stands front earlier → ⊥
 before_1 front BadHead low h = omega arith
@@ -220,33 +207,24 @@ before_1 front BadLength low h = omega arith
 before_1 front TooLarge low h = omega arith
 before_1 front TwoCallers low h = omega arith
 
-before_2 : (front : List ℕ) (head : RequestHead) → SpellsHead front head → (earlier : HeadRefusal) → step_of earlier < 2 → Stands front earlier → ⊥
-before_2 front head spells BadHead low h = h (head, spells)
-before_2 front head spells Chunked low h = omega arith
-before_2 front head spells BadLength low h = omega arith
-before_2 front head spells TooLarge low h = omega arith
-before_2 front head spells TwoCallers low h = omega arith
+-- nor does a refusal of a step before this one, where what was asked before found none
+before : (front : List ℕ) (head : RequestHead) (step : ℕ) → SpellsHead front head → (2 < step → encoding head ≡ None) → (3 < step → content_length head ≡ None) → (4 < step → caller head ≡ None)
+    → (earlier : HeadRefusal) → step_of earlier < step → Stands front earlier → ⊥
+before front head step spells none no_length no_caller BadHead low h = h (head, spells)
+before front head step spells none no_length no_caller Chunked low h = never front head Chunked (encoding head) spells (none low) (stands_encoding (values_of (codes "transfer-encoding") head)) h
+before front head step spells none no_length no_caller BadLength low h = never front head BadLength (content_length head) spells (no_length low) (stands_bad (values_of (codes "content-length") head)) h
+before front head step spells none no_length no_caller TooLarge low h = never front head TooLarge (content_length head) spells (no_length low) (stands_large (values_of (codes "content-length") head)) h
+before front head step spells none no_length no_caller TwoCallers low h = never front head TwoCallers (caller head) spells (no_caller low) (stands_caller (values_of (codes "depot-caller") head)) h
 
-before_3 : (front : List ℕ) (head : RequestHead) → SpellsHead front head → encoding head ≡ None → (earlier : HeadRefusal) → step_of earlier < 3 → Stands front earlier → ⊥
-before_3 front head spells none BadHead low h = h (head, spells)
-before_3 front head spells none Chunked low h = no_chunks front head spells none h
-before_3 front head spells none BadLength low h = omega arith
-before_3 front head spells none TooLarge low h = omega arith
-before_3 front head spells none TwoCallers low h = omega arith
-
-before_4 : (front : List ℕ) (head : RequestHead) → SpellsHead front head → encoding head ≡ None → content_length head ≡ None → (earlier : HeadRefusal) → step_of earlier < 4 → Stands front earlier → ⊥
-before_4 front head spells none no_length BadHead low h = h (head, spells)
-before_4 front head spells none no_length Chunked low h = no_chunks front head spells none h
-before_4 front head spells none no_length BadLength low h = no_bad_length front head spells no_length h
-before_4 front head spells none no_length TooLarge low h = no_large_length front head spells no_length h
-before_4 front head spells none no_length TwoCallers low h = omega arith
+step_is_small : (refusal : HeadRefusal) → step_of refusal < 5
+step_is_small BadHead = omega arith
+step_is_small Chunked = omega arith
+step_is_small BadLength = omega arith
+step_is_small TooLarge = omega arith
+step_is_small TwoCallers = omega arith
 
 none_stands : (front : List ℕ) (head : RequestHead) → SpellsHead front head → encoding head ≡ None → content_length head ≡ None → caller head ≡ None → (refusal : HeadRefusal) → Stands front refusal → ⊥
-none_stands front head spells none no_length no_caller BadHead h = h (head, spells)
-none_stands front head spells none no_length no_caller Chunked h = no_chunks front head spells none h
-none_stands front head spells none no_length no_caller BadLength h = no_bad_length front head spells no_length h
-none_stands front head spells none no_length no_caller TooLarge h = no_large_length front head spells no_length h
-none_stands front head spells none no_length no_caller TwoCallers h = no_callers front head spells no_caller h
+none_stands front head spells none no_length no_caller refusal h = before front head 5 spells (λ _. none) (λ _. no_length) (λ _. no_caller) refusal (step_is_small refusal) h
 
 first_bad_head : (front : List ℕ) → (IsHead front → ⊥) → StandsFirst front BadHead
 first_bad_head front bad = record { stands = bad; first = before_1 front }
@@ -254,18 +232,18 @@ first_bad_head front bad = record { stands = bad; first = before_1 front }
 first_chunked : (front : List ℕ) (head : RequestHead) (refusal : HeadRefusal) → SpellsHead front head → encoding head ≡ Some refusal → StandsFirst front refusal
 first_chunked front head refusal spells e =
     let s = encoding_stands _ refusal e in
-    subst (StandsFirst front) (sym s.0) (record { stands = (head, spells, s.1); first = before_2 front head spells })
+    subst (StandsFirst front) (sym s.0) (record { stands = (head, spells, s.1); first = before front head 2 spells (λ l. absurd (omega arith)) (λ l. absurd (omega arith)) (λ l. absurd (omega arith)) })
 
 first_length : (front : List ℕ) (head : RequestHead) (refusal : HeadRefusal) → SpellsHead front head → encoding head ≡ None → content_length head ≡ Some refusal → StandsFirst front refusal
 first_length front head refusal spells none e = elim (length_stands (values_of (codes "content-length") head) refusal e) [
-  | inl bad ↦ subst (StandsFirst front) (sym bad.0) (record { stands = (head, spells, bad.1); first = before_3 front head spells none })
-  | inr large ↦ subst (StandsFirst front) (sym large.0) (record { stands = (head, spells, large.1); first = before_3 front head spells none })
+  | inl bad ↦ subst (StandsFirst front) (sym bad.0) (record { stands = (head, spells, bad.1); first = before front head 3 spells (λ _. none) (λ l. absurd (omega arith)) (λ l. absurd (omega arith)) })
+  | inr large ↦ subst (StandsFirst front) (sym large.0) (record { stands = (head, spells, large.1); first = before front head 3 spells (λ _. none) (λ l. absurd (omega arith)) (λ l. absurd (omega arith)) })
 ]
 
 first_callers : (front : List ℕ) (head : RequestHead) (refusal : HeadRefusal) → SpellsHead front head → encoding head ≡ None → content_length head ≡ None → caller head ≡ Some refusal → StandsFirst front refusal
 first_callers front head refusal spells none no_length e =
     let s = caller_stands _ refusal e in
-    subst (StandsFirst front) (sym s.0) (record { stands = (head, spells, s.1); first = before_4 front head spells none no_length })
+    subst (StandsFirst front) (sym s.0) (record { stands = (head, spells, s.1); first = before front head 4 spells (λ _. none) (λ _. no_length) (λ l. absurd (omega arith)) })
 
 -- at which step a head is refused
 data Outcome (head : RequestHead) : Type 0 where

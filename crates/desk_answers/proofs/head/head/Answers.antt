@@ -1,7 +1,5 @@
-use Rattle.std.proofs.Common.{rules, sym, ◌≡◌, ◌++◌, IfOk, string_bytes, length}
+use Rattle.std.proofs.Common.{sym}
 use Rattle.std.proofs.lemmas.Result.{IfOk-weaker}
-use Rattle.std.specs.Option.{IfSome}
-use Rattle.desk_answers.specs.Responses.{media_text, head_text}
 use Rattle.desk_answers.proofs.head.head.Goals as goal
 
 pub returns : goal.returns

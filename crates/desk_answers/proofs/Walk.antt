@@ -1,0 +1,67 @@
+-- One walk over the refusals of the office and its answers, of what holds of the values that are said of them.
+use Rattle.std.proofs.Common.{◌≡◌, List, [], ◌∷◌, false, true, refl, map, Some, None}
+use Rattle.serde_json.specs.Data.{Data}
+use Rattle.serde_json.specs.Written.{has_float}
+use Rattle.office_core.specs.declared.answer.AuditReport.TheVariants.{Valid, Invalid}
+use Rattle.office_core.specs.declared.answer.Answer.{Answer}
+use Rattle.office_core.specs.declared.answer.Answer.TheVariants as answers
+use Rattle.office_core.specs.declared.refusal.Refusal.{Refusal}
+use Rattle.office_core.specs.declared.refusal.Refusal.TheVariants as refusals
+use Rattle.desk_answers.specs.Objects.{list_of, whole}
+use Rattle.desk_answers.specs.Rows.{deposit_row, hold_row}
+use Rattle.desk_answers.specs.Refusals.{refusal_data}
+use Rattle.desk_answers.specs.Bodies.{content_of}
+use Rattle.desk_answers.specs.Responses.{HasNoFloat}
+use Rattle.desk_answers.specs.Keys.{has_ascending_keys, content_has_ascending_keys}
+
+-- the value has no number with a fraction, and the keys of its objects ascend
+abbrev IsOrderly : Data → Type 0
+IsOrderly value = (has_float value ≡ false) × (has_ascending_keys value ≡ true)
+
+list_is_orderly : {A : Type 0} (f : A → Data) → ((x : A) → IsOrderly (f x)) → (xs : List A) → IsOrderly (list_of (map f xs))
+list_is_orderly f orderly [] = (refl, refl)
+list_is_orderly f orderly (x ∷ xs) =
+    let now = orderly x in
+    let later = list_is_orderly f orderly xs in
+    (rw (now.0, later.0), rw (now.1, later.1))
+
+refusal_is_orderly : (refusal : Refusal) → IsOrderly (refusal_data refusal)
+refusal_is_orderly (refusals.NoSuch subject) = (refl, refl)
+refusal_is_orderly (refusals.DeniedByRule rule) = (refl, refl)
+refusal_is_orderly refusals.DeniedByDefault = (refl, refl)
+refusal_is_orderly (refusals.Gone day) = (refl, refl)
+refusal_is_orderly (refusals.Taken deposit) = (refl, refl)
+refusal_is_orderly refusals.ClosedAhead = (refl, refl)
+refusal_is_orderly (refusals.BadBag fault) = (refl, refl)
+refusal_is_orderly (refusals.Held hold) = (refl, refl)
+refusal_is_orderly (refusals.NotDue due) = (refl, refl)
+refusal_is_orderly (refusals.Released day) = (refl, refl)
+refusal_is_orderly refusals.Full = (refl, refl)
+refusal_is_orderly refusals.Memory = (refl, refl)
+refusal_is_orderly refusals.Store = (refl, refl)
+refusal_is_orderly refusals.NoFile = (refl, refl)
+
+-- what an answer carries is such a value, or bytes
+pub answer_is_orderly : (answer : Answer) → HasNoFloat (content_of answer) × (content_has_ascending_keys (content_of answer) ≡ true)
+answer_is_orderly (answers.Class name (Some count)) = (refl, refl)
+answer_is_orderly (answers.Class name None) = (refl, refl)
+answer_is_orderly (answers.Collection name) = (refl, refl)
+answer_is_orderly (answers.Deposited deposit) = (refl, refl)
+answer_is_orderly (answers.List deposits) =
+    let rows = list_is_orderly deposit_row (λ _. (refl, refl)) deposits in
+    (rw rows.0, rw rows.1)
+answer_is_orderly (answers.Record row) = (refl, refl)
+answer_is_orderly (answers.Holds holds) =
+    let rows = list_is_orderly hold_row (λ _. (refl, refl)) holds in
+    (rw rows.0, rw rows.1)
+answer_is_orderly (answers.Bag bytes) = (tt, refl)
+answer_is_orderly (answers.File bytes) = (tt, refl)
+answer_is_orderly (answers.Audit deposit (Valid report)) = (refl, refl)
+answer_is_orderly (answers.Audit deposit (Invalid fault)) = (refl, refl)
+answer_is_orderly (answers.HoldPlaced hold) = (refl, refl)
+answer_is_orderly (answers.HoldReleased hold day) = (refl, refl)
+answer_is_orderly (answers.Destroyed deposit day) = (refl, refl)
+answer_is_orderly (answers.DueList day deposits) =
+    let numbers = list_is_orderly whole (λ _. (refl, refl)) deposits in
+    (rw numbers.0, rw numbers.1)
+answer_is_orderly (answers.Refused refusal) = refusal_is_orderly refusal
