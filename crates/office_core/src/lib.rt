@@ -23,6 +23,7 @@ mod rule_flaw;
 mod rule_reading;
 mod sequence;
 mod text;
+mod text_kind;
 mod tree;
 
 pub use action::Action;

@@ -1,12 +1,10 @@
 //! Names, accession numbers and matters: texts that are held to a rule.
 
-ghost use Rattle.std.specs.Prelude.{◌≡◌, ◌&&◌, nat_le, length, IfOk};
+ghost use Rattle.std.specs.Prelude.{◌≡◌, ◌&&◌, nat_le, length};
 ghost use Rattle.std.specs.List.{list_all};
-ghost use Rattle.std.specs.Option.{SomeIff};
-ghost use Rattle.office_core.specs.Names.{is_joiner, is_name_byte, is_accession_byte, is_matter_byte, is_name, is_accession, is_matter, IsName, IsAccession, IsMatter};
+ghost use Rattle.office_core.specs.Names.{is_joiner, is_name_byte, is_accession_byte, is_matter_byte, is_name, is_accession, is_matter};
 
-use std::alloc::{AllocError, Global};
-use std::marker::Model;
+use crate::text_kind::{OwnedText, Text, TextKind};
 
 /// How many characters a name has at most.
 pub const MAX_NAME: usize = 40;
@@ -86,252 +84,54 @@ fn has_matter_form(text: &str) -> bool
     has_length(bytes, 1, MAX_MATTER) && has_matter_bytes(bytes)
 }
 
+/// The kind of names.
+pub struct NameKind;
+
+impl TextKind for NameKind {
+    ghost is_of_kind = { is_name };
+
+    fn is_of_kind(text: &str) -> bool {
+        has_name_form(text)
+    }
+}
+
+/// The kind of accession numbers.
+pub struct AccessionKind;
+
+impl TextKind for AccessionKind {
+    ghost is_of_kind = { is_accession };
+
+    fn is_of_kind(text: &str) -> bool {
+        has_accession_form(text)
+    }
+}
+
+/// The kind of matters.
+pub struct MatterKind;
+
+impl TextKind for MatterKind {
+    ghost is_of_kind = { is_matter };
+
+    fn is_of_kind(text: &str) -> bool {
+        has_matter_form(text)
+    }
+}
+
 /// A name: 1 to 40 characters of `a` to `z`, `0` to `9`, `-`, `_` and `.`.
-#[derive(Debug, Drop)]
-pub struct Name<'a> {
-    text: &'a str,
-}
-
-impl<'a> Model for Name<'a> {
-    ghost use Rattle.std.specs.Prelude.{List, ℕ};
-    ghost use Rattle.office_core.specs.Names.{IsName};
-
-    ghost Value = { List ℕ };
-
-    ghost view = { λ name. name.text.now };
-
-    ghost invariant = { λ name. IsName name.text.now };
-}
-
-impl<'a> Name<'a> {
-    /// The name that the text is, where it is one.
-    pub fn read(text: &'a str) -> Option<Name<'a>>
-        ensures { SomeIff result (IsName text.now) text.now }
-    {
-        if has_name_form(text) {
-            Some(Name { text })
-        } else {
-            None
-        }
-    }
-
-    /// The text of the name.
-    pub fn as_str(&self) -> &'a str
-        ensures text { result.now ≡ self.now }
-        ensures name { IsName result.now }
-    {
-        self.text
-    }
-
-    /// The name with a text of its own.
-    pub fn to_owned(&self, alloc: Global) -> Result<OwnedName, AllocError>
-        ensures { IfOk result (λ owned. owned ≡ self.now) }
-    {
-        Ok(OwnedName {
-            text: String::from_str(alloc, self.text)?,
-        })
-    }
-}
+pub type Name<'a> = Text<'a, NameKind>;
 
 /// A name that owns its text.
-#[derive(Debug, Drop)]
-pub struct OwnedName {
-    text: String,
-}
-
-impl Model for OwnedName {
-    ghost use Rattle.std.specs.Prelude.{List, ℕ, string_bytes};
-    ghost use Rattle.office_core.specs.Names.{IsName};
-
-    ghost Value = { List ℕ };
-
-    ghost view = { λ name. string_bytes name.text };
-
-    ghost invariant = { λ name. IsName (string_bytes name.text) };
-}
-
-impl OwnedName {
-    /// The same name, lent.
-    pub fn lend(&self) -> Name<'_>
-        ensures { result ≡ self.now }
-    {
-        Name {
-            text: self.text.as_str(),
-        }
-    }
-
-    /// The text of the name.
-    pub fn as_str(&self) -> &str
-        ensures text { result.now ≡ self.now }
-        ensures name { IsName result.now }
-    {
-        self.text.as_str()
-    }
-}
+pub type OwnedName = OwnedText<NameKind>;
 
 /// An accession number: 1 to 64 characters of ASCII letters, digits, `-`, `_` and `.`.
-#[derive(Debug, Drop)]
-pub struct Accession<'a> {
-    text: &'a str,
-}
-
-impl<'a> Model for Accession<'a> {
-    ghost use Rattle.std.specs.Prelude.{List, ℕ};
-    ghost use Rattle.office_core.specs.Names.{IsAccession};
-
-    ghost Value = { List ℕ };
-
-    ghost view = { λ accession. accession.text.now };
-
-    ghost invariant = { λ accession. IsAccession accession.text.now };
-}
-
-impl<'a> Accession<'a> {
-    /// The accession number that the text is, where it is one.
-    pub fn read(text: &'a str) -> Option<Accession<'a>>
-        ensures { SomeIff result (IsAccession text.now) text.now }
-    {
-        if has_accession_form(text) {
-            Some(Accession { text })
-        } else {
-            None
-        }
-    }
-
-    /// The text of the accession number.
-    pub fn as_str(&self) -> &'a str
-        ensures text { result.now ≡ self.now }
-        ensures accession { IsAccession result.now }
-    {
-        self.text
-    }
-
-    /// The accession number with a text of its own.
-    pub fn to_owned(&self, alloc: Global) -> Result<OwnedAccession, AllocError>
-        ensures { IfOk result (λ owned. owned ≡ self.now) }
-    {
-        Ok(OwnedAccession {
-            text: String::from_str(alloc, self.text)?,
-        })
-    }
-}
+pub type Accession<'a> = Text<'a, AccessionKind>;
 
 /// An accession number that owns its text.
-#[derive(Debug, Drop)]
-pub struct OwnedAccession {
-    text: String,
-}
-
-impl Model for OwnedAccession {
-    ghost use Rattle.std.specs.Prelude.{List, ℕ, string_bytes};
-    ghost use Rattle.office_core.specs.Names.{IsAccession};
-
-    ghost Value = { List ℕ };
-
-    ghost view = { λ accession. string_bytes accession.text };
-
-    ghost invariant = { λ accession. IsAccession (string_bytes accession.text) };
-}
-
-impl OwnedAccession {
-    /// The same accession number, lent.
-    pub fn lend(&self) -> Accession<'_>
-        ensures { result ≡ self.now }
-    {
-        Accession {
-            text: self.text.as_str(),
-        }
-    }
-
-    /// The text of the accession number.
-    pub fn as_str(&self) -> &str
-        ensures text { result.now ≡ self.now }
-        ensures accession { IsAccession result.now }
-    {
-        self.text.as_str()
-    }
-}
+pub type OwnedAccession = OwnedText<AccessionKind>;
 
 /// The matter of a hold: 1 to 200 bytes of text without a character below U+0020 and without
 /// U+007F.
-#[derive(Debug, Drop)]
-pub struct Matter<'a> {
-    text: &'a str,
-}
-
-impl<'a> Model for Matter<'a> {
-    ghost use Rattle.std.specs.Prelude.{List, ℕ};
-    ghost use Rattle.office_core.specs.Names.{IsMatter};
-
-    ghost Value = { List ℕ };
-
-    ghost view = { λ matter. matter.text.now };
-
-    ghost invariant = { λ matter. IsMatter matter.text.now };
-}
-
-impl<'a> Matter<'a> {
-    /// The matter that the text is, where it is one.
-    pub fn read(text: &'a str) -> Option<Matter<'a>>
-        ensures { SomeIff result (IsMatter text.now) text.now }
-    {
-        if has_matter_form(text) {
-            Some(Matter { text })
-        } else {
-            None
-        }
-    }
-
-    /// The text of the matter.
-    pub fn as_str(&self) -> &'a str
-        ensures text { result.now ≡ self.now }
-        ensures matter { IsMatter result.now }
-    {
-        self.text
-    }
-
-    /// The matter with a text of its own.
-    pub fn to_owned(&self, alloc: Global) -> Result<OwnedMatter, AllocError>
-        ensures { IfOk result (λ owned. owned ≡ self.now) }
-    {
-        Ok(OwnedMatter {
-            text: String::from_str(alloc, self.text)?,
-        })
-    }
-}
+pub type Matter<'a> = Text<'a, MatterKind>;
 
 /// A matter that owns its text.
-#[derive(Debug, Drop)]
-pub struct OwnedMatter {
-    text: String,
-}
-
-impl Model for OwnedMatter {
-    ghost use Rattle.std.specs.Prelude.{List, ℕ, string_bytes};
-    ghost use Rattle.office_core.specs.Names.{IsMatter};
-
-    ghost Value = { List ℕ };
-
-    ghost view = { λ matter. string_bytes matter.text };
-
-    ghost invariant = { λ matter. IsMatter (string_bytes matter.text) };
-}
-
-impl OwnedMatter {
-    /// The same matter, lent.
-    pub fn lend(&self) -> Matter<'_>
-        ensures { result ≡ self.now }
-    {
-        Matter {
-            text: self.text.as_str(),
-        }
-    }
-
-    /// The text of the matter.
-    pub fn as_str(&self) -> &str
-        ensures text { result.now ≡ self.now }
-        ensures matter { IsMatter result.now }
-    {
-        self.text.as_str()
-    }
-}
+pub type OwnedMatter = OwnedText<MatterKind>;
