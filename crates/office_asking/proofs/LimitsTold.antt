@@ -1,15 +1,12 @@
--- How many deposits and holds the office takes, by the rows, and whether it is full of either.
-use Rattle.std.proofs.Common.{◌≡◌, ℕ, ◌<◌, ◌≤◌, pos, true, false, Option, Some, None, sym, ap, ◌∙◌, arith, inl, inr}
-use Rattle.std.specs.Prelude.{nat_le}
-use Rattle.std.proofs.lemmas.Bool.{cases_Bool}
-use Rattle.std.proofs.lemmas.Bool.Decides.{nat_tests}
+-- How many deposits and holds the office takes, by the rows, and the number of the next of either.
+use Rattle.std.proofs.Common.{◌≡◌, ℕ, pos, Option, Some, Result, sym, ap, subst, ◌∙◌}
 use Rattle.std.proofs.lemmas.Option.{same_Some}
 use Rattle.sqlite.specs.Effect.{Database}
-use Rattle.office_core.specs.FirstOf.{answer_if}
-use Rattle.office_core.specs.declared.refusal.Refusal.TheVariants.{Full}
+use Rattle.office_core.specs.declared.refusal.Refusal.{Refusal}
 use Rattle.office_rows.specs.Rows.{Limits, limits_of}
 use Rattle.office_tables.specs.Tables.{tables_of}
 use Rattle.office_history.specs.Histories.{History}
+use Rattle.office_asking.specs.Limits.{IsNumberAfter}
 use Rattle.office_asking.specs.Pictures.{Pictures}
 use Rattle.office_asking.proofs.Readings.{in_picture}
 
@@ -24,18 +21,6 @@ limits_told h db pictured deposits_at holds_at e =
     let holds_are : h.max_holds ≡ holds_at = cc in
     (sym deposits_are, sym holds_are)
 
--- as many as a limit were accepted, or fewer
-module _ (limit count most last : ℕ) (is_limit : most ≡ limit) (is_count : last ≡ count) where
-  pub is_full : most ≤ last → answer_if (nat_le limit count) Full ≡ Some Full
-  is_full le =
-      elim (cases_Bool (nat_le limit count)) [
-        | inl over ↦ ap (λ b. answer_if b Full) over
-        | inr under ↦ absurd (let wrong : nat_le most last ≡ false = (λ i. nat_le (is_limit i) (is_count i)) ∙ under in grind (arith, nat_tests, wrong, le))
-      ]
-
-  pub has_room : last < most → answer_if (nat_le limit count) Full ≡ None
-  has_room lt =
-      elim (cases_Bool (nat_le limit count)) [
-        | inl over ↦ absurd (let wrong : nat_le most last ≡ true = (λ i. nat_le (is_limit i) (is_count i)) ∙ over in grind (arith, nat_tests, wrong, lt))
-        | inr under ↦ ap (λ b. answer_if b Full) under
-      ]
+-- what is a number after the last that was read is one after those of the history
+pub number_told : (last most count limit : ℕ) → last ≡ count → most ≡ limit → (number : Result ℕ Refusal) → IsNumberAfter last most number → IsNumberAfter count limit number
+number_told last most count limit is_count is_limit number is = subst (λ k. IsNumberAfter k limit number) is_count (subst (λ k. IsNumberAfter last k number) is_limit is)

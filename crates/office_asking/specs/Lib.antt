@@ -3,3 +3,4 @@ pub mod Serving
 pub mod Asking
 pub mod Deposits
 pub mod Holds
+pub mod Limits

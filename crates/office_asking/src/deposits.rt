@@ -1,9 +1,12 @@
 //! A deposit that is asked for.
 
-ghost use Rattle.std.specs.Prelude.{◌≡◌, IfErr, IfOk, option_map};
+ghost use Rattle.std.specs.Prelude.{◌≡◌, ℕ, IfErr, IfOk, List, Some, option_map};
 ghost use Rattle.jiff.specs.Words.{epoch_day};
 ghost use Rattle.office_tables.specs.Faults.{IsFailure};
 ghost use Rattle.office_tables.specs.Calls.{CommitsNothing, Continues, Keeps};
+ghost use Rattle.office_history.specs.Histories.{History, deposit_numbered};
+ghost use Rattle.office_history.specs.Pictures as pictures;
+ghost use Rattle.office_history.specs.Refusals as refusals;
 ghost use Rattle.office_history.specs.Refusals.{kept_refusals};
 ghost use Rattle.office_asking.specs.Serving.{Finds};
 ghost use Rattle.office_asking.specs.Deposits.{IsAsked};
@@ -43,6 +46,27 @@ pub fn days_in(row: &DepositRow) -> Result<DepositDays, TableFault>
     })
 }
 
+/// The deposit of that row, where the rules do not deny it and it is kept; else the refusal that stands
+/// first.
+fn unless_refused(
+    deposit: DepositRow,
+    denied: Option<Refusal>,
+) -> Result<Result<DepositRow, Refusal>, TableFault>
+    ensures failure { IfErr result IsFailure }
+    ensures asked { IfOk result (λ asked. (h : History) (caller : List ℕ) (action : Action) (n : ℕ)
+        → Some deposit ≡ option_map (pictures.deposit_row h n) (deposit_numbered h n)
+        → denied ≡ refusals.denial h caller action (Some deposit.collection) (Some deposit.class)
+        → IsAsked h n (kept_refusals h caller action n) asked) }
+{
+    if let Some(why) = denied {
+        return Ok(Err(why));
+    }
+    match days_in(&deposit)?.gone {
+        Some(day) => Ok(Err(Refusal::Gone(day))),
+        None => Ok(Ok(deposit)),
+    }
+}
+
 /// The deposit of that number, where the caller may do that with it and it is kept; else the refusal
 /// that stands first.
 ///
@@ -73,12 +97,5 @@ pub fn kept_deposit<S: Alter>(
         Some(&deposit.collection),
         Some(&deposit.class),
     )?;
-    if let Some(why) = denied {
-        return Ok(Err(why));
-    }
-    let days = days_in(&deposit)?;
-    match days.gone {
-        Some(day) => Ok(Err(Refusal::Gone(day))),
-        None => Ok(Ok(deposit)),
-    }
+    unless_refused(deposit, denied)
 }

@@ -6,10 +6,12 @@ mod asker;
 mod deposits;
 mod due;
 mod holds;
+mod limits;
 mod rows;
 
 pub use asker::{Asker, denial};
 pub use deposits::{DepositDays, days_in, kept_deposit};
 pub use due::{disposal_facts, due_day, least_hold};
 pub use holds::{hold_in, told_hold};
+pub use limits::number_after;
 pub use rows::{day_numbered, optional_day_numbered, years_numbered};

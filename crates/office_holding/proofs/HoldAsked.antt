@@ -15,9 +15,7 @@ use Rattle.office_tables.specs.declared.holds.HoldTarget.TheVariants as targets
 use Rattle.office_history.specs.Histories.{History, Hold, Target, OnDeposit, OnCollection, hold_numbered, release_day, deposit_numbered}
 use Rattle.office_history.specs.Pictures.{held_deposit, held_collection, hold_row, deposit_row}
 use Rattle.office_history.specs.Refusals.{of_hold, denial, release_denial, release_denial_of, release_refusals}
-use Rattle.office_history.proofs.Pictured.{same_days}
 use Rattle.office_asking.proofs.DepositAsked.{there}
-use Rattle.office_asking.proofs.Serving.{one_refusal}
 use Rattle.office_holding.specs.Holds.{target_of}
 
 pub no_hold : (h : History) (k : ℕ) (caller : List ℕ) → None ≡ option_map (hold_row h k) (hold_numbered h k) → Some (NoSuch subjects.Hold) ≡ first_some (of_hold (hold_numbered h k) (release_refusals h caller k))
@@ -51,25 +49,16 @@ module _ (h : History) (k : ℕ) (row : HoldRow) (read : Some row ≡ option_map
       by None is e = absurd cc
       by (Some found) is e = (found, is, same_Some _ _ e)
 
-  release_asked : (caller : List ℕ) (named : HoldTarget) (denied : Option Refusal) (released : Option Date) → shown.held_deposit named ≡ row.deposit → shown.held_collection named ≡ row.collection
-      → denied ≡ release_denial h caller (target_of named) → option_map epoch_day released ≡ row.released
-      → first_some (denied ∷ option_map Released released ∷ []) ≡ first_some (of_hold (hold_numbered h k) (release_refusals h caller k))
-  release_asked caller named denied released d c is day =
+  -- what is asked of the row is asked of the hold
+  pub release_asked : (caller : List ℕ) (named : HoldTarget) (denied why : Option Refusal) → shown.held_deposit named ≡ row.deposit → shown.held_collection named ≡ row.collection
+      → denied ≡ release_denial h caller (target_of named)
+      → ((day : Option Date) → option_map epoch_day day ≡ row.released → why ≡ first_some (denied ∷ option_map Released day ∷ []))
+      → why ≡ first_some (of_hold (hold_numbered h k) (release_refusals h caller k))
+  release_asked caller named denied why d c is first =
       let row_is = hold_there.2 in
       let target : target_of named ≡ hold_there.0.1.target =
       same_target named hold_there.0.1.target (d ∙ ap (λ (r : HoldRow). r.deposit) row_is) (c ∙ ap (λ (r : HoldRow). r.collection) row_is) in
       let asked = is ∙ ap (release_denial h caller) target in
-      let when = same_days released (release_day h k) (day ∙ ap (λ (r : HoldRow). r.released) row_is) in
-      (λ i. first_some (asked i ∷ option_map Released (when i) ∷ []))
+      first (release_day h k) (sym (ap (λ (r : HoldRow). r.released) row_is))
+      ∙ ap (λ o. first_some (o ∷ option_map Released (release_day h k) ∷ [])) asked
       ∙ ap (λ o. first_some (of_hold o (release_refusals h caller k))) (sym hold_there.1)
-
-  -- where the rules deny it
-  pub release_denied : (caller : List ℕ) (named : HoldTarget) (why : Refusal) → shown.held_deposit named ≡ row.deposit → shown.held_collection named ≡ row.collection
-      → Some why ≡ release_denial h caller (target_of named) → Some why ≡ first_some (of_hold (hold_numbered h k) (release_refusals h caller k))
-  release_denied caller named why d c is = release_asked caller named (Some why) (release_day h k) d c is (sym (ap (λ (r : HoldRow). r.released) hold_there.2))
-
-  -- and where they don't
-  pub release_allowed : (caller : List ℕ) (named : HoldTarget) (released : Option Date) (why : Option Refusal) → shown.held_deposit named ≡ row.deposit → shown.held_collection named ≡ row.collection
-      → None ≡ release_denial h caller (target_of named) → option_map epoch_day released ≡ row.released → why ≡ option_map Released released
-      → why ≡ first_some (of_hold (hold_numbered h k) (release_refusals h caller k))
-  release_allowed caller named released why d c is day said = said ∙ one_refusal (option_map Released released) ∙ release_asked caller named None released d c is day

@@ -1,5 +1,5 @@
 -- Which refusal of a hold stands first, and else its number.
-use Rattle.std.proofs.Common.{◌≡◌, ℕ, true, false, not, List, [], ◌∷◌, Option, Some, None, Result, Ok, Err, sym, ap, subst, ◌∙◌}
+use Rattle.std.proofs.Common.{◌≡◌, ℕ, true, false, not, List, [], ◌∷◌, length, Option, Some, None, Result, Ok, Err, sym, ap, subst, ◌∙◌}
 use Rattle.jiff.specs.Types.{Date}
 use Rattle.office_core.specs.FirstOf.{first_some, answer_if}
 use Rattle.office_core.specs.declared.action.Action.TheVariants as acts
@@ -7,11 +7,17 @@ use Rattle.office_core.specs.declared.refusal.Refusal.{Refusal}
 use Rattle.office_core.specs.declared.refusal.Refusal.TheVariants.{NoSuch}
 use Rattle.office_core.specs.declared.refusal.Subject.TheVariants as subjects
 use Rattle.office_rows.specs.Rows.{DepositRow}
-use Rattle.office_history.specs.Histories.{History, Deposit, has_collection, deposit_numbered}
+use Rattle.office_history.specs.Histories.{History, Deposit, has_collection, deposit_numbered, holds}
 use Rattle.office_history.specs.Refusals.{of_deposit, denial, denial_at, gone_refusal, full_of_holds, kept_refusals, hold_refusals}
 use Rattle.office_asking.specs.Deposits.{IsAsked}
+use Rattle.office_asking.specs.Limits.{IsNumberAfter}
 use Rattle.office_asking.proofs.Serving.{one_refusal}
 use Rattle.office_holding.specs.Holds.{IsPlace, collection_denials}
+
+-- the next number has a place where the office takes one more
+pub next_placed : (h : History) (place : Result ℕ Refusal) → IsNumberAfter (length (holds h)) h.max_holds place → IsPlace h (full_of_holds h ∷ []) place
+next_placed h (Ok number) is = (is.0 ∙ one_refusal (full_of_holds h), is.1)
+next_placed h (Err why) is = is ∙ one_refusal (full_of_holds h)
 
 -- a refusal that stands among two stands among more
 first_of_more : (a b : Option Refusal) (more : List (Option Refusal)) (why : Refusal) → Some why ≡ first_some (a ∷ b ∷ []) → Some why ≡ first_some (a ∷ b ∷ more)

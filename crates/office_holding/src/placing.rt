@@ -10,7 +10,7 @@ ghost use Rattle.office_history.specs.Refusals.{collection_hold_refusals, full_o
 ghost use Rattle.office_asking.specs.Serving.{Accepts, Decides, Finds};
 ghost use Rattle.office_holding.specs.Holds.{IsNext, IsPlace, collection_denials, target_of};
 
-use office_asking::{denial, kept_deposit};
+use office_asking::{denial, kept_deposit, number_after};
 use office_core::{Action, Answer, Day, Matter, Name, Refusal, Subject};
 use office_tables::{HoldTarget, TableFault, has_collection, last_hold, limits, put_hold};
 use sqlite::{Alter, Transaction};
@@ -25,11 +25,8 @@ fn next_hold<S: Alter>(tx: &mut Transaction<'_, S>) -> Result<Result<u32, Refusa
     ensures next { Finds S.Store tx.old.conn.now tx.new.conn.now result (λ h place. IsPlace h (full_of_holds h ∷ []) place) }
 {
     let limits = limits(tx)?;
-    let last = last_hold(tx)?.unwrap_or(0);
-    if limits.max_holds <= last {
-        return Ok(Err(Refusal::Full));
-    }
-    Ok(Ok(last + 1))
+    let last = last_hold(tx)?;
+    Ok(number_after(last, limits.max_holds))
 }
 
 /// Places a hold of that number, which is to be the next.

@@ -1,6 +1,7 @@
 //! Holds that are released.
 
-ghost use Rattle.std.specs.Prelude.{◌≡◌, IfErr, IfOk, None, option_map, [], ◌∷◌};
+ghost use Rattle.std.specs.Prelude.{◌≡◌, IfErr, IfOk, Option, None, option_map, [], ◌∷◌};
+ghost use Rattle.jiff.specs.Words.{epoch_day};
 ghost use Rattle.office_core.specs.FirstOf.{first_some};
 ghost use Rattle.office_core.specs.declared.refusal.Refusal.TheVariants.{Released};
 ghost use Rattle.office_core.specs.declared.request.Request.TheVariants as requests;
@@ -112,8 +113,27 @@ fn released_refusal(released: Option<Day>) -> Option<Refusal>
     }
 }
 
-/// Why the hold of that number may not be released, if something stands against it. Where the rules allow
-/// it all of its row is read, so that no hold is released that isn't one.
+/// The refusal of the release of the hold of that row that stands first: that the rules deny it, or that
+/// it was released. Where the rules allow it all of the row is read, so that no hold is released that
+/// isn't one.
+fn denied_or_released(
+    alloc: Global,
+    hold: &HoldRow,
+    denied: Option<Refusal>,
+) -> Result<Option<Refusal>, TableFault>
+    ensures failure { IfErr result IsFailure }
+    ensures first { IfOk result (λ why. (day : Option Day) → option_map epoch_day day ≡ hold.now.released
+        → why ≡ first_some (denied ∷ option_map Released day ∷ [])) }
+{
+    if let Some(why) = denied {
+        return Ok(Some(why));
+    }
+    hold_in(alloc, hold)?;
+    let released = optional_day_numbered(hold.released)?;
+    Ok(released_refusal(released))
+}
+
+/// Why the hold of that number may not be released, if something stands against it.
 fn release_refusal<S: Alter>(
     alloc: Global,
     tx: &mut Transaction<'_, S>,
@@ -132,12 +152,7 @@ fn release_refusal<S: Alter>(
     };
     let target = named_in(&hold)?;
     let denied = release_denial(alloc, tx, caller, target)?;
-    if let Some(why) = denied {
-        return Ok(Some(why));
-    }
-    hold_in(alloc, &hold)?;
-    let released = optional_day_numbered(hold.released)?;
-    Ok(released_refusal(released))
+    denied_or_released(alloc, &hold, denied)
 }
 
 /// Ends the hold of that number, which is live.

@@ -1,20 +1,20 @@
 //! Deposits of bags.
 
-ghost use Rattle.std.specs.Prelude.{◌≡◌, IfErr, IfOk, [], ◌∷◌, Some, None, MatchOption, ◌+◌, length};
+ghost use Rattle.std.specs.Prelude.{◌≡◌, IfErr, IfOk, [], ◌∷◌, length};
 ghost use Rattle.office_core.specs.FirstOf.{first_some};
-ghost use Rattle.office_core.specs.declared.refusal.Refusal.TheVariants.{Full};
 ghost use Rattle.office_core.specs.declared.request.Request.TheVariants as requests;
 ghost use Rattle.office_tables.specs.Faults.{IsFailure};
 ghost use Rattle.office_tables.specs.Calls.{CommitsNothing, Continues};
 ghost use Rattle.office_history.specs.Histories.{History, deposits};
 ghost use Rattle.office_history.specs.Refusals as refusals;
 ghost use Rattle.office_history.specs.Refusals.{place_refusals, bad_bag, closed_ahead_refusal, full_of_deposits};
+ghost use Rattle.office_asking.specs.Limits.{IsNumberAfter};
 ghost use Rattle.office_asking.specs.Serving.{Finds, Decides};
 ghost use Rattle.office_keeping.specs.Depositing.{IsAskedFor, refusals_before_the_bag};
 
 use crate::keeping::keep;
 use bag_text::BagSet;
-use office_asking::denial;
+use office_asking::{denial, number_after};
 use office_core::{Accession, Action, Answer, Day, Name, Refusal, Subject};
 use office_history::judging::valid_bag;
 use office_tables::{TableFault, by_accession, class_of, has_collection, last_deposit, limits};
@@ -106,21 +106,18 @@ fn refusal_before_the_bag<S: Alter>(
     Ok(closed_ahead(day, closed))
 }
 
-/// The number of the next deposit; `None` where the office is full.
-fn next_number<S: Alter>(tx: &mut Transaction<'_, S>) -> Result<Option<u32>, TableFault>
+/// The number of the next deposit, where the office takes one more.
+fn next_number<S: Alter>(tx: &mut Transaction<'_, S>) -> Result<Result<u32, Refusal>, TableFault>
     ensures same_reference { tx.new.conn.ghost_name ≡ tx.old.conn.ghost_name }
     ensures stays { CommitsNothing S.Store tx.old.conn.now tx.new.conn.now }
     ensures goes_on { Continues S.Store tx.old.conn.now tx.new.conn.now result }
     ensures failure { IfErr result IsFailure }
     ensures next { Finds S.Store tx.old.conn.now tx.new.conn.now result (λ h next.
-        MatchOption next (full_of_deposits h ≡ Some Full) (λ number. (full_of_deposits h ≡ None) × (number ≡ length (deposits h) + 1))) }
+        IsNumberAfter (length (deposits h)) h.max_deposits next) }
 {
     let limits = limits(tx)?;
-    let last = last_deposit(tx)?.unwrap_or(0);
-    if limits.max_deposits <= last {
-        return Ok(None);
-    }
-    Ok(Some(last + 1))
+    let last = last_deposit(tx)?;
+    Ok(number_after(last, limits.max_deposits))
 }
 
 /// A bag that is to be kept, and the number that its deposit is to have.
@@ -135,11 +132,11 @@ struct NewBag<'a> {
 fn judged_bag<'a>(
     alloc: Global,
     text: &'a [u8],
-    number: Option<u32>,
+    number: Result<u32, Refusal>,
 ) -> Result<Result<NewBag<'a>, Refusal>, TableFault>
     ensures failure { IfErr result IsFailure }
     ensures judged { IfOk result (λ asked. (h : History)
-        → MatchOption number (full_of_deposits h ≡ Some Full) (λ next. (full_of_deposits h ≡ None) × (next ≡ length (deposits h) + 1))
+        → IsNumberAfter (length (deposits h)) h.max_deposits number
         → IsAskedFor h text.entry.now (bad_bag text.entry.now ∷ full_of_deposits h ∷ []) asked) }
 {
     let bag = match valid_bag(alloc, text)? {
@@ -147,8 +144,8 @@ fn judged_bag<'a>(
         Err(fault) => return Ok(Err(Refusal::BadBag(fault))),
     };
     match number {
-        Some(number) => Ok(Ok(NewBag { bag, number })),
-        None => Ok(Err(Refusal::Full)),
+        Ok(number) => Ok(Ok(NewBag { bag, number })),
+        Err(why) => Ok(Err(why)),
     }
 }
 

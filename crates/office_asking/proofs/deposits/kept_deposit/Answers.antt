@@ -5,9 +5,10 @@ use Rattle.office_history.specs.Histories as histories
 use Rattle.office_history.specs.Pictures.{deposit_row}
 use Rattle.office_history.specs.Refusals.{denial, kept_refusals}
 use Rattle.office_asking.proofs.Readings.{pictured_still}
-use Rattle.office_asking.proofs.DepositAsked.{deposit_read, none_there, asked_denied, asked_gone, asked_kept}
+use Rattle.office_asking.proofs.DepositAsked.{deposit_read, none_there}
 use Rattle.office_asking.proofs.InTurn.{clean_before, goes_twice, same_twice}
 use Rattle.sql_meaning.proofs.Inside.{stays_then}
+use Rattle.sql_meaning.proofs.Results.{if_ok, on_ok}
 use Rattle.office_asking.proofs.deposits.kept_deposit.Goals as goal
 
 pub returns-in_default-clause-asked : goal.returns-in_default-clause-asked
@@ -19,8 +20,8 @@ returns-in_default-clause-asked g c clean h legal pictured =
     let none : None ≡ option_map (deposit_row h a.number) (histories.deposit_numbered h a.number) = search (rules, read) in
     (pictured_still h old.now pictured new.now (c.in_ok-deposit.ensures.same clean pictured.office), none_there h a.number (kept_refusals h a.caller.now a.action a.number) none)
 
-pub returns-in-Some-denied-clause-asked : goal.returns-in-Some-denied-clause-asked
-returns-in-Some-denied-clause-asked g c clean h legal pictured =
+pub returns-clause-asked : goal.returns-clause-asked
+returns-clause-asked g c clean h legal pictured =
     let a = c.args in
     let old = state g.S.Store a.tx.now.conn.now in
     let mid = state g.S.Store c.deposit_row.new.tx.conn.now in
@@ -29,75 +30,24 @@ returns-in-Some-denied-clause-asked g c clean h legal pictured =
     let still = pictured_still h old.now pictured mid.now (c.in_ok-deposit.ensures.same early pictured.office) in
     let row = c.in-Some.deposit in
     let some : Some row ≡ option_map (deposit_row h a.number) (histories.deposit_numbered h a.number) = sym c.in-Some.is ∙ read in
-    let asked = c.in_ok-denied.ensures.denied clean h legal still in
+    let denied = c.in_ok-denied.ensures.denied clean h legal still in
     let collection : c.deref.result.now ≡ row.collection = search rules in
     let class : c.deref-2.result.now ≡ row.class = search rules in
-    let said : Some c.in-Some-denied.why ≡ denial h a.caller.now a.action (Some row.collection) (Some row.class) = sym c.in-Some-denied.is ∙ asked.1 ∙ (λ i. denial h a.caller.now a.action (Some (collection i)) (Some (class i))) in
-    (asked.0, asked_denied h a.caller.now a.action a.number row some c.in-Some-denied.why said)
-
-pub returns-in-Some-gone-clause-asked : goal.returns-in-Some-gone-clause-asked
-returns-in-Some-gone-clause-asked g c clean h legal pictured =
-    let a = c.args in
-    let old = state g.S.Store a.tx.now.conn.now in
-    let mid = state g.S.Store c.deposit_row.new.tx.conn.now in
-    let early : HasCleanDisk mid = clean_before mid (state g.S.Store c.denial.new.tx.conn.now) c.denial.ensures.stays clean in
-    let read = deposit_read h old.now pictured a.number c.in_ok-deposit.field-0 (c.in_ok-deposit.ensures.found early pictured.office) in
-    let still = pictured_still h old.now pictured mid.now (c.in_ok-deposit.ensures.same early pictured.office) in
-    let row = c.in-Some.deposit in
-    let some : Some row ≡ option_map (deposit_row h a.number) (histories.deposit_numbered h a.number) = sym c.in-Some.is ∙ read in
-    let asked = c.in_ok-denied.ensures.denied clean h legal still in
-    let collection : c.deref.result.now ≡ row.collection = search rules in
-    let class : c.deref-2.result.now ≡ row.class = search rules in
-    let allowed : None ≡ c.in_ok-denied.denied = search rules in
-    let said : None ≡ denial h a.caller.now a.action (Some row.collection) (Some row.class) = allowed ∙ asked.1 ∙ (λ i. denial h a.caller.now a.action (Some (collection i)) (Some (class i))) in
-    (asked.0, asked_gone h a.caller.now a.action a.number row some c.in-Some-gone.day said (search rules))
-
-pub returns-in-None-clause-asked : goal.returns-in-None-clause-asked
-returns-in-None-clause-asked g c clean h legal pictured =
-    let a = c.args in
-    let old = state g.S.Store a.tx.now.conn.now in
-    let mid = state g.S.Store c.deposit_row.new.tx.conn.now in
-    let early : HasCleanDisk mid = clean_before mid (state g.S.Store c.denial.new.tx.conn.now) c.denial.ensures.stays clean in
-    let read = deposit_read h old.now pictured a.number c.in_ok-deposit.field-0 (c.in_ok-deposit.ensures.found early pictured.office) in
-    let still = pictured_still h old.now pictured mid.now (c.in_ok-deposit.ensures.same early pictured.office) in
-    let row = c.in-Some.deposit in
-    let some : Some row ≡ option_map (deposit_row h a.number) (histories.deposit_numbered h a.number) = sym c.in-Some.is ∙ read in
-    let asked = c.in_ok-denied.ensures.denied clean h legal still in
-    let collection : c.deref.result.now ≡ row.collection = search rules in
-    let class : c.deref-2.result.now ≡ row.class = search rules in
-    let allowed : None ≡ c.in_ok-denied.denied = search rules in
-    let said : None ≡ denial h a.caller.now a.action (Some row.collection) (Some row.class) = allowed ∙ asked.1 ∙ (λ i. denial h a.caller.now a.action (Some (collection i)) (Some (class i))) in
-    (asked.0, asked_kept h a.caller.now a.action a.number row some said (search rules))
+    let said : c.in_ok-denied.denied ≡ denial h a.caller.now a.action (Some row.collection) (Some row.class) = denied.1 ∙ (λ i. denial h a.caller.now a.action (Some (collection i)) (Some (class i))) in
+    if_ok c.unless_refused.result (λ asked says. (denied.0, says h a.caller.now a.action a.number some said)) c.unless_refused.ensures.asked
 
 pub returns-in_err-denied-clause-stays : goal.returns-in_err-denied-clause-stays
 returns-in_err-denied-clause-stays g c = stays_then (state g.S.Store c.args.tx.now.conn.now) (state g.S.Store c.deposit_row.new.tx.conn.now) (state g.S.Store c.denial.new.tx.conn.now) c.deposit_row.ensures.stays c.in_ok-deposit.ensures.goes_on c.denial.ensures.stays
 
-pub returns-in-Some-denied-clause-stays : goal.returns-in-Some-denied-clause-stays
-returns-in-Some-denied-clause-stays g c = stays_then (state g.S.Store c.args.tx.now.conn.now) (state g.S.Store c.deposit_row.new.tx.conn.now) (state g.S.Store c.denial.new.tx.conn.now) c.deposit_row.ensures.stays c.in_ok-deposit.ensures.goes_on c.denial.ensures.stays
+pub returns-clause-stays : goal.returns-clause-stays
+returns-clause-stays g c = stays_then (state g.S.Store c.args.tx.now.conn.now) (state g.S.Store c.deposit_row.new.tx.conn.now) (state g.S.Store c.denial.new.tx.conn.now) c.deposit_row.ensures.stays c.in_ok-deposit.ensures.goes_on c.denial.ensures.stays
 
-pub returns-in-Some-denied-clause-goes_on : goal.returns-in-Some-denied-clause-goes_on
-returns-in-Some-denied-clause-goes_on g c = goes_twice (state g.S.Store c.args.tx.now.conn.now) (state g.S.Store c.deposit_row.new.tx.conn.now) (state g.S.Store c.denial.new.tx.conn.now) c.denial.ensures.stays c.in_ok-deposit.ensures.goes_on c.in_ok-denied.ensures.goes_on
+pub returns-clause-goes_on : goal.returns-clause-goes_on
+returns-clause-goes_on g c clean =
+    let goes = goes_twice (state g.S.Store c.args.tx.now.conn.now) (state g.S.Store c.deposit_row.new.tx.conn.now) (state g.S.Store c.denial.new.tx.conn.now) c.denial.ensures.stays c.in_ok-deposit.ensures.goes_on c.in_ok-denied.ensures.goes_on clean in
+    on_ok c.unless_refused.result (λ _ _. goes) c.unless_refused.ensures.asked
 
-pub returns-in-Some-denied-clause-same : goal.returns-in-Some-denied-clause-same
-returns-in-Some-denied-clause-same g c = same_twice (state g.S.Store c.args.tx.now.conn.now) (state g.S.Store c.deposit_row.new.tx.conn.now) (state g.S.Store c.denial.new.tx.conn.now) c.denial.ensures.stays c.in_ok-deposit.ensures.same c.in_ok-denied.ensures.same
-
-pub returns-in-Some-gone-clause-stays : goal.returns-in-Some-gone-clause-stays
-returns-in-Some-gone-clause-stays g c = stays_then (state g.S.Store c.args.tx.now.conn.now) (state g.S.Store c.deposit_row.new.tx.conn.now) (state g.S.Store c.denial.new.tx.conn.now) c.deposit_row.ensures.stays c.in_ok-deposit.ensures.goes_on c.denial.ensures.stays
-
-pub returns-in-Some-gone-clause-goes_on : goal.returns-in-Some-gone-clause-goes_on
-returns-in-Some-gone-clause-goes_on g c = goes_twice (state g.S.Store c.args.tx.now.conn.now) (state g.S.Store c.deposit_row.new.tx.conn.now) (state g.S.Store c.denial.new.tx.conn.now) c.denial.ensures.stays c.in_ok-deposit.ensures.goes_on c.in_ok-denied.ensures.goes_on
-
-pub returns-in-Some-gone-clause-same : goal.returns-in-Some-gone-clause-same
-returns-in-Some-gone-clause-same g c = same_twice (state g.S.Store c.args.tx.now.conn.now) (state g.S.Store c.deposit_row.new.tx.conn.now) (state g.S.Store c.denial.new.tx.conn.now) c.denial.ensures.stays c.in_ok-deposit.ensures.same c.in_ok-denied.ensures.same
-
-pub returns-in-None-clause-stays : goal.returns-in-None-clause-stays
-returns-in-None-clause-stays g c = stays_then (state g.S.Store c.args.tx.now.conn.now) (state g.S.Store c.deposit_row.new.tx.conn.now) (state g.S.Store c.denial.new.tx.conn.now) c.deposit_row.ensures.stays c.in_ok-deposit.ensures.goes_on c.denial.ensures.stays
-
-pub returns-in-None-clause-goes_on : goal.returns-in-None-clause-goes_on
-returns-in-None-clause-goes_on g c = goes_twice (state g.S.Store c.args.tx.now.conn.now) (state g.S.Store c.deposit_row.new.tx.conn.now) (state g.S.Store c.denial.new.tx.conn.now) c.denial.ensures.stays c.in_ok-deposit.ensures.goes_on c.in_ok-denied.ensures.goes_on
-
-pub returns-in-None-clause-same : goal.returns-in-None-clause-same
-returns-in-None-clause-same g c = same_twice (state g.S.Store c.args.tx.now.conn.now) (state g.S.Store c.deposit_row.new.tx.conn.now) (state g.S.Store c.denial.new.tx.conn.now) c.denial.ensures.stays c.in_ok-deposit.ensures.same c.in_ok-denied.ensures.same
-
-pub returns-in_err-days-clause-stays : goal.returns-in_err-days-clause-stays
-returns-in_err-days-clause-stays g c = stays_then (state g.S.Store c.args.tx.now.conn.now) (state g.S.Store c.deposit_row.new.tx.conn.now) (state g.S.Store c.denial.new.tx.conn.now) c.deposit_row.ensures.stays c.in_ok-deposit.ensures.goes_on c.denial.ensures.stays
+pub returns-clause-same : goal.returns-clause-same
+returns-clause-same g c clean office =
+    let same = same_twice (state g.S.Store c.args.tx.now.conn.now) (state g.S.Store c.deposit_row.new.tx.conn.now) (state g.S.Store c.denial.new.tx.conn.now) c.denial.ensures.stays c.in_ok-deposit.ensures.same c.in_ok-denied.ensures.same clean office in
+    on_ok c.unless_refused.result (λ _ _. same) c.unless_refused.ensures.asked

@@ -1,0 +1,31 @@
+use Rattle.std.proofs.Common.{rules, ◌≡◌, ℕ, ◌+◌, ◌<◌, ◌≤◌, Some, None, unwrap_or, sym, ap, arith, inl, inr}
+use Rattle.std.specs.Prelude.{nat_le}
+use Rattle.std.proofs.lemmas.Bool.{cases_Bool}
+use Rattle.std.proofs.lemmas.Bool.Decides.{nat_tests}
+use Rattle.office_core.specs.FirstOf.{answer_if}
+use Rattle.office_core.specs.declared.refusal.Refusal.TheVariants.{Full}
+use Rattle.office_asking.proofs.limits.number_after.Goals as goal
+
+is_full : (count limit : ℕ) → limit ≤ count → Some Full ≡ answer_if (nat_le limit count) Full
+is_full count limit le =
+    elim (cases_Bool (nat_le limit count)) [
+      | inl over ↦ sym (ap (λ b. answer_if b Full) over)
+      | inr under ↦ absurd (grind (arith, nat_tests, under, le))
+    ]
+
+has_room : (count limit : ℕ) → count < limit → None ≡ answer_if (nat_le limit count) Full
+has_room count limit lt =
+    elim (cases_Bool (nat_le limit count)) [
+      | inl over ↦ absurd (grind (arith, nat_tests, over, lt))
+      | inr under ↦ sym (ap (λ b. answer_if b Full) under)
+    ]
+
+pub returns-then-limit-last : goal.returns-then-limit-last
+returns-then-limit-last c =
+    let last : c.unwrap_or-last.result ≡ unwrap_or c.args.last 0 = search rules in
+    is_full (unwrap_or c.args.last 0) c.args.limit (rw last at c.if-limit-last.true)
+
+pub returns : goal.returns
+returns c =
+    let last : c.unwrap_or-last.result ≡ unwrap_or c.args.last 0 = search rules in
+    (has_room (unwrap_or c.args.last 0) c.args.limit (rw last at c.if-limit-last.false), ap (λ k. k + 1) last)
