@@ -1,9 +1,10 @@
 -- The rows of a legal history are in range.
-use Rattle.std.proofs.Common.{◌≡◌, ◌≤◌, ℕ, zero, suc, ◌+◌, ℤ, pos, Bool, true, false, List, [], ◌∷◌, length, map, filter, Option, Some, None, IfSome, IsSome, is_none, is_some, option_map, refl, sym, ap, subst, ◌∙◌, inl, inr, ◌⊎◌, arith, cond}
+use Rattle.std.proofs.Common.{◌≡◌, ◌≤◌, ℕ, zero, suc, ◌+◌, ◌*◌, ℤ, pos, Bool, true, false, List, [], ◌∷◌, length, map, filter, Option, Some, None, IfSome, IsSome, is_none, is_some, option_map, refl, sym, ap, subst, ◌∙◌, inl, inr, ◌⊎◌, arith, cond, if◌then◌else◌}
 use Rattle.std.specs.Prelude.{Contains, bytes_eq, neg_ℤ}
-use Rattle.std.specs.List.{AllByRecursion, filter_map, flat_map, list_any, range_with_len, cons_option}
+use Rattle.std.specs.List.{AllByRecursion, sum_by, filter_map, flat_map, list_any, range_with_len, cons_option}
 use Rattle.std.specs.Option.{option_map_or}
 use Rattle.std.proofs.lemmas.List.{length-map}
+use Rattle.std.proofs.lemmas.List.Sums.{sum-map, sum_by-cons}
 use Rattle.std.proofs.lemmas.List.FromFn.{length-range_with_len}
 use Rattle.std.proofs.lemmas.Slice.Eq.{bytes_eq-Decides}
 use Rattle.jiff_core.proofs.SignedLemmas.{signed_arith}
@@ -178,14 +179,19 @@ payload_few (file ∷ files) = by (is_payload file.path) (payload_few files)
     by true few = omega (arith, few)
     by false few = omega (arith, few)
 
-payload_small : (files : List File) → AllByRecursion Fits files → payload_bytes files ≤ length files * max_content
-payload_small [] all = omega arith
-payload_small (file ∷ files) all = by (is_payload file.path) (payload_small files all.1)
+abbrev bytes_of : File → ℕ
+bytes_of file = length file.content
+
+bytes_small : (files : List File) → AllByRecursion Fits files → sum_by bytes_of (payload_of files) ≤ length files * max_content
+bytes_small [] all = omega arith
+bytes_small (file ∷ files) all = by (is_payload file.path) (bytes_small files all.1)
   where
-    by : (payload : Bool) → payload_bytes files ≤ length files * max_content
-        → sum (map (λ f. length f.content) (if payload then file ∷ payload_of files else payload_of files)) ≤ length (file ∷ files) * max_content
-    by true small = omega (arith, small, all.0.small)
+    by : (payload : Bool) → sum_by bytes_of (payload_of files) ≤ length files * max_content → sum_by bytes_of (if payload then file ∷ payload_of files else payload_of files) ≤ length (file ∷ files) * max_content
+    by true small = rw (sum_by-cons bytes_of file (payload_of files)) (omega (arith, small, all.0.small))
     by false small = omega (arith, small)
+
+payload_small : (files : List File) → AllByRecursion Fits files → payload_bytes files ≤ length files * max_content
+payload_small files all = subst (λ n. n ≤ length files * max_content) (sym (sum-map bytes_of (payload_of files))) (bytes_small files all)
 
 deposit_ranged : Reads → Judges → (h : History) (version : ℤ) → IsLegal h → (n : ℕ) (row : DepositRow) → row_of_deposit h n ≡ Some row → IsDepositRow (picture version h) row
 deposit_ranged reads judges h version legal n row e =

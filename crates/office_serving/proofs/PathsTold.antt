@@ -25,12 +25,6 @@ pub unspelled : (b : Bool) (bytes : List ℕ) → None ≡ cond b (Some bytes) N
 unspelled true bytes e = absurd cc
 unspelled false bytes e = refl
 
--- the same path is asked for, wherever its bytes stand
-pub same_path : (h : History) (day : Date) (caller : List ℕ) (n : ℕ) (a b : Bor (List ℕ)) → a.now ≡ b.now → (given : Answer) (db : Database)
-    → IsServed h day caller (DownloadFile n a) given db → IsServed h day caller (DownloadFile n b) given db
-same_path h day caller n a b same given db it =
-    subst (λ (path : List ℕ). IsServed h day caller (DownloadFile n (record { ref_ptr = b.ref_ptr; now = path })) given db) same (record { answer = it.answer; after = it.after })
-
 -- ---- bytes that spell none
 
 another : (path other : List ℕ) → is_good path ≡ true → is_utf8 other ≡ false → bytes_eq path other ≡ false
