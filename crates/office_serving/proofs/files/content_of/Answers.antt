@@ -1,11 +1,13 @@
 use Rattle.std.proofs.Common.{Result, Ok, Err, OnOk, IfOk, ap, sym, ◌∙◌, option_copied}
 use Rattle.std.specs.Str.{is_utf8}
 use Rattle.sqlite.specs.Held.{state}
+use Rattle.sql_meaning.proofs.Inside.{stands_then}
 use Rattle.sql_meaning.proofs.Results.{ok_then}
 use Rattle.bag_text.specs.TransferForm.{content_at}
 use Rattle.office_asking.proofs.InTurn.{stays_still}
 use Rattle.office_asking.proofs.Readings.{pictured_still}
 use Rattle.office_serving.proofs.FilesTold.{content_read}
+use Rattle.office_serving.proofs.InTurn.{stands_still}
 use Rattle.office_serving.proofs.PathsTold.{spelled, unspelled, no_file_there}
 use Rattle.office_serving.proofs.files.content_of.Goals as goal
 
@@ -33,7 +35,9 @@ returns-in-None-clause-content g c clean h legal pictured =
     (pictured, λ found there kept. no_file_there found.1.bag (c.sound_bags.ensures h legal a.number found there).bag.each a.path.now bad)
 
 pub returns-in-Some-clause-goes_on : goal.returns-in-Some-clause-goes_on
-returns-in-Some-clause-goes_on g c clean = ok_then c.file_of.result (λ q. record { is_open = λ _. q.is_open; inside = q.inside }) (c.file_of.ensures.goes_on clean)
+returns-in-Some-clause-goes_on g c clean =
+    let old = state g.S.Store c.args.tx.now.conn.now in
+    ok_then c.file_of.result (stands_then old old (state g.S.Store c.file_of.new.tx.conn.now) (stands_still old)) (c.file_of.ensures.goes_on clean)
 
 pub returns-in-None-clause-stays : goal.returns-in-None-clause-stays
 returns-in-None-clause-stays g c = stays_still (state g.S.Store c.args.tx.now.conn.now)
