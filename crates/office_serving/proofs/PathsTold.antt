@@ -1,19 +1,12 @@
 -- Paths that are asked for as bytes.
-use Rattle.std.proofs.Common.{◌≡◌, ℕ, Bool, true, false, ◌&&◌, List, [], ◌∷◌, Some, None, option_map, is_none, refl, sym, ap, subst, ◌∙◌, true≢false, cond}
+use Rattle.std.proofs.Common.{◌≡◌, ℕ, Bool, true, false, ◌&&◌, List, [], ◌∷◌, Some, None, option_map, is_none, refl, sym, ap, ◌∙◌, true≢false, cond}
 use Rattle.std.proofs.lemmas.Option.{same_Some}
 use Rattle.std.proofs.lemmas.Slice.Eq.{bytes_eq-Decides}
 use Rattle.std.specs.List.{AllByRecursion}
 use Rattle.std.specs.Prelude.{bytes_eq, find}
 use Rattle.std.specs.Str.{is_utf8}
-use denote.Ref.{Bor}
-use Rattle.jiff.specs.Types.{Date}
-use Rattle.sqlite.specs.Effect.{Database}
 use Rattle.bag_text.specs.Paths.{is_good, path_fault}
 use Rattle.bag_text.specs.TransferForm.{File, Fits, content_at}
-use Rattle.office_core.specs.declared.answer.Answer.{Answer}
-use Rattle.office_core.specs.declared.request.Request.TheVariants.{DownloadFile}
-use Rattle.office_history.specs.Histories.{History}
-use Rattle.office_asking.specs.Serving.{IsServed}
 
 -- ---- a text that bytes spell
 
