@@ -126,10 +126,3 @@ content_read h db pictured n found there kept path content e =
     e ∙ in_picture h db pictured (λ t. option_map (λ (f : FileRow). f.content) (file_at (pos n) path t.files))
     ∙ ap (option_map (λ (f : FileRow). f.content)) (first_of_both (is_file_of (pos n)) (λ f. bytes_eq f.path path) (file_rows h) ∙ ap (find (λ f. bytes_eq f.path path)) (files_at h n found there kept))
     ∙ content_of_row n path found.1.bag
-
--- what is seen of something that is there, and of nothing
-pub seen_in : {A B : Type 0} (see : A → B) (o : Option A) (x : A) → o ≡ Some x → {told : Option B} → option_map see o ≡ told → Some (see x) ≡ told
-seen_in see o x is e = ap (option_map see) (sym is) ∙ e
-
-pub seen_none : {A B : Type 0} (see : A → B) (o : Option A) → o ≡ None → {told : Option B} → option_map see o ≡ told → None ≡ told
-seen_none see o is e = ap (option_map see) (sym is) ∙ e

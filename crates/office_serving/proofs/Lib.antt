@@ -7,3 +7,4 @@ pub mod AuditTold
 pub mod DueListTold
 pub mod ShownTold
 pub mod PathsTold
+pub mod InTurn

@@ -1,19 +1,12 @@
 -- Paths that are asked for as bytes.
-use Rattle.std.proofs.Common.{◌≡◌, ℕ, Bool, true, false, ◌&&◌, List, [], ◌∷◌, Some, None, option_map, is_none, refl, sym, ap, subst, ◌∙◌, true≢false, cond}
+use Rattle.std.proofs.Common.{◌≡◌, ℕ, Bool, true, false, ◌&&◌, List, [], ◌∷◌, Some, None, option_map, is_none, refl, sym, ap, ◌∙◌, true≢false, cond}
 use Rattle.std.proofs.lemmas.Option.{same_Some}
 use Rattle.std.proofs.lemmas.Slice.Eq.{bytes_eq-Decides}
 use Rattle.std.specs.List.{AllByRecursion}
 use Rattle.std.specs.Prelude.{bytes_eq, find}
 use Rattle.std.specs.Str.{is_utf8}
-use denote.Ref.{Bor}
-use Rattle.jiff.specs.Types.{Date}
-use Rattle.sqlite.specs.Effect.{Database}
 use Rattle.bag_text.specs.Paths.{is_good, path_fault}
 use Rattle.bag_text.specs.TransferForm.{File, Fits, content_at}
-use Rattle.office_core.specs.declared.answer.Answer.{Answer}
-use Rattle.office_core.specs.declared.request.Request.TheVariants.{DownloadFile}
-use Rattle.office_history.specs.Histories.{History}
-use Rattle.office_asking.specs.Serving.{IsServed}
 
 -- ---- a text that bytes spell
 
@@ -24,12 +17,6 @@ spelled false text bytes e = absurd cc
 pub unspelled : (b : Bool) (bytes : List ℕ) → None ≡ cond b (Some bytes) None → b ≡ false
 unspelled true bytes e = absurd cc
 unspelled false bytes e = refl
-
--- the same path is asked for, wherever its bytes stand
-pub same_path : (h : History) (day : Date) (caller : List ℕ) (n : ℕ) (a b : Bor (List ℕ)) → a.now ≡ b.now → (given : Answer) (db : Database)
-    → IsServed h day caller (DownloadFile n a) given db → IsServed h day caller (DownloadFile n b) given db
-same_path h day caller n a b same given db it =
-    subst (λ (path : List ℕ). IsServed h day caller (DownloadFile n (record { ref_ptr = b.ref_ptr; now = path })) given db) same (record { answer = it.answer; after = it.after })
 
 -- ---- bytes that spell none
 

@@ -23,16 +23,16 @@ use Rattle.office_asking.specs.Deposits.{IsThere}
 use Rattle.office_asking.proofs.DepositAsked.{still_kept}
 use Rattle.office_asking.proofs.Serving.{read_serves, refused_serves, one_refusal}
 
-module _ (h : History) (caller : List ℕ) (action : Action) (n : ℕ) (row : DepositRow) (it : IsThere h n (kept_refusals h caller action n) row) where
+module _ {h : History} (caller : List ℕ) (action : Action) {n : ℕ} {row : DepositRow} (it : IsThere h n (kept_refusals h caller action n) row) where
   -- where nothing is refused, the deposit was not destroyed
   pub is_kept : destruction_day h n ≡ None
   is_kept = still_kept (denial_at h caller action it.found.1) (destruction_day h n) _ it.free
 
   -- and this is told of it
-  pub told_serves : (day : Date) (request : Request) (db : Database) → refusals h day caller request ≡ of_deposit (deposit_numbered h n) (kept_refusals h caller action n)
+  pub told_serves : {day : Date} {request : Request} {db : Database} {given : Answer} → refusals h day caller request ≡ of_deposit (deposit_numbered h n) (kept_refusals h caller action n)
       → (tell : Date × Deposit → Answer) → allowed_answer h day caller request ≡ told_of (deposit_numbered h n) tell → allowed_change h day request ≡ []
-      → (given : Answer) → given ≡ tell it.found → Pictures h db → IsServed h day caller request given db
-  told_serves day request db asks tell answers none given is pictured =
+      → given ≡ tell it.found → Pictures h db → IsServed h day caller request given db
+  told_serves {day = day} {request = request} {db = db} {given = given} asks tell answers none is pictured =
       read_serves h day caller request db given
       (sym (ap first_some asks ∙ ap (λ o. first_some (of_deposit o (kept_refusals h caller action n))) it.there ∙ it.free))
       (is ∙ sym (answers ∙ ap (λ o. told_of o tell) it.there))
@@ -66,12 +66,11 @@ module _ (h : History) (day : Date) (caller : List ℕ) (n : ℕ) (path : Bor (L
     asks : no_file it.found.1 path.now ≡ refusal h day caller (DownloadFile n path)
     asks = first_of_three (denial_at h caller acts.Download it.found.1) (gone_refusal h n) (no_file it.found.1 path.now) it.free ∙ ap (λ o. first_some (of_deposit o (file_refusals h caller n path.now))) (sym it.there)
 
-    pub file_served : (content : List ℕ) → Some content ≡ content_at it.found.1.bag path.now → Pictures h db → IsServed h day caller (DownloadFile n path) (answers.File content) db
-    file_served content e pictured =
+    -- its content, where the bag has the path
+    pub file_told : (content : Option (List ℕ)) → content ≡ content_at it.found.1.bag path.now → Pictures h db → IsServed h day caller (DownloadFile n path) (file_answer content) db
+    file_told None e pictured = refused_serves h day caller (DownloadFile n path) db NoFile (ap (λ o. answer_if (is_none o) NoFile) e ∙ asks) pictured
+    file_told (Some content) e pictured =
         read_serves h day caller (DownloadFile n path) db (answers.File content)
         (ap (λ o. answer_if (is_none o) NoFile) e ∙ asks)
         (ap file_answer e ∙ ap (λ o. told_of o (λ (found : Date × Deposit). file_answer (content_at found.1.bag path.now))) (sym it.there))
         refl pictured
-
-    pub file_missing : None ≡ content_at it.found.1.bag path.now → Pictures h db → IsServed h day caller (DownloadFile n path) (answers.Refused NoFile) db
-    file_missing e pictured = refused_serves h day caller (DownloadFile n path) db NoFile (ap (λ o. answer_if (is_none o) NoFile) e ∙ asks) pictured

@@ -1,7 +1,23 @@
 -- The files that rows have.
-use Rattle.bag_text.specs.TransferForm.{File}
-use Rattle.office_rows.specs.Rows.{FileRow}
+use Rattle.std.specs.Prelude.{◌≡◌, ℕ, List, Vec, Option, Result, Ok, Err, map}
+use Rattle.bag_text.specs.TransferForm.{File, IsBag}
+use Rattle.office_core.specs.declared.refusal.Refusal.{Refusal}
+use Rattle.office_rows.specs.Rows.{DepositRow, FileRow}
+use Rattle.office_history.specs.Histories.{History, Deposit}
+use Rattle.office_asking.specs.Deposits.{IsAsked, IsThere}
 
 -- the file of a row
 abbrev pub file_in : FileRow → File
 file_in row = record { path = row.path; content = row.content }
+
+-- the deposit is there, none of these refusals stands, and these are the files of its bag, which is one
+pub record AreThere (h : History) (n : ℕ) (these : Deposit → List (Option Refusal)) (files : List File) : Type 0 where
+  pub row : DepositRow
+  pub it : IsThere h n these row
+  pub are : files ≡ it.found.1.bag
+  pub bag : IsBag it.found.1.bag
+
+-- the rows of the files of the deposit's bag, or the first refusal that stands
+abbrev pub AreAsked : {A : Type 0} → History → ℕ → (Deposit → List (Option Refusal)) → Result (Vec FileRow A) Refusal → Type 0
+AreAsked h n these (Ok rows) = AreThere h n these (map file_in rows.items)
+AreAsked h n these (Err why) = IsAsked h n these (Err why)

@@ -9,14 +9,12 @@ ghost use Rattle.office_asking.specs.Serving.{Decides};
 ghost use Rattle.office_serving.specs.Files.{file_in};
 ghost use Rattle.office_serving.specs.Audits.{verdict_on, IsAuditOf};
 
-use crate::bags::pairs_of;
+use crate::bags::{kept_files, pairs_of};
 use bag_text::laws::one_list_fault;
 use bag_text::{BagSet, SetFault};
-use office_asking::kept_deposit;
 use office_core::{Action, Answer, AuditReport, Day, FaultText};
 use office_history::judging;
-use office_history::laws::sound_bags;
-use office_tables::{FileRow, TableFault, files_of};
+use office_tables::{FileRow, TableFault};
 use sqlite::{Alter, Transaction};
 use std::alloc::{AllocError, Global};
 
@@ -61,15 +59,11 @@ pub fn audit<S: Alter>(
     ensures audited { Tells S.Store tx.old.conn.now tx.new.conn.now result (λ tables answer. IsAuditOf tables number answer) }
 {
     one_list_fault();
-    sound_bags();
-    match kept_deposit(alloc, tx, caller, Action::Audit, number)? {
-        Ok(_) => {
-            let rows = files_of(alloc, tx, number)?;
-            Ok(Answer::Audit {
-                deposit: number,
-                report: verdict_on(alloc, &rows)?,
-            })
-        }
+    match kept_files(alloc, tx, caller, Action::Audit, number)? {
+        Ok(rows) => Ok(Answer::Audit {
+            deposit: number,
+            report: verdict_on(alloc, &rows)?,
+        }),
         Err(why) => Ok(Answer::Refused(why)),
     }
 }

@@ -1,17 +1,19 @@
 //! Downloads of bags.
 
-ghost use Rattle.std.specs.Prelude.{◌≡◌, IfErr, IfOk, map};
+ghost use Rattle.std.specs.Prelude.{◌≡◌, IfErr, IfOk, map, pos};
 ghost use Rattle.bag_text.specs.TransferForm.{set_text};
 ghost use Rattle.bag_text.specs.TransferReading as reading;
 ghost use Rattle.office_core.specs.declared.request.Request.TheVariants as requests;
 ghost use Rattle.office_tables.specs.Faults.{IsFailure};
-ghost use Rattle.office_tables.specs.Calls.{CommitsNothing, Continues};
-ghost use Rattle.office_asking.specs.Serving.{Decides};
-ghost use Rattle.office_serving.specs.Files.{file_in};
+ghost use Rattle.office_tables.specs.Calls.{CommitsNothing, Continues, Tells};
+ghost use Rattle.office_tables.specs.Deposits.{files_by_path};
+ghost use Rattle.office_history.specs.Refusals.{kept_refusals};
+ghost use Rattle.office_asking.specs.Serving.{Finds, Decides};
+ghost use Rattle.office_serving.specs.Files.{file_in, AreAsked};
 
 use bag_text::{BagSet, SetFault, write_bagset};
 use office_asking::kept_deposit;
-use office_core::{Action, Answer, Day, Sequence};
+use office_core::{Action, Answer, Day, Refusal, Sequence};
 use office_history::laws::sound_bags;
 use office_tables::{FileRow, TableFault, files_of};
 use sqlite::{Alter, Transaction};
@@ -42,6 +44,33 @@ fn text_of(alloc: Global, rows: &[FileRow]) -> Result<Vec<u8>, TableFault>
     }
 }
 
+/// The rows of the files of the deposit of that number, where the caller may do that with it and it is
+/// kept; else the refusal that stands first.
+pub fn kept_files<S: Alter>(
+    alloc: Global,
+    tx: &mut Transaction<'_, S>,
+    caller: &str,
+    action: Action,
+    number: u32,
+) -> Result<Result<Vec<FileRow>, Refusal>, TableFault>
+    ensures same_reference { tx.new.conn.ghost_name ≡ tx.old.conn.ghost_name }
+    ensures stays { CommitsNothing S.Store tx.old.conn.now tx.new.conn.now }
+    ensures goes_on { Continues S.Store tx.old.conn.now tx.new.conn.now result }
+    ensures failure { IfErr result IsFailure }
+    ensures asked { Finds S.Store tx.old.conn.now tx.new.conn.now result (λ h asked.
+        AreAsked h number (kept_refusals h caller.now action number) asked) }
+    // Whatever the tables of the office hold, these are the rows that stand there.
+    ensures stored { Tells S.Store tx.old.conn.now tx.new.conn.now result (λ tables asked.
+        IfOk asked (λ rows. rows.items ≡ files_by_path (pos number) tables)) }
+{
+    // A bag that is kept is a bag.
+    sound_bags();
+    match kept_deposit(alloc, tx, caller, action, number)? {
+        Ok(_) => Ok(Ok(files_of(alloc, tx, number)?)),
+        Err(why) => Ok(Err(why)),
+    }
+}
+
 /// Answers the transfer form of a deposit's bag.
 ///
 /// Fails with `Memory` or `Store`, as where the files that are stored are no bag.
@@ -58,15 +87,10 @@ pub fn download_bag<S: Alter>(
     ensures failure { IfErr result IsFailure }
     ensures decides { Decides S.Store tx.old.conn.now tx.new.conn.now result day caller.now (requests.DownloadBag number) }
 {
-    // A bag that is kept is a bag.
-    sound_bags();
-    match kept_deposit(alloc, tx, caller, Action::Download, number)? {
-        Ok(_) => {
-            let rows = files_of(alloc, tx, number)?;
-            Ok(Answer::Bag {
-                bytes: Sequence::of(text_of(alloc, &rows)?),
-            })
-        }
+    match kept_files(alloc, tx, caller, Action::Download, number)? {
+        Ok(rows) => Ok(Answer::Bag {
+            bytes: Sequence::of(text_of(alloc, &rows)?),
+        }),
         Err(why) => Ok(Answer::Refused(why)),
     }
 }

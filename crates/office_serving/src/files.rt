@@ -1,11 +1,14 @@
 //! Downloads of files.
 
-ghost use Rattle.std.specs.Prelude.{◌≡◌, false, IfErr};
-ghost use Rattle.std.specs.Str.{is_utf8};
+ghost use Rattle.std.specs.Prelude.{◌≡◌, IfErr, None, Some, option_map};
+ghost use Rattle.jiff.specs.Types.{Date};
+ghost use Rattle.bag_text.specs.TransferForm.{content_at};
 ghost use Rattle.office_core.specs.declared.request.Request.TheVariants as requests;
 ghost use Rattle.office_tables.specs.Faults.{IsFailure};
-ghost use Rattle.office_tables.specs.Calls.{CommitsNothing, Continues};
-ghost use Rattle.office_asking.specs.Serving.{Decides};
+ghost use Rattle.office_tables.specs.Calls.{CommitsNothing, Continues, ContinuesInTurn};
+ghost use Rattle.office_history.specs.Histories.{Deposit, deposit_numbered, destruction_day};
+ghost use Rattle.office_history.specs.Answers.{file_answer};
+ghost use Rattle.office_asking.specs.Serving.{Finds, Decides};
 
 use crate::texts::text_in;
 use office_asking::kept_deposit;
@@ -15,52 +18,38 @@ use office_tables::{TableFault, file_of};
 use sqlite::{Alter, Transaction};
 use std::alloc::Global;
 
-/// Answers the file at a path that is a text.
-fn download_text<S: Alter>(
-    alloc: Global,
+/// The content of the file at a path of the bag of the deposit of that number, which is kept: a path that
+/// is no text is that of no file.
+fn content_of<S: Alter>(
     tx: &mut Transaction<'_, S>,
-    day: Day,
-    caller: &str,
-    number: u32,
-    path: &str,
-) -> Result<Answer, TableFault>
-    ensures same_reference { tx.new.conn.ghost_name ≡ tx.old.conn.ghost_name }
-    ensures stays { CommitsNothing S.Store tx.old.conn.now tx.new.conn.now }
-    ensures goes_on { Continues S.Store tx.old.conn.now tx.new.conn.now result }
-    ensures failure { IfErr result IsFailure }
-    ensures decides { Decides S.Store tx.old.conn.now tx.new.conn.now result day caller.now (requests.DownloadFile number path.entry) }
-{
-    match kept_deposit(alloc, tx, caller, Action::Download, number)? {
-        Ok(_) => match file_of(tx, number, path)? {
-            Some(content) => Ok(Answer::File {
-                bytes: Sequence::of(content),
-            }),
-            None => Ok(Answer::Refused(Refusal::NoFile)),
-        },
-        Err(why) => Ok(Answer::Refused(why)),
-    }
-}
-
-/// Answers a path that is no text: no file of a bag has it.
-fn download_no_text<S: Alter>(
-    alloc: Global,
-    tx: &mut Transaction<'_, S>,
-    day: Day,
-    caller: &str,
     number: u32,
     path: &[u8],
-) -> Result<Answer, TableFault>
+) -> Result<Option<Vec<u8>>, TableFault>
     ensures same_reference { tx.new.conn.ghost_name ≡ tx.old.conn.ghost_name }
     ensures stays { CommitsNothing S.Store tx.old.conn.now tx.new.conn.now }
-    ensures goes_on { Continues S.Store tx.old.conn.now tx.new.conn.now result }
+    ensures goes_on { ContinuesInTurn S.Store tx.old.conn.now tx.new.conn.now result }
     ensures failure { IfErr result IsFailure }
-    ensures decides { is_utf8 path.now ≡ false → Decides S.Store tx.old.conn.now tx.new.conn.now result day caller.now (requests.DownloadFile number path.entry) }
+    ensures content { Finds S.Store tx.old.conn.now tx.new.conn.now result (λ h content.
+        (found : Date × Deposit) → deposit_numbered h number ≡ Some found → destruction_day h number ≡ None
+        → option_map (λ bytes. bytes.items) content ≡ content_at found.1.bag path.now) }
 {
     // A bag that is kept is a bag, so its paths are texts.
     sound_bags();
-    match kept_deposit(alloc, tx, caller, Action::Download, number)? {
-        Ok(_) => Ok(Answer::Refused(Refusal::NoFile)),
-        Err(why) => Ok(Answer::Refused(why)),
+    match text_in(path) {
+        Some(text) => file_of(tx, number, text),
+        None => Ok(None),
+    }
+}
+
+/// The file of that content, or that there is none.
+fn file_answer(content: Option<Vec<u8>>) -> Answer
+    ensures { result ≡ file_answer (option_map (λ bytes. bytes.items) content) }
+{
+    match content {
+        Some(content) => Answer::File {
+            bytes: Sequence::of(content),
+        },
+        None => Answer::Refused(Refusal::NoFile),
     }
 }
 
@@ -81,8 +70,8 @@ pub fn download_file<S: Alter>(
     ensures failure { IfErr result IsFailure }
     ensures decides { Decides S.Store tx.old.conn.now tx.new.conn.now result day caller.now (requests.DownloadFile number path.entry) }
 {
-    match text_in(path) {
-        Some(text) => download_text(alloc, tx, day, caller, number, text),
-        None => download_no_text(alloc, tx, day, caller, number, path),
+    match kept_deposit(alloc, tx, caller, Action::Download, number)? {
+        Ok(_) => Ok(file_answer(content_of(tx, number, path)?)),
+        Err(why) => Ok(Answer::Refused(why)),
     }
 }

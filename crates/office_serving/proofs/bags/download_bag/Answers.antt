@@ -1,40 +1,20 @@
-use Rattle.std.proofs.Common.{rules, ◌≡◌, arith, refl, ap, subst, ◌∙◌, map}
-use Rattle.sqlite.specs.State.{HasCleanDisk}
-use Rattle.sqlite.specs.Held.{state}
+use Rattle.std.proofs.Common.{rules, ◌≡◌, refl, ap, ◌∙◌, map}
 use Rattle.bag_text.specs.TransferForm.{set_text}
 use Rattle.office_core.specs.declared.action.Action.TheVariants as acts
 use Rattle.office_core.specs.declared.answer.Answer.TheVariants as answers
-use Rattle.office_core.specs.declared.request.Request.TheVariants as requests
-use Rattle.office_history.specs.Refusals.{kept_refusals}
-use Rattle.office_asking.specs.Deposits.{IsAsked, IsThere}
-use Rattle.office_asking.proofs.Readings.{pictured_still}
 use Rattle.office_asking.proofs.Serving.{refused_serves}
 use Rattle.office_serving.specs.Files.{file_in}
-use Rattle.office_serving.proofs.FilesTold.{bag_read}
-use Rattle.office_serving.proofs.Told.{is_kept, told_serves}
+use Rattle.office_serving.proofs.Told.{told_serves}
 use Rattle.office_serving.proofs.bags.download_bag.Goals as goal
 
-pub returns-in-Ok-clause-decides : goal.returns-in-Ok-clause-decides
-returns-in-Ok-clause-decides g c clean h legal pictured =
-    let a = c.args in
-    let mid = state g.S.Store c.kept_deposit.new.tx.conn.now in
-    let new = state g.S.Store c.files_of.new.tx.conn.now in
-    let early : HasCleanDisk mid = omega (arith, clean, c.files_of.ensures.stays.survives.clean) in
-    let asked = c.in_ok-kept_deposit.ensures.asked early h legal pictured in
-    let row = c.in-Ok.field-0 in
-    let it : IsThere h a.number (kept_refusals h a.caller.now acts.Download a.number) row = subst (IsAsked h a.number (kept_refusals h a.caller.now acts.Download a.number)) c.in-Ok.is asked.1 in
-    let kept = is_kept h a.caller.now acts.Download a.number row it in
-    let bag = (c.sound_bags.ensures h legal a.number it.found it.there).bag in
-    let rows = c.in_ok-rows-in-Ok.rows.items in
-    let read = bag_read h mid.now asked.0 a.number it.found it.there kept bag rows (c.in_ok-rows-in-Ok.ensures.found clean asked.0.office) in
-    let text : c.of.result ≡ set_text (map file_in rows) = search rules in
-    told_serves h a.caller.now acts.Download a.number row it a.day (requests.DownloadBag a.number) new.now refl (λ found. answers.Bag (set_text found.1.bag)) refl refl (answers.Bag c.of.result)
-    (ap answers.Bag (text ∙ ap set_text read)) (pictured_still h mid.now asked.0 new.now (c.in_ok-rows-in-Ok.ensures.same clean asked.0.office))
+pub returns-in_ok-text_of-in-Ok-clause-decides : goal.returns-in_ok-text_of-in-Ok-clause-decides
+returns-in_ok-text_of-in-Ok-clause-decides g c clean h legal pictured =
+    let asked = rw c.in-Ok.is at c.in_ok-rows.ensures.asked clean h legal pictured in
+    let there = asked.1 in
+    let text : c.of.result ≡ set_text (map file_in c.in-Ok.rows.items) = search rules in
+    told_serves c.args.caller.now acts.Download there.it refl (λ found. answers.Bag (set_text found.1.bag)) refl refl (ap answers.Bag (text ∙ ap set_text there.are)) asked.0
 
-pub returns-clause-decides : goal.returns-clause-decides
-returns-clause-decides g c clean h legal pictured =
-    let a = c.args in
-    let new = state g.S.Store c.kept_deposit.new.tx.conn.now in
-    let asked = c.in_ok-kept_deposit.ensures.asked clean h legal pictured in
-    let said = subst (IsAsked h a.number (kept_refusals h a.caller.now acts.Download a.number)) c.in-Err.is asked.1 in
-    refused_serves h a.day a.caller.now (requests.DownloadBag a.number) new.now c.in-Err.why said asked.0
+pub returns-in-Err-clause-decides : goal.returns-in-Err-clause-decides
+returns-in-Err-clause-decides g c clean h legal pictured =
+    let asked = rw c.in-Err.is at c.in_ok-rows.ensures.asked clean h legal pictured in
+    refused_serves _ _ _ _ _ _ asked.1 asked.0

@@ -5,6 +5,7 @@ use Rattle.sql_meaning.proofs.Results.{if_ok, ok_then}
 use Rattle.office_asking.proofs.Readings.{in_picture, pictured_still}
 use Rattle.sql_meaning.proofs.Inside.{stays_then}
 use Rattle.office_asking.proofs.InTurn.{clean_before, goes_twice}
+use Rattle.office_serving.proofs.InTurn.{goes_still, stays_thrice}
 use Rattle.office_serving.proofs.due_lists.due_numbers.Goals as goal
 
 pub returns-clause-due : goal.returns-clause-due
@@ -24,16 +25,13 @@ pub returns-in_err-rows-clause-stays : goal.returns-in_err-rows-clause-stays
 returns-in_err-rows-clause-stays g c = stays_then (state g.S.Store c.args.tx.now.conn.now) (state g.S.Store c.read.new.tx.conn.now) (state g.S.Store c.deposit_rows.new.tx.conn.now) c.read.ensures.stays c.in_ok-asker.ensures.goes_on c.deposit_rows.ensures.stays
 
 pub returns-clause-stays : goal.returns-clause-stays
-returns-clause-stays g c =
-    let s0 = state g.S.Store c.args.tx.now.conn.now in
-    let s1 = state g.S.Store c.read.new.tx.conn.now in
-    let s2 = state g.S.Store c.deposit_rows.new.tx.conn.now in
-    stays_then s0 s2 (state g.S.Store c.due_among.new.tx.conn.now) (stays_then s0 s1 s2 c.read.ensures.stays c.in_ok-asker.ensures.goes_on c.deposit_rows.ensures.stays) (goes_twice s0 s1 s2 c.deposit_rows.ensures.stays c.in_ok-asker.ensures.goes_on c.in_ok-rows.ensures.goes_on) c.due_among.ensures.stays
+returns-clause-stays g c = stays_thrice (state g.S.Store c.args.tx.now.conn.now) (state g.S.Store c.read.new.tx.conn.now) (state g.S.Store c.deposit_rows.new.tx.conn.now) (state g.S.Store c.due_among.new.tx.conn.now) c.read.ensures.stays c.in_ok-asker.ensures.goes_on c.deposit_rows.ensures.stays c.in_ok-rows.ensures.goes_on c.due_among.ensures.stays
 
 pub returns-clause-goes_on : goal.returns-clause-goes_on
 returns-clause-goes_on g c clean =
     let s0 = state g.S.Store c.args.tx.now.conn.now in
     let s1 = state g.S.Store c.read.new.tx.conn.now in
     let s2 = state g.S.Store c.deposit_rows.new.tx.conn.now in
-    let p = goes_twice s0 s1 s2 c.deposit_rows.ensures.stays c.in_ok-asker.ensures.goes_on c.in_ok-rows.ensures.goes_on (clean_before s2 (state g.S.Store c.due_among.new.tx.conn.now) c.due_among.ensures.stays clean) in
-    ok_then c.due_among.result (λ q. record { was_open = p.was_open; is_open = q.is_open p.is_open; inside = λ i. q.inside (p.inside i) }) (c.due_among.ensures.goes_on clean)
+    let s3 = state g.S.Store c.due_among.new.tx.conn.now in
+    let p = goes_twice s0 s1 s2 c.deposit_rows.ensures.stays c.in_ok-asker.ensures.goes_on c.in_ok-rows.ensures.goes_on (clean_before s2 s3 c.due_among.ensures.stays clean) in
+    ok_then c.due_among.result (goes_still s0 s2 s3 p) (c.due_among.ensures.goes_on clean)

@@ -1,13 +1,9 @@
-use Rattle.std.proofs.Common.{rules, ◌≡◌, refl, ap, sym, ◌∙◌, subst}
-use Rattle.sqlite.specs.State.{HasCleanDisk}
+use Rattle.std.proofs.Common.{rules, ◌≡◌, refl, ap, sym, ◌∙◌}
 use Rattle.sqlite.specs.Held.{state}
 use Rattle.office_core.specs.declared.action.Action.TheVariants as acts
 use Rattle.office_core.specs.declared.answer.Answer.TheVariants as answers
-use Rattle.office_core.specs.declared.request.Request.TheVariants as requests
 use Rattle.office_rows.specs.Rows.{DepositRow}
-use Rattle.office_history.specs.Refusals.{kept_refusals}
 use Rattle.office_history.specs.Answers.{told_holds}
-use Rattle.office_asking.specs.Deposits.{IsAsked, IsThere}
 use Rattle.office_asking.proofs.Serving.{refused_serves}
 use Rattle.office_serving.proofs.Told.{told_serves}
 use Rattle.office_asking.proofs.InTurn.{clean_before, goes_twice}
@@ -19,23 +15,18 @@ returns-in_ok-told_holds-in-Ok-clause-decides g c clean h legal pictured =
     let a = c.args in
     let mid = state g.S.Store c.kept_deposit.new.tx.conn.now in
     let new = state g.S.Store c.told_holds.new.tx.conn.now in
-    let early : HasCleanDisk mid = clean_before mid new c.told_holds.ensures.stays clean in
-    let asked = c.in_ok-row.ensures.asked early h legal pictured in
-    let row = c.in-Ok.row in
-    let it : IsThere h a.number (kept_refusals h a.caller.now acts.Holds a.number) row = subst (IsAsked h a.number (kept_refusals h a.caller.now acts.Holds a.number)) c.in-Ok.is asked.1 in
+    let asked = rw c.in-Ok.is at c.in_ok-row.ensures.asked (clean_before mid new c.told_holds.ensures.stays clean) h legal pictured in
+    let it = asked.1 in
     let told = c.in_ok-told_holds-in-Ok.ensures.told clean h legal asked.0 in
-    let collection : c.deref.result.now ≡ row.collection = search rules in
+    let collection : c.deref.result.now ≡ c.in-Ok.row.collection = search rules in
     let given : c.of.result ≡ c.in_ok-told_holds-in-Ok.field-0.items = search rules in
-    told_serves h a.caller.now acts.Holds a.number row it a.day (requests.Holds a.number) new.now refl (λ found. answers.Holds (told_holds h a.number found.1)) refl refl (answers.Holds c.of.result)
+    told_serves a.caller.now acts.Holds it refl (λ found. answers.Holds (told_holds h a.number found.1)) refl refl
     (ap answers.Holds (given ∙ told.1 it.found.1 (sym (ap (λ (r : DepositRow). r.collection) it.row_is) ∙ sym collection))) told.0
 
 pub returns-in-Err-clause-decides : goal.returns-in-Err-clause-decides
 returns-in-Err-clause-decides g c clean h legal pictured =
-    let a = c.args in
-    let new = state g.S.Store c.kept_deposit.new.tx.conn.now in
-    let asked = c.in_ok-row.ensures.asked clean h legal pictured in
-    let said = subst (IsAsked h a.number (kept_refusals h a.caller.now acts.Holds a.number)) c.in-Err.is asked.1 in
-    refused_serves h a.day a.caller.now (requests.Holds a.number) new.now c.in-Err.why said asked.0
+    let asked = rw c.in-Err.is at c.in_ok-row.ensures.asked clean h legal pictured in
+    refused_serves _ _ _ _ _ _ asked.1 asked.0
 
 pub returns-in_err-told_holds-in-Ok-clause-stays : goal.returns-in_err-told_holds-in-Ok-clause-stays
 returns-in_err-told_holds-in-Ok-clause-stays g c = stays_then (state g.S.Store c.args.tx.now.conn.now) (state g.S.Store c.kept_deposit.new.tx.conn.now) (state g.S.Store c.told_holds.new.tx.conn.now) c.kept_deposit.ensures.stays c.in_ok-row.ensures.goes_on c.told_holds.ensures.stays

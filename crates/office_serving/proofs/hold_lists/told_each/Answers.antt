@@ -1,10 +1,11 @@
 use Rattle.std.proofs.Common.{rules, ◌∙◌, refl}
 use Rattle.sqlite.specs.State.{HasCleanDisk}
 use Rattle.sqlite.specs.Held.{state}
-use Rattle.sql_meaning.proofs.Inside.{stays_on}
+use Rattle.sql_meaning.proofs.Inside.{stays_on, stands_then}
 use Rattle.office_history.specs.Answers.{told_hold}
 use Rattle.office_serving.proofs.HoldsTold.{next_told}
 use Rattle.office_asking.proofs.InTurn.{clean_before, stays_still}
+use Rattle.office_serving.proofs.InTurn.{stands_still}
 use Rattle.office_serving.proofs.hold_lists.told_each.Goals as goal
 
 pub loop-number-preserved : goal.loop-number-preserved
@@ -18,7 +19,7 @@ loop-number-preserved g c =
     record {
       same_reference = search rules;
       stays = stays_on old now new inv.stays inv.goes_on c.told_hold.ensures.stays;
-      goes_on = λ clean. let p = inv.goes_on (early clean) in let q = c.in_ok-told_hold.ensures.goes_on clean in record { is_open = λ _. q.is_open; inside = λ i. q.inside (p.inside i) };
+      goes_on = λ clean. stands_then old now new (inv.goes_on (early clean)) (c.in_ok-told_hold.ensures.goes_on clean);
       told = λ clean h legal pictured.
           let there = inv.told (early clean) h legal pictured in
           let found = c.in_ok-told_hold.ensures.told clean h legal there.0 in
@@ -35,6 +36,6 @@ pub loop-number-init : goal.loop-number-init
 loop-number-init g c = record {
   same_reference = refl;
   stays = stays_still (state g.S.Store c.args.tx.now.conn.now);
-  goes_on = λ _. record { is_open = λ is_open. is_open; inside = λ inside. inside };
+  goes_on = λ _. stands_still (state g.S.Store c.args.tx.now.conn.now);
   told = λ clean h legal pictured. (pictured, c.new-told.ensures.items);
 }

@@ -8,6 +8,7 @@ use Rattle.office_asking.proofs.HoldTold.{live_read}
 use Rattle.office_asking.proofs.Readings.{pictured_still}
 use Rattle.office_asking.proofs.InTurn.{clean_before}
 use Rattle.sql_meaning.proofs.Inside.{stays_then}
+use Rattle.office_serving.proofs.InTurn.{goes_still}
 use Rattle.office_serving.proofs.hold_lists.told_holds.Goals as goal
 
 pub returns-clause-told : goal.returns-clause-told
@@ -30,7 +31,8 @@ returns-clause-stays g c = stays_then (state g.S.Store c.args.tx.now.conn.now) (
 
 pub returns-clause-goes_on : goal.returns-clause-goes_on
 returns-clause-goes_on g c clean =
+    let s0 = state g.S.Store c.args.tx.now.conn.now in
     let s1 = state g.S.Store c.live_holds.new.tx.conn.now in
     let s2 = state g.S.Store c.told_each.new.tx.conn.now in
     let p = c.in_ok-numbers.ensures.goes_on (clean_before s1 s2 c.told_each.ensures.stays clean) in
-    ok_then c.told_each.result (λ q. record { was_open = p.was_open; is_open = q.is_open p.is_open; inside = λ i. q.inside (p.inside i) }) (c.told_each.ensures.goes_on clean)
+    ok_then c.told_each.result (goes_still s0 s1 s2 p) (c.told_each.ensures.goes_on clean)

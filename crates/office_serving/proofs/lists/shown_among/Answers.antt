@@ -8,6 +8,7 @@ use Rattle.office_serving.specs.Listing.{shown_record}
 use Rattle.office_serving.proofs.ShownTold.{shown_next, shown_of_rows}
 use Rattle.office_serving.proofs.lists.shown_among.Goals.{in-Some+in_ok-push, in_default}
 use Rattle.office_asking.proofs.InTurn.{clean_before, stays_still}
+use Rattle.office_serving.proofs.InTurn.{stands_still, stands_on}
 use Rattle.office_serving.proofs.lists.shown_among.Goals as goal
 
 pub loop-row-preserved : goal.loop-row-preserved
@@ -24,7 +25,7 @@ loop-row-preserved g c =
     record {
       same_reference = search rules;
       stays = stays_on old now new inv.stays inv.goes_on c.shown_record.ensures.stays;
-      goes_on = λ clean. let p = inv.goes_on (early clean) in let q = c.in_ok-record.ensures.goes_on clean in record { is_open = λ i. q.is_open (p.is_open i); inside = λ i. q.inside (p.inside i) };
+      goes_on = λ clean. stands_on old now new (inv.goes_on (early clean)) (c.in_ok-record.ensures.goes_on clean);
       told = λ clean h legal pictured.
           let there = inv.told (early clean) h legal pictured in
           let found = c.in_ok-record.ensures.shown clean h legal there.0 in (
@@ -58,6 +59,6 @@ pub loop-row-init : goal.loop-row-init
 loop-row-init g c = record {
   same_reference = refl;
   stays = stays_still (state g.S.Store c.args.tx.now.conn.now);
-  goes_on = λ _. record { is_open = λ is_open. is_open; inside = λ inside. inside };
+  goes_on = λ _. stands_still (state g.S.Store c.args.tx.now.conn.now);
   told = λ clean h legal pictured. (pictured, λ caller is rows_are. c.new-told.ensures.items);
 }

@@ -1,0 +1,37 @@
+use Rattle.std.proofs.Common.{ap, subst, ◌∙◌, sym, pos}
+use Rattle.sqlite.specs.Held.{state}
+use Rattle.office_tables.specs.Tables.{IsOffice, tables_of}
+use Rattle.office_tables.specs.Deposits.{files_by_path}
+use Rattle.office_asking.proofs.InTurn.{clean_before}
+use Rattle.office_asking.proofs.Readings.{pictured_still}
+use Rattle.office_serving.proofs.FilesTold.{bag_read}
+use Rattle.office_serving.proofs.Told.{is_kept}
+use Rattle.office_serving.proofs.bags.kept_files.Goals as goal
+
+pub returns-in-Ok-clause-asked : goal.returns-in-Ok-clause-asked
+returns-in-Ok-clause-asked g c clean h legal pictured =
+    let a = c.args in
+    let mid = state g.S.Store c.kept_deposit.new.tx.conn.now in
+    let new = state g.S.Store c.files_of.new.tx.conn.now in
+    let asked = rw c.in-Ok.is at c.in_ok-kept_deposit.ensures.asked (clean_before mid new c.files_of.ensures.stays clean) h legal pictured in
+    let it = asked.1 in
+    let read = c.in_ok-files_of-in-Ok.ensures in
+    let bag = (c.sound_bags.ensures h legal a.number it.found it.there).bag in (
+      pictured_still h mid.now asked.0 new.now (read.same clean asked.0.office),
+      record {
+        row = _;
+        it = it;
+        are = bag_read h mid.now asked.0 a.number it.found it.there (is_kept a.caller.now a.action it) bag _ (read.found clean asked.0.office);
+        bag = bag;
+      },
+    )
+
+pub returns-clause-asked : goal.returns-clause-asked
+returns-clause-asked g c clean h legal pictured = rw c.in-Err.is at c.in_ok-kept_deposit.ensures.asked clean h legal pictured
+
+pub returns-in-Ok-clause-stored : goal.returns-in-Ok-clause-stored
+returns-in-Ok-clause-stored g c clean office =
+    let mid = state g.S.Store c.kept_deposit.new.tx.conn.now in
+    let new = state g.S.Store c.files_of.new.tx.conn.now in
+    let same = c.in_ok-kept_deposit.ensures.same (clean_before mid new c.files_of.ensures.stays clean) office in
+    c.in_ok-files_of-in-Ok.ensures.found clean (subst IsOffice (sym same) office) ∙ ap (λ db. files_by_path (pos c.args.number) (tables_of db)) same

@@ -1,0 +1,43 @@
+use Rattle.std.proofs.Common.{Result, Ok, Err, OnOk, IfOk, ap, sym, ◌∙◌, option_copied}
+use Rattle.std.specs.Str.{is_utf8}
+use Rattle.sqlite.specs.Held.{state}
+use Rattle.sql_meaning.proofs.Inside.{stands_then}
+use Rattle.sql_meaning.proofs.Results.{ok_then}
+use Rattle.bag_text.specs.TransferForm.{content_at}
+use Rattle.office_asking.proofs.InTurn.{stays_still}
+use Rattle.office_asking.proofs.Readings.{pictured_still}
+use Rattle.office_serving.proofs.FilesTold.{content_read}
+use Rattle.office_serving.proofs.InTurn.{stands_still}
+use Rattle.office_serving.proofs.PathsTold.{spelled, unspelled, no_file_there}
+use Rattle.office_serving.proofs.files.content_of.Goals as goal
+
+-- what is so of an Ok, and of its value
+both : {V E P : Type 0} {Q R : V → Type 0} (r : Result V E) → ((v : V) → P → Q v → R v) → OnOk r P → IfOk r Q → IfOk r R
+both (Ok v) next p q = next v p q
+both (Err e) next p q = tt
+
+pub returns-in-Some-clause-content : goal.returns-in-Some-clause-content
+returns-in-Some-clause-content g c clean h legal pictured =
+    let a = c.args in
+    let old = state g.S.Store a.tx.now.conn.now in
+    let new = state g.S.Store c.file_of.new.tx.conn.now in
+    let text = c.in-Some.text in
+    let same = spelled (is_utf8 a.path.now) text.now a.path.now (ap option_copied (sym c.in-Some.is) ∙ c.text_in.ensures) in
+    both c.file_of.result (λ content stands read. (
+      pictured_still h old.now pictured new.now stands,
+      λ found there kept. content_read h old.now pictured a.number found there kept text.now _ read ∙ ap (content_at found.1.bag) same,
+    )) (c.file_of.ensures.same clean pictured.office) (c.file_of.ensures.found clean pictured.office)
+
+pub returns-in-None-clause-content : goal.returns-in-None-clause-content
+returns-in-None-clause-content g c clean h legal pictured =
+    let a = c.args in
+    let bad = unspelled (is_utf8 a.path.now) a.path.now (ap option_copied (sym c.in-None.is) ∙ c.text_in.ensures) in
+    (pictured, λ found there kept. no_file_there found.1.bag (c.sound_bags.ensures h legal a.number found there).bag.each a.path.now bad)
+
+pub returns-in-Some-clause-goes_on : goal.returns-in-Some-clause-goes_on
+returns-in-Some-clause-goes_on g c clean =
+    let old = state g.S.Store c.args.tx.now.conn.now in
+    ok_then c.file_of.result (stands_then old old (state g.S.Store c.file_of.new.tx.conn.now) (stands_still old)) (c.file_of.ensures.goes_on clean)
+
+pub returns-in-None-clause-stays : goal.returns-in-None-clause-stays
+returns-in-None-clause-stays g c = stays_still (state g.S.Store c.args.tx.now.conn.now)
