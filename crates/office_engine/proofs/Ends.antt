@@ -9,7 +9,7 @@ use Rattle.sqlite.specs.declared.error.Error.{Error}
 use Rattle.sqlite.specs.State.{State, HasCleanDisk, Survives, IsRolledBack, Shows}
 use Rattle.sqlite.proofs.StateLemmas.{survives_then}
 use Rattle.sqlite.proofs.Callers.{survives_begin}
-use Rattle.sql_meaning.specs.Inside.{Stays, GoesOn}
+use Rattle.sql_meaning.specs.Inside.{GoesOn}
 use Rattle.office_tables.specs.Calls.{CommitsNothing, Continues, Tells}
 use Rattle.office_tables.specs.Tables.{tables_of}
 use Rattle.office_tables.specs.declared.fault.TableFault.{TableFault}

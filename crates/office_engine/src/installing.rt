@@ -12,10 +12,7 @@ use sqlite::{Alter, Connection, Transaction};
 use std::alloc::Global;
 
 /// Ends the transaction: what was done is committed, and rolled back where it failed.
-fn end<S: Alter>(
-    tx: Transaction<'_, S>,
-    done: Result<(), TableFault>,
-) -> Result<(), TableFault>
+fn end<S: Alter>(tx: Transaction<'_, S>, done: Result<(), TableFault>) -> Result<(), TableFault>
     ensures outside { tx.exit.0.now.in_transaction ≡ false }
     ensures failure { IfErr done IsFailure → IfErr result IsFailure }
     ensures committed { HasCleanDisk (state S.Store tx.exit.0.now) → IfOk result (λ nothing. (done ≡ Ok nothing)
