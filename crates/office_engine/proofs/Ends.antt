@@ -1,5 +1,5 @@
 -- How a transaction ends.
-use Rattle.std.proofs.Common.{◌≡◌, inl, inr, Bool, true, false, IsTrue, refl, sym, ap, subst, ◌∙◌, true≢false}
+use Rattle.std.proofs.Common.{◌≡◌, ◌⊎◌, inl, inr, ℕ, [], Bool, true, false, Result, Ok, Err, IfOk, OnOk, IsOkAnd, IsTrue, refl, sym, subst, ap, ◌∙◌, true≢false, arith}
 use Rattle.sqlite.specs.Store.{Ghosts}
 use Rattle.sqlite.specs.Tree.{Trees}
 use Rattle.sqlite.specs.Effect.{Database}
@@ -7,110 +7,207 @@ use Rattle.sqlite.specs.Held.{Held, state}
 use Rattle.sqlite.specs.Steps.{FailsToCommit}
 use Rattle.sqlite.specs.declared.error.Error.{Error}
 use Rattle.sqlite.specs.State.{State, HasCleanDisk, Survives, IsRolledBack, Shows}
-use Rattle.sql_meaning.specs.Inside.{Stays, GoesOn}
-use Rattle.office_tables.specs.Opening.{IsKept}
+use Rattle.sqlite.proofs.StateLemmas.{survives_then}
+use Rattle.sqlite.proofs.Callers.{survives_begin}
+use Rattle.sql_meaning.specs.Inside.{GoesOn}
+use Rattle.office_tables.specs.Calls.{CommitsNothing, Continues, Tells}
+use Rattle.office_tables.specs.Tables.{tables_of}
+use Rattle.office_tables.specs.declared.fault.TableFault.{TableFault}
 use Rattle.office_core.specs.declared.answer.Answer.{Answer}
+use Rattle.office_core.specs.declared.request.Request.TheVariants.{Audit}
 use Rattle.office_history.specs.Histories.{History, with_changes}
+use Rattle.office_history.specs.Answers.{change}
 use Rattle.office_history.specs.Runs.{IsLegal, IsFailure, Item, IsItem, serve}
 use Rattle.office_asking.specs.Pictures.{Pictures}
-use Rattle.office_asking.specs.Serving.{IsServed}
+use Rattle.office_asking.specs.Serving.{Decides, IsServed}
 use Rattle.office_asking.proofs.Serving.{grown_none}
-use Rattle.office_engine.specs.Keeping.{IsKeptBy, IsLeftOf, Serves, CommitsTo, Lasts, LeavesEither, StaysShut, after_item, is_accepted}
-use Rattle.office_engine.proofs.Accepted.{no_change}
+use Rattle.office_serving.specs.Audits.{IsAuditOf}
+use Rattle.office_engine.specs.Keeping.{Audits, CommitsTo, IsKeptBy, IsLeftOf, IsTurn, IsUnchanged, LeavesEither, StaysShut, after_item, is_accepted}
+use Rattle.office_engine.proofs.Accepted.{failure_audits, no_change}
 
-module _ {S : Type 0} (g : Ghosts S) (first : Held S) (last end : State) (stays : Stays (state g (record first { in_transaction = true })) last) where
-  -- ---- rolled back: the tables are as they were
-
-  pub undone : HasCleanDisk last → IsRolledBack last end → IsKept (state g first) end
-  undone clean back is_open =
-      let kept = stays.kept clean refl in
-      let was = back.was_open is_open in
-      let u = back.undone is_open in
-      (kept.was_open was, λ committed. let now : end.now ≡ (state g first).now = u.0 ∙ kept.committed was ∙ committed in (now, u.1 ∙ kept.committed was ∙ committed))
-
-  kept_still : (h : History) → IsKept (state g first) end → IsKeptBy h (state g first) → IsKeptBy h end
-  kept_still h kept keeps is_open =
-      let both = kept is_open in
-      let p = keeps both.0 in
-      let same = both.1 p.1 in
-      (subst (Pictures h) (sym same.0) p.0, same.1 ∙ sym same.0)
-
-  pub undone_of : (h : History) → HasCleanDisk last → IsRolledBack last end → IsKeptBy h (state g first) → IsKeptBy h end
-  undone_of h clean back = kept_still h (undone clean back)
-
-  pub serves_failure : (item : Item) (given : Answer) → HasCleanDisk last → IsRolledBack last end → IsFailure given → Serves (state g first) end item given
-  serves_failure item given clean back fails h legal keeps = (h, inl (fails, refl), record { legal = legal; kept = undone_of h clean back keeps })
-
-  module _ (clean : HasCleanDisk last) (goes : GoesOn (state g (record first { in_transaction = true })) last) where
-    pub was_open : IsTrue (state g first).is_open
-    was_open = (stays.kept clean refl).was_open goes.is_open
-
-    -- what goes on was open
-    pub never_shut : (given : Answer) → StaysShut (state g first) end given
-    never_shut given shut = absurd (true≢false (sym was_open ∙ shut))
-
-    -- ---- committed: the tables picture the history that was made
-
-    module _ (next : History → History) (makes : (h : History) → IsLegal h → Pictures h (state g first).now → Pictures (next h) last.now) where
-      pub makes_kept : Shows last end last.now last.now false → (h : History) → IsLegal h → IsKeptBy h (state g first) → IsKeptBy (next h) end
-      makes_kept shows h legal keeps is_open = (subst (Pictures (next h)) (sym shows.now_is) (makes h legal (keeps was_open).0), shows.committed_is ∙ sym shows.now_is)
-
-      pub makes_lasting : Shows last end last.now last.now false → ((db : Trees) → IsTrue end.is_open → end.may_leave db → db ≡ end.committed.trees)
-          → (h : History) → IsLegal h → IsKeptBy h (state g first) → (left : Trees) → end.may_leave left → IsLeftOf (next h) left
-      makes_lasting shows settled h legal keeps db left =
-          (last.now, makes h legal (keeps was_open).0, settled db shows.is_open left ∙ ap (λ (found : Database). found.trees) shows.committed_is)
-
-      pub commits : (db : Trees) → db ≡ last.now.trees → CommitsTo (state g first) next db
-      commits db is = (was_open, λ h legal keeps. (last.now, makes h legal (keeps was_open).0, is))
-
-    -- a commit that fails has rolled back
-    pub failed_back : (e : Error) → FailsToCommit last end e → IsRolledBack last end
-    failed_back e (inl h) = h.3
-    failed_back e (inr h) = absurd (let a = goes.inside refl in let b = h.1 in cc)
-
-    -- ---- one request
-
-    module _ (item : Item) (given : Answer) (ranged : IsItem item) (decides : (h : History) → IsLegal h → Pictures h (state g first).now → IsServed h item.0 item.1.now item.2 given last.now) where
-      pub pictures_after : (h : History) → IsLegal h → Pictures h (state g first).now → Pictures (after_item item h) last.now
-      pictures_after h legal pictured = (decides h legal pictured).after
-
-      pub serves_same : IsRolledBack last end → is_accepted given ≡ false → Serves (state g first) end item given
-      serves_same back none h legal keeps =
-          let served = decides h legal (keeps was_open).0 in
-          let still : after_item item h ≡ h = ap (with_changes h) (no_change h item.0 item.1.now item.2 given served.answer none) ∙ grown_none h in
-          (h, inr (served.answer, sym still), record { legal = legal; kept = undone_of h clean back keeps })
-
-      pub serves_change : Shows last end last.now last.now false → Serves (state g first) end item given
-      serves_change shows h legal keeps =
-          let served = decides h legal (keeps was_open).0 in (
-            after_item item h,
-            inr (served.answer, refl),
-            record { legal = serve h item.0 item.1.now item.2 ranged.0 ranged.1 legal; kept = makes_kept (after_item item) pictures_after shows h legal keeps },
-          )
-
-      pub lasts_change : Shows last end last.now last.now false → ((db : Trees) → IsTrue end.is_open → end.may_leave db → db ≡ end.committed.trees) → Lasts (state g first) end item given
-      lasts_change shows settled h legal keeps answered changes = makes_lasting (after_item item) pictures_after shows settled h legal keeps
-
-      pub lasts_same : is_accepted given ≡ false → Lasts (state g first) end item given
-      lasts_same none h legal keeps answered changes =
-          let served = decides h legal (keeps was_open).0 in
-          absurd (changes (no_change h item.0 item.1.now item.2 given served.answer none))
+-- while the store is open, a crash leaves what is committed
+abbrev pub IsSettled : State → Type 0
+IsSettled s = (db : Trees) → IsTrue s.is_open → s.may_leave db → db ≡ s.committed.trees
 
 -- what is open only where another was
 shut_still : (b c : Bool) → (IsTrue b → IsTrue c) → c ≡ false → b ≡ false
 shut_still true c was shut = absurd (true≢false (sym (was refl) ∙ shut))
 shut_still false c was shut = refl
 
-pub failure_shut : (old end : State) (given : Answer) → IsKept old end → IsFailure given → StaysShut old end given
-failure_shut old end given kept fails shut = (fails, shut_still end.is_open old.is_open (λ is_open. (kept is_open).0) shut)
-
-pub lasts_failure : (old end : State) (item : Item) (given : Answer) → IsFailure given → Lasts old end item given
-lasts_failure old end item given fails h legal keeps answered = absurd (answered fails)
-
 -- what a crash may leave of a change
-pub left_by : (old new : State) (next : History → History) → ((db : Trees) → IsTrue old.is_open → old.may_leave db → db ≡ old.committed.trees) → Survives old new (CommitsTo old next) → HasCleanDisk new
-    → LeavesEither old new next
+pub left_by : (old new : State) (next : History → History) → IsSettled old → Survives old new (CommitsTo old next) → HasCleanDisk new → LeavesEither old new next
 left_by old new next settled survives clean h legal is_open keeps db may = elim (survives.crash clean db may) [
   | inl was ↦ inl (old.now, (keeps is_open).0, settled db is_open was ∙ ap (λ (d : Database). d.trees) (keeps is_open).1)
   | inr made ↦ inr (made.1 h legal keeps)
 ]
+
+-- a commit that fails has rolled back
+pub failed_back : (last end : State) (e : Error) → IsTrue last.in_transaction → FailsToCommit last end e → IsRolledBack last end
+failed_back last end e inside (inl h) = h.3
+failed_back last end e inside (inr h) = absurd (true≢false (sym inside ∙ h.1))
+
+-- what was made inside a transaction, of whichever legal history the tables pictured; its Ok is to be committed
+pub record IsMade {S T E : Type 0} (g : Ghosts S) (first last : Held S) (next : History → History) (done : Result T E) : Type 0 where
+  pub committed : IsTrue (state g first).is_open → (state g first).now ≡ (state g first).committed
+  pub stays : CommitsNothing g (record first { in_transaction = true }) last
+  pub goes_on : Continues g (record first { in_transaction = true }) last done
+  pub makes : HasCleanDisk (state g last) → (h : History) → IsLegal h → Pictures h (state g first).now → OnOk done (Pictures (next h) (state g last).now)
+
+inside_ok : {T E : Type 0} (old new : State) (done : Result T E) → IsTrue old.in_transaction → OnOk done (GoesOn old new) → OnOk done (IsTrue new.in_transaction)
+inside_ok old new (Ok x) inside goes = goes.inside inside
+inside_ok old new (Err e) inside goes = tt
+
+commits : {S T E : Type 0} (g : Ghosts S) (first last : Held S) (next : History → History) (done : Result T E) → IsMade g first last next done
+    → HasCleanDisk (state g last) → (db : Trees) → IsOkAnd done (λ _. db ≡ (state g last).now.trees) → CommitsTo (state g first) next db
+commits g first last next (Ok x) it clean db is =
+    let was_open = (it.stays.kept clean refl).was_open (it.goes_on clean).is_open in
+    (was_open, λ h legal keeps. ((state g last).now, it.makes clean h legal (keeps was_open).0, is))
+commits g first last next (Err e) it clean db none = absurd none
+
+module _ {S T E : Type 0} {g : Ghosts S} {first last : Held S} {next : History → History} {done : Result T E} (it : IsMade g first last next done) (end : Held S) where
+  pub made_survives : Survives (state g last) (state g end) (λ db. IsOkAnd done (λ _. db ≡ (state g last).now.trees)) → Survives (state g first) (state g end) (CommitsTo (state g first) next)
+  made_survives s =
+      survives_then (state g first) (state g last) (state g end) _ _ (CommitsTo (state g first) next) (λ _ db none. absurd none)
+      (λ clean db is. commits g first last next done it (omega (arith, clean, s.clean)) db is) (survives_begin g first (state g last) _ it.stays.survives) s
+
+  module _ (clean : HasCleanDisk (state g last)) where
+    pub inside : OnOk done (IsTrue (state g last).in_transaction)
+    inside = inside_ok (state g (record first { in_transaction = true })) (state g last) done refl (it.goes_on clean)
+
+    -- rolled back: the tables are as they were
+    pub unchanged : IsRolledBack (state g last) (state g end) → IsUnchanged (state g first) (state g end)
+    unchanged back is_open =
+        let kept = it.stays.kept clean refl in
+        let was = back.was_open is_open in
+        let u = back.undone is_open in
+        let first_open = kept.was_open was in
+        let same : (state g last).committed ≡ (state g first).now = kept.committed was ∙ sym (it.committed first_open) in
+        (first_open, u.0 ∙ same, u.1 ∙ same)
+
+    pub still_kept : IsRolledBack (state g last) (state g end) → (h : History) → IsKeptBy h (state g first) → IsKeptBy h (state g end)
+    still_kept back h keeps is_open = let same = unchanged back is_open in (subst (Pictures h) (sym same.1) (keeps same.0).0, same.2 ∙ sym same.1)
+
+    module _ (x : T) (is : done ≡ Ok x) where
+      -- what goes on was open
+      pub was_open : IsTrue (state g first).is_open
+      was_open = let goes = rw is at (it.goes_on clean) in (it.stays.kept clean refl).was_open goes.is_open
+
+      -- committed: the tables picture the history that was made
+      module _ (shows : Shows (state g last) (state g end) (state g last).now (state g last).now false) (h : History) (legal : IsLegal h) (keeps : IsKeptBy h (state g first)) where
+        made : Pictures (next h) (state g last).now
+        made = rw is at (it.makes clean h legal (keeps was_open).0)
+
+        pub made_kept : IsKeptBy (next h) (state g end)
+        made_kept is_open = (subst (Pictures (next h)) (sym shows.now_is) made, shows.committed_is ∙ sym shows.now_is)
+
+        pub made_lasting : IsSettled (state g end) → (left : Trees) → (state g end).may_leave left → IsLeftOf (next h) left
+        made_lasting settled db left = ((state g last).now, made, settled db shows.is_open left ∙ ap (λ (found : Database). found.trees) shows.committed_is)
+
+-- what an Ok that is committed comes to
+pub on_committed : {T E : Type 0} (P shows : Type 0) (done result : Result T E) → ((x : T) → done ≡ Ok x → shows → P) → IfOk result (λ x. (done ≡ Ok x) × shows) → OnOk result P
+on_committed P shows done (Ok x) f how = f x how.0 how.1
+on_committed P shows done (Err e) f how = tt
+
+-- ---- one request
+
+-- a request was decided inside a transaction
+pub record IsDecided {S : Type 0} (g : Ghosts S) (first last : Held S) (item : Item) (decided : Result Answer TableFault) : Type 0 where
+  pub ranged : IsItem item
+  pub committed : IsTrue (state g first).is_open → (state g first).now ≡ (state g first).committed
+  pub stays : CommitsNothing g (record first { in_transaction = true }) last
+  pub goes_on : Continues g (record first { in_transaction = true }) last decided
+  pub decides : Decides g (record first { in_transaction = true }) last decided item.0 item.1.now item.2
+  pub audited : (number : ℕ) → item.2 ≡ Audit number → Tells g (record first { in_transaction = true }) last decided (λ tables answer. IsAuditOf tables number answer)
+
+served_after : (decided : Result Answer TableFault) (h : History) (item : Item) (db : Database) → IfOk decided (λ given. IsServed h item.0 item.1.now item.2 given db) → OnOk decided (Pictures (after_item item h) db)
+served_after (Ok given) h item db served = served.after
+served_after (Err stopped) h item db served = tt
+
+pub decided_made : {S : Type 0} (g : Ghosts S) (first last : Held S) (item : Item) (decided : Result Answer TableFault) → IsDecided g first last item decided → IsMade g first last (after_item item) decided
+decided_made g first last item decided it =
+    record { committed = it.committed; stays = it.stays; goes_on = it.goes_on; makes = λ clean h legal pictured. served_after decided h item (state g last).now (it.decides clean h legal pictured) }
+
+module _ {S : Type 0} {g : Ghosts S} {first last : Held S} {item : Item} {decided : Result Answer TableFault} (it : IsDecided g first last item decided) (end : Held S) (given : Answer)
+    (settled : (s : Held S) → IsSettled (state g s)) (survives : Survives (state g first) (state g end) (CommitsTo (state g first) (after_item item)))
+    (clean : HasCleanDisk (state g end)) (early : HasCleanDisk (state g last)) where
+  made_it : IsMade g first last (after_item item) decided
+  made_it = decided_made g first last item decided it
+
+  leaves : LeavesEither (state g first) (state g end) (after_item item)
+  leaves = left_by (state g first) (state g end) (after_item item) (settled first) survives clean
+
+  module _ (is : decided ≡ Ok given) where
+    shuts : StaysShut (state g first) (state g end) given
+    shuts shut = absurd (true≢false (sym (was_open made_it end early given is) ∙ shut))
+
+    audits : Audits (state g first) item.2 given
+    audits number asks office = rw is at (it.audited number asks early office)
+
+    module _ (h : History) (legal : IsLegal h) (keeps : IsKeptBy h (state g first)) where
+      served : IsServed h item.0 item.1.now item.2 given (state g last).now
+      served = rw is at (it.decides early h legal (keeps (was_open made_it end early given is)).0)
+
+      none_changed : is_accepted given ≡ false → change h item.0 item.1.now item.2 ≡ []
+      none_changed none = no_change h item.0 item.1.now item.2 given served.answer none
+
+      still : is_accepted given ≡ false → after_item item h ≡ h
+      still none = ap (with_changes h) (none_changed none) ∙ grown_none h
+
+    -- the change is committed
+    turn_changed : IsTrue (is_accepted given) → Shows (state g last) (state g end) (state g last).now (state g last).now false → IsTurn (state g first) (state g end) item given
+    turn_changed accepted shows = record {
+      served = λ h legal keeps. (
+        after_item item h,
+        inr ((served h legal keeps).answer, refl),
+        record { legal = serve h item.0 item.1.now item.2 it.ranged.0 it.ranged.1 legal; kept = made_kept made_it end early given is shows h legal keeps },
+      );
+      kept = λ none. absurd (true≢false (sym accepted ∙ none));
+      audited = audits;
+      shut = shuts;
+      survives = survives;
+      durable = λ h legal keeps answered changes. made_lasting made_it end early given is shows h legal keeps (settled end);
+      leaves = leaves;
+    }
+
+  module _ (none : is_accepted given ≡ false) (back : IsRolledBack (state g last) (state g end)) where
+    -- the answer tells of no change
+    turn_same : decided ≡ Ok given → IsTurn (state g first) (state g end) item given
+    turn_same is = record {
+      served = λ h legal keeps. (
+        h,
+        inr ((served is h legal keeps).answer, sym (still is h legal keeps none)),
+        record { legal = legal; kept = still_kept made_it end early back h keeps },
+      );
+      kept = λ _. unchanged made_it end early back;
+      audited = audits is;
+      shut = shuts is;
+      survives = survives;
+      durable = λ h legal keeps answered changes. absurd (changes (none_changed is h legal keeps none));
+      leaves = leaves;
+    }
+
+    -- it is a failure
+    turn_failed : IsFailure given → IsTurn (state g first) (state g end) item given
+    turn_failed fails = record {
+      served = λ h legal keeps. (h, inl (fails, refl), record { legal = legal; kept = still_kept made_it end early back h keeps });
+      kept = λ _. unchanged made_it end early back;
+      audited = λ number asks office. failure_audits (tables_of (state g first).now) number given fails;
+      shut = λ shut. (fails, shut_still (state g end).is_open (state g first).is_open (λ is_open. (unchanged made_it end early back is_open).0) shut);
+      survives = survives;
+      durable = λ h legal keeps answered. absurd (answered fails);
+      leaves = leaves;
+    }
+
+  module _ (told : (decided ≡ Ok given) ⊎ IsFailure given) (committed : IsTrue (is_accepted given) → (decided ≡ Ok given) × Shows (state g last) (state g end) (state g last).now (state g last).now false)
+      (dropped : OnOk decided (IsTrue (state g last).in_transaction) → is_accepted given ≡ false → IsRolledBack (state g last) (state g end)) where
+    turn_by : (b : Bool) → is_accepted given ≡ b → IsTurn (state g first) (state g end) item given
+    turn_by true accepted = let made = committed accepted in turn_changed made.0 accepted made.1
+    turn_by false none =
+        let back = dropped (inside made_it end early) none in
+        elim told [
+          | inl is ↦ turn_same none back is
+          | inr fails ↦ turn_failed none back fails
+        ]
+
+    pub turn : IsTurn (state g first) (state g end) item given
+    turn = turn_by (is_accepted given) refl

@@ -1,6 +1,5 @@
 -- Histories and the rows that are kept or left of them.
-use Rattle.std.proofs.Common.{◌≡◌, true, Some, ℕ, pos, nat_le, refl, arith}
-use Rattle.std.proofs.lemmas.Bool.Decides.{nat_tests}
+use Rattle.std.proofs.Common.{◌≡◌, Some, ℕ, pos, refl}
 use Rattle.sqlite.specs.Tree.{Trees}
 use Rattle.sqlite.specs.State.{State, Survives}
 use Rattle.sqlite.proofs.StateLemmas.{survives_weaker}

@@ -1,40 +1,28 @@
 //! The install of a policy, in one transaction.
 
-ghost use Rattle.std.specs.Prelude.{◌≡◌, IfErr, IsTrue, OnErr, OnOk, false};
-ghost use Rattle.sqlite.specs.State.{HasCleanDisk, Survives};
+ghost use Rattle.std.specs.Prelude.{◌≡◌, IfErr, IfOk, IsOkAnd, IsTrue, Ok, OnErr, OnOk, false};
+ghost use Rattle.sqlite.specs.State.{HasCleanDisk, IsRolledBack, Shows, Survives};
 ghost use Rattle.sqlite.specs.Held.{state};
 ghost use Rattle.office_tables.specs.Faults.{IsFailure};
 ghost use Rattle.office_engine.specs.Keeping.{CommitsTo, InstallLasts, Installs, IsUnchanged, LeavesEither, with_policy};
 
 use office_core::Policy;
 use office_tables::TableFault;
-use sqlite::{Alter, Connection};
+use sqlite::{Alter, Connection, Transaction};
 use std::alloc::Global;
 
-/// Installs a policy in one transaction with one commit.
-fn install<S: Alter>(
-    alloc: Global,
-    conn: &mut Connection<S>,
-    policy: &Policy,
-) -> Result<(), TableFault>
-    requires outside { (state S.Store conn.old).in_transaction ≡ false }
-    ensures outside { (state S.Store conn.new).in_transaction ≡ false }
-    ensures failure { IfErr result IsFailure }
-    ensures installed { HasCleanDisk (state S.Store conn.new)
-        → OnOk result (Installs (state S.Store conn.old) (state S.Store conn.new) policy.now) }
-    ensures open { HasCleanDisk (state S.Store conn.new) → OnOk result (IsTrue (state S.Store conn.old).is_open) }
-    ensures kept { HasCleanDisk (state S.Store conn.new)
-        → OnErr result (IsUnchanged (state S.Store conn.old) (state S.Store conn.new)) }
-    ensures survives { Survives (state S.Store conn.old) (state S.Store conn.new)
-        (CommitsTo (state S.Store conn.old) (with_policy policy.now)) }
-    ensures durable { HasCleanDisk (state S.Store conn.new)
-        → OnOk result (InstallLasts (state S.Store conn.old) (state S.Store conn.new) policy.now) }
+/// Ends the transaction: what was done is committed, and rolled back where it failed.
+fn end<S: Alter>(tx: Transaction<'_, S>, done: Result<(), TableFault>) -> Result<(), TableFault>
+    ensures outside { tx.exit.0.now.in_transaction ≡ false }
+    ensures failure { IfErr done IsFailure → IfErr result IsFailure }
+    ensures committed { HasCleanDisk (state S.Store tx.exit.0.now) → IfOk result (λ nothing. (done ≡ Ok nothing)
+        × Shows (state S.Store tx.entry.conn.now) (state S.Store tx.exit.0.now) (state S.Store tx.entry.conn.now).now (state S.Store tx.entry.conn.now).now false) }
+    ensures undone { HasCleanDisk (state S.Store tx.exit.0.now) → OnOk done (IsTrue (state S.Store tx.entry.conn.now).in_transaction)
+        → OnErr result (IsRolledBack (state S.Store tx.entry.conn.now) (state S.Store tx.exit.0.now)) }
+    ensures survives { Survives (state S.Store tx.entry.conn.now) (state S.Store tx.exit.0.now)
+        (λ db. IsOkAnd done (λ _. db ≡ (state S.Store tx.entry.conn.now).now.trees)) }
 {
-    // What the type of a policy says of its callers and rules, and the connection of its state.
-    let _rules = policy.rules();
-    let _is_settled = conn.is_autocommit();
-    let mut tx = conn.transaction();
-    match office_defining::install(alloc, &mut tx, policy) {
+    match done {
         Ok(()) => match tx.commit() {
             Ok(()) => Ok(()),
             Err(error) => Err(TableFault::from(error)),
@@ -46,8 +34,8 @@ fn install<S: Alter>(
     }
 }
 
-/// The same, and what a crash may leave.
-pub fn install_and_leave<S: Alter>(
+/// Installs a policy in one transaction with one commit.
+pub fn install<S: Alter>(
     alloc: Global,
     conn: &mut Connection<S>,
     policy: &Policy,
@@ -67,5 +55,10 @@ pub fn install_and_leave<S: Alter>(
     ensures leaves { HasCleanDisk (state S.Store conn.new)
         → LeavesEither (state S.Store conn.old) (state S.Store conn.new) (with_policy policy.now) }
 {
-    install(alloc, conn, policy)
+    // What the type of a policy says of its callers and rules, and the connection of its state.
+    let _rules = policy.rules();
+    let _is_settled = conn.is_autocommit();
+    let mut tx = conn.transaction();
+    let done = office_defining::install(alloc, &mut tx, policy);
+    end(tx, done)
 }

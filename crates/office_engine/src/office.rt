@@ -22,9 +22,9 @@ ghost use Rattle.office_history.specs.Runs.{IsLegal, Item, new_history};
 ghost use Rattle.office_recovery.specs.Found.{HoldsWhere};
 ghost use Rattle.office_engine.specs.Keeping.{AllStayShut, Audits, CommitsRun, CommitsTo, InTurn, InstallLasts, Installs, IsKeptBy, IsKeptOfRun, IsLeftOf, IsLeftOfEither, IsLeftOfRun, IsUnchanged, Lasts, LeavesEither, LeavesKept, LeavesRun, ListsDue, Runs, Serves, StaysShut, after_item, is_accepted, with_policy};
 
-use crate::installing::install_and_leave;
+use crate::installing::install;
 use crate::listing::due_list;
-use crate::serving::serve_and_leave;
+use crate::serving::serve;
 use office_core::{Answer, Day, Limits, Policy, Request};
 use office_recovery::{reopen_files, stop};
 use office_tables::TableFault;
@@ -146,7 +146,7 @@ impl<S: Alter> Office<S> {
         ensures leaves { HasCleanDisk (state S.Store self.new)
             → LeavesEither (state S.Store self.old) (state S.Store self.new) (with_policy policy.now) }
     {
-        install_and_leave(alloc, &mut self.conn, policy)
+        install(alloc, &mut self.conn, policy)
     }
 
     /// Serves a caller's request on that day, in one transaction with one commit. A request that is
@@ -167,7 +167,7 @@ impl<S: Alter> Office<S> {
         ensures leaves { HasCleanDisk (state S.Store self.new)
             → LeavesEither (state S.Store self.old) (state S.Store self.new) (after_item (day, caller.entry, request.now)) }
     {
-        serve_and_leave(alloc, &mut self.conn, day, caller, request)
+        serve(alloc, &mut self.conn, day, caller, request)
     }
 
     /// Serves requests one after the other, each with its day and its caller. The room for the

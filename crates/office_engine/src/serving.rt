@@ -1,7 +1,7 @@
 //! One request in one transaction.
 
-ghost use Rattle.std.specs.Prelude.{◌≡◌, ◌≢◌, ℕ, IfErr, false};
-ghost use Rattle.sqlite.specs.State.{HasCleanDisk, Survives};
+ghost use Rattle.std.specs.Prelude.{◌≡◌, ◌≢◌, ◌⊎◌, ℕ, IfErr, IsOkAnd, IsTrue, Ok, OnOk, false};
+ghost use Rattle.sqlite.specs.State.{HasCleanDisk, IsRolledBack, Shows, Survives};
 ghost use Rattle.sqlite.specs.Held.{state};
 ghost use Rattle.office_core.specs.declared.request.Request.TheVariants as requests;
 ghost use Rattle.office_tables.specs.Calls.{CommitsNothing, Continues, Tells};
@@ -9,7 +9,7 @@ ghost use Rattle.office_tables.specs.Faults as faults;
 ghost use Rattle.office_history.specs.Runs.{IsFailure};
 ghost use Rattle.office_asking.specs.Serving.{Decides};
 ghost use Rattle.office_serving.specs.Audits.{IsAuditOf};
-ghost use Rattle.office_engine.specs.Keeping.{Audits, CommitsTo, IsUnchanged, Lasts, LeavesEither, Serves, StaysShut, after_item, is_accepted};
+ghost use Rattle.office_engine.specs.Keeping.{CommitsTo, IsTurn, after_item, is_accepted};
 
 use office_core::{Answer, Day, Refusal, Request};
 use office_defining::{define_class, define_collection};
@@ -103,33 +103,19 @@ fn decide<S: Alter>(
     }
 }
 
-/// Serves one request in one transaction with one commit. A request that changes nothing is rolled
-/// back.
-pub fn serve<S: Alter>(
-    alloc: Global,
-    conn: &mut Connection<S>,
-    day: Day,
-    caller: &str,
-    request: &Request<'_>,
-) -> Answer
-    requires outside { (state S.Store conn.old).in_transaction ≡ false }
-    ensures outside { (state S.Store conn.new).in_transaction ≡ false }
-    ensures served { HasCleanDisk (state S.Store conn.new)
-        → Serves (state S.Store conn.old) (state S.Store conn.new) (day, caller.entry, request.now) result }
-    ensures kept { HasCleanDisk (state S.Store conn.new) → is_accepted result ≡ false → IsUnchanged (state S.Store conn.old) (state S.Store conn.new) }
-    ensures audited { HasCleanDisk (state S.Store conn.new) → Audits (state S.Store conn.old) request.now result }
-    ensures shut { HasCleanDisk (state S.Store conn.new) → StaysShut (state S.Store conn.old) (state S.Store conn.new) result }
-    ensures survives { Survives (state S.Store conn.old) (state S.Store conn.new)
-        (CommitsTo (state S.Store conn.old) (after_item (day, caller.entry, request.now))) }
-    ensures durable { HasCleanDisk (state S.Store conn.new)
-        → Lasts (state S.Store conn.old) (state S.Store conn.new) (day, caller.entry, request.now) result }
+/// Ends the transaction with the answer to what was decided in it: a change is committed, and all
+/// else is rolled back.
+fn end<S: Alter>(tx: Transaction<'_, S>, decided: Result<Answer, TableFault>) -> Answer
+    ensures outside { tx.exit.0.now.in_transaction ≡ false }
+    ensures told { (decided ≡ Ok result) ⊎ IsFailure result }
+    ensures committed { HasCleanDisk (state S.Store tx.exit.0.now) → IsTrue (is_accepted result) → (decided ≡ Ok result)
+        × Shows (state S.Store tx.entry.conn.now) (state S.Store tx.exit.0.now) (state S.Store tx.entry.conn.now).now (state S.Store tx.entry.conn.now).now false }
+    ensures undone { HasCleanDisk (state S.Store tx.exit.0.now) → OnOk decided (IsTrue (state S.Store tx.entry.conn.now).in_transaction)
+        → is_accepted result ≡ false → IsRolledBack (state S.Store tx.entry.conn.now) (state S.Store tx.exit.0.now) }
+    ensures survives { Survives (state S.Store tx.entry.conn.now) (state S.Store tx.exit.0.now)
+        (λ db. IsOkAnd decided (λ _. db ≡ (state S.Store tx.entry.conn.now).now.trees)) }
 {
-    // What the types of a day and of a request say of their values, and the connection of its state.
-    let _date = day.date();
-    request.prove_in_range();
-    let _is_settled = conn.is_autocommit();
-    let mut tx = conn.transaction();
-    match decide(alloc, &mut tx, day, caller, request) {
+    match decided {
         Ok(answer) => {
             if !is_accepted(&answer) {
                 tx.rollback();
@@ -147,8 +133,9 @@ pub fn serve<S: Alter>(
     }
 }
 
-/// The same, and what a crash may leave.
-pub fn serve_and_leave<S: Alter>(
+/// Serves one request in one transaction with one commit. A request that changes nothing is rolled
+/// back.
+pub fn serve<S: Alter>(
     alloc: Global,
     conn: &mut Connection<S>,
     day: Day,
@@ -157,17 +144,16 @@ pub fn serve_and_leave<S: Alter>(
 ) -> Answer
     requires outside { (state S.Store conn.old).in_transaction ≡ false }
     ensures outside { (state S.Store conn.new).in_transaction ≡ false }
-    ensures served { HasCleanDisk (state S.Store conn.new)
-        → Serves (state S.Store conn.old) (state S.Store conn.new) (day, caller.entry, request.now) result }
-    ensures kept { HasCleanDisk (state S.Store conn.new) → is_accepted result ≡ false → IsUnchanged (state S.Store conn.old) (state S.Store conn.new) }
-    ensures audited { HasCleanDisk (state S.Store conn.new) → Audits (state S.Store conn.old) request.now result }
-    ensures shut { HasCleanDisk (state S.Store conn.new) → StaysShut (state S.Store conn.old) (state S.Store conn.new) result }
+    ensures turn { HasCleanDisk (state S.Store conn.new)
+        → IsTurn (state S.Store conn.old) (state S.Store conn.new) (day, caller.entry, request.now) result }
     ensures survives { Survives (state S.Store conn.old) (state S.Store conn.new)
         (CommitsTo (state S.Store conn.old) (after_item (day, caller.entry, request.now))) }
-    ensures durable { HasCleanDisk (state S.Store conn.new)
-        → Lasts (state S.Store conn.old) (state S.Store conn.new) (day, caller.entry, request.now) result }
-    ensures leaves { HasCleanDisk (state S.Store conn.new)
-        → LeavesEither (state S.Store conn.old) (state S.Store conn.new) (after_item (day, caller.entry, request.now)) }
 {
-    serve(alloc, conn, day, caller, request)
+    // What the types of a day and of a request say of their values, and the connection of its state.
+    let _date = day.date();
+    request.prove_in_range();
+    let _is_settled = conn.is_autocommit();
+    let mut tx = conn.transaction();
+    let decided = decide(alloc, &mut tx, day, caller, request);
+    end(tx, decided)
 }

@@ -1,41 +1,39 @@
-use Rattle.std.proofs.Common.{◌≡◌, arith, rules, subst}
-use Rattle.sqlite.specs.State.{HasCleanDisk}
+use Rattle.std.proofs.Common.{◌≡◌, ◌∙◌, IsTrue, not, ap, arith, rules}
+use Rattle.std.proofs.lemmas.Result.{on_err_weaker}
+use Rattle.sqlite.specs.State.{HasCleanDisk, Survives}
 use Rattle.sqlite.specs.Held.{state}
 use Rattle.office_history.specs.Runs as runs
-use Rattle.office_history.specs.Runs.{IsLegal}
-use Rattle.office_engine.specs.Keeping.{IsReached, InstallLasts, with_policy}
-use Rattle.office_engine.proofs.Ends.{makes_kept, makes_lasting}
+use Rattle.office_engine.specs.Keeping.{CommitsTo, InstallLasts, Installs, with_policy}
+use Rattle.office_engine.proofs.Ends.{IsMade, inside, left_by, made_kept, made_lasting, made_survives, on_committed, unchanged, was_open}
 use Rattle.office_engine.proofs.installing.install.Goals as goal
 
-pub returns-in-Ok-commit-clause-installed : goal.returns-in-Ok-commit-clause-installed
-returns-in-Ok-commit-clause-installed g c clean h legal keeps =
+pub returns : goal.returns
+returns g c =
     let policy = c.args.policy.now in
     let first = c.args.conn.now in
-    let end = c.commit.new.self.0 in
-    let last = state g.S.Store c.install.new.tx.conn.now in
+    let last = c.install-done.new.tx.conn.now in
+    let end = c.end.new.tx.0 in
     let begun = c.transaction-tx.ensures.begun in
     let same : end ≡ c.conn-1.given.0 = search rules in
-    let late : HasCleanDisk (state g.S.Store end) = rw same clean in
-    let early : HasCleanDisk last = omega (arith, late, c.commit.ensures.survives.clean) in
-    let goes = rw begun at (c.in-Ok.ensures.goes_on early) in
-    let stays = rw begun at c.install.ensures.stays in
-    let accepted = rw begun at (c.in-Ok.ensures.installed early) in
-    let kept = makes_kept g.S.Store first last (state g.S.Store end) stays early goes (with_policy policy) (λ x is_legal pictured. accepted x is_legal pictured tt) (c.in-Ok-commit.ensures.ok late).1 h legal keeps in
-    subst (λ x. IsReached (with_policy policy h) (state g.S.Store x)) same (record { legal = runs.install h policy c.rules-rules.ensures.policy legal; kept = kept })
-
-pub returns-in-Ok-commit-clause-durable : goal.returns-in-Ok-commit-clause-durable
-returns-in-Ok-commit-clause-durable g c clean =
-    let policy = c.args.policy.now in
-    let first = c.args.conn.now in
-    let end = c.commit.new.self.0 in
-    let last = state g.S.Store c.install.new.tx.conn.now in
-    let begun = c.transaction-tx.ensures.begun in
-    let same : end ≡ c.conn-1.given.0 = search rules in
-    let late : HasCleanDisk (state g.S.Store end) = rw same clean in
-    let early : HasCleanDisk last = omega (arith, late, c.commit.ensures.survives.clean) in
-    let goes = rw begun at (c.in-Ok.ensures.goes_on early) in
-    let stays = rw begun at c.install.ensures.stays in
-    let accepted = rw begun at (c.in-Ok.ensures.installed early) in
-    let lasting = makes_lasting g.S.Store first last (state g.S.Store end) stays early goes (with_policy policy) (λ x is_legal pictured. accepted x is_legal pictured tt) (c.in-Ok-commit.ensures.ok late).1
-    (λ db is_open left. g.met.S.Store.settled end.store db is_open left) in
-    subst (λ x. InstallLasts (state g.S.Store first) (state g.S.Store x) policy) same lasting
+    let made : IsMade g.S.Store first last (with_policy policy) c.install-done.result = record {
+      committed = c.is_autocommit-is_settled.ensures.settled (c.is_autocommit-is_settled.ensures.value ∙ ap not c.requires.outside);
+      stays = rw begun at c.install-done.ensures.stays;
+      goes_on = rw begun at c.install-done.ensures.goes_on;
+      makes = λ clean h legal pictured. let accepted = rw begun at (c.install-done.ensures.installed clean) in accepted h legal pictured tt;
+    } in
+    let survives : Survives (state g.S.Store first) (state g.S.Store end) (CommitsTo (state g.S.Store first) (with_policy policy)) = made_survives made end c.end.ensures.survives in
+    let early = λ (late : HasCleanDisk (state g.S.Store end)). let clean : HasCleanDisk (state g.S.Store last) = omega (arith, late, c.end.ensures.survives.clean) in clean in
+    rw (← same) (record {
+      outside = c.end.ensures.outside;
+      failure = c.end.ensures.failure c.install-done.ensures.failure;
+      installed = λ late.
+          on_committed (Installs (state g.S.Store first) (state g.S.Store end) policy) _ c.install-done.result c.end.result
+          (λ x is shows h legal keeps. record { legal = runs.install h policy c.rules-rules.ensures.policy legal; kept = made_kept made end (early late) x is shows h legal keeps }) (c.end.ensures.committed late);
+      «open» = λ late. on_committed (IsTrue (state g.S.Store first).is_open) _ c.install-done.result c.end.result (λ x is shows. was_open made end (early late) x is) (c.end.ensures.committed late);
+      kept = λ late. on_err_weaker c.end.result (unchanged made end (early late)) (c.end.ensures.undone late (inside made end (early late)));
+      survives = survives;
+      durable = λ late.
+          on_committed (InstallLasts (state g.S.Store first) (state g.S.Store end) policy) _ c.install-done.result c.end.result
+          (λ x is shows h legal keeps. made_lasting made end (early late) x is shows h legal keeps (λ db is_open left. g.met.S.Store.settled end.store db is_open left)) (c.end.ensures.committed late);
+      leaves = λ late. left_by (state g.S.Store first) (state g.S.Store end) (with_policy policy) (λ db is_open left. g.met.S.Store.settled first.store db is_open left) survives late;
+    })

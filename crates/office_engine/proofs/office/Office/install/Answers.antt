@@ -6,5 +6,5 @@ use Rattle.office_engine.proofs.office.Office.install.Goals as goal
 
 pub returns-clause-leaves : goal.returns-clause-leaves
 returns-clause-leaves g c =
-    let new = state g.S.Store c.install_and_leave.new.conn in
-    subst (λ x. HasCleanDisk new → LeavesEither (state g.S.Store x) new (with_policy c.args.policy.now)) c.self.view_is c.install_and_leave.ensures.leaves
+    let new = state g.S.Store c.install.new.conn in
+    subst (λ x. HasCleanDisk new → LeavesEither (state g.S.Store x) new (with_policy c.args.policy.now)) c.self.view_is c.install.ensures.leaves

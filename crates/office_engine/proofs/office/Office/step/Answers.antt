@@ -1,10 +1,21 @@
 use Rattle.std.proofs.Common.{subst}
-use Rattle.sqlite.specs.State.{HasCleanDisk}
+use Rattle.sqlite.specs.State.{HasCleanDisk, Survives}
 use Rattle.sqlite.specs.Held.{state}
-use Rattle.office_engine.specs.Keeping.{LeavesEither, after_item}
+use Rattle.office_history.specs.Runs.{Item}
+use Rattle.office_engine.specs.Keeping.{CommitsTo, IsTurn, after_item}
 use Rattle.office_engine.proofs.office.Office.step.Goals as goal
 
-pub returns-clause-leaves : goal.returns-clause-leaves
-returns-clause-leaves g c =
-    let new = state g.S.Store c.serve_and_leave.new.conn in
-    subst (λ x. HasCleanDisk new → LeavesEither (state g.S.Store x) new (after_item (c.args.day, c.args.caller, c.args.request.now))) c.self.view_is c.serve_and_leave.ensures.leaves
+pub returns : goal.returns
+returns g c =
+    let new = state g.S.Store c.serve.new.conn in
+    let item : Item = (c.args.day, c.args.caller, c.args.request.now) in
+    let turn = subst (λ x. HasCleanDisk new → IsTurn (state g.S.Store x) new item c.serve.result) c.self.view_is c.serve.ensures.turn in
+    record {
+      served = λ clean. (turn clean).served;
+      kept = λ clean. (turn clean).kept;
+      audited = λ clean. (turn clean).audited;
+      shut = λ clean. (turn clean).shut;
+      survives = subst (λ x. Survives (state g.S.Store x) new (CommitsTo (state g.S.Store x) (after_item item))) c.self.view_is c.serve.ensures.survives;
+      durable = λ clean. (turn clean).durable;
+      leaves = λ clean. (turn clean).leaves;
+    }
