@@ -125,6 +125,13 @@ parts_are d p h e =
     let q = same_Some _ _ (e ∙ parts_of-day d h) in
     (omega (arith, signed_arith, year_pos d.year h.0, ap (λ x. x.0) q, ap (λ x. x.1) q), sym (ap (λ x. x.2) q), sym (ap (λ x. x.3) q))
 
+-- a text has one day
+pub day_text-injective : (a b : Date) → IsDay a → IsDay b → day_text a ≡ day_text b → a ≡ b
+day_text-injective a b in_a in_b e =
+    let of_a = parts_are a _ in_a (sym (parts_of-day a in_a)) in
+    let of_b = parts_are b _ in_b (sym (parts_of-day a in_a) ∙ ap parts_of e) in
+    same_date a b (of_a.0 ∙ sym of_b.0) (of_a.1 ∙ sym of_b.1) (of_a.2 ∙ sym of_b.2)
+
 -- a date with those parts has that text
 pub text_are : (d : Date) (p : ℕ × ℕ × ℕ × ℕ) → p.1 < 100 → (d.year ≡ pos (p.0 * 100 + p.1)) × (pos d.month ≡ pos p.2) × (pos d.day ≡ pos p.3) → parts_text p ≡ day_text d
 text_are d p h is =
