@@ -1,20 +1,21 @@
 -- The keys of a query: what the tests of the code decide.
-use Rattle.std.proofs.Common.{◌≡◌, ℕ, List, [], ◌∷◌, map, nat_eq, Contains, Bor, Decides, refl}
+use Rattle.std.proofs.Common.{◌≡◌, ℕ, List, [], ◌∷◌, map, nat_eq, Contains, Bor, Decides, refl, sym}
 use Rattle.std.specs.Cmp.Lexicographic.{pointwise, bytes_decides}
 use Rattle.std.specs.List.{list_any}
-use Rattle.std.proofs.lemmas.Bool.Decides.{Decides-by_and, Decides-by_or}
+use Rattle.std.proofs.lemmas.Bool.Decides.{Decides-by_and, Decides-by_or, Decides-like}
 use Rattle.std.proofs.lemmas.List.Elements.{Decides-contains}
+use Rattle.office_core.specs.Policies.{is_one_of}
 use Rattle.desk_forms.specs.Queries.{HasOnly}
-use Rattle.desk_forms.specs.QueryReading.{is_one_of, has_only}
+use Rattle.desk_forms.specs.QueryReading.{has_only}
 
 -- a key is found among keys that are lent
-pub list_any-lent : (keys : List (Bor (List ℕ))) (key : List ℕ) → list_any (λ known. pointwise nat_eq known.now key) keys ≡ is_one_of (map (λ k. k.now) keys) key
+pub list_any-lent : (keys : List (Bor (List ℕ))) (key : List ℕ) → list_any (λ known. pointwise nat_eq key known.now) keys ≡ is_one_of (map (λ k. k.now) keys) key
 list_any-lent [] key = refl
 list_any-lent (k ∷ keys) key = rw (list_any-lent keys key)
 
 Decides-is_one_of : (keys : List (List ℕ)) (key : List ℕ) → Decides (is_one_of keys key) (Contains keys key)
 Decides-is_one_of keys key =
-    Decides-contains keys key (is_one_of keys key) (Decides-by_or (λ known. pointwise nat_eq known key) (λ known. known ≡ key) (λ ks. is_one_of ks key) (λ known. bytes_decides known key) refl (λ _ _. refl) keys)
+    Decides-contains keys key (is_one_of keys key) (Decides-by_or (λ known. pointwise nat_eq key known) (λ known. known ≡ key) (λ ks. is_one_of ks key) (λ known. Decides-like (pointwise nat_eq key known) sym sym (bytes_decides key known)) refl (λ _ _. refl) keys)
 
 pub Decides-has_only : (keys : List (List ℕ)) (pairs : List (List ℕ × List ℕ)) → Decides (has_only keys pairs) (HasOnly keys pairs)
 Decides-has_only keys pairs =

@@ -1,10 +1,8 @@
 -- What a query or a body says is one thing.
 use Rattle.std.proofs.Common.{◌≡◌, ℕ, List, [], ◌∷◌, Option, Some, None, codes, refl, sym, ap, ◌∙◌}
 use Rattle.std.proofs.lemmas.Option.{same_Some}
-use Rattle.jiff.specs.Types.{Date}
-use Rattle.office_core.specs.Days.{IsDay, day_text}
-use Rattle.office_core.specs.DayReading.{parts_of}
-use Rattle.office_core.proofs.DayLemmas.{same_date, parts_of-day, parts_are}
+use Rattle.office_core.specs.Days.{day_text}
+use Rattle.office_core.proofs.DayLemmas.{day_text-injective}
 use Rattle.desk_forms.specs.declared.query.Listing.{Listing}
 use Rattle.desk_forms.specs.declared.query.DepositQuery.{DepositQuery}
 use Rattle.desk_forms.specs.declared.body.HoldBody.{HoldBody}
@@ -28,19 +26,12 @@ one_listing pairs a b x y =
     let class = one_name (codes "class") pairs a.class b.class x.class y.class in
     λ i. record { collection = collection i; class = class i }
 
--- one text writes one day
-one_day : (a b : Date) → IsDay a → IsDay b → day_text a ≡ day_text b → a ≡ b
-one_day a b in_a in_b e =
-    let of_a = parts_are a _ in_a (sym (parts_of-day a in_a)) in
-    let of_b = parts_are b _ in_b (sym (parts_of-day a in_a) ∙ ap parts_of e) in
-    same_date a b (of_a.0 ∙ sym of_b.0) (of_a.1 ∙ sym of_b.1) (of_a.2 ∙ sym of_b.2)
-
 pub one_deposit_query : (pairs : List (List ℕ × List ℕ)) (a b : DepositQuery) → DescribesDeposit pairs a → DescribesDeposit pairs b → a ≡ b
 one_deposit_query pairs a b x y =
     let collection = one_value _ a.collection b.collection x.collection.0 y.collection.0 in
     let class = one_value _ a.class b.class x.class.0 y.class.0 in
     let accession = one_value _ a.accession b.accession x.accession.0 y.accession.0 in
-    let closed = one_day a.closed b.closed x.closed.1 y.closed.1 (one_value _ (day_text a.closed) (day_text b.closed) x.closed.0 y.closed.0) in
+    let closed = day_text-injective a.closed b.closed x.closed.1 y.closed.1 (one_value _ (day_text a.closed) (day_text b.closed) x.closed.0 y.closed.0) in
     λ i. record { collection = collection i; class = class i; accession = accession i; closed = closed i }
 
 one_years_object : (a b : Option ℕ) → years_object a ≡ years_object b → a ≡ b

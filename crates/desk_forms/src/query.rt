@@ -8,8 +8,9 @@ ghost use Rattle.std.specs.Cow.{cow_str_bytes};
 ghost use Rattle.jiff.specs.Types.{Date};
 ghost use Rattle.office_core.specs.Days.{IsDay, day_text};
 ghost use Rattle.office_core.specs.Names.{IsName, IsAccession};
+ghost use Rattle.office_core.specs.Policies.{is_one_of};
 ghost use Rattle.desk_forms.specs.Queries.{text_of, pairs_of, values_of, StandsOnce, GivesName, AsksListing, DescribesDeposit};
-ghost use Rattle.desk_forms.specs.QueryReading.{is_one_of, has_only};
+ghost use Rattle.desk_forms.specs.QueryReading.{has_only};
 
 use form_urlencoded::{decode, raw_pairs};
 use office_core::{Accession, Day, Name, OwnedAccession, OwnedName};
@@ -73,9 +74,9 @@ fn is_key(alloc: Global, encoded: &[u8], key: &str) -> Result<bool, AllocError>
 
 /// Whether a key is one of these.
 fn is_one_of(key: &str, keys: &[&str]) -> bool
-    ensures { result ≡ list_any (λ known. pointwise nat_eq known.now key.now) keys.now }
+    ensures { result ≡ list_any (λ known. pointwise nat_eq key.now known.now) keys.now }
 {
-    keys.iter().any(|known| *known == key)
+    keys.iter().any(|known| key == *known)
 }
 
 /// Whether an encoded key is one of these.

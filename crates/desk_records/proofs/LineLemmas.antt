@@ -14,21 +14,12 @@ use Rattle.jiff_core.proofs.SignedLemmas.{signed_arith}
 use Rattle.jiff_core.proofs.CalendarLemmas.{days_in_month_bounds}
 use Rattle.jiff.specs.Types.{Date}
 use Rattle.office_core.specs.Days.{IsDay, day_text}
-use Rattle.office_core.specs.DayReading.{parts_of}
-use Rattle.office_core.proofs.DayLemmas.{same_date, parts_of-day, parts_are, year_pos}
+use Rattle.office_core.proofs.DayLemmas.{day_text-injective, year_pos}
 use Rattle.desk_records.specs.Records.{line_text, IsLine, HasNoLineFeed}
 use Rattle.desk_records.specs.RecordReading.{has_marks, length_of}
 use Rattle.desk_records.proofs.LengthLemmas.{own, both, length_of-decimal, length_of-says}
 
 -- ---- days
-
--- a text has one day
-pub day_text-injective : (a b : Date) → IsDay a → IsDay b → day_text a ≡ day_text b → a ≡ b
-day_text-injective a b in_a in_b e =
-    let p : ℕ × ℕ × ℕ × ℕ = (unsigned_abs b.year / 100, unsigned_abs b.year % 100, b.month, b.day) in
-    let at_b = parts_are b p in_b (sym (parts_of-day b in_b)) in
-    let at_a = parts_are a p in_a (sym (parts_of-day b in_b) ∙ ap parts_of (sym e)) in
-    same_date a b (at_a.0 ∙ sym at_b.0) (at_a.1 ∙ sym at_b.1) (at_a.2 ∙ sym at_b.2)
 
 -- ten characters of ASCII
 ten_ascii : (a b c d e f g h : ℕ) → a < 10 → b < 10 → c < 10 → d < 10 → e < 10 → f < 10 → g < 10 → h < 10

@@ -4,6 +4,7 @@ use Rattle.std.specs.Prelude.{decimal, option_map, option_and_then, nat_le}
 use Rattle.std.specs.List.{list_all}
 use Rattle.std.proofs.lemmas.Bool.{and_parts}
 use Rattle.std.proofs.lemmas.Bool.Decides.{nat_tests}
+use Rattle.office_core.specs.Bounds.{max_name}
 use Rattle.office_core.specs.Names.{is_name, is_name_byte, IsName}
 use Rattle.desk_routes.specs.PathReading.{Parts, onto, cut, by_part, no_more, last_part, under_deposit, of_deposit, parts_of, name_of, number_of, place_by_parts, place_of, class, collection, deposit, holds_of_deposit, bag, audit, hold, file, deposits, holds, due}
 use Rattle.desk_routes.specs.Places as places
@@ -81,8 +82,8 @@ name_slash (b ∷ name) h =
 
 name-part : (name : List ℕ) → IsName name → IsPart name
 name-part name h =
-    let f = and_parts (nat_le 1 (length name) && nat_le (length name) 40) (list_all is_name_byte name) h in
-    let g = and_parts (nat_le 1 (length name)) (nat_le (length name) 40) f.0 in
+    let f = and_parts (nat_le 1 (length name) && nat_le (length name) max_name) (list_all is_name_byte name) h in
+    let g = and_parts (nat_le 1 (length name)) (nat_le (length name) max_name) f.0 in
     let some : nat_le 1 (length name) ≡ true = g.0 in
     (grind (arith, nat_tests), name_slash name f.1)
 

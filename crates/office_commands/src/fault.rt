@@ -123,7 +123,7 @@ fn refused_lines(alloc: Global, fault: &PolicyFault) -> Result<String, AllocErro
 
 impl CommandFault {
     /// A failure of which no more is known.
-    pub(crate) fn failed(fault: StoreFault) -> CommandFault
+    pub(crate) fn without_cause(fault: StoreFault) -> CommandFault
         ensures is { result ≡ Failed fault None }
         ensures failure { IsFailure result }
     {

@@ -70,7 +70,7 @@ fn say_listening<O: Write>(
 {
     match listening_line(alloc, port) {
         Ok(line) => print(line.as_str(), out),
-        Err(_) => Err(CommandFault::failed(StoreFault::Memory)),
+        Err(_) => Err(CommandFault::without_cause(StoreFault::Memory)),
     }
 }
 

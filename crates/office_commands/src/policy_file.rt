@@ -59,7 +59,7 @@ pub fn policy_in_file<F: Files + AllocGlobal>(
     };
     match policy_of_bytes(rt.alloc(), bytes.as_slice()) {
         Ok(policy) => Ok(Ok(policy)),
-        Err(PolicyFault::Memory) => Err(CommandFault::failed(StoreFault::Memory)),
+        Err(PolicyFault::Memory) => Err(CommandFault::without_cause(StoreFault::Memory)),
         Err(fault) => Ok(Err(fault)),
     }
 }

@@ -35,7 +35,7 @@ fn say_installed<O: Write>(
 {
     match installed_line(alloc, policy) {
         Ok(line) => print(line.as_str(), out),
-        Err(_) => Err(CommandFault::failed(StoreFault::Memory)),
+        Err(_) => Err(CommandFault::without_cause(StoreFault::Memory)),
     }
 }
 
@@ -60,7 +60,7 @@ fn say_refused<O: Write>(
     ensures failure { IfErr result IsFailure }
 {
     let (Ok(line), Ok(reason)) = (refused_line(alloc, fault), reason_line(alloc, fault)) else {
-        return Err(CommandFault::failed(StoreFault::Memory));
+        return Err(CommandFault::without_cause(StoreFault::Memory));
     };
     print(line.as_str(), out)?;
     Ok(PolicyOutcome {

@@ -56,7 +56,7 @@ fn in_memory<R: Read, O: Write>(
         (O.contents out.old.device) (O.contents out.new.device)) }
 {
     let Ok(conn) = Connection::open_in_memory(alloc) else {
-        return Err(CommandFault::failed(StoreFault::Memory));
+        return Err(CommandFault::without_cause(StoreFault::Memory));
     };
     match Office::create(conn, limits()) {
         Ok(mut office) => perform(alloc, &mut office, task, input, out),
@@ -283,7 +283,7 @@ fn serve_in_memory<O: Write>(
     ensures failure { IfErr result IsFailure }
 {
     let Ok(conn) = Connection::open_in_memory(rt.alloc()) else {
-        return Err(CommandFault::failed(StoreFault::Memory));
+        return Err(CommandFault::without_cause(StoreFault::Memory));
     };
     match Office::create(conn, limits()) {
         Ok(mut office) => serve_at(rt, &mut office, day, port, count, out),

@@ -24,7 +24,7 @@ pub fn table_failure(fault: TableFault) -> CommandFault
     ensures is { result ≡ table_failure fault }
     ensures failure { IsFailure result }
 {
-    CommandFault::failed(match fault {
+    CommandFault::without_cause(match fault {
         TableFault::NotAnOffice => StoreFault::NotAnOffice,
         TableFault::OtherVersion => StoreFault::OtherVersion,
         TableFault::Memory => StoreFault::Memory,
@@ -40,7 +40,7 @@ fn desk_failure(fault: DeskFault) -> CommandFault
     match fault {
         DeskFault::Read => failed_by(StoreFault::Device, Cause::Input),
         DeskFault::Write { .. } => failed_by(StoreFault::Device, Cause::Output),
-        DeskFault::Memory { .. } => CommandFault::failed(StoreFault::Memory),
+        DeskFault::Memory { .. } => CommandFault::without_cause(StoreFault::Memory),
     }
 }
 
@@ -100,7 +100,7 @@ fn replay_failure(stop: ReplayStop) -> CommandFault
         ReplayStop::BadRecord { index } => CommandFault::BadRecord { index },
         ReplayStop::Read => failed_by(StoreFault::Device, Cause::Input),
         ReplayStop::Write => failed_by(StoreFault::Device, Cause::Output),
-        ReplayStop::Memory => CommandFault::failed(StoreFault::Memory),
+        ReplayStop::Memory => CommandFault::without_cause(StoreFault::Memory),
     }
 }
 

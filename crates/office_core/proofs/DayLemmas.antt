@@ -13,7 +13,7 @@ use Rattle.jiff.specs.Types.{Date}
 use Rattle.jiff.specs.Words.{epoch_day, IsYear, IsDate, is_leap_year, days_in_month}
 use Rattle.std.proofs.lemmas.Option.{same_Some}
 use Rattle.office_core.proofs.OptionLemmas.{some_if, some_and_then}
-use Rattle.office_core.specs.Days.{IsDay, IsDayNumber, day_text, digits, is_missing}
+use Rattle.office_core.specs.Days.{first_year, last_year, first_day_number, last_day_number, IsDay, IsDayNumber, day_text, digits, is_missing}
 use Rattle.office_core.specs.DayReading.{number_of, parts_of}
 
 -- a date is its year, month and day
@@ -28,18 +28,18 @@ same_date a b year month day = λ i. record {
 }
 
 first_day : Date
-first_day = record { year = pos 1900; month = 1; day = 1; year_in = search rules; month_in = search rules; day_in = search rules }
+first_day = record { year = first_year; month = 1; day = 1; year_in = search rules; month_in = search rules; day_in = search rules }
 
 day_before : Date
 day_before = record { year = pos 1899; month = 12; day = 31; year_in = search rules; month_in = search rules; day_in = search rules }
 
 last_day : Date
-last_day = record { year = pos 9799; month = 12; day = 31; year_in = search rules; month_in = search rules; day_in = search rules }
+last_day = record { year = last_year; month = 12; day = 31; year_in = search rules; month_in = search rules; day_in = search rules }
 
 day_after : Date
 day_after = record { year = pos 9800; month = 1; day = 1; year_in = search rules; month_in = search rules; day_in = search rules }
 
-days_from_civil-first : days_from_civil (pos 1900) 1 1 ≡ neg_ℤ (pos 25_567)
+days_from_civil-first : days_from_civil first_year 1 1 ≡ first_day_number
 days_from_civil-first = omega (arith, signed_arith, days_from_civil-day_count (pos 1900) 1 1, day_count-early (pos 1900) 11899 1 1 refl (omega arith) (omega arith) (omega arith))
 
 days_from_civil-after : days_from_civil (pos 9800) 1 1 ≡ pos 2_859_849
@@ -48,7 +48,7 @@ days_from_civil-after = omega (arith, signed_arith, days_from_civil-day_count (p
 days_from_civil-before : days_from_civil (pos 1899) 12 31 ≡ neg_ℤ (pos 25_568)
 days_from_civil-before = omega (arith, signed_arith, days_from_civil-first, days_from_civil-next_year (pos 1899) (pos 1900) (search rules) refl)
 
-days_from_civil-last : days_from_civil (pos 9799) 12 31 ≡ pos 2_859_848
+days_from_civil-last : days_from_civil last_year 12 31 ≡ last_day_number
 days_from_civil-last = omega (arith, signed_arith, days_from_civil-after, days_from_civil-next_year (pos 9799) (pos 9800) (search rules) refl)
 
 -- a day of the office has a number of its days
@@ -63,10 +63,10 @@ day_number d h = (
 pub number_day : (d : Date) → IsDayNumber (epoch_day d) → IsDay d
 unfolding first_day last_day
 number_day d h = (
-  by_lt_z d.year (pos 1900)
+  by_lt_z d.year first_year
       (λ lt. absurd (omega (arith, signed_arith, h.0, days_from_civil-first, epoch_day-lt d first_day (inl lt))))
       (λ ge. omega (arith, signed_arith, ge)),
-  by_lt_z (pos 9799) d.year
+  by_lt_z last_year d.year
       (λ lt. absurd (omega (arith, signed_arith, h.1, days_from_civil-last, epoch_day-lt last_day d (inl lt))))
       (λ ge. omega (arith, signed_arith, ge)),
 )
@@ -107,7 +107,7 @@ text_of_parts (a ∷ b ∷ c ∷ d ∷ x ∷ e ∷ f ∷ y ∷ g ∷ h ∷ []) p
     ∙ ap parts_text all
 text_of_parts _ p is = cc
 
-pub year_pos : (y : ℤ) → pos 1900 ≤ℤ y → y ≡ pos (unsigned_abs y)
+pub year_pos : (y : ℤ) → first_year ≤ℤ y → y ≡ pos (unsigned_abs y)
 year_pos (pos n) h = refl
 year_pos (negsuc n) h = absurd (omega (arith, signed_arith, h))
 
@@ -124,6 +124,13 @@ pub parts_are : (d : Date) (p : ℕ × ℕ × ℕ × ℕ) → IsDay d → Some p
 parts_are d p h e =
     let q = same_Some _ _ (e ∙ parts_of-day d h) in
     (omega (arith, signed_arith, year_pos d.year h.0, ap (λ x. x.0) q, ap (λ x. x.1) q), sym (ap (λ x. x.2) q), sym (ap (λ x. x.3) q))
+
+-- a text has one day
+pub day_text-injective : (a b : Date) → IsDay a → IsDay b → day_text a ≡ day_text b → a ≡ b
+day_text-injective a b in_a in_b e =
+    let of_a = parts_are a _ in_a (sym (parts_of-day a in_a)) in
+    let of_b = parts_are b _ in_b (sym (parts_of-day a in_a) ∙ ap parts_of e) in
+    same_date a b (of_a.0 ∙ sym of_b.0) (of_a.1 ∙ sym of_b.1) (of_a.2 ∙ sym of_b.2)
 
 -- a date with those parts has that text
 pub text_are : (d : Date) (p : ℕ × ℕ × ℕ × ℕ) → p.1 < 100 → (d.year ≡ pos (p.0 * 100 + p.1)) × (pos d.month ≡ pos p.2) × (pos d.day ≡ pos p.3) → parts_text p ≡ day_text d
@@ -162,7 +169,7 @@ kept_day date y =
     (kept_at_least (is_missing y m date.day) date.day date.day_in.0, omega (arith, most, long))
 
 -- and it makes a date of that year
-pub kept_is : (date : Date) (y : ℤ) → pos 1900 ≤ℤ y → y ≤ℤ pos 9999 → IsDate y (pos date.month) (pos (if is_missing y date.month date.day then 28 else date.day))
+pub kept_is : (date : Date) (y : ℤ) → first_year ≤ℤ y → y ≤ℤ pos 9999 → IsDate y (pos date.month) (pos (if is_missing y date.month date.day then 28 else date.day))
 kept_is date y low high =
     let m = date.month in
     let kept_in = kept_day date y in

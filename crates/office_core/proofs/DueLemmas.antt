@@ -6,7 +6,7 @@ use Rattle.jiff.proofs.Family.{same_date}
 use Rattle.jiff.specs.Words.{days_in_month}
 use Rattle.jiff_core.proofs.SignedLemmas.{signed_arith}
 use Rattle.office_core.specs.Bounds.{max_years}
-use Rattle.office_core.specs.Days.{IsDay, IsYearsAfter, is_missing}
+use Rattle.office_core.specs.Days.{first_year, IsDay, IsYearsAfter, is_missing}
 use Rattle.office_core.specs.Requests.{IsYears}
 use Rattle.office_core.proofs.DayLemmas.{kept_is}
 use Rattle.office_core.specs.Retention.{IsDue}
@@ -45,7 +45,7 @@ date_after : (closing : Date) (years : ℕ) → IsDay closing → years ≤ max_
 date_after closing years is few =
     let year = closing.year +ℤ pos years in
     let day = if is_missing year closing.month closing.day then 28 else closing.day in
-    let low : pos 1900 ≤ℤ year = omega (arith, signed_arith, is.0) in
+    let low : first_year ≤ℤ year = omega (arith, signed_arith, is.0) in
     let high : year ≤ℤ pos 9999 = omega (arith, signed_arith, is.1, few) in
     let (in_year, in_month, in_day) = kept_is closing year low high in
     let date : Date = record {

@@ -3,13 +3,27 @@ use Rattle.std.specs.Prelude.{◌≡◌, ℕ, ◌+◌, ◌/◌, ◌%◌, List, [
 use Rattle.jiff.specs.Types.{Date}
 use Rattle.jiff.specs.Words.{IsBetween, is_leap_year}
 
--- a day of the office lies in the years 1900 to 9799
-abbrev pub IsDay : Date → Type 0
-IsDay date = IsBetween (pos 1900) (pos 9799) date.year
+-- the first and the last year of the office
+abbrev pub first_year : ℤ
+first_year = pos 1900
 
--- the numbers of the days of the office, where 1 January 1970 has the number 0
+abbrev pub last_year : ℤ
+last_year = pos 9799
+
+-- the numbers of its first day and of its last, where 1 January 1970 has the number 0
+abbrev pub first_day_number : ℤ
+first_day_number = neg_ℤ (pos 25_567)
+
+abbrev pub last_day_number : ℤ
+last_day_number = pos 2_859_848
+
+-- a day of the office lies in its years
+abbrev pub IsDay : Date → Type 0
+IsDay date = IsBetween first_year last_year date.year
+
+-- the numbers of the days of the office
 abbrev pub IsDayNumber : ℤ → Type 0
-IsDayNumber number = IsBetween (neg_ℤ (pos 25_567)) (pos 2_859_848) number
+IsDayNumber number = IsBetween first_day_number last_day_number number
 
 -- a number below 100, in two digits
 abbrev pub digits : ℕ → List ℕ

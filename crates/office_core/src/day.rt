@@ -10,6 +10,18 @@ use jiff::{ToSpan, civil};
 use std::fmt;
 use std::marker::Model;
 
+/// The first year of the office.
+const FIRST_YEAR: i16 = 1900;
+
+/// The last year of the office.
+const LAST_YEAR: i16 = 9799;
+
+/// The number of the first day.
+const FIRST_NUMBER: i32 = -25_567;
+
+/// The number of the last day.
+const LAST_NUMBER: i32 = 2_859_848;
+
 /// A day of the civil calendar, from 1900-01-01 to 9799-12-31.
 #[derive(Clone, Copy, Debug, PartialEq, Eq, PartialOrd, Ord)]
 pub struct Day {
@@ -34,7 +46,7 @@ fn of_date(date: civil::Date) -> Option<Day>
     ensures value { IfSome result (λ day. IsDay day × (day ≡ date)) }
     ensures only { IsDay date → result ≡ Some date }
 {
-    if date.year() < 1900 || date.year() > 9799 {
+    if date.year() < FIRST_YEAR || date.year() > LAST_YEAR {
         return None;
     }
     Some(Day { date })
@@ -134,7 +146,7 @@ impl Day {
         ensures range { IsSome result ↔ IsDayNumber number }
         ensures value { IfSome result (λ day. IsDay day × (epoch_day day ≡ number)) }
     {
-        if number < -25_567 || number > 2_859_848 {
+        if number < FIRST_NUMBER || number > LAST_NUMBER {
             return None;
         }
         of_date(date_at(number)?)

@@ -24,7 +24,7 @@ struct Offices<S: Alter> {
 }
 
 /// All that an answer says, and whether the request was accepted.
-fn said(alloc: Global, answer: Answer) -> Result<(String, bool)> {
+fn read_answer(alloc: Global, answer: Answer) -> Result<(String, bool)> {
     Ok((
         format!(in alloc; "{answer:?}")?,
         !matches!(answer, Answer::Refused(_)),
@@ -61,8 +61,11 @@ impl<S: Alter + Drop> Offices<S> {
         caller: &str,
         request: &Request<'_>,
     ) -> Result<bool> {
-        let (wanted, is_accepted) = said(alloc, self.plain.step(alloc, day, caller, request))?;
-        let (found, _) = said(alloc, self.kept.step(alloc, day, caller, request))?;
+        let (wanted, is_accepted) = read_answer(
+            alloc,
+            self.plain.step(alloc, day, caller, request),
+        )?;
+        let (found, _) = read_answer(alloc, self.kept.step(alloc, day, caller, request))?;
         if wanted != found {
             bail!(
                 "{request:?} on {day} by {caller:?} is answered {found}, by the plain office {wanted}"

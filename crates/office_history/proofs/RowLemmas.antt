@@ -15,6 +15,7 @@ use Rattle.bag_check.specs.Contents.{is_payload, payload_of}
 use Rattle.bag_check.specs.Validity.{payload_files, payload_bytes}
 use Rattle.bag_text.proofs.ElementLemmas.{Has, has_contains, any_has}
 use Rattle.office_core.proofs.DayLemmas.{day_number}
+use Rattle.office_core.specs.Bounds.{max_years}
 use Rattle.office_core.specs.Days.{IsDay, IsDayNumber}
 use Rattle.office_core.specs.Names.{IsName}
 use Rattle.office_core.specs.Requests.{IsYears}
@@ -154,7 +155,7 @@ numbered_rules place (rule ∷ rules) = (refl, numbered_rules (place + 1) rules)
 
 -- ---- classes
 
-years_ranged : (years : Option ℕ) → IsYears years → IsBetween (neg_ℤ (pos 1)) (pos 200) (years_number years)
+years_ranged : (years : Option ℕ) → IsYears years → IsBetween (neg_ℤ (pos 1)) (pos max_years) (years_number years)
 years_ranged None is = (omega (arith, signed_arith), omega (arith, signed_arith))
 years_ranged (Some years) is = (omega (arith, signed_arith), omega (arith, signed_arith, is))
 

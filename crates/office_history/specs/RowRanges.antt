@@ -1,5 +1,6 @@
 -- The rows that accepted changes write: one row of the office, every number, name and day in its range, no more of each
--- kind than is allowed, and what a row speaks of is there.
+-- kind than is allowed, and what a row speaks of is there. That no two rows have one accession, class, collection or
+-- caller is not said here, since the keys of the tables' schema refuse such rows.
 use Rattle.std.specs.Prelude.{◌≡◌, ℕ, ◌+◌, ◌*◌, ◌≤◌, ◌≤ℤ◌, ◌⊎◌, ℤ, pos, neg_ℤ, List, [], ◌∷◌, length, map, Option, Some, None, IsSome, IfSome, Contains, codes}
 use Rattle.std.specs.List.{AllByRecursion}
 use Rattle.jiff.specs.Words.{IsBetween}

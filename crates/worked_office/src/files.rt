@@ -1,7 +1,7 @@
 //! Files in memory, which can be told to stop, under a store with small caches.
 
 use crate::offices::Way;
-use crate::parts::{Part, taken};
+use crate::parts::{Part, take_part};
 use sqlite::{Connection, FileStore, Files, Options};
 use sqlite_disk::{Crash, Disk, Fuse, Memory};
 use std::alloc::{AllocError, Global};
@@ -92,7 +92,7 @@ pub fn take_once<D: Disk + Drop>(
     match Connection::open_files(alloc, files, SMALL) {
         Err((_, left)) => (says(alloc, "not opened"), left.into_files()),
         Ok(conn) => {
-            let (differs, conn) = taken(alloc, conn, way, part);
+            let (differs, conn) = take_part(alloc, conn, way, part);
             match differs {
                 Some(text) if text.is_empty() => close_files(alloc, conn),
                 differs => (differs, conn.into_store().close()),

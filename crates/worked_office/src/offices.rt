@@ -109,7 +109,7 @@ pub fn code(alloc: Global, fault: TableFault) -> Option<String> {
 
 /// Makes an office in the database, and gives it the policy, the classes and the collections. The
 /// connection is handed back.
-pub fn made<S: Alter + Drop>(
+pub fn create_and_equip<S: Alter + Drop>(
     alloc: Global,
     conn: Connection<S>,
     most: &str,

@@ -1,7 +1,7 @@
 //! What is done between two openings of a database.
 
 use crate::altering::{alter_for_good, case};
-use crate::offices::{Way, adopt_and_put, made};
+use crate::offices::{Way, adopt_and_put, create_and_equip};
 use crate::tables::steps::steps;
 use sqlite::{Alter, Connection};
 use std::alloc::Global;
@@ -30,7 +30,7 @@ fn but_for(alloc: Global, text: Option<String>, wanted: &str) -> Option<String> 
 
 /// Takes the part over the connection, which is handed back, with what is answered otherwise, or no
 /// text.
-pub fn taken<S: Alter + Drop>(
+pub fn take_part<S: Alter + Drop>(
     alloc: Global,
     conn: Connection<S>,
     way: Way,
@@ -38,7 +38,7 @@ pub fn taken<S: Alter + Drop>(
 ) -> (Option<String>, Connection<S>) {
     let (kind, text) = part;
     match kind {
-        "office" => made(alloc, conn, text),
+        "office" => create_and_equip(alloc, conn, text),
         "asks" => adopt_and_put(alloc, conn, way, text),
         "steps" => {
             let mut conn = conn;

@@ -17,7 +17,7 @@ const WHOLE_0_97: &str =
     "bag BAGSET 1\nFILE 9 55\nbagit.txtBagIt-Version: 0.97\nTag-File-Character-Encoding: UTF-8\n\nFILE 6 3\ndata/aabc\nFILE 19 73\nmanifest-sha256.txtba7816bf8f01cfea414140de5dae2223b00361a396177a9cb410ff61f20015ad  data/a\n\nEND\n";
 
 /// An answer, where a bag has one word.
-fn told(answer: &'static str) -> &'static str {
+fn answer_of(answer: &'static str) -> &'static str {
     match answer {
         "whole" => WHOLE,
         "other bytes" => OTHER_BYTES,
@@ -89,7 +89,7 @@ pub fn rows(alloc: Global, text: &'static str) -> Option<Vec<Row>> {
         match line.split_once(" > ") {
             Some((asks, answer)) => {
                 let words: Vec<&'static str> = asks.split(' ').collect(alloc).ok()?;
-                rows.push((when.0, when.1, question_of(&words)?, told(answer)))
+                rows.push((when.0, when.1, question_of(&words)?, answer_of(answer)))
                     .ok()?;
             }
             None => when = line.split_once(' ')?,

@@ -2,7 +2,7 @@
 
 use crate::files::{Disks, MANY, empty, take_once};
 use crate::offices::{Way, equip, limits, put};
-use crate::parts::{Part, agree, taken};
+use crate::parts::{Part, agree, take_part};
 use office_history::plain;
 use sqlite::Connection;
 use std::alloc::Global;
@@ -29,7 +29,7 @@ fn in_plain(alloc: Global, way: Way, parts: &[Part]) -> Result<(), Fail> {
 pub fn in_memory(alloc: Global, way: Way, parts: &[Part]) -> Result<(), Fail> {
     let mut conn = Connection::open_in_memory(alloc)?;
     for part in parts {
-        let (differs, left) = taken(alloc, conn, way, *part);
+        let (differs, left) = take_part(alloc, conn, way, *part);
         agree(differs)?;
         conn = left;
     }

@@ -34,7 +34,7 @@ const AFTER_THE_RUN: &str = "2025-02-28 anna\n\
      release 1 > Released 2024-03-02";
 
 /// The office that is found in the files.
-fn found<D: Disk + Drop>(alloc: Global, files: Files<D>) -> Option<Office<FileStore<D>>> {
+fn find_office<D: Disk + Drop>(alloc: Global, files: Files<D>) -> Option<Office<FileStore<D>>> {
     if !files.may_be_used() {
         return None;
     }
@@ -45,13 +45,13 @@ fn found<D: Disk + Drop>(alloc: Global, files: Files<D>) -> Option<Office<FileSt
 fn stop_once<D: Disk + Drop>(alloc: Global, files: Files<D>) -> Option<String> {
     let day = Day::read("2024-03-02")?;
     let hold = Asked::HoldDeposit(1).request()?;
-    let store = stop_in(alloc, found(alloc, files)?, day, "anna", &hold);
-    let mut office = found(alloc, store.close())?;
+    let store = stop_in(alloc, find_office(alloc, files)?, day, "anna", &hold);
+    let mut office = find_office(alloc, store.close())?;
     put(alloc, &mut office, Way::Steps, AFTER_THE_REQUEST)
 }
 
 /// The answers in words, a line each.
-fn told(alloc: Global, answers: &Result<Vec<Answer>, AllocError>) -> Option<String> {
+fn lines_of(alloc: Global, answers: &Result<Vec<Answer>, AllocError>) -> Option<String> {
     let mut text = String::new(alloc);
     for answer in answers.as_ref().ok()? {
         text.push_str(words(alloc, answer).ok()?.as_str()).ok()?;
@@ -65,7 +65,7 @@ fn told(alloc: Global, answers: &Result<Vec<Answer>, AllocError>) -> Option<Stri
 fn stop_in_two<D: Disk + Drop>(alloc: Global, files: Files<D>) -> Option<String> {
     let day = Day::read("2024-03-02")?;
     let hold = Asked::HoldDeposit(1).request()?;
-    let mut office = found(alloc, files)?;
+    let mut office = find_office(alloc, files)?;
     let _placed = office.step(alloc, day, "anna", &hold);
     let items = [
         (day, "anna", Asked::HoldCollection("maps").request()?),
@@ -73,10 +73,10 @@ fn stop_in_two<D: Disk + Drop>(alloc: Global, files: Files<D>) -> Option<String>
     ];
     let stopped = stop_in_run(alloc, office, &items);
     let files = stopped.files.close();
-    let told = told(alloc, &stopped.answers)?;
-    let mut office = found(alloc, files)?;
-    if told.as_str() != TOLD_OF_THE_RUN {
-        return Some(told);
+    let lines = lines_of(alloc, &stopped.answers)?;
+    let mut office = find_office(alloc, files)?;
+    if lines.as_str() != TOLD_OF_THE_RUN {
+        return Some(lines);
     }
     put(alloc, &mut office, Way::Steps, AFTER_THE_RUN)
 }

@@ -14,6 +14,6 @@ pub use asking::Asked;
 pub use bags::{BAG, BAG_0_97, PERCENT};
 pub use offices::AnyOffice;
 pub use session_fault::SessionFault;
-pub use sessions::{OPENING, POLICY, Row, differs, differs_in_run, open, said};
-pub use showing::{held_rows, shown};
+pub use sessions::{OPENING, POLICY, Row, answer_in_words, differs, differs_in_run, open};
+pub use showing::{held_rows, shown_rows};
 pub use wording::words;

@@ -39,7 +39,7 @@ pub static OPENING: [Row; 4] = [
 ];
 
 /// What the office answers that caller on that day, in words.
-pub fn said<O: AnyOffice>(
+pub fn answer_in_words<O: AnyOffice>(
     alloc: Global,
     office: &mut O,
     day: &str,
@@ -60,7 +60,7 @@ pub fn differs<O: AnyOffice>(
     rows: &[Row],
 ) -> Result<Option<String>, SessionFault> {
     for (at, (day, caller, asked, told)) in rows.iter().enumerate() {
-        let answer = said(alloc, office, day, caller, *asked)?;
+        let answer = answer_in_words(alloc, office, day, caller, *asked)?;
         if answer.as_str() != *told {
             return Ok(Some(format!(in alloc; "row {at} answers {answer}")?));
         }

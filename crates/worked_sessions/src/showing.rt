@@ -31,7 +31,7 @@ fn push_value(text: &mut String, row: &Row, at: usize) -> Option<()> {
 }
 
 /// The rows that a query shows: a line each, with `|` between columns. `None` where the store fails.
-pub fn shown<S: Alter>(alloc: Global, conn: &mut Connection<S>, sql: &str) -> Option<String> {
+pub fn shown_rows<S: Alter>(alloc: Global, conn: &mut Connection<S>, sql: &str) -> Option<String> {
     let mut text = String::new(alloc);
     let rows = conn.query_all(sql, &[]).ok()?;
     for row in rows.iter() {
@@ -50,7 +50,7 @@ pub fn shown<S: Alter>(alloc: Global, conn: &mut Connection<S>, sql: &str) -> Op
 pub fn held_rows<S: Alter>(alloc: Global, conn: &mut Connection<S>) -> Option<String> {
     let mut text = String::new(alloc);
     for sql in QUERIES {
-        text.push_str(&shown(alloc, conn, sql)?).ok()?;
+        text.push_str(&shown_rows(alloc, conn, sql)?).ok()?;
         text.push_str("--\n").ok()?;
     }
     Some(text)

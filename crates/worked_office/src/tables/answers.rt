@@ -10,7 +10,10 @@ use std::alloc::Global;
 use std::fmt::Debug;
 
 /// The answer, as `Debug` shows it, or the code of the fault.
-pub fn told<T: Debug + Drop>(alloc: Global, answer: Result<T, TableFault>) -> Option<String> {
+pub fn answer_text<T: Debug + Drop>(
+    alloc: Global,
+    answer: Result<T, TableFault>,
+) -> Option<String> {
     match answer {
         Ok(found) => format!(in alloc; "{found:?}").ok(),
         Err(fault) => format!(in alloc; "{fault}").ok(),
@@ -23,15 +26,15 @@ pub fn answer<S: Alter>(alloc: Global, tx: &mut Transaction<'_, S>, read: &str) 
     let name = word(&words, 1);
     let of = number(&words, 1);
     match word(&words, 0) {
-        "limits" => told(alloc, limits(tx)),
-        "role" => told(alloc, role_of(tx, name)),
-        "rules" => told(alloc, rules(alloc, tx)),
-        "years" => told(alloc, class_of(tx, name)),
-        "collection" => told(alloc, has_collection(tx, name)),
-        "deposit" => told(alloc, deposit_row(tx, of)),
-        "accession" => told(alloc, by_accession(tx, name)),
-        "deposits" => told(alloc, deposit_rows(alloc, tx)),
-        "last deposit" => told(alloc, last_deposit(tx)),
+        "limits" => answer_text(alloc, limits(tx)),
+        "role" => answer_text(alloc, role_of(tx, name)),
+        "rules" => answer_text(alloc, rules(alloc, tx)),
+        "years" => answer_text(alloc, class_of(tx, name)),
+        "collection" => answer_text(alloc, has_collection(tx, name)),
+        "deposit" => answer_text(alloc, deposit_row(tx, of)),
+        "accession" => answer_text(alloc, by_accession(tx, name)),
+        "deposits" => answer_text(alloc, deposit_rows(alloc, tx)),
+        "last deposit" => answer_text(alloc, last_deposit(tx)),
         other => answer_of_files_and_holds(alloc, tx, other, of, word(&words, 2)),
     }
 }
@@ -45,11 +48,11 @@ fn answer_of_files_and_holds<S: Alter>(
     name: &str,
 ) -> Option<String> {
     match read {
-        "files" => told(alloc, files_of(alloc, tx, of)),
-        "content" => told(alloc, file_of(tx, of, name)),
-        "hold" => told(alloc, hold_row(tx, of)),
-        "live holds" => told(alloc, live_holds(alloc, tx, of, name)),
-        "last hold" => told(alloc, last_hold(tx)),
+        "files" => answer_text(alloc, files_of(alloc, tx, of)),
+        "content" => answer_text(alloc, file_of(tx, of, name)),
+        "hold" => answer_text(alloc, hold_row(tx, of)),
+        "live holds" => answer_text(alloc, live_holds(alloc, tx, of, name)),
+        "last hold" => answer_text(alloc, last_hold(tx)),
         _ => None,
     }
 }

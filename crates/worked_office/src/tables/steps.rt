@@ -3,13 +3,13 @@
 ghost use Rattle.sqlite.specs.Held.{state};
 ghost use Rattle.std.specs.Prelude.{◌≡◌, false};
 
-use crate::tables::answers::{answer, told};
+use crate::tables::answers::{answer, answer_text};
 use crate::tables::changes::make;
 use crate::tables::sizes::{find, put};
 use office_tables::{TableFault, create, open_tables};
 use sqlite::{Alter, Connection};
 use std::alloc::Global;
-use worked_sessions::{held_rows, shown};
+use worked_sessions::{held_rows, shown_rows};
 
 /// Takes the steps in turn: the first that is answered otherwise, with its answer, or no text.
 ///
@@ -31,7 +31,7 @@ use worked_sessions::{held_rows, shown};
 pub fn steps<S: Alter>(alloc: Global, conn: &mut Connection<S>, text: &str) -> Option<String> {
     for line in text.lines() {
         let (step, wanted) = line.split_once(" > ").unwrap_or((line, "()"));
-        let answer = said(alloc, conn, step)?;
+        let answer = answer_of_step(alloc, conn, step)?;
         if answer.as_str() != wanted {
             return format!(in alloc; "{step}: {answer}").ok();
         }
@@ -40,14 +40,14 @@ pub fn steps<S: Alter>(alloc: Global, conn: &mut Connection<S>, text: &str) -> O
 }
 
 /// What the step answers.
-fn said<S: Alter>(alloc: Global, conn: &mut Connection<S>, step: &str) -> Option<String> {
+fn answer_of_step<S: Alter>(alloc: Global, conn: &mut Connection<S>, step: &str) -> Option<String> {
     let (word, rest) = step.split_once('|').unwrap_or((step, ""));
     match word {
-        "show" => in_one_line(alloc, shown(alloc, conn, rest)?),
+        "show" => in_one_line(alloc, shown_rows(alloc, conn, rest)?),
         "held" => in_one_line(alloc, held_rows(alloc, conn)?),
         "do" => try_changes(alloc, conn, rest),
-        "put" => told(alloc, put(alloc, conn, rest)),
-        "find" => told(alloc, find(alloc, conn, rest)),
+        "put" => answer_text(alloc, put(alloc, conn, rest)),
+        "find" => answer_text(alloc, find(alloc, conn, rest)),
         _ => ask_database(alloc, conn, word, rest),
     }
 }
@@ -63,9 +63,9 @@ fn ask_database<S: Alter>(
         return None;
     }
     match word {
-        "create" => told(alloc, create(conn, 10, 20)),
-        "open" => told(alloc, open_tables(conn)),
-        "run" => told(alloc, conn.execute_batch(rest).map_err(TableFault::from)),
+        "create" => answer_text(alloc, create(conn, 10, 20)),
+        "open" => answer_text(alloc, open_tables(conn)),
+        "run" => answer_text(alloc, conn.execute_batch(rest).map_err(TableFault::from)),
         "read" => {
             let mut tx = conn.transaction();
             answer(alloc, &mut tx, rest)
@@ -90,16 +90,20 @@ fn try_changes<S: Alter>(alloc: Global, conn: &mut Connection<S>, changes: &str)
     if !conn.is_autocommit() {
         return None;
     }
-    let answer = done(alloc, conn, changes);
+    let answer = make_changes(alloc, conn, changes);
     let after = held_rows(alloc, conn).unwrap_or(String::new(alloc));
     if answer.is_err() && before.as_str() != after.as_str() {
         return String::from_str(alloc, "a row has changed").ok();
     }
-    told(alloc, answer)
+    answer_text(alloc, answer)
 }
 
 /// Makes the changes in one transaction and commits it; rolls back where one is refused.
-fn done<S: Alter>(alloc: Global, conn: &mut Connection<S>, changes: &str) -> Result<(), TableFault>
+fn make_changes<S: Alter>(
+    alloc: Global,
+    conn: &mut Connection<S>,
+    changes: &str,
+) -> Result<(), TableFault>
     requires { (state S.Store conn.old).in_transaction ≡ false }
 {
     let mut tx = conn.transaction();

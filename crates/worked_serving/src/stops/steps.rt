@@ -9,7 +9,7 @@ use office_tables::TableFault;
 use sqlite::Alter;
 use std::alloc::Global;
 use std::test::Fail;
-use worked_sessions::{Asked, BAG, said};
+use worked_sessions::{Asked, BAG, answer_in_words};
 
 /// How the requests come.
 #[derive(Clone, Copy)]
@@ -134,7 +134,7 @@ fn takes<S: Alter>(
 ) -> Result<bool, Fail> {
     match way {
         Way::Asked => {
-            let text = said(alloc, office, step.day, "anna", step.asked)?;
+            let text = answer_in_words(alloc, office, step.day, "anna", step.asked)?;
             is_accepted(alloc, text.as_bytes(), step.told, b"Store")
         }
         Way::Sent => {
