@@ -1,6 +1,7 @@
 -- Making a bag of a list of files.
 use Rattle.std.proofs.Common.{◌≡◌, ◌≢◌, ℕ, ◌+◌, ◌<◌, ◌≤◌, Bool, true, false, not, List, [], length, get_or, drop, map, Result, Ok, Err, refl, sym, ap, subst, ◌∙◌, arith}
 use Rattle.std.specs.Prelude.{Option, Some, None, is_some, is_none, IfOk, IfErr}
+use Rattle.std.specs.Option.{option_or}
 use Rattle.std.specs.Str.{is_utf8}
 use Rattle.std.proofs.lemmas.List.{drop_more, at_drop_all}
 use Rattle.bag_text.specs.declared.set_fault.SetFault.{SetFault}
@@ -10,7 +11,7 @@ use Rattle.bag_text.specs.Paths.{is_good, path_fault}
 use Rattle.bag_text.specs.TransferForm.{File, Ascends, IsBag}
 use Rattle.bag_text.specs.Answers.{Answers}
 use Rattle.bag_text.specs.TransferReading.{named_set_fault}
-use Rattle.bag_text.specs.BagList.{ListFault, file_fault, or_else, fault_from, list_fault}
+use Rattle.bag_text.specs.BagList.{ListFault, file_fault, fault_from, list_fault}
 use Rattle.bag_text.specs.ListReading.{Makes}
 use Rattle.bag_text.proofs.ListLemmas.{from_none, list_fault_law, list_bag_law}
 
@@ -28,7 +29,7 @@ text_is_good path found none utf8 e test = rw (utf8, ← e) (by_fault found none
 
 -- the faults of what is left, seen at its first file
 fault_more : {X : Type 0} (g : X → File) (place : ℕ) (before : List ℕ) (xs : List X) (i : ℕ) (x : X) → i < length xs
-    → fault_from place before (map g (drop i xs)) ≡ or_else (file_fault place before (g (get_or xs i x))) (fault_from (place + 1) (g (get_or xs i x)).path (map g (drop (i + 1) xs)))
+    → fault_from place before (map g (drop i xs)) ≡ option_or (file_fault place before (g (get_or xs i x))) (fault_from (place + 1) (g (get_or xs i x)).path (map g (drop (i + 1) xs)))
 unfolding fault_from
 fault_more g place before xs i x lt = ap (λ (ys : List _). fault_from place before (map g ys)) (drop_more xs i x lt)
 
@@ -39,7 +40,7 @@ pub passed : {X : Type 0} (g : X → File) (place : ℕ) (before : List ℕ) (xs
 passed g place before xs i d found total lt e none so_far =
     let later : List _ = map g (drop (i + 1) xs) in
     let here = sym e ∙ none in
-    sym (fault_more g place before xs i d lt ∙ ap (λ (o : Option SetFault). or_else o (fault_from (place + 1) (g (get_or xs i d)).path later)) here) ∙ so_far
+    sym (fault_more g place before xs i d lt ∙ ap (λ (o : Option SetFault). option_or o (fault_from (place + 1) (g (get_or xs i d)).path later)) here) ∙ so_far
 
 -- the first fault that is met is the fault of the list
 pub met : {X : Type 0} (g : X → File) (place : ℕ) (before : List ℕ) (xs : List X) (i : ℕ) (d : X) (found total : Option SetFault) (fault : SetFault)
@@ -48,7 +49,7 @@ pub met : {X : Type 0} (g : X → File) (place : ℕ) (before : List ℕ) (xs : 
 met g place before xs i d found total fault lt e some so_far =
     let later : List _ = map g (drop (i + 1) xs) in
     let here = sym e ∙ some in
-    sym (fault_more g place before xs i d lt ∙ ap (λ (o : Option SetFault). or_else o (fault_from (place + 1) (g (get_or xs i d)).path later)) here) ∙ so_far
+    sym (fault_more g place before xs i d lt ∙ ap (λ (o : Option SetFault). option_or o (fault_from (place + 1) (g (get_or xs i d)).path later)) here) ∙ so_far
 
 -- where no file is left, there is no fault
 pub none_left : {X : Type 0} (g : X → File) (place : ℕ) (before : List ℕ) (xs : List X) (i : ℕ) (total : Option SetFault) → length xs ≤ i → fault_from place before (map g (drop i xs)) ≡ total → None ≡ total

@@ -1,5 +1,6 @@
 -- Blanks round a text.
 use Rattle.std.proofs.Common.{◌≡◌, ℕ, Bool, true, false, cond, eqb, ◌&&◌, List, [], ◌∷◌, ◌++◌, length, map, refl, sym, ap, ◌∙◌, arith}
+use Rattle.std.proofs.lemmas.Bool.{and_parts}
 use Rattle.std.proofs.lemmas.Bool.Decides.{nat_tests}
 use Rattle.std.proofs.lemmas.List.{append-nil}
 use Rattle.bag_text.specs.Text.{is_blank, AreBlanks, skip_blanks, drop_last_blanks, trim_blanks}
@@ -35,19 +36,15 @@ dropped (b ∷ t) = by_rest (is_blank b) refl (drop_last_blanks t) (dropped t)
     by_rest true e [] h = record { after = b ∷ h.after; blanks = rw e h.blanks; is = ap (λ (x : List ℕ). b ∷ x) h.is }
     by_rest true e (c ∷ rest) h = let some : eqb (length (c ∷ rest)) 0 ≡ false = grind (arith, nat_tests) in rw some (record { after = h.after; blanks = h.blanks; is = ap (λ (x : List ℕ). b ∷ x) h.is })
 
-first_is : (x y : Bool) → (x && y) ≡ true → (x ≡ true) × (y ≡ true)
-first_is true y h = (refl, h)
-first_is false y h = absurd cc
-
 -- blanks in front are skipped
 pub skip_front : (before t : List ℕ) → AreBlanks before → skip_blanks (before ++ t) ≡ skip_blanks t
 skip_front [] t h = refl
-skip_front (b ∷ before) t h = let p = first_is (is_blank b) _ h in rw p.0 (skip_front before t p.1)
+skip_front (b ∷ before) t h = let p = and_parts (is_blank b) _ h in rw p.0 (skip_front before t p.1)
 
 -- blanks alone have nothing left
 pub all_dropped : (t : List ℕ) → AreBlanks t → drop_last_blanks t ≡ []
 all_dropped [] h = refl
-all_dropped (b ∷ t) h = let p = first_is (is_blank b) _ h in rw (p.0, all_dropped t p.1) refl
+all_dropped (b ∷ t) h = let p = and_parts (is_blank b) _ h in rw (p.0, all_dropped t p.1) refl
 
 -- blanks at the end are dropped
 pub drop_back : (t after : List ℕ) → AreBlanks after → drop_last_blanks (t ++ after) ≡ drop_last_blanks t

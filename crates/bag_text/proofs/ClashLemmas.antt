@@ -2,6 +2,7 @@
 use Rattle.std.proofs.Common.{◌≡◌, ℕ, suc, ◌+◌, ◌<◌, ◌↔◌, ◌⊎◌, inl, inr, Bool, true, false, eqb, ◌&&◌, ◌||◌, List, [], ◌∷◌, ◌++◌, length, get_or, drop, map, refl, ap, ◌∙◌, arith, append_assoc}
 use Rattle.std.specs.Prelude.{bytes_eq, codes, Contains}
 use Rattle.std.specs.List.{list_any}
+use Rattle.std.proofs.lemmas.Bool.{or_cases}
 use Rattle.std.proofs.lemmas.Bool.Decides.{Decides-eqb, nat_tests}
 use Rattle.std.proofs.lemmas.Slice.Eq.{starts_is, bytes_eq-Decides}
 use Rattle.bag_text.specs.Text.{begins_with}
@@ -58,10 +59,6 @@ under_rest_of outer inner e =
     let is = (starts_is Decides-eqb inner (outer ++ 47 ∷ []) (lies_under outer inner) refl).0 e in
     (drop (length (outer ++ 47 ∷ [])) inner, is ∙ append_assoc outer (47 ∷ []) (drop (length (outer ++ 47 ∷ [])) inner))
 
-either : (a b : Bool) → (a || b) ≡ true → (a ≡ true) ⊎ (b ≡ true)
-either true b e = inl refl
-either false b e = inr e
-
 or_true : (b : Bool) → (b || true) ≡ true
 or_true true = refl
 or_true false = refl
@@ -81,7 +78,7 @@ clash_law files = (stands, found)
     stands (f, at, why) = any_holds (clash_at files) files f at.0 at.1 at.2 (is_so f why)
 
     why_so : (f : File) → clash_at files f ≡ true → (f.path ≡ codes "data") ⊎ ((g : File) × (rest : List ℕ) × Contains files g × (g.path ≡ f.path ++ 47 ∷ rest))
-    why_so f e = by_case (either (bytes_eq f.path (codes "data")) (list_any (λ g. lies_under f.path g.path) files) e)
+    why_so f e = by_case (or_cases (bytes_eq f.path (codes "data")) (list_any (λ g. lies_under f.path g.path) files) e)
       where
         by_case : (bytes_eq f.path (codes "data") ≡ true) ⊎ (list_any (λ g. lies_under f.path g.path) files ≡ true) → (f.path ≡ codes "data") ⊎ ((g : File) × (rest : List ℕ) × Contains files g × (g.path ≡ f.path ++ 47 ∷ rest))
         by_case (inl same) = inl ((bytes_eq-Decides f.path (codes "data")).0 same)

@@ -1,5 +1,5 @@
 -- What `bag-info.txt` says, and its first fault.
-use Rattle.std.proofs.Common.{◌≡◌, ℕ, suc, ◌+◌, Bool, true, false, cond, eqb, not, ◌&&◌, ◌||◌, List, [], ◌∷◌, ◌++◌, length, take, drop, refl, sym, ap, subst, ◌∙◌, arith, append_assoc, ◌≢◌}
+use Rattle.std.proofs.Common.{◌≡◌, ℕ, suc, ◌+◌, Bool, true, false, cond, eqb, not, ◌||◌, List, [], ◌∷◌, ◌++◌, length, take, drop, refl, sym, ap, subst, ◌∙◌, arith, append_assoc, ◌≢◌}
 use Rattle.std.specs.Prelude.{Result, Ok, Err, ◌↔◌}
 use Rattle.std.specs.List.{list_any, list_all, position_or_len, flat_map}
 use Rattle.std.specs.Str.{is_utf8}
@@ -312,15 +312,11 @@ going_again n init p (line ∷ ls) more rest others is blank groups =
     with_line : {r s : Result (List Pair) InfoFault} → r ≡ s → (r >>= λ now. pairs_from (n + 1) now ls) ≡ (s >>= λ now. pairs_from (n + 1) now ls)
     with_line e = ap (λ (r : Result (List Pair) InfoFault). r >>= λ now. pairs_from (n + 1) now ls) e
 
-    parts : (x y : Bool) → (x && y) ≡ true → (x ≡ true) × (y ≡ true)
-    parts true y h = (refl, h)
-    parts false y h = absurd cc
-
     by_line : list_all is_blank line ≡ false → (more rest : List (List ℕ)) (others : List Pair) → line ∷ filled_lines ls ≡ more ++ rest → list_all begins_blank more ≡ true → AreGroups rest others → Again → (add_info_line n (init ++ p ∷ []) line >>= λ now. pairs_from (n + 1) now ls) ≡ Ok (init ++ longer p more ∷ others)
     by_line full (m ∷ more) rest others is blank groups again =
         let same : line ≡ m = cc in
         let left : filled_lines ls ≡ more ++ rest = cc in
-        let both = parts (begins_blank m) (list_all begins_blank more) blank in
+        let both = and_parts (begins_blank m) (list_all begins_blank more) blank in
         with_line (add_more n init p line full (ap begins_blank same ∙ both.0))
         ∙ again init (at p.label (p.value ++ 10 ∷ skip_blanks line)) more rest others left both.1 groups
         ∙ ap (λ (q : Pair). Ok (init ++ q ∷ others)) (longer_more p line more)
@@ -457,13 +453,9 @@ label_missing line not_blank colon none =
     let blanks : end.after ≡ cut.front = sym (ap (λ (x : List ℕ). x ++ end.after) none) ∙ sym end.is ∙ front_is in
     by_front cut.front cut.back (subst AreBlanks blanks end.blanks) cut.is
   where
-    first_so : (x y : Bool) → (x && y) ≡ true → x ≡ true
-    first_so true y h = refl
-    first_so false y h = absurd cc
-
     by_front : (front back : List ℕ) → AreBlanks front → line ≡ front ++ 58 ∷ back → begins_with 58 line ≡ true
     by_front [] back blanks is = ap (begins_with 58) is
-    by_front (b ∷ front) back blanks is = let wrong = sym (ap begins_blank is) ∙ not_blank in let right = first_so (is_blank b) _ blanks in absurd cc
+    by_front (b ∷ front) back blanks is = let wrong = sym (ap begins_blank is) ∙ not_blank in let right = (and_parts (is_blank b) _ blanks).0 in absurd cc
 
 -- the fault of a line that is reached is a row of the table
 reached_fault : (text : List ℕ) (pairs : List Pair) (number : ℕ) (line : List ℕ) (f : InfoFault) → IsReached text pairs number line → add_info_line number pairs line ≡ Err f → InfoFaultIs text f

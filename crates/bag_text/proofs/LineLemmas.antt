@@ -3,7 +3,7 @@ use Rattle.std.proofs.Common.{◌≡◌, ℕ, suc, subst, ◌+◌, ◌<◌, ◌�
 use Rattle.std.specs.List.{list_any, onto_first, position_or_len, position}
 use Rattle.std.specs.Option.{unwrap_or}
 use Rattle.std.specs.Prelude.{Some, None}
-use Rattle.std.proofs.lemmas.Bool.{ltb-false, eqb-true}
+use Rattle.std.proofs.lemmas.Bool.{ltb-false, eqb-true, or_parts}
 use Rattle.std.proofs.lemmas.List.Sums.{prefix_len-le-length}
 use Rattle.std.proofs.lemmas.List.{length-drop}
 use Rattle.bag_text.specs.Lines.{is_end, lines, End, LF, CR, CRLF, end_bytes, EndsBefore, AreLines}
@@ -51,11 +51,7 @@ at_end b t e = unfolded b t ∙ rw e (crlf (eqb b 13) t)
         both false h = refl
 
 in_line : (b : ℕ) (t : List ℕ) → is_end b ≡ false → lines (b ∷ t) ≡ onto_first b (lines t)
-in_line b t e = unfolded b t ∙ rw (e, no_cr (eqb b 10) (eqb b 13) e) refl
-  where
-    no_cr : (x y : Bool) → (x || y) ≡ false → y ≡ false
-    no_cr true y h = absurd cc
-    no_cr false y h = h
+in_line b t e = unfolded b t ∙ rw (e, (or_parts (eqb b 10) (eqb b 13) e).1) refl
 
 pub lines_step : (t : List ℕ) → 0 < length t → lines t ≡ first_line t ∷ lines (after_first_line t)
 lines_step [] h = absurd (omega arith)
@@ -89,21 +85,17 @@ no_lines (b ∷ t) e = absurd (omega arith)
 
 -- ---- the lines of a text are the one list of lines that gives it
 
-no_more : (x y : Bool) → (x || y) ≡ false → (x ≡ false) × (y ≡ false)
-no_more true y h = absurd cc
-no_more false y h = (refl, h)
-
 -- no end stands in l, and what follows it begins with an end
 lines_at : (l t : List ℕ) (more : List (List ℕ)) → list_any is_end l ≡ false → lines t ≡ [] ∷ more → lines (l ++ t) ≡ l ∷ more
 lines_at [] t more e h = h
 lines_at (b ∷ l) t more e h =
-    let p = no_more (is_end b) (list_any is_end l) e in
+    let p = or_parts (is_end b) (list_any is_end l) e in
     in_line b (l ++ t) p.0 ∙ ap (onto_first b) (lines_at l t more p.1 h)
 
 lines_last : (b : ℕ) (l : List ℕ) → list_any is_end (b ∷ l) ≡ false → lines (b ∷ l) ≡ (b ∷ l) ∷ []
-lines_last b [] e = in_line b [] (no_more (is_end b) false e).0 ∙ ap (onto_first b) lines_nil
+lines_last b [] e = in_line b [] (or_parts (is_end b) false e).0 ∙ ap (onto_first b) lines_nil
 lines_last b (a ∷ l) e =
-    let p = no_more (is_end b) (list_any is_end (a ∷ l)) e in
+    let p = or_parts (is_end b) (list_any is_end (a ∷ l)) e in
     in_line b (a ∷ l) p.0 ∙ ap (onto_first b) (lines_last a l p.1)
 
 lines_end : (e : End) (rest : List ℕ) → EndsBefore e rest → lines (end_bytes e ++ rest) ≡ [] ∷ lines rest

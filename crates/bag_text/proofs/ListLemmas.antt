@@ -1,6 +1,7 @@
 -- The fault of a list of files that is computed is the one of the table, and none stands exactly in a bag.
 use Rattle.std.proofs.Common.{◌≡◌, ℕ, ◌+◌, ◌<◌, ◌≤◌, ◌↔◌, Bool, true, false, cond, ltb, leb, not, List, [], ◌∷◌, ◌++◌, length, refl, sym, ap, subst, ◌∙◌, arith}
 use Rattle.std.specs.Prelude.{Option, Some, None}
+use Rattle.std.specs.Option.{option_or}
 use Rattle.std.specs.List.{AllByRecursion}
 use Rattle.std.proofs.lemmas.Bool.Decides.{nat_tests}
 use Rattle.bag_text.specs.declared.set_fault.SetFault.{SetFault}
@@ -8,7 +9,7 @@ use Rattle.bag_text.specs.declared.set_fault.SetFault.TheVariants.{BadOpening, B
 use Rattle.bag_text.specs.Paths.{is_good, comes_before}
 use Rattle.bag_text.specs.TransferForm.{File, max_content, max_files, Ascends, clashes, Fits, IsBag}
 use Rattle.bag_text.specs.TransferFaults.{last_path}
-use Rattle.bag_text.specs.BagList.{IsFront, FileFault, ListFault, file_fault, or_else, fault_from, clash_fault, list_fault}
+use Rattle.bag_text.specs.BagList.{IsFront, FileFault, ListFault, file_fault, fault_from, clash_fault, list_fault}
 
 abbrev pub some : SetFault → Option SetFault
 some f = Some f
@@ -92,7 +93,7 @@ unfolding fault_from
 from_none place before [] few e = record { few = omega arith; each = tt; up = tt }
 from_none place before (f ∷ fs) few e = by_file (file_fault place before f) refl e (λ room e'. from_none (place + 1) f.path fs (omega arith) e')
   where
-    by_file : (r : Option SetFault) → file_fault place before f ≡ r → or_else r (fault_from (place + 1) f.path fs) ≡ None → (place < max_files → fault_from (place + 1) f.path fs ≡ None → AreFine (place + 1) f.path fs) → AreFine place before (f ∷ fs)
+    by_file : (r : Option SetFault) → file_fault place before f ≡ r → option_or r (fault_from (place + 1) f.path fs) ≡ None → (place < max_files → fault_from (place + 1) f.path fs ≡ None → AreFine (place + 1) f.path fs) → AreFine place before (f ∷ fs)
     by_file (Some g) is e again = absurd cc
     by_file None is e again =
         let fine = file_none place before f is in
@@ -121,7 +122,7 @@ unfolding fault_from
 from_some place before [] g few e = absurd cc
 from_some place before (f ∷ fs) g few e = by_file (file_fault place before f) refl e (λ room e'. from_some (place + 1) f.path fs g (omega arith) e')
   where
-    by_file : (r : Option SetFault) → file_fault place before f ≡ r → or_else r (fault_from (place + 1) f.path fs) ≡ Some g → (place < max_files → fault_from (place + 1) f.path fs ≡ Some g → FaultAt (place + 1) f.path fs g) → FaultAt place before (f ∷ fs) g
+    by_file : (r : Option SetFault) → file_fault place before f ≡ r → option_or r (fault_from (place + 1) f.path fs) ≡ Some g → (place < max_files → fault_from (place + 1) f.path fs ≡ Some g → FaultAt (place + 1) f.path fs g) → FaultAt place before (f ∷ fs) g
     by_file (Some h) is e again =
         let same : place + 0 ≡ place = omega arith in
         record {
@@ -183,7 +184,7 @@ of_file files Memory at = absurd at.fault
 list_some : (files : List File) (g : SetFault) → list_fault files ≡ Some g → ListFault files g
 list_some files g e = by_files (fault_from 0 [] files) refl e
   where
-    by_files : (r : Option SetFault) → fault_from 0 [] files ≡ r → or_else r (clash_fault files) ≡ Some g → ListFault files g
+    by_files : (r : Option SetFault) → fault_from 0 [] files ≡ r → option_or r (clash_fault files) ≡ Some g → ListFault files g
     by_files (Some h) is e = of_file files g (from_some 0 [] files g (omega arith) (is ∙ e))
     by_files None is e = by_clash (clashes files) refl e
       where
@@ -215,7 +216,7 @@ list_fault_law files fault = (list_some files fault, list_stands files fault)
 list_none : (files : List File) → list_fault files ≡ None → IsBag files
 list_none files e = by_files (fault_from 0 [] files) refl e
   where
-    by_files : (r : Option SetFault) → fault_from 0 [] files ≡ r → or_else r (clash_fault files) ≡ None → IsBag files
+    by_files : (r : Option SetFault) → fault_from 0 [] files ≡ r → option_or r (clash_fault files) ≡ None → IsBag files
     by_files (Some h) is e = absurd cc
     by_files None is e = by_clash (clashes files) refl e
       where

@@ -1,7 +1,8 @@
 -- Spelled paths.
-use Rattle.std.proofs.Common.{◌≡◌, ℕ, ◌+◌, ◌≤◌, Bool, true, false, cond, not, ◌&&◌, ◌||◌, List, [], ◌∷◌, ◌++◌, length, refl, sym, ap, subst, ◌∙◌, append_assoc}
+use Rattle.std.proofs.Common.{◌≡◌, ℕ, ◌+◌, ◌≤◌, Bool, true, false, cond, not, List, [], ◌∷◌, ◌++◌, length, refl, sym, ap, subst, ◌∙◌, append_assoc}
 use Rattle.std.specs.Prelude.{Option, Some, None}
 use Rattle.std.specs.List.{list_all, position_or_len}
+use Rattle.std.proofs.lemmas.Bool.{and_parts, or_parts}
 use Rattle.std.proofs.lemmas.List.Sums.{prefix_len-le-length}
 use Rattle.std.proofs.lemmas.List.{append-nil}
 use Rattle.bag_text.specs.declared.declaration.Version.{Version}
@@ -90,10 +91,6 @@ decode_none v (a ∷ b ∷ c ∷ s) e = of_code (coded_character v a b c) (sym (
     of_code (Some x) e = absurd cc
     of_code None e = absurd cc
 
-none : (x y : Bool) → (x || y) ≡ false → (x ≡ false) × (y ≡ false)
-none true y h = absurd cc
-none false y h = (refl, h)
-
 no_code : (o : Option ℕ) → is_some o ≡ false → o ≡ None
 no_code None e = refl
 no_code (Some x) e = absurd cc
@@ -105,7 +102,7 @@ plain v [] e = refl
 plain v (a ∷ []) e = refl
 plain v (a ∷ b ∷ []) e = refl
 plain v (a ∷ b ∷ c ∷ s) e =
-    let n = none (is_some (coded_character v a b c)) (has_coded v (b ∷ c ∷ s)) e in
+    let n = or_parts (is_some (coded_character v a b c)) (has_coded v (b ∷ c ∷ s)) e in
     by_code v a b c s ∙ ap (decode_by v a (b ∷ c ∷ s) s) (no_code (coded_character v a b c) n.0) ∙ ap (λ (t : List ℕ). a ∷ t) (plain v (b ∷ c ∷ s) n.1)
 
 pub step : (before now : List ℕ) (v : Version) (s : List ℕ) (o : Option (ℕ × List ℕ)) (x : ℕ) (rest total : List ℕ) → o ≡ next_char v s → o ≡ Some (x, rest) → now ≡ before ++ x ∷ [] → before ++ decode v s ≡ total → now ++ decode v rest ≡ total
@@ -119,11 +116,7 @@ done before v s o total e none so_far =
     sym (append-nil before) ∙ ap (λ (t : List ℕ). before ++ t) (sym one) ∙ so_far
 
 pub good_is_text : (bs : List ℕ) → is_good bs ≡ true → is_utf8 bs ≡ true
-good_is_text bs e = first (is_utf8 bs) (is_none (path_fault bs)) e
-  where
-    first : (x y : Bool) → (x && y) ≡ true → x ≡ true
-    first true y h = refl
-    first false y h = absurd cc
+good_is_text bs e = (and_parts (is_utf8 bs) (is_none (path_fault bs)) e).0
 
 -- ---- entries by path
 

@@ -1,6 +1,7 @@
 -- Why a list of files is no bag: the faults of the transfer form that a list can have, with the
 -- position in the list, from 0, in the place of the offset.
 use Rattle.std.specs.Prelude.{◌≡◌, ℕ, ◌+◌, ◌<◌, ◌≤◌, true, false, not, List, [], ◌∷◌, ◌++◌, length, Option, Some, None, nat_lt, nat_le, if◌then◌else◌}
+use Rattle.std.specs.Option.{option_or}
 use Rattle.std.specs.List.{AllByRecursion}
 use Rattle.bag_text.specs.Paths.{is_good, comes_before}
 use Rattle.bag_text.specs.TransferForm.{File, max_content, max_files, Ascends, clashes, Fits}
@@ -39,16 +40,12 @@ file_fault place before f =
     else if not (comes_before before f.path) then Some (OutOfOrder place)
     else None
 
-abbrev pub or_else : Option SetFault → Option SetFault → Option SetFault
-or_else (Some fault) later = Some fault
-or_else None later = later
-
 unfoldable pub fault_from : ℕ → List ℕ → List File → Option SetFault
 fault_from place before [] = None
-fault_from place before (f ∷ fs) = or_else (file_fault place before f) (fault_from (place + 1) f.path fs)
+fault_from place before (f ∷ fs) = option_or (file_fault place before f) (fault_from (place + 1) f.path fs)
 
 abbrev pub clash_fault : List File → Option SetFault
 clash_fault files = if clashes files then Some PathClash else None
 
 abbrev pub list_fault : List File → Option SetFault
-list_fault files = or_else (fault_from 0 [] files) (clash_fault files)
+list_fault files = option_or (fault_from 0 [] files) (clash_fault files)
