@@ -1,5 +1,5 @@
 -- What a chain of readings that may fail gives.
-use Rattle.std.proofs.Common.{◌≡◌, Bool, true, false, Option, Some, None, Result, Ok, Err, IsOk, IfOk, IsSome, IfSome, IsSomeAnd, refl, if◌then◌else◌, List, [], ◌∷◌, find, inl, inr}
+use Rattle.std.proofs.Common.{◌≡◌, Bool, true, false, Option, Some, None, Result, Ok, Err, IsOk, IfOk, IsSome, IfSome, IsSomeAnd, option_map, refl, if◌then◌else◌, List, [], ◌∷◌, find, inl, inr}
 use Rattle.std.proofs.lemmas.Bool.{cases_Bool}
 use Rattle.std.proofs.lemmas.Option.{same_Some}
 use Rattle.std.proofs.lemmas.Bool.{false≢true}
@@ -27,6 +27,15 @@ some_if false o x e = cc
 pub some_and_then : {A B : Type 0} (o : Option A) (f : A → Option B) (y : B) → (o >>= f) ≡ Some y → (x : A) × (o ≡ Some x) × (f x ≡ Some y)
 some_and_then (Some x) f y e = (x, refl, e)
 some_and_then None f y e = cc
+
+-- what is there under a function is there before it
+pub option_map_some : {A B P : Type 0} (f : A → B) (o : Option A) (y : B) → option_map f o ≡ Some y → ((x : A) → o ≡ Some x → f x ≡ y → P) → P
+option_map_some f (Some x) y e k = k x refl (same_Some _ _ e)
+option_map_some f None y e k = cc
+
+pub option_map_none : {A B : Type 0} (f : A → B) (o : Option A) → option_map f o ≡ None → o ≡ None
+option_map_none f None e = refl
+option_map_none f (Some x) e = absurd cc
 
 -- nothing is there where the first of all is not there
 pub none_of : {A : Type 0} (o : Option A) (os : List (Option A)) → first_some (o ∷ os) ≡ None → (o ≡ None) × (first_some os ≡ None)

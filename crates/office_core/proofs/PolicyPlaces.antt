@@ -6,7 +6,7 @@ use Rattle.toml.specs.Data.{Data, Members}
 use Rattle.office_core.specs.FirstOf.{first_some, answer_if}
 use Rattle.office_core.specs.Policies.{caller_in, caller_entries, callers_among, callers_of, is_bad_among, rule_in, rule_values, rules_among, rules_of, first_bad, bad_rule_among, bad_rule, has_bad_version, has_unknown_key, has_bad_caller, faults, GivesEach, SpellsRules, SpellsCallers}
 use Rattle.office_core.specs.declared.policy_fault.PolicyFault.TheVariants.{BadVersion, UnknownKey, BadCaller, BadRule}
-use Rattle.office_core.proofs.OptionLemmas.{none_of, answer_if_none}
+use Rattle.office_core.proofs.OptionLemmas.{none_of, answer_if_none, option_map_none}
 
 -- what each value gives is there
 abbrev AllGive : {A B : Type 0} → (A → Option B) → List A → Type 0
@@ -47,10 +47,6 @@ rules_are (Some values) e = (values, refl, gives_each rule_in values (none_is_ba
 callers_are : (found : Option (List (List ℕ × Data))) → is_bad_among found ≡ false → (entries : List (List ℕ × Data)) × (found ≡ Some entries) × GivesEach caller_in entries (callers_among found)
 callers_are None e = absurd cc
 callers_are (Some entries) e = (entries, refl, gives_each caller_in entries (none_is_bad_caller entries e))
-
-option_map_none : {A B : Type 0} (f : A → B) (o : Option A) → option_map f o ≡ None → o ≡ None
-option_map_none f None e = refl
-option_map_none f (Some x) e = absurd cc
 
 pub tree_rules : (tree : Members) → first_some (faults tree) ≡ None → SpellsRules tree (rules_of tree)
 tree_rules tree sound =

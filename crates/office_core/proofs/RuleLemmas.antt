@@ -20,6 +20,7 @@ use Rattle.office_core.specs.declared.retention.Due.{Due}
 use Rattle.office_core.specs.declared.retention.Due.TheVariants.{On, Never}
 use Rattle.office_core.specs.declared.facts.Facts.{Facts}
 use Rattle.office_core.specs.declared.facts.Verdict.TheVariants.{DeniedByRule, DeniedByDefault, Gone, NotDue, Allow}
+use Rattle.office_core.proofs.OptionLemmas.{option_map_some}
 
 -- what passes at some place passes somewhere
 list_any_at : {A : Type 0} (p : A → Bool) (xs : List A) (i : ℕ) (x : A) → slice_get xs i ≡ Some x → p x ≡ true → list_any p xs ≡ true
@@ -32,7 +33,7 @@ list_any_at p (y ∷ ys) (suc i) x e h =
     ]
 
 -- an item of a list is one of a longer list
-slice_get-append : {A : Type 0} (xs ys : List A) (i : ℕ) (x : A) → slice_get xs i ≡ Some x → slice_get (xs ++ ys) i ≡ Some x
+pub slice_get-append : {A : Type 0} (xs ys : List A) (i : ℕ) (x : A) → slice_get xs i ≡ Some x → slice_get (xs ++ ys) i ≡ Some x
 slice_get-append [] ys i x e = cc
 slice_get-append (y ∷ xs) ys zero x e = e
 slice_get-append (y ∷ xs) ys (suc i) x e = slice_get-append xs ys i x e
@@ -117,10 +118,6 @@ no_place_is rules asked = (
 )
 
 -- ---- the rule that decides
-
-option_map_some : {A B P : Type 0} (f : A → B) (o : Option A) (y : B) → option_map f o ≡ Some y → ((x : A) → o ≡ Some x → f x ≡ y → P) → P
-option_map_some f (Some x) y e k = k x refl (same_Some _ _ e)
-option_map_some f None y e k = cc
 
 -- the rule that decides matches
 pub decided : (rules : List Rule) (asked : Question) (decision : Decision) → decision_of rules asked ≡ Some decision

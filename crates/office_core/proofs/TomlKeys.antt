@@ -12,6 +12,7 @@ use Rattle.toml_parser.specs.declared.scalar.Scalar.TheVariants.{Boolean, Intege
 use Rattle.toml.specs.Data.{Data, string, array, table, no_items, Members, no_members, member, same_key, get_member}
 use Rattle.toml.specs.Tables.{Node, Nodes, no_nodes, node, value, open_table, open_array, implicit, dotted, header, get_node, insert, replace, close, close_node, Edit, header_node, dot_node, by_header, by_dot, along_header, along_dots, Definition, key_value, std_table, array_table, Expression, new_node, redefine, at_found, at_key, put, Document, define_as, define}
 use Rattle.toml.specs.Parse.{read_map, after_byte, after_element, key_equals, keyval, items, members, scalar_data, atom, val, header_key, expression, ends_line, line, lines, skip_bom, parse_document}
+use Rattle.office_core.proofs.OptionLemmas.{option_map_some}
 
 -- ---- what is shown
 
@@ -148,40 +149,36 @@ found_sound k x (node l y ns) found sound =
 abbrev Keeps : Edit → Type 0
 Keeps edit = (ns result : Nodes) → SoundNodes ns → edit ns ≡ Some result → SoundNodes result
 
-map_some : {A B P : Type 0} (f : A → B) (o : Option A) (y : B) → option_map f o ≡ Some y → ((x : A) → o ≡ Some x → f x ≡ y → P) → P
-map_some f None y e k = absurd (none-some y e)
-map_some f (Some x) y e k = k x refl (same_Some (f x) y e)
-
 header_sound : (edit : Edit) → Keeps edit → (x y : Node) → SoundNode x → header_node edit x ≡ Some y → SoundNode y
 header_sound edit keeps (value d) y sound e = absurd (none-some y e)
 header_sound edit keeps (open_table origin inner) y sound e =
-    map_some (open_table origin) (edit inner) y e (λ new is same. subst SoundNode same (keeps inner new sound is))
+    option_map_some (open_table origin) (edit inner) y e (λ new is same. subst SoundNode same (keeps inner new sound is))
 header_sound edit keeps (open_array done last) y sound e =
-    map_some (open_array done) (edit last) y e (λ new is same. subst SoundNode same tt)
+    option_map_some (open_array done) (edit last) y e (λ new is same. subst SoundNode same tt)
 
 dot_sound : (edit : Edit) → Keeps edit → (x y : Node) → SoundNode x → dot_node edit x ≡ Some y → SoundNode y
 dot_sound edit keeps (value d) y sound e = absurd (none-some y e)
 dot_sound edit keeps (open_table header inner) y sound e = absurd (none-some y e)
 dot_sound edit keeps (open_table implicit inner) y sound e =
-    map_some (open_table dotted) (edit inner) y e (λ new is same. subst SoundNode same (keeps inner new sound is))
+    option_map_some (open_table dotted) (edit inner) y e (λ new is same. subst SoundNode same (keeps inner new sound is))
 dot_sound edit keeps (open_table dotted inner) y sound e =
-    map_some (open_table dotted) (edit inner) y e (λ new is same. subst SoundNode same (keeps inner new sound is))
+    option_map_some (open_table dotted) (edit inner) y e (λ new is same. subst SoundNode same (keeps inner new sound is))
 dot_sound edit keeps (open_array done last) y sound e = absurd (none-some y e)
 
 by_header_sound : (k : List ℕ) (edit : Edit) → Keeps edit → (ns result : Nodes) (found : Option Node) → get_node k ns ≡ found → SoundNodes ns → by_header k edit ns found ≡ Some result → SoundNodes result
 by_header_sound k edit keeps ns result None none sound e =
-    map_some (λ new. insert k (open_table implicit new) ns) (edit no_nodes) result e
+    option_map_some (λ new. insert k (open_table implicit new) ns) (edit no_nodes) result e
     (λ new is same. subst SoundNodes same (insert_sound k (open_table implicit new) ns (keeps no_nodes new tt is) (missing_new k ns none) sound))
 by_header_sound k edit keeps ns result (Some x) found sound e =
-    map_some (λ new. replace k new ns) (header_node edit x) result e
+    option_map_some (λ new. replace k new ns) (header_node edit x) result e
     (λ new is same. subst SoundNodes same (replace_sound k new ns (header_sound edit keeps x new (found_sound k x ns found sound) is) sound))
 
 by_dot_sound : (k : List ℕ) (edit : Edit) → Keeps edit → (ns result : Nodes) (found : Option Node) → get_node k ns ≡ found → SoundNodes ns → by_dot k edit ns found ≡ Some result → SoundNodes result
 by_dot_sound k edit keeps ns result None none sound e =
-    map_some (λ new. insert k (open_table dotted new) ns) (edit no_nodes) result e
+    option_map_some (λ new. insert k (open_table dotted new) ns) (edit no_nodes) result e
     (λ new is same. subst SoundNodes same (insert_sound k (open_table dotted new) ns (keeps no_nodes new tt is) (missing_new k ns none) sound))
 by_dot_sound k edit keeps ns result (Some x) found sound e =
-    map_some (λ new. replace k new ns) (dot_node edit x) result e
+    option_map_some (λ new. replace k new ns) (dot_node edit x) result e
     (λ new is same. subst SoundNodes same (replace_sound k new ns (dot_sound edit keeps x new (found_sound k x ns found sound) is) sound))
 
 along_header_keeps : (path : List (List ℕ)) (edit : Edit) → Keeps edit → Keeps (along_header path edit)
@@ -223,7 +220,7 @@ at_found_sound : (k : List ℕ) (what : Definition) → SoundDefinition what →
 at_found_sound k what here ns result None none sound e =
     subst SoundNodes (same_Some (insert k (new_node what) ns) result e) (insert_sound k (new_node what) ns (new_node_sound what here) (missing_new k ns none) sound)
 at_found_sound k what here ns result (Some x) found sound e =
-    map_some (λ y. replace k y ns) (redefine what x) result e
+    option_map_some (λ y. replace k y ns) (redefine what x) result e
     (λ y is same. subst SoundNodes same (replace_sound k y ns (redefine_sound what x y (found_sound k x ns found sound) is) sound))
 
 at_key_keeps : (k : List ℕ) (what : Definition) → SoundDefinition what → Keeps (at_key k what)
@@ -235,13 +232,13 @@ put_keeps key d here = along_dots_keeps key.0 (at_key key.1 (key_value d)) (at_k
 
 define_sound : (doc : Document) (key : Key) (what : Definition) (result : Document) → SoundDefinition what → SoundNodes doc.0 → define_as doc key what ≡ Some result → SoundNodes result.0
 define_sound doc key (key_value d) result here sound e =
-    map_some (λ root. (root, doc.1)) (along_header doc.1 (put key d) doc.0) result e
+    option_map_some (λ root. (root, doc.1)) (along_header doc.1 (put key d) doc.0) result e
     (λ root is same. subst (λ (after : Document). SoundNodes after.0) same (along_header_keeps doc.1 (put key d) (put_keeps key d here) doc.0 root sound is))
 define_sound doc key std_table result here sound e =
-    map_some _ (along_header key.0 (at_key key.1 std_table) doc.0) result e
+    option_map_some _ (along_header key.0 (at_key key.1 std_table) doc.0) result e
     (λ root is same. subst (λ (after : Document). SoundNodes after.0) same (along_header_keeps key.0 (at_key key.1 std_table) (at_key_keeps key.1 std_table tt) doc.0 root sound is))
 define_sound doc key array_table result here sound e =
-    map_some _ (along_header key.0 (at_key key.1 array_table) doc.0) result e
+    option_map_some _ (along_header key.0 (at_key key.1 array_table) doc.0) result e
     (λ root is same. subst (λ (after : Document). SoundNodes after.0) same (along_header_keeps key.0 (at_key key.1 array_table) (at_key_keeps key.1 array_table tt) doc.0 root sound is))
 
 -- ---- values
@@ -251,7 +248,7 @@ abbrev ReadsSound : (List ℕ → Read Data) → Type 0
 ReadsSound read = (text : List ℕ) (d : Data) (rest : List ℕ) → read text ≡ Some (d, rest) → IsSound d
 
 mapped_sound : {A : Type 0} (f : A → Data) (r : Read A) (d : Data) (rest : List ℕ) → ((x : A) (after : List ℕ) → r ≡ Some (x, after) → IsSound (f x)) → read_map f r ≡ Some (d, rest) → IsSound d
-mapped_sound f r d rest each e = map_some (λ p. (f p.0, p.1)) r (d, rest) e (λ p is same. subst IsSound (ap (λ q. q.0) same) (each p.0 p.1 is))
+mapped_sound f r d rest each e = option_map_some (λ p. (f p.0, p.1)) r (d, rest) e (λ p is same. subst IsSound (ap (λ q. q.0) same) (each p.0 p.1 is))
 
 scalar_sound : (s : Scalar) → IsSound (scalar_data s)
 scalar_sound (Boolean b) = tt
@@ -270,7 +267,7 @@ atom_sound text d rest e =
 keyval_sound : (read : List ℕ → Read Data) → ReadsSound read → (text : List ℕ) (k : Key) (d : Data) (rest : List ℕ) → keyval read text ≡ Some ((k, d), rest) → IsSound d
 keyval_sound read sound text k d rest e =
     option_and_then_some _ (key_equals text) ((k, d), rest) e
-    (λ key is value. map_some _ (read key.1) ((k, d), rest) value
+    (λ key is value. option_map_some _ (read key.1) ((k, d), rest) value
     (λ p found same. subst IsSound (ap (λ (q : (Key × Data) × List ℕ). q.0.1) same) (sound key.1 p.0 p.1 found)))
 
 members_once : (read : List ℕ → Read Data) → ReadsSound read → (n : ℕ) (found : Nodes) (text : List ℕ) (ms : Members) (rest : List ℕ) → SoundNodes found → members read n found text ≡ Some (ms, rest) → HasKeysOnce ms
@@ -308,7 +305,7 @@ array_header_sound : (k : Read Key) (read : Expression × List ℕ)
     → option_and_then (λ k. option_map (λ left. ((k.0, array_table), left)) (after_byte right_bracket k.1)) k ≡ Some read → DefinesSound read
 array_header_sound None read e = absurd (none-some read e)
 array_header_sound (Some k) read e =
-    map_some (λ (left : List ℕ). ((k.0, array_table), left)) (after_byte right_bracket k.1) read e (λ left is same. subst DefinesSound same tt)
+    option_map_some (λ (left : List ℕ). ((k.0, array_table), left)) (after_byte right_bracket k.1) read e (λ left is same. subst DefinesSound same tt)
 
 std_header_sound : (k : Read Key) (read : Expression × List ℕ) → read_map (λ k. (k, std_table)) k ≡ Some read → DefinesSound read
 std_header_sound None read e = absurd (none-some read e)
@@ -365,7 +362,7 @@ lines_sound (suc n) doc result text sound e =
 pub parsed_sound : (text : List ℕ) (tree : Members) → parse_document text ≡ Some tree → AllSound tree
 unfolding parse_document
 parsed_sound text tree e =
-    map_some (λ (doc : Document). close doc.0) (lines (suc (length text)) (no_nodes, []) (skip_bom text)) tree e
+    option_map_some (λ (doc : Document). close doc.0) (lines (suc (length text)) (no_nodes, []) (skip_bom text)) tree e
     (λ doc is same. subst AllSound same (close_sound doc.0 (lines_sound (suc (length text)) (no_nodes, []) doc (skip_bom text) tt is)))
 
 pub member_sound : (k : List ℕ) (ms : Members) (d : Data) → AllSound ms → get_member k ms ≡ Some d → IsSound d

@@ -1,6 +1,7 @@
 -- What reading a policy gives, step by step.
 use Rattle.std.specs.Prelude.{◌≡◌, ℕ, ◌||◌, List, length, Option, Some, None, Result, Ok, Err, nat_lt, if◌then◌else◌}
 use Rattle.toml.specs.Data.{Data, Members}
+use Rattle.bag_text.specs.Answers.{◌>>=◌}
 use Rattle.office_core.specs.Bounds.{max_rules, max_callers}
 use Rattle.office_core.specs.Policies.{Contents, callers_among, is_bad_among, caller_entries, rules_among, bad_rule_among, rule_values, has_bad_version, has_unknown_key}
 use Rattle.office_core.specs.declared.policy_fault.PolicyFault.{PolicyFault}
@@ -9,11 +10,6 @@ use Rattle.office_core.specs.declared.rule.Rule.{Rule}
 use Rattle.office_core.specs.declared.caller.Caller.{Caller}
 use Rattle.office_core.specs.declared.rule_flaw.RuleFlaw.{RuleFlaw}
 use Rattle.office_core.specs.declared.rule_flaw.RuleFlaw.TheVariants.{Bad, Memory}
-
-infixl 10 ◌>>=◌
-abbrev pub ◌>>=◌ : {A B : Type 0} → Result A PolicyFault → (A → Result B PolicyFault) → Result B PolicyFault
-(Ok x) >>= f = f x
-(Err e) >>= f = Err e
 
 abbrev pub read_callers : Option (List (List ℕ × Data)) → Result (List Caller) PolicyFault
 read_callers found = if is_bad_among found then Err BadCaller else Ok (callers_among found)
