@@ -33,7 +33,7 @@ use Rattle.office_history.specs.Stocks.{files_of}
 use Rattle.office_core.specs.Policies.{IsNamed, HasNames}
 use Rattle.office_history.specs.Runs.{IsLegal}
 use Rattle.office_history.proofs.MemberLemmas.{other_way}
-use Rattle.office_history.proofs.Alike.{outline, Alike, or_none}
+use Rattle.office_history.proofs.Alike.{outline, Alike, or_none, some_behind}
 use Rattle.office_history.proofs.AlikeAnswers.{among_first_places}
 use Rattle.office_history.proofs.LegalReadings.{legal_policy, none_gone, none_released}
 
@@ -419,10 +419,6 @@ HasYears changes name = is_some (last_said (years_in name) changes) ≡ true
 still_some : {A : Type 0} (a b : Option A) → is_some a ≡ true → is_some (option_or a b) ≡ true
 still_some None b e = absurd (true≢false (sym e))
 still_some (Some x) b e = refl
-
-some_behind : {A : Type 0} (a b : Option A) → is_some b ≡ true → is_some (option_or a b) ≡ true
-some_behind None b e = e
-some_behind (Some x) b e = refl
 
 -- each class that was defined has years
 pub all_have_years : (changes : List Change) → AllByRecursion (HasYears changes) (filter_map class_in changes)
