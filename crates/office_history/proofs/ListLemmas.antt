@@ -54,7 +54,7 @@ split_two (x ∷ xs) ys (b ∷ before) c rest e =
       | inr found ↦ inr (found.0, (let k = found.1 in rw (← head, k) refl), found.2)
     ]
 
-slice_get_last : {A : Type 0} (xs : List A) (y : A) → slice_get (xs ++ y ∷ []) (length xs) ≡ Some y
+pub slice_get_last : {A : Type 0} (xs : List A) (y : A) → slice_get (xs ++ y ∷ []) (length xs) ≡ Some y
 slice_get_last [] y = refl
 slice_get_last (x ∷ xs) y = slice_get_last xs y
 
