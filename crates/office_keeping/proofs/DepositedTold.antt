@@ -15,7 +15,7 @@ use Rattle.office_rows.proofs.Order.{put_last}
 use Rattle.office_rows.specs.Rows.{Tables, DepositRow, FileRow, put_by, with_deposit, with_file, this_version}
 use Rattle.office_history.specs.Lists.{item_numbered, numbers}
 use Rattle.office_history.specs.Histories.{History, Change, Deposited, Deposit, with_changes, deposits, destruction_day}
-use Rattle.office_history.specs.Pictures.{deposit_row, deposit_rows, file_row, file_rows, picture}
+use Rattle.office_history.specs.Pictures.{row_by_gone, deposit_row, deposit_rows, file_row, file_rows, picture}
 use Rattle.office_history.specs.Runs.{IsLegal}
 use Rattle.office_history.proofs.LegalReadings.{none_gone}
 use Rattle.office_history.proofs.ListLemmas.{slice_get_last}
@@ -24,7 +24,7 @@ use Rattle.office_history.proofs.HistoryLemmas.{deposits_grown}
 use Rattle.office_keeping.specs.Depositing.{with_files}
 use Rattle.office_asking.proofs.NumberedRows.{rows_from, rows_append, below, none_next}
 use Rattle.office_asking.proofs.DepositTold.{deposit_rows_are}
-use Rattle.office_asking.proofs.Unchanged.{row_by_gone, same_classes, same_collections, same_gone, same_hold_rows, pictured_by}
+use Rattle.office_asking.proofs.Unchanged.{same_classes, same_collections, same_gone, same_hold_rows, pictured_by}
 
 pub files_added : (n : ℕ) (files : List File) (t : Tables) → with_files (pos n) files t ≡ record t { files = t.files ++ map (file_row n) files }
 files_added n [] t = λ i. record t { files = sym (append-nil t.files) i }
