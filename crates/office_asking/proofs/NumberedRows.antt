@@ -9,7 +9,7 @@ use Rattle.std.proofs.lemmas.Bool.Decides.{Decides-int_eq, Decides-eqb}
 use Rattle.office_rows.specs.Rows.{last_number}
 use Rattle.office_history.specs.Lists.{item_numbered, numbers}
 use Rattle.office_history.proofs.Alike.{or_none}
-use Rattle.office_history.proofs.Pictured.{told_at, same_list}
+use Rattle.office_history.proofs.Pictured.{told_at, same_list, different}
 
 -- each item's row, by its number, the first of which is this one
 abbrev pub rows_from : {A R : Type 0} → (ℕ → A → R) → ℕ → List A → List R
@@ -20,21 +20,7 @@ abbrev pub is_nil : {A : Type 0} → List A → Bool
 is_nil [] = true
 is_nil (x ∷ xs) = false
 
-pub different : (a b : ℕ) → a < b → int_eq (pos a) (pos b) ≡ false
-different a b less = by (int_eq (pos a) (pos b)) refl
-  where
-    by : (t : Bool) → int_eq (pos a) (pos b) ≡ t → t ≡ false
-    by true e = absurd (let same : pos a ≡ pos b = (Decides-int_eq (pos a) (pos b)).0 e in let equal : a ≡ b = cc in omega (arith, less, equal))
-    by false e = refl
-
-pub different_above : (a b : ℕ) → b < a → int_eq (pos a) (pos b) ≡ false
-different_above a b less = by (int_eq (pos a) (pos b)) refl
-  where
-    by : (t : Bool) → int_eq (pos a) (pos b) ≡ t → t ≡ false
-    by true e = absurd (let same : pos a ≡ pos b = (Decides-int_eq (pos a) (pos b)).0 e in let equal : a ≡ b = cc in omega (arith, less, equal))
-    by false e = refl
-
-is_less : (m n : ℕ) → m < n → int_cmp (pos m) (pos n) ≡ Less
+pub is_less : (m n : ℕ) → m < n → int_cmp (pos m) (pos n) ≡ Less
 is_less m n lt = sym (int_cmp_is (pos m) (pos n) Less (search (rules, lt)))
 
 -- numbers of rows that are alike
@@ -98,7 +84,7 @@ module _ {A R : Type 0} (tell : ℕ → A → R) where
     missed : (xs : List A) (start n : ℕ) → n < start → find (λ r. int_eq (number r) (pos n)) (rows_from tell start xs) ≡ None
     missed [] start n low = refl
     missed (x ∷ xs) start n low =
-        ap (λ b. cond b (Some (tell start x)) (find (λ r. int_eq (number r) (pos n)) (rows_from tell (start + 1) xs))) (ap (λ k. int_eq k (pos n)) (numbers_it start x) ∙ different_above start n low)
+        ap (λ b. cond b (Some (tell start x)) (find (λ r. int_eq (number r) (pos n)) (rows_from tell (start + 1) xs))) (ap (λ k. int_eq k (pos n)) (numbers_it start x) ∙ different start n (λ same. omega (arith, same, low)))
         ∙ missed xs (start + 1) n (omega (arith, low))
 
     found_from : (xs : List A) (start i : ℕ) → find (λ r. int_eq (number r) (pos (start + i))) (rows_from tell start xs) ≡ option_map (tell (start + i)) (slice_get xs i)
@@ -109,7 +95,7 @@ module _ {A R : Type 0} (tell : ℕ → A → R) where
         ∙ ap (λ k. Some (tell k x)) none
     found_from (x ∷ xs) start (suc i) =
         let one : start + 1 + i ≡ start + suc i = omega arith in
-        ap (λ b. cond b (Some (tell start x)) (find (λ r. int_eq (number r) (pos (start + suc i))) (rows_from tell (start + 1) xs))) (ap (λ k. int_eq k (pos (start + suc i))) (numbers_it start x) ∙ different start (start + suc i) (omega arith))
+        ap (λ b. cond b (Some (tell start x)) (find (λ r. int_eq (number r) (pos (start + suc i))) (rows_from tell (start + 1) xs))) (ap (λ k. int_eq k (pos (start + suc i))) (numbers_it start x) ∙ different start (start + suc i) (λ same. omega (arith, same)))
         ∙ subst (λ k. find (λ r. int_eq (number r) (pos k)) (rows_from tell (start + 1) xs) ≡ option_map (tell k) (slice_get xs i)) one (found_from xs (start + 1) i)
 
     -- the row of a number

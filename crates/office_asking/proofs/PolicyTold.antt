@@ -1,6 +1,6 @@
 -- What the rows of callers and rules tell of the policy.
 use Rattle.std.proofs.Common.{◌≡◌, ℕ, zero, suc, ◌+◌, Bool, true, false, ◌||◌, ◌&&◌, List, [], ◌∷◌, map, Option, Some, None, option_map, slice_get, refl, sym, ap, subst, ◌∙◌, true≢false, cond}
-use Rattle.std.specs.Prelude.{bytes_eq, find, position, option_and_then, nat_lt, length, not}
+use Rattle.std.specs.Prelude.{bytes_eq, find, position, option_and_then, nat_lt, not}
 use Rattle.std.specs.List.{AllByRecursion, prefix_len}
 use Rattle.std.proofs.lemmas.Option.{same_Some}
 use Rattle.std.proofs.lemmas.Slice.Eq.{bytes_eq-Decides}
@@ -21,6 +21,7 @@ use Rattle.office_core.specs.declared.rule.Pattern.TheVariants as patterns
 use Rattle.office_core.specs.declared.rule.Rule.{Rule}
 use Rattle.office_rows.specs.Rows.{CallerRow, RuleRow, caller_named}
 use Rattle.office_history.specs.Pictures.{caller_row, effect_number, pattern_text, action_pattern_text, rule_row, rule_rows}
+use Rattle.office_history.proofs.RowLemmas.{count_of_rules}
 use Rattle.office_asking.specs.Asking.{star, asks_for, asks_for_optional, row_matches, row_decision, as_row, or_stranger}
 
 -- ---- the role
@@ -87,12 +88,8 @@ same_prefix : (asked : Question) (place : ℕ) (rules : List Rule) → AllByRecu
 same_prefix asked place [] named = refl
 same_prefix asked place (rule ∷ rules) named = λ i. cond (not (row_told place rule asked named.0 i)) (1 + same_prefix asked (place + 1) rules named.1 i) 0
 
-same_length : (place : ℕ) (rules : List Rule) → length (rule_rows place rules) ≡ length rules
-same_length place [] = refl
-same_length place (rule ∷ rules) = ap suc (same_length (place + 1) rules)
-
 same_place : (asked : Question) (rules : List Rule) → AllByRecursion HasNames rules → position (λ row. row_matches row asked) (rule_rows 1 rules) ≡ position (λ rule. matches rule asked) rules
-same_place asked rules named = λ i. let place = same_prefix asked 1 rules named i in cond (nat_lt place (same_length 1 rules i)) (Some place) None
+same_place asked rules named = λ i. let place = same_prefix asked 1 rules named i in cond (nat_lt place (count_of_rules 1 rules i)) (Some place) None
 
 then_same : {A B C : Type 0} (f : A → Option C) (g : A → Option B) (into : B → C) (o : Option A) → ((x : A) → f x ≡ option_map into (g x)) → option_and_then f o ≡ option_map into (option_and_then g o)
 then_same f g into None same = refl

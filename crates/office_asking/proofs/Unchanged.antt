@@ -1,40 +1,13 @@
 -- Which rows a longer history leaves as they were.
-use Rattle.std.proofs.Common.{◌≡◌, ℕ, pos, List, [], ◌∷◌, ◌++◌, map, filter, length, Option, None, option_map, unwrap_or, is_none, sym, ap, ◌∙◌, append-nil}
+use Rattle.std.proofs.Common.{◌≡◌, ℕ, List, [], ◌∷◌, ◌++◌, map, filter, length, Option, None, option_map, unwrap_or, is_none, sym, ap, ◌∙◌, append-nil}
 use Rattle.std.specs.List.{filter_map, flat_map}
 use Rattle.std.specs.Option.{option_or, option_map_or}
 use Rattle.std.proofs.lemmas.List.Elements.{filter_map-append}
-use Rattle.jiff.specs.Types.{Date}
-use Rattle.jiff.specs.Words.{epoch_day}
-use Rattle.bag_check.specs.Validity.{payload_files, payload_bytes}
 use Rattle.office_rows.specs.Rows.{ClassRow, DepositRow, FileRow, HoldRow, this_version}
 use Rattle.office_history.specs.Lists.{first_said, last_said, item_numbered, numbers, in_first_places}
-use Rattle.office_history.specs.Histories.{History, Change, Deposit, Hold, with_changes, installed_in, policy, years_in, years_of, collection_in, deposit_in, deposits, destroyed_in, destruction_day, hold_in, holds, released_in, release_day}
-use Rattle.office_history.specs.Pictures.{class_in, class_row, class_rows, caller_row, rule_rows, office_row, held_deposit, held_collection, collection_rows, deposit_rows, file_row, file_rows, hold_rows, picture}
+use Rattle.office_history.specs.Histories.{History, Change, with_changes, installed_in, policy, years_in, years_of, collection_in, deposit_in, deposits, destroyed_in, destruction_day, hold_in, holds, released_in, release_day}
+use Rattle.office_history.specs.Pictures.{class_in, class_row, class_rows, caller_row, rule_rows, office_row, collection_rows, row_by_gone, deposit_rows, file_row, file_rows, row_by_release, hold_rows, picture}
 use Rattle.office_history.proofs.Alike.{or_none, last_said-append, policy_grown, gone_grown, released_grown}
-
--- a deposit's row by the day on which it was destroyed, and a hold's by the day on which it was released
-abbrev pub row_by_gone : ℕ → Option Date → Date × Deposit → DepositRow
-row_by_gone n day found = record {
-  number = pos n;
-  accession = found.1.accession;
-  collection = found.1.collection;
-  class = found.1.class;
-  closed = epoch_day found.1.closed;
-  deposited = epoch_day found.0;
-  files = pos (payload_files found.1.bag);
-  bytes = pos (payload_bytes found.1.bag);
-  gone = option_map epoch_day day;
-}
-
-abbrev pub row_by_release : ℕ → Option Date → Date × Hold → HoldRow
-row_by_release k day found = record {
-  number = pos k;
-  deposit = held_deposit found.1.target;
-  collection = held_collection found.1.target;
-  matter = found.1.matter;
-  placed = epoch_day found.0;
-  released = option_map epoch_day day;
-}
 
 module _ (h : History) (more : List Change) where
   -- what says of a history: none of `more`

@@ -2,7 +2,6 @@
 use Rattle.std.proofs.Common.{◌≡◌, ℕ, zero, suc, ◌+◌, ◌<◌, pos, List, [], ◌∷◌, ◌++◌, map, length, take, get_or, Less, refl, sym, ap, ◌∙◌, arith}
 use Rattle.std.specs.List.{AllByRecursion}
 use Rattle.std.specs.Ordering.{int_cmp}
-use Rattle.std.proofs.lemmas.Int.{ints}
 use Rattle.office_core.specs.Policies.{Contents}
 use Rattle.office_core.specs.declared.rule.Rule.{Rule}
 use Rattle.office_rows.specs.Rows.{RuleRow, PlacesRise, with_policy, this_version}
@@ -10,6 +9,7 @@ use Rattle.office_rows.proofs.Order.{sorted_already}
 use Rattle.office_history.specs.Histories.{History, Change, Installed, with_changes, policy}
 use Rattle.office_history.specs.Pictures.{caller_row, rule_row, rule_rows, office_row, picture}
 use Rattle.office_history.proofs.Alike.{policy_grown}
+use Rattle.office_asking.proofs.NumberedRows.{is_less}
 use Rattle.office_asking.proofs.Unchanged.{same_classes, same_collections, same_deposit_rows, same_file_rows, same_hold_rows}
 
 -- ---- rows made one after another
@@ -30,12 +30,9 @@ more_rows rules i place x low e is =
 
 -- ---- the places rise
 
-lower : (a b : ℕ) → a < b → int_cmp (pos a) (pos b) ≡ Less
-lower a b less = grind (arith, ints)
-
 all_above : (low place : ℕ) (rules : List Rule) → low < place → AllByRecursion (λ (r : RuleRow). int_cmp (pos low) r.place ≡ Less) (rule_rows place rules)
 all_above low place [] less = tt
-all_above low place (rule ∷ rules) less = (lower low place less, all_above low (place + 1) rules (omega (arith, less)))
+all_above low place (rule ∷ rules) less = (is_less low place less, all_above low (place + 1) rules (omega (arith, less)))
 
 places_rise : (place : ℕ) (rules : List Rule) → PlacesRise (rule_rows place rules)
 places_rise place [] = tt

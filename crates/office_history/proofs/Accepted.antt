@@ -1,5 +1,5 @@
 -- Where a request is allowed its change is one that the history allows; so what each such change keeps, each legal history has.
-use Rattle.std.proofs.Common.{◌≡◌, ◌≤ℤ◌, ℕ, pos, ◌<◌, Bool, true, false, not, List, [], ◌∷◌, ◌++◌, length, Option, Some, None, Result, Ok, Err, IsSome, option_map, slice_get, int_lt, refl, sym, ap, subst, ◌∙◌, append-nil, arith, rules, if◌then◌else◌}
+use Rattle.std.proofs.Common.{◌≡◌, ◌≤ℤ◌, ℕ, pos, ◌<◌, Bool, true, false, not, List, [], ◌∷◌, ◌++◌, length, Option, Some, None, Result, Ok, Err, IsSome, slice_get, int_lt, refl, sym, ap, subst, ◌∙◌, append-nil, arith, rules, if◌then◌else◌}
 use Rattle.std.specs.Prelude.{nat_le}
 use Rattle.std.proofs.lemmas.Bool.Decides.{nat_tests}
 use Rattle.std.proofs.lemmas.Int.{by_lt_z}
@@ -25,14 +25,10 @@ use Rattle.office_history.specs.Refusals.{refusal_in, refusal, bad_as, of_deposi
 use Rattle.office_history.specs.Answers.{changes_unless, allowed_change, deposit_change}
 use Rattle.office_history.specs.Acceptance.{IsChange, IsAllowed, IsDeposit, IsHold, IsDepositable, IsPlaceable, IsReleasable, IsDisposable}
 use Rattle.office_history.specs.Runs.{IsLegal, new_history, new, install, serve}
-use Rattle.office_core.proofs.OptionLemmas.{none_of, answer_if_none}
+use Rattle.office_core.proofs.OptionLemmas.{none_of, answer_if_none, option_map_none}
 use Rattle.office_history.proofs.HistoryLemmas.{deposits_grown, holds_grown}
 
 -- ---- where no refusal stands
-
-pub map_none : {A B : Type 0} (f : A → B) (o : Option A) → option_map f o ≡ None → o ≡ None
-map_none f None e = refl
-map_none f (Some x) e = absurd cc
 
 is_so : {A : Type 0} (test : Bool) (x : A) → answer_if (not test) x ≡ None → test ≡ true
 is_so true x e = refl
@@ -93,7 +89,7 @@ depositable h day caller collection class accession closed form e =
       record {
         collection = is_so (has_collection h collection) _ a.0;
         class = is_so (has_class h class) _ b.0;
-        new_accession = map_none _ (accession_of h accession) d.0;
+        new_accession = option_map_none _ (accession_of h accession) d.0;
         closed = not_later day closed (answer_if_none _ _ f.0);
         form = form;
         read = bag.1;
@@ -138,7 +134,7 @@ releasable_at h caller k None is e = absurd cc
 releasable_at h caller k (Some found) is e =
     let a = none_of (release_denial h caller found.1.target) _ e in
     let b = none_of (released_refusal h k) _ a.1 in
-    record { found = found; there = is; live = map_none _ (release_day h k) b.0 }
+    record { found = found; there = is; live = option_map_none _ (release_day h k) b.0 }
 
 pub releasable : (h : History) (day : Date) (caller : List ℕ) (k : ℕ) → refusal h day caller (Release k) ≡ None → IsReleasable h k
 releasable h day caller k e = releasable_at h caller k (hold_numbered h k) refl e

@@ -8,7 +8,6 @@ use Rattle.std.proofs.lemmas.Iterator.Adapters.{position_from-zero}
 use Rattle.std.proofs.lemmas.Slice.Eq.{bytes_eq-Decides}
 use Rattle.jiff.specs.Types.{Date}
 use Rattle.bag_text.specs.TransferForm.{set_text, content_at}
-use Rattle.bag_check.specs.Validity.{payload_files, payload_bytes}
 use Rattle.office_core.specs.FirstOf.{first_some, answer_if}
 use Rattle.office_core.specs.Policies.{Contents, role_of}
 use Rattle.office_core.specs.Rules.{decision_of}
@@ -17,7 +16,6 @@ use Rattle.office_core.specs.declared.action.Action.{Action}
 use Rattle.office_core.specs.declared.action.Action.TheVariants as acts
 use Rattle.office_core.specs.declared.answer.Answer.{Answer}
 use Rattle.office_core.specs.declared.answer.Answer.TheVariants as answers
-use Rattle.office_core.specs.declared.retention.Due.{Due}
 use Rattle.office_core.specs.declared.retention.Due.TheVariants.{Never}
 use Rattle.office_core.specs.declared.refusal.Refusal.{Refusal}
 use Rattle.office_core.specs.declared.refusal.Refusal.TheVariants.{NoSuch, Gone, Taken, Released, Full}
@@ -202,18 +200,7 @@ same_refusal h k a day caller DueList = refl
 -- ---- answers
 
 same_record : (h k : History) → Alike h k → (n : ℕ) (found : Date × Deposit) → record_of h n found ≡ record_of k n found
-same_record h k a n found =
-    ap (λ (d : Due). record {
-      number = n;
-      accession = found.1.accession;
-      collection = found.1.collection;
-      class = found.1.class;
-      closed = found.1.closed;
-      deposited = found.0;
-      files = payload_files found.1.bag;
-      bytes = payload_bytes found.1.bag;
-      due = d;
-    }) (same_due h k a found.1)
+same_record h k a n found = λ i. record (record_of h n found) { due = same_due h k a found.1 i }
 
 same_told_holds : (h k : History) → Alike h k → (n : ℕ) (deposit : Deposit) → told_holds h n deposit ≡ told_holds k n deposit
 same_told_holds h k a n deposit = λ i.

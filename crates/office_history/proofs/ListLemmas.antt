@@ -5,17 +5,13 @@ use Rattle.std.proofs.lemmas.Bool.{cases_Bool}
 use Rattle.std.proofs.lemmas.Bool.Decides.{nat_tests}
 use Rattle.std.specs.Option.{option_or}
 use Rattle.std.proofs.lemmas.Option.{same_Some}
+use Rattle.office_core.proofs.RuleLemmas.{slice_get-append}
 use Rattle.office_history.specs.Lists.{first_said, last_said, item_numbered}
-
-pub slice_get_front : {A : Type 0} (xs ys : List A) (i : ℕ) (x : A) → slice_get xs i ≡ Some x → slice_get (xs ++ ys) i ≡ Some x
-slice_get_front [] ys i x e = absurd cc
-slice_get_front (y ∷ xs) ys zero x e = e
-slice_get_front (y ∷ xs) ys (suc i) x e = slice_get_front xs ys i x e
 
 -- an item keeps its number in a longer list
 pub numbered_front : {A : Type 0} (xs ys : List A) (n : ℕ) (x : A) → item_numbered xs n ≡ Some x → item_numbered (xs ++ ys) n ≡ Some x
 numbered_front xs ys zero x e = e
-numbered_front xs ys (suc place) x e = slice_get_front xs ys place x e
+numbered_front xs ys (suc place) x e = slice_get-append xs ys place x e
 
 pub all_at : {A : Type 0} (P : A → Type 0) (xs : List A) (i : ℕ) (x : A) → AllByRecursion P xs → slice_get xs i ≡ Some x → P x
 all_at P [] i x a e = absurd cc
@@ -58,7 +54,7 @@ split_two (x ∷ xs) ys (b ∷ before) c rest e =
       | inr found ↦ inr (found.0, (let k = found.1 in rw (← head, k) refl), found.2)
     ]
 
-slice_get_last : {A : Type 0} (xs : List A) (y : A) → slice_get (xs ++ y ∷ []) (length xs) ≡ Some y
+pub slice_get_last : {A : Type 0} (xs : List A) (y : A) → slice_get (xs ++ y ∷ []) (length xs) ≡ Some y
 slice_get_last [] y = refl
 slice_get_last (x ∷ xs) y = slice_get_last xs y
 

@@ -2,6 +2,7 @@
 use Rattle.std.proofs.Common.{◌≡◌, ℕ, zero, suc, ◌+◌, ◌<◌, ◌≤◌, ◌||◌, Bool, true, false, List, [], ◌∷◌, ◌++◌, length, Some, slice_get, refl, sym, ap, subst, ◌∙◌, inl, inr, ◌⊎◌, arith, true≢false, if◌then◌else◌}
 use Rattle.std.specs.Prelude.{bytes_eq}
 use Rattle.std.specs.List.{AllByRecursion, IsDistinct, flat_map, list_any, range_with_len}
+use Rattle.std.proofs.lemmas.Bool.{or_parts}
 use Rattle.std.proofs.lemmas.Option.{same_Some, slice_get_within}
 use Rattle.std.proofs.lemmas.Slice.Eq.{bytes_eq-Decides}
 use Rattle.bag_text.proofs.ElementLemmas.{Has}
@@ -41,13 +42,9 @@ numbered_has xs (suc i) x e = let low = slice_get_within xs i x e in range_has 1
 abbrev IsNew : List (List ℕ) → List ℕ → Type 0
 IsNew seen text = list_any (bytes_eq text) seen ≡ false
 
-or_false : (a b : Bool) → (a || b) ≡ false → (a ≡ false) × (b ≡ false)
-or_false true b e = absurd cc
-or_false false b e = (refl, e)
-
 weaker : (x : List ℕ) (seen texts : List (List ℕ)) → AllByRecursion (IsNew (x ∷ seen)) texts → AllByRecursion (IsNew seen) texts
 weaker x seen [] all = tt
-weaker x seen (y ∷ ys) all = ((or_false (bytes_eq y x) _ all.0).1, weaker x seen ys all.1)
+weaker x seen (y ∷ ys) all = ((or_parts (bytes_eq y x) _ all.0).1, weaker x seen ys all.1)
 
 all_new : (seen texts : List (List ℕ)) → AllByRecursion (IsNew seen) (distinct_after seen texts)
 all_new seen [] = tt
@@ -67,7 +64,7 @@ other_way x y e = by (bytes_eq x y) refl
 
 unlike : (x : List ℕ) (seen texts : List (List ℕ)) → AllByRecursion (IsNew (x ∷ seen)) texts → AllByRecursion (λ y. bytes_eq x y ≡ false) texts
 unlike x seen [] all = tt
-unlike x seen (y ∷ ys) all = (other_way x y (or_false (bytes_eq y x) _ all.0).0, unlike x seen ys all.1)
+unlike x seen (y ∷ ys) all = (other_way x y (or_parts (bytes_eq y x) _ all.0).0, unlike x seen ys all.1)
 
 distinct_once : (seen texts : List (List ℕ)) → IsDistinct bytes_eq (distinct_after seen texts)
 unfolding IsDistinct

@@ -17,6 +17,7 @@ use Rattle.office_core.specs.declared.refusal.Refusal.TheVariants.{Held}
 use Rattle.office_core.specs.declared.facts.Verdict.TheVariants.{NotDue, DeniedByRule}
 use Rattle.office_core.specs.Verdicts as deciding
 use Rattle.office_core.specs.declared.request.Request.TheVariants.{Deposit as MakeDeposit, Dispose}
+use Rattle.office_core.proofs.OptionLemmas.{option_map_none}
 use Rattle.office_history.specs.Lists.{item_numbered, numbers}
 use Rattle.office_history.specs.Histories.{History, Change, Deposit, with_changes, deposit_in, deposits, deposit_numbered, destruction_day, due, holds, release_day, is_live, covers, live_holds}
 use Rattle.office_history.specs.Refusals.{refusal_in, refusal, of_deposit, denial_at, gone_refusal, held_refusal, not_due_refusal}
@@ -26,7 +27,7 @@ use Rattle.office_history.proofs.ListLemmas.{numbered_cases, none_passes}
 use Rattle.bag_text.proofs.ElementLemmas.{filter_has}
 use Rattle.office_history.proofs.MemberLemmas.{has_at}
 use Rattle.office_history.proofs.HistoryLemmas.{deposits_grown}
-use Rattle.office_history.proofs.Accepted.{IsAccepted, legal_by, deposits_by, map_none}
+use Rattle.office_history.proofs.Accepted.{IsAccepted, legal_by, deposits_by}
 use Rattle.office_history.proofs.LawLemmas.{unrefused}
 
 -- ---- accessions
@@ -74,7 +75,7 @@ accessions_apart h legal = legal_by (λ x. AreApart (deposits x)) (λ a b a_in b
   where
     more : (x : History) (c : Change) → IsLegal x → IsAccepted x c → AreApart (deposits x) → AreApart (deposits (with_changes x (c ∷ [])))
     more x c was ok apart =
-        deposits_by AreApart x c ok apart (λ day deposit ranged allowed. apart_added (deposits x) (day, deposit) apart (map_none _ _ allowed.new_accession))
+        deposits_by AreApart x c ok apart (λ day deposit ranged allowed. apart_added (deposits x) (day, deposit) apart (option_map_none _ _ allowed.new_accession))
 
 -- ---- released holds
 

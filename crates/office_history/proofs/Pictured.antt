@@ -33,7 +33,7 @@ use Rattle.office_history.specs.Stocks.{files_of}
 use Rattle.office_core.specs.Policies.{IsNamed, HasNames}
 use Rattle.office_history.specs.Runs.{IsLegal}
 use Rattle.office_history.proofs.MemberLemmas.{other_way}
-use Rattle.office_history.proofs.Alike.{outline, Alike, or_none}
+use Rattle.office_history.proofs.Alike.{outline, Alike, or_none, some_behind}
 use Rattle.office_history.proofs.AlikeAnswers.{among_first_places}
 use Rattle.office_history.proofs.LegalReadings.{legal_policy, none_gone, none_released}
 
@@ -148,18 +148,12 @@ other_files : (n m : ℕ) (files : List File) → int_eq (pos m) (pos n) ≡ fal
 other_files n m [] other = refl
 other_files n m (f ∷ files) other = λ i. cons_option (cond (other i) (Some f) None) (other_files n m files other i)
 
-others : (n m : ℕ) → n < m → int_eq (pos m) (pos n) ≡ false
-others n m lt = by (int_eq (pos m) (pos n)) refl
+-- numbers that differ are different numbers of rows
+pub different : (a b : ℕ) → ¬ (a ≡ b) → int_eq (pos a) (pos b) ≡ false
+different a b apart = by (int_eq (pos a) (pos b)) refl
   where
-    by : (b : Bool) → int_eq (pos m) (pos n) ≡ b → int_eq (pos m) (pos n) ≡ false
-    by true e = absurd (let same : m ≡ n = ap unsigned_abs ((Decides-int_eq (pos m) (pos n)).0 e) in omega (arith, same, lt))
-    by false e = e
-
-fewer : (n m : ℕ) → m < n → int_eq (pos m) (pos n) ≡ false
-fewer n m lt = by (int_eq (pos m) (pos n)) refl
-  where
-    by : (b : Bool) → int_eq (pos m) (pos n) ≡ b → int_eq (pos m) (pos n) ≡ false
-    by true e = absurd (let same : m ≡ n = ap unsigned_abs ((Decides-int_eq (pos m) (pos n)).0 e) in omega (arith, same, lt))
+    by : (t : Bool) → int_eq (pos a) (pos b) ≡ t → int_eq (pos a) (pos b) ≡ false
+    by true e = absurd (apart (ap unsigned_abs ((Decides-int_eq (pos a) (pos b)).0 e)))
     by false e = e
 
 -- the rows of the files of these deposits
@@ -176,7 +170,7 @@ none_above files p n (suc len) start lt = by (p start) (none_above files p n len
   where
     by : (b : Bool) → filter_map (own n) (rows_of files (filter p (range_with_len (start + 1) len))) ≡ []
         → filter_map (own n) (rows_of files (cond b (start ∷ filter p (range_with_len (start + 1) len)) (filter p (range_with_len (start + 1) len)))) ≡ []
-    by true rest = own_first files n start (filter p (range_with_len (start + 1) len)) ∙ (λ i. other_files n start (files start) (others n start lt) i ++ rest i)
+    by true rest = own_first files n start (filter p (range_with_len (start + 1) len)) ∙ (λ i. other_files n start (files start) (different start n (λ same. omega (arith, same, lt))) i ++ rest i)
     by false rest = rest
 
 -- of numbers among which the deposit's is, the deposit's rows are its files
@@ -195,7 +189,7 @@ mine files p (suc len) (suc j) start n is lt stays = by (p start) (mine files p 
   where
     by : (b : Bool) → filter_map (own n) (rows_of files (filter p (range_with_len (start + 1) len))) ≡ files n
         → filter_map (own n) (rows_of files (cond b (start ∷ filter p (range_with_len (start + 1) len)) (filter p (range_with_len (start + 1) len)))) ≡ files n
-    by true rest = own_first files n start (filter p (range_with_len (start + 1) len)) ∙ (λ i. other_files n start (files start) (fewer n start (omega (arith, is))) i ++ rest i)
+    by true rest = own_first files n start (filter p (range_with_len (start + 1) len)) ∙ (λ i. other_files n start (files start) (different start n (λ same. omega (arith, same, is))) i ++ rest i)
     by false rest = rest
 
 -- the files of a kept deposit, read off the rows
@@ -419,10 +413,6 @@ HasYears changes name = is_some (last_said (years_in name) changes) ≡ true
 still_some : {A : Type 0} (a b : Option A) → is_some a ≡ true → is_some (option_or a b) ≡ true
 still_some None b e = absurd (true≢false (sym e))
 still_some (Some x) b e = refl
-
-some_behind : {A : Type 0} (a b : Option A) → is_some b ≡ true → is_some (option_or a b) ≡ true
-some_behind None b e = e
-some_behind (Some x) b e = refl
 
 -- each class that was defined has years
 pub all_have_years : (changes : List Change) → AllByRecursion (HasYears changes) (filter_map class_in changes)

@@ -18,7 +18,7 @@ use Rattle.office_history.specs.Acceptance.{IsChange, IsDeposit, IsHold, IsThere
 use Rattle.office_history.specs.Runs.{IsLegal, IsWithin}
 use Rattle.office_rows.proofs.Order.{all_append}
 use Rattle.office_history.proofs.HistoryLemmas.{deposit_stays}
-use Rattle.office_history.proofs.Alike.{last_said-append}
+use Rattle.office_history.proofs.Alike.{some_behind, last_said-append}
 use Rattle.office_history.proofs.Accepted.{IsAccepted, legal_by, deposits_by, holds_by}
 use Rattle.office_history.proofs.PlainLemmas.{within_grown}
 use Rattle.office_history.proofs.PlainRoom.{has_room}
@@ -160,16 +160,12 @@ ranged_holds h legal = all_ranged hold_in IsPlaced placed_so h.changes (ranged_c
 
 -- ---- what is named is there
 
-some_or : {A : Type 0} (a b : Option A) → is_some b ≡ true → is_some (option_or a b) ≡ true
-some_or None b e = e
-some_or (Some x) b e = refl
-
 or_true : (a b : Bool) → a ≡ true → (a || b) ≡ true
 or_true true b e = refl
 or_true false b e = absurd cc
 
 class_stays : (h : History) (more : List Change) (name : List ℕ) → has_class h name ≡ true → has_class (with_changes h more) name ≡ true
-class_stays h more name e = ap is_some (last_said-append (years_in name) h.changes more) ∙ some_or (last_said (years_in name) more) (years_of h name) e
+class_stays h more name e = ap is_some (last_said-append (years_in name) h.changes more) ∙ some_behind (last_said (years_in name) more) (years_of h name) e
 
 collection_stays : (h : History) (more : List Change) (name : List ℕ) → has_collection h name ≡ true → has_collection (with_changes h more) name ≡ true
 collection_stays h more name e =

@@ -145,7 +145,7 @@ ranged_rules place (rule ∷ rules) all = (
   ranged_rules (place + 1) rules all.1,
 )
 
-count_of_rules : (place : ℕ) (rules : List Rule) → length (rule_rows place rules) ≡ length rules
+pub count_of_rules : (place : ℕ) (rules : List Rule) → length (rule_rows place rules) ≡ length rules
 count_of_rules place [] = refl
 count_of_rules place (rule ∷ rules) = ap suc (count_of_rules (place + 1) rules)
 

@@ -67,8 +67,9 @@ years_back (negsuc n) = None
 abbrev pub class_row : List ℕ → Option ℕ → ClassRow
 class_row name years = record { name = name; years = years_number years }
 
-abbrev pub deposit_row : History → ℕ → Date × Deposit → DepositRow
-deposit_row h n found = record {
+-- by the day on which it was destroyed
+abbrev pub row_by_gone : ℕ → Option Date → Date × Deposit → DepositRow
+row_by_gone n day found = record {
   number = pos n;
   accession = found.1.accession;
   collection = found.1.collection;
@@ -77,8 +78,11 @@ deposit_row h n found = record {
   deposited = epoch_day found.0;
   files = pos (payload_files found.1.bag);
   bytes = pos (payload_bytes found.1.bag);
-  gone = option_map epoch_day (destruction_day h n);
+  gone = option_map epoch_day day;
 }
+
+abbrev pub deposit_row : History → ℕ → Date × Deposit → DepositRow
+deposit_row h n found = row_by_gone n (destruction_day h n) found
 
 abbrev pub file_row : ℕ → File → FileRow
 file_row n file = record { deposit = pos n; path = file.path; content = file.content }
@@ -91,15 +95,19 @@ abbrev pub held_collection : Target → Option (List ℕ)
 held_collection (OnDeposit n) = None
 held_collection (OnCollection name) = Some name
 
-abbrev pub hold_row : History → ℕ → Date × Hold → HoldRow
-hold_row h k found = record {
+-- by the day on which it was released
+abbrev pub row_by_release : ℕ → Option Date → Date × Hold → HoldRow
+row_by_release k day found = record {
   number = pos k;
   deposit = held_deposit found.1.target;
   collection = held_collection found.1.target;
   matter = found.1.matter;
   placed = epoch_day found.0;
-  released = option_map epoch_day (release_day h k);
+  released = option_map epoch_day day;
 }
+
+abbrev pub hold_row : History → ℕ → Date × Hold → HoldRow
+hold_row h k found = row_by_release k (release_day h k) found
 
 -- ---- all rows
 

@@ -17,7 +17,8 @@ use bag_text::{BagSet, SetFault, read_bagset};
 use office_core::{AuditReport, Due, FaultText, Refusal, Verdict};
 use std::alloc::{AllocError, Global};
 
-fn set_fault_text(alloc: Global, fault: SetFault) -> Result<FaultText, AllocError>
+/// The text of a fault of a list of files or of a transfer form.
+pub fn set_fault_text(alloc: Global, fault: SetFault) -> Result<FaultText, AllocError>
     ensures { IfOk result (λ text. text ≡ set_fault_text fault) }
 {
     let text = format!(in alloc; "{fault}")?;

@@ -12,7 +12,7 @@ use Rattle.office_tables.specs.ShownHolds as shown
 use Rattle.office_tables.specs.declared.holds.HoldTarget.{HoldTarget}
 use Rattle.office_tables.specs.declared.holds.HoldTarget.TheVariants as targets
 use Rattle.office_history.specs.Histories.{History, Change, PlacedHold, Hold, with_changes, holds, release_day}
-use Rattle.office_history.specs.Pictures.{held_deposit, held_collection, hold_row, hold_rows, picture}
+use Rattle.office_history.specs.Pictures.{held_deposit, held_collection, row_by_release, hold_row, hold_rows, picture}
 use Rattle.office_history.specs.Runs.{IsLegal}
 use Rattle.office_history.proofs.HistoryLemmas.{holds_grown}
 use Rattle.office_history.proofs.LegalReadings.{none_released}
@@ -20,7 +20,7 @@ use Rattle.office_asking.specs.Pictures.{Pictures}
 use Rattle.office_asking.proofs.NumberedRows.{rows_from, rows_append, below, none_next}
 use Rattle.office_asking.proofs.HoldTold.{hold_rows_are}
 use Rattle.office_asking.proofs.Serving.{pictures_grown}
-use Rattle.office_asking.proofs.Unchanged.{row_by_release, same_classes, same_collections, same_deposit_rows, same_file_rows, same_released, pictured_by}
+use Rattle.office_asking.proofs.Unchanged.{same_classes, same_collections, same_deposit_rows, same_file_rows, same_released, pictured_by}
 use Rattle.office_holding.specs.Holds.{IsNext, target_of}
 
 module _ (h : History) (day : Date) (hold : Hold) (not_released : release_day h (1 + length (holds h)) ≡ None) where

@@ -7,13 +7,13 @@ use Rattle.sqlite.specs.Effect.{Database}
 use Rattle.office_rows.specs.Rows.{HoldRow, is_hold, with_released, this_version}
 use Rattle.office_tables.specs.Tables.{Becomes, tables_of}
 use Rattle.office_history.specs.Histories.{History, Change, ReleasedHold, with_changes, holds, release_day}
-use Rattle.office_history.specs.Pictures.{hold_row, hold_rows, picture}
+use Rattle.office_history.specs.Pictures.{row_by_release, hold_row, hold_rows, picture}
 use Rattle.office_history.proofs.Alike.{or_none, released_grown}
 use Rattle.office_asking.specs.Pictures.{Pictures}
 use Rattle.office_asking.proofs.NumberedRows.{rows_from, rows_changed, mark}
 use Rattle.office_asking.proofs.HoldTold.{hold_rows_are}
 use Rattle.office_asking.proofs.Serving.{pictures_grown}
-use Rattle.office_asking.proofs.Unchanged.{row_by_release, same_classes, same_collections, same_deposit_rows, same_file_rows, same_holds, pictured_by}
+use Rattle.office_asking.proofs.Unchanged.{same_classes, same_collections, same_deposit_rows, same_file_rows, same_holds, pictured_by}
 
 module _ (h : History) (day : Date) (k : ℕ) (live : release_day h k ≡ None) where
   abbrev more : List Change

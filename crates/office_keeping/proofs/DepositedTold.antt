@@ -15,15 +15,16 @@ use Rattle.office_rows.proofs.Order.{put_last}
 use Rattle.office_rows.specs.Rows.{Tables, DepositRow, FileRow, put_by, with_deposit, with_file, this_version}
 use Rattle.office_history.specs.Lists.{item_numbered, numbers}
 use Rattle.office_history.specs.Histories.{History, Change, Deposited, Deposit, with_changes, deposits, destruction_day}
-use Rattle.office_history.specs.Pictures.{deposit_row, deposit_rows, file_row, file_rows, picture}
+use Rattle.office_history.specs.Pictures.{row_by_gone, deposit_row, deposit_rows, file_row, file_rows, picture}
 use Rattle.office_history.specs.Runs.{IsLegal}
 use Rattle.office_history.proofs.LegalReadings.{none_gone}
+use Rattle.office_history.proofs.ListLemmas.{slice_get_last}
 use Rattle.office_asking.specs.Pictures.{Pictures}
 use Rattle.office_history.proofs.HistoryLemmas.{deposits_grown}
 use Rattle.office_keeping.specs.Depositing.{with_files}
 use Rattle.office_asking.proofs.NumberedRows.{rows_from, rows_append, below, none_next}
 use Rattle.office_asking.proofs.DepositTold.{deposit_rows_are}
-use Rattle.office_asking.proofs.Unchanged.{row_by_gone, same_classes, same_collections, same_gone, same_hold_rows, pictured_by}
+use Rattle.office_asking.proofs.Unchanged.{same_classes, same_collections, same_gone, same_hold_rows, pictured_by}
 
 pub files_added : (n : ℕ) (files : List File) (t : Tables) → with_files (pos n) files t ≡ record t { files = t.files ++ map (file_row n) files }
 files_added n [] t = λ i. record t { files = sym (append-nil t.files) i }
@@ -60,10 +61,6 @@ same_gathered f g keeps (suc len) start same =
         ≡ flat_map g (cond b (start ∷ filter keeps (range_with_len (start + 1) len)) (filter keeps (range_with_len (start + 1) len)))
     by true first rest = λ i. first i ++ rest i
     by false first rest = rest
-
-slice_last : {A : Type 0} (xs : List A) (x : A) → slice_get (xs ++ x ∷ []) (length xs) ≡ Some x
-slice_last [] x = refl
-slice_last (y ∷ xs) x = slice_last xs x
 
 length_more : {A : Type 0} (xs : List A) (x : A) → length (xs ++ x ∷ []) ≡ length xs + 1
 length_more [] x = refl
@@ -112,7 +109,7 @@ module _ (h : History) (day : Date) (d : Deposit) (not_gone : destruction_day h 
           (ap (λ o. map (file_row (suc i)) (option_map_or (λ (f : Date × Deposit). f.1.bag) o [])) (sym (front (deposits h) ((day, d) ∷ []) i less))))
 
       there : item_numbered (deposits h ++ (day, d) ∷ []) next ≡ Some (day, d)
-      there = let one : suc (length (deposits h)) ≡ next = omega arith in subst (λ k. item_numbered (deposits h ++ (day, d) ∷ []) k ≡ Some (day, d)) one (slice_last (deposits h) (day, d))
+      there = let one : suc (length (deposits h)) ≡ next = omega arith in subst (λ k. item_numbered (deposits h ++ (day, d) ∷ []) k ≡ Some (day, d)) one (slice_get_last (deposits h) (day, d))
 
       last : flat_map (files_in (deposits h ++ (day, d) ∷ [])) (filter keeps (next ∷ [])) ≡ map (file_row next) d.bag
       last =

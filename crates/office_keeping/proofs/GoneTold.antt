@@ -14,11 +14,11 @@ use Rattle.office_asking.specs.Pictures.{Pictures}
 use Rattle.office_history.specs.Lists.{item_numbered, numbers}
 use Rattle.office_history.specs.Histories.{History, Change, Destroyed, Deposit, with_changes, deposits, destruction_day}
 use Rattle.office_history.specs.Stocks.{files_of}
-use Rattle.office_history.specs.Pictures.{deposit_row, deposit_rows, file_row, file_rows, picture}
+use Rattle.office_history.specs.Pictures.{row_by_gone, deposit_row, deposit_rows, file_row, file_rows, picture}
 use Rattle.office_history.proofs.Alike.{gone_grown, or_none}
 use Rattle.office_asking.proofs.NumberedRows.{rows_from, rows_changed, itself, another, mark}
 use Rattle.office_asking.proofs.DepositTold.{deposit_rows_are}
-use Rattle.office_asking.proofs.Unchanged.{row_by_gone, same_classes, same_collections, same_deposits, same_hold_rows, pictured_by}
+use Rattle.office_asking.proofs.Unchanged.{same_classes, same_collections, same_deposits, same_hold_rows, pictured_by}
 
 module _ (h : History) (day : Date) (n : ℕ) (kept_before : destruction_day h n ≡ None) where
   abbrev more : List Change

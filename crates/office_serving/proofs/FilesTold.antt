@@ -22,7 +22,8 @@ use Rattle.office_asking.proofs.Readings.{in_picture}
 use Rattle.office_history.specs.Histories.{History, Deposit, deposits, deposit_numbered, destruction_day}
 use Rattle.office_history.specs.Stocks.{files_of}
 use Rattle.office_history.specs.Pictures.{file_row, file_rows}
-use Rattle.office_asking.proofs.NumberedRows.{different, different_above, alike}
+use Rattle.office_history.proofs.Pictured.{different}
+use Rattle.office_asking.proofs.NumberedRows.{alike}
 
 -- ---- which rows are a deposit's
 
@@ -50,7 +51,7 @@ module _ (h : History) (n : ℕ) where
   behind keeps zero start low = refl
   behind keeps (suc len) start low =
       step (keeps start) start (filter keeps (range_with_len (start + 1) len))
-      ∙ (λ i. nothing (keeps start) (filter (is_file_of (pos n)) (rows_of start)) (foreign start (files_of h start) (different_above start n low)) i ++ behind keeps len (start + 1) (omega (arith, low)) i)
+      ∙ (λ i. nothing (keeps start) (filter (is_file_of (pos n)) (rows_of start)) (foreign start (files_of h start) (different start n (λ same. omega (arith, same, low)))) i ++ behind keeps len (start + 1) (omega (arith, low)) i)
 
   at : (keeps : ℕ → Bool) (len start i : ℕ) → start + i ≡ n → i < len → keeps n ≡ true → filter (is_file_of (pos n)) (flat_map rows_of (filter keeps (range_with_len start len))) ≡ rows_of n
   at keeps zero start i e low kept = absurd (omega (arith, low))
@@ -62,7 +63,7 @@ module _ (h : History) (n : ℕ) where
       ∙ append-nil (rows_of n)
   at keeps (suc len) start (suc i) e low kept =
       step (keeps start) start (filter keeps (range_with_len (start + 1) len))
-      ∙ (λ j. nothing (keeps start) (filter (is_file_of (pos n)) (rows_of start)) (foreign start (files_of h start) (different start n (omega (arith, e)))) j ++ at keeps len (start + 1) i (omega (arith, e)) (omega (arith, low)) kept j)
+      ∙ (λ j. nothing (keeps start) (filter (is_file_of (pos n)) (rows_of start)) (foreign start (files_of h start) (different start n (λ same. omega (arith, same, e)))) j ++ at keeps len (start + 1) i (omega (arith, e)) (omega (arith, low)) kept j)
 
 -- the rows of a kept deposit are those of its bag
 pub files_at : (h : History) (n : ℕ) (found : Date × Deposit) → deposit_numbered h n ≡ Some found → destruction_day h n ≡ None → filter (is_file_of (pos n)) (file_rows h) ≡ map (file_row n) found.1.bag

@@ -1,7 +1,6 @@
 //! Audits: the bag of a deposit is made of what is stored, and checked again.
 
 ghost use Rattle.std.specs.Prelude.{◌≡◌, IfErr, IfOk, map};
-ghost use Rattle.bag_text.specs.FaultTexts.{set_fault_text};
 ghost use Rattle.office_core.specs.declared.request.Request.TheVariants as requests;
 ghost use Rattle.office_tables.specs.Faults.{IsFailure};
 ghost use Rattle.office_tables.specs.Calls.{CommitsNothing, Continues, Tells};
@@ -12,19 +11,11 @@ ghost use Rattle.office_serving.specs.Audits.{verdict_on, IsAuditOf};
 use crate::bags::{kept_files, pairs_of};
 use bag_text::laws::one_list_fault;
 use bag_text::{BagSet, SetFault};
-use office_core::{Action, Answer, AuditReport, Day, FaultText};
+use office_core::{Action, Answer, AuditReport, Day};
 use office_history::judging;
 use office_tables::{FileRow, TableFault};
 use sqlite::{Alter, Transaction};
-use std::alloc::{AllocError, Global};
-
-/// The text of a fault of a list of files.
-fn set_fault_text(alloc: Global, fault: SetFault) -> Result<FaultText, AllocError>
-    ensures { IfOk result (λ text. text ≡ set_fault_text fault) }
-{
-    let text = format!(in alloc; "{fault}")?;
-    Ok(FaultText::of(text))
-}
+use std::alloc::Global;
 
 /// The verdict on the files of the rows.
 fn verdict_on(alloc: Global, rows: &[FileRow]) -> Result<AuditReport, TableFault>
@@ -36,7 +27,7 @@ fn verdict_on(alloc: Global, rows: &[FileRow]) -> Result<AuditReport, TableFault
     match BagSet::of(alloc, &pairs) {
         Ok(bag) => Ok(judging::audit(alloc, &bag)?),
         Err(SetFault::Memory) => Err(TableFault::Memory),
-        Err(fault) => Ok(AuditReport::Invalid(set_fault_text(alloc, fault)?)),
+        Err(fault) => Ok(AuditReport::Invalid(judging::set_fault_text(alloc, fault)?)),
     }
 }
 

@@ -7,7 +7,7 @@ use Rattle.sql_meaning.proofs.Results.{ok_then}
 use Rattle.office_rows.specs.Rows.{with_deposit}
 use Rattle.office_tables.specs.Tables.{Becomes, tables_of}
 use Rattle.office_history.specs.Histories.{Deposit}
-use Rattle.office_asking.proofs.Unchanged.{row_by_gone}
+use Rattle.office_history.specs.Pictures.{row_by_gone}
 use Rattle.office_keeping.proofs.DepositedTold.{kept_deposit}
 use Rattle.office_asking.proofs.InTurn.{clean_before, stays_still}
 use Rattle.office_keeping.proofs.keeping.keep.Goals as goal
