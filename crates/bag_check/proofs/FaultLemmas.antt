@@ -22,7 +22,8 @@ use Rattle.bag_check.specs.Contents.{declaration_path, info_path, DeclaresVersio
 use Rattle.bag_check.specs.Faults.{Fault, NoDeclaration, Declaration, FetchNotSupported, UnsupportedAlgorithm, NoPayloadManifest, ManifestText, Breaks, InfoText, OxumForm, OxumTwice, OxumWrong, Stands, rule_number, fault_number, fault_name, fault_path, PlaceBefore, ComesFirst, FirstFault}
 use Rattle.bag_text.proofs.ResultLemmas.{same_ok, same_err}
 use Rattle.bag_check.proofs.OrderLemmas.{apart, one_first}
-use Rattle.bag_check.proofs.TextFacts.{declares_again, fault_again}
+use Rattle.bag_text.proofs.DeclarationLemmas.{declared_again}
+use Rattle.bag_text.proofs.ManifestLaws.{fault_is_refused}
 use Rattle.bag_check.proofs.BagLemmas.{one_content}
 use Rattle.bag_check.proofs.NameLemmas.{one_name, one_algorithm}
 
@@ -210,7 +211,7 @@ named_first bag f below least = (least.stands, not_before)
 pub one_version : (bag : List File) → IsBag bag → (v w : Version) → DeclaresVersion bag v → DeclaresVersion bag w → v ≡ w
 one_version bag is v w (t, holds, declares) (u, holds_too, declares_too) =
     let same : t ≡ u = one_content bag is declaration_path t u holds holds_too in
-    same_ok v w (declaration_of u) (ap declaration_of (sym same) ∙ declares_again t v declares) (declares_again u w declares_too)
+    same_ok v w (declaration_of u) (ap declaration_of (sym same) ∙ declared_again t v declares) (declared_again u w declares_too)
 
 -- a manifest's name has one kind, algorithm and text
 pub one_manifest : (bag : List File) → IsBag bag → (k l : Kind) (a b : Algorithm) (name t u : List ℕ) → HasManifest bag k a name t → HasManifest bag l b name u → (k ≡ l) × (a ≡ b) × (t ≡ u)
@@ -248,7 +249,7 @@ same_text bag is name l m (v, declares, (k, a, t, has, fault)) (w, declares_too,
     let same = one_manifest bag is k k' a b name t u has has_too in
     let moved : manifest_of v a t ≡ manifest_of w b u =
     ap (λ (x : Version). manifest_of x a t) version ∙ ap (λ (x : Algorithm). manifest_of w x t) same.1 ∙ ap (manifest_of w b) same.2 in
-    same_err l m (manifest_of w b u) (sym moved ∙ fault_again v a t l fault) (fault_again w b u m fault_too)
+    same_err l m (manifest_of w b u) (sym moved ∙ fault_is_refused v a t l fault) (fault_is_refused w b u m fault_too)
 
 -- two faults of a bag with one number, name and path are the same
 pub one_fault : (bag : List File) → IsBag bag → (f g : Fault) → Stands bag f → Stands bag g → fault_number f ≡ fault_number g → fault_name f ≡ fault_name g → fault_path f ≡ fault_path g → f ≡ g

@@ -18,7 +18,7 @@ use Rattle.bag_check.specs.Faults.{Fault, Breaks, IsBroken, Stands, FirstFault}
 use Rattle.bag_text.specs.Answers.{◌>>=◌}
 use Rattle.bag_check.specs.Judging.{has_path, version_in, no_fetch, Named, manifests_in, some_payload, Listed, listings_of, keeps, listing_rules, keeps_info, keeps_contents, judge}
 use Rattle.bag_text.proofs.ResultLemmas.{bind_ok, bind_err, same_ok}
-use Rattle.bag_check.proofs.TextFacts.{manifest_is}
+use Rattle.bag_text.proofs.ManifestLaws.{read_is_manifest}
 use Rattle.bag_check.proofs.BagLemmas.{has_path_is, no_path_is, is_payload_is, is_payload_again}
 use Rattle.bag_check.proofs.FaultLemmas.{last_number, NoneBelow, one_version, one_first_fault}
 use Rattle.bag_check.proofs.ManifestLemmas.{at, Found, found_all, payload_manifest, all_read}
@@ -53,7 +53,7 @@ valid_from bag v ms ls r none = record {
         let m = r.payload in
         let file = r.found.back m.0 m.1 in
         (m.0.algorithm, m.0.name, m.0.text, (subst (λ (k : Kind). IsManifestName k (word_of m.0.algorithm) m.0.name) m.2 file.1, has_contains bag (at m.0.name m.0.text) file.0));
-    well_formed = λ kind a name text has. let found = r.read.there kind a name text has in manifest_is v a text found.0 found.1;
+    well_formed = λ kind a name text has. let found = r.read.there kind a name text has in read_is_manifest v a text found.0 found.1;
     lists_payload = λ name path lists. (inside name path lists (is_payload path) refl, there name path Payload lists (has_path bag path) refl);
     lists_all = λ a name text path has is file. unless_left_out Payload a name text path has (λ left. not_broken rules_of.Unlisted name path ((a, text, has), is, file, left));
     tags_are_there = λ name path lists. there name path Tag lists (has_path bag path) refl;
