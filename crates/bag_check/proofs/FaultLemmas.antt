@@ -139,26 +139,15 @@ at_rule rule P p OxumTwice e = absurd (no_rule rule 15 refl (sym e))
 at_rule rule P p OxumWrong e = absurd (no_rule rule 16 refl (sym e))
 
 -- a fault's number is one of 1 to 17
-pub some_number : (g : Fault) → 1 ≤ fault_number g
-some_number (Breaks rules_of.OutsidePayload name path) = omega arith
-some_number (Breaks rules_of.TagManifestListed name path) = omega arith
-some_number (Breaks rules_of.PayloadInTagManifest name path) = omega arith
-some_number (Breaks rules_of.PayloadManifestUnlisted name path) = omega arith
-some_number (Breaks rules_of.Missing name path) = omega arith
-some_number (Breaks rules_of.Unlisted name path) = omega arith
-some_number (Breaks rules_of.ChecksumWrong name path) = omega arith
-some_number _ = omega arith
-
--- and at most 17
-pub last_number : (g : Fault) → fault_number g < 18
-last_number (Breaks rules_of.OutsidePayload name path) = omega arith
-last_number (Breaks rules_of.TagManifestListed name path) = omega arith
-last_number (Breaks rules_of.PayloadInTagManifest name path) = omega arith
-last_number (Breaks rules_of.PayloadManifestUnlisted name path) = omega arith
-last_number (Breaks rules_of.Missing name path) = omega arith
-last_number (Breaks rules_of.Unlisted name path) = omega arith
-last_number (Breaks rules_of.ChecksumWrong name path) = omega arith
-last_number _ = omega arith
+pub number_range : (g : Fault) → (1 ≤ fault_number g) × (fault_number g < 18)
+number_range (Breaks rules_of.OutsidePayload name path) = (omega arith, omega arith)
+number_range (Breaks rules_of.TagManifestListed name path) = (omega arith, omega arith)
+number_range (Breaks rules_of.PayloadInTagManifest name path) = (omega arith, omega arith)
+number_range (Breaks rules_of.PayloadManifestUnlisted name path) = (omega arith, omega arith)
+number_range (Breaks rules_of.Missing name path) = (omega arith, omega arith)
+number_range (Breaks rules_of.Unlisted name path) = (omega arith, omega arith)
+number_range (Breaks rules_of.ChecksumWrong name path) = (omega arith, omega arith)
+number_range _ = (omega arith, omega arith)
 
 -- ---- one number after the other
 
@@ -186,7 +175,7 @@ pub record IsLeast (bag : List File) (f : Fault) : Type 0 where
 
 -- no fault has a number below 1
 pub none_below_1 : (bag : List File) → NoneBelow bag 1
-none_below_1 bag g lt s = absurd (omega (arith, some_number g))
+none_below_1 bag g lt s = absurd (omega (arith, (number_range g).0))
 
 -- where none stands below a number and none at it, none stands below the next
 pub none_more : (bag : List File) (n m : ℕ) → m ≡ n + 1 → NoneBelow bag n → NoneAt bag n → NoneBelow bag m

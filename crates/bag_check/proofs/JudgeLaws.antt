@@ -20,7 +20,7 @@ use Rattle.bag_check.specs.Judging.{has_path, version_in, no_fetch, Named, manif
 use Rattle.bag_text.proofs.ResultLemmas.{bind_ok, bind_err, same_ok}
 use Rattle.bag_text.proofs.ManifestLaws.{read_is_manifest}
 use Rattle.bag_check.proofs.BagLemmas.{has_path_is, no_path_is, is_payload_is, is_payload_again}
-use Rattle.bag_check.proofs.FaultLemmas.{last_number, NoneBelow, one_version, one_first_fault}
+use Rattle.bag_check.proofs.FaultLemmas.{number_range, NoneBelow, one_version, one_first_fault}
 use Rattle.bag_check.proofs.ManifestLemmas.{at, Found, found_all, payload_manifest, all_read}
 use Rattle.bag_check.proofs.RuleLemmas.{AreListed, listed, lists_found, found_lists, matches_is, matches_again}
 use Rattle.bag_check.proofs.StepLemmas.{version_ok, version_err, below_3, fetch_ok, fetch_err, below_4, names_err, below_5, payload_err, below_6, are_listed, texts_err, below_7, Follow, rules_ok, rules_err}
@@ -108,7 +108,7 @@ steps_ok : (bag : List File) (v : Version) (ms : List Named) (ls : List Listed) 
 steps_ok bag v ms ls r done next listing contents f stands =
     let parts = bind_ok (keeps_info bag) (λ _. keeps bag ls (rules_of.ChecksumWrong ∷ [])) next contents in
     let below_17 = info_ok bag r.is (below_13 bag v ms ls r done listing) parts.0 parts.1 in
-    rules_ok bag r.is v r.declares ls r.read (rules_of.ChecksumWrong ∷ []) 17 18 checksum_number below_17 next parts.2 f (last_number f) stands
+    rules_ok bag r.is v r.declares ls r.read (rules_of.ChecksumWrong ∷ []) 17 18 checksum_number below_17 next parts.2 f ((number_range f).1) stands
 
 -- the fault of bag-info.txt or of a checksum that judging names comes first
 contents_err : (bag : List File) (v : Version) (ms : List Named) (ls : List Listed) → IsRead bag v ms ls → NoneBelow bag 13 → (f : Fault) → keeps_contents bag ls ≡ Err f → FirstFault bag f
