@@ -9,7 +9,8 @@ use Rattle.bag_text.specs.Paths.{comes_before}
 use Rattle.bag_text.specs.TransferForm.{File, IsBag, Ascends, content_at}
 use Rattle.bag_check.specs.Contents.{Holds, HasFile, IsPayload, is_payload}
 use Rattle.bag_check.specs.Judging.{has_path}
-use Rattle.bag_check.proofs.OrderLemmas.{apart, chain, Up, Ascending, ascending_rest, later_path}
+use Rattle.bag_text.proofs.OrderLemmas.{before_chain}
+use Rattle.bag_check.proofs.OrderLemmas.{apart, Up, Ascending, ascending_rest, later_path}
 use Rattle.bag_text.proofs.ElementLemmas.{Has, contains_has, has_contains, has_map, map_has, has_filter, filter_has}
 
 -- ---- a bag's paths
@@ -30,7 +31,7 @@ bag_ascends bag is = ascending_rest [] (paths bag) (ascends_up [] bag is.ascendi
 -- what is left of a list that ascends ascends, also with one passed over
 pub up_skip : (before p : List ℕ) (ps : List (List ℕ)) → Up before (p ∷ ps) → Up before ps
 up_skip before p [] up = tt
-up_skip before p (q ∷ ps) up = (chain before p q up.0 up.1.0, up.1.1)
+up_skip before p (q ∷ ps) up = (before_chain before p q up.0 up.1.0, up.1.1)
 
 -- files that are kept by their paths still ascend
 pub up_filter : (t : List ℕ → Bool) (before : List ℕ) (files : List File) → Up before (paths files) → Up before (paths (filter (λ f. t f.path) files))

@@ -13,6 +13,7 @@ use Rattle.std.specs.List.{list_any, count_by, AllByRecursion}
 use Rattle.std.proofs.lemmas.List.{append-nil, drop_more}
 use Rattle.std.proofs.lemmas.List.Recursion.{is_count_by}
 use Rattle.std.proofs.lemmas.List.Sums.{sum-map, sum_by-cons}
+use Rattle.std.proofs.lemmas.Bool.{and_parts}
 use Rattle.std.proofs.lemmas.Bool.Decides.{nat_tests}
 use Rattle.percent_encoding.specs.declared.ascii_set.AsciiSet.{AsciiSet}
 use Rattle.percent_encoding.specs.AsciiSet.{should_percent_encode}
@@ -42,20 +43,15 @@ all_below : (ℕ → Bool) → ℕ → Bool
 all_below test zero = true
 all_below test (suc n) = test n && all_below test n
 
--- both of two tests passed
-both : (x y : Bool) → (x && y) ≡ true → (x ≡ true) × (y ≡ true)
-both true y h = (refl, h)
-both false y h = absurd cc
-
 -- what passes at each number below passes at one of them
 at_each : (test : ℕ → Bool) (n : ℕ) → all_below test n ≡ true → (k : ℕ) → k < n → test k ≡ true
 unfolding all_below
 at_each test zero h k lt = absurd (omega arith)
-at_each test (suc n) h k lt = by_place (nat_lt k n) refl (at_each test n (both (test n) (all_below test n) h).1 k)
+at_each test (suc n) h k lt = by_place (nat_lt k n) refl (at_each test n (and_parts (test n) (all_below test n) h).1 k)
   where
     by_place : (b : Bool) → nat_lt k n ≡ b → (k < n → test k ≡ true) → test k ≡ true
     by_place true e again = again (grind (arith, nat_tests))
-    by_place false e again = let is : n ≡ k = grind (arith, nat_tests) in ap test (sym is) ∙ (both (test n) (all_below test n) h).0
+    by_place false e again = let is : n ≡ k = grind (arith, nat_tests) in ap test (sym is) ∙ (and_parts (test n) (all_below test n) h).0
 
 -- whether two truths are one
 same : Bool → Bool → Bool

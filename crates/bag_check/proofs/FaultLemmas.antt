@@ -22,7 +22,8 @@ use Rattle.bag_check.specs.Contents.{declaration_path, info_path, DeclaresVersio
 use Rattle.bag_check.specs.Faults.{Fault, NoDeclaration, Declaration, FetchNotSupported, UnsupportedAlgorithm, NoPayloadManifest, ManifestText, Breaks, InfoText, OxumForm, OxumTwice, OxumWrong, Stands, rule_number, fault_number, fault_name, fault_path, PlaceBefore, ComesFirst, FirstFault}
 use Rattle.bag_text.proofs.ResultLemmas.{same_ok, same_err}
 use Rattle.bag_check.proofs.OrderLemmas.{apart, one_first}
-use Rattle.bag_check.proofs.TextFacts.{declares_again, fault_again}
+use Rattle.bag_text.proofs.DeclarationLemmas.{declared_again}
+use Rattle.bag_text.proofs.ManifestLaws.{fault_is_refused}
 use Rattle.bag_check.proofs.BagLemmas.{one_content}
 use Rattle.bag_check.proofs.NameLemmas.{one_name, one_algorithm}
 
@@ -138,26 +139,15 @@ at_rule rule P p OxumTwice e = absurd (no_rule rule 15 refl (sym e))
 at_rule rule P p OxumWrong e = absurd (no_rule rule 16 refl (sym e))
 
 -- a fault's number is one of 1 to 17
-pub some_number : (g : Fault) → 1 ≤ fault_number g
-some_number (Breaks rules_of.OutsidePayload name path) = omega arith
-some_number (Breaks rules_of.TagManifestListed name path) = omega arith
-some_number (Breaks rules_of.PayloadInTagManifest name path) = omega arith
-some_number (Breaks rules_of.PayloadManifestUnlisted name path) = omega arith
-some_number (Breaks rules_of.Missing name path) = omega arith
-some_number (Breaks rules_of.Unlisted name path) = omega arith
-some_number (Breaks rules_of.ChecksumWrong name path) = omega arith
-some_number _ = omega arith
-
--- and at most 17
-pub last_number : (g : Fault) → fault_number g < 18
-last_number (Breaks rules_of.OutsidePayload name path) = omega arith
-last_number (Breaks rules_of.TagManifestListed name path) = omega arith
-last_number (Breaks rules_of.PayloadInTagManifest name path) = omega arith
-last_number (Breaks rules_of.PayloadManifestUnlisted name path) = omega arith
-last_number (Breaks rules_of.Missing name path) = omega arith
-last_number (Breaks rules_of.Unlisted name path) = omega arith
-last_number (Breaks rules_of.ChecksumWrong name path) = omega arith
-last_number _ = omega arith
+pub number_range : (g : Fault) → (1 ≤ fault_number g) × (fault_number g < 18)
+number_range (Breaks rules_of.OutsidePayload name path) = (omega arith, omega arith)
+number_range (Breaks rules_of.TagManifestListed name path) = (omega arith, omega arith)
+number_range (Breaks rules_of.PayloadInTagManifest name path) = (omega arith, omega arith)
+number_range (Breaks rules_of.PayloadManifestUnlisted name path) = (omega arith, omega arith)
+number_range (Breaks rules_of.Missing name path) = (omega arith, omega arith)
+number_range (Breaks rules_of.Unlisted name path) = (omega arith, omega arith)
+number_range (Breaks rules_of.ChecksumWrong name path) = (omega arith, omega arith)
+number_range _ = (omega arith, omega arith)
 
 -- ---- one number after the other
 
@@ -185,7 +175,7 @@ pub record IsLeast (bag : List File) (f : Fault) : Type 0 where
 
 -- no fault has a number below 1
 pub none_below_1 : (bag : List File) → NoneBelow bag 1
-none_below_1 bag g lt s = absurd (omega (arith, some_number g))
+none_below_1 bag g lt s = absurd (omega (arith, (number_range g).0))
 
 -- where none stands below a number and none at it, none stands below the next
 pub none_more : (bag : List File) (n m : ℕ) → m ≡ n + 1 → NoneBelow bag n → NoneAt bag n → NoneBelow bag m
@@ -210,7 +200,7 @@ named_first bag f below least = (least.stands, not_before)
 pub one_version : (bag : List File) → IsBag bag → (v w : Version) → DeclaresVersion bag v → DeclaresVersion bag w → v ≡ w
 one_version bag is v w (t, holds, declares) (u, holds_too, declares_too) =
     let same : t ≡ u = one_content bag is declaration_path t u holds holds_too in
-    same_ok v w (declaration_of u) (ap declaration_of (sym same) ∙ declares_again t v declares) (declares_again u w declares_too)
+    same_ok v w (declaration_of u) (ap declaration_of (sym same) ∙ declared_again t v declares) (declared_again u w declares_too)
 
 -- a manifest's name has one kind, algorithm and text
 pub one_manifest : (bag : List File) → IsBag bag → (k l : Kind) (a b : Algorithm) (name t u : List ℕ) → HasManifest bag k a name t → HasManifest bag l b name u → (k ≡ l) × (a ≡ b) × (t ≡ u)
@@ -248,7 +238,7 @@ same_text bag is name l m (v, declares, (k, a, t, has, fault)) (w, declares_too,
     let same = one_manifest bag is k k' a b name t u has has_too in
     let moved : manifest_of v a t ≡ manifest_of w b u =
     ap (λ (x : Version). manifest_of x a t) version ∙ ap (λ (x : Algorithm). manifest_of w x t) same.1 ∙ ap (manifest_of w b) same.2 in
-    same_err l m (manifest_of w b u) (sym moved ∙ fault_again v a t l fault) (fault_again w b u m fault_too)
+    same_err l m (manifest_of w b u) (sym moved ∙ fault_is_refused v a t l fault) (fault_is_refused w b u m fault_too)
 
 -- two faults of a bag with one number, name and path are the same
 pub one_fault : (bag : List File) → IsBag bag → (f g : Fault) → Stands bag f → Stands bag g → fault_number f ≡ fault_number g → fault_name f ≡ fault_name g → fault_path f ≡ fault_path g → f ≡ g

@@ -18,9 +18,9 @@ use Rattle.bag_check.specs.Faults.{Fault, Breaks, IsBroken, Stands, FirstFault}
 use Rattle.bag_text.specs.Answers.{◌>>=◌}
 use Rattle.bag_check.specs.Judging.{has_path, version_in, no_fetch, Named, manifests_in, some_payload, Listed, listings_of, keeps, listing_rules, keeps_info, keeps_contents, judge}
 use Rattle.bag_text.proofs.ResultLemmas.{bind_ok, bind_err, same_ok}
-use Rattle.bag_check.proofs.TextFacts.{manifest_is}
+use Rattle.bag_text.proofs.ManifestLaws.{read_is_manifest}
 use Rattle.bag_check.proofs.BagLemmas.{has_path_is, no_path_is, is_payload_is, is_payload_again}
-use Rattle.bag_check.proofs.FaultLemmas.{last_number, NoneBelow, one_version, one_first_fault}
+use Rattle.bag_check.proofs.FaultLemmas.{number_range, NoneBelow, one_version, one_first_fault}
 use Rattle.bag_check.proofs.ManifestLemmas.{at, Found, found_all, payload_manifest, all_read}
 use Rattle.bag_check.proofs.RuleLemmas.{AreListed, listed, lists_found, found_lists, matches_is, matches_again}
 use Rattle.bag_check.proofs.StepLemmas.{version_ok, version_err, below_3, fetch_ok, fetch_err, below_4, names_err, below_5, payload_err, below_6, are_listed, texts_err, below_7, Follow, rules_ok, rules_err}
@@ -53,7 +53,7 @@ valid_from bag v ms ls r none = record {
         let m = r.payload in
         let file = r.found.back m.0 m.1 in
         (m.0.algorithm, m.0.name, m.0.text, (subst (λ (k : Kind). IsManifestName k (word_of m.0.algorithm) m.0.name) m.2 file.1, has_contains bag (at m.0.name m.0.text) file.0));
-    well_formed = λ kind a name text has. let found = r.read.there kind a name text has in manifest_is v a text found.0 found.1;
+    well_formed = λ kind a name text has. let found = r.read.there kind a name text has in read_is_manifest v a text found.0 found.1;
     lists_payload = λ name path lists. (inside name path lists (is_payload path) refl, there name path Payload lists (has_path bag path) refl);
     lists_all = λ a name text path has is file. unless_left_out Payload a name text path has (λ left. not_broken rules_of.Unlisted name path ((a, text, has), is, file, left));
     tags_are_there = λ name path lists. there name path Tag lists (has_path bag path) refl;
@@ -108,7 +108,7 @@ steps_ok : (bag : List File) (v : Version) (ms : List Named) (ls : List Listed) 
 steps_ok bag v ms ls r done next listing contents f stands =
     let parts = bind_ok (keeps_info bag) (λ _. keeps bag ls (rules_of.ChecksumWrong ∷ [])) next contents in
     let below_17 = info_ok bag r.is (below_13 bag v ms ls r done listing) parts.0 parts.1 in
-    rules_ok bag r.is v r.declares ls r.read (rules_of.ChecksumWrong ∷ []) 17 18 checksum_number below_17 next parts.2 f (last_number f) stands
+    rules_ok bag r.is v r.declares ls r.read (rules_of.ChecksumWrong ∷ []) 17 18 checksum_number below_17 next parts.2 f ((number_range f).1) stands
 
 -- the fault of bag-info.txt or of a checksum that judging names comes first
 contents_err : (bag : List File) (v : Version) (ms : List Named) (ls : List Listed) → IsRead bag v ms ls → NoneBelow bag 13 → (f : Fault) → keeps_contents bag ls ≡ Err f → FirstFault bag f

@@ -15,7 +15,8 @@ use Rattle.bag_check.specs.Faults.{Fault, UnsupportedAlgorithm, NoPayloadManifes
 use Rattle.bag_text.specs.Answers.{◌>>=◌}
 use Rattle.bag_check.specs.Judging.{Named, named_by, named_or_fault, named_of, onto, manifests_in, some_payload, Listed, listed_or_fault, listings_of}
 use Rattle.bag_text.proofs.ResultLemmas.{bind_ok, bind_err, same_ok, same_err, never_both}
-use Rattle.bag_check.proofs.OrderLemmas.{apart, chain, Up, Ascending, ascending_rest, later_path}
+use Rattle.bag_text.proofs.OrderLemmas.{before_chain}
+use Rattle.bag_check.proofs.OrderLemmas.{apart, Up, Ascending, ascending_rest, later_path}
 use Rattle.bag_check.proofs.BagLemmas.{paths, up_skip}
 use Rattle.bag_check.proofs.NameLemmas.{kind_is, kind_again, name_is, no_name, one_name, algorithm_is, no_algorithm}
 use Rattle.bag_text.proofs.ElementLemmas.{Has, any_has, none_has, has_map}
@@ -126,7 +127,7 @@ first_unsupported (f ∷ fs) fault up e = by_first (bind_err (named_of f) (λ fo
 
     not_before : (other : File) → (f ≡ other) ⊎ Has fs other → comes_before other.path f.path ≡ true → ⊥
     not_before other (inl is) before = apart f.path (subst (λ (x : File). comes_before x.path f.path ≡ true) (sym is) before)
-    not_before other (inr h) before = apart f.path (chain f.path other.path f.path (later_path f.path (paths fs) up other.path (has_map (λ x. x.path) fs other h)) before)
+    not_before other (inr h) before = apart f.path (before_chain f.path other.path f.path (later_path f.path (paths fs) up other.path (has_map (λ x. x.path) fs other h)) before)
 
     here : NamedView f → named_of f ≡ Err fault → IsFirstUnsupported (f ∷ fs) fault
     here (no_manifest none is) e = absurd (never_both None fault (named_of f) is e)
@@ -243,7 +244,7 @@ first_refused v (m ∷ ms) fault up e = by_first (bind_err (listed_or_fault m (r
   where
     not_before : (other : Named) → (m ≡ other) ⊎ Has ms other → comes_before other.name m.name ≡ true → ⊥
     not_before other (inl is) before = apart m.name (subst (λ (x : Named). comes_before x.name m.name ≡ true) (sym is) before)
-    not_before other (inr h) before = apart m.name (chain m.name other.name m.name (later_path m.name (names ms) up other.name (has_map (λ x. x.name) ms other h)) before)
+    not_before other (inr h) before = apart m.name (before_chain m.name other.name m.name (later_path m.name (names ms) up other.name (has_map (λ x. x.name) ms other h)) before)
 
     here : listed_or_fault m (read_of v m) ≡ Err fault → IsFirstRefused v (m ∷ ms) fault
     here e =

@@ -1,27 +1,17 @@
 -- The order of paths by bytes, and what comes first in an ascending list.
 use Rattle.std.proofs.Common.{◌≡◌, ℕ, ◌⊎◌, inl, inr, Bool, true, false, cond, List, [], ◌∷◌, refl, sym, ap, subst, ◌∙◌}
 use Rattle.std.specs.Prelude.{Option, Some, None, find}
-use Rattle.std.specs.Cmp.Lexicographic.{slice_cmp}
 use Rattle.std.specs.declared.cmp.Ordering.{Ordering}
 use Rattle.std.specs.declared.cmp.Ordering.TheVariants.{Less, Equal, Greater}
-use Rattle.std.specs.Ordering.{nat_cmp, is_lt, is_eq, ordering_reverse}
+use Rattle.std.specs.Ordering.{is_lt, is_eq, ordering_reverse}
 use Rattle.std.proofs.lemmas.Cmp.{nat_list_cmp_total}
 use Rattle.std.proofs.lemmas.Map.Text.{is_eq-slice_cmp}
 use Rattle.std.proofs.lemmas.Slice.Eq.{bytes_eq-Decides}
 use Rattle.bag_text.specs.Paths.{comes_before}
+use Rattle.bag_text.proofs.OrderLemmas.{path_cmp, less, before_chain}
 use Rattle.bag_text.proofs.ElementLemmas.{Has}
 
 -- ---- the order by bytes
-
--- what passes the test is Less
-is_less : (o : Ordering) → is_lt o ≡ true → o ≡ Less
-is_less Less e = refl
-is_less Equal e = absurd cc
-is_less Greater e = absurd cc
-
--- the order by bytes
-abbrev by_bytes : List ℕ → List ℕ → Ordering
-by_bytes a b = slice_cmp nat_cmp a b
 
 -- Less is not its own reverse
 never : (o : Ordering) → o ≡ Less → o ≡ ordering_reverse o → ⊥
@@ -31,17 +21,13 @@ never Greater e r = absurd cc
 
 -- no path comes before itself
 pub apart : (a : List ℕ) → comes_before a a ≡ true → ⊥
-apart a h = never (by_bytes a a) (is_less (by_bytes a a) h) (nat_list_cmp_total.antisymm a a)
-
--- what comes before one that comes before another comes before that
-pub chain : (a b c : List ℕ) → comes_before a b ≡ true → comes_before b c ≡ true → comes_before a c ≡ true
-chain a b c h k = ap is_lt (nat_list_cmp_total.trans a b c (is_less (by_bytes a b) h) (is_less (by_bytes b c) k))
+apart a h = never (path_cmp a a) (less (path_cmp a a) h) (nat_list_cmp_total.antisymm a a)
 
 -- of two paths that aren't the same one comes before the other
 pub one_first : (a b : List ℕ) → (comes_before a b ≡ true → ⊥) → (comes_before b a ≡ true → ⊥) → a ≡ b
-one_first a b not_less not_greater = of_order (by_bytes a b) refl
+one_first a b not_less not_greater = of_order (path_cmp a b) refl
   where
-    of_order : (o : Ordering) → by_bytes a b ≡ o → a ≡ b
+    of_order : (o : Ordering) → path_cmp a b ≡ o → a ≡ b
     of_order Less e = absurd (not_less (ap is_lt e))
     of_order Greater e = absurd (not_greater (ap is_lt (nat_list_cmp_total.antisymm b a ∙ ap ordering_reverse e)))
     of_order Equal e = (bytes_eq-Decides a b).0 (sym (is_eq-slice_cmp a b) ∙ ap is_eq e)
@@ -62,7 +48,7 @@ Ascending (p ∷ ps) = Up p ps
 pub later_path : (p : List ℕ) (ps : List (List ℕ)) → Up p ps → (q : List ℕ) → Has ps q → comes_before p q ≡ true
 later_path p [] up q none = absurd none
 later_path p (x ∷ ps) up q (inl is) = subst (λ (y : List ℕ). comes_before p y ≡ true) is up.0
-later_path p (x ∷ ps) up q (inr more) = chain p x q up.0 (later_path x ps up.1 q more)
+later_path p (x ∷ ps) up q (inr more) = before_chain p x q up.0 (later_path x ps up.1 q more)
 
 -- what follows in an ascending list ascends
 pub ascending_rest : (p : List ℕ) (ps : List (List ℕ)) → Up p ps → Ascending ps
@@ -83,7 +69,7 @@ find_is_least test (p ∷ ps) up = by_test (test p) refl (find_is_least test ps 
   where
     first : test p ≡ true → (other : List ℕ) → (p ≡ other) ⊎ Has ps other → comes_before other p ≡ true → ⊥
     first e other (inl is) before = apart p (subst (λ (y : List ℕ). comes_before y p ≡ true) (sym is) before)
-    first e other (inr more) before = apart p (chain p other p (later_path p ps up other more) before)
+    first e other (inr more) before = apart p (before_chain p other p (later_path p ps up other more) before)
 
     not_first : test p ≡ false → (other : List ℕ) → ((p ≡ other) ⊎ Has ps other) × (test other ≡ true) → Has ps other × (test other ≡ true)
     not_first e other (inl is, passes) = absurd (differ (test p) (ap test is ∙ passes) e)

@@ -8,7 +8,8 @@ use Rattle.bag_text.specs.ManifestReading.{Entry, is_listed}
 use Rattle.bag_check.specs.declared.rule.Rule.{Rule}
 use Rattle.bag_check.specs.Faults.{PlaceBefore}
 use Rattle.bag_check.specs.Judging.{Listed, concerns, is_about_files, breaks_at, asked_of, first_listed, first_unlisted, first_in, or_place, first_place}
-use Rattle.bag_check.proofs.OrderLemmas.{apart, chain, Ascending, ascending_rest, later_path, IsLeastPath, find_is_least}
+use Rattle.bag_text.proofs.OrderLemmas.{before_chain}
+use Rattle.bag_check.proofs.OrderLemmas.{apart, Ascending, ascending_rest, later_path, IsLeastPath, find_is_least}
 use Rattle.bag_check.proofs.BagLemmas.{paths}
 use Rattle.bag_check.proofs.ManifestLemmas.{list_names}
 use Rattle.bag_text.proofs.ElementLemmas.{Has, has_map}
@@ -50,7 +51,7 @@ find_key_is_least {A} key test (y ∷ ys) up = by_test (test y) refl (find_key_i
     not_before other (x, inl is, at, passes) before = apart (key y) (subst (λ (p : List ℕ). comes_before p (key y) ≡ true) (sym (ap key is ∙ at)) before)
     not_before other (x, inr more, at, passes) before =
         let later = later_path (key y) (map key ys) up (key x) (has_map key ys x more) in
-        apart (key y) (chain (key y) (key x) (key y) later (subst (λ (p : List ℕ). comes_before p (key y) ≡ true) (sym at) before))
+        apart (key y) (before_chain (key y) (key x) (key y) later (subst (λ (p : List ℕ). comes_before p (key y) ≡ true) (sym at) before))
 
     not_here : test y ≡ false → (path : List ℕ) → PassesAt key test (y ∷ ys) path → PassesAt key test ys path
     not_here e path (x, inl is, at, passes) = absurd (false≢true (sym e ∙ ap test is ∙ passes))
@@ -119,7 +120,7 @@ first_place_is_least bag rule (l ∷ ls) up each = by_first (first_in bag rule l
     not_before path least name other (k, inl is, at, broken) (inr before) =
         least other (subst (λ (x : Listed). Breaking bag rule x other) (sym is) broken) before.1
     not_before path least name other (k, inr h, at, broken) (inl before) =
-        apart l.name (chain l.name k.name l.name (later k h) (subst (λ (n : List ℕ). comes_before n l.name ≡ true) (sym at) before))
+        apart l.name (before_chain l.name k.name l.name (later k h) (subst (λ (n : List ℕ). comes_before n l.name ≡ true) (sym at) before))
     not_before path least name other (k, inr h, at, broken) (inr before) =
         apart l.name (subst (λ (n : List ℕ). comes_before l.name n ≡ true) (at ∙ before.0) (later k h))
 

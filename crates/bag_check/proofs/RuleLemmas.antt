@@ -19,7 +19,8 @@ use Rattle.bag_check.specs.Fixity.{matches_of}
 use Rattle.bag_check.specs.Faults.{IsBroken}
 use Rattle.bag_check.specs.Judging.{has_path, Listed, is_wrong, asks_for, first_in, first_place}
 use Rattle.bag_check.proofs.OrderLemmas.{Ascending, IsLeastPath}
-use Rattle.bag_check.proofs.TextFacts.{lists_there, lists_back, ascend_is, listed_has, has_listed}
+use Rattle.bag_text.proofs.ManifestEntryLemmas.{listed_has, has_listed}
+use Rattle.bag_check.proofs.TextFacts.{lists_there, lists_back, ascend_is}
 use Rattle.bag_check.proofs.BagLemmas.{kept_ascends, kept_has, has_kept, content_found, content_there, has_path_is, no_path_is, is_payload_is, is_payload_again}
 use Rattle.bag_check.proofs.NameLemmas.{kind_is, kind_again, manifest_of_is, manifest_of_again}
 use Rattle.bag_check.proofs.FaultLemmas.{one_manifest}

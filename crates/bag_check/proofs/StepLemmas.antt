@@ -16,7 +16,9 @@ use Rattle.bag_check.specs.Faults.{Fault, NoDeclaration, Declaration, FetchNotSu
 use Rattle.bag_check.specs.Judging.{has_path, or_declaration, declared_by, version_in, no_fetch, Named, manifests_in, some_payload, Listed, listings_of, first_place, kept_by, keeps}
 use Rattle.bag_text.proofs.ResultLemmas.{bind_ok, bind_err, same_err, never_both}
 use Rattle.bag_check.proofs.OrderLemmas.{apart, Ascending, ascending_rest}
-use Rattle.bag_check.proofs.TextFacts.{declares_is, declares_again, refused_is, refused_again, fault_is, fault_again}
+use Rattle.bag_text.proofs.DeclarationLemmas.{is_declared, declared_again, refused_again}
+use Rattle.bag_text.proofs.DeclarationLemmas as declaration
+use Rattle.bag_text.proofs.ManifestLaws.{refused_is_fault, fault_is_refused}
 use Rattle.bag_check.proofs.BagLemmas.{bag_ascends, ascends_up, path_of_file, one_content, content_found, no_content, has_path_is, no_path_is}
 use Rattle.bag_check.proofs.NameLemmas.{one_algorithm}
 use Rattle.bag_check.proofs.FaultLemmas.{at_1, at_2, at_3, at_4, at_5, at_6, at_rule, Earlier, none_earlier, NoneBelow, NoneAt, IsLeast, none_below_1, none_more, named_first, one_version}
@@ -32,7 +34,7 @@ pub version_ok : (bag : List File) (v : Version) → version_in bag ≡ Ok v →
 version_ok bag v e = by_content (content_at bag declaration_path) refl e
   where
     by_reading : (text : List ℕ) → content_at bag declaration_path ≡ Some text → (r : Result Version DeclFault) → declaration_of text ≡ r → or_declaration r ≡ Ok v → DeclaresVersion bag v
-    by_reading text is (Ok w) read e = (text, content_found bag declaration_path text is, declares_is text v (read ∙ cc))
+    by_reading text is (Ok w) read e = (text, content_found bag declaration_path text is, is_declared text v (read ∙ cc))
     by_reading text is (Err f) read e = absurd cc
 
     by_content : (o : Option (List ℕ)) → content_at bag declaration_path ≡ o → declared_by o ≡ Ok v → DeclaresVersion bag v
@@ -50,7 +52,7 @@ none_at_2 bag is v (text, holds, declares) g n s = at_2 (λ x. Stands bag x → 
     refused : (f : DeclFault) → Stands bag (Declaration f) → ⊥
     refused f (other, holds_too, fault) =
         let same : text ≡ other = one_content bag is declaration_path text other holds holds_too in
-        never_both v f (declaration_of other) (ap declaration_of (sym same) ∙ declares_again text v declares) (refused_again other f fault)
+        never_both v f (declaration_of other) (ap declaration_of (sym same) ∙ declared_again text v declares) (refused_again other f fault)
 
 -- where a version is declared no fault of the declaration stands
 pub below_3 : (bag : List File) → IsBag bag → (v : Version) → DeclaresVersion bag v → NoneBelow bag 3
@@ -67,7 +69,7 @@ version_err bag f e = by_content (content_at bag declaration_path) refl e
     refused : (text : List ℕ) → Holds bag declaration_path text → (d : DeclFault) → declaration_of text ≡ Err d → FirstFault bag (Declaration d)
     refused text holds d read = named_first bag (Declaration d)
         (none_more bag 1 2 refl (none_below_1 bag) (none_at_1 bag (text, holds)))
-        (record { stands = (text, holds, refused_is text d read); first = λ g n s. at_2 (λ x. Earlier x (Declaration d) → ⊥) (λ other. none_earlier) g n })
+        (record { stands = (text, holds, declaration.refused text d read); first = λ g n s. at_2 (λ x. Earlier x (Declaration d) → ⊥) (λ other. none_earlier) g n })
 
     by_reading : (text : List ℕ) → content_at bag declaration_path ≡ Some text → (r : Result Version DeclFault) → declaration_of text ≡ r → or_declaration r ≡ Err f → FirstFault bag f
     by_reading text is (Ok w) read e = absurd cc
@@ -181,7 +183,7 @@ below_7 bag is v declares ls below read = none_more bag 6 7 refl below (λ g n s
     refused name f (w, declares_too, (kind, a, text, has, fault)) =
         let version : v ≡ w = one_version bag is v w declares declares_too in
         let found = read.there kind a name text has in
-        never_both found.0 f (manifest_of w a text) (ap (λ (x : Version). manifest_of x a text) (sym version) ∙ found.1) (fault_again w a text f fault)
+        never_both found.0 f (manifest_of w a text) (ap (λ (x : Version). manifest_of x a text) (sym version) ∙ found.1) (fault_is_refused w a text f fault)
 
 -- the refused manifest that is named comes first
 pub texts_err : (bag : List File) → IsBag bag → (v : Version) → DeclaresVersion bag v → (ms : List Named) (f : Fault) → NoneBelow bag 6 → Found bag ms → listings_of v ms ≡ Err f → FirstFault bag f
@@ -198,14 +200,14 @@ texts_err bag is v declares ms f below found e =
         file = found.back refused.manifest refused.has
 
         stands : Stands bag (ManifestText refused.manifest.name refused.cause)
-        stands = let m = refused.manifest in (v, declares, (m.kind, m.algorithm, m.text, (file.1, has_contains bag (at m.name m.text) file.0), fault_is v m.algorithm m.text refused.cause refused.refused))
+        stands = let m = refused.manifest in (v, declares, (m.kind, m.algorithm, m.text, (file.1, has_contains bag (at m.name m.text) file.0), refused_is_fault v m.algorithm m.text refused.cause refused.refused))
 
         not_before : (name : List ℕ) (g : LineFault) → Stands bag (ManifestText name g) → PlaceBefore (name, []) (refused.manifest.name, []) → ⊥
         not_before name g (w, declares_too, (kind, a, text, has, fault)) (inl before) =
             let version : v ≡ w = one_version bag is v w declares declares_too in
             let other = found.there (at name text) kind (word_of a) (contains_has bag (at name text) has.1) has.0 in
             let here : Has ms (as_named (at name text) kind a) = subst (λ (x : Algorithm). Has ms (as_named (at name text) kind x)) (sym (one_algorithm a other.0 other.1)) other.2 in
-            refused.first (as_named (at name text) kind a) g here (ap (λ (x : Version). manifest_of x a text) version ∙ fault_again w a text g fault) before
+            refused.first (as_named (at name text) kind a) g here (ap (λ (x : Version). manifest_of x a text) version ∙ fault_is_refused w a text g fault) before
         not_before name g s (inr before) = apart [] before.1
 
 -- ---- the rules

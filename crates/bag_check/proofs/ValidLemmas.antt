@@ -10,7 +10,8 @@ use Rattle.bag_check.specs.declared.rule.Rule.TheVariants as rules_of
 use Rattle.bag_check.specs.Contents.{declaration_path, word_of}
 use Rattle.bag_check.specs.Validity.{Valid}
 use Rattle.bag_check.specs.Faults.{Fault, NoDeclaration, Declaration, FetchNotSupported, UnsupportedAlgorithm, NoPayloadManifest, ManifestText, Breaks, InfoText, OxumForm, OxumTwice, OxumWrong, IsBroken, Stands}
-use Rattle.bag_check.proofs.TextFacts.{declares_again, refused_again, read_again, fault_again}
+use Rattle.bag_text.proofs.DeclarationLemmas.{declared_again, refused_again}
+use Rattle.bag_text.proofs.ManifestLaws.{manifest_is_read, fault_is_refused}
 use Rattle.bag_check.proofs.BagLemmas.{one_content}
 use Rattle.bag_check.proofs.FaultLemmas.{one_version}
 use Rattle.bag_check.proofs.OxumLemmas.{info_is_read, oxum_has_form, one_oxum, oxum_is_right}
@@ -33,7 +34,7 @@ none_stands bag is v valid NoDeclaration s = s (valid.complete.declares.0, valid
 none_stands bag is v valid (Declaration d) (text, holds, fault) =
     let declared = valid.complete.declares in
     let same : declared.0 ≡ text = one_content bag is declaration_path declared.0 text declared.1 holds in
-    never_both v d (declaration_of text) (ap declaration_of (sym same) ∙ declares_again declared.0 v declared.2) (refused_again text d fault)
+    never_both v d (declaration_of text) (ap declaration_of (sym same) ∙ declared_again declared.0 v declared.2) (refused_again text d fault)
 none_stands bag is v valid FetchNotSupported s = valid.complete.no_fetch s
 none_stands bag is v valid (UnsupportedAlgorithm name) (file, (kind, alg, n, differs)) =
     let known = valid.complete.algorithms kind alg name n file in
@@ -43,8 +44,8 @@ none_stands bag is v valid NoPayloadManifest s =
     s (word_of manifest.0) manifest.1 manifest.3.0 (manifest.2, manifest.3.1)
 none_stands bag is v valid (ManifestText name f) (w, declares, (kind, a, text, has, fault)) =
     let version : v ≡ w = one_version bag is v w valid.complete.declares declares in
-    let read = read_again v a text (valid.complete.well_formed kind a name text has) in
-    never_both read.0 f (manifest_of w a text) (ap (λ (x : Version). manifest_of x a text) (sym version) ∙ read.1) (fault_again w a text f fault)
+    let read = manifest_is_read v a text (valid.complete.well_formed kind a name text has) in
+    never_both read.0 f (manifest_of w a text) (ap (λ (x : Version). manifest_of x a text) (sym version) ∙ read.1) (fault_is_refused w a text f fault)
 none_stands bag is v valid (Breaks rule name path) (w, declares, broken) =
     no_rule_broken bag v valid rule name path (subst (λ (x : Version). IsBroken bag x rule name path) (sym (one_version bag is v w valid.complete.declares declares)) broken)
 none_stands bag is v valid (InfoText i) s = info_is_read bag v valid i s

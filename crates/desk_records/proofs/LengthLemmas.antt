@@ -4,6 +4,7 @@ use Rattle.std.specs.Prelude.{nat_le}
 use Rattle.std.specs.List.{list_all}
 use Rattle.std.specs.Char.{is_ascii_digit}
 use Rattle.std.specs.Str.Parse.{digits_value}
+use Rattle.std.proofs.lemmas.Bool.{and_parts}
 use Rattle.std.proofs.lemmas.Bool.Decides.{nat_tests}
 use Rattle.std.proofs.lemmas.Str.Parse.{IsNumeralModel, IsDigitsTest, numerals_by_value}
 use Rattle.std.proofs.lemmas.Fmt.{decimal-digits_value, digits_decimal, digits_value-decimal, length-decimal-le, first_decimal, decimal_digit, decimal_nonempty}
@@ -14,11 +15,6 @@ tells = search rules
 
 pub own : IsNumeralModel (λ ds. list_all is_ascii_digit ds ≡ true) (digits_value 10)
 own = numerals_by_value (λ ds. list_all is_ascii_digit ds ≡ true) tells
-
-pub both : (a b : Bool) → (a && b) ≡ true → (a ≡ true) × (b ≡ true)
-both true true e = (refl, refl)
-both true false e = cc
-both false b e = cc
 
 -- ---- lengths
 
@@ -44,7 +40,7 @@ form_says (b ∷ c ∷ rest) e = by (b == 48) refl e
         → (list_all is_ascii_digit (b ∷ c ∷ rest) ≡ true) × (0 < length (b ∷ c ∷ rest)) × (length (b ∷ c ∷ rest) ≤ 8) × (get_or (b ∷ c ∷ rest) 0 0 ≡ 48 → length (b ∷ c ∷ rest) ≡ 1)
     by true f e = cc
     by false f e =
-        let g = both (nat_le (length (b ∷ c ∷ rest)) 8) (list_all is_ascii_digit (b ∷ c ∷ rest)) e in
+        let g = and_parts (nat_le (length (b ∷ c ∷ rest)) 8) (list_all is_ascii_digit (b ∷ c ∷ rest)) e in
         let k : nat_le (length (b ∷ c ∷ rest)) 8 ≡ true = g.0 in
         (g.1, omega arith, grind (arith, nat_tests), λ (z : b ≡ 48). absurd (let o : (b == 48) ≡ true = grind (arith, nat_tests) in let p : true ≡ false = sym o ∙ f in cc))
 

@@ -6,6 +6,7 @@ use Rattle.std.specs.Char.{is_ascii_digit}
 use Rattle.std.specs.Str.{IsAscii, IsUtf8}
 use Rattle.std.specs.Cmp.Lexicographic.{bytes_decides}
 use Rattle.std.proofs.lemmas.Str.{IsUtf8-from_ascii}
+use Rattle.std.proofs.lemmas.Bool.{and_parts}
 use Rattle.std.proofs.lemmas.Bool.Decides.{nat_tests}
 use Rattle.std.proofs.lemmas.List.{take-append-drop}
 use Rattle.std.proofs.lemmas.List.Folds.{list_all-append, list_all_at}
@@ -17,7 +18,7 @@ use Rattle.office_core.specs.Days.{IsDay, day_text}
 use Rattle.office_core.proofs.DayLemmas.{day_text-injective, year_pos}
 use Rattle.desk_records.specs.Records.{line_text, IsLine, HasNoLineFeed}
 use Rattle.desk_records.specs.RecordReading.{has_marks, length_of}
-use Rattle.desk_records.proofs.LengthLemmas.{own, both, length_of-decimal, length_of-says}
+use Rattle.desk_records.proofs.LengthLemmas.{own, length_of-decimal, length_of-says}
 
 -- ---- days
 
@@ -62,7 +63,7 @@ day_free d = let y = unsigned_abs d.year in ten_free (y / 100 / 10) (y / 100 % 1
 
 implies : (p r : ℕ → Bool) → ((c : ℕ) → p c ≡ true → r c ≡ true) → (w : List ℕ) → list_all p w ≡ true → list_all r w ≡ true
 implies p r f [] e = refl
-implies p r f (x ∷ w) e = let h = both (p x) (list_all p w) e in rw (f x h.0, implies p r f w h.1) refl
+implies p r f (x ∷ w) e = let h = and_parts (p x) (list_all p w) e in rw (f x h.0, implies p r f w h.1) refl
 
 digit_free : (c : ℕ) → is_ascii_digit c ≡ true → not (c == 10) ≡ true
 digit_free c e = grind (arith, nat_tests)

@@ -2,6 +2,7 @@
 use Rattle.std.proofs.Common.{◌≡◌, ℕ, ◌-◌, List, [], ◌∷◌, ◌++◌, length, drop, ltb, ◌&&◌, length-append, Option, Some, None, Bool, true, false, cond, refl, sym, ap, ◌∙◌, subst, arith, nat_eq, ◌==◌, append-nil}
 use Rattle.std.proofs.lemmas.Bool.{and_right}
 use Rattle.std.proofs.lemmas.Bool.Decides.{nat_tests}
+use Rattle.std.specs.Option.{option_or}
 use Rattle.std.specs.List.{starts_with}
 use Rattle.std.specs.Cmp.Lexicographic.{pointwise}
 use Rattle.matchit.specs.Rows.{Rows, Seen, prepend, ends, rows_of, param_token, catch_all_token}
@@ -11,7 +12,7 @@ use Rattle.matchit.specs.Level.{IsText, AllSegment, AreSuffixes}
 use Rattle.matchit.proofs.SeekLemmas.{first-prefix, own-prepend, seek-empty}
 use Rattle.matchit.proofs.LongestLemmas.{longest-kid}
 use Rattle.matchit.proofs.ParamLemmas.{after_param-end, after_param-stop, after_param-kid, one_less}
-use Rattle.desk_routes.specs.PathReading.{Parts, or_else, after, nothing_more, onto, cut, by_part, no_more, last_part, all_of}
+use Rattle.desk_routes.specs.PathReading.{Parts, after, nothing_more, onto, cut, by_part, no_more, last_part, all_of}
 use Rattle.desk_routes.proofs.RowLemmas.{Leaves, first-beside, first-end, first-rest, first-param, IsText-drop, IsText-after}
 
 -- ---- what a cut says
@@ -128,13 +129,13 @@ param-says key v t last more (b ∷ p) text lasts mores =
 
 -- ---- beginnings
 
-pub or-says : (key : Parts → ℕ) (a b : Option Parts) → map_key key (or_else a b) ≡ or_row (map_key key a) (map_key key b)
+pub or-says : (key : Parts → ℕ) (a b : Option Parts) → map_key key (option_or a b) ≡ or_row (map_key key a) (map_key key b)
 or-says key None b = refl
 or-says key (Some x) b = refl
 
 pub rows-after : (key : Parts → ℕ) (w : List ℕ) (t r : Rows) (f : List ℕ → Option Parts) (other : Option Parts) (path : List ℕ) → IsText w → Leaves w r → IsText path
     → ((rest : List ℕ) → IsText rest → first t rest ≡ map_key key (f rest)) → first r path ≡ map_key key other
-    → first (prepend w t ++ r) path ≡ map_key key (or_else (after w f path) other)
+    → first (prepend w t ++ r) path ≡ map_key key (option_or (after w f path) other)
 rows-after key w t r f other path h l text fs others =
     first-beside w t r path h l ∙ ap (λ o. or_row o (first r path)) (first-prefix w t path h ∙ by (starts_with nat_eq path w)) ∙ ap (or_row (map_key key (after w f path))) others ∙ sym (or-says key (after w f path) other)
   where

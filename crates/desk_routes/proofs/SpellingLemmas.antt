@@ -4,10 +4,10 @@ use Rattle.std.proofs.lemmas.Bool.Decides.{nat_tests}
 use Rattle.std.specs.List.{starts_with}
 use Rattle.std.specs.Cmp.Lexicographic.{bytes_decides}
 use Rattle.std.proofs.lemmas.List.{take-append-drop}
-use Rattle.desk_routes.specs.PathReading.{Parts, or_else, after, nothing_more, onto, cut, by_part, no_more, last_part, all_of, under_deposit, of_deposit, parts_of, class, collection, deposit, holds_of_deposit, bag, audit, hold, file, deposits, holds, due}
+use Rattle.desk_routes.specs.PathReading.{Parts, after, nothing_more, onto, cut, by_part, no_more, last_part, all_of, under_deposit, of_deposit, parts_of, class, collection, deposit, holds_of_deposit, bag, audit, hold, file, deposits, holds, due}
 use Rattle.desk_routes.proofs.PartSpelling.{path_by_parts, has_slash, IsPart, AreParts, SpellsParts}
 
-or-gives : (P : Parts → Type 0) (a b : Option Parts) (parts : Parts) → (a ≡ Some parts → P parts) → (b ≡ Some parts → P parts) → or_else a b ≡ Some parts → P parts
+or-gives : (P : Parts → Type 0) (a b : Option Parts) (parts : Parts) → (a ≡ Some parts → P parts) → (b ≡ Some parts → P parts) → option_or a b ≡ Some parts → P parts
 or-gives P None b parts f g e = g e
 or-gives P (Some x) b parts f g e = f e
 

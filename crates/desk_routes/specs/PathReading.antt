@@ -1,6 +1,7 @@
 -- How a path is read, by its beginning and its parts. The law `spelled_places` says that this reads each path as `Places` spells it; the rule is
 -- Depot's own, as there.
 use Rattle.std.specs.Prelude.{ℕ, ◌==◌, Bool, false, ◌&&◌, nat_le, List, [], ◌∷◌, length, drop, codes, Option, Some, None, nat_eq, option_map, option_and_then, if◌then◌else◌}
+use Rattle.std.specs.Option.{option_or}
 use Rattle.std.specs.List.{starts_with, list_all}
 use Rattle.std.specs.Char.{is_ascii_digit}
 use Rattle.std.specs.Str.Parse.{digits_value}
@@ -13,11 +14,6 @@ pub data Parts : Type 0 where
   class collection deposit holds_of_deposit bag audit hold : List ℕ → Parts
   file : List ℕ → List ℕ → Parts
   deposits holds due : Parts
-
--- the first of two answers
-abbrev pub or_else : Option Parts → Option Parts → Option Parts
-or_else None other = other
-or_else (Some parts) other = Some parts
 
 -- what a path says that begins so, by what follows
 abbrev pub after : List ℕ → (List ℕ → Option Parts) → List ℕ → Option Parts
@@ -55,9 +51,9 @@ all_of parts (b ∷ rest) = Some (parts (b ∷ rest))
 -- what follows `/deposits/N/`
 abbrev pub under_deposit : List ℕ → List ℕ → Option Parts
 under_deposit number rest =
-    or_else (after (codes "audit") (nothing_more (audit number)) rest)
-    (or_else (after (codes "bag") (nothing_more (bag number)) rest)
-    (or_else (after (codes "files/") (all_of (file number)) rest)
+    option_or (after (codes "audit") (nothing_more (audit number)) rest)
+    (option_or (after (codes "bag") (nothing_more (bag number)) rest)
+    (option_or (after (codes "files/") (all_of (file number)) rest)
     (after (codes "holds") (nothing_more (holds_of_deposit number)) rest)))
 
 -- what follows `/deposits/`
@@ -66,12 +62,12 @@ of_deposit text = by_part (λ number. Some (deposit number)) under_deposit (cut 
 
 abbrev pub parts_of : List ℕ → Option Parts
 parts_of path =
-    or_else (after (codes "/classes/") (last_part class) path)
-    (or_else (after (codes "/collections/") (last_part collection) path)
-    (or_else (after (codes "/deposits/") of_deposit path)
-    (or_else (after (codes "/deposits") (nothing_more deposits) path)
-    (or_else (after (codes "/due") (nothing_more due) path)
-    (or_else (after (codes "/holds/") (last_part hold) path)
+    option_or (after (codes "/classes/") (last_part class) path)
+    (option_or (after (codes "/collections/") (last_part collection) path)
+    (option_or (after (codes "/deposits/") of_deposit path)
+    (option_or (after (codes "/deposits") (nothing_more deposits) path)
+    (option_or (after (codes "/due") (nothing_more due) path)
+    (option_or (after (codes "/holds/") (last_part hold) path)
     (after (codes "/holds") (nothing_more holds) path))))))
 
 -- 1 to 7 digits, of which the first is no zero, unless it stands alone
