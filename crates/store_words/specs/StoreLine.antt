@@ -61,11 +61,18 @@ serve_command =
 abbrev pub Writes : Text → ℕ → Type 0
 Writes text number = IsNumeral 10 text × (digits_value 10 text ≡ number)
 
+-- the highest port, and the most connections that a call serves
+abbrev pub max_port : ℕ
+max_port = 65_535
+
+abbrev pub max_count : ℕ
+max_count = 1_000_000
+
 abbrev pub IsPort : Text → ℕ → Type 0
-IsPort text port = Writes text port × (port ≤ 65_535)
+IsPort text port = Writes text port × (port ≤ max_port)
 
 abbrev pub IsCount : Text → ℕ → Type 0
-IsCount text count = Writes text count × (1 ≤ count) × (count ≤ 1_000_000)
+IsCount text count = Writes text count × (1 ≤ count) × (count ≤ max_count)
 
 -- a day as `2024-03-01`
 abbrev pub IsDayText : Text → Date → Type 0
@@ -182,4 +189,4 @@ IsPlainLine (lines.Policy store policy) = IsPlainWord store.now × IsPlainWord p
 IsPlainLine (lines.Ask store day) = IsPlainWord store.now × IsDay day
 IsPlainLine (lines.Replay None store) = IsPlainWord store.now
 IsPlainLine (lines.Replay (Some policy) store) = IsPlainWord policy.now × IsPlainWord store.now
-IsPlainLine (lines.Serve port count store day) = (port ≤ 65_535) × (1 ≤ count) × (count ≤ 1_000_000) × IsPlainWord store.now × IsDay day
+IsPlainLine (lines.Serve port count store day) = (port ≤ max_port) × (1 ≤ count) × (count ≤ max_count) × IsPlainWord store.now × IsDay day
