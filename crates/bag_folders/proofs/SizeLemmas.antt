@@ -8,7 +8,8 @@ use Rattle.std.proofs.lemmas.List.Sums.{sum_by-cons}
 use Rattle.bag_text.specs.Paths.{is_good, comes_before, lies_under}
 use Rattle.bag_text.specs.TransferForm.{File, IsBag, max_content, max_files, clashes, header, entry, opening, ending, set_text}
 use Rattle.bag_text.specs.TransferReading.{files_of}
-use Rattle.bag_text.specs.BagList.{ListFault, file_fault, or_else, fault_from, clash_fault, list_fault}
+use Rattle.std.specs.Option.{option_or}
+use Rattle.bag_text.specs.BagList.{ListFault, file_fault, fault_from, clash_fault, list_fault}
 use Rattle.bag_text.specs.declared.set_fault.SetFault.{SetFault}
 use Rattle.bag_text.specs.declared.set_fault.SetFault.TheVariants.{BadOpening, BadEntry, Truncated, OutOfOrder, BadPath, TooManyFiles, TrailingBytes, PathClash, Memory}
 use Rattle.bag_text.proofs.ListLemmas.{judged, list_fault_law, list_bag_law, some}
@@ -48,7 +49,7 @@ unfolding fault_from
 apart place before [] e = absurd cc
 apart place before (f ∷ fs) e = by_file (file_fault place before f) refl e (apart (place + 1) f.path fs)
   where
-    by_file : (r : Option SetFault) → file_fault place before f ≡ r → or_else r (fault_from (place + 1) f.path fs) ≡ Some PathClash → (fault_from (place + 1) f.path fs ≡ Some PathClash → ⊥) → ⊥
+    by_file : (r : Option SetFault) → file_fault place before f ≡ r → option_or r (fault_from (place + 1) f.path fs) ≡ Some PathClash → (fault_from (place + 1) f.path fs ≡ Some PathClash → ⊥) → ⊥
     by_file (Some g) is e again = one_apart place before f (is ∙ e)
     by_file None is e again = again e
 
@@ -68,8 +69,8 @@ all_short place before (l ∷ ls) (f ∷ fs) h e = by_test (is_too_long l) refl 
     by_test true is e again = absurd cc
     by_test false is e again =
         let later : fault_from (place + 1) f.path fs ≡ fault_from (place + 1) (string_bytes l.path) (map emptied ls) = subst (λ (p : List ℕ). fault_from (place + 1) f.path fs ≡ fault_from (place + 1) p (map emptied ls)) h.0 (again e) in
-        ap (λ (o : Option SetFault). or_else o (fault_from (place + 1) f.path fs)) (same_fault place before l f h.0 h.1 is)
-        ∙ ap (or_else (file_fault place before (emptied l))) later
+        ap (λ (o : Option SetFault). option_or o (fault_from (place + 1) f.path fs)) (same_fault place before l f h.0 h.1 is)
+        ∙ ap (option_or (file_fault place before (emptied l))) later
 
 not_before : (place : ℕ) (ls : List Listed) (k : ℕ) → position_from is_too_long place ls ≡ Some k → place ≤ k
 not_before place [] k e = absurd cc
@@ -84,7 +85,7 @@ not_before place (l ∷ ls) k e = by_test (is_too_long l) e (λ e'. not_before (
 
 -- The first that is too long is the last that is judged.
 one_long : (place n : ℕ) (before : List ℕ) (ls : List Listed) (fs : List File) → AreFilesOf ls fs → position_from is_too_long place ls ≡ Some (place + n)
-    → fault_from place before fs ≡ or_else (fault_from place before (map emptied (take n ls))) (Some (BadEntry (place + n)))
+    → fault_from place before fs ≡ option_or (fault_from place before (map emptied (take n ls))) (Some (BadEntry (place + n)))
 unfolding fault_from
 one_long place n before [] fs h e = absurd cc
 one_long place n before (l ∷ ls) [] h e = absurd h
@@ -93,13 +94,13 @@ one_long place n before (l ∷ ls) (f ∷ fs) h e = by_test (is_too_long l) n re
     the_same : (a b : ℕ) → ◌≡◌ {A = Option ℕ} (Some a) (Some b) → a ≡ b
     the_same a b e = cc
 
-    chained : (a b c : Option SetFault) → or_else a (or_else b c) ≡ or_else (or_else a b) c
+    chained : (a b c : Option SetFault) → option_or a (option_or b c) ≡ option_or (option_or a b) c
     chained (Some x) b c = refl
     chained None b c = refl
 
     by_test : (b : Bool) (n : ℕ) → is_too_long l ≡ b → cond b (Some place) (position_from is_too_long (place + 1) ls) ≡ Some (place + n)
-        → ((m : ℕ) → position_from is_too_long (place + 1) ls ≡ Some (place + 1 + m) → fault_from (place + 1) f.path fs ≡ or_else (fault_from (place + 1) f.path (map emptied (take m ls))) (Some (BadEntry (place + 1 + m))))
-        → fault_from place before (f ∷ fs) ≡ or_else (fault_from place before (map emptied (take n (l ∷ ls)))) (Some (BadEntry (place + n)))
+        → ((m : ℕ) → position_from is_too_long (place + 1) ls ≡ Some (place + 1 + m) → fault_from (place + 1) f.path fs ≡ option_or (fault_from (place + 1) f.path (map emptied (take m ls))) (Some (BadEntry (place + 1 + m))))
+        → fault_from place before (f ∷ fs) ≡ option_or (fault_from place before (map emptied (take n (l ∷ ls)))) (Some (BadEntry (place + n)))
     by_test true zero is e again =
         let same : place + 0 ≡ place = omega arith in
         rw (same, long_fault place before l f h.1 is) refl
@@ -108,12 +109,12 @@ one_long place n before (l ∷ ls) (f ∷ fs) h e = by_test (is_too_long l) n re
     by_test false (suc m) is e again =
         let same : place + suc m ≡ place + 1 + m = omega arith in
         let front : List File = map emptied (take m ls) in
-        let later : fault_from (place + 1) f.path fs ≡ or_else (fault_from (place + 1) f.path front) (Some (BadEntry (place + 1 + m))) = again m (e ∙ ap (λ (k : ℕ). Some k) same) in
-        let seen : fault_from (place + 1) f.path fs ≡ or_else (fault_from (place + 1) (string_bytes l.path) front) (Some (BadEntry (place + suc m))) =
-        subst (λ (p : List ℕ). fault_from (place + 1) f.path fs ≡ or_else (fault_from (place + 1) p front) (Some (BadEntry (place + suc m)))) h.0
-        (subst (λ (k : ℕ). fault_from (place + 1) f.path fs ≡ or_else (fault_from (place + 1) f.path front) (Some (BadEntry k))) (sym same) later) in
-        ap (λ (o : Option SetFault). or_else o (fault_from (place + 1) f.path fs)) (same_fault place before l f h.0 h.1 is)
-        ∙ ap (or_else (file_fault place before (emptied l))) seen
+        let later : fault_from (place + 1) f.path fs ≡ option_or (fault_from (place + 1) f.path front) (Some (BadEntry (place + 1 + m))) = again m (e ∙ ap (λ (k : ℕ). Some k) same) in
+        let seen : fault_from (place + 1) f.path fs ≡ option_or (fault_from (place + 1) (string_bytes l.path) front) (Some (BadEntry (place + suc m))) =
+        subst (λ (p : List ℕ). fault_from (place + 1) f.path fs ≡ option_or (fault_from (place + 1) p front) (Some (BadEntry (place + suc m)))) h.0
+        (subst (λ (k : ℕ). fault_from (place + 1) f.path fs ≡ option_or (fault_from (place + 1) f.path front) (Some (BadEntry k))) (sym same) later) in
+        ap (λ (o : Option SetFault). option_or o (fault_from (place + 1) f.path fs)) (same_fault place before l f h.0 h.1 is)
+        ∙ ap (option_or (file_fault place before (emptied l))) seen
         ∙ chained (file_fault place before (emptied l)) (fault_from (place + 1) (string_bytes l.path) front) (Some (BadEntry (place + suc m)))
 
 -- ---- names that clash
@@ -139,14 +140,14 @@ same_clashes ls fs h =
 pub judged_short : {X : Type 0} (ls : List Listed) (fs : List File) (result : Result X SetFault) → AreFilesOf ls fs → position_from is_too_long 0 ls ≡ None → Judged (list_fault (map emptied ls)) result → Judged (list_fault fs) result
 judged_short ls fs result h e j =
     let same : list_fault fs ≡ list_fault (map emptied ls) =
-    ap (λ (o : Option SetFault). or_else o (clash_fault fs)) (all_short 0 [] ls fs h e)
-    ∙ ap (λ (b : Bool). or_else (fault_from 0 [] (map emptied ls)) (cond b (some PathClash) None)) (same_clashes ls fs h) in
+    ap (λ (o : Option SetFault). option_or o (clash_fault fs)) (all_short 0 [] ls fs h e)
+    ∙ ap (λ (b : Bool). option_or (fault_from 0 [] (map emptied ls)) (cond b (some PathClash) None)) (same_clashes ls fs h) in
     subst (λ (o : Option SetFault). Judged o result) (sym same) j
 
-at_long : (place : ℕ) (ls : List Listed) (fs : List File) → AreFilesOf ls fs → position_from is_too_long 0 ls ≡ Some place → fault_from 0 [] fs ≡ or_else (fault_from 0 [] (map emptied (take place ls))) (Some (BadEntry place))
+at_long : (place : ℕ) (ls : List Listed) (fs : List File) → AreFilesOf ls fs → position_from is_too_long 0 ls ≡ Some place → fault_from 0 [] fs ≡ option_or (fault_from 0 [] (map emptied (take place ls))) (Some (BadEntry place))
 at_long place ls fs h e =
     let same : 0 + place ≡ place = omega arith in
-    subst (λ (k : ℕ). fault_from 0 [] fs ≡ or_else (fault_from 0 [] (map emptied (take place ls))) (Some (BadEntry k))) same (one_long 0 place [] ls fs h (e ∙ ap (λ (k : ℕ). Some k) (sym same)))
+    subst (λ (k : ℕ). fault_from 0 [] fs ≡ option_or (fault_from 0 [] (map emptied (take place ls))) (Some (BadEntry k))) same (one_long 0 place [] ls fs h (e ∙ ap (λ (k : ℕ). Some k) (sym same)))
 
 clash_only : (b : Bool) (g : SetFault) → cond b (some PathClash) None ≡ Some g → PathClash ≡ g
 clash_only true g e = cc
@@ -157,19 +158,19 @@ pub judged_long : {X : Type 0} (place : ℕ) (ls : List Listed) (fs : List File)
     → Judged (list_fault (map emptied (take place ls))) front → Judged (list_fault fs) (with_long place front)
 judged_long {X} place ls fs front h e j = by_front (fault_from 0 [] (map emptied (take place ls))) refl front j
   where
-    here : (r : Option SetFault) → fault_from 0 [] (map emptied (take place ls)) ≡ r → list_fault fs ≡ or_else (or_else r (Some (BadEntry place))) (clash_fault fs)
-    here r is = ap (λ (o : Option SetFault). or_else o (clash_fault fs)) (at_long place ls fs h e ∙ ap (λ (o : Option SetFault). or_else o (Some (BadEntry place))) is)
+    here : (r : Option SetFault) → fault_from 0 [] (map emptied (take place ls)) ≡ r → list_fault fs ≡ option_or (option_or r (Some (BadEntry place))) (clash_fault fs)
+    here r is = ap (λ (o : Option SetFault). option_or o (clash_fault fs)) (at_long place ls fs h e ∙ ap (λ (o : Option SetFault). option_or o (Some (BadEntry place))) is)
 
     apart_here : (g : SetFault) → fault_from 0 [] (map emptied (take place ls)) ≡ Some g → some g ≡ Some PathClash → ⊥
     apart_here g is same = apart 0 [] (map emptied (take place ls)) (is ∙ same)
 
-    no_clash : (g : SetFault) → (some PathClash ≡ Some g → ⊥) → or_else None (clash_fault (map emptied (take place ls))) ≡ Some g → ⊥
+    no_clash : (g : SetFault) → (some PathClash ≡ Some g → ⊥) → option_or None (clash_fault (map emptied (take place ls))) ≡ Some g → ⊥
     no_clash g other found = other (ap (λ (x : SetFault). some x) (clash_only (clashes (map emptied (take place ls))) g found))
 
     alike : (g : SetFault) (found : SetFault) → fault_from 0 [] (map emptied (take place ls)) ≡ Some g → some g ≡ Some found → list_fault fs ≡ Some found
     alike g found is same = here (Some g) is ∙ same
 
-    by_front : (r : Option SetFault) → fault_from 0 [] (map emptied (take place ls)) ≡ r → (front : Result X SetFault) → Judged (or_else r (clash_fault (map emptied (take place ls)))) front → Judged (list_fault fs) (with_long place front)
+    by_front : (r : Option SetFault) → fault_from 0 [] (map emptied (take place ls)) ≡ r → (front : Result X SetFault) → Judged (option_or r (clash_fault (map emptied (take place ls)))) front → Judged (list_fault fs) (with_long place front)
     by_front None is (Ok x) j = here None is
     by_front (Some g) is (Ok x) j = absurd cc
     by_front None is (Err PathClash) j = here None is
