@@ -2,7 +2,7 @@
 use Rattle.std.proofs.Common.{◌≡◌, false, inl, inr, ℕ, List, [], ◌∷◌, length, replicate, map, refl, ◌∙◌}
 use Rattle.std.specs.Prelude.{Result, Ok, Err, IfErr, string_bytes}
 use Rattle.std.proofs.Math.ListN.{length-replicate}
-use Rattle.bag_text.specs.TransferForm.{File}
+use Rattle.bag_text.specs.TransferForm.{File, IsFormOf}
 use Rattle.bag_folders.specs.declared.failed.Failed.{Failed}
 use Rattle.bag_folders.specs.declared.failed.Failed.TheVariants as failures
 use Rattle.bag_folders.specs.declared.listed.Found.{Found}
@@ -10,7 +10,7 @@ use Rattle.bag_folders.specs.declared.listed.Listed.{Listed}
 use Rattle.bag_folders.specs.declared.packing.Packed.{Packed}
 use Rattle.bag_folders.specs.declared.pack_fault.PackFault.{PackFault}
 use Rattle.bag_folders.specs.declared.pack_fault.PackFault.TheVariants.{Name, Set, Size, Device, Memory}
-use Rattle.bag_folders.specs.Packing.{AreFilesOf, AllFilesOf, AreInOrder, HasNoForm, IsFormOf, IsPacked, IsRefused, MayBeRefused, pack_failed}
+use Rattle.bag_folders.specs.Packing.{AreFilesOf, AllFilesOf, AreInOrder, HasNoForm, IsPacked, IsRefused, MayBeRefused, pack_failed}
 use Rattle.bag_folders.proofs.LoadLemmas.{same_count}
 
 -- ---- files that could be the ones that are listed

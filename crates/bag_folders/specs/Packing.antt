@@ -3,7 +3,7 @@
 use Rattle.std.specs.Prelude.{◌≡◌, ◌≢◌, ◌⊎◌, ℕ, ◌<◌, ◌≤◌, true, false, List, [], ◌∷◌, Option, Some, None, length, map, option_and_then, option_map, slice_get, string_bytes}
 use Rattle.std.specs.List.Sorted.{IsPermutation, IsSortedBy}
 use Rattle.bag_text.specs.Paths.{comes_before}
-use Rattle.bag_text.specs.TransferForm.{File, IsBag, set_text}
+use Rattle.bag_text.specs.TransferForm.{File, IsBag, IsFormOf, max_form, set_text}
 use Rattle.bag_text.specs.BagList.{ListFault}
 use Rattle.bag_text.specs.declared.set_fault.SetFault.{SetFault}
 use Rattle.bag_text.specs.declared.set_fault.SetFault.TheVariants as sets
@@ -14,10 +14,6 @@ use Rattle.bag_folders.specs.declared.listed.Listed.{Listed}
 use Rattle.bag_folders.specs.declared.packing.Packed.{Packed}
 use Rattle.bag_folders.specs.declared.pack_fault.PackFault.{PackFault}
 use Rattle.bag_folders.specs.declared.pack_fault.PackFault.TheVariants.{Name, Set, Size, Device, Memory}
-
--- a form that is written or read has at most so many bytes
-abbrev pub max_form : ℕ
-max_form = 16777216
 
 -- ---- files
 
@@ -53,12 +49,6 @@ abbrev pub listed_paths : List Listed → List (List ℕ)
 listed_paths = map (λ l. string_bytes l.path)
 
 -- ---- what comes of them
-
--- the text is the form of these files, which are a bag, and isn't too long
-pub record IsFormOf (files : List File) (text : List ℕ) : Type 0 where
-  pub bag : IsBag files
-  pub form : text ≡ set_text files
-  pub short : length text ≤ max_form
 
 -- why there is no form of these files in this order: the first fault of the list, with the path of the file at fault, or else its length
 abbrev pub HasNoForm : List File → PackFault → Type 0

@@ -1,12 +1,11 @@
 -- What unpacking a text comes to: the files of the bag whose form it is, or why it is none.
 use Rattle.std.specs.Prelude.{◌≡◌, ℕ, ◌<◌, ◌≤◌, List, Option, length}
-use Rattle.bag_text.specs.TransferForm.{File}
+use Rattle.bag_text.specs.TransferForm.{File, IsFormOf, max_form}
 use Rattle.bag_text.specs.TransferFaults.{FaultIs}
 use Rattle.bag_text.specs.declared.set_fault.SetFault.{SetFault}
 use Rattle.bag_text.specs.declared.set_fault.SetFault.TheVariants as sets
 use Rattle.fault_words.specs.OtherFiles.{hint_for}
 use Rattle.fault_words.specs.declared.other_file.OtherFile.{OtherFile}
-use Rattle.bag_folders.specs.Packing.{IsFormOf, max_form}
 use Rattle.bag_folders.specs.declared.failed.Failed.{Failed}
 use Rattle.bag_folders.specs.declared.failed.Failed.TheVariants as failures
 use Rattle.bag_folders.specs.declared.unpacking.Unpacked.{Unpacked}

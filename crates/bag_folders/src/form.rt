@@ -1,15 +1,13 @@
 //! The form of files.
 
 ghost use Rattle.std.specs.Prelude.{◌≡◌, ◌≤◌, List, ℕ, Ok, IfOk, IfErr, map, option_copied};
+ghost use Rattle.bag_text.specs.TransferForm.{IsFormOf, max_form};
 ghost use Rattle.bag_text.specs.TransferReading.{files_of};
-ghost use Rattle.bag_folders.specs.Packing.{HasNoForm, IsFormOf, max_form, path_at_fault};
+ghost use Rattle.bag_folders.specs.Packing.{HasNoForm, path_at_fault};
 
 use crate::pack_fault::{PackFault, named_fault, place_of};
-use bag_text::{BagSet, SetFault, write_bagset};
+use bag_text::{BagSet, MAX_FORM, SetFault, write_bagset};
 use std::alloc::Global;
-
-/// The most bytes of a form that is written or read: 16 MiB.
-pub const MAX_FORM: u64 = 16_777_216;
 
 /// The path of the file at fault, where the fault is one file's.
 fn path_at_fault<'a>(files: &'a [(&'a str, &'a [u8])], fault: SetFault) -> Option<&'a str>

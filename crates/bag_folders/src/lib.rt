@@ -18,7 +18,7 @@ mod unpack_fault;
 mod unpacking;
 
 pub use failed::{Failed, Tried, Trouble};
-pub use form::{MAX_FORM, form_of};
+pub use form::form_of;
 pub use listed::{Found, Listed};
 pub use pack_fault::PackFault;
 pub use packing::{Packed, pack};

@@ -1,8 +1,8 @@
 //! A folder becomes a form.
 
 ghost use Rattle.std.specs.Prelude.{◌≡◌, IfOk, IfErr, length, List, ℕ};
-ghost use Rattle.bag_text.specs.TransferForm.{File, set_text};
-ghost use Rattle.bag_folders.specs.Packing.{AreFilesOf, IsFormOf, IsPacked, MayBeRefused};
+ghost use Rattle.bag_text.specs.TransferForm.{File, IsFormOf, set_text};
+ghost use Rattle.bag_folders.specs.Packing.{AreFilesOf, IsPacked, MayBeRefused};
 
 use crate::failed::Failed;
 use crate::form::form_of;

@@ -1,12 +1,11 @@
 //! Reading a form that is to be unpacked.
 
 ghost use Rattle.std.specs.Prelude.{◌≡◌, IfOk, IfErr};
-ghost use Rattle.bag_folders.specs.Packing.{IsFormOf};
+ghost use Rattle.bag_text.specs.TransferForm.{IsFormOf};
 ghost use Rattle.bag_folders.specs.Unpacking.{IsUnreadable};
 
-use crate::form::MAX_FORM;
 use crate::unpack_fault::{UnpackFault, unreadable};
-use bag_text::{BagSet, read_bagset};
+use bag_text::{BagSet, MAX_FORM, read_bagset};
 use std::alloc::Global;
 
 /// The bag whose form the text is, or why the text isn't unpacked.

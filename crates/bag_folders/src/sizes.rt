@@ -3,15 +3,14 @@
 ghost use Rattle.std.specs.Prelude.{◌≡◌, ◌<◌, ◌↔◌, IsTrue, IfOk, IfErr, map, option_copied};
 ghost use Rattle.std.specs.List.{position_from, sum_by};
 ghost use Rattle.bag_text.specs.BagList.{list_fault};
-ghost use Rattle.bag_text.specs.TransferForm.{IsBag};
+ghost use Rattle.bag_text.specs.TransferForm.{IsBag, max_form};
 ghost use Rattle.bag_text.specs.TransferReading.{files_of};
-ghost use Rattle.bag_folders.specs.Packing.{AllFilesOf, HasNoForm, listed_paths, max_form, path_at_fault};
+ghost use Rattle.bag_folders.specs.Packing.{AllFilesOf, HasNoForm, listed_paths, path_at_fault};
 ghost use Rattle.bag_folders.specs.Sizes.{Judged, emptied, is_too_long, with_long};
 
-use crate::form::MAX_FORM;
 use crate::listed::Listed;
 use crate::pack_fault::{PackFault, named_fault, place_of};
-use bag_text::{BagSet, MAX_CONTENT, SetFault};
+use bag_text::{BagSet, MAX_CONTENT, MAX_FORM, SetFault};
 use std::alloc::{AllocError, Global};
 
 /// The place of the first file whose content is too long for a bag.

@@ -1,15 +1,14 @@
 //! A form becomes a folder.
 
 ghost use Rattle.std.specs.Prelude.{◌≡◌, IfOk, IfErr, length, List, ℕ};
-ghost use Rattle.bag_text.specs.TransferForm.{File};
-ghost use Rattle.bag_folders.specs.Packing.{IsFormOf};
+ghost use Rattle.bag_text.specs.TransferForm.{File, IsFormOf};
 ghost use Rattle.bag_folders.specs.Unpacking.{IsUnpacked, MayBeUnreadable};
 
 use crate::failed::{Failed, Tried, failed_at};
-use crate::form::MAX_FORM;
 use crate::listing::path_under;
 use crate::reading::bag_of;
 use crate::unpack_fault::UnpackFault;
+use bag_text::MAX_FORM;
 use std::fs::OpenOptions;
 use std::io::{ErrorKind, Read, Write};
 use std::rt::Files;

@@ -30,6 +30,10 @@ max_content = 16777216
 abbrev pub max_files : ℕ
 max_files = 2000
 
+-- a form that is written, or read from a file, has at most so many bytes
+abbrev pub max_form : ℕ
+max_form = 16777216
+
 -- each path greater than the one before it
 abbrev pub Ascends : List ℕ → List File → Type 0
 Ascends before [] = Unit {0}
@@ -59,3 +63,9 @@ pub record IsBag (files : List File) : Type 0 where
   pub each : AllByRecursion Fits files
   pub ascending : Ascends [] files
   pub apart : clashes files ≡ false
+
+-- The text is the form of these files, which are a bag, and isn't too long.
+pub record IsFormOf (files : List File) (text : List ℕ) : Type 0 where
+  pub bag : IsBag files
+  pub form : text ≡ set_text files
+  pub short : length text ≤ max_form

@@ -18,6 +18,10 @@ pub const MAX_CONTENT: usize = 16_777_216;
 /// The most files that a bag has.
 pub const MAX_FILES: usize = 2000;
 
+/// The most bytes of a form that is written, or read from a file: 16 MiB. One more is read there, so that
+/// a longer form is told from these.
+pub const MAX_FORM: u64 = 16_777_216;
+
 /// What stands behind the bytes that a text must begin with.
 #[tactic(auto, unfolding(crate::specs::TransferReading::literal_at))]
 fn literal<'a>(wanted: &[u8], text: &'a [u8]) -> Result<&'a [u8], Flaw>

@@ -11,7 +11,8 @@ use Rattle.office_core.specs.Actions.{action_of, action_text}
 use Rattle.office_core.specs.declared.action.Action.{Action}
 use Rattle.office_core.specs.declared.action.Action.TheVariants.{Class, Collection, Deposit, List as Listing, Record, Holds, Download, Audit, Hold, Release, Dispose}
 use Rattle.commands.specs.AskingReading.{AreGiven, Reads, are_good}
-use Rattle.commands.specs.CommandLine.{AreAsked, IsPlainQuestion, IsPlainWord, IsWritable, SameQuestion, action_in, are_explain_words, check_command, check_words, explain_command, explain_words, is_taken, name_in, name_or_none, texts, name_word}
+use Rattle.bag_text.specs.Text.{texts}
+use Rattle.commands.specs.CommandLine.{AreAsked, IsPlainQuestion, IsPlainWord, IsWritable, SameQuestion, action_in, are_explain_words, check_command, check_words, explain_command, explain_words, is_taken, name_in, name_or_none, name_word}
 use Rattle.commands.specs.declared.asking.Asked.{Asked}
 use Rattle.commands.specs.declared.asking.Given.{Given}
 use Rattle.commands.proofs.ExplainWordLemmas.{Found, five_words_found, five_words_pass}

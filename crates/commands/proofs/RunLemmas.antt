@@ -2,7 +2,7 @@
 use Rattle.std.proofs.Common.{◌≡◌, ◌∙◌, ℕ, List, Option, Some, None, IfSome, inl, inr, sym, subst, take, codes, true}
 use Rattle.std.proofs.lemmas.Bool.{false≢true}
 use Rattle.clap.specs.Words.{Text}
-use Rattle.commands.specs.Checking.{Says, too_many}
+use Rattle.commands.specs.Checking.{Says, bytes_to_read}
 use Rattle.commands.specs.CommandLine.{AsksToCheck, HasValues, IsCheckOf, is_taken}
 use Rattle.commands.specs.Running.{DoesWords, Ends, IsToBeSaid, IsToBeTold, Judges, SaysOf, UnlessFailed, of_failure, of_outcome}
 use Rattle.commands.specs.declared.ending.Ending.{Ending}
@@ -29,11 +29,11 @@ judges bytes outcome old new told tells alone ending says (inl failed) = inl fai
 judges bytes outcome old new told tells alone ending says (inr ends) = inr (outcome, says, ends)
 
 pub judges_known : (known : Option (List ℕ)) (outcome : Outcome) (old new told tells : Option (List ℕ)) (alone : Type 0) (ending : Ending)
-    → IfSome known (λ given. Says (take too_many given) outcome) → UnlessFailed ending (Ends outcome old new told tells alone ending)
-    → IfSome known (λ given. UnlessFailed ending (Judges (take too_many given) old new told tells alone ending))
+    → IfSome known (λ given. Says (take bytes_to_read given) outcome) → UnlessFailed ending (Ends outcome old new told tells alone ending)
+    → IfSome known (λ given. UnlessFailed ending (Judges (take bytes_to_read given) old new told tells alone ending))
 judges_known None outcome old new told tells alone ending says ends = tt
 judges_known (Some given) outcome old new told tells alone ending says ends =
-    judges (take too_many given) outcome old new told tells alone ending says ends
+    judges (take bytes_to_read given) outcome old new told tells alone ending says ends
 
 pub to_be_said : (words : List Text) (line : Line) (outcome : Outcome) (text : List ℕ) → HasValues words line → is_taken words ≡ true → SaysOf line outcome
     → IsToBeTold outcome text → IsToBeSaid words text

@@ -1,6 +1,6 @@
 -- What `check` prints of the bytes that it read, what it tells standard error, and how it ends.
-use Rattle.std.specs.Prelude.{◌≡◌, ℕ, ◌<◌, ◌≤◌, List, [], ◌∷◌, ◌++◌, Some, None, length, codes, decimal}
-use Rattle.bag_text.specs.TransferForm.{File, IsBag, set_text}
+use Rattle.std.specs.Prelude.{ℕ, ◌+◌, ◌<◌, ◌≤◌, List, [], ◌∷◌, ◌++◌, Some, None, length, codes, decimal}
+use Rattle.bag_text.specs.TransferForm.{File, IsFormOf, max_form}
 use Rattle.bag_text.specs.TransferFaults.{FaultIs}
 use Rattle.bag_text.specs.Declaration.{version_text}
 use Rattle.bag_text.specs.FaultTexts.{set_fault_text}
@@ -15,9 +15,9 @@ use Rattle.commands.specs.declared.ending.Ending.TheVariants.{Accepted, Refused}
 use Rattle.commands.specs.declared.outcome.Outcome.{Outcome}
 use Rattle.commands.specs.Printing.{Prints}
 
--- so many bytes are too many to be judged
-abbrev pub too_many : ℕ
-too_many = 16777217
+-- a longer form is told by one byte past the most that a form has
+abbrev pub bytes_to_read : ℕ
+bytes_to_read = max_form + 1
 
 -- ---- the texts, each a line with its end
 
@@ -66,12 +66,6 @@ SaysTooLong outcome = Prints outcome too_long_text (Some too_long_reason) Refuse
 
 -- ---- of which bytes
 
--- the bytes are the one form of this bag
-pub record IsFormOf (bytes : List ℕ) (files : List File) : Type 0 where
-  pub short : length bytes < too_many
-  pub bag : IsBag files
-  pub form : bytes ≡ set_text files
-
 -- What is said of a bag: that it is valid, or its first fault.
 pub data SaysOfBag (files : List File) (outcome : Outcome) : Type 0 where
   valid : (v : Version) → Valid files v → SaysValid (report_of v files) outcome → SaysOfBag files outcome
@@ -79,6 +73,6 @@ pub data SaysOfBag (files : List File) (outcome : Outcome) : Type 0 where
 
 -- What is said of bytes: that they are too many, that they are no form and why, or what is said of the bag.
 pub data Says (bytes : List ℕ) (outcome : Outcome) : Type 0 where
-  too_long : too_many ≤ length bytes → SaysTooLong outcome → Says bytes outcome
-  unreadable : (fault : SetFault) → length bytes < too_many → FaultIs bytes fault → SaysUnreadable bytes fault outcome → Says bytes outcome
-  of_bag : (files : List File) → IsFormOf bytes files → SaysOfBag files outcome → Says bytes outcome
+  too_long : max_form < length bytes → SaysTooLong outcome → Says bytes outcome
+  unreadable : (fault : SetFault) → length bytes ≤ max_form → FaultIs bytes fault → SaysUnreadable bytes fault outcome → Says bytes outcome
+  of_bag : (files : List File) → IsFormOf files bytes → SaysOfBag files outcome → Says bytes outcome

@@ -4,7 +4,6 @@ use Rattle.std.specs.Prelude.{Option, Some, None, if◌then◌else◌, codes, sl
 use Rattle.std.specs.Prelude.{option_and_then}
 use Rattle.std.specs.Option.{option_map_or}
 use Rattle.std.specs.Str.{bytes_eq}
-use Rattle.std.specs.Borrow.{Bor}
 use Rattle.clap.specs.Words.{App, Rule, Text, fault_of, first_of, matches_of, new_app, new_rule, with_rule}
 use Rattle.clap.specs.declared.builder.ArgAction.TheVariants.{Set}
 use Rattle.office_core.specs.Actions.{action_of, action_text}
@@ -14,10 +13,6 @@ use Rattle.office_core.specs.declared.action.Action.{Action}
 use Rattle.commands.specs.declared.asking.Asked.{Asked}
 use Rattle.commands.specs.declared.line.Line.{Line}
 use Rattle.commands.specs.declared.line.Line.TheVariants.{Check, Explain}
-
--- the texts behind references
-abbrev pub texts : List (Bor Text) → List Text
-texts = map (λ word. word.now)
 
 -- ---- the subcommands
 

@@ -2,7 +2,8 @@
 
 ghost use Rattle.std.specs.Prelude.{◌≡◌, ◌⊎◌, IfOk, IfErr, Some, None, false, option_map};
 ghost use Rattle.clap.specs.Words.{FailsBy, fault_of};
-ghost use Rattle.commands.specs.CommandLine.{explain_command, name_or_none, texts, value_of};
+ghost use Rattle.bag_text.specs.Text.{texts};
+ghost use Rattle.commands.specs.CommandLine.{explain_command, name_or_none, value_of};
 ghost use Rattle.commands.specs.AskingReading.{AreGiven, Reads, are_good};
 ghost use Rattle.commands.specs.declared.use_fault.UseFault.TheVariants.{Memory};
 

@@ -1,27 +1,24 @@
 //! What is said of the bytes of a transfer form.
 
 ghost use Rattle.std.specs.Prelude.{◌≡◌, ◌<◌, ◌≤◌, IfOk, IsErr, List, length, Some, string_bytes};
-ghost use Rattle.bag_text.specs.TransferForm.{File, IsBag, set_text};
+ghost use Rattle.bag_text.specs.TransferForm.{File, IsBag, IsFormOf, max_form, set_text};
 ghost use Rattle.bag_text.specs.TransferFaults.{FaultIs};
 ghost use Rattle.bag_text.specs.declared.declaration.Version.{Version};
 ghost use Rattle.bag_text.specs.declared.set_fault.SetFault.{SetFault};
 ghost use Rattle.bag_check.specs.Validity.{Valid, report_of};
 ghost use Rattle.bag_check.specs.Faults.{Fault, FirstFault};
 ghost use Rattle.bag_check.specs.Answers.{report_seen, named_fault};
-ghost use Rattle.commands.specs.Checking.{too_many, IsFormOf, Says, SaysInvalid, SaysOfBag, SaysTooLong, SaysUnreadable, SaysValid};
+ghost use Rattle.commands.specs.Checking.{Says, SaysInvalid, SaysOfBag, SaysTooLong, SaysUnreadable, SaysValid};
 ghost use Rattle.bag_check.specs.declared.fault.BagFault.TheVariants.{Memory};
 ghost use Rattle.bag_text.specs.declared.set_fault.SetFault.TheVariants as sets;
 
 use crate::ending::Ending;
 use crate::outcome::Outcome;
 use bag_check::{BagFault, BagReport, check_bag};
-use bag_text::{BagSet, SetFault, read_bagset};
+use bag_text::{BagSet, MAX_FORM, SetFault, read_bagset};
 use fault_words::{InWords, form_lines, hint_for, too_long_words};
 use std::alloc::{AllocError, Global};
 use std::fmt::Write;
-
-/// The most bytes that are judged. One more is read, so that a longer input is told from them.
-pub const MAX_BYTES: u64 = 16_777_216;
 
 /// The line of a valid bag.
 fn valid_outcome(alloc: Global, report: BagReport) -> Result<Outcome, AllocError>
@@ -105,7 +102,7 @@ fn bag_outcome(alloc: Global, bag: &BagSet<'_>) -> Result<Outcome, AllocError>
 fn bytes_outcome(alloc: Global, bytes: &[u8]) -> Result<Outcome, AllocError>
     ensures { IfOk result (Says bytes.now) }
 {
-    if bytes.len() as u64 > MAX_BYTES {
+    if bytes.len() as u64 > MAX_FORM {
         return too_long_outcome(alloc);
     }
     match read_bagset(alloc, bytes) {
@@ -121,17 +118,17 @@ pub fn check_outcome(alloc: Global, bytes: &[u8]) -> Result<Outcome, AllocError>
     ensures says { IfOk result (Says bytes.now) }
 
     // Too many bytes are refused as such.
-    ensures too_long { too_many ≤ length bytes.now → IfOk result SaysTooLong }
+    ensures too_long { max_form < length bytes.now → IfOk result SaysTooLong }
 
     // The form of a valid bag is accepted, unless memory runs out; that nothing else is follows from
     // what is said.
-    ensures valid { (files : List File) (v : Version) → IsFormOf bytes.now files → Valid files v
+    ensures valid { (files : List File) (v : Version) → IsFormOf files bytes.now → Valid files v
         → IfOk result (SaysValid (report_of v files)) }
     // A bag that isn't valid is refused with its first fault, and standard error is told it in words.
     ensures invalid { (files : List File) (fault : Fault)
-        → IsFormOf bytes.now files → FirstFault files fault → IfOk result (SaysInvalid fault) }
+        → IsFormOf files bytes.now → FirstFault files fault → IfOk result (SaysInvalid fault) }
     // Bytes that are no form are refused with their fault, likewise.
-    ensures unreadable { (fault : SetFault) → length bytes.now < too_many → FaultIs bytes.now fault
+    ensures unreadable { (fault : SetFault) → length bytes.now ≤ max_form → FaultIs bytes.now fault
         → IfOk result (SaysUnreadable bytes.now fault) }
 {
     bytes_outcome(alloc, bytes)

@@ -13,7 +13,7 @@ mod use_fault;
 mod words;
 
 pub use asking::Asked;
-pub use check::{MAX_BYTES, check_outcome};
+pub use check::check_outcome;
 pub use ending::Ending;
 pub use explain::explain_outcome;
 pub use line::{Line, read_line};

@@ -2,7 +2,8 @@
 
 ghost use Rattle.std.specs.Prelude.{◌≡◌, ◌⊎◌, IfOk, IfErr, MatchResult, None, Some, codes, true, false};
 ghost use Rattle.clap.specs.Words.{FailsBy, Text, fault_of};
-ghost use Rattle.commands.specs.CommandLine.{HasValues, IsCheckOf, IsExplainOf, IsPlainQuestion, IsPlainWord, check_command, check_words, command_in, explain_words, is_taken, texts, uses_text, value_of};
+ghost use Rattle.bag_text.specs.Text.{texts};
+ghost use Rattle.commands.specs.CommandLine.{HasValues, IsCheckOf, IsExplainOf, IsPlainQuestion, IsPlainWord, check_command, check_words, command_in, explain_words, is_taken, uses_text, value_of};
 ghost use Rattle.commands.specs.Failing.{IsExplainedBy};
 ghost use Rattle.commands.specs.declared.asking.Asked.{Asked};
 ghost use Rattle.commands.specs.declared.use_fault.UseFault.TheVariants.{Memory};

@@ -4,23 +4,25 @@ ghost use Rattle.std.specs.Io.KnownBytes.{Appends};
 ghost use Rattle.std.specs.Prelude.{◌≡◌, ◌≢◌, ◌⊎◌, ℕ, List, None, OnOk, true, false, IfOk, IfSome, codes, option_map, string_bytes, take};
 ghost use Rattle.std.specs.IoError.{error_kind};
 ghost use Rattle.std.specs.declared.io.ErrorKind.TheVariants.{InvalidData};
-ghost use Rattle.commands.specs.CommandLine.{AsksToCheck, IsCheckOf, command_in, is_taken, texts, uses_text};
+ghost use Rattle.bag_text.specs.Text.{texts};
+ghost use Rattle.commands.specs.CommandLine.{AsksToCheck, IsCheckOf, command_in, is_taken, uses_text};
 ghost use Rattle.commands.specs.Failing.{BeginsWith, IsCutShort, IsToldWhy, failure_of, message_of, refusal_text};
 ghost use Rattle.commands.specs.Printing.{IsAnswer};
 ghost use Rattle.commands.specs.Running.{CanFail, DoesWords, Ends, HasFailed, IsToBeSaid, IsToBeTold, IsWrittenInPart, Judges, SaysOf, UnlessFailed};
-ghost use Rattle.commands.specs.Checking.{Says, too_many};
+ghost use Rattle.commands.specs.Checking.{Says, bytes_to_read};
 ghost use Rattle.commands.specs.Explaining.{Explains};
 ghost use Rattle.commands.specs.declared.program.Failure.{Failure};
 ghost use Rattle.commands.specs.declared.ending.Ending.TheVariants.{Failed, Misused, Unsaid};
 
 use crate::asking::Asked;
-use crate::check::{MAX_BYTES, check_outcome};
+use crate::check::check_outcome;
 use crate::ending::Ending;
 use crate::explain::explain_outcome;
 use crate::line::{Line, read_line};
 use crate::outcome::Outcome;
 use crate::trouble::{Tried, Trouble, report};
 use crate::use_fault::UseFault;
+use bag_text::MAX_FORM;
 use std::alloc::Global;
 use std::io::{Error, ErrorKind, Read, Write};
 use std::rt::Files;
@@ -61,10 +63,10 @@ impl From<Error> for Failure {
 /// Reads the input to its end, or as many bytes as are wanted at most.
 fn read_bytes<R: Read>(alloc: Global, input: &mut R) -> Result<Vec<u8>, Trouble>
     ensures { IfOk result (λ bytes. IfSome (R.remaining input.old)
-        (λ given. bytes.items ≡ take too_many given)) }
+        (λ given. bytes.items ≡ take bytes_to_read given)) }
 {
     let mut bytes = Vec::new(alloc);
-    input.take(MAX_BYTES + 1).read_to_end(&mut bytes)?;
+    input.take(MAX_FORM + 1).read_to_end(&mut bytes)?;
     Ok(bytes)
 }
 
@@ -105,7 +107,7 @@ pub fn write_text<W: Write>(text: &str, out: &mut W) -> io::Result<()>
 fn judge<R: Read>(alloc: Global, form: &mut R) -> Result<Outcome, Trouble>
     ensures says { IfOk result (λ outcome. (bytes : List ℕ) × Says bytes outcome) }
     ensures form { IfSome (R.remaining form.old) (λ given.
-        IfOk result (Says (take too_many given))) }
+        IfOk result (Says (take bytes_to_read given))) }
 {
     let bytes = read_bytes(alloc, form)?;
     Ok(check_outcome(alloc, bytes.as_slice())?)
@@ -119,7 +121,7 @@ fn check<F: Files + AllocGlobal, R: Read>(
 ) -> Result<Outcome, Trouble>
     ensures says { IfOk result (λ outcome. (bytes : List ℕ) × Says bytes outcome) }
     ensures input { file.now ≡ codes "-" → IfSome (R.remaining input.old) (λ given.
-        IfOk result (Says (take too_many given))) }
+        IfOk result (Says (take bytes_to_read given))) }
     ensures untouched { (file.now ≡ codes "-" → ⊥) → input.new ≡ input.old }
 {
     if file == "-" {
@@ -159,7 +161,7 @@ fn answer<F: Files + AllocGlobal, R: Read>(
 ) -> Result<Outcome, Trouble>
     ensures says { IfOk result (SaysOf line.entry) }
     ensures judged { IsCheckOf (codes "-") line.entry → IfSome (R.remaining input.old) (λ given.
-        IfOk result (Says (take too_many given))) }
+        IfOk result (Says (take bytes_to_read given))) }
     ensures untouched { (IsCheckOf (codes "-") line.entry → ⊥) → input.new ≡ input.old }
 {
     match line {
@@ -258,7 +260,7 @@ pub fn run<F: Files + AllocGlobal, R: Read, O: Write, E: Write>(
     // Where that is a check of the input, the bytes of the input are those that are judged.
     ensures judged { AsksToCheck (texts words.now) (codes "-")
         → IfSome (R.remaining input.old) (λ given. UnlessFailed result
-        (Judges (take too_many given) (O.contents out.old) (O.contents out.new)
+        (Judges (take bytes_to_read given) (O.contents out.old) (O.contents out.new)
         (E.contents err.old) (E.contents err.new) (err.new ≡ err.old) result)) }
     // Nothing else touches the input.
     ensures untouched { (AsksToCheck (texts words.now) (codes "-") → ⊥) → input.new ≡ input.old }

@@ -3,7 +3,8 @@
 ghost use Rattle.std.specs.Prelude.{◌≡◌, ◌∷◌, [], ℕ, IfOk, Some, true, codes, is_some, option_map};
 ghost use Rattle.std.specs.List.{All};
 ghost use Rattle.clap.specs.Words.{FailsBy, Text, fault_of, first_value, found_of, is_simple_and_free};
-ghost use Rattle.commands.specs.CommandLine.{texts, value_of};
+ghost use Rattle.bag_text.specs.Text.{texts};
+ghost use Rattle.commands.specs.CommandLine.{value_of};
 ghost use Rattle.commands.specs.CommandBuilding.{IsReadBy, Takes, are_names, command_for, names_of, needed_names, rule_for, rules_for};
 
 use clap::{Arg, ArgAction, ArgMatches, Command, Error};

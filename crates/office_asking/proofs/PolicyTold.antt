@@ -6,7 +6,7 @@ use Rattle.std.proofs.lemmas.Option.{same_Some}
 use Rattle.std.proofs.lemmas.Slice.Eq.{bytes_eq-Decides}
 use Rattle.office_core.specs.Actions.{action_text}
 use Rattle.office_core.specs.Names.{is_name, IsName}
-use Rattle.office_core.specs.Policies.{Contents, IsPolicy, IsNamed, HasNames, role_or_stranger}
+use Rattle.office_core.specs.Policies.{Contents, IsPolicy, IsNamed, HasNames, or_stranger}
 use Rattle.office_core.specs.Rules.{Question, matches_name, matches_action, matches_optional, matches, decision_at, decision_of}
 use Rattle.office_core.specs.declared.action.Action.{Action}
 use Rattle.office_core.specs.declared.action.Action.TheVariants as acts
@@ -22,16 +22,16 @@ use Rattle.office_core.specs.declared.rule.Rule.{Rule}
 use Rattle.office_rows.specs.Rows.{CallerRow, RuleRow, caller_named}
 use Rattle.office_history.specs.Pictures.{caller_row, effect_number, pattern_text, action_pattern_text, rule_row, rule_rows}
 use Rattle.office_history.proofs.RowLemmas.{count_of_rules}
-use Rattle.office_asking.specs.Asking.{star, asks_for, asks_for_optional, row_matches, row_decision, as_row, or_stranger}
+use Rattle.office_asking.specs.Asking.{star, asks_for, asks_for_optional, row_matches, row_decision, as_row}
 
 -- ---- the role
 
-pub role_told : (name : List ℕ) (cs : List Caller) → or_stranger (option_map (λ (c : CallerRow). c.role) (caller_named name (map caller_row cs))) ≡ role_or_stranger (find (λ c. bytes_eq c.name name) cs)
+pub role_told : (name : List ℕ) (cs : List Caller) → or_stranger (option_map (λ (c : CallerRow). c.role) (caller_named name (map caller_row cs))) ≡ or_stranger (option_map (λ (c : Caller). c.role) (find (λ c. bytes_eq c.name name) cs))
 role_told name [] = refl
 role_told name (c ∷ cs) = by (bytes_eq c.name name) (role_told name cs)
   where
-    by : (b : Bool) → or_stranger (option_map (λ (c : CallerRow). c.role) (caller_named name (map caller_row cs))) ≡ role_or_stranger (find (λ c. bytes_eq c.name name) cs)
-        → or_stranger (option_map (λ (c : CallerRow). c.role) (cond b (Some (caller_row c)) (caller_named name (map caller_row cs)))) ≡ role_or_stranger (cond b (Some c) (find (λ c. bytes_eq c.name name) cs))
+    by : (b : Bool) → or_stranger (option_map (λ (c : CallerRow). c.role) (caller_named name (map caller_row cs))) ≡ or_stranger (option_map (λ (c : Caller). c.role) (find (λ c. bytes_eq c.name name) cs))
+        → or_stranger (option_map (λ (c : CallerRow). c.role) (cond b (Some (caller_row c)) (caller_named name (map caller_row cs)))) ≡ or_stranger (option_map (λ (c : Caller). c.role) (cond b (Some c) (find (λ c. bytes_eq c.name name) cs)))
     by true rest = refl
     by false rest = rest
 

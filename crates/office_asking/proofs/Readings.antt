@@ -1,7 +1,7 @@
 -- What is read of the tables, by the history that they picture.
 use Rattle.std.proofs.Common.{◌≡◌, ℕ, List, Option, option_map, string_bytes, sym, ap, subst, ◌∙◌}
 use Rattle.sqlite.specs.Effect.{Database}
-use Rattle.office_core.specs.Policies.{role_of}
+use Rattle.office_core.specs.Policies.{or_stranger, role_of}
 use Rattle.office_core.specs.declared.action.Action.{Action}
 use Rattle.office_core.specs.declared.rule.Decision.{Decision}
 use Rattle.office_rows.specs.Rows.{Tables, CallerRow, RuleRow, caller_named, this_version}
@@ -11,7 +11,7 @@ use Rattle.office_history.specs.Pictures.{picture, rule_rows}
 use Rattle.office_history.specs.Refusals.{deciding_rule}
 use Rattle.office_history.specs.Runs.{IsLegal}
 use Rattle.office_history.proofs.LegalReadings.{legal_policy}
-use Rattle.office_asking.specs.Asking.{IsAsker, as_row, or_stranger, row_decision}
+use Rattle.office_asking.specs.Asking.{IsAsker, as_row, row_decision}
 use Rattle.office_asking.specs.Pictures.{Pictures}
 use Rattle.office_asking.specs.declared.asker.Asker.{Asker}
 use Rattle.office_asking.proofs.PolicyTold.{decided, role_told}

@@ -1,7 +1,7 @@
 -- Who asks, by the rows of callers and rules, and the rule that decides, by the rows of the rules.
-use Rattle.std.specs.Prelude.{◌≡◌, ℕ, ◌+◌, ℤ, Bool, ◌&&◌, ◌||◌, List, Option, Some, None, bytes_eq, codes, position, slice_get, string_bytes, option_map, option_and_then, unwrap_or}
+use Rattle.std.specs.Prelude.{◌≡◌, ℕ, ◌+◌, ℤ, Bool, ◌&&◌, ◌||◌, List, Option, Some, None, bytes_eq, codes, position, slice_get, string_bytes, option_map, option_and_then}
 use Rattle.office_core.specs.Actions.{action_text}
-use Rattle.office_core.specs.Policies.{role_of}
+use Rattle.office_core.specs.Policies.{or_stranger, role_of}
 use Rattle.office_core.specs.Rules.{Question}
 use Rattle.office_core.specs.declared.rule.Decision.{Decision}
 use Rattle.office_rows.specs.Rows.{RuleRow}
@@ -32,10 +32,6 @@ row_decision rows asked = option_and_then (λ place. option_map (λ (row : RuleR
 
 abbrev pub as_row : Decision → ℕ × ℤ
 as_row decision = (decision.rule, effect_number decision.effect)
-
--- the role, else `stranger`
-abbrev pub or_stranger : Option (List ℕ) → List ℕ
-or_stranger role = unwrap_or role (codes "stranger")
 
 -- the role is the caller's, and the rules are the policy's
 pub record IsAsker (h : History) (caller : List ℕ) (asker : Asker) : Type 0 where

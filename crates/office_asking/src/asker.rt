@@ -1,6 +1,7 @@
 //! Who asks, and what the rules say of it.
 
 ghost use Rattle.std.specs.Prelude.{◌≡◌, ℕ, List, IfErr, IfOk, option_copied, option_map, string_bytes, position};
+ghost use Rattle.office_core.specs.Policies.{or_stranger};
 ghost use Rattle.office_core.specs.Rules.{question_of};
 ghost use Rattle.office_tables.specs.Faults.{IsFailure};
 ghost use Rattle.office_tables.specs.Calls.{CommitsNothing, Continues, Keeps};
@@ -8,10 +9,10 @@ ghost use Rattle.office_history.specs.Histories.{History};
 ghost use Rattle.office_history.specs.Pictures.{effect_number};
 ghost use Rattle.office_history.specs.Refusals.{deciding_rule, denial};
 ghost use Rattle.office_history.specs.Runs.{IsLegal};
-ghost use Rattle.office_asking.specs.Asking.{IsAsker, as_row, asks_for, asks_for_optional, or_stranger, row_decision, row_matches};
+ghost use Rattle.office_asking.specs.Asking.{IsAsker, as_row, asks_for, asks_for_optional, row_decision, row_matches};
 ghost use Rattle.office_asking.specs.Serving.{Finds};
 
-use office_core::{Action, Ask, Decision, Effect, Refusal, denial_verdict};
+use office_core::{Action, Ask, Decision, Effect, Refusal, denial_verdict, or_stranger};
 use office_history::judging::refusal_of;
 use office_tables::{RuleRow, TableFault, role_of, rules};
 use sqlite::{Alter, Transaction};
@@ -120,10 +121,7 @@ impl Asker {
     pub fn role(&self) -> &str
         ensures { result.now ≡ or_stranger (option_map string_bytes self.now.role) }
     {
-        match &self.role {
-            Some(role) => role.as_str(),
-            None => "stranger",
-        }
+        or_stranger(self.role.as_ref().map(|role| role.as_str()))
     }
 
     /// The rule that decides what is asked, if one matches.

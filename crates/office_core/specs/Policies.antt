@@ -1,5 +1,5 @@
 -- The policy file: the callers and the rules that the tree of a TOML text spells, and its faults.
-use Rattle.std.specs.Prelude.{◌≡◌, ◌≢◌, ◌≤◌, ◌⊎◌, ℕ, suc, pos, Bool, true, false, not, ◌&&◌, ◌||◌, List, [], ◌∷◌, length, Option, Some, None, Result, Ok, Err, is_none, nat_lt, codes, bytes_eq, find, slice_get, option_map, option_and_then, if◌then◌else◌}
+use Rattle.std.specs.Prelude.{◌≡◌, ◌≢◌, ◌≤◌, ◌⊎◌, ℕ, suc, pos, Bool, true, false, not, ◌&&◌, ◌||◌, List, [], ◌∷◌, length, Option, Some, None, Result, Ok, Err, is_none, nat_lt, codes, bytes_eq, find, slice_get, option_map, option_and_then, unwrap_or, if◌then◌else◌}
 use Rattle.std.specs.List.{list_all, list_any, filter_map, AllByRecursion}
 use Rattle.std.specs.Option.{option_map_or}
 use Rattle.std.specs.Ordering.{int_eq}
@@ -236,10 +236,10 @@ abbrev pub named_policy_fault : PolicyFault → Option PolicyFault
 named_policy_fault Memory = None
 named_policy_fault fault = Some fault
 
--- the role that a policy gives a caller, else `stranger`
-abbrev pub role_or_stranger : Option Caller → List ℕ
-role_or_stranger None = codes "stranger"
-role_or_stranger (Some caller) = caller.role
+-- the role that is given, else `stranger`
+abbrev pub or_stranger : Option (List ℕ) → List ℕ
+or_stranger role = unwrap_or role (codes "stranger")
 
+-- the role that a policy gives a caller, else `stranger`
 abbrev pub role_of : Contents → List ℕ → List ℕ
-role_of policy name = role_or_stranger (find (λ caller. bytes_eq caller.name name) policy.callers)
+role_of policy name = or_stranger (option_map (λ caller. caller.role) (find (λ caller. bytes_eq caller.name name) policy.callers))

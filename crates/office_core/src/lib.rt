@@ -38,7 +38,7 @@ pub use names::{
     Accession, MAX_ACCESSION, MAX_MATTER, MAX_NAME, Matter, Name, OwnedAccession, OwnedMatter,
     OwnedName,
 };
-pub use policy::{MAX_CALLERS, MAX_RULES, Policy, read_policy};
+pub use policy::{MAX_CALLERS, MAX_RULES, Policy, or_stranger, read_policy};
 pub use policy_fault::PolicyFault;
 pub use refusal::{Refusal, Subject};
 pub use request::Request;

@@ -1,9 +1,9 @@
 //! A policy: who has which role, and what the roles may do.
 
-ghost use Rattle.std.specs.Prelude.{◌≡◌, ◌⊎◌, Err, IfErr, IfOk, MatchResult, option_copied, find, bytes_eq};
+ghost use Rattle.std.specs.Prelude.{◌≡◌, ◌⊎◌, Err, IfErr, IfOk, MatchResult, option_copied, option_map, string_bytes, find, bytes_eq};
 ghost use Rattle.toml.specs.View.{table_view};
 ghost use Rattle.bag_text.specs.Answers.{Answers};
-ghost use Rattle.office_core.specs.Policies.{Contents, EachCallerOnce, HasFirstFault, IsPolicy, SpellsPolicy, callers_of, policy_of, role_of, role_or_stranger, named_policy_fault};
+ghost use Rattle.office_core.specs.Policies.{Contents, EachCallerOnce, HasFirstFault, IsPolicy, SpellsPolicy, callers_of, policy_of, role_of, or_stranger, named_policy_fault};
 ghost use Rattle.office_core.specs.PolicyReading.{read_contents};
 ghost use Rattle.office_core.specs.declared.policy_fault.PolicyFault.{PolicyFault};
 ghost use Rattle.office_core.specs.declared.policy_fault.PolicyFault.TheVariants.{Memory};
@@ -62,7 +62,7 @@ impl Policy {
     pub fn role_of(&self, caller: &str) -> &str
         ensures { result.now ≡ role_of self.now caller.now }
     {
-        role_in(self.callers.as_slice(), caller)
+        or_stranger(role_in(self.callers.as_slice(), caller))
     }
 }
 
@@ -72,14 +72,19 @@ fn caller_named<'a>(callers: &'a [Caller], name: &str) -> Option<&'a Caller>
     callers.iter().find(|caller| caller.name.as_str() == name)
 }
 
-fn role_in<'a>(callers: &'a [Caller], name: &str) -> &'a str
-    ensures { result.now
-        ≡ role_or_stranger (find (λ caller. bytes_eq caller.name name.now) callers.now) }
+fn role_in<'a>(callers: &'a [Caller], name: &str) -> Option<&'a str>
+    ensures { option_map string_bytes result
+        ≡ option_map (λ caller. caller.role) (find (λ caller. bytes_eq caller.name name.now) callers.now) }
 {
-    match caller_named(callers, name) {
-        Some(caller) => caller.role.as_str(),
-        None => "stranger",
-    }
+    let caller = caller_named(callers, name)?;
+    Some(caller.role.as_str())
+}
+
+/// The role that is given, else `stranger`.
+pub fn or_stranger(role: Option<&str>) -> &str
+    ensures { result.now ≡ or_stranger (option_map string_bytes role) }
+{
+    role.unwrap_or("stranger")
 }
 
 fn read_tree(alloc: Global, tree: &Table) -> Result<Policy, PolicyFault>

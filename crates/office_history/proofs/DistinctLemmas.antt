@@ -7,7 +7,7 @@ use Rattle.std.proofs.lemmas.List.Folds.{list_any-append}
 use Rattle.std.proofs.lemmas.List.{map-append}
 use denote.Ref.{Bor}
 use Rattle.office_history.specs.Lists.{distinct_after}
-use Rattle.office_history.specs.PlainStocks.{texts}
+use Rattle.bag_text.specs.Text.{texts}
 
 -- which texts were seen decides, and not their order
 abbrev HaveSame : List (List ℕ) → List (List ℕ) → Type 0

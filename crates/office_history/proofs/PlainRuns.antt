@@ -5,31 +5,27 @@ use Rattle.office_core.specs.declared.answer.Answer.{Answer}
 use Rattle.std.specs.Prelude.{Result, Ok, Err, OnOk, OnErr}
 use Rattle.office_core.specs.Policies.{Contents, IsPolicy}
 use Rattle.office_history.specs.Histories.{History, Installed, with_changes}
-use Rattle.office_history.specs.Runs.{Item, Step, Run, IsLegal, install}
-use Rattle.office_history.specs.PlainOffices.{Serves, ServesAll}
+use Rattle.office_history.specs.Runs.{Item, Run, RunFailing, StepFailing, IsLegal, install}
+use Rattle.office_history.specs.PlainOffices.{IsWantOfMemory}
 
--- what the plain office does is a step of a run
-step_of : (h : History) (item : Item) (given : Answer) (next : History) → Serves h item.0 item.1.now item.2 given next → Step h item given next
-step_of h item given next (inl failed) = inl (rw failed.0 tt, failed.1)
-step_of h item given next (inr served) = inr served
-
--- so what it does with many items is a run
-pub run_of : (items : List Item) (given : List Answer) (h next : History) → ServesAll h items given next → Run h items given next
+-- a run that memory alone fails is a run
+pub run_of : (items : List Item) (given : List Answer) (h next : History) → RunFailing IsWantOfMemory h items given next → Run h items given next
 run_of [] [] h next all = all
 run_of [] (g ∷ given) h next all = absurd all
 run_of (item ∷ items) [] h next all = absurd all
-run_of (item ∷ items) (g ∷ given) h next all = (all.0, step_of h item g all.0 all.1, run_of items given all.0 next all.2)
+run_of (item ∷ items) (g ∷ given) h next (mid, inl failed, rest) = (mid, inl (rw failed.0 tt, failed.1), run_of items given mid next rest)
+run_of (item ∷ items) (g ∷ given) h next (mid, inr served, rest) = (mid, inr served, run_of items given mid next rest)
 
 -- items that were served up to one, which is served, and those behind it
 pub run_on : (first h mid last : History) (items : List Item) (i : ℕ) (item : Item) (so_far more : List Answer) (given : Answer)
-    → i < length items → item ≡ get_or items i item → Serves h item.0 item.1.now item.2 given mid
-    → ((rest : List Answer) (end : History) → ServesAll h (drop i items) rest end → ServesAll first items (so_far ++ rest) end)
-    → ServesAll mid (drop (i + 1) items) more last → ServesAll first items ((so_far ++ given ∷ []) ++ more) last
+    → i < length items → item ≡ get_or items i item → StepFailing IsWantOfMemory h item given mid
+    → ((rest : List Answer) (end : History) → RunFailing IsWantOfMemory h (drop i items) rest end → RunFailing IsWantOfMemory first items (so_far ++ rest) end)
+    → RunFailing IsWantOfMemory mid (drop (i + 1) items) more last → RunFailing IsWantOfMemory first items ((so_far ++ given ∷ []) ++ more) last
 run_on first h mid last items i item so_far more given within is served begun rest =
     let here : drop i items ≡ item ∷ drop (i + 1) items = drop_more items i item within ∙ ap (λ (x : Item). x ∷ drop (i + 1) items) (sym is) in
-    let P : List Item → Type 0 = λ left. ServesAll h left (given ∷ more) last in
-    let on : ServesAll h (drop i items) (given ∷ more) last = subst P (sym here) (mid, served, rest) in
-    let Q : List Answer → Type 0 = λ all. ServesAll first items all last in
+    let P : List Item → Type 0 = λ left. RunFailing IsWantOfMemory h left (given ∷ more) last in
+    let on : RunFailing IsWantOfMemory h (drop i items) (given ∷ more) last = subst P (sym here) (mid, served, rest) in
+    let Q : List Answer → Type 0 = λ all. RunFailing IsWantOfMemory first items all last in
     subst Q (sym (append_assoc so_far (given ∷ []) more)) (begun (given ∷ more) last on)
 
 drop_past : {A : Type 0} (i : ℕ) (xs : List A) → length xs ≤ i → drop i xs ≡ []
@@ -41,11 +37,11 @@ drop_past (suc i) (x ∷ xs) h = drop_past i xs (omega arith)
 -- items that were served up to the end
 pub run_end : (first last : History) (items : List Item) (i : ℕ) (answers : List Answer)
     → length items ≤ i
-    → ((rest : List Answer) (end : History) → ServesAll last (drop i items) rest end → ServesAll first items (answers ++ rest) end)
-    → ServesAll first items answers last
+    → ((rest : List Answer) (end : History) → RunFailing IsWantOfMemory last (drop i items) rest end → RunFailing IsWantOfMemory first items (answers ++ rest) end)
+    → RunFailing IsWantOfMemory first items answers last
 run_end first last items i answers past begun =
-    let P : List Item → Type 0 = λ left. ServesAll last left [] last in
-    let Q : List Answer → Type 0 = λ all. ServesAll first items all last in
+    let P : List Item → Type 0 = λ left. RunFailing IsWantOfMemory last left [] last in
+    let Q : List Answer → Type 0 = λ all. RunFailing IsWantOfMemory first items all last in
     subst Q (append-nil answers) (begun [] last (subst P (sym (drop_past i items past)) refl))
 
 -- an install keeps a history legal, and so does one that failed

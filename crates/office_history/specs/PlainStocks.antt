@@ -1,13 +1,8 @@
 -- What the plain office keeps, as the definitions speak of it.
 use Rattle.std.specs.Prelude.{ℕ, List, map}
-use denote.Ref.{Bor}
 use Rattle.bag_text.specs.TransferForm.{File}
 use Rattle.office_history.specs.Stocks as stocks
 use Rattle.office_history.specs.declared.plain_stock.Stock.{Stock}
-
--- borrowed texts
-abbrev pub texts : List (Bor (List ℕ)) → List (List ℕ)
-texts borrowed = map (λ text. text.now) borrowed
 
 abbrev pub contents_of : List File → List (List ℕ)
 contents_of files = map (λ file. file.content) files

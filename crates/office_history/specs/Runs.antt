@@ -34,19 +34,26 @@ IsFailure (Refused Memory) = Unit {0}
 IsFailure (Refused Store) = Unit {0}
 IsFailure _ = ⊥
 
--- One item: a failure, after which the history is as it was, or the office's answer and the history
--- after it.
-abbrev pub Step : History → Item → Answer → History → Type 0
-Step h item given next =
-    (IsFailure given × (next ≡ h))
+-- One item: a failure of this kind, after which the history is as it was, or the office's answer and
+-- the history after it.
+abbrev pub StepFailing : (Answer → Type 0) → History → Item → Answer → History → Type 0
+StepFailing Fails h item given next =
+    (Fails given × (next ≡ h))
     ⊎ ((given ≡ answer h item.0 item.1.now item.2) × (next ≡ after h item.0 item.1.now item.2))
 
 -- item by item
+abbrev pub RunFailing : (Answer → Type 0) → History → List Item → List Answer → History → Type 0
+RunFailing Fails h [] [] next = next ≡ h
+RunFailing Fails h (item ∷ items) (given ∷ more) next =
+    (mid : History) × StepFailing Fails h item given mid × RunFailing Fails mid items more next
+RunFailing Fails h _ _ next = ⊥
+
+-- a step, and a run, of the office over its tables
+abbrev pub Step : History → Item → Answer → History → Type 0
+Step = StepFailing IsFailure
+
 abbrev pub Run : History → List Item → List Answer → History → Type 0
-Run h [] [] next = next ≡ h
-Run h (item ∷ items) (given ∷ more) next =
-    (mid : History) × Step h item given mid × Run mid items more next
-Run h _ _ next = ⊥
+Run = RunFailing IsFailure
 
 -- One history is later than another: it is the other, grown by some changes.
 abbrev pub IsLater : History → History → Type 0

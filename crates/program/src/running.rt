@@ -2,8 +2,9 @@
 
 ghost use Rattle.std.specs.Prelude.{◌≡◌, ◌≢◌, ◌⊎◌, ℕ, IfErr, IfOk, IfSome, List, None, codes, false, take, true};
 ghost use Rattle.sqlite.specs.WalFiles.{image_at};
-ghost use Rattle.commands.specs.Checking.{too_many};
-ghost use Rattle.commands.specs.CommandLine.{AsksToCheck, command_in, is_taken, texts, uses_text};
+ghost use Rattle.commands.specs.Checking.{bytes_to_read};
+ghost use Rattle.bag_text.specs.Text.{texts};
+ghost use Rattle.commands.specs.CommandLine.{AsksToCheck, command_in, is_taken, uses_text};
 ghost use Rattle.commands.specs.Failing.{BeginsWith, IsCutShort, message_of};
 ghost use Rattle.commands.specs.Running.{CanFail, DoesWords, HasFailed, IsToBeSaid, IsWrittenInPart, Judges, UnlessFailed};
 ghost use Rattle.commands.specs.declared.ending.Ending.TheVariants.{Failed, Misused, Unsaid};
@@ -121,7 +122,7 @@ pub fn run<S: Start, R: Read, O: Write, E: Write>(
         result) }
     ensures judged { NamesNone (texts words.now) → AsksToCheck (texts words.now) (codes "-")
         → IfSome (R.remaining input.old.device) (λ given. UnlessFailed result
-        (Judges (take too_many given) (O.contents out.old.device) (O.contents out.new.device)
+        (Judges (take bytes_to_read given) (O.contents out.old.device) (O.contents out.new.device)
         (E.contents err.old) (E.contents err.new) (err.new ≡ err.old) result)) }
     ensures untouched { NamesNone (texts words.now)
         → (AsksToCheck (texts words.now) (codes "-") → ⊥) → input.new ≡ input.old }

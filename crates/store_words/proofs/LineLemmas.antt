@@ -4,7 +4,8 @@ use Rattle.std.specs.Borrow.{Bor}
 use Rattle.std.specs.Str.{bytes_eq}
 use Rattle.std.proofs.lemmas.Bool.{false≢true}
 use Rattle.clap.specs.Words.{App, Text}
-use Rattle.commands.specs.CommandLine.{texts, value_of}
+use Rattle.bag_text.specs.Text.{texts}
+use Rattle.commands.specs.CommandLine.{value_of}
 use Rattle.commands.specs.declared.use_fault.UseFault.{UseFault}
 use Rattle.commands.specs.declared.use_fault.UseFault.TheVariants.{Memory}
 use Rattle.store_words.specs.StoreLine.{AskNothing, Asks, Finds, HasValues, HaveValues, Names, name_text, subcommand_of}

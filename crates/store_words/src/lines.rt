@@ -4,7 +4,8 @@ ghost use Rattle.std.specs.Prelude.{◌≡◌, ◌⊎◌, [], IfOk, IfErr, IfSom
 ghost use Rattle.std.specs.List.{All};
 ghost use Rattle.clap.specs.Words.{Text, fault_of, first_value, found_of, is_simple_and_free};
 ghost use Rattle.commands.specs.CommandBuilding.{are_names, command_for, names_of, needed_names, rules_for};
-ghost use Rattle.commands.specs.CommandLine.{texts, value_of};
+ghost use Rattle.bag_text.specs.Text.{texts};
+ghost use Rattle.commands.specs.CommandLine.{value_of};
 ghost use Rattle.commands.specs.declared.use_fault.UseFault.TheVariants.{Memory};
 ghost use Rattle.store_words.specs.StoreLine.{AskNothing, Asks, HasValues, HaveValues, IsPlainLine, NamesNone, NamesOne, subcommand_of, words_of};
 ghost use Rattle.store_words.specs.declared.store_line.StoreLine.{StoreLine};

@@ -6,7 +6,8 @@ ghost use Rattle.bag_text.specs.TransferReading as reading;
 ghost use Rattle.office_history.specs.Lists.{distinct_after, in_first_places};
 ghost use Rattle.office_history.specs.Histories.{kept_numbers};
 ghost use Rattle.office_history.specs.Stocks.{files_of, contents, stock};
-ghost use Rattle.office_history.specs.PlainStocks.{texts, contents_of, stock_seen};
+ghost use Rattle.bag_text.specs.Text.{texts};
+ghost use Rattle.office_history.specs.PlainStocks.{contents_of, stock_seen};
 
 use crate::plain::history::Office;
 use crate::plain::reading::{deposit_numbered, kept_numbers};

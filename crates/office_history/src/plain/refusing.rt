@@ -13,7 +13,9 @@ use crate::plain::reading::{
     accession_of, deposit_count, destruction_day, due, has_class, has_collection, hold_count,
     installed_policy, live_holds, release_day,
 };
-use office_core::{Action, Ask, Day, Decision, Facts, Refusal, Rule, Subject, decide};
+use office_core::{
+    Action, Ask, Day, Decision, Facts, Refusal, Rule, Subject, decide, or_stranger,
+};
 use std::alloc::{AllocError, Global};
 
 /// The role of a caller by the policy that was installed last.
@@ -22,7 +24,7 @@ fn role_of<'a>(office: &'a Office, caller: &str) -> &'a str
 {
     match installed_policy(office) {
         Some(policy) => policy.role_of(caller),
-        None => "stranger",
+        None => or_stranger(None),
     }
 }
 

@@ -1,8 +1,8 @@
 //! Runs of requests.
 
 ghost use Rattle.std.specs.Prelude.{◌≡◌, IfOk, OnErr};
-ghost use Rattle.office_history.specs.Runs.{IsLegal, Run};
-ghost use Rattle.office_history.specs.PlainOffices.{ServesAll};
+ghost use Rattle.office_history.specs.Runs.{IsLegal, Run, RunFailing};
+ghost use Rattle.office_history.specs.PlainOffices.{IsWantOfMemory};
 
 use crate::plain::history::Office;
 use office_core::{Answer, Day, Request};
@@ -18,7 +18,7 @@ impl Office {
         items: &[(Day, &str, Request<'_>)],
     ) -> Result<Vec<Answer>, AllocError>
         ensures served { IfOk result (λ answers.
-            ServesAll self.old items.now answers.items self.new) }
+            RunFailing IsWantOfMemory self.old items.now answers.items self.new) }
         ensures ran { IfOk result (λ answers. Run self.old items.now answers.items self.new) }
         ensures failed { OnErr result (self.new ≡ self.old) }
         ensures legal { IsLegal self.old → IsLegal self.new }

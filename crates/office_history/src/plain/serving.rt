@@ -6,8 +6,8 @@ ghost use Rattle.office_history.specs.Bags.{bag_of};
 ghost use Rattle.office_history.specs.Histories.{Change, PlacedHold, with_changes};
 ghost use Rattle.office_history.specs.PlainChanges.{change_seen, changes_seen};
 ghost use Rattle.office_history.specs.PlainTargets.{target_seen};
-ghost use Rattle.office_history.specs.PlainOffices.{HasRoom, Serves};
-ghost use Rattle.office_history.specs.Runs.{IsLegal};
+ghost use Rattle.office_history.specs.PlainOffices.{HasRoom, IsWantOfMemory};
+ghost use Rattle.office_history.specs.Runs.{IsLegal, StepFailing};
 
 use crate::plain::answering::allowed_answer;
 use crate::plain::change::{Deposit, Hold, Kind, Target};
@@ -137,7 +137,7 @@ impl Office {
     /// Answers a caller's request on that day. Where memory runs out the office is as it was, as
     /// after every refusal. A legal history stays legal.
     pub fn step(&mut self, alloc: Global, day: Day, caller: &str, request: &Request<'_>) -> Answer
-        ensures served { Serves self.old day caller.now request.now result self.new }
+        ensures served { StepFailing IsWantOfMemory self.old (day, caller.entry, request.now) result self.new }
         ensures legal { IsLegal self.old → IsLegal self.new }
     {
         // What the types of a day and of a request say of their values.

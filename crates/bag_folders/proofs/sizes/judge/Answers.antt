@@ -1,7 +1,7 @@
 use Rattle.std.proofs.Common.{◌<◌, rules}
 use Rattle.std.specs.List.{sum_by}
+use Rattle.bag_text.specs.TransferForm.{max_form}
 use Rattle.bag_folders.specs.declared.listed.Listed.{Listed}
-use Rattle.bag_folders.specs.Packing.{max_form}
 use Rattle.bag_folders.proofs.SizeLemmas.{is_bag, longer_form, no_form_listed}
 use Rattle.bag_folders.proofs.sizes.judge.Goals as goal
 

@@ -2,7 +2,8 @@ use Rattle.std.proofs.Common.{rules, ◌≡◌, ◌∙◌, [], Result, Ok, Err, 
 use Rattle.std.proofs.lemmas.Bool.{false≢true}
 use Rattle.clap.specs.Words.{HasKind, Kinds, fault_of, first_of, matches_of}
 use Rattle.clap.specs.declared.error.Error.{Error}
-use Rattle.commands.specs.CommandLine.{check_command, explain_command, texts}
+use Rattle.bag_text.specs.Text.{texts}
+use Rattle.commands.specs.CommandLine.{check_command, explain_command}
 use Rattle.commands.specs.declared.line.Line.{Line}
 use Rattle.commands.specs.declared.use_fault.UseFault.{UseFault}
 use Rattle.commands.specs.declared.use_fault.UseFault.TheVariants.{Memory}

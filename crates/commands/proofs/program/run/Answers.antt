@@ -1,6 +1,6 @@
 use Rattle.std.proofs.Common.{codes, inr, refl, sym, ◌∙◌}
 use Rattle.std.proofs.lemmas.Bool.{false≢true}
-use Rattle.commands.specs.CommandLine.{texts}
+use Rattle.bag_text.specs.Text.{texts}
 use Rattle.commands.specs.Failing.{failure_in, message_of}
 use Rattle.commands.specs.Running.{of_failure}
 use Rattle.commands.specs.declared.program.Failure.{Failure}

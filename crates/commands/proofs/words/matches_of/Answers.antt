@@ -1,4 +1,4 @@
-use Rattle.commands.specs.CommandLine.{texts}
+use Rattle.bag_text.specs.Text.{texts}
 use Rattle.commands.specs.CommandBuilding.{command_for, rules_for}
 use Rattle.commands.proofs.CommandBuildingLemmas.{fails_by_words, given_by_words, values_by_words, wanted_app}
 use Rattle.commands.proofs.words.matches_of.Goals as goal

@@ -1,4 +1,4 @@
-use Rattle.commands.specs.CommandLine.{texts}
+use Rattle.bag_text.specs.Text.{texts}
 use Rattle.program.proofs.RunLemmas.{asked}
 use Rattle.program.proofs.running.run.Goals as goal
 

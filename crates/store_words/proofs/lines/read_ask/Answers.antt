@@ -1,5 +1,5 @@
 use Rattle.std.proofs.Common.{◌∙◌, codes, inr, refl, sym}
-use Rattle.commands.specs.CommandLine.{texts}
+use Rattle.bag_text.specs.Text.{texts}
 use Rattle.store_words.specs.StoreLine.{IsDayText, ask_command}
 use Rattle.store_words.proofs.LineLemmas.{handed_on, never_some, not_found}
 use Rattle.store_words.proofs.lines.read_ask.Goals as goal

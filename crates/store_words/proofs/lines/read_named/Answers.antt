@@ -1,5 +1,5 @@
 use Rattle.std.proofs.Common.{rules}
-use Rattle.commands.specs.CommandLine.{texts}
+use Rattle.bag_text.specs.Text.{texts}
 use Rattle.store_words.proofs.LineLemmas.{first_named, words_refused}
 use Rattle.store_words.proofs.lines.read_named.Goals as goal
 

@@ -1,4 +1,4 @@
-use Rattle.commands.specs.CommandLine.{texts}
+use Rattle.bag_text.specs.Text.{texts}
 use Rattle.store_words.proofs.PlainLineLemmas.{plain_is_read}
 use Rattle.store_words.proofs.lines.read_store_line.Goals as goal
 

@@ -1,7 +1,8 @@
 use Rattle.std.proofs.Common.{◌≡◌, ◌++◌, drop}
 use Rattle.std.specs.List.{flat_map}
 use Rattle.office_history.specs.Stocks.{files_of}
-use Rattle.office_history.specs.PlainStocks.{texts, contents_of}
+use Rattle.bag_text.specs.Text.{texts}
+use Rattle.office_history.specs.PlainStocks.{contents_of}
 use Rattle.office_history.proofs.plain.keeping.all_contents.Given as goal
 
 abbrev pub invariant-loop-number : goal.invariant-loop-number

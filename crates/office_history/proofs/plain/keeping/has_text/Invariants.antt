@@ -1,6 +1,6 @@
 use Rattle.std.proofs.Common.{◌≡◌, drop, bytes_eq}
 use Rattle.std.specs.List.{list_any}
-use Rattle.office_history.specs.PlainStocks.{texts}
+use Rattle.bag_text.specs.Text.{texts}
 use Rattle.office_history.proofs.plain.keeping.has_text.Given as goal
 
 abbrev pub invariant-loop-other : goal.invariant-loop-other

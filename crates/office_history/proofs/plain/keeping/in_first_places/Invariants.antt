@@ -1,6 +1,6 @@
 use Rattle.std.proofs.Common.{◌≡◌, ◌++◌, drop}
 use Rattle.office_history.specs.Lists.{distinct_after, in_first_places}
-use Rattle.office_history.specs.PlainStocks.{texts}
+use Rattle.bag_text.specs.Text.{texts}
 use Rattle.office_history.proofs.plain.keeping.in_first_places.Given as goal
 
 abbrev pub invariant-loop-text : goal.invariant-loop-text

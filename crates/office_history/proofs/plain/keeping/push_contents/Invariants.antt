@@ -1,6 +1,7 @@
 use Rattle.std.proofs.Common.{◌≡◌, ◌++◌, drop}
 use Rattle.bag_text.specs.TransferReading.{files_of}
-use Rattle.office_history.specs.PlainStocks.{texts, contents_of}
+use Rattle.bag_text.specs.Text.{texts}
+use Rattle.office_history.specs.PlainStocks.{contents_of}
 use Rattle.office_history.proofs.plain.keeping.push_contents.Given as goal
 
 abbrev pub invariant-loop-file : goal.invariant-loop-file

@@ -1,5 +1,5 @@
 use Rattle.std.proofs.Common.{◌≡◌, ◌+◌, drop, map, length, sum}
-use Rattle.office_history.specs.PlainStocks.{texts}
+use Rattle.bag_text.specs.Text.{texts}
 use Rattle.office_history.proofs.plain.keeping.total.Given as goal
 
 abbrev pub invariant-loop-text : goal.invariant-loop-text
