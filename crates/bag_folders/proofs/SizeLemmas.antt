@@ -17,7 +17,7 @@ use Rattle.bag_folders.specs.declared.listed.Listed.{Listed}
 use Rattle.bag_folders.specs.declared.pack_fault.PackFault.{PackFault}
 use Rattle.bag_folders.specs.declared.pack_fault.PackFault.TheVariants as packing
 use Rattle.bag_folders.specs.Packing.{AreFilesOf, HasNoForm, IsNamedAs, listed_paths, path_at_fault, paths_of}
-use Rattle.bag_folders.specs.Sizes.{Judged, emptied, is_too_long, with_long}
+use Rattle.bag_folders.specs.Sizes.{IsFaultFound, emptied, is_too_long, with_long}
 
 -- ---- one file
 
@@ -137,12 +137,12 @@ same_clashes ls fs h =
 
 -- ---- what is judged
 
-pub judged_short : {X : Type 0} (ls : List Listed) (fs : List File) (result : Result X SetFault) → AreFilesOf ls fs → position_from is_too_long 0 ls ≡ None → Judged (list_fault (map emptied ls)) result → Judged (list_fault fs) result
+pub judged_short : {X : Type 0} (ls : List Listed) (fs : List File) (result : Result X SetFault) → AreFilesOf ls fs → position_from is_too_long 0 ls ≡ None → IsFaultFound (list_fault (map emptied ls)) result → IsFaultFound (list_fault fs) result
 judged_short ls fs result h e j =
     let same : list_fault fs ≡ list_fault (map emptied ls) =
     ap (λ (o : Option SetFault). option_or o (clash_fault fs)) (all_short 0 [] ls fs h e)
     ∙ ap (λ (b : Bool). option_or (fault_from 0 [] (map emptied ls)) (cond b (some PathClash) None)) (same_clashes ls fs h) in
-    subst (λ (o : Option SetFault). Judged o result) (sym same) j
+    subst (λ (o : Option SetFault). IsFaultFound o result) (sym same) j
 
 at_long : (place : ℕ) (ls : List Listed) (fs : List File) → AreFilesOf ls fs → position_from is_too_long 0 ls ≡ Some place → fault_from 0 [] fs ≡ option_or (fault_from 0 [] (map emptied (take place ls))) (Some (BadEntry place))
 at_long place ls fs h e =
@@ -155,7 +155,7 @@ clash_only false g e = absurd cc
 
 -- The fault is that of the file that is too long, unless one of those before it has one.
 pub judged_long : {X : Type 0} (place : ℕ) (ls : List Listed) (fs : List File) (front : Result X SetFault) → AreFilesOf ls fs → position_from is_too_long 0 ls ≡ Some place
-    → Judged (list_fault (map emptied (take place ls))) front → Judged (list_fault fs) (with_long place front)
+    → IsFaultFound (list_fault (map emptied (take place ls))) front → IsFaultFound (list_fault fs) (with_long place front)
 judged_long {X} place ls fs front h e j = by_front (fault_from 0 [] (map emptied (take place ls))) refl front j
   where
     here : (r : Option SetFault) → fault_from 0 [] (map emptied (take place ls)) ≡ r → list_fault fs ≡ option_or (option_or r (Some (BadEntry place))) (clash_fault fs)
@@ -170,7 +170,7 @@ judged_long {X} place ls fs front h e j = by_front (fault_from 0 [] (map emptied
     alike : (g : SetFault) (found : SetFault) → fault_from 0 [] (map emptied (take place ls)) ≡ Some g → some g ≡ Some found → list_fault fs ≡ Some found
     alike g found is same = here (Some g) is ∙ same
 
-    by_front : (r : Option SetFault) → fault_from 0 [] (map emptied (take place ls)) ≡ r → (front : Result X SetFault) → Judged (option_or r (clash_fault (map emptied (take place ls)))) front → Judged (list_fault fs) (with_long place front)
+    by_front : (r : Option SetFault) → fault_from 0 [] (map emptied (take place ls)) ≡ r → (front : Result X SetFault) → IsFaultFound (option_or r (clash_fault (map emptied (take place ls)))) front → IsFaultFound (list_fault fs) (with_long place front)
     by_front None is (Ok x) j = here None is
     by_front (Some g) is (Ok x) j = absurd cc
     by_front None is (Err PathClash) j = here None is
@@ -211,7 +211,7 @@ front_len ls k e = let lt = found_within 0 ls k e in sym (length-take-le k ls (o
 pub judged_ok : (files set : List File) → (set ≡ files) × IsBag set → list_fault files ≡ None
 judged_ok files set h = (list_bag_law files).1 (subst (λ (fs : List File). IsBag fs) h.0 h.1)
 
-pub judged_err : (X : Type 0) (files : List File) (fault : SetFault) → (fault ≢ Memory → ListFault files fault) → Judged {X = X} (list_fault files) (Err fault)
+pub judged_err : (X : Type 0) (files : List File) (fault : SetFault) → (fault ≢ Memory → ListFault files fault) → IsFaultFound {X = X} (list_fault files) (Err fault)
 judged_err X files Memory h = tt
 judged_err X files PathClash h = (list_fault_law files PathClash).1 (h (λ e. absurd cc))
 judged_err X files BadOpening h = (list_fault_law files BadOpening).1 (h (λ e. absurd cc))
@@ -223,7 +223,7 @@ judged_err X files TooManyFiles h = (list_fault_law files TooManyFiles).1 (h (λ
 judged_err X files TrailingBytes h = (list_fault_law files TrailingBytes).1 (h (λ e. absurd cc))
 
 -- what is judged is the list's fault
-judged_fault : (X : Type 0) (files : List File) (fault : SetFault) → Judged {X = X} (list_fault files) (Err fault) → fault ≢ Memory → ListFault files fault
+judged_fault : (X : Type 0) (files : List File) (fault : SetFault) → IsFaultFound {X = X} (list_fault files) (Err fault) → fault ≢ Memory → ListFault files fault
 judged_fault X files Memory j out = absurd (out refl)
 judged_fault X files PathClash j out = (list_fault_law files PathClash).0 j
 judged_fault X files BadOpening j out = (list_fault_law files BadOpening).0 j
@@ -257,7 +257,7 @@ same_paths (l ∷ ls) (f ∷ fs) h = ap₂ (λ (p : List ℕ) (ps : List (List �
 
 -- and so it is for files that are listed
 pub no_form_listed : (X : Type 0) (ls : List Listed) (files : List File) (fault : SetFault) (path : Option (List ℕ)) (named : PackFault) → AreFilesOf ls files
-    → Judged {X = X} (list_fault files) (Err fault) → path ≡ path_at_fault fault (listed_paths ls) → IsNamedAs fault path named → HasNoForm files named
+    → IsFaultFound {X = X} (list_fault files) (Err fault) → path ≡ path_at_fault fault (listed_paths ls) → IsNamedAs fault path named → HasNoForm files named
 no_form_listed X ls files fault path named are judged at is =
     no_form files fault path named (judged_fault X files fault judged) (at ∙ ap (path_at_fault fault) (same_paths ls files are)) is
 

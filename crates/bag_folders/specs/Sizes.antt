@@ -14,10 +14,10 @@ abbrev pub is_too_long : Listed → Bool
 is_too_long l = nat_lt max_content l.size
 
 -- the fault is found, unless memory ran out
-abbrev pub Judged : {X : Type 0} → Option SetFault → Result X SetFault → Type 0
-Judged fault (Ok x) = fault ≡ None
-Judged fault (Err Memory) = Unit {0}
-Judged fault (Err found) = fault ≡ Some found
+abbrev pub IsFaultFound : {X : Type 0} → Option SetFault → Result X SetFault → Type 0
+IsFaultFound fault (Ok x) = fault ≡ None
+IsFaultFound fault (Err Memory) = Unit {0}
+IsFaultFound fault (Err found) = fault ≡ Some found
 
 -- what is found where the file at this place is too long, and that is found of those before it: names
 -- clash last

@@ -6,7 +6,7 @@ ghost use Rattle.bag_text.specs.BagList.{list_fault};
 ghost use Rattle.bag_text.specs.TransferForm.{IsBag, max_form};
 ghost use Rattle.bag_text.specs.TransferReading.{files_of};
 ghost use Rattle.bag_folders.specs.Packing.{AllFilesOf, HasNoForm, listed_paths, path_at_fault};
-ghost use Rattle.bag_folders.specs.Sizes.{Judged, emptied, is_too_long, with_long};
+ghost use Rattle.bag_folders.specs.Sizes.{IsFaultFound, emptied, is_too_long, with_long};
 
 use crate::listed::Listed;
 use crate::pack_fault::{PackFault, named_fault, place_of};
@@ -36,7 +36,7 @@ fn without_contents<'a>(
 
 /// The first fault of a list of files.
 fn judge_list(alloc: Global, list: &[(&str, &[u8])]) -> Result<(), SetFault>
-    ensures { Judged (list_fault (files_of list.now)) result }
+    ensures { IsFaultFound (list_fault (files_of list.now)) result }
 {
     BagSet::of(alloc, list)?;
     Ok(())
@@ -44,7 +44,7 @@ fn judge_list(alloc: Global, list: &[(&str, &[u8])]) -> Result<(), SetFault>
 
 /// The first fault of the paths, where none of the files is too long.
 fn judge_paths(alloc: Global, files: &[Listed]) -> Result<(), SetFault>
-    ensures { Judged (list_fault (map emptied files.now)) result }
+    ensures { IsFaultFound (list_fault (map emptied files.now)) result }
 {
     match without_contents(alloc, files) {
         Ok(list) => judge_list(alloc, list.as_slice()),
@@ -66,7 +66,7 @@ fn with_long(place: usize, front: Result<(), SetFault>) -> Result<(), SetFault>
 
 /// The first fault of the files, as far as paths and sizes tell.
 fn judge_files(alloc: Global, files: &[Listed]) -> Result<(), SetFault>
-    ensures { AllFilesOf files.now (λ list. Judged (list_fault list) result) }
+    ensures { AllFilesOf files.now (λ list. IsFaultFound (list_fault list) result) }
 {
     match first_too_long(files) {
         Some(place) => with_long(place, judge_paths(alloc, &files[..place])),

@@ -8,7 +8,7 @@ use Rattle.office_core.specs.declared.answer.Answer.TheVariants as answers
 use Rattle.office_core.specs.declared.refusal.Refusal.{Refusal}
 use Rattle.office_core.specs.declared.refusal.Refusal.TheVariants as refusals
 use Rattle.desk_answers.specs.Objects.{list_of, whole}
-use Rattle.desk_answers.specs.Rows.{deposit_row, hold_row}
+use Rattle.desk_answers.specs.Rows.{record_data, live_hold_data}
 use Rattle.desk_answers.specs.Refusals.{refusal_data}
 use Rattle.desk_answers.specs.Bodies.{content_of}
 use Rattle.desk_answers.specs.Responses.{HasNoFloat}
@@ -48,11 +48,11 @@ answer_is_orderly (answers.Class name None) = (refl, refl)
 answer_is_orderly (answers.Collection name) = (refl, refl)
 answer_is_orderly (answers.Deposited deposit) = (refl, refl)
 answer_is_orderly (answers.List deposits) =
-    let rows = list_is_orderly deposit_row (λ _. (refl, refl)) deposits in
+    let rows = list_is_orderly record_data (λ _. (refl, refl)) deposits in
     (rw rows.0, rw rows.1)
 answer_is_orderly (answers.Record row) = (refl, refl)
 answer_is_orderly (answers.Holds holds) =
-    let rows = list_is_orderly hold_row (λ _. (refl, refl)) holds in
+    let rows = list_is_orderly live_hold_data (λ _. (refl, refl)) holds in
     (rw rows.0, rw rows.1)
 answer_is_orderly (answers.Bag bytes) = (tt, refl)
 answer_is_orderly (answers.File bytes) = (tt, refl)

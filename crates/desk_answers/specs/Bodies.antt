@@ -13,7 +13,7 @@ use Rattle.office_core.specs.declared.answer.Answer.{Answer}
 use Rattle.office_core.specs.declared.answer.Answer.TheVariants.{Class, Collection, Deposited, List as ListOf, Record, Holds, Bag, File, Audit, HoldPlaced, HoldReleased, Destroyed, DueList, Refused}
 use Rattle.desk_answers.specs.Objects.{object_of, list_of, whole}
 use Rattle.desk_answers.specs.Responses.{Content, json, octets}
-use Rattle.desk_answers.specs.Rows.{deposit_row, hold_row}
+use Rattle.desk_answers.specs.Rows.{record_data, live_hold_data}
 use Rattle.desk_answers.specs.Refusals.{refusal_status, refusal_data}
 use Rattle.desk_answers.specs.declared.status.Status.{Status}
 use Rattle.desk_answers.specs.declared.status.Status.TheVariants.{Success, Created}
@@ -49,10 +49,10 @@ abbrev pub deposit_data : ℕ → Data
 deposit_data deposit = object_of ((codes "deposit", whole deposit) ∷ [])
 
 abbrev pub list_data : List DepositRecord → Data
-list_data rows = object_of ((codes "deposits", list_of (map deposit_row rows)) ∷ [])
+list_data rows = object_of ((codes "deposits", list_of (map record_data rows)) ∷ [])
 
 abbrev pub holds_data : List LiveHold → Data
-holds_data holds = object_of ((codes "holds", list_of (map hold_row holds)) ∷ [])
+holds_data holds = object_of ((codes "holds", list_of (map live_hold_data holds)) ∷ [])
 
 abbrev pub valid_data : ℕ → BagReport → Data
 valid_data deposit report = object_of (
@@ -88,7 +88,7 @@ content_of (Class name years) = json (class_data name years)
 content_of (Collection name) = json (collection_data name)
 content_of (Deposited deposit) = json (deposit_data deposit)
 content_of (ListOf deposits) = json (list_data deposits)
-content_of (Record row) = json (deposit_row row)
+content_of (Record row) = json (record_data row)
 content_of (Holds holds) = json (holds_data holds)
 content_of (Bag bytes) = octets bytes
 content_of (File bytes) = octets bytes

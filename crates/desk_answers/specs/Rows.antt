@@ -17,8 +17,8 @@ due_text (On date) = date_text date
 due_text Never = codes "permanent"
 
 -- what is told of a deposit
-abbrev pub deposit_row : DepositRecord → Data
-deposit_row row = object_of (
+abbrev pub record_data : DepositRecord → Data
+record_data row = object_of (
     (codes "accession", string row.accession)
     ∷ (codes "bytes", whole row.bytes)
     ∷ (codes "class", string row.class)
@@ -35,8 +35,8 @@ scope_text Deposit = codes "deposit"
 scope_text Collection = codes "collection"
 
 -- what is told of a live hold
-abbrev pub hold_row : LiveHold → Data
-hold_row hold = object_of (
+abbrev pub live_hold_data : LiveHold → Data
+live_hold_data hold = object_of (
     (codes "hold", whole hold.number)
     ∷ (codes "matter", string hold.matter)
     ∷ (codes "on", string (scope_text hold.on))

@@ -10,7 +10,7 @@ use crate::bodies;
 use crate::content::{Content, content_bytes};
 use crate::methods::allow_line;
 use crate::refusals::{name_value, refusal_status, refusal_value};
-use crate::rows::deposit_row;
+use crate::rows::record_data;
 use crate::status::Status;
 use desk_routes::DeskRefusal;
 use office_core::Answer;
@@ -48,7 +48,7 @@ fn content_of<'a>(alloc: Global, answer: &'a Answer) -> Result<Content<'a>, Allo
         Answer::Collection { name } => bodies::collection(alloc, name.as_str())?,
         Answer::Deposited { deposit } => bodies::deposit(alloc, *deposit)?,
         Answer::List { deposits } => bodies::list(alloc, deposits.as_slice())?,
-        Answer::Record(record) => deposit_row(alloc, record)?,
+        Answer::Record(record) => record_data(alloc, record)?,
         Answer::Holds { holds } => bodies::holds(alloc, holds.as_slice())?,
         Answer::Audit { deposit, report } => bodies::audit(alloc, *deposit, report)?,
         Answer::HoldPlaced { hold } => bodies::hold(alloc, *hold)?,

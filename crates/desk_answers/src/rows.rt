@@ -3,7 +3,7 @@
 ghost use Rattle.std.specs.Prelude.{◌≡◌, IfOk, map, string_bytes};
 ghost use Rattle.office_core.specs.Days.{day_text};
 ghost use Rattle.serde_json.specs.View.{view};
-ghost use Rattle.desk_answers.specs.Rows.{due_text, scope_text, deposit_row, hold_row};
+ghost use Rattle.desk_answers.specs.Rows.{due_text, scope_text, record_data, live_hold_data};
 
 use office_core::{Day, DepositRecord, Due, LiveHold, Scope};
 use serde_json::{Value, json};
@@ -37,8 +37,8 @@ fn scope_text(scope: Scope) -> &'static str
 }
 
 /// What is told of a deposit.
-pub(crate) fn deposit_row(alloc: Global, row: &DepositRecord) -> Result<Value, AllocError>
-    ensures { IfOk result (λ value. view value ≡ deposit_row row.now) }
+pub(crate) fn record_data(alloc: Global, row: &DepositRecord) -> Result<Value, AllocError>
+    ensures { IfOk result (λ value. view value ≡ record_data row.now) }
 {
     let closed = day_text(alloc, row.closed)?;
     let deposited = day_text(alloc, row.deposited)?;
@@ -57,8 +57,8 @@ pub(crate) fn deposit_row(alloc: Global, row: &DepositRecord) -> Result<Value, A
 }
 
 /// What is told of a live hold.
-fn hold_row(alloc: Global, hold: &LiveHold) -> Result<Value, AllocError>
-    ensures { IfOk result (λ value. view value ≡ hold_row hold.now) }
+fn live_hold_data(alloc: Global, hold: &LiveHold) -> Result<Value, AllocError>
+    ensures { IfOk result (λ value. view value ≡ live_hold_data hold.now) }
 {
     let placed = day_text(alloc, hold.placed)?;
     json!(in alloc; {
@@ -74,22 +74,22 @@ pub(crate) fn deposit_rows(
     alloc: Global,
     records: &[DepositRecord],
 ) -> Result<Vec<Value>, AllocError>
-    ensures { IfOk result (λ rows. map view rows.items ≡ map deposit_row records.now) }
+    ensures { IfOk result (λ rows. map view rows.items ≡ map record_data records.now) }
 {
     let mut rows = Vec::new(alloc);
     for record in records {
-        rows.push(deposit_row(alloc, record)?)?;
+        rows.push(record_data(alloc, record)?)?;
     }
     Ok(rows)
 }
 
 /// What is told of each hold, in their order.
 pub(crate) fn hold_rows(alloc: Global, holds: &[LiveHold]) -> Result<Vec<Value>, AllocError>
-    ensures { IfOk result (λ rows. map view rows.items ≡ map hold_row holds.now) }
+    ensures { IfOk result (λ rows. map view rows.items ≡ map live_hold_data holds.now) }
 {
     let mut rows = Vec::new(alloc);
     for hold in holds {
-        rows.push(hold_row(alloc, hold)?)?;
+        rows.push(live_hold_data(alloc, hold)?)?;
     }
     Ok(rows)
 }

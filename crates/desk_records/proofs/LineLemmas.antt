@@ -41,7 +41,7 @@ pub day_text-utf8 : (d : Date) → IsDay d → IsUtf8 (day_text d)
 day_text-utf8 d h =
     let y = unsigned_abs d.year in
     let long = days_in_month_bounds d.year d.month in
-    let below : y ≤ 9799 = omega (arith, signed_arith, year_pos d.year h.0, h.1) in
+    let below = four_digits d h in
     let month : d.month < 100 = omega (arith, d.month_in) in
     let day : d.day < 100 = omega (arith, d.day_in, long) in
     IsUtf8-from_ascii (day_text d) (ten_ascii (y / 100 / 10) (y / 100 % 10) (y % 100 / 10) (y % 100 % 10) (d.month / 10) (d.month % 10) (d.day / 10) (d.day % 10)

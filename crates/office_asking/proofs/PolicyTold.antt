@@ -21,6 +21,7 @@ use Rattle.office_core.specs.declared.rule.Pattern.TheVariants as patterns
 use Rattle.office_core.specs.declared.rule.Rule.{Rule}
 use Rattle.office_rows.specs.Rows.{CallerRow, RuleRow, caller_named}
 use Rattle.office_history.specs.Pictures.{caller_row, effect_number, pattern_text, action_pattern_text, rule_row, rule_rows}
+use Rattle.office_history.proofs.Pictured.{not_star}
 use Rattle.office_history.proofs.RowLemmas.{count_of_rules}
 use Rattle.office_asking.specs.Asking.{star, asks_for, asks_for_optional, row_matches, row_decision, as_row}
 
@@ -36,13 +37,6 @@ role_told name (c ∷ cs) = by (bytes_eq c.name name) (role_told name cs)
     by false rest = rest
 
 -- ---- the patterns
-
-not_star : (only : List ℕ) → IsName only → bytes_eq only star ≡ false
-not_star only named = by (bytes_eq only star) refl
-  where
-    by : (b : Bool) → bytes_eq only star ≡ b → b ≡ false
-    by true e = absurd (let wrong : is_name star ≡ true = subst IsName ((bytes_eq-Decides only star).0 e) named in true≢false (sym wrong))
-    by false e = refl
 
 asks_told : (pattern : Pattern) (name : List ℕ) → IsNamed pattern → asks_for (pattern_text pattern) name ≡ matches_name pattern name
 asks_told patterns.Any name named = refl

@@ -9,7 +9,7 @@ use Rattle.office_history.specs.Pictures.{deposit_row}
 use Rattle.office_history.specs.Refusals.{of_deposit}
 
 -- the deposit is there, this is its row, and none of these refusals stands
-pub record IsThere (h : History) (n : ℕ) (these : Deposit → List (Option Refusal)) (row : DepositRow) : Type 0 where
+pub record IsFoundRow (h : History) (n : ℕ) (these : Deposit → List (Option Refusal)) (row : DepositRow) : Type 0 where
   pub found : Date × Deposit
   pub there : deposit_numbered h n ≡ Some found
   pub row_is : row ≡ deposit_row h n found
@@ -17,5 +17,5 @@ pub record IsThere (h : History) (n : ℕ) (these : Deposit → List (Option Ref
 
 -- the deposit's row, or the first refusal that stands
 abbrev pub IsAsked : History → ℕ → (Deposit → List (Option Refusal)) → Result DepositRow Refusal → Type 0
-IsAsked h n these (Ok row) = IsThere h n these row
+IsAsked h n these (Ok row) = IsFoundRow h n these row
 IsAsked h n these (Err why) = Some why ≡ first_some (of_deposit (deposit_numbered h n) these)

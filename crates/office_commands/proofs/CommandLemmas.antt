@@ -7,7 +7,7 @@ use Rattle.sqlite.specs.Files.{over_files}
 use Rattle.sqlite.specs.Steps.{over_memory}
 use Rattle.office_core.specs.Policies.{Contents}
 use Rattle.office_core.specs.declared.policy_fault.PolicyFault.{PolicyFault}
-use Rattle.office_engine.specs.Keeping.{with_policy}
+use Rattle.office_engine.specs.Keeping.{after_policy}
 use Rattle.office_commands.specs.Answering.{IsNamed}
 use Rattle.office_commands.specs.Commands.{AsksOn, InstallsOn, ReplaysOn, ReplaysWith, StopsOn, StopsReplay}
 use Rattle.office_commands.specs.Policies.{IsRead}
@@ -28,9 +28,9 @@ pub installs_on : {D T E : Type 0} (g : Ghosts D) (r : Result T E) (first : Imag
 installs_on g (Err e) first store policy was_left left held holds memory file = tt
 installs_on g (Ok x) first store policy was_left left held holds memory file = (
   (λ is. memory_said (λ old new. Does over_memory (Install policy) old new was_left left held holds) (InstallsFirst over_memory (Some policy.now)) (λ h next. DoesFrom (Install policy) h next was_left left held holds)
-      (λ h next. next ≡ with_policy policy.now h) (λ old new does. does.0) (λ h next leads. leads.0) (memory is)),
+      (λ h next. next ≡ after_policy policy.now h) (λ old new does. does.0) (λ h next leads. leads.0) (memory is)),
   λ isnt. file_said g first (λ old new. Does over_files (Install policy) old new was_left left held holds) (InstallsFirst over_files (Some policy.now)) (λ h next. DoesFrom (Install policy) h next was_left left held holds)
-      (λ h next. next ≡ with_policy policy.now h) (λ old new does. does.0) (λ h next leads. leads.0) (file isnt),
+      (λ h next. next ≡ after_policy policy.now h) (λ old new does. does.0) (λ h next leads. leads.0) (file isnt),
 )
 
 pub installs_fail : {T : Type 0} (r : Result T CommandFault) (store : List ℕ) (policy : Bor Contents) (AtRecord AtRecord' : Option Contents → ℕ → Type 0)

@@ -7,7 +7,7 @@ use Rattle.sqlite.specs.Store.{Ghosts}
 use Rattle.office_core.specs.Policies.{Contents}
 use Rattle.office_history.specs.Histories.{History}
 use Rattle.office_history.specs.Runs.{IsLegal}
-use Rattle.office_engine.specs.Keeping.{CommitsTo, Installs, IsKeptBy, IsReached, with_policy}
+use Rattle.office_engine.specs.Keeping.{CommitsTo, Installs, IsKeptBy, IsReached, after_policy}
 use Rattle.desk_records.specs.RecordLists.{RequestRecord, answer_texts}
 use Rattle.http_desk.specs.Replaying.{AnswersEach, HasAnswered, Stopped}
 use Rattle.http_desk.specs.declared.replaying.ReplayFault.{ReplayFault}
@@ -99,7 +99,7 @@ stopped {S = S} T g first last was_left left held holds fault named is stop =
 -- ---- a policy that comes first
 
 pub installed_first : {S T E : Type 0} (g : Ghosts S) (r : Result T E) (first last : Held S) (policy : Contents) → (HasCleanDisk (state g last) → OnOk r (Installs (state g first) (state g last) policy))
-    → Survives (state g first) (state g last) (CommitsTo (state g first) (with_policy policy)) → OnOk r (InstallsFirst g (Some policy) first last)
+    → Survives (state g first) (state g last) (CommitsTo (state g first) (after_policy policy)) → OnOk r (InstallsFirst g (Some policy) first last)
 installed_first g (Ok x) first last policy installs survives = ((λ clean. omega (arith, clean, survives.clean)), installs)
 installed_first g (Err e) first last policy installs survives = tt
 

@@ -8,7 +8,7 @@ use Rattle.office_rows.specs.Rows.{max_limit}
 use Rattle.office_core.specs.Policies.{Contents}
 use Rattle.office_history.specs.Histories.{History}
 use Rattle.office_history.specs.Runs.{IsLegal, new}
-use Rattle.office_engine.specs.Keeping.{CommitsTo, Installs, IsKeptBy, IsReached, with_policy}
+use Rattle.office_engine.specs.Keeping.{CommitsTo, Installs, IsKeptBy, IsReached, after_policy}
 use Rattle.office_commands.specs.Answering.{made_office}
 use Rattle.office_commands.specs.Tasks.{Does, DoesFrom, IsStoppedBy}
 use Rattle.office_commands.specs.Texts.{IsFailure}
@@ -25,7 +25,7 @@ keeps_same None = tt
 keeps_same (Some xs) = refl
 
 pub install_does : {T E : Type 0} (r : Result T E) (first last : State) (policy : Contents) (held : Option (List ℕ)) → (HasCleanDisk last → OnOk r (Installs first last policy))
-    → Survives first last (CommitsTo first (with_policy policy))
+    → Survives first last (CommitsTo first (after_policy policy))
     → OnOk r (((HasCleanDisk last → HasCleanDisk first) × (HasCleanDisk last → Installs first last policy)) × Keeps held held)
 install_does (Ok x) first last policy held installs survives = (((λ clean. omega (arith, clean, survives.clean)), installs), keeps_same held)
 install_does (Err e) first last policy held installs survives = tt
@@ -33,7 +33,7 @@ install_does (Err e) first last policy held installs survives = tt
 pub done_from : {S : Type 0} (g : Ghosts S) (task : Task) (first last : Held S) (was_left left held holds : Option (List ℕ)) → Does g task first last was_left left held holds
     → HasCleanDisk (state g last) → (h : History) → IsLegal h → IsKeptBy h (state g first)
     → (next : History) × DoesFrom task h next was_left left held holds × IsReached next (state g last)
-done_from g (Install policy) first last was_left left held holds does clean h legal keeps = (with_policy policy.now h, (refl, does.1), does.0.1 clean h legal keeps)
+done_from g (Install policy) first last was_left left held holds does clean h legal keeps = (after_policy policy.now h, (refl, does.1), does.0.1 clean h legal keeps)
 done_from g (Ask day) first last was_left left held holds does clean h legal keeps =
     let asked = does.1 in
     let it = answered_from g asked.1 day (whole_of was_left asked.0) does.0 first last asked.3 clean h legal keeps in

@@ -9,7 +9,7 @@ use Rattle.office_core.specs.declared.answer.Answer.{Answer}
 use Rattle.commands.specs.Explaining.{Spells}
 use Rattle.office_history.specs.Histories.{History}
 use Rattle.office_history.specs.Runs.{Item, Run, Step, new_history}
-use Rattle.office_engine.specs.Keeping.{with_policy}
+use Rattle.office_engine.specs.Keeping.{after_policy}
 use Rattle.desk_routes.specs.declared.refusal.DeskRefusal.{DeskRefusal}
 use Rattle.desk_hearing.specs.Asked.{HeardValue}
 use Rattle.desk_hearing.specs.Hearing.{Hears}
@@ -27,7 +27,7 @@ made_office = new_history max_limit max_limit
 -- the history with a policy, where one is installed first
 abbrev pub after_install : Option Contents → History → History
 after_install None h = h
-after_install (Some policy) h = with_policy policy h
+after_install (Some policy) h = after_policy policy h
 
 -- The bytes of a request are answered with this text on that day: by the office, whose history goes on by what they ask, or by the
 -- desk, which refuses them.

@@ -9,7 +9,7 @@ use Rattle.sqlite.specs.Steps.{over_memory}
 use Rattle.office_core.specs.Policies.{Contents}
 use Rattle.commands.specs.Explaining.{HasFault}
 use Rattle.office_history.specs.Histories.{History}
-use Rattle.office_engine.specs.Keeping.{with_policy}
+use Rattle.office_engine.specs.Keeping.{after_policy}
 use Rattle.office_commands.specs.Answering.{AsksFrom, IsNamed, ReplaysFrom, StopsFrom, after_install, made_office}
 use Rattle.office_commands.specs.Stores.{IsDoneInFile, IsDoneInMemory, ServesInFile, ServesInMemory}
 use Rattle.office_commands.specs.Working.{Asks, InstallsFirst, ReplaysUnder, StopsUnder}
@@ -23,8 +23,8 @@ OnStore store Memory File = (store ≡ codes ":memory:" → Memory) × (store �
 -- the policy is installed
 abbrev pub InstallsOn : {D : Type 0} → disk.Ghosts D → Image → List ℕ → Contents → Type 0
 InstallsOn g first store policy =
-    OnStore store (IsDoneInMemory (InstallsFirst over_memory (Some policy)) (λ h next. next ≡ with_policy policy h))
-    (IsDoneInFile g first (InstallsFirst over_files (Some policy)) (λ h next. next ≡ with_policy policy h))
+    OnStore store (IsDoneInMemory (InstallsFirst over_memory (Some policy)) (λ h next. next ≡ after_policy policy h))
+    (IsDoneInFile g first (InstallsFirst over_files (Some policy)) (λ h next. next ≡ after_policy policy h))
 
 -- what the input gives is answered
 abbrev pub AsksOn : {D : Type 0} → disk.Ghosts D → Image → List ℕ → Date → Option (List ℕ) → Option (List ℕ) → Option (List ℕ) → Option (List ℕ) → Type 0

@@ -5,7 +5,7 @@ use Rattle.sqlite.specs.Held.{Held}
 use Rattle.sqlite.specs.Store.{Ghosts}
 use Rattle.office_core.specs.Policies.{Contents}
 use Rattle.office_history.specs.Histories.{History}
-use Rattle.office_engine.specs.Keeping.{with_policy}
+use Rattle.office_engine.specs.Keeping.{after_policy}
 use Rattle.office_commands.specs.Working.{Asks, InstallsFirst, ReplaysUnder, StopsUnder}
 use Rattle.office_commands.specs.Answering.{AsksFrom, ReplaysFrom, after_install}
 use Rattle.office_commands.specs.declared.fault.CommandFault.{CommandFault}
@@ -28,7 +28,7 @@ Does g (Replay policy) old new was_left left held holds = ReplaysUnder g (option
 
 -- the task is done with an office that has this history, and leads to the next
 abbrev pub DoesFrom : Task → History → History → Option (List ℕ) → Option (List ℕ) → Option (List ℕ) → Option (List ℕ) → Type 0
-DoesFrom (Install policy) h next was_left left held holds = (next ≡ with_policy policy.now h) × Keeps held holds
+DoesFrom (Install policy) h next was_left left held holds = (next ≡ after_policy policy.now h) × Keeps held holds
 DoesFrom (Ask day) h next was_left left held holds = AsksFrom h day next was_left left held holds
 DoesFrom (Replay policy) h next was_left left held holds = ReplaysFrom (after_install (option_copied policy) h) next was_left left held holds
 

@@ -3,7 +3,7 @@
 ghost use Rattle.std.specs.Prelude.{◌≡◌, IfErr, OnErr, OnOk, option_copied};
 ghost use Rattle.sqlite.specs.Held.{state};
 ghost use Rattle.sqlite.specs.State.{HasCleanDisk, Survives};
-ghost use Rattle.office_engine.specs.Keeping.{CommitsTo, InstallLasts, Installs, IsUnchanged, LeavesEither, with_policy};
+ghost use Rattle.office_engine.specs.Keeping.{CommitsTo, InstallLasts, Installs, IsUnchanged, LeavesEither, after_policy};
 ghost use Rattle.office_commands.specs.Tasks.{Stops};
 ghost use Rattle.office_commands.specs.Texts.{IsFailure, desk_failure, replay_failure, table_failure};
 ghost use Rattle.office_commands.specs.Working.{Asks, AsksInPart, EndsReplay, InstallsFirst, ReplaysUnder};
@@ -55,11 +55,11 @@ pub fn install_policy<S: Alter>(
     ensures kept { HasCleanDisk (state S.Store office.new)
         → OnErr result (IsUnchanged (state S.Store office.old) (state S.Store office.new)) }
     ensures survives { Survives (state S.Store office.old) (state S.Store office.new)
-        (CommitsTo (state S.Store office.old) (with_policy policy.now)) }
+        (CommitsTo (state S.Store office.old) (after_policy policy.now)) }
     ensures durable { HasCleanDisk (state S.Store office.new)
         → OnOk result (InstallLasts (state S.Store office.old) (state S.Store office.new) policy.now) }
     ensures leaves { HasCleanDisk (state S.Store office.new)
-        → LeavesEither (state S.Store office.old) (state S.Store office.new) (with_policy policy.now) }
+        → LeavesEither (state S.Store office.old) (state S.Store office.new) (after_policy policy.now) }
     ensures failure { IfErr result IsFailure }
 {
     match office.install(alloc, policy) {

@@ -111,12 +111,16 @@ pub year_pos : (y : ℤ) → first_year ≤ℤ y → y ≡ pos (unsigned_abs y)
 year_pos (pos n) h = refl
 year_pos (negsuc n) h = absurd (omega (arith, signed_arith, h))
 
+-- a year has four digits at most
+pub four_digits : (d : Date) → IsDay d → unsigned_abs d.year < 10000
+four_digits d h = omega (arith, signed_arith, year_pos d.year h.0, h.1)
+
 -- a day's text is read as its parts
 pub parts_of-day : (d : Date) → IsDay d → parts_of (day_text d) ≡ Some (unsigned_abs d.year / 100, unsigned_abs d.year % 100, d.month, d.day)
 parts_of-day d h =
     let y = unsigned_abs d.year in
     let long = days_in_month_bounds d.year d.month in
-    let below : y ≤ 9799 = omega (arith, signed_arith, year_pos d.year h.0, h.1) in
+    let below = four_digits d h in
     rw (number-digits (y / 100) (omega (arith, below)), number-digits (y % 100) (omega arith), number-digits d.month (omega (arith, d.month_in)), number-digits d.day (omega (arith, d.day_in, long)))
 
 -- and they are its year, month and day

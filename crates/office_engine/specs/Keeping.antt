@@ -151,16 +151,16 @@ LeavesRun old new items given =
 
 -- ---- an install
 
-abbrev pub with_policy : Contents → History → History
-with_policy policy h = with_changes h (Installed policy ∷ [])
+abbrev pub after_policy : Contents → History → History
+after_policy policy h = with_changes h (Installed policy ∷ [])
 
 -- whichever legal history was kept, it is kept with the policy
 abbrev pub Installs : State → State → Contents → Type 0
-Installs old new policy = (h : History) → IsLegal h → IsKeptBy h old → IsReached (with_policy policy h) new
+Installs old new policy = (h : History) → IsLegal h → IsKeptBy h old → IsReached (after_policy policy h) new
 
 -- and a crash leaves that, and nothing else
 abbrev pub InstallLasts : State → State → Contents → Type 0
-InstallLasts old new policy = (h : History) → IsLegal h → IsKeptBy h old → (left : Trees) → new.may_leave left → IsLeftOf (with_policy policy h) left
+InstallLasts old new policy = (h : History) → IsLegal h → IsKeptBy h old → (left : Trees) → new.may_leave left → IsLeftOf (after_policy policy h) left
 
 -- ---- the due list
 

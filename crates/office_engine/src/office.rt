@@ -11,7 +11,7 @@ ghost use Rattle.sqlite.specs.Tree.{Trees};
 ghost use Rattle.office_core.specs.declared.answer.Answer.{Answer as AnswerValue};
 ghost use Rattle.office_tables.specs.Faults as faults;
 ghost use Rattle.office_tables.specs.Opening as opening;
-ghost use Rattle.office_tables.specs.Opening.{HasOtherVersion, HasVersion, IsKept, IsKnownAsOther, has_office};
+ghost use Rattle.office_tables.specs.Opening.{HasOtherVersion, HasVersion, KeepsTables, IsKnownAsOther, has_office};
 ghost use Rattle.office_tables.specs.Tables.{IsOffice, tables_of};
 ghost use Rattle.office_tables.specs.Schema.{no_schema};
 ghost use Rattle.office_tables.specs.declared.fault.TableFault.TheVariants.{NotAnOffice, OtherVersion};
@@ -20,7 +20,7 @@ ghost use Rattle.office_history.specs.Histories.{History};
 ghost use Rattle.office_history.specs.Answers.{after};
 ghost use Rattle.office_history.specs.Runs.{IsLegal, Item, new_history};
 ghost use Rattle.office_recovery.specs.Found.{HoldsWhere};
-ghost use Rattle.office_engine.specs.Keeping.{AllStayShut, Audits, CommitsRun, CommitsTo, InTurn, InstallLasts, Installs, IsKeptBy, IsKeptOfRun, IsLeftOf, IsLeftOfEither, IsLeftOfRun, IsUnchanged, Lasts, LeavesEither, LeavesKept, LeavesRun, ListsDue, Runs, Serves, StaysShut, after_item, is_accepted, with_policy};
+ghost use Rattle.office_engine.specs.Keeping.{AllStayShut, Audits, CommitsRun, CommitsTo, InTurn, InstallLasts, Installs, IsKeptBy, IsKeptOfRun, IsLeftOf, IsLeftOfEither, IsLeftOfRun, IsUnchanged, Lasts, LeavesEither, LeavesKept, LeavesRun, ListsDue, Runs, Serves, StaysShut, after_item, is_accepted, after_policy};
 
 use crate::installing::install;
 use crate::listing::due_list;
@@ -75,7 +75,7 @@ impl<S: Alter> Office<S> {
         ensures durable { IfOk result (λ office. HasCleanDisk (state S.Store office) → (left : Trees)
             → (state S.Store office).may_leave left → IsLeftOf (new_history limits.deposits limits.holds) left) }
         ensures refused { IfErr result (λ e. HasCleanDisk (state S.Store e.0)
-            → IsKept (state S.Store conn) (state S.Store e.0)) }
+            → KeepsTables (state S.Store conn) (state S.Store e.0)) }
         ensures refused_outside { IfErr result (λ e. (state S.Store e.0).in_transaction ≡ false) }
         ensures refused_survives { IfErr result (λ e. Survives (state S.Store conn) (state S.Store e.0)
             (IsLeftOf (new_history limits.deposits limits.holds))) }
@@ -96,7 +96,7 @@ impl<S: Alter> Office<S> {
     /// The connection is handed back, its tables as they were.
     pub fn adopt(conn: Connection<S>) -> Result<Office<S>, (Connection<S>, TableFault)>
         requires outside { (state S.Store conn).in_transaction ≡ false }
-        ensures same { IfOk result (λ office. HasCleanDisk (state S.Store office) → IsKept (state S.Store conn) (state S.Store office)) }
+        ensures same { IfOk result (λ office. HasCleanDisk (state S.Store office) → KeepsTables (state S.Store conn) (state S.Store office)) }
         ensures version { IfOk result (λ office. HasCleanDisk (state S.Store office) → HasVersion (state S.Store conn).now this_version) }
         ensures has_table { IfOk result (λ office. HasCleanDisk (state S.Store office) → IsTrue (has_office (state S.Store conn).now.schema)) }
         ensures known_as_this { IfOk result (λ office. HasCleanDisk (state S.Store office) → IsOffice (state S.Store conn).now
@@ -109,7 +109,7 @@ impl<S: Alter> Office<S> {
         ensures known { IfErr result (λ e. HasCleanDisk (state S.Store e.0) → IsTrue (state S.Store conn).is_open
             → (h : History) → IsLegal h → IsLeftOf h (state S.Store conn).now.trees → faults.IsFailure e.1) }
 
-        ensures refused { IfErr result (λ e. HasCleanDisk (state S.Store e.0) → IsKept (state S.Store conn) (state S.Store e.0)) }
+        ensures refused { IfErr result (λ e. HasCleanDisk (state S.Store e.0) → KeepsTables (state S.Store conn) (state S.Store e.0)) }
         ensures refused_outside { IfErr result (λ e. (state S.Store e.0).in_transaction ≡ false) }
         ensures refused_survives { IfErr result (λ e. Survives (state S.Store conn) (state S.Store e.0) (λ _. ⊥)) }
         ensures goes_back { IfErr result (λ e. HasCleanDisk (state S.Store e.0)
@@ -140,11 +140,11 @@ impl<S: Alter> Office<S> {
         ensures kept { HasCleanDisk (state S.Store self.new)
             → OnErr result (IsUnchanged (state S.Store self.old) (state S.Store self.new)) }
         ensures survives { Survives (state S.Store self.old) (state S.Store self.new)
-            (CommitsTo (state S.Store self.old) (with_policy policy.now)) }
+            (CommitsTo (state S.Store self.old) (after_policy policy.now)) }
         ensures durable { HasCleanDisk (state S.Store self.new)
             → OnOk result (InstallLasts (state S.Store self.old) (state S.Store self.new) policy.now) }
         ensures leaves { HasCleanDisk (state S.Store self.new)
-            → LeavesEither (state S.Store self.old) (state S.Store self.new) (with_policy policy.now) }
+            → LeavesEither (state S.Store self.old) (state S.Store self.new) (after_policy policy.now) }
     {
         install(alloc, &mut self.conn, policy)
     }

@@ -258,13 +258,16 @@ effect_told Deny = refl
 abbrev pattern_of : List ℕ → Pattern
 pattern_of text = if bytes_eq text (codes "*") then patterns.Any else patterns.Named text
 
+pub not_star : (only : List ℕ) → IsName only → bytes_eq only (codes "*") ≡ false
+not_star only named = by (bytes_eq only (codes "*")) refl
+  where
+    by : (b : Bool) → bytes_eq only (codes "*") ≡ b → b ≡ false
+    by true e = absurd (let star : is_name (codes "*") ≡ true = subst IsName ((bytes_eq-Decides only (codes "*")).0 e) named in true≢false (sym star))
+    by false e = refl
+
 pattern_told : (pattern : Pattern) → IsNamed pattern → pattern_of (pattern_text pattern) ≡ pattern
 pattern_told patterns.Any named = refl
-pattern_told (patterns.Named only) named = by (bytes_eq only (codes "*")) refl
-  where
-    by : (b : Bool) → bytes_eq only (codes "*") ≡ b → (if bytes_eq only (codes "*") then patterns.Any else patterns.Named only) ≡ patterns.Named only
-    by true e = absurd (let star : is_name (codes "*") ≡ true = subst IsName ((bytes_eq-Decides only (codes "*")).0 e) named in true≢false (sym star))
-    by false e = ap (λ b. if b then patterns.Any else patterns.Named only) e
+pattern_told (patterns.Named only) named = ap (λ b. if b then patterns.Any else patterns.Named only) (not_star only named)
 
 abbrev action_pattern_of : List ℕ → ActionPattern
 action_pattern_of text = if bytes_eq text (codes "*") then action_patterns.Any else action_patterns.Only (unwrap_or (action_of text) acts.Class)

@@ -19,6 +19,6 @@ pub record IsForm (text : List ℕ) (files : List File) : Type 0 where
   pub read : set_of text ≡ Ok files
 
 -- what a call says of a bag is what judging it gives
-abbrev pub Judged : Result BagReport (List ℕ) → Result Report (List ℕ) → Type 0
-Judged (Ok report) judged = judged ≡ Ok (report_seen report)
-Judged (Err fault) judged = judged ≡ Err fault
+abbrev pub IsReported : Result BagReport (List ℕ) → Result Report (List ℕ) → Type 0
+IsReported (Ok report) judged = judged ≡ Ok (report_seen report)
+IsReported (Err fault) judged = judged ≡ Err fault

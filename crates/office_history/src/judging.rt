@@ -9,7 +9,7 @@ ghost use Rattle.bag_check.specs.Answers.{named_fault, printed_fault};
 ghost use Rattle.office_history.specs.Answers.{audit_report};
 ghost use Rattle.office_history.specs.Bags as bags;
 ghost use Rattle.office_history.specs.Bags.{bag_of};
-ghost use Rattle.office_history.specs.PlainBags.{Judged};
+ghost use Rattle.office_history.specs.PlainBags.{IsReported};
 ghost use Rattle.office_history.specs.Refusals.{refusal_of};
 
 use bag_check::{BagFault, BagReport, check_bag};
@@ -43,7 +43,7 @@ pub fn report_on(
     alloc: Global,
     bag: &BagSet<'_>,
 ) -> Result<Result<BagReport, FaultText>, AllocError>
-    ensures { IfOk result (λ judged. Judged judged (bags.report_on bag.now)) }
+    ensures { IfOk result (λ judged. IsReported judged (bags.report_on bag.now)) }
 {
     match check_bag(alloc, bag) {
         Ok(report) => Ok(Ok(report)),

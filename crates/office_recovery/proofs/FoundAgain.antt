@@ -12,7 +12,7 @@ use Rattle.sqlite_catalog.proofs.ReadLemmas.{lists_once}
 use Rattle.sql_meaning.specs.Whole.{IsWhole}
 use Rattle.office_rows.specs.Rows.{Tables, version_of, this_version}
 use Rattle.office_tables.specs.Tables.{Becomes, IsOffice, tables_of}
-use Rattle.office_tables.specs.Opening.{IsLeft, IsKept, IsKnownAsOther}
+use Rattle.office_tables.specs.Opening.{IsLeft, KeepsTables, IsKnownAsOther}
 use Rattle.office_tables.specs.Faults.{IsFailure}
 use Rattle.office_tables.specs.declared.fault.TableFault.{TableFault}
 use Rattle.office_tables.specs.declared.fault.TableFault.TheVariants.{NotAnOffice, OtherVersion, Memory, Store}
@@ -37,7 +37,7 @@ pub becomes_again : (tables : Tables) (left : Trees) (b : Database) → IsLeft t
 becomes_again tables left b h q e = found_again (λ d. Becomes d tables) h.0 b h.1.office.listed q (e ∙ h.2) h.1
 
 -- a call that keeps what the connection shows keeps an office whose trees it holds
-pub goes_on : (old new : State) → IsLive old → (IsTrue old.is_open → old.now ≡ old.committed) → IsKept old new → GoesOnAs old new
+pub goes_on : (old new : State) → IsLive old → (IsTrue old.is_open → old.now ≡ old.committed) → KeepsTables old new → GoesOnAs old new
 goes_on old new live settled kept tables left is_open =
     let was_open = (kept is_open).0 in
     let same = (kept is_open).1 (sym (settled was_open)) in

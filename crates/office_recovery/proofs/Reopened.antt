@@ -13,7 +13,7 @@ use Rattle.sqlite.specs.Start.{FindsIn}
 use Rattle.sqlite.specs.Files.{HoldsDatabase}
 use Rattle.sqlite.proofs.Theorems.{opens_again}
 use Rattle.office_rows.specs.Rows.{Tables}
-use Rattle.office_tables.specs.Opening.{HasVersion, IsKept, IsLeft}
+use Rattle.office_tables.specs.Opening.{HasVersion, KeepsTables, IsLeft}
 use Rattle.office_recovery.specs.Found.{IsKeptAs, GoesOnAs, HoldsWhere, PicksUp}
 use Rattle.office_recovery.proofs.FoundAgain.{becomes_again}
 use Rattle.office_recovery.proofs.Settled.{left_from}
@@ -38,7 +38,7 @@ picks_up image first last finds opens on db held tables left =
     on tables (subst (IsLeft tables) (sym (ap (λ (d : Database). d.trees) opens.clean ∙ finds db held)) left)
 
 -- and shows the version that it was found to have
-pub shows_version : (first last : State) (version : ℤ) → Opens first → IsKept first last → HasVersion first.now version → IsTrue last.is_open → HasVersion last.now version
+pub shows_version : (first last : State) (version : ℤ) → Opens first → KeepsTables first last → HasVersion first.now version → IsTrue last.is_open → HasVersion last.now version
 shows_version first last version opens kept has is_open =
     let same = (kept is_open).1 (sym opens.clean) in subst (λ (d : Database). HasVersion d version) (sym same.0) has
 

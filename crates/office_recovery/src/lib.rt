@@ -12,7 +12,7 @@ ghost use Rattle.sqlite.specs.WalFiles.{image_at};
 ghost use Rattle.office_rows.specs.Rows.{Tables, this_version, version_of};
 ghost use Rattle.office_tables.specs.Faults.{IsFailure};
 ghost use Rattle.office_tables.specs.Opening as opening;
-ghost use Rattle.office_tables.specs.Opening.{HasOtherVersion, HasVersion, IsKept, IsKnownAsOther, IsLeft, has_office};
+ghost use Rattle.office_tables.specs.Opening.{HasOtherVersion, HasVersion, KeepsTables, IsKnownAsOther, IsLeft, has_office};
 ghost use Rattle.office_tables.specs.Tables.{IsOffice, tables_of};
 ghost use Rattle.office_tables.specs.declared.fault.TableFault.TheVariants.{NotAnOffice, OtherVersion};
 ghost use Rattle.office_recovery.specs.Found.{GoesOnAs, HoldsWhere, PicksUp};
@@ -32,7 +32,7 @@ pub fn adopt<S: Alter>(
     requires outside { (state S.Store conn).in_transaction ≡ false }
     // The tables are as they were.
     ensures outside { IfOk result (λ office. (state S.Store office).in_transaction ≡ false) }
-    ensures same { IfOk result (λ office. HasCleanDisk (state S.Store office) → IsKept (state S.Store conn) (state S.Store office)) }
+    ensures same { IfOk result (λ office. HasCleanDisk (state S.Store office) → KeepsTables (state S.Store conn) (state S.Store office)) }
     ensures survives { IfOk result (λ office. Survives (state S.Store conn) (state S.Store office) (λ _. ⊥)) }
     ensures version { IfOk result (λ office. HasCleanDisk (state S.Store office) → HasVersion (state S.Store conn).now this_version) }
     ensures has_table { IfOk result (λ office. HasCleanDisk (state S.Store office) → IsTrue (has_office (state S.Store conn).now.schema)) }
@@ -43,7 +43,7 @@ pub fn adopt<S: Alter>(
 
     // A refusal leaves them so too.
     ensures refused_outside { IfErr result (λ e. (state S.Store e.0).in_transaction ≡ false) }
-    ensures refused_same { IfErr result (λ e. HasCleanDisk (state S.Store e.0) → IsKept (state S.Store conn) (state S.Store e.0)) }
+    ensures refused_same { IfErr result (λ e. HasCleanDisk (state S.Store e.0) → KeepsTables (state S.Store conn) (state S.Store e.0)) }
     ensures refused_survives { IfErr result (λ e. Survives (state S.Store conn) (state S.Store e.0) (λ _. ⊥)) }
     ensures refused { IfErr result (λ e. HasCleanDisk (state S.Store e.0) → GoesOnAs (state S.Store conn) (state S.Store e.0)) }
     // It is no office, or one of another version, exactly where `open_tables` says so.

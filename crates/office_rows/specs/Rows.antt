@@ -116,8 +116,8 @@ last_number number (r ∷ rs) = Some (unwrap_or (last_number number rs) (number 
 abbrev pub is_office_row : OfficeRow → Bool
 is_office_row o = int_eq o.id (pos 1)
 
-abbrev pub office_row : Tables → Option OfficeRow
-office_row t = find is_office_row t.office
+abbrev pub row_of_office : Tables → Option OfficeRow
+row_of_office t = find is_office_row t.office
 
 -- how many deposits and holds an office may have at most
 pub record Limits : Type 0 where
@@ -128,7 +128,7 @@ abbrev pub limits_in : OfficeRow → Limits
 limits_in o = record { max_deposits = o.max_deposits; max_holds = o.max_holds }
 
 abbrev pub limits_of : Tables → Option Limits
-limits_of t = option_map limits_in (office_row t)
+limits_of t = option_map limits_in (row_of_office t)
 
 -- the deposits, and the holds, that an office may be told to accept: the greatest limit
 abbrev pub max_limit : ℕ

@@ -19,11 +19,11 @@ use Rattle.office_history.specs.Refusals.{of_deposit, kept_refusals, file_refusa
 use Rattle.office_history.specs.Answers.{told_of, file_answer, allowed_answer, allowed_change}
 use Rattle.office_asking.specs.Pictures.{Pictures}
 use Rattle.office_asking.specs.Serving.{IsServed}
-use Rattle.office_asking.specs.Deposits.{IsThere}
+use Rattle.office_asking.specs.Deposits.{IsFoundRow}
 use Rattle.office_asking.proofs.DepositAsked.{still_kept}
 use Rattle.office_asking.proofs.Serving.{read_serves, refused_serves, one_refusal}
 
-module _ {h : History} (caller : List ℕ) (action : Action) {n : ℕ} {row : DepositRow} (it : IsThere h n (kept_refusals h caller action n) row) where
+module _ {h : History} (caller : List ℕ) (action : Action) {n : ℕ} {row : DepositRow} (it : IsFoundRow h n (kept_refusals h caller action n) row) where
   -- where nothing is refused, the deposit was not destroyed
   pub is_kept : destruction_day h n ≡ None
   is_kept = still_kept (denial_at h caller action it.found.1) (destruction_day h n) _ it.free
@@ -62,7 +62,7 @@ module _ (h : History) (day : Date) (caller : List ℕ) (n : ℕ) (path : Bor (L
   pub file_not_asked : (why : Refusal) → Some why ≡ first_some (of_deposit (deposit_numbered h n) (kept_refusals h caller acts.Download n)) → Pictures h db → IsServed h day caller (DownloadFile n path) (answers.Refused why) db
   file_not_asked why e pictured = refused_serves h day caller (DownloadFile n path) db why (asks_first why e) pictured
 
-  module _ (row : DepositRow) (it : IsThere h n (kept_refusals h caller acts.Download n) row) where
+  module _ (row : DepositRow) (it : IsFoundRow h n (kept_refusals h caller acts.Download n) row) where
     asks : no_file it.found.1 path.now ≡ refusal h day caller (DownloadFile n path)
     asks = first_of_three (denial_at h caller acts.Download it.found.1) (gone_refusal h n) (no_file it.found.1 path.now) it.free ∙ ap (λ o. first_some (of_deposit o (file_refusals h caller n path.now))) (sym it.there)
 

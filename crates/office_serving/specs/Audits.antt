@@ -14,21 +14,21 @@ use Rattle.office_history.specs.Bags.{report_on}
 use Rattle.office_history.specs.Answers.{audit_report}
 use Rattle.office_serving.specs.Files.{file_in}
 
-abbrev pub verdict_unless : Option SetFault → List File → AuditReport
-verdict_unless (Some fault) files = Invalid (set_fault_text fault)
-verdict_unless None files = audit_report (report_on files)
+abbrev pub audit_unless : Option SetFault → List File → AuditReport
+audit_unless (Some fault) files = Invalid (set_fault_text fault)
+audit_unless None files = audit_report (report_on files)
 
--- the verdict on a list of files: the text of its first fault where it is no bag, and else the report on the bag, or the text of
+-- the audit of a list of files: the text of its first fault where it is no bag, and else the report on the bag, or the text of
 -- the bag's first fault
-abbrev pub verdict_on : List File → AuditReport
-verdict_on files = verdict_unless (list_fault files) files
+abbrev pub audit_of : List File → AuditReport
+audit_of files = audit_unless (list_fault files) files
 
 -- the files that stand in the tables for the deposit of that number, ascending by path
 abbrev pub stored_files : ℕ → Tables → List File
 stored_files n tables = map file_in (files_by_path (pos n) tables)
 
--- the answer is an audit of that deposit, and its report is the verdict on the files that stand there; or it is a refusal
+-- the answer is an audit of that deposit, and its report is that of the files that stand there; or it is a refusal
 abbrev pub IsAuditOf : Tables → ℕ → Answer → Type 0
-IsAuditOf tables n (answers.Audit deposit report) = (deposit ≡ n) × (report ≡ verdict_on (stored_files n tables))
+IsAuditOf tables n (answers.Audit deposit report) = (deposit ≡ n) × (report ≡ audit_of (stored_files n tables))
 IsAuditOf tables n (answers.Refused why) = ⊤
 IsAuditOf tables n _ = ⊥

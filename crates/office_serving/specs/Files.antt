@@ -4,7 +4,7 @@ use Rattle.bag_text.specs.TransferForm.{File, IsBag}
 use Rattle.office_core.specs.declared.refusal.Refusal.{Refusal}
 use Rattle.office_rows.specs.Rows.{DepositRow, FileRow}
 use Rattle.office_history.specs.Histories.{History, Deposit}
-use Rattle.office_asking.specs.Deposits.{IsAsked, IsThere}
+use Rattle.office_asking.specs.Deposits.{IsAsked, IsFoundRow}
 
 -- the file of a row
 abbrev pub file_in : FileRow → File
@@ -13,7 +13,7 @@ file_in row = record { path = row.path; content = row.content }
 -- the deposit is there, none of these refusals stands, and these are the files of its bag, which is one
 pub record AreThere (h : History) (n : ℕ) (these : Deposit → List (Option Refusal)) (files : List File) : Type 0 where
   pub row : DepositRow
-  pub it : IsThere h n these row
+  pub it : IsFoundRow h n these row
   pub are : files ≡ it.found.1.bag
   pub bag : IsBag it.found.1.bag
 

@@ -6,7 +6,7 @@ ghost use Rattle.office_tables.specs.Faults.{IsFailure};
 ghost use Rattle.office_tables.specs.Calls.{CommitsNothing, Continues, Tells};
 ghost use Rattle.office_asking.specs.Serving.{Decides};
 ghost use Rattle.office_serving.specs.Files.{file_in};
-ghost use Rattle.office_serving.specs.Audits.{verdict_on, IsAuditOf};
+ghost use Rattle.office_serving.specs.Audits.{audit_of, IsAuditOf};
 
 use crate::bags::{kept_files, pairs_of};
 use bag_text::laws::one_list_fault;
@@ -17,9 +17,9 @@ use office_tables::{FileRow, TableFault};
 use sqlite::{Alter, Transaction};
 use std::alloc::Global;
 
-/// The verdict on the files of the rows.
-fn verdict_on(alloc: Global, rows: &[FileRow]) -> Result<AuditReport, TableFault>
-    ensures verdict { IfOk result (λ report. report ≡ verdict_on (map file_in rows.now)) }
+/// The audit of the files of the rows.
+fn audit_of(alloc: Global, rows: &[FileRow]) -> Result<AuditReport, TableFault>
+    ensures report { IfOk result (λ report. report ≡ audit_of (map file_in rows.now)) }
     ensures failure { IfErr result IsFailure }
 {
     one_list_fault();
@@ -31,7 +31,7 @@ fn verdict_on(alloc: Global, rows: &[FileRow]) -> Result<AuditReport, TableFault
     }
 }
 
-/// Answers the verdict on a deposit's bag, as its files are stored, whoever wrote them.
+/// Answers the audit of a deposit's bag, as its files are stored, whoever wrote them.
 ///
 /// Fails with `Memory` or `Store`.
 pub fn audit<S: Alter>(
@@ -46,14 +46,14 @@ pub fn audit<S: Alter>(
     ensures goes_on { Continues S.Store tx.old.conn.now tx.new.conn.now result }
     ensures failure { IfErr result IsFailure }
     ensures decides { Decides S.Store tx.old.conn.now tx.new.conn.now result day caller.now (requests.Audit number) }
-    // Whatever the tables of the office hold, the report is the verdict on what stands there.
+    // Whatever the tables of the office hold, the report is that of what stands there.
     ensures audited { Tells S.Store tx.old.conn.now tx.new.conn.now result (λ tables answer. IsAuditOf tables number answer) }
 {
     one_list_fault();
     match kept_files(alloc, tx, caller, Action::Audit, number)? {
         Ok(rows) => Ok(Answer::Audit {
             deposit: number,
-            report: verdict_on(alloc, &rows)?,
+            report: audit_of(alloc, &rows)?,
         }),
         Err(why) => Ok(Answer::Refused(why)),
     }

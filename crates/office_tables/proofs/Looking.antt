@@ -20,7 +20,7 @@ use Rattle.sqlite.specs.Held.{Held, state}
 use Rattle.sqlite.specs.Listing.{understood, reads_listing, if_select, is_select, listing_schema}
 use Rattle.sqlite.specs.State.{State, Shown, IsUnchanged, HasCleanDisk, IsRolledBack}
 use Rattle.sql_meaning.specs.Inside.{Stays}
-use Rattle.office_tables.specs.Opening.{look_text, Looks, ShowsVersion, IsKept, shows_office, known_row}
+use Rattle.office_tables.specs.Opening.{look_text, Looks, ShowsVersion, KeepsTables, shows_office, known_row}
 
 -- the text is a SELECT without parameters or the time
 look_parsed : (p : Parsed) × (s : _) × (first look_text ≡ Ok p) × (p.statement ≡ written.Select s) × (p.formats ≡ []) × (p.names ≡ [])
@@ -90,7 +90,7 @@ known_there (r ∷ rows) row known = elim (cases_Bool (shows_office r)) [
 ]
 
 -- what was read and rolled back
-pub kept_back : {S : Type 0} (g : Ghosts S) (first : Held S) (last end : State) → Stays (state g (record first { in_transaction = true })) last → HasCleanDisk last → IsRolledBack last end → IsKept (state g first) end
+pub kept_back : {S : Type 0} (g : Ghosts S) (first : Held S) (last end : State) → Stays (state g (record first { in_transaction = true })) last → HasCleanDisk last → IsRolledBack last end → KeepsTables (state g first) end
 kept_back g first last end stays clean back is_open =
     let kept = stays.kept clean refl in
     let was = back.was_open is_open in

@@ -12,7 +12,7 @@ ghost use Rattle.office_tables.specs.Faults.{IsFailure};
 ghost use Rattle.office_tables.specs.Schema.{no_schema, office_schema};
 ghost use Rattle.office_rows.specs.Rows.{this_version, empty_office, IsLimit};
 ghost use Rattle.office_tables.specs.Tables.{Becomes};
-ghost use Rattle.office_tables.specs.Opening.{IsKept, IsMade, IsLeft};
+ghost use Rattle.office_tables.specs.Opening.{KeepsTables, IsMade, IsLeft};
 
 use crate::fault::TableFault;
 use crate::run::change;
@@ -126,7 +126,7 @@ pub fn create<S: Alter>(
     ensures made { HasCleanDisk (state S.Store conn.new) → OnOk result (IsMade (state S.Store conn.new) (empty_office this_version (pos max_deposits) (pos max_holds))) }
     ensures durable { HasCleanDisk (state S.Store conn.new) → OnOk result ((db : Trees) → (state S.Store conn.new).may_leave db
         → IsLeft (empty_office this_version (pos max_deposits) (pos max_holds)) db) }
-    ensures refused { HasCleanDisk (state S.Store conn.new) → OnErr result (IsKept (state S.Store conn.old) (state S.Store conn.new)) }
+    ensures refused { HasCleanDisk (state S.Store conn.new) → OnErr result (KeepsTables (state S.Store conn.old) (state S.Store conn.new)) }
     ensures failure { IfErr result IsFailure }
     ensures not_empty { (state S.Store conn.old).now.schema ≢ no_schema → result ≡ Err TableFault.Store }
     ensures untouched { (state S.Store conn.old).now.schema ≢ no_schema → conn.new ≡ conn.old }

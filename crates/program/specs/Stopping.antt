@@ -13,11 +13,11 @@ use Rattle.program.specs.declared.stopped.Stopped.{Stopped}
 use Rattle.program.specs.declared.stopped.Stopped.TheVariants.{Folder, Output, Store}
 
 -- the line that is told first
-abbrev pub line_of : Stopped → List ℕ
-line_of (Folder (folders.Device trouble)) = message_of failures.Device
-line_of (Folder folders.Memory) = message_of failures.Memory
-line_of (Output error) = message_of (failure_of (error_kind error))
-line_of (Store fault) = store_fault_text fault
+abbrev pub line_told : Stopped → List ℕ
+line_told (Folder (folders.Device trouble)) = message_of failures.Device
+line_told (Folder folders.Memory) = message_of failures.Memory
+line_told (Output error) = message_of (failure_of (error_kind error))
+line_told (Store fault) = store_fault_text fault
 
 -- how the program ends then
 abbrev pub ending_of : Stopped → Ending
@@ -33,7 +33,7 @@ Tells text end told tells ending = ((ending ≡ end) × BeginsWith text told tel
 -- it is told of this, or that there was no memory to tell of it
 abbrev pub IsToldOf : Stopped → Option (List ℕ) → Option (List ℕ) → Ending → Type 0
 IsToldOf stopped told tells ending =
-    Tells (line_of stopped) (ending_of stopped) told tells ending ⊎ Tells (message_of failures.Memory) endings.Failed told tells ending
+    Tells (line_told stopped) (ending_of stopped) told tells ending ⊎ Tells (message_of failures.Memory) endings.Failed told tells ending
 
 -- it is told why words are no use of the program, or that there was no memory to read them
 abbrev pub IsToldOfUse : UseFault → Option (List ℕ) → Option (List ℕ) → Ending → Type 0

@@ -1,7 +1,7 @@
 //! Why a command on folders or a store doesn't come to its end.
 
 ghost use Rattle.std.specs.Prelude.{◌≡◌, IfOk, string_bytes};
-ghost use Rattle.program.specs.Stopping.{ending_of, line_of};
+ghost use Rattle.program.specs.Stopping.{ending_of, line_told};
 
 use bag_folders::Failed;
 use commands::{Ending, Failure};
@@ -23,7 +23,7 @@ pub enum Stopped {
 impl Stopped {
     /// The line that standard error is told first.
     pub fn line(&self, alloc: Global) -> Result<String, AllocError>
-        ensures { IfOk result (λ text. string_bytes text ≡ line_of self.now) }
+        ensures { IfOk result (λ text. string_bytes text ≡ line_told self.now) }
     {
         let line = match self {
             Stopped::Folder(Failed::Device(_)) => Failure::Device.message(),

@@ -6,6 +6,9 @@ ghost use Rattle.store_words.specs.StoreLine.{IsCount, IsPort, Writes};
 /// The most connections that a call serves.
 pub const MAX_COUNT: u32 = 1_000_000;
 
+/// The last port.
+const MAX_PORT: u32 = 65_535;
+
 /// Whether a plus stands first, which `parse` would take.
 fn has_plus(text: &[u8]) -> bool
     ensures { result ≡ (slice_index text.now 0 == 43) }
@@ -32,7 +35,7 @@ pub fn read_port(text: &str) -> Option<u16>
     ensures { MatchOption result ((port : ℕ) → IsPort text.now port → ⊥) (IsPort text.now) }
 {
     let number = read_number(text)?;
-    if number > 65_535 {
+    if number > MAX_PORT {
         return None;
     }
     Some(number as u16)

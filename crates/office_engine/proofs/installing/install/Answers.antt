@@ -3,7 +3,7 @@ use Rattle.std.proofs.lemmas.Result.{on_err_weaker}
 use Rattle.sqlite.specs.State.{HasCleanDisk, Survives}
 use Rattle.sqlite.specs.Held.{state}
 use Rattle.office_history.specs.Runs as runs
-use Rattle.office_engine.specs.Keeping.{CommitsTo, InstallLasts, Installs, with_policy}
+use Rattle.office_engine.specs.Keeping.{CommitsTo, InstallLasts, Installs, after_policy}
 use Rattle.office_engine.proofs.Ends.{IsMade, inside, left_by, made_kept, made_lasting, made_survives, on_committed, unchanged, was_open}
 use Rattle.office_engine.proofs.installing.install.Goals as goal
 
@@ -15,13 +15,13 @@ returns g c =
     let end = c.end.new.tx.0 in
     let begun = c.transaction-tx.ensures.begun in
     let same : end ≡ c.conn-1.given.0 = search rules in
-    let made : IsMade g.S.Store first last (with_policy policy) c.install-done.result = record {
+    let made : IsMade g.S.Store first last (after_policy policy) c.install-done.result = record {
       committed = c.is_autocommit-is_settled.ensures.settled (c.is_autocommit-is_settled.ensures.value ∙ ap not c.requires.outside);
       stays = rw begun at c.install-done.ensures.stays;
       goes_on = rw begun at c.install-done.ensures.goes_on;
       makes = λ clean h legal pictured. let accepted = rw begun at (c.install-done.ensures.installed clean) in accepted h legal pictured tt;
     } in
-    let survives : Survives (state g.S.Store first) (state g.S.Store end) (CommitsTo (state g.S.Store first) (with_policy policy)) = made_survives made end c.end.ensures.survives in
+    let survives : Survives (state g.S.Store first) (state g.S.Store end) (CommitsTo (state g.S.Store first) (after_policy policy)) = made_survives made end c.end.ensures.survives in
     let early = λ (late : HasCleanDisk (state g.S.Store end)). let clean : HasCleanDisk (state g.S.Store last) = omega (arith, late, c.end.ensures.survives.clean) in clean in
     rw (← same) (record {
       outside = c.end.ensures.outside;
@@ -35,5 +35,5 @@ returns g c =
       durable = λ late.
           on_committed (InstallLasts (state g.S.Store first) (state g.S.Store end) policy) _ c.install-done.result c.end.result
           (λ x is shows h legal keeps. made_lasting made end (early late) x is shows h legal keeps (λ db is_open left. g.met.S.Store.settled end.store db is_open left)) (c.end.ensures.committed late);
-      leaves = λ late. left_by (state g.S.Store first) (state g.S.Store end) (with_policy policy) (λ db is_open left. g.met.S.Store.settled first.store db is_open left) survives late;
+      leaves = λ late. left_by (state g.S.Store first) (state g.S.Store end) (after_policy policy) (λ db is_open left. g.met.S.Store.settled first.store db is_open left) survives late;
     })

@@ -5,28 +5,28 @@ use Rattle.office_history.specs.Bags.{report_on}
 use Rattle.office_history.specs.Answers.{audit_report}
 use Rattle.office_asking.proofs.Serving.{refused_serves}
 use Rattle.office_serving.specs.Files.{file_in}
-use Rattle.office_serving.specs.Audits.{verdict_on}
+use Rattle.office_serving.specs.Audits.{audit_of}
 use Rattle.office_serving.proofs.AuditTold.{on_a_bag}
 use Rattle.office_serving.proofs.Told.{told_serves}
 use Rattle.office_serving.proofs.audits.audit.Goals as goal
 
-pub returns-in_ok-verdict_on-in-Ok-clause-decides : goal.returns-in_ok-verdict_on-in-Ok-clause-decides
-returns-in_ok-verdict_on-in-Ok-clause-decides g c clean h legal pictured =
+pub returns-in_ok-audit_of-in-Ok-clause-decides : goal.returns-in_ok-audit_of-in-Ok-clause-decides
+returns-in_ok-audit_of-in-Ok-clause-decides g c clean h legal pictured =
     let number = c.args.number in
     let asked = rw c.in-Ok.is at c.in_ok-rows.ensures.asked clean h legal pictured in
     let there = asked.1 in
     let bag = there.it.found.1.bag in
-    let verdict : c.in_ok-verdict_on-in-Ok.field-0 ≡ verdict_on (map file_in c.in-Ok.rows.items) = search rules in
-    let sound : verdict_on bag ≡ audit_report (report_on bag) = on_a_bag bag ((c.one_list_fault.ensures.none bag).1 there.bag) in
+    let verdict : c.in_ok-audit_of-in-Ok.field-0 ≡ audit_of (map file_in c.in-Ok.rows.items) = search rules in
+    let sound : audit_of bag ≡ audit_report (report_on bag) = on_a_bag bag ((c.one_list_fault.ensures.none bag).1 there.bag) in
     told_serves c.args.caller.now acts.Audit there.it refl (λ found. answers.Audit number (audit_report (report_on found.1.bag))) refl refl
-    (ap (answers.Audit number) (verdict ∙ ap verdict_on there.are ∙ sound)) asked.0
+    (ap (answers.Audit number) (verdict ∙ ap audit_of there.are ∙ sound)) asked.0
 
 pub returns-in-Err-clause-decides : goal.returns-in-Err-clause-decides
 returns-in-Err-clause-decides g c clean h legal pictured =
     let asked = rw c.in-Err.is at c.in_ok-rows.ensures.asked clean h legal pictured in
     refused_serves _ _ _ _ _ _ asked.1 asked.0
 
-pub returns-in_ok-verdict_on-in-Ok-clause-audited : goal.returns-in_ok-verdict_on-in-Ok-clause-audited
-returns-in_ok-verdict_on-in-Ok-clause-audited g c clean office =
-    let verdict : c.in_ok-verdict_on-in-Ok.field-0 ≡ verdict_on (map file_in c.in-Ok.rows.items) = search rules in
-    (refl, verdict ∙ ap (λ rs. verdict_on (map file_in rs)) (rw c.in-Ok.is at c.in_ok-rows.ensures.stored clean office))
+pub returns-in_ok-audit_of-in-Ok-clause-audited : goal.returns-in_ok-audit_of-in-Ok-clause-audited
+returns-in_ok-audit_of-in-Ok-clause-audited g c clean office =
+    let verdict : c.in_ok-audit_of-in-Ok.field-0 ≡ audit_of (map file_in c.in-Ok.rows.items) = search rules in
+    (refl, verdict ∙ ap (λ rs. audit_of (map file_in rs)) (rw c.in-Ok.is at c.in_ok-rows.ensures.stored clean office))

@@ -2,7 +2,7 @@ use Rattle.std.proofs.Common.{◌∙◌, ap}
 use Rattle.office_history.specs.Answers.{audit_report}
 use Rattle.office_history.specs.Bags.{report_or_text}
 use Rattle.office_serving.proofs.AuditTold.{on_a_bag, on_a_fault}
-use Rattle.office_serving.proofs.laws.verdicts_on_files.Goals as goal
+use Rattle.office_serving.proofs.laws.audits_of_files.Goals as goal
 
 pub returns-clause-valid : goal.returns-clause-valid
 returns-clause-valid c = λ files version is valid. on_a_bag files ((c.one_list_fault.ensures.none files).1 is) ∙ ap (λ r. audit_report (report_or_text r)) (c.judged_bags.ensures.valid files version is valid)
