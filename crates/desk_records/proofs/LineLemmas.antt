@@ -15,7 +15,7 @@ use Rattle.jiff_core.proofs.SignedLemmas.{signed_arith}
 use Rattle.jiff_core.proofs.CalendarLemmas.{days_in_month_bounds}
 use Rattle.jiff.specs.Types.{Date}
 use Rattle.office_core.specs.Days.{IsDay, day_text}
-use Rattle.office_core.proofs.DayLemmas.{day_text-injective, year_pos}
+use Rattle.office_core.proofs.DayLemmas.{day_text-injective, four_digits}
 use Rattle.desk_records.specs.Records.{line_text, IsLine, HasNoLineFeed}
 use Rattle.desk_records.specs.RecordReading.{has_marks, length_of}
 use Rattle.desk_records.proofs.LengthLemmas.{own, length_of-decimal, length_of-says}
