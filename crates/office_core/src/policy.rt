@@ -1,6 +1,6 @@
 //! A policy: who has which role, and what the roles may do.
 
-ghost use Rattle.std.specs.Prelude.{◌≡◌, ◌⊎◌, Err, IfErr, IfOk, MatchResult, option_copied, option_map, string_bytes, find, bytes_eq};
+ghost use Rattle.std.specs.Prelude.{◌≡◌, ◌⊎◌, Err, IfErr, IfOk, MatchResult, option_copied, option_map, find, bytes_eq};
 ghost use Rattle.toml.specs.View.{table_view};
 ghost use Rattle.bag_text.specs.Answers.{Answers};
 ghost use Rattle.office_core.specs.Policies.{Contents, EachCallerOnce, HasFirstFault, IsPolicy, SpellsPolicy, callers_of, policy_of, role_of, or_stranger, named_policy_fault};
@@ -73,7 +73,7 @@ fn caller_named<'a>(callers: &'a [Caller], name: &str) -> Option<&'a Caller>
 }
 
 fn role_in<'a>(callers: &'a [Caller], name: &str) -> Option<&'a str>
-    ensures { option_map string_bytes result
+    ensures { option_copied result
         ≡ option_map (λ caller. caller.role) (find (λ caller. bytes_eq caller.name name.now) callers.now) }
 {
     let caller = caller_named(callers, name)?;
@@ -82,7 +82,7 @@ fn role_in<'a>(callers: &'a [Caller], name: &str) -> Option<&'a str>
 
 /// The role that is given, else `stranger`.
 pub fn or_stranger(role: Option<&str>) -> &str
-    ensures { result.now ≡ or_stranger (option_map string_bytes role) }
+    ensures { result.now ≡ or_stranger (option_copied role.entry) }
 {
     role.unwrap_or("stranger")
 }
