@@ -1,5 +1,5 @@
 -- What the plain office may accept, and how it may fail.
-use Rattle.std.specs.Prelude.{◌≡◌, ℕ, ◌<◌, length}
+use Rattle.std.specs.Prelude.{◌≡◌, ◌<◌, length}
 use Rattle.office_core.specs.declared.answer.Answer.{Answer}
 use Rattle.office_core.specs.declared.answer.Answer.TheVariants.{Refused}
 use Rattle.office_core.specs.declared.refusal.Refusal.TheVariants.{Memory}

@@ -13,9 +13,7 @@ use crate::plain::reading::{
     accession_of, deposit_count, destruction_day, due, has_class, has_collection, hold_count,
     installed_policy, live_holds, release_day,
 };
-use office_core::{
-    Action, Ask, Day, Decision, Facts, Refusal, Rule, Subject, decide, or_stranger,
-};
+use office_core::{Action, Ask, Day, Decision, Facts, Refusal, Rule, Subject, decide, or_stranger};
 use std::alloc::{AllocError, Global};
 
 /// The role of a caller by the policy that was installed last.
