@@ -5,7 +5,7 @@ use Rattle.std.specs.Char.{to_ascii_lowercase}
 use Rattle.std.specs.Option.{option_map_or}
 use Rattle.std.specs.Str.{is_utf8}
 use Rattle.std.proofs.lemmas.Slice.Eq.{bytes_eq-Decides}
-use Rattle.std.proofs.lemmas.List.{take-append-drop}
+use Rattle.std.proofs.lemmas.List.{take-append-drop, drop_at}
 use Rattle.std.proofs.Math.Seq.{take-append_seam}
 use Rattle.std.proofs.lemmas.Bool.Decides.{nat_tests}
 use Rattle.bag_text.specs.Text.{is_blank, has_mark, trim_blanks, skip_blanks, drop_last_blanks}
@@ -18,11 +18,6 @@ use Rattle.bag_text.specs.declared.declaration.Version.TheVariants.{V1_0, V0_97}
 use Rattle.bag_text.specs.declared.declaration.DeclFault.{DeclFault}
 use Rattle.bag_text.specs.declared.declaration.DeclFault.TheVariants.{NotUtf8, ByteOrderMark, NotTwoLines, BadVersionLine, UnsupportedVersion, BadEncodingLine, UnsupportedEncoding}
 use Rattle.bag_text.proofs.BlankLemmas.{trim_round, trimmed_round, map_skipped, map_dropped}
-
--- what stands behind a label
-behind_label : (label rest : List ℕ) → drop (length label) (label ++ rest) ≡ rest
-behind_label [] rest = refl
-behind_label (b ∷ label) rest = let one : 1 + length label ≡ length (b ∷ label) = omega arith in behind_label label rest
 
 -- four texts, one after another
 nested : (a b c d : List ℕ) → a ++ b ++ c ++ d ≡ a ++ (b ++ (c ++ d))
@@ -49,7 +44,7 @@ label_read label value line e = by_label (bytes_eq (take (length label) line) la
 pub label_again : (label value line : List ℕ) → IsLabelled label value line → after_label label line ≡ Some (trim_blanks value)
 label_again label value line (before, after, first, last, is) =
     let rest : List ℕ = before ++ (value ++ after) in
-    ap (after_label label) (is ∙ nested label before value after) ∙ rw ((bytes_eq-Decides (take (length label) (label ++ rest)) label).1 (take-append_seam label rest), behind_label label rest, trim_round before value after first last) refl
+    ap (after_label label) (is ∙ nested label before value after) ∙ rw ((bytes_eq-Decides (take (length label) (label ++ rest)) label).1 (take-append_seam label rest), drop_at label rest (length label) refl, trim_round before value after first last) refl
 
 -- ---- the values
 

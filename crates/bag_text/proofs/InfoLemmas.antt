@@ -16,6 +16,7 @@ use Rattle.bag_text.specs.Answers.{◌>>=◌}
 use Rattle.bag_text.specs.InfoReading.{label_of, value_of, pair_of, extend_last, add_info_line, pairs_from, info_of}
 use Rattle.bag_text.proofs.BlankLemmas.{skipped, dropped, skip_front, drop_back}
 use Rattle.bag_text.proofs.LineLemmas.{one_plus}
+use Rattle.bag_text.proofs.PathLemmas.{not_empty}
 
 -- ---- a line that is a pair
 
@@ -187,10 +188,6 @@ empty_test : (t : List ℕ) → eqb (length t) 0 ≡ true → t ≡ []
 empty_test [] e = refl
 empty_test (b ∷ t) e = absurd (let wrong : eqb (length (b ∷ t)) 0 ≡ false = grind (arith, nat_tests) in cc)
 
-some_test : (t : List ℕ) → t ≢ [] → eqb (length t) 0 ≡ false
-some_test [] h = absurd (h refl)
-some_test (b ∷ t) h = grind (arith, nat_tests)
-
 -- a pair that was added stands in its line
 record IsAdded (before : List Pair) (line : List ℕ) (now : List Pair) : Type 0 where
   pair : Pair
@@ -213,7 +210,7 @@ added n before line now g e = by_colon (list_any is_colon line) refl e
 added_again : (n : ℕ) (before : List Pair) (line label value : List ℕ) → IsPairLine line label value → pair_added n before line ≡ Ok (before ++ at label value ∷ [])
 added_again n before line label value p =
     let r = pair_again line label value p in
-    let some : eqb (length (label_of line)) 0 ≡ false = ap (λ (t : List ℕ). eqb (length t) 0) r.label_is ∙ some_test label p.some_label in
+    let some : eqb (length (label_of line)) 0 ≡ false = ap (λ (t : List ℕ). eqb (length t) 0) r.label_is ∙ not_empty label p.some_label in
     rw (r.colon, some) (ap (λ (x : List ℕ). Ok (before ++ at x (value_of line) ∷ [])) r.label_is ∙ ap (λ (x : List ℕ). Ok (before ++ at label x ∷ [])) r.value_is)
 
 -- ---- what is read is said
@@ -297,6 +294,10 @@ groups_read n (line ∷ ls) pairs e = by_blank (list_all is_blank line) refl (sy
 
 -- ---- what is said is read
 
+-- equal answers to a line are read on alike
+with_line : {r s : Result (List Pair) InfoFault} (n : ℕ) (ls : List (List ℕ)) → r ≡ s → (r >>= λ now. pairs_from (n + 1) now ls) ≡ (s >>= λ now. pairs_from (n + 1) now ls)
+with_line n ls e = ap (λ (r : Result (List Pair) InfoFault). r >>= λ now. pairs_from (n + 1) now ls) e
+
 -- lines that continue the last pair, then groups
 going_again : (n : ℕ) (init : List Pair) (p : Pair) (ls more rest : List (List ℕ)) (others : List Pair) → filled_lines ls ≡ more ++ rest → list_all begins_blank more ≡ true → AreGroups rest others → pairs_from n (init ++ p ∷ []) ls ≡ Ok (init ++ longer p more ∷ others)
 going_again n init p [] (m ∷ more) rest others is blank groups = absurd cc
@@ -309,15 +310,12 @@ going_again n init p (line ∷ ls) more rest others is blank groups =
     Again : Type 0
     Again = (init : List Pair) (p : Pair) (more rest : List (List ℕ)) (others : List Pair) → filled_lines ls ≡ more ++ rest → list_all begins_blank more ≡ true → AreGroups rest others → pairs_from (n + 1) (init ++ p ∷ []) ls ≡ Ok (init ++ longer p more ∷ others)
 
-    with_line : {r s : Result (List Pair) InfoFault} → r ≡ s → (r >>= λ now. pairs_from (n + 1) now ls) ≡ (s >>= λ now. pairs_from (n + 1) now ls)
-    with_line e = ap (λ (r : Result (List Pair) InfoFault). r >>= λ now. pairs_from (n + 1) now ls) e
-
     by_line : list_all is_blank line ≡ false → (more rest : List (List ℕ)) (others : List Pair) → line ∷ filled_lines ls ≡ more ++ rest → list_all begins_blank more ≡ true → AreGroups rest others → Again → (add_info_line n (init ++ p ∷ []) line >>= λ now. pairs_from (n + 1) now ls) ≡ Ok (init ++ longer p more ∷ others)
     by_line full (m ∷ more) rest others is blank groups again =
         let same : line ≡ m = cc in
         let left : filled_lines ls ≡ more ++ rest = cc in
         let both = and_parts (begins_blank m) (list_all begins_blank more) blank in
-        with_line (add_more n init p line full (ap begins_blank same ∙ both.0))
+        with_line n ls (add_more n init p line full (ap begins_blank same ∙ both.0))
         ∙ again init (at p.label (p.value ++ 10 ∷ skip_blanks line)) more rest others left both.1 groups
         ∙ ap (λ (q : Pair). Ok (init ++ q ∷ others)) (longer_more p line more)
         ∙ ap (λ (l : List ℕ). Ok (init ++ longer p (l ∷ more) ∷ others)) same
@@ -327,14 +325,14 @@ going_again n init p (line ∷ ls) more rest others is blank groups =
         let same : first ≡ line = cc in
         let tail : filled_lines ls ≡ more ++ left = cc in
         let here : IsPairLine line q.label value = subst (λ (l : List ℕ). IsPairLine l q.label value) same pair in
-        with_line (add_other n (init ++ p ∷ []) line full (pair_again line q.label value here).not_blank ∙ added_again n (init ++ p ∷ []) line q.label value here)
+        with_line n ls (add_other n (init ++ p ∷ []) line full (pair_again line q.label value here).not_blank ∙ added_again n (init ++ p ∷ []) line q.label value here)
         ∙ again (init ++ p ∷ []) (at q.label value) more left others tail begins groups
         ∙ ap (λ (x : List Pair). Ok x) (append_assoc init (p ∷ []) (longer (at q.label value) more ∷ others))
         ∙ ap (λ (v : List ℕ). Ok (init ++ p ∷ at q.label v ∷ others)) (sym says)
         ∙ ap (λ (x : Pair). Ok (init ++ x ∷ q ∷ others)) (sym (longer_none p))
 
     by_blank : (x : Bool) → list_all is_blank line ≡ x → (more rest : List (List ℕ)) (others : List Pair) → cond (not x) (line ∷ filled_lines ls) (filled_lines ls) ≡ more ++ rest → list_all begins_blank more ≡ true → AreGroups rest others → Again → (add_info_line n (init ++ p ∷ []) line >>= λ now. pairs_from (n + 1) now ls) ≡ Ok (init ++ longer p more ∷ others)
-    by_blank true e more rest others is blank groups again = with_line (add_blank n (init ++ p ∷ []) line e) ∙ again init p more rest others is blank groups
+    by_blank true e more rest others is blank groups again = with_line n ls (add_blank n (init ++ p ∷ []) line e) ∙ again init p more rest others is blank groups
     by_blank false e more rest others is blank groups again = by_line e more rest others is blank groups again
 
 -- lines that fall into groups are read
@@ -343,21 +341,18 @@ groups_again n [] [] groups = no_lines_left n []
 groups_again n [] (q ∷ others) groups = absurd (let wrong = groups.4 in cc)
 groups_again n (line ∷ ls) pairs groups = unfolded_lines n [] line ls ∙ by_blank (list_all is_blank line) refl pairs groups (λ groups. groups_again (n + 1) ls pairs groups)
   where
-    with_line : {r s : Result (List Pair) InfoFault} → r ≡ s → (r >>= λ now. pairs_from (n + 1) now ls) ≡ (s >>= λ now. pairs_from (n + 1) now ls)
-    with_line e = ap (λ (r : Result (List Pair) InfoFault). r >>= λ now. pairs_from (n + 1) now ls) e
-
     by_line : list_all is_blank line ≡ false → (pairs : List Pair) → AreGroups (line ∷ filled_lines ls) pairs → (add_info_line n [] line >>= λ now. pairs_from (n + 1) now ls) ≡ Ok pairs
     by_line full [] groups = absurd (let wrong : line ∷ filled_lines ls ≡ [] = groups in cc)
     by_line full (q ∷ others) (first, more, left, value, whole, pair, begins, says, groups) =
         let same : first ≡ line = cc in
         let tail : filled_lines ls ≡ more ++ left = cc in
         let here : IsPairLine line q.label value = subst (λ (l : List ℕ). IsPairLine l q.label value) same pair in
-        with_line (add_other n [] line full (pair_again line q.label value here).not_blank ∙ added_again n [] line q.label value here)
+        with_line n ls (add_other n [] line full (pair_again line q.label value here).not_blank ∙ added_again n [] line q.label value here)
         ∙ going_again (n + 1) [] (at q.label value) ls more left others tail begins groups
         ∙ ap (λ (v : List ℕ). Ok (at q.label v ∷ others)) (sym says)
 
     by_blank : (x : Bool) → list_all is_blank line ≡ x → (pairs : List Pair) → AreGroups (cond (not x) (line ∷ filled_lines ls) (filled_lines ls)) pairs → (AreGroups (filled_lines ls) pairs → pairs_from (n + 1) [] ls ≡ Ok pairs) → (add_info_line n [] line >>= λ now. pairs_from (n + 1) now ls) ≡ Ok pairs
-    by_blank true e pairs groups again = with_line (add_blank n [] line e) ∙ again groups
+    by_blank true e pairs groups again = with_line n ls (add_blank n [] line e) ∙ again groups
     by_blank false e pairs groups again = by_line e pairs groups
 
 -- ---- the text
@@ -457,23 +452,24 @@ label_missing line not_blank colon none =
     by_front [] back blanks is = ap (begins_with 58) is
     by_front (b ∷ front) back blanks is = let wrong = sym (ap begins_blank is) ∙ not_blank in let right = (and_parts (is_blank b) _ blanks).0 in absurd cc
 
+-- the fault that is answered is the row of the table that stands
+row : (text : List ℕ) (f g : InfoFault) → refusal g ≡ Err f → InfoFaultIs text g → InfoFaultIs text f
+row text f g e h = let same : g ≡ f = cc in subst (InfoFaultIs text) same h
+
 -- the fault of a line that is reached is a row of the table
 reached_fault : (text : List ℕ) (pairs : List Pair) (number : ℕ) (line : List ℕ) (f : InfoFault) → IsReached text pairs number line → add_info_line number pairs line ≡ Err f → InfoFaultIs text f
 reached_fault text pairs number line f reached e = by_begin (begins_blank line) refl
   where
-    row : (g : InfoFault) → refusal g ≡ Err f → InfoFaultIs text g → InfoFaultIs text f
-    row g e h = let same : g ≡ f = cc in subst (InfoFaultIs text) same h
-
     stray : (pairs : List Pair) → IsReached text pairs number line → begins_blank line ≡ true → add_info_line number pairs line ≡ Err f → InfoFaultIs text f
-    stray [] reached is e = row (StrayContinuation number) (sym (add_stray number line reached.full is) ∙ e) (line, reached, is)
+    stray [] reached is e = row text f (StrayContinuation number) (sym (add_stray number line reached.full is) ∙ e) (line, reached, is)
     stray (a ∷ ps) reached is e = let wrong = sym (add_longer number a ps line reached.full is) ∙ e in absurd cc
 
     by_label : begins_blank line ≡ false → list_any is_colon line ≡ true → (x : Bool) → eqb (length (label_of line)) 0 ≡ x → (cond x (Err (EmptyLabel number)) (Ok (at (label_of line) (value_of line))) >>= λ pair. Ok (pairs ++ pair ∷ [])) ≡ Err f → InfoFaultIs text f
     by_label is colon false none e = absurd cc
-    by_label is colon true none e = row (EmptyLabel number) e (pairs, line, reached, label_missing line is colon (empty_test (label_of line) none))
+    by_label is colon true none e = row text f (EmptyLabel number) e (pairs, line, reached, label_missing line is colon (empty_test (label_of line) none))
 
     by_colon : begins_blank line ≡ false → (x : Bool) → list_any is_colon line ≡ x → (cond (not x) (Err (NoColon number)) (cond (eqb (length (label_of line)) 0) (Err (EmptyLabel number)) (Ok (at (label_of line) (value_of line)))) >>= λ pair. Ok (pairs ++ pair ∷ [])) ≡ Err f → InfoFaultIs text f
-    by_colon is false colon e = row (NoColon number) e (pairs, line, reached, is, colon)
+    by_colon is false colon e = row text f (NoColon number) e (pairs, line, reached, is, colon)
     by_colon is true colon e = by_label is colon (eqb (length (label_of line)) 0) refl e
 
     by_begin : (x : Bool) → begins_blank line ≡ x → InfoFaultIs text f
@@ -483,19 +479,16 @@ reached_fault text pairs number line f reached e = by_begin (begins_blank line) 
 is_fault : (text : List ℕ) (f : InfoFault) → info_of text ≡ Err f → InfoFaultIs text f
 is_fault text f e = by_utf8 (is_utf8 text) refl
   where
-    row : (g : InfoFault) → refusal g ≡ Err f → InfoFaultIs text g → InfoFaultIs text f
-    row g e h = let same : g ≡ f = cc in subst (InfoFaultIs text) same h
-
     by_full : is_utf8 text ≡ true → has_mark text ≡ false → (h : StopsAt 1 [] (lines text) f) → (x : Bool) → list_all is_blank h.line ≡ x → InfoFaultIs text f
     by_full utf8 unmarked h true is = let wrong = sym (add_blank (1 + length h.front) h.now h.line is) ∙ h.fault in absurd cc
     by_full utf8 unmarked h false is = reached_fault text h.now (1 + length h.front) h.line f (record { utf8 = utf8; unmarked = unmarked; before = h.front; after = h.back; is = h.is; place = omega arith; said = groups_read 1 h.front h.now h.read; full = is }) h.fault
 
     by_mark : is_utf8 text ≡ true → (x : Bool) → has_mark text ≡ x → InfoFaultIs text f
-    by_mark utf8 true is = row ByteOrderMark (sym (marked text utf8 is) ∙ e) (utf8, is)
+    by_mark utf8 true is = row text f ByteOrderMark (sym (marked text utf8 is) ∙ e) (utf8, is)
     by_mark utf8 false is = let h = stops 1 [] (lines text) f (sym (info_lines text utf8 is) ∙ e) in by_full utf8 is h (list_all is_blank h.line) refl
 
     by_utf8 : (x : Bool) → is_utf8 text ≡ x → InfoFaultIs text f
-    by_utf8 false is = row NotUtf8 (sym (not_utf8 text is) ∙ e) is
+    by_utf8 false is = row text f NotUtf8 (sym (not_utf8 text is) ∙ e) is
     by_utf8 true is = by_mark is (has_mark text) refl
 
 -- a line that is reached and at fault is where reading stops

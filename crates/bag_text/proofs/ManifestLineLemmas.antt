@@ -1,13 +1,12 @@
 -- What one line of a manifest lists, read and as a relation.
-use Rattle.std.proofs.Common.{◌≡◌, ℕ, zero, suc, ◌+◌, ◌*◌, ◌/◌, ◌%◌, Bool, true, false, cond, eqb, not, List, [], ◌∷◌, ◌++◌, length, take, drop, refl, sym, ap, subst, ◌∙◌, ◌⊎◌, inl, inr, arith, append_assoc}
+use Rattle.std.proofs.Common.{◌≡◌, ℕ, zero, suc, ◌+◌, ◌*◌, ◌/◌, ◌%◌, Bool, true, false, cond, eqb, not, List, [], ◌∷◌, ◌++◌, length, take, drop, refl, sym, ap, subst, ◌∙◌, ◌⊎◌, inl, inr, append_assoc}
 use Rattle.std.specs.Prelude.{Option, Some, None, Result, Ok, Err, ◌≢◌, option_map}
 use Rattle.std.specs.List.{list_any, list_all, position_or_len}
 use Rattle.std.specs.Result.{result_ok}
 use Rattle.std.proofs.lemmas.Bool.{eqb-true, or_cases, or_parts, and_parts, or_from}
-use Rattle.std.proofs.lemmas.List.{take-append-drop}
+use Rattle.std.proofs.lemmas.List.{take-append-drop, drop_at}
 use Rattle.std.proofs.lemmas.Option.{same_Some}
 use Rattle.std.proofs.Math.Seq.{drop-nil}
-use Rattle.std.proofs.lemmas.Bool.Decides.{nat_tests}
 use Rattle.hex.specs.Hex.{decode_sized, decode_pairs, hex_digit_value, digit_or_error, ◌>>=◌}
 use Rattle.hex.specs.declared.error.FromHexError.{FromHexError}
 use Rattle.hex.specs.declared.error.FromHexError.TheVariants.{OddLength, InvalidStringLength}
@@ -20,7 +19,7 @@ use Rattle.bag_text.specs.Paths.{GoodPath, is_good}
 use Rattle.bag_text.specs.Manifest.{Spells, has_coded, decode, size_of, checksum_of, IsEntry, sum_text, path_text}
 use Rattle.bag_text.specs.ManifestReading.{good_of, path_of, checksum_in, Entry, entry_of}
 use Rattle.bag_text.proofs.LineLemmas.{one_plus}
-use Rattle.bag_text.proofs.PathLemmas.{good_read, good_again}
+use Rattle.bag_text.proofs.PathLemmas.{good_read, good_again, not_empty}
 use Rattle.bag_text.proofs.ManifestLemmas.{spells_decoded, spelled_is_decoded}
 
 -- ---- the three parts of a line
@@ -78,12 +77,6 @@ take_front : (xs ys : List ℕ) → take (length xs) (xs ++ ys) ≡ xs
 take_front [] [] = refl
 take_front [] (y ∷ ys) = refl
 take_front (x ∷ xs) ys = ap (λ (r : List ℕ). x ∷ r) (take_front xs ys)
-
--- the back of a text in two parts
-drop_front : (xs ys : List ℕ) → drop (length xs) (xs ++ ys) ≡ ys
-drop_front [] [] = refl
-drop_front [] (y ∷ ys) = refl
-drop_front (x ∷ xs) ys = drop_front xs ys
 
 -- blanks at the front are skipped
 skipped : (blanks spelled : List ℕ) → list_all is_blank blanks ≡ true → skip_blanks (blanks ++ spelled) ≡ skip_blanks spelled
@@ -169,7 +162,7 @@ entry_digits v a line path checksum e =
 pub entry_spelled : (v : Version) (a : Algorithm) (line path checksum : List ℕ) (e : IsEntry v a line path checksum) → path_text line ≡ e.spelled
 entry_spelled v a line path checksum e =
     ap path_text (entry_parts v a line path checksum e) ∙ ap (λ (n : ℕ). skip_blanks (drop n (e.digits ++ (e.blanks ++ e.spelled)))) (entry_front v a line path checksum e)
-    ∙ ap skip_blanks (drop_front e.digits (e.blanks ++ e.spelled)) ∙ skipped e.blanks e.spelled e.all_blanks ∙ e.whole_run
+    ∙ ap skip_blanks (drop_at e.digits (e.blanks ++ e.spelled) (length e.digits) refl) ∙ skipped e.blanks e.spelled e.all_blanks ∙ e.whole_run
 
 -- ---- reading a line
 
@@ -205,11 +198,6 @@ line_view v a line = of_sum (checksum_in a (sum_text line)) refl
     of_sum None e = bad_checksum e
     of_sum (Some c) e = of_text c e (path_text line) refl
 
--- what is not empty has a length
-some_length : (s : List ℕ) → s ≢ [] → eqb (length s) 0 ≡ false
-some_length [] some = absurd (some refl)
-some_length (b ∷ s) some = grind (arith, nat_tests)
-
 -- a line without its checksum
 pub reads_bad_checksum : (v : Version) (a : Algorithm) (n : ℕ) (line : List ℕ) → checksum_in a (sum_text line) ≡ None → entry_of v a n line ≡ Err (BadChecksum n)
 unfolding entry_of
@@ -223,12 +211,12 @@ reads_no_path v a n line c e none = rw (e, none) refl
 -- a line whose path is no good one
 pub reads_bad_path : (v : Version) (a : Algorithm) (n : ℕ) (line : List ℕ) (c : Checksum) → checksum_in a (sum_text line) ≡ Some c → path_text line ≢ [] → path_of v (path_text line) ≡ None → entry_of v a n line ≡ Err (BadPath n)
 unfolding entry_of
-reads_bad_path v a n line c e some bad = rw (e, some_length (path_text line) some, bad) refl
+reads_bad_path v a n line c e some bad = rw (e, not_empty (path_text line) some, bad) refl
 
 -- a line with a checksum and a good path
 pub reads_sound : (v : Version) (a : Algorithm) (n : ℕ) (line : List ℕ) (c : Checksum) (p : List ℕ × Bool) → checksum_in a (sum_text line) ≡ Some c → path_text line ≢ [] → path_of v (path_text line) ≡ Some p → entry_of v a n line ≡ Ok (p.0, record { checksum = c; line = n; is_decoded = p.1 })
 unfolding entry_of
-reads_sound v a n line c p e some is = rw (e, some_length (path_text line) some, is) refl
+reads_sound v a n line c p e some is = rw (e, not_empty (path_text line) some, is) refl
 
 -- a good path is taken
 good_reads : (is_decoded : Bool) (path : List ℕ) → GoodPath path → good_of is_decoded path ≡ Some (path, is_decoded)

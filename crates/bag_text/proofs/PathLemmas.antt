@@ -55,7 +55,8 @@ empty_or_not : (t : List ℕ) → eqb (length t) 0 ≡ false → t ≢ []
 empty_or_not [] e same = absurd cc
 empty_or_not (b ∷ t) e same = absurd cc
 
-not_empty : (t : List ℕ) → t ≢ [] → eqb (length t) 0 ≡ false
+-- what isn't empty has a length
+pub not_empty : (t : List ℕ) → t ≢ [] → eqb (length t) 0 ≡ false
 not_empty [] h = absurd (h refl)
 not_empty (b ∷ t) h = grind (arith, nat_tests)
 
