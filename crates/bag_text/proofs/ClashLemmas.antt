@@ -2,7 +2,7 @@
 use Rattle.std.proofs.Common.{◌≡◌, ℕ, suc, ◌+◌, ◌<◌, ◌↔◌, ◌⊎◌, inl, inr, Bool, true, false, eqb, ◌&&◌, ◌||◌, List, [], ◌∷◌, ◌++◌, length, get_or, drop, map, refl, ap, ◌∙◌, arith, append_assoc}
 use Rattle.std.specs.Prelude.{bytes_eq, codes, Contains}
 use Rattle.std.specs.List.{list_any}
-use Rattle.std.proofs.lemmas.Bool.{or_cases}
+use Rattle.std.proofs.lemmas.Bool.{or_cases, or_right}
 use Rattle.std.proofs.lemmas.Bool.Decides.{Decides-eqb, nat_tests}
 use Rattle.std.proofs.lemmas.Slice.Eq.{starts_is, bytes_eq-Decides}
 use Rattle.bag_text.specs.Text.{begins_with}
@@ -59,10 +59,6 @@ under_rest_of outer inner e =
     let is = (starts_is Decides-eqb inner (outer ++ 47 ∷ []) (lies_under outer inner) refl).0 e in
     (drop (length (outer ++ 47 ∷ [])) inner, is ∙ append_assoc outer (47 ∷ []) (drop (length (outer ++ 47 ∷ [])) inner))
 
-or_true : (b : Bool) → (b || true) ≡ true
-or_true true = refl
-or_true false = refl
-
 -- Paths clash exactly where the test says so.
 pub clash_law : (files : List File) → Clashes files ↔ (clashes files ≡ true)
 clash_law files = (stands, found)
@@ -72,7 +68,7 @@ clash_law files = (stands, found)
     is_so f (inr (g, rest, at, is)) =
         let lies : lies_under f.path g.path ≡ true = ap (lies_under f.path) is ∙ under_rest f.path (47 ∷ rest) in
         let some = any_holds (λ g. lies_under f.path g.path) files g at.0 at.1 at.2 lies in
-        rw some (or_true (bytes_eq f.path (codes "data")))
+        rw some (or_right (bytes_eq f.path (codes "data")) true refl)
 
     stands : Clashes files → clashes files ≡ true
     stands (f, at, why) = any_holds (clash_at files) files f at.0 at.1 at.2 (is_so f why)

@@ -10,7 +10,7 @@ use Rattle.std.proofs.lemmas.List.Sums.{prefix_len-le-length}
 use Rattle.std.proofs.lemmas.List.{append-nil, map_push}
 use Rattle.std.proofs.lemmas.List.Folds.{list_any-append}
 use Rattle.std.proofs.lemmas.List.Elements.{Contains-append_left, Contains-push_cases}
-use Rattle.std.proofs.lemmas.Bool.{and_parts, or_parts, eqb-true}
+use Rattle.std.proofs.lemmas.Bool.{and_parts, or_parts, or_right, eqb-true}
 use Rattle.std.proofs.Math.Seq.{get_or-append_seam, take-append_seam, drop-append-add, take-length}
 use Rattle.bag_text.specs.Text.{is_blank, AreBlanks, skip_blanks, drop_last_blanks}
 use Rattle.bag_text.specs.Lines.{is_end, lines, End, LF, CR, CRLF, end_bytes, EndsBefore, AreLines}
@@ -229,11 +229,7 @@ continued n old init now last kept next line is some now-is next-is =
 
 -- a value that was joined has an LF
 pub joined_feed : (value more line : List ℕ) → value ≡ more ++ 10 ∷ line → has_line_feed value ≡ true
-joined_feed value more line is = ap has_line_feed is ∙ list_any-append (λ b. eqb b 10) more (10 ∷ line) ∙ or_true (list_any (λ b. eqb b 10) more)
-  where
-    or_true : (x : Bool) → (x || true) ≡ true
-    or_true true = refl
-    or_true false = refl
+joined_feed value more line is = ap has_line_feed is ∙ list_any-append (λ b. eqb b 10) more (10 ∷ line) ∙ or_right (list_any (λ b. eqb b 10) more) true refl
 
 -- no pairs
 pub none_marked : (now : List Kept) → now ≡ [] → AreMarked now

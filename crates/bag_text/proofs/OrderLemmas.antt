@@ -10,6 +10,7 @@ use Rattle.std.specs.declared.cmp.Ordering.TheVariants.{Less, Equal, Greater}
 use Rattle.std.specs.Cmp.Lexicographic.{slice_cmp}
 use Rattle.std.proofs.lemmas.Cmp.{nat_list_cmp_total}
 use Rattle.std.proofs.lemmas.Map.Text.{is_eq-slice_cmp}
+use Rattle.std.proofs.lemmas.Bool.{and_right}
 use Rattle.std.proofs.lemmas.Bool.Decides.{nat_tests}
 use Rattle.std.proofs.lemmas.List.{take-append-drop}
 use Rattle.std.proofs.lemmas.Slice.Eq.{bytes_eq-Decides}
@@ -132,11 +133,7 @@ low_begins (x ∷ q) (y ∷ a) e = by_first (ltb y x) (eqb y x) refl refl e (low
       where
         differs : (x y : ℕ) → ltb y x ≡ true → eqb x y ≡ false
         differs x y l = grind (arith, nat_tests)
-    by_first false true l s e again = rw (again e) (and_false (eqb x y))
-      where
-        and_false : (b : Bool) → (b && false) ≡ false
-        and_false true = refl
-        and_false false = refl
+    by_first false true l s e again = rw (again e) (and_right (eqb x y) false refl)
     by_first false false l s e again = absurd cc
 
 -- Behind a path that neither comes before a text nor begins with it, none begins with it.
@@ -146,10 +143,6 @@ high_begins (x ∷ q) [] c e g h = absurd cc
 high_begins (x ∷ q) (y ∷ b) [] e g h = absurd cc
 high_begins (x ∷ q) (y ∷ b) (z ∷ c) e g h = by_first (ltb y x) (eqb y x) (ltb y z) (eqb y z) refl refl refl refl e g h (high_begins q b c)
   where
-    and_false : (b : Bool) → (b && false) ≡ false
-    and_false true = refl
-    and_false false = refl
-
     above : (x y z : ℕ) → ltb y x ≡ false → ltb y z ≡ true → (eqb x z && starts_with nat_eq c q) ≡ false
     above x y z l g = let other : eqb x z ≡ false = grind (arith, nat_tests) in rw other refl
 
@@ -165,7 +158,7 @@ high_begins (x ∷ q) (y ∷ b) (z ∷ c) e g h = by_first (ltb y x) (eqb y x) (
         → (comes_before b q ≡ false → starts_with nat_eq b q ≡ false → comes_before b c ≡ true → starts_with nat_eq c q ≡ false) → (eqb x z && starts_with nat_eq c q) ≡ false
     by_first true eq tl qe l s t u e g h again = absurd cc
     by_first false eq true qe l s t u e g h again = above x y z l t
-    by_first false true false true l s t u e g h again = rw (again e (same x y (starts_with nat_eq b q) s g) h) (and_false (eqb x z))
+    by_first false true false true l s t u e g h again = rw (again e (same x y (starts_with nat_eq b q) s g) h) (and_right (eqb x z) false refl)
     by_first false false false true l s t u e g h again = level x y z l s u
     by_first false eq false false l s t u e g h again = absurd cc
 

@@ -24,10 +24,6 @@ wrong f = Err f
 wrong_is : {A : Type 0} (f g : SetFault) → wrong {A = A} f ≡ wrong g → f ≡ g
 wrong_is f g e = cc
 
-by_not : (b : Bool) → not b ≡ true → b ≡ false
-by_not false e = refl
-by_not true e = absurd cc
-
 pub file_fault : (offset : ℕ) (before : List ℕ) (head : Head) (f : SetFault) → file_at offset before head ≡ Err f → EntryFault offset before head.path_len head.content_len head.rest f
 unfolding file_at
 file_fault offset before head f e = by_length (ltb (length head.rest) (head.path_len + head.content_len + 1)) refl e
