@@ -213,6 +213,14 @@ module _ {X : Type 0} (g : X → File) where
       let first = at.low (g x).path (front 0 x (omega arith) (omega arith)) in
       rw first (found_at q test at (g x).path xs up.1 n (λ k d ge lt. front (suc k) d (omega arith) (omega arith)) (λ k d ge lt. back (suc k) d (omega arith) (omega arith)))
 
+-- texts that differ do so the other way round
+pub other_way : (x y : List ℕ) → bytes_eq y x ≡ false → bytes_eq x y ≡ false
+other_way x y e = by_test (bytes_eq x y) refl
+  where
+    by_test : (r : Bool) → bytes_eq x y ≡ r → r ≡ false
+    by_test false is = refl
+    by_test true is = absurd (let same = (bytes_eq-Decides x y).0 is in let k = sym e ∙ (bytes_eq-Decides y x).1 (sym same) in cc)
+
 -- a path stands where those before it end
 pub path_stands : {X : Type 0} (g : X → File) (q : List ℕ) → StandsAt g q (λ path. bytes_eq path q)
 path_stands g q = record {
@@ -221,14 +229,7 @@ path_stands g q = record {
 }
   where
     after_q : (b c : List ℕ) → comes_before q b ≡ true → comes_before b c ≡ true → bytes_eq c q ≡ false
-    after_q b c e l = flip c q (before_differs q c (before_chain q b c e l))
-      where
-        flip : (c q : List ℕ) → bytes_eq q c ≡ false → bytes_eq c q ≡ false
-        flip c q e = by_test (bytes_eq c q) refl
-          where
-            by_test : (r : Bool) → bytes_eq c q ≡ r → r ≡ false
-            by_test false is = refl
-            by_test true is = absurd (let same = (bytes_eq-Decides c q).0 is in let k = sym e ∙ (bytes_eq-Decides q c).1 (sym same) in cc)
+    after_q b c e l = other_way c q (before_differs q c (before_chain q b c e l))
 
 -- what begins with a text stands where those before it end
 pub beginnings_stand : {X : Type 0} (g : X → File) (q : List ℕ) → StandsAt g q (λ path. starts_with nat_eq path q)
