@@ -1,8 +1,8 @@
 -- What a command that takes arguments has, once it is built.
-use Rattle.std.proofs.Common.{zero, suc, ◌≡◌, ◌∙◌, ◌<◌, ◌++◌, not, ap, ap₂, sym, subst, ℕ, Bool, true, false, List, [], ◌∷◌, length, is_some, refl, inl, inr, arith, fold, take, get_or, ◌+◌, codes, Ok, Err, Result, IfOk}
+use Rattle.std.proofs.Common.{zero, suc, ◌≡◌, ◌∙◌, ◌<◌, ◌++◌, ap, ap₂, sym, subst, ℕ, Bool, true, false, List, [], ◌∷◌, length, is_some, refl, inl, inr, arith, fold, take, get_or, ◌+◌, codes, Ok, Err, Result, IfOk}
 use Rattle.std.specs.List.{All, list_any, slice_index_or}
 use Rattle.std.specs.Str.{bytes_eq}
-use Rattle.std.proofs.lemmas.Bool.{and_parts, false≢true}
+use Rattle.std.proofs.lemmas.Bool.{and_parts, not-true, false≢true}
 use Rattle.std.proofs.lemmas.List.{map-append, take_more}
 use Rattle.std.proofs.lemmas.List.Elements.{All-cons, All-nil}
 use Rattle.std.proofs.lemmas.Slice.Eq.{bytes_eq-Decides}
@@ -71,10 +71,6 @@ own_name_at [] good k e lt = absurd (omega arith)
 own_name_at (r ∷ rules) good zero e lt = (and_parts _ _ (and_parts _ _ good).0).0
 own_name_at (r ∷ rules) good (suc k) e lt = own_name_at rules (and_parts _ _ good).1 k e (omega arith)
 
-not_false : (b : Bool) → not b ≡ true → b ≡ false
-not_false true h = absurd (false≢true h)
-not_false false h = refl
-
 same_bytes : (x y : Text) → bytes_eq x y ≡ true → bytes_eq y x ≡ true
 same_bytes x y same = (bytes_eq-Decides y x).1 (sym ((bytes_eq-Decides x y).0 same))
 
@@ -90,7 +86,7 @@ any_name name (r ∷ rules) (suc k) e lt same = go (any_name name rules k e (ome
 
 once : (rule : Rule) (rules : List Rule) → are_names (names_of (rule ∷ rules)) ≡ true → (k : ℕ) (e : Rule) → k < length rules → bytes_eq rule.id (slice_index_or rules k e).id ≡ true → ⊥
 once rule rules good k e lt same =
-    let none : list_any (bytes_eq rule.id) (names_of rules) ≡ false = not_false _ (and_parts _ _ (and_parts _ _ good).0).1 in
+    let none : list_any (bytes_eq rule.id) (names_of rules) ≡ false = not-true _ (and_parts _ _ (and_parts _ _ good).0).1 in
     false≢true (sym none ∙ any_name rule.id rules k e lt same)
 
 distinct_at : (rules : List Rule) → are_names (names_of rules) ≡ true → (j k : ℕ) (d e : Rule) → j < length rules → k < length rules

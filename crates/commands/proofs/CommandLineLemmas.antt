@@ -2,7 +2,7 @@
 use Rattle.std.proofs.Common.{◌≡◌, ◌∷◌, ◌∙◌, ◌&&◌, [], ℕ, List, Bool, Option, Some, None, Result, Ok, Err, IsErrAnd, true, false, refl, inl, inr, sym, ap, ap₂, subst, codes, length, slice_get, unwrap_or, option_and_then, is_some, ◌==◌}
 use Rattle.std.specs.Borrow.{Bor}
 use Rattle.std.specs.Str.{bytes_eq}
-use Rattle.std.proofs.lemmas.Bool.{false≢true}
+use Rattle.std.proofs.lemmas.Bool.{and_right, false≢true}
 use Rattle.std.proofs.lemmas.Slice.Eq.{bytes_eq-Decides}
 use Rattle.clap.specs.Words.{FailsBy, HasKind, Kinds, Text, fault_of, first_of, matches_of}
 use Rattle.clap.specs.declared.error.Error.{Error}
@@ -107,11 +107,7 @@ pub not_good : (words : List Text) (given : Given) → slice_get words 0 ≡ Som
 not_good words given first is bad =
     first_explain words first
     ∙ ap (λ (good : Bool). (length (fault_of explain_command words) == 0) && good) (same_test words given is ∙ bad)
-    ∙ never (length (fault_of explain_command words) == 0)
-  where
-    never : (b : Bool) → (b && false) ≡ false
-    never true = refl
-    never false = refl
+    ∙ and_right (length (fault_of explain_command words) == 0) false refl
 
 -- ---- questions in plain words
 
