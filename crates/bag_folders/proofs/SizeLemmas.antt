@@ -5,6 +5,7 @@ use Rattle.std.specs.List.{list_any, position_from, sum_by, flat_map}
 use Rattle.std.specs.Borrow.{Bor}
 use Rattle.std.proofs.lemmas.List.{length-append, length-take-le}
 use Rattle.std.proofs.lemmas.List.Sums.{sum_by-cons}
+use Rattle.std.proofs.lemmas.Option.{same_Some}
 use Rattle.bag_text.specs.Paths.{is_good, comes_before, lies_under}
 use Rattle.bag_text.specs.TransferForm.{File, IsBag, max_content, max_files, clashes, header, entry, opening, ending, set_text}
 use Rattle.bag_text.specs.TransferReading.{files_of}
@@ -76,11 +77,8 @@ not_before : (place : ℕ) (ls : List Listed) (k : ℕ) → position_from is_too
 not_before place [] k e = absurd cc
 not_before place (l ∷ ls) k e = by_test (is_too_long l) e (λ e'. not_before (place + 1) ls k e')
   where
-    the_same : (a b : ℕ) → ◌≡◌ {A = Option ℕ} (Some a) (Some b) → a ≡ b
-    the_same a b e = cc
-
     by_test : (b : Bool) → cond b (Some place) (position_from is_too_long (place + 1) ls) ≡ Some k → (position_from is_too_long (place + 1) ls ≡ Some k → place + 1 ≤ k) → place ≤ k
-    by_test true e again = let same = the_same place k e in omega arith
+    by_test true e again = let same = same_Some place k e in omega arith
     by_test false e again = let le = again e in omega arith
 
 -- The first that is too long is the last that is judged.
@@ -91,9 +89,6 @@ one_long place n before [] fs h e = absurd cc
 one_long place n before (l ∷ ls) [] h e = absurd h
 one_long place n before (l ∷ ls) (f ∷ fs) h e = by_test (is_too_long l) n refl e (λ m e'. one_long (place + 1) m f.path ls fs h.2 e')
   where
-    the_same : (a b : ℕ) → ◌≡◌ {A = Option ℕ} (Some a) (Some b) → a ≡ b
-    the_same a b e = cc
-
     chained : (a b c : Option SetFault) → option_or a (option_or b c) ≡ option_or (option_or a b) c
     chained (Some x) b c = refl
     chained None b c = refl
@@ -104,7 +99,7 @@ one_long place n before (l ∷ ls) (f ∷ fs) h e = by_test (is_too_long l) n re
     by_test true zero is e again =
         let same : place + 0 ≡ place = omega arith in
         rw (same, long_fault place before l f h.1 is) refl
-    by_test true (suc m) is e again = let same = the_same place (place + suc m) e in absurd (omega arith)
+    by_test true (suc m) is e again = let same = same_Some place (place + suc m) e in absurd (omega arith)
     by_test false zero is e again = let low = not_before (place + 1) ls (place + 0) e in absurd (omega arith)
     by_test false (suc m) is e again =
         let same : place + suc m ≡ place + 1 + m = omega arith in
@@ -196,11 +191,8 @@ found_within : (place : ℕ) (ls : List Listed) (k : ℕ) → position_from is_t
 found_within place [] k e = absurd cc
 found_within place (l ∷ ls) k e = by_test (is_too_long l) e (λ e'. found_within (place + 1) ls k e')
   where
-    the_same : (a b : ℕ) → ◌≡◌ {A = Option ℕ} (Some a) (Some b) → a ≡ b
-    the_same a b e = cc
-
     by_test : (b : Bool) → cond b (Some place) (position_from is_too_long (place + 1) ls) ≡ Some k → (position_from is_too_long (place + 1) ls ≡ Some k → k < place + 1 + length ls) → k < place + length (l ∷ ls)
-    by_test true e again = let same = the_same place k e in omega arith
+    by_test true e again = let same = same_Some place k e in omega arith
     by_test false e again = let lt = again e in omega arith
 
 pub front_len : (ls : List Listed) (k : ℕ) → position_from is_too_long 0 ls ≡ Some k → k ≡ length (take k ls)

@@ -1,6 +1,6 @@
 -- What packing a folder comes to: its files in the order of their paths, and of these the form, or
 -- the first fault.
-use Rattle.std.specs.Prelude.{◌≡◌, ◌≢◌, ◌⊎◌, ℕ, ◌<◌, ◌≤◌, true, false, List, [], ◌∷◌, Option, Some, None, length, map, option_and_then, option_map, slice_get, string_bytes}
+use Rattle.std.specs.Prelude.{◌≡◌, ◌≢◌, ◌⊎◌, ℕ, ◌<◌, true, false, List, [], ◌∷◌, Option, Some, None, length, map, option_and_then, option_map, slice_get, string_bytes}
 use Rattle.std.specs.List.Sorted.{IsPermutation, IsSortedBy}
 use Rattle.bag_text.specs.Paths.{comes_before}
 use Rattle.bag_text.specs.TransferForm.{File, IsBag, IsFormOf, max_form, set_text}
