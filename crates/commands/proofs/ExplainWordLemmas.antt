@@ -1,22 +1,12 @@
 -- What clap makes of the words of `explain`, where they are plain.
-use Rattle.std.proofs.Common.{◌≡◌, ◌∷◌, ◌∙◌, [], List, Some, refl, ap, codes, is_some}
+use Rattle.std.proofs.Common.{◌≡◌, ◌∷◌, ◌∙◌, [], List, Some, refl, ap, codes}
 use Rattle.clap.specs.Words.{Text, built, fault_of, first_of}
 use Rattle.clap.specs.Kinds.{Kinds, or_else}
-use Rattle.clap.specs.Simple.{Shape, entered}
-use Rattle.clap.specs.Walk.{Held, Walk, finished, nothing_held, settled, walk, walk_from}
-use Rattle.clap.specs.Faults.{check_fault, defaults_fault, entered_fault, settle_fault, walk_fault}
+use Rattle.clap.specs.Simple.{Shape}
+use Rattle.clap.specs.Walk.{Held, Walk, finished, nothing_held, walk, walk_from}
+use Rattle.clap.specs.Faults.{defaults_fault, walk_fault}
 use Rattle.commands.specs.CommandLine.{IsPlainWord, explain_command, value_of}
-use Rattle.commands.proofs.PlainWordLemmas.{after, before, plain_fault, plain_walk}
-
--- ---- a command without subcommands
-
--- what may fail after the walk, where it ends like this
-abbrev faults_after : Shape → Walk → Kinds
-faults_after s end =
-    or_else (entered_fault (record { top = s; subs = [] }) end.stopped)
-    (or_else (settle_fault s.rules s.args_override_self end.held)
-    (or_else (defaults_fault (settled s.rules end.held).rows s.rules)
-    (check_fault s (finished s.rules end.held) (is_some (entered (record { top = s; subs = [] }) end.stopped)))))
+use Rattle.commands.proofs.PlainWordLemmas.{after, before, faults_after, plain_fault, plain_walk}
 
 -- ---- the walk over five plain words
 

@@ -1,11 +1,11 @@
 -- What clap makes of plain words.
-use Rattle.std.proofs.Common.{◌≡◌, ◌∷◌, [], ℕ, List, Bool, Some, None, true, false, refl, inl, inr, ap, fold, slice_get, ◌==◌}
+use Rattle.std.proofs.Common.{◌≡◌, ◌∷◌, [], ℕ, List, Bool, Some, None, true, false, refl, inl, inr, ap, fold, slice_get, ◌==◌, is_some}
 use Rattle.std.proofs.lemmas.Bool.{eqb-true}
 use Rattle.clap.specs.Words.{Rule, Text}
-use Rattle.clap.specs.Kinds.{or_else}
-use Rattle.clap.specs.Simple.{Shape}
-use Rattle.clap.specs.Walk.{Held, Walk, idle, value, arg_by_index, to_positional, walked}
-use Rattle.clap.specs.Faults.{step_fault, walk_fault}
+use Rattle.clap.specs.Kinds.{Kinds, or_else}
+use Rattle.clap.specs.Simple.{Shape, entered}
+use Rattle.clap.specs.Walk.{Held, Walk, finished, idle, settled, value, arg_by_index, to_positional, walked}
+use Rattle.clap.specs.Faults.{check_fault, defaults_fault, entered_fault, settle_fault, step_fault, walk_fault}
 use Rattle.commands.specs.CommandLine.{IsPlainWord}
 
 -- a byte that doesn't begin an option
@@ -43,3 +43,11 @@ unfolding walk_fault walked
 plain_fault s held position word rest (inl dash) = rw dash refl
 plain_fault s held position [] rest (inr differs) = refl
 plain_fault s held position (x ∷ more) rest (inr differs) = rw (single x more differs, single x more differs) refl
+
+-- what may fail after the walk, where it ends like this
+abbrev pub faults_after : Shape → Walk → Kinds
+faults_after s end =
+    or_else (entered_fault (record { top = s; subs = [] }) end.stopped)
+    (or_else (settle_fault s.rules s.args_override_self end.held)
+    (or_else (defaults_fault (settled s.rules end.held).rows s.rules)
+    (check_fault s (finished s.rules end.held) (is_some (entered (record { top = s; subs = [] }) end.stopped)))))

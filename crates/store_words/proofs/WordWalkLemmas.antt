@@ -1,20 +1,12 @@
 -- What clap makes of a command's words, from where its walk over them ends.
-use Rattle.std.proofs.Common.{◌≡◌, ◌∷◌, ◌∙◌, [], ℕ, List, Option, ap, fold, is_some}
+use Rattle.std.proofs.Common.{◌≡◌, ◌∷◌, ◌∙◌, [], ℕ, List, Option, ap, fold}
 use Rattle.clap.specs.Words.{Text, first_of}
 use Rattle.clap.specs.Kinds.{Kinds, or_else}
-use Rattle.clap.specs.Simple.{Shape, entered}
-use Rattle.clap.specs.Walk.{Held, Walk, finished, nothing_held, settled, value, walk, walk_from, walked}
-use Rattle.clap.specs.Faults.{check_fault, defaults_fault, entered_fault, settle_fault, step_fault, walk_fault}
+use Rattle.clap.specs.Simple.{Shape}
+use Rattle.clap.specs.Walk.{Held, Walk, finished, nothing_held, value, walk, walk_from, walked}
+use Rattle.clap.specs.Faults.{step_fault, walk_fault}
 use Rattle.commands.specs.CommandLine.{IsPlainWord}
-use Rattle.commands.proofs.PlainWordLemmas.{after, before, plain_fault, plain_walk}
-
--- what may fail after the walk, where it ends like this
-abbrev pub faults_after : Shape → Walk → Kinds
-faults_after s end =
-    or_else (entered_fault (record { top = s; subs = [] }) end.stopped)
-    (or_else (settle_fault s.rules s.args_override_self end.held)
-    (or_else (defaults_fault (settled s.rules end.held).rows s.rules)
-    (check_fault s (finished s.rules end.held) (is_some (entered (record { top = s; subs = [] }) end.stopped)))))
+use Rattle.commands.proofs.PlainWordLemmas.{after, before, faults_after, plain_fault, plain_walk}
 
 -- the walk over the words ends with this held, before the positional with this number, and nothing fails
 pub record Ends (shape : Shape) (words : List Text) (held : Held) (position : ℕ) : Type 0 where
