@@ -5,6 +5,8 @@ use Rattle.std.specs.List.{range_with_len}
 use Rattle.std.specs.Option.{option_map_or}
 use Rattle.std.specs.Ordering.{int_eq}
 use Rattle.std.proofs.lemmas.Option.{same_Some}
+use Rattle.office_rows.proofs.Order.{map_back}
+use Rattle.office_history.proofs.DistinctLemmas.{or_false}
 use Rattle.jiff.specs.Types.{Date}
 use Rattle.jiff.specs.Words.{epoch_day}
 use Rattle.office_core.specs.declared.answer.LiveHold.{LiveHold}
@@ -51,11 +53,7 @@ live_same (Some day) = refl
 
 reach_same : (target : Target) (n : ℕ) (deposit : Deposit)
     → (unwrap_or (option_map (λ d. int_eq d (pos n)) (held_deposit target)) false || unwrap_or (option_map (λ c. bytes_eq c deposit.collection) (held_collection target)) false) ≡ reaches target n deposit
-reach_same (OnDeposit m) n deposit = by (int_eq (pos m) (pos n)) ∙ same_number m n
-  where
-    by : (b : Bool) → (b || false) ≡ b
-    by true = refl
-    by false = refl
+reach_same (OnDeposit m) n deposit = or_false (int_eq (pos m) (pos n)) ∙ same_number m n
 reach_same (OnCollection name) n deposit = refl
 
 pub live_told : (h : History) (n : ℕ) (deposit : Deposit) (version : ℤ) → rows.live_holds (pos n) deposit.collection (picture version h) ≡ map pos (histories.live_holds h n deposit)
@@ -70,20 +68,14 @@ live_told h n deposit version =
         let one : 1 + i ≡ suc i = omega arith in
         reach_same x.1.target n deposit ∙ ap (λ o. option_map_or (λ (hold : Date × Hold). reaches hold.1.target n deposit) o false) (sym e) ∙ ap (λ k. covers h k n deposit) (sym one)
 
-same_numbers : (xs ys : List ℕ) → map pos xs ≡ map pos ys → xs ≡ ys
-same_numbers [] [] e = refl
-same_numbers [] (y ∷ ys) e = absurd cc
-same_numbers (x ∷ xs) [] e = absurd cc
-same_numbers (x ∷ xs) (y ∷ ys) e =
-    let first : x ≡ y = cc in
-    let rest : map pos xs ≡ map pos ys = cc in
-    λ i. first i ∷ same_numbers xs ys rest i
+same_pos : (m n : ℕ) → pos m ≡ pos n → m ≡ n
+same_pos m n e = cc
 
 -- the numbers of the live holds over a deposit that are read
 pub live_read : (h : History) (db : Database) → Pictures h db → (n : ℕ) (collection : List ℕ) (numbers : List ℕ) → map pos numbers ≡ rows.live_holds (pos n) collection (tables_of db)
     → (deposit : Deposit) → deposit.collection ≡ collection → numbers ≡ histories.live_holds h n deposit
 live_read h db pictured n collection numbers e deposit is =
-    same_numbers numbers (histories.live_holds h n deposit)
+    map_back pos same_pos numbers (histories.live_holds h n deposit)
     (e ∙ in_picture h db pictured (rows.live_holds (pos n) collection) ∙ ap (λ c. rows.live_holds (pos n) c (picture this_version h)) (sym is) ∙ live_told h n deposit this_version)
 
 pub first_live : (h : History) (db : Database) → Pictures h db → (n : ℕ) (collection : List ℕ) (numbers : List ℕ) → map pos numbers ≡ rows.live_holds (pos n) collection (tables_of db)

@@ -10,7 +10,7 @@ use Rattle.toml_parser.specs.Strings.{Key, recursion_limit}
 use Rattle.toml_parser.specs.declared.scalar.Scalar.{Scalar}
 use Rattle.toml_parser.specs.declared.scalar.Scalar.TheVariants.{Boolean, Integer, Float, Datetime}
 use Rattle.toml.specs.Data.{Data, string, array, table, no_items, Members, no_members, member, same_key, get_member}
-use Rattle.toml.specs.Tables.{Node, Nodes, no_nodes, node, value, open_table, open_array, implicit, dotted, header, get_node, insert, replace, close, close_node, Edit, header_node, dot_node, by_header, by_dot, along_header, along_dots, Definition, key_value, std_table, array_table, Expression, new_node, redefine, at_found, at_key, put, Document, define_as, define}
+use Rattle.toml.specs.Tables.{Origin, Node, Nodes, no_nodes, node, value, open_table, open_array, implicit, dotted, header, get_node, insert, replace, close, close_node, Edit, header_node, dot_node, by_header, by_dot, along_header, along_dots, Definition, key_value, std_table, array_table, Expression, new_node, redefine, at_found, at_key, put, Document, define_as, define}
 use Rattle.toml.specs.Parse.{read_map, after_byte, after_element, key_equals, keyval, items, members, scalar_data, atom, val, header_key, expression, ends_line, line, lines, skip_bom, parse_document}
 use Rattle.office_core.proofs.OptionLemmas.{option_map_some}
 
@@ -165,21 +165,27 @@ dot_sound edit keeps (open_table dotted inner) y sound e =
     option_map_some (open_table dotted) (edit inner) y e (λ new is same. subst SoundNode same (keeps inner new sound is))
 dot_sound edit keeps (open_array done last) y sound e = absurd (none-some y e)
 
+-- a table that is put there new
+table_put_sound : (origin : Origin) (k : List ℕ) (edit : Edit) → Keeps edit → (ns result : Nodes) → get_node k ns ≡ None → SoundNodes ns
+    → option_map (λ new. insert k (open_table origin new) ns) (edit no_nodes) ≡ Some result → SoundNodes result
+table_put_sound origin k edit keeps ns result none sound e =
+    option_map_some (λ new. insert k (open_table origin new) ns) (edit no_nodes) result e
+    (λ new is same. subst SoundNodes same (insert_sound k (open_table origin new) ns (keeps no_nodes new tt is) (missing_new k ns none) sound))
+
+-- a node that is replaced
+node_put_sound : (step : Node → Option Node) → ((x y : Node) → SoundNode x → step x ≡ Some y → SoundNode y) → (k : List ℕ) (x : Node) (ns result : Nodes) → get_node k ns ≡ Some x → SoundNodes ns
+    → option_map (λ new. replace k new ns) (step x) ≡ Some result → SoundNodes result
+node_put_sound step sound_step k x ns result found sound e =
+    option_map_some (λ new. replace k new ns) (step x) result e
+    (λ new is same. subst SoundNodes same (replace_sound k new ns (sound_step x new (found_sound k x ns found sound) is) sound))
+
 by_header_sound : (k : List ℕ) (edit : Edit) → Keeps edit → (ns result : Nodes) (found : Option Node) → get_node k ns ≡ found → SoundNodes ns → by_header k edit ns found ≡ Some result → SoundNodes result
-by_header_sound k edit keeps ns result None none sound e =
-    option_map_some (λ new. insert k (open_table implicit new) ns) (edit no_nodes) result e
-    (λ new is same. subst SoundNodes same (insert_sound k (open_table implicit new) ns (keeps no_nodes new tt is) (missing_new k ns none) sound))
-by_header_sound k edit keeps ns result (Some x) found sound e =
-    option_map_some (λ new. replace k new ns) (header_node edit x) result e
-    (λ new is same. subst SoundNodes same (replace_sound k new ns (header_sound edit keeps x new (found_sound k x ns found sound) is) sound))
+by_header_sound k edit keeps ns result None none sound e = table_put_sound implicit k edit keeps ns result none sound e
+by_header_sound k edit keeps ns result (Some x) found sound e = node_put_sound (header_node edit) (header_sound edit keeps) k x ns result found sound e
 
 by_dot_sound : (k : List ℕ) (edit : Edit) → Keeps edit → (ns result : Nodes) (found : Option Node) → get_node k ns ≡ found → SoundNodes ns → by_dot k edit ns found ≡ Some result → SoundNodes result
-by_dot_sound k edit keeps ns result None none sound e =
-    option_map_some (λ new. insert k (open_table dotted new) ns) (edit no_nodes) result e
-    (λ new is same. subst SoundNodes same (insert_sound k (open_table dotted new) ns (keeps no_nodes new tt is) (missing_new k ns none) sound))
-by_dot_sound k edit keeps ns result (Some x) found sound e =
-    option_map_some (λ new. replace k new ns) (dot_node edit x) result e
-    (λ new is same. subst SoundNodes same (replace_sound k new ns (dot_sound edit keeps x new (found_sound k x ns found sound) is) sound))
+by_dot_sound k edit keeps ns result None none sound e = table_put_sound dotted k edit keeps ns result none sound e
+by_dot_sound k edit keeps ns result (Some x) found sound e = node_put_sound (dot_node edit) (dot_sound edit keeps) k x ns result found sound e
 
 along_header_keeps : (path : List (List ℕ)) (edit : Edit) → Keeps edit → Keeps (along_header path edit)
 unfolding along_header

@@ -19,7 +19,7 @@ use Rattle.office_core.specs.declared.facts.Verdict.TheVariants.{NotDue}
 use Rattle.office_core.specs.Verdicts as deciding
 use Rattle.office_core.specs.declared.request.Request.{Request}
 use Rattle.office_core.specs.declared.request.Request.TheVariants.{DefineClass, DefineCollection, Deposit as MakeDeposit, List as ListDeposits, Record, Holds, DownloadBag, DownloadFile, Audit, HoldDeposit, HoldCollection, Release, Dispose, DueList}
-use Rattle.office_history.specs.Histories.{History, Change, Installed, DefinedClass, DefinedCollection, Deposited, PlacedHold, ReleasedHold, Destroyed, Deposit, Hold, with_changes, has_class, has_collection, deposits, deposit_numbered, accession_of, destruction_day, due, holds, hold_numbered, release_day, live_holds, least_hold}
+use Rattle.office_history.specs.Histories.{History, Change, Installed, DefinedCollection, Deposited, PlacedHold, Deposit, Hold, with_changes, has_class, has_collection, deposits, deposit_numbered, accession_of, destruction_day, due, holds, hold_numbered, release_day, live_holds, least_hold}
 use Rattle.office_history.specs.Bags.{bag_of}
 use Rattle.office_history.specs.Refusals.{refusal_in, refusal, bad_as, of_deposit, of_hold, denial, denial_at, release_denial, gone_refusal, released_refusal, held_refusal, not_due_refusal, no_such_collection, no_such_class, taken_refusal, closed_ahead_refusal, bad_bag, full_of_deposits, full_of_holds}
 use Rattle.office_history.specs.Answers.{changes_unless, allowed_change, deposit_change}
@@ -235,21 +235,11 @@ pub deposits_by : (P : List (Date × Deposit) → Type 0) (x : History) (c : Cha
     → ((day : Date) (deposit : Deposit) → IsDay day × IsDeposit deposit → IsDepositable x day deposit → P (deposits x ++ (day, deposit) ∷ []))
     → P (deposits (with_changes x (c ∷ [])))
 deposits_by P x (Deposited day deposit) ok here made = subst P (sym (deposits_grown x (Deposited day deposit ∷ []))) (made day deposit ok.0 ok.1)
-deposits_by P x (Installed policy) ok here made = subst P (sym (deposits_grown x (Installed policy ∷ []) ∙ append-nil (deposits x))) here
-deposits_by P x (DefinedClass day name years) ok here made = subst P (sym (deposits_grown x (DefinedClass day name years ∷ []) ∙ append-nil (deposits x))) here
-deposits_by P x (DefinedCollection day name) ok here made = subst P (sym (deposits_grown x (DefinedCollection day name ∷ []) ∙ append-nil (deposits x))) here
-deposits_by P x (PlacedHold day hold) ok here made = subst P (sym (deposits_grown x (PlacedHold day hold ∷ []) ∙ append-nil (deposits x))) here
-deposits_by P x (ReleasedHold day k) ok here made = subst P (sym (deposits_grown x (ReleasedHold day k ∷ []) ∙ append-nil (deposits x))) here
-deposits_by P x (Destroyed day n) ok here made = subst P (sym (deposits_grown x (Destroyed day n ∷ []) ∙ append-nil (deposits x))) here
+deposits_by P x c ok here made = subst P (sym (deposits_grown x (c ∷ []) ∙ append-nil (deposits x))) here
 
 -- the holds after a change, likewise
 pub holds_by : (P : List (Date × Hold) → Type 0) (x : History) (c : Change) → IsAccepted x c → P (holds x)
     → ((day : Date) (hold : Hold) → IsDay day × IsHold hold → IsPlaceable x hold → P (holds x ++ (day, hold) ∷ []))
     → P (holds (with_changes x (c ∷ [])))
 holds_by P x (PlacedHold day hold) ok here made = subst P (sym (holds_grown x (PlacedHold day hold ∷ []))) (made day hold ok.0 ok.1)
-holds_by P x (Installed policy) ok here made = subst P (sym (holds_grown x (Installed policy ∷ []) ∙ append-nil (holds x))) here
-holds_by P x (DefinedClass day name years) ok here made = subst P (sym (holds_grown x (DefinedClass day name years ∷ []) ∙ append-nil (holds x))) here
-holds_by P x (DefinedCollection day name) ok here made = subst P (sym (holds_grown x (DefinedCollection day name ∷ []) ∙ append-nil (holds x))) here
-holds_by P x (Deposited day deposit) ok here made = subst P (sym (holds_grown x (Deposited day deposit ∷ []) ∙ append-nil (holds x))) here
-holds_by P x (ReleasedHold day k) ok here made = subst P (sym (holds_grown x (ReleasedHold day k ∷ []) ∙ append-nil (holds x))) here
-holds_by P x (Destroyed day n) ok here made = subst P (sym (holds_grown x (Destroyed day n ∷ []) ∙ append-nil (holds x))) here
+holds_by P x c ok here made = subst P (sym (holds_grown x (c ∷ []) ∙ append-nil (holds x))) here

@@ -10,11 +10,11 @@ use Rattle.jiff.specs.Types.{Date}
 use Rattle.jiff.specs.Words.{epoch_day}
 use Rattle.bag_text.specs.TransferForm.{File}
 use Rattle.bag_check.specs.Validity.{payload_files, payload_bytes}
-use Rattle.office_rows.specs.Rows.{DepositRow, HoldRow}
+use Rattle.office_rows.specs.Rows.{DepositRow}
 use Rattle.office_history.specs.Lists.{first_said, last_said, item_numbered, numbers, distinct_after, in_first_places}
-use Rattle.office_history.specs.Histories.{History, Change, Deposit, Hold, with_changes, installed_in, no_policy, policy, years_in, years_of, collection_in, deposit_in, deposits, deposit_numbered, destroyed_in, destruction_day, kept_numbers, hold_in, holds, released_in, release_day}
+use Rattle.office_history.specs.Histories.{History, Change, Deposit, with_changes, installed_in, no_policy, policy, years_in, years_of, collection_in, deposit_in, deposits, deposit_numbered, destroyed_in, destruction_day, kept_numbers, hold_in, holds, released_in, release_day}
 use Rattle.office_history.specs.Stocks.{files_of, Stock, stock}
-use Rattle.office_history.specs.Pictures.{class_in, class_row, caller_row, rule_rows, file_row, file_rows, held_deposit, held_collection, deposit_row, row_of_deposit, picture}
+use Rattle.office_history.specs.Pictures.{class_in, class_row, caller_row, rule_rows, file_row, file_rows, row_by_release, deposit_row, row_of_deposit, picture}
 use Rattle.office_history.proofs.HistoryLemmas.{deposits_grown, holds_grown}
 
 -- what is known of a deposit whose bag may be gone
@@ -249,18 +249,8 @@ same_picture h k a version = λ i. record {
   collections = a.same_collections i;
   deposits = filter_map (λ n. same_row h k a n i) (numbers (same_count h k a i));
   files = same_file_rows h k a i;
-  holds = filter_map (λ n. option_map (λ found. hold_from n (a.same_released n i) found) (item_numbered (a.same_holds i) n)) (numbers (length (a.same_holds i)));
+  holds = filter_map (λ n. option_map (λ found. row_by_release n (a.same_released n i) found) (item_numbered (a.same_holds i) n)) (numbers (length (a.same_holds i)));
 }
-  where
-    hold_from : ℕ → Option Date → Date × Hold → HoldRow
-    hold_from n release_day found = record {
-      number = pos n;
-      deposit = held_deposit found.1.target;
-      collection = held_collection found.1.target;
-      matter = found.1.matter;
-      placed = epoch_day found.0;
-      released = option_map epoch_day release_day;
-    }
 
 -- ---- and the stock
 

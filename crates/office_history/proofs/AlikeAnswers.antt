@@ -23,7 +23,7 @@ use Rattle.office_core.specs.declared.refusal.Subject.TheVariants as subjects
 use Rattle.office_core.specs.declared.request.Request.{Request}
 use Rattle.office_core.specs.declared.request.Request.TheVariants.{DefineClass, DefineCollection, Deposit as MakeDeposit, List as ListDeposits, Record, Holds, DownloadBag, DownloadFile, Audit, HoldDeposit, HoldCollection, Release, Dispose, DueList}
 use Rattle.office_history.specs.Lists.{item_numbered, numbers, distinct_after, in_first_places}
-use Rattle.office_history.specs.Histories.{History, Change, DefinedCollection, Target, OnDeposit, OnCollection, Deposit, Hold, with_changes, policy, has_collection, collection_in, deposits, deposit_numbered, accession_of, destruction_day, due, reaches, live_holds}
+use Rattle.office_history.specs.Histories.{History, Change, DefinedCollection, Target, OnDeposit, OnCollection, Deposit, Hold, with_changes, policy, has_collection, collection_in, deposits, deposit_numbered, accession_of, destruction_day, due, reaches, live_holds, has_accession}
 use Rattle.office_history.specs.Bags.{report_on}
 use Rattle.office_core.specs.Verdicts as deciding
 use Rattle.office_history.specs.Refusals.{refusal_in, denial, denial_at, closed_ahead_refusal, bad_bag, held_refusal, not_due_refusal, full_of_holds, no_file, of_deposit, of_hold, release_denial_of, release_denial, refusal}
@@ -77,18 +77,15 @@ same_collection h k a name =
     ∙ ap (list_any (bytes_eq name)) a.same_collections
     ∙ among_first_places name (filter_map collection_in k.changes)
 
-abbrev has : List ℕ → Date × Deposit → Bool
-has accession found = bytes_eq found.1.accession accession
-
 abbrev has_outline : List ℕ → Outline → Bool
 has_outline accession o = bytes_eq o.accession accession
 
-place_of_outline : (accession : List ℕ) (n : ℕ) (ds : List (Date × Deposit)) → position_from (has accession) n ds ≡ position_from (has_outline accession) n (map outline ds)
+place_of_outline : (accession : List ℕ) (n : ℕ) (ds : List (Date × Deposit)) → position_from (has_accession accession) n ds ≡ position_from (has_outline accession) n (map outline ds)
 place_of_outline accession n [] = refl
-place_of_outline accession n (d ∷ ds) = ap (cond (has accession d) (Some n)) (place_of_outline accession (n + 1) ds)
+place_of_outline accession n (d ∷ ds) = ap (cond (has_accession accession d) (Some n)) (place_of_outline accession (n + 1) ds)
 
-place_found : (accession : List ℕ) (h : History) → position (has accession) (deposits h) ≡ position_from (has_outline accession) 0 (map outline (deposits h))
-place_found accession h = position_from-zero (has accession) (deposits h) ∙ place_of_outline accession 0 (deposits h)
+place_found : (accession : List ℕ) (h : History) → position (has_accession accession) (deposits h) ≡ position_from (has_outline accession) 0 (map outline (deposits h))
+place_found accession h = position_from-zero (has_accession accession) (deposits h) ∙ place_of_outline accession 0 (deposits h)
 
 same_accession : (h k : History) → Alike h k → (accession : List ℕ) → accession_of h accession ≡ accession_of k accession
 same_accession h k a accession =

@@ -18,15 +18,15 @@ same_after seen others [] same = refl
 same_after seen others (text ∷ texts) same = λ i.
     cond (same text i) (same_after seen others texts same i) (text ∷ same_after (text ∷ seen) (text ∷ others) texts (λ x. ap (λ b. bytes_eq x text || b) (same x)) i)
 
+pub or_false : (b : Bool) → (b || false) ≡ b
+or_false true = refl
+or_false false = refl
+
 one_behind : (seen : List (List ℕ)) (text : List ℕ) → HaveSame (text ∷ seen) (seen ++ text ∷ [])
 one_behind seen text x =
     or_comm (bytes_eq x text) (list_any (bytes_eq x) seen)
-    ∙ ap (λ b. list_any (bytes_eq x) seen || b) (sym (or_none (bytes_eq x text)))
+    ∙ ap (λ b. list_any (bytes_eq x) seen || b) (sym (or_false (bytes_eq x text)))
     ∙ sym (list_any-append (bytes_eq x) seen (text ∷ []))
-  where
-    or_none : (b : Bool) → (b || false) ≡ b
-    or_none true = refl
-    or_none false = refl
 
 -- a text that isn't among those found is the next of them
 text_found : (found rest : List (List ℕ)) (text : List ℕ) → list_any (bytes_eq text) found ≡ false

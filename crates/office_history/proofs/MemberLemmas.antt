@@ -5,6 +5,7 @@ use Rattle.std.specs.List.{AllByRecursion, IsDistinct, flat_map, list_any, range
 use Rattle.std.proofs.lemmas.Bool.{or_parts}
 use Rattle.std.proofs.lemmas.Option.{same_Some, slice_get_within}
 use Rattle.std.proofs.lemmas.Slice.Eq.{bytes_eq-Decides}
+use Rattle.bag_text.proofs.OrderLemmas.{other_way}
 use Rattle.bag_text.proofs.ElementLemmas.{Has}
 use Rattle.office_history.specs.Lists.{item_numbered, numbers, distinct_after, in_first_places}
 
@@ -54,13 +55,6 @@ all_new seen (x ∷ xs) = by (list_any (bytes_eq x) seen) refl (all_new seen xs)
         → AllByRecursion (IsNew seen) (if t then distinct_after seen xs else x ∷ distinct_after (x ∷ seen) xs)
     by true e behind after_it = behind
     by false e behind after_it = (e, weaker x seen (distinct_after (x ∷ seen) xs) after_it)
-
-pub other_way : (x y : List ℕ) → bytes_eq y x ≡ false → bytes_eq x y ≡ false
-other_way x y e = by (bytes_eq x y) refl
-  where
-    by : (t : Bool) → bytes_eq x y ≡ t → bytes_eq x y ≡ false
-    by true is = absurd (true≢false (sym ((bytes_eq-Decides y x).1 (sym ((bytes_eq-Decides x y).0 is))) ∙ e))
-    by false is = is
 
 unlike : (x : List ℕ) (seen texts : List (List ℕ)) → AllByRecursion (IsNew (x ∷ seen)) texts → AllByRecursion (λ y. bytes_eq x y ≡ false) texts
 unlike x seen [] all = tt

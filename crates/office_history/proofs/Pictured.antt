@@ -8,6 +8,7 @@ use Rattle.std.proofs.lemmas.Bool.Decides.{Decides-int_eq}
 use Rattle.std.proofs.lemmas.List.Elements.{filter_map-append}
 use Rattle.std.proofs.lemmas.Option.{same_Some, slice_get-map, slice_get_past, slice_get_within}
 use Rattle.std.proofs.lemmas.Slice.Eq.{bytes_eq-Decides}
+use Rattle.std.proofs.lemmas.Bool.{or_right}
 use Rattle.jiff_core.proofs.DateLemmas.{epoch_day_injective}
 use Rattle.jiff.specs.Types.{Date}
 use Rattle.jiff.specs.Words.{epoch_day}
@@ -32,7 +33,7 @@ use Rattle.office_history.specs.Pictures.{effect_number, pattern_text, action_pa
 use Rattle.office_history.specs.Stocks.{files_of}
 use Rattle.office_core.specs.Policies.{IsNamed, HasNames}
 use Rattle.office_history.specs.Runs.{IsLegal}
-use Rattle.office_history.proofs.MemberLemmas.{other_way}
+use Rattle.bag_text.proofs.OrderLemmas.{other_way}
 use Rattle.office_history.proofs.Alike.{outline, Alike, or_none, some_behind}
 use Rattle.office_history.proofs.AlikeAnswers.{among_first_places}
 use Rattle.office_history.proofs.LegalReadings.{legal_policy, none_gone, none_released}
@@ -365,15 +366,11 @@ some_told years name y (other ∷ names) is among = by (bytes_eq other name) ref
         skip years name other (rows_by years names) e (years other)
         ∙ rest (sym (ap (λ b. b || list_any (bytes_eq name) names) (other_way name other e)) ∙ among)
 
-or_true : (b : Bool) → (b || true) ≡ true
-or_true true = refl
-or_true false = refl
-
 -- a class that has years is among those that were defined
 class_at : (name other : List ℕ) (years y : Option ℕ) (o : Option (Option ℕ)) (among : Bool) (b : Bool) → bytes_eq other name ≡ b → (o ≡ Some y → among ≡ true)
     → option_or o (if b then Some years else None) ≡ Some y → (bytes_eq name other || among) ≡ true
 class_at name other years y o among true f rest e = ap (λ b. b || among) ((bytes_eq-Decides name other).1 (sym ((bytes_eq-Decides other name).0 f)))
-class_at name other years y o among false f rest e = ap (λ b. bytes_eq name other || b) (rest (sym (or_none o) ∙ e)) ∙ or_true (bytes_eq name other)
+class_at name other years y o among false f rest e = ap (λ b. bytes_eq name other || b) (rest (sym (or_none o) ∙ e)) ∙ or_right (bytes_eq name other) true refl
 
 pub was_defined : (name : List ℕ) (y : Option ℕ) (changes : List Change) → last_said (years_in name) changes ≡ Some y → list_any (bytes_eq name) (filter_map class_in changes) ≡ true
 was_defined name y [] e = absurd cc

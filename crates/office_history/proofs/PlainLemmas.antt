@@ -15,7 +15,7 @@ use Rattle.office_core.specs.declared.refusal.Refusal.{Refusal}
 use Rattle.office_core.specs.declared.request.Request.TheVariants as requests
 use Rattle.office_history.specs.Refusals.{place_refusals, bag_refusals, refusal}
 use Rattle.jiff.specs.Types.{Date}
-use Rattle.office_history.specs.Histories.{History, Change, Installed, DefinedClass, DefinedCollection, Deposited, PlacedHold, ReleasedHold, Destroyed, Deposit, Hold, with_changes, deposit_in, hold_in, deposits, holds, accession_of}
+use Rattle.office_history.specs.Histories.{History, Change, Installed, DefinedClass, DefinedCollection, Deposited, PlacedHold, ReleasedHold, Destroyed, Deposit, Hold, with_changes, deposit_in, hold_in, deposits, holds, accession_of, has_accession}
 use Rattle.office_history.specs.Lists.{item_numbered}
 use Rattle.office_history.specs.Runs.{IsWithin}
 use Rattle.office_history.specs.PlainOffices.{HasRoom}
@@ -76,20 +76,17 @@ abbrev pub accession_behind : ℕ → List ℕ → List (Date × Deposit) → Op
 accession_behind n accession [] = None
 accession_behind n accession (d ∷ ds) = if bytes_eq d.1.accession accession then Some (n + 1) else accession_behind (n + 1) accession ds
 
-abbrev has : List ℕ → Date × Deposit → Bool
-has accession d = bytes_eq d.1.accession accession
-
-behind_is : (n : ℕ) (accession : List ℕ) (ds : List (Date × Deposit)) → accession_behind n accession ds ≡ option_map (λ place. place + 1) (position_from (has accession) n ds)
+behind_is : (n : ℕ) (accession : List ℕ) (ds : List (Date × Deposit)) → accession_behind n accession ds ≡ option_map (λ place. place + 1) (position_from (has_accession accession) n ds)
 behind_is n accession [] = refl
-behind_is n accession (d ∷ ds) = by (has accession d) (behind_is (n + 1) accession ds)
+behind_is n accession (d ∷ ds) = by (has_accession accession d) (behind_is (n + 1) accession ds)
   where
-    by : (b : Bool) → accession_behind (n + 1) accession ds ≡ option_map (λ place. place + 1) (position_from (has accession) (n + 1) ds)
-        → cond b (Some (n + 1)) (accession_behind (n + 1) accession ds) ≡ option_map (λ place. place + 1) (cond b (Some n) (position_from (has accession) (n + 1) ds))
+    by : (b : Bool) → accession_behind (n + 1) accession ds ≡ option_map (λ place. place + 1) (position_from (has_accession accession) (n + 1) ds)
+        → cond b (Some (n + 1)) (accession_behind (n + 1) accession ds) ≡ option_map (λ place. place + 1) (cond b (Some n) (position_from (has_accession accession) (n + 1) ds))
     by true h = refl
     by false h = h
 
 pub accession_found : (h : History) (accession : List ℕ) → accession_behind 0 accession (deposits h) ≡ accession_of h accession
-accession_found h accession = behind_is 0 accession (deposits h) ∙ ap (option_map (λ place. place + 1)) (sym (position_from-zero (has accession) (deposits h)))
+accession_found h accession = behind_is 0 accession (deposits h) ∙ ap (option_map (λ place. place + 1)) (sym (position_from-zero (has_accession accession) (deposits h)))
 
 -- the item of a number, behind the first
 pub numbered_next : {A : Type 0} (x : A) (xs : List A) (n : ℕ) → n ≢ 1 → item_numbered (x ∷ xs) n ≡ item_numbered xs (n - 1)

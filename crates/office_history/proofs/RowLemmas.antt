@@ -1,18 +1,16 @@
 -- The rows of a legal history are in range.
-use Rattle.std.proofs.Common.{◌≡◌, ◌≤◌, ℕ, zero, suc, ◌+◌, ◌*◌, ℤ, pos, Bool, true, false, List, [], ◌∷◌, length, map, filter, Option, Some, None, IfSome, IsSome, is_none, is_some, option_map, refl, sym, ap, subst, ◌∙◌, inl, inr, ◌⊎◌, arith, cond, if◌then◌else◌}
+use Rattle.std.proofs.Common.{◌≡◌, ◌≤◌, ℕ, zero, suc, ◌+◌, ℤ, pos, Bool, true, false, List, [], ◌∷◌, length, map, filter, Option, Some, None, IfSome, IsSome, is_none, is_some, option_map, refl, sym, ap, subst, ◌∙◌, inl, inr, ◌⊎◌, arith, cond}
 use Rattle.std.specs.Prelude.{Contains, bytes_eq, neg_ℤ}
-use Rattle.std.specs.List.{AllByRecursion, sum_by, filter_map, flat_map, list_any, range_with_len, cons_option}
+use Rattle.std.specs.List.{AllByRecursion, filter_map, flat_map, list_any, range_with_len, cons_option}
 use Rattle.std.specs.Option.{option_map_or}
 use Rattle.std.proofs.lemmas.List.{length-map}
-use Rattle.std.proofs.lemmas.List.Sums.{sum-map, sum_by-cons}
 use Rattle.std.proofs.lemmas.List.FromFn.{length-range_with_len}
 use Rattle.std.proofs.lemmas.Slice.Eq.{bytes_eq-Decides}
 use Rattle.jiff_core.proofs.SignedLemmas.{signed_arith}
 use Rattle.jiff.specs.Types.{Date}
 use Rattle.jiff.specs.Words.{epoch_day, IsBetween}
-use Rattle.bag_text.specs.TransferForm.{File, Fits, max_content}
-use Rattle.bag_check.specs.Contents.{is_payload, payload_of}
-use Rattle.bag_check.specs.Validity.{payload_files, payload_bytes}
+use Rattle.bag_text.specs.TransferForm.{File, Fits}
+use Rattle.bag_check.proofs.CodeLemmas.{few_payload, small_payload}
 use Rattle.bag_text.proofs.ElementLemmas.{Has, has_contains, any_has}
 use Rattle.office_core.proofs.DayLemmas.{day_number}
 use Rattle.office_core.specs.Bounds.{max_years}
@@ -47,23 +45,14 @@ use Rattle.office_history.proofs.RangeLemmas.{limits_hold, WasClosed, closed_dep
 
 -- ---- lists
 
--- of what is told of some numbers, each is so
-all_told : {R : Type 0} (P : R → Type 0) (tell : ℕ → Option R) → ((n : ℕ) (row : R) → tell n ≡ Some row → P row) → (ns : List ℕ) → AllByRecursion P (filter_map tell ns)
+-- of what is told of some items, each is so
+all_told : {A R : Type 0} (P : R → Type 0) (tell : A → Option R) → ((item : A) (row : R) → tell item ≡ Some row → P row) → (items : List A) → AllByRecursion P (filter_map tell items)
 all_told P tell so [] = tt
-all_told {R = R} P tell so (n ∷ ns) = by (tell n) refl (all_told P tell so ns)
+all_told {R = R} P tell so (item ∷ items) = by (tell item) refl (all_told P tell so items)
   where
-    by : (o : Option R) → tell n ≡ o → AllByRecursion P (filter_map tell ns) → AllByRecursion P (cons_option o (filter_map tell ns))
+    by : (o : Option R) → tell item ≡ o → AllByRecursion P (filter_map tell items) → AllByRecursion P (cons_option o (filter_map tell items))
     by None e rest = rest
-    by (Some row) e rest = (so n row e, rest)
-
--- the same of texts
-all_texts_told : {R : Type 0} (P : R → Type 0) (tell : List ℕ → Option R) → ((text : List ℕ) (row : R) → tell text ≡ Some row → P row) → (texts : List (List ℕ)) → AllByRecursion P (filter_map tell texts)
-all_texts_told P tell so [] = tt
-all_texts_told {R = R} P tell so (text ∷ texts) = by (tell text) refl (all_texts_told P tell so texts)
-  where
-    by : (o : Option R) → tell text ≡ o → AllByRecursion P (filter_map tell texts) → AllByRecursion P (cons_option o (filter_map tell texts))
-    by None e rest = rest
-    by (Some row) e rest = (so text row e, rest)
+    by (Some row) e rest = (so item row e, rest)
 
 mapped_some : {A R : Type 0} (f : A → R) (o : Option A) (r : R) → option_map f o ≡ Some r → (x : A) × (o ≡ Some x) × (f x ≡ r)
 mapped_some f None r e = absurd cc
@@ -171,29 +160,6 @@ day_ranged : (o : Option Date) → ((day : Date) → o ≡ Some day → IsDay da
 day_ranged None so = tt
 day_ranged (Some day) so = day_number day (so day refl)
 
--- the payload has no more files than the bag, and each file no more bytes than one may have
-payload_few : (files : List File) → payload_files files ≤ length files
-payload_few [] = omega arith
-payload_few (file ∷ files) = by (is_payload file.path) (payload_few files)
-  where
-    by : (payload : Bool) → payload_files files ≤ length files → length (if payload then file ∷ payload_of files else payload_of files) ≤ length (file ∷ files)
-    by true few = omega (arith, few)
-    by false few = omega (arith, few)
-
-abbrev bytes_of : File → ℕ
-bytes_of file = length file.content
-
-bytes_small : (files : List File) → AllByRecursion Fits files → sum_by bytes_of (payload_of files) ≤ length files * max_content
-bytes_small [] all = omega arith
-bytes_small (file ∷ files) all = by (is_payload file.path) (bytes_small files all.1)
-  where
-    by : (payload : Bool) → sum_by bytes_of (payload_of files) ≤ length files * max_content → sum_by bytes_of (if payload then file ∷ payload_of files else payload_of files) ≤ length (file ∷ files) * max_content
-    by true small = rw (sum_by-cons bytes_of file (payload_of files)) (omega (arith, small, all.0.small))
-    by false small = omega (arith, small)
-
-payload_small : (files : List File) → AllByRecursion Fits files → payload_bytes files ≤ length files * max_content
-payload_small files all = subst (λ n. n ≤ length files * max_content) (sym (sum-map bytes_of (payload_of files))) (bytes_small files all)
-
 deposit_ranged : Reads → Judges → (h : History) (version : ℤ) → IsLegal h → (n : ℕ) (row : DepositRow) → row_of_deposit h n ≡ Some row → IsDepositRow (picture version h) row
 deposit_ranged reads judges h version legal n row e =
     let found = mapped_some (deposit_row h n) (deposit_numbered h n) row e in
@@ -208,8 +174,8 @@ deposit_ranged reads judges h version legal n row e =
       closed = day_number found.0.1.closed made.1.closed;
       deposited = day_number found.0.0 made.0;
       in_turn = closed;
-      files = (omega (arith, signed_arith), omega (arith, signed_arith, bag.few, payload_few found.0.1.bag));
-      bytes = (omega (arith, signed_arith), omega (arith, signed_arith, bag.few, payload_small found.0.1.bag bag.each));
+      files = (omega (arith, signed_arith), omega (arith, signed_arith, bag.few, few_payload found.0.1.bag));
+      bytes = (omega (arith, signed_arith), omega (arith, signed_arith, bag.few, small_payload found.0.1.bag bag.each));
       gone = day_ranged (destruction_day h n) (gone_days h legal n);
     })
 
@@ -297,7 +263,7 @@ rows_in_range reads judges h version legal =
       callers = ranged_callers (policy h).callers rules.callers_are_names;
       rules = ranged_rules 1 (policy h).rules rules.rules_ask_for_names;
       places = numbered_rules 1 (policy h).rules;
-      classes = all_texts_told IsClassRow (row_of_class h) (class_ranged h legal) (in_first_places (filter_map class_in h.changes));
+      classes = all_told IsClassRow (row_of_class h) (class_ranged h legal) (in_first_places (filter_map class_in h.changes));
       collections = all_distinct IsName [] (filter_map collection_in h.changes) (named_collections h legal);
       deposits = all_told (IsDepositRow (picture version h)) (row_of_deposit h) (deposit_ranged reads judges h version legal) (numbers (length (deposits h)));
       deposit_numbers = numbered_rows (deposits h) (deposit_row h) (λ (row : DepositRow). row.number) (λ n x. refl) (length (deposits h)) 1 (omega arith) (omega arith);

@@ -96,9 +96,12 @@ deposits h = filter_map deposit_in h.changes
 abbrev pub deposit_numbered : History → ℕ → Option (Date × Deposit)
 deposit_numbered h n = item_numbered (deposits h) n
 
+abbrev pub has_accession : List ℕ → Date × Deposit → Bool
+has_accession accession found = bytes_eq found.1.accession accession
+
 -- the number of the deposit that has this accession, kept or destroyed
 abbrev pub accession_of : History → List ℕ → Option ℕ
-accession_of h accession = option_map (λ place. place + 1) (position (λ d. bytes_eq d.1.accession accession) (deposits h))
+accession_of h accession = option_map (λ place. place + 1) (position (has_accession accession) (deposits h))
 
 abbrev pub destroyed_in : ℕ → Change → Option Date
 destroyed_in n (Destroyed day number) = if number == n then Some day else None

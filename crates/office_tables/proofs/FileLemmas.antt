@@ -13,6 +13,8 @@ use Rattle.std.proofs.lemmas.Map.Text.{is_eq-slice_cmp}
 use Rattle.std.proofs.lemmas.List.Sorted.{IsPermutation-map, IsPermutation-sym, All-permutation}
 use Rattle.std.proofs.lemmas.Slice.Eq.{bytes_eq-Decides}
 use Rattle.std.proofs.lemmas.List.Elements.{recursion_from_All, All-from_recursion}
+use Rattle.std.proofs.lemmas.Option.{same_Some}
+use Rattle.office_rows.proofs.Order.{map_back}
 use Rattle.sqlite.specs.declared.types.Value.TheVariants.{Null, Int, Text, Blob}
 use Rattle.sqlite.specs.Order.{Row, column, value_cmp}
 use Rattle.sqlite.specs.Edit.{Edit, edit_of, with_rowid}
@@ -287,15 +289,6 @@ pub finds_next : (find : Row → Option FileRow) (rows : List Row) (i : ℕ) (ro
 finds_next find rows i row files x is low before here =
     map_push Some files x ∙ ap₂ (λ xs y. xs ++ y ∷ []) before (here ∙ ap find is) ∙ sym (map_more find rows i row low)
 
-some_back : (xs ys : List FileRow) → map Some xs ≡ map Some ys → xs ≡ ys
-some_back [] [] h = refl
-some_back [] (y ∷ ys) h = absurd cc
-some_back (x ∷ xs) [] h = absurd cc
-some_back (x ∷ xs) (y ∷ ys) h =
-    let same : x ≡ y = cc in
-    let rest : map Some xs ≡ map Some ys = cc in
-    ap₂ ◌∷◌ same (some_back xs ys rest)
-
 map_each : (f g : FileRow → Option FileRow) (xs : List FileRow) → AllByRecursion (λ x. f x ≡ g x) xs → map f xs ≡ map g xs
 map_each f g [] all = refl
 map_each f g (x ∷ xs) all = ap₂ ◌∷◌ all.0 (map_each f g xs all.1)
@@ -335,4 +328,4 @@ module _ (db : Database) (office : IsOffice db) (n : ℤ) where
       let at : List ℕ → Option FileRow = λ path. file_at n path (tables_of db).files in
       let by_rows : map at (map shown_path rows) ≡ map (λ row. at (shown_path row)) rows = map-map at shown_path rows in
       let by_paths : map at (map (λ (f : FileRow). f.path) all) ≡ map (λ f. at f.path) all = map-map at (λ (f : FileRow). f.path) all in
-      some_back files all (found ∙ sym by_rows ∙ ap (map at) (sym paths) ∙ by_paths ∙ map_each (λ f. at f.path) Some all each_found)
+      map_back Some same_Some files all (found ∙ sym by_rows ∙ ap (map at) (sym paths) ∙ by_paths ∙ map_each (λ f. at f.path) Some all each_found)
