@@ -154,17 +154,17 @@ first_end (x ∷ rest) n h = elim (or_some (end_after_line_feed (x ∷ rest)) (o
 ]
 
 -- a front of the first 8,192 bytes is one of the input
-take_front : (k : ℕ) (b : List ℕ) → k ≤ 8192 → take k (take 8192 b) ≡ take k b
-take_front k b few = elim (cases_lt (length b) 8192) [
-  | inl low ↦ ap (take k) (take_all 8192 b (omega arith))
-  | inr high ↦ (let l = length-take-le 8192 b high in let room : k ≤ length (take 8192 b) = omega arith in
-      sym (take-append-le k (take 8192 b) (drop 8192 b) room) ∙ ap (take k) (take-append-drop 8192 b))
+take_front : (k : ℕ) (b : List ℕ) → k ≤ max_head → take k (take max_head b) ≡ take k b
+take_front k b few = elim (cases_lt (length b) max_head) [
+  | inl low ↦ ap (take k) (take_all max_head b (omega arith))
+  | inr high ↦ (let l = length-take-le max_head b high in let room : k ≤ length (take max_head b) = omega arith in
+      sym (take-append-le k (take max_head b) (drop max_head b) room) ∙ ap (take k) (take-append-drop max_head b))
 ]
 
-ends_front : (k : ℕ) (b : List ℕ) → k ≤ 8192 → EndsWithEmptyLine (take k b) → EndsWithEmptyLine (take k (take 8192 b))
+ends_front : (k : ℕ) (b : List ℕ) → k ≤ max_head → EndsWithEmptyLine (take k b) → EndsWithEmptyLine (take k (take max_head b))
 ends_front k b few h = let P : List ℕ → Type 0 = λ l. EndsWithEmptyLine l in subst P (sym (take_front k b few)) h
 
-ends_whole : (k : ℕ) (b : List ℕ) → k ≤ 8192 → EndsWithEmptyLine (take k (take 8192 b)) → EndsWithEmptyLine (take k b)
+ends_whole : (k : ℕ) (b : List ℕ) → k ≤ max_head → EndsWithEmptyLine (take k (take max_head b)) → EndsWithEmptyLine (take k b)
 ends_whole k b few h = let P : List ℕ → Type 0 = λ l. EndsWithEmptyLine l in subst P (take_front k b few) h
 
 some_or_none : (o : Option ℕ) → (o ≡ None) ⊎ ((m : ℕ) × (o ≡ Some m))
@@ -176,7 +176,7 @@ pub found_first : (b : List ℕ) (n : ℕ) → head_at b ≡ Found n → IsHead 
 unfolding head_at
 found_first b n h =
     let w = found_within b n h in
-    let f = first_end (take 8192 b) n (place_within (head_end (take 8192 b)) (length b) n h) in
+    let f = first_end (take max_head b) n (place_within (head_end (take max_head b)) (length b) n h) in
     record {
       within = w.0;
       few = w.1;
@@ -184,7 +184,7 @@ found_first b n h =
       shortest = λ k less e. f.shortest k less (ends_front k b (let c = w.1 in omega arith) e);
     }
 
-least_is_one : (b : List ℕ) (m n : ℕ) → First (take 8192 b) m → IsHead b n → m ≡ n
+least_is_one : (b : List ℕ) (m n : ℕ) → First (take max_head b) m → IsHead b n → m ≡ n
 least_is_one b m n f h = let few = h.few in elim (cases_lt m n) [
   | inl less ↦ absurd (h.shortest m less (ends_whole m b (omega arith) f.ends))
   | inr le ↦ elim (cases_lt n m) [
@@ -195,19 +195,19 @@ least_is_one b m n f h = let few = h.few in elim (cases_lt m n) [
 
 pub first_found : (b : List ℕ) (n : ℕ) → IsHead b n → head_at b ≡ Found n
 unfolding head_at
-first_found b n h = elim (some_or_none (head_end (take 8192 b))) [
-  | inl none ↦ absurd (none_ends (take 8192 b) none n (ends_front n b h.few h.ends))
-  | inr s ↦ ap (λ o. place_of o (length b)) s.1 ∙ ap Found (least_is_one b s.0 n (first_end (take 8192 b) s.0 s.1) h)
+first_found b n h = elim (some_or_none (head_end (take max_head b))) [
+  | inl none ↦ absurd (none_ends (take max_head b) none n (ends_front n b h.few h.ends))
+  | inr s ↦ ap (λ o. place_of o (length b)) s.1 ∙ ap Found (least_is_one b s.0 n (first_end (take max_head b) s.0 s.1) h)
 ]
 
-none_of : (b : List ℕ) → head_end (take 8192 b) ≡ None → HasNoHead b
-none_of b none k few e = none_ends (take 8192 b) none k (ends_front k b few e)
+none_of : (b : List ℕ) → head_end (take max_head b) ≡ None → HasNoHead b
+none_of b none k few e = none_ends (take max_head b) none k (ends_front k b few e)
 
-of_none : (b : List ℕ) → HasNoHead b → head_end (take 8192 b) ≡ None
-of_none b h = elim (some_or_none (head_end (take 8192 b))) [
+of_none : (b : List ℕ) → HasNoHead b → head_end (take max_head b) ≡ None
+of_none b h = elim (some_or_none (head_end (take max_head b))) [
   | inl none ↦ none
-  | inr s ↦ (let w = end_within (take 8192 b) s.0 s.1 in let l = length-take 8192 b in let few : s.0 ≤ 8192 = omega arith in
-      absurd (h s.0 few (ends_whole s.0 b few (first_end (take 8192 b) s.0 s.1).ends)))
+  | inr s ↦ (let w = end_within (take max_head b) s.0 s.1 in let l = length-take max_head b in let few : s.0 ≤ max_head = omega arith in
+      absurd (h s.0 few (ends_whole s.0 b few (first_end (take max_head b) s.0 s.1).ends)))
 ]
 
 no_place : (e : Option ℕ) (len : ℕ) → ((n : ℕ) → place_of e len ≢ Found n) → e ≡ None
@@ -216,7 +216,7 @@ no_place (Some n) len h = absurd (h n refl)
 
 pub short_none : (b : List ℕ) → head_at b ≡ Short → length b < max_head × HasNoHead b
 unfolding head_at
-short_none b h = (place_short (head_end (take 8192 b)) (length b) h, none_of b (no_place (head_end (take 8192 b)) (length b) (λ n e. let f : Short ≡ Found n = sym h ∙ e in cc)))
+short_none b h = (place_short (head_end (take max_head b)) (length b) h, none_of b (no_place (head_end (take max_head b)) (length b) (λ n e. let f : Short ≡ Found n = sym h ∙ e in cc)))
 
 pub none_short : (b : List ℕ) → length b < max_head × HasNoHead b → head_at b ≡ Short
 unfolding head_at
@@ -224,7 +224,7 @@ none_short b h = ap (λ o. place_of o (length b)) (of_none b h.1) ∙ low_short 
 
 pub large_none : (b : List ℕ) → head_at b ≡ TooLarge → max_head ≤ length b × HasNoHead b
 unfolding head_at
-large_none b h = (place_large (head_end (take 8192 b)) (length b) h, none_of b (no_place (head_end (take 8192 b)) (length b) (λ n e. let f : TooLarge ≡ Found n = sym h ∙ e in cc)))
+large_none b h = (place_large (head_end (take max_head b)) (length b) h, none_of b (no_place (head_end (take max_head b)) (length b) (λ n e. let f : TooLarge ≡ Found n = sym h ∙ e in cc)))
 
 pub none_large : (b : List ℕ) → max_head ≤ length b × HasNoHead b → head_at b ≡ TooLarge
 unfolding head_at

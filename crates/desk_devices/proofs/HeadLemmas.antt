@@ -12,11 +12,11 @@ use Rattle.desk_devices.specs.declared.place.HeadPlace.TheVariants.{Short, TooLa
 use Rattle.desk_devices.specs.Heads.{head_at, head_end, end_after_line_feed, or_later, max_head, place_of, empty_line_length}
 
 -- a head that is short has room
-pub place_short : (e : Option ℕ) (n : ℕ) → place_of e n ≡ Short → n < 8192
+pub place_short : (e : Option ℕ) (n : ℕ) → place_of e n ≡ Short → n < max_head
 place_short (Some k) n h = absurd (let f : Found k ≡ Short = h in cc)
 place_short None n h = grind (arith, common_steps)
 
-pub short_room : (b : List ℕ) → head_at b ≡ Short → length b < 8192
+pub short_room : (b : List ℕ) → head_at b ≡ Short → length b < max_head
 unfolding head_at
 short_room b h = place_short (head_end (take max_head b)) (length b) h
 
@@ -103,32 +103,32 @@ head_end_more (x ∷ rest) more n h =
     (λ none k later. none_more (x == 10) (empty_line_length rest) (empty_line_length (rest ++ more)) (λ e. empty_line_none rest more (suc_some _ _ later).0 e (suc_some _ _ later).1) none)
     (suc_more _ _ (head_end_more rest more)) h
 
-pub low_short : (m : ℕ) → m < 8192 → place_of None m ≡ Short
+pub low_short : (m : ℕ) → m < max_head → place_of None m ≡ Short
 low_short m h = grind (arith, common_steps)
 
-pub high_large : (m : ℕ) → 8192 ≤ m → place_of None m ≡ TooLarge
+pub high_large : (m : ℕ) → max_head ≤ m → place_of None m ≡ TooLarge
 high_large m h = grind (arith, common_steps)
 
 -- the head stands in the front
-place_more : (e f : Option ℕ) (m n : ℕ) → m ≤ n → ((k : ℕ) → e ≡ Some k → f ≡ Some k) → (8192 ≤ m → f ≡ e) → place_of e m ≢ Short → place_of f n ≡ place_of e m
+place_more : (e f : Option ℕ) (m n : ℕ) → m ≤ n → ((k : ℕ) → e ≡ Some k → f ≡ Some k) → (max_head ≤ m → f ≡ e) → place_of e m ≢ Short → place_of f n ≡ place_of e m
 place_more (Some k) f m n up some same h = ap (λ o. place_of o n) (some k refl)
 place_more None f m n up some same h =
-    elim (cases_lt m 8192) [ inl low ↦ absurd (h (low_short m low)) | inr high ↦ ap (λ o. place_of o n) (same high) ∙ high_large n (omega arith) ∙ sym (high_large m high) ]
+    elim (cases_lt m max_head) [ inl low ↦ absurd (h (low_short m low)) | inr high ↦ ap (λ o. place_of o n) (same high) ∙ high_large n (omega arith) ∙ sym (high_large m high) ]
 
-pub smaller_by : (old part new : List ℕ) (n : ℕ) → length old < 8192 → 0 < n → n ≤ length part → new ≡ old ++ take n part → 8192 - length new < 8192 - length old
+pub smaller_by : (old part new : List ℕ) (n : ℕ) → length old < max_head → 0 < n → n ≤ length part → new ≡ old ++ take n part → max_head - length new < max_head - length old
 smaller_by old part new n room some fits e = let l : length new ≡ length old + n = ap length e ∙ simp (length-append) (ap (λ k. length old + k) (length-take-le n part fits)) in omega arith
 
-front_more : (b more : List ℕ) → (rest : List ℕ) × (take 8192 (b ++ more) ≡ take 8192 b ++ rest)
-front_more b more = elim (cases_lt (length b) 8192) [
-  | inl low ↦ (take (8192 - length b) more, ap (λ k. take k (b ++ more)) (let sum : 8192 ≡ length b + (8192 - length b) = omega arith in sum) ∙ take-append-add b more (8192 - length b) ∙ ap (λ l. l ++ take (8192 - length b) more) (sym (take_all 8192 b (omega arith))))
-  | inr high ↦ ([], take-append-le 8192 b more high ∙ sym (append-nil (take 8192 b)))
+front_more : (b more : List ℕ) → (rest : List ℕ) × (take max_head (b ++ more) ≡ take max_head b ++ rest)
+front_more b more = elim (cases_lt (length b) max_head) [
+  | inl low ↦ (take (max_head - length b) more, ap (λ k. take k (b ++ more)) (let sum : max_head ≡ length b + (max_head - length b) = omega arith in sum) ∙ take-append-add b more (max_head - length b) ∙ ap (λ l. l ++ take (max_head - length b) more) (sym (take_all max_head b (omega arith))))
+  | inr high ↦ ([], take-append-le max_head b more high ∙ sym (append-nil (take max_head b)))
 ]
 
 pub head_at_more : (b more : List ℕ) → head_at b ≢ Short → head_at (b ++ more) ≡ head_at b
 unfolding head_at
 head_at_more b more h =
     let longer : length b ≤ length (b ++ more) = simp length-append (omega arith) in
-    place_more (head_end (take 8192 b)) (head_end (take 8192 (b ++ more))) (length b) (length (b ++ more)) longer (λ k e. ap head_end (front_more b more).1 ∙ head_end_more (take 8192 b) (front_more b more).0 k e) (λ full. ap head_end (take-append-le 8192 b more full)) h
+    place_more (head_end (take max_head b)) (head_end (take max_head (b ++ more))) (length b) (length (b ++ more)) longer (λ k e. ap head_end (front_more b more).1 ∙ head_end_more (take max_head b) (front_more b more).0 k e) (λ full. ap head_end (take-append-le max_head b more full)) h
 
 -- what is decided of what was given is decided of all
 pub whole_head : (a b : Option (List ℕ)) (given : List ℕ) (place : HeadPlace) → Consumes a b given → head_at given ≡ place → place ≢ Short → IfSome a (λ input. head_at input ≡ place)
@@ -140,17 +140,17 @@ whole_head (Some xs) (Some ys) given place c h not = ap head_at c ∙ head_at_mo
 pub tail_is : (b : List ℕ) (at : ℕ) → take (length b - at) (drop at b) ≡ drop at b
 tail_is b at = take_all (length b - at) (drop at b) (simp length-drop (omega arith))
 
-min_cases : (n : ℕ) (b : List ℕ) → length b ≡ n → take (min n 8192) b ≡ take 8192 b
-min_cases n b e = elim (cases_lt n 8192) [ inl h ↦ ap (λ k. take k b) (let m : min n 8192 ≡ n = omega arith in m) ∙ take_all n b (omega arith) ∙ sym (take_all 8192 b (omega arith)) | inr h ↦ ap (λ k. take k b) (let m : min n 8192 ≡ 8192 = omega arith in m) ]
+min_cases : (n : ℕ) (b : List ℕ) → length b ≡ n → take (min n max_head) b ≡ take max_head b
+min_cases n b e = elim (cases_lt n max_head) [ inl h ↦ ap (λ k. take k b) (let m : min n max_head ≡ n = omega arith in m) ∙ take_all n b (omega arith) ∙ sym (take_all max_head b (omega arith)) | inr h ↦ ap (λ k. take k b) (let m : min n max_head ≡ max_head = omega arith in m) ]
 
-pub take_min : (b : List ℕ) → take (min (length b) 8192) b ≡ take 8192 b
+pub take_min : (b : List ℕ) → take (min (length b) max_head) b ≡ take max_head b
 take_min b = min_cases (length b) b refl
 
-pub place_found : (b : List ℕ) (m n : ℕ) → m ≡ min (length b) 8192 → Some n ≡ head_end (take m b) → Found n ≡ head_at b
+pub place_found : (b : List ℕ) (m n : ℕ) → m ≡ min (length b) max_head → Some n ≡ head_end (take m b) → Found n ≡ head_at b
 unfolding head_at
 place_found b m n e h = ap (λ o. place_of o (length b)) (h ∙ ap (λ k. head_end (take k b)) e ∙ ap head_end (take_min b))
 
-pub place_none : (b : List ℕ) (m : ℕ) → m ≡ min (length b) 8192 → None ≡ head_end (take m b) → cond (nat_lt (length b) 8192) Short TooLarge ≡ head_at b
+pub place_none : (b : List ℕ) (m : ℕ) → m ≡ min (length b) max_head → None ≡ head_end (take m b) → cond (nat_lt (length b) max_head) Short TooLarge ≡ head_at b
 unfolding head_at
 place_none b m e h = ap (λ o. place_of o (length b)) (h ∙ ap (λ k. head_end (take k b)) e ∙ ap head_end (take_min b))
 
@@ -189,14 +189,14 @@ end_within (x ∷ rest) n h = or_within (end_after_line_feed (x ∷ rest)) (opti
 
 pub place_within : (e : Option ℕ) (len n : ℕ) → place_of e len ≡ Found n → e ≡ Some n
 place_within (Some m) len n h = cc
-place_within None len n h = elim (cases_lt len 8192) [ inl low ↦ absurd (let s = low_short len low in let f : Short ≡ Found n = sym s ∙ h in cc) | inr high ↦ absurd (let s = high_large len high in let f : TooLarge ≡ Found n = sym s ∙ h in cc) ]
+place_within None len n h = elim (cases_lt len max_head) [ inl low ↦ absurd (let s = low_short len low in let f : Short ≡ Found n = sym s ∙ h in cc) | inr high ↦ absurd (let s = high_large len high in let f : TooLarge ≡ Found n = sym s ∙ h in cc) ]
 
-pub found_within : (b : List ℕ) (n : ℕ) → head_at b ≡ Found n → n ≤ length b × n ≤ 8192
+pub found_within : (b : List ℕ) (n : ℕ) → head_at b ≡ Found n → n ≤ length b × n ≤ max_head
 unfolding head_at
 found_within b n h =
-    let front = end_within (take 8192 b) n (place_within (head_end (take 8192 b)) (length b) n h) in
-    let long = length-take 8192 b in (omega arith, omega arith)
+    let front = end_within (take max_head b) n (place_within (head_end (take max_head b)) (length b) n h) in
+    let long = length-take max_head b in (omega arith, omega arith)
 
-pub place_large : (e : Option ℕ) (len : ℕ) → place_of e len ≡ TooLarge → 8192 ≤ len
+pub place_large : (e : Option ℕ) (len : ℕ) → place_of e len ≡ TooLarge → max_head ≤ len
 place_large (Some n) len h = absurd (let f : Found n ≡ TooLarge = h in cc)
-place_large None len h = elim (cases_lt len 8192) [ inl low ↦ absurd (let f : Short ≡ TooLarge = sym (low_short len low) ∙ h in cc) | inr high ↦ high ]
+place_large None len h = elim (cases_lt len max_head) [ inl low ↦ absurd (let f : Short ≡ TooLarge = sym (low_short len low) ∙ h in cc) | inr high ↦ high ]

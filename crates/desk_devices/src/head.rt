@@ -3,6 +3,7 @@
 ghost use Rattle.std.specs.Prelude.{◌≡◌, ◌≢◌, ◌<◌, ◌≤◌, ℕ, List, [], length, vec_len, Err, IfOk, OnOk, IfSome};
 ghost use Rattle.std.specs.Io.KnownBytes.{Consumes};
 ghost use Rattle.desk_devices.specs.Devices.{HasFailed};
+ghost use Rattle.desk_devices.specs.Heads.{max_head};
 ghost use Rattle.desk_devices.specs.HeadReading.{EndRead, EndOf, HeadRead, HeadOf};
 
 use crate::counted::Counted;
@@ -54,7 +55,7 @@ fn read_to_end_of_head<R: Read>(
     ensures head { EndRead bytes.new.items result (R.remaining reader.new.device) }
     ensures calm { result ≢ Err HeadFault.Read → reader.new.failures ≡ reader.old.failures }
     ensures failed { result ≡ Err HeadFault.Read → HasFailed reader.old.failures reader.new.failures }
-    ensures within { IfOk result (λ n. (n ≤ length bytes.new.items) × (n ≤ 8192)) }
+    ensures within { IfOk result (λ n. (n ≤ length bytes.new.items) × (n ≤ max_head)) }
     ensures whole { IfSome (R.remaining reader.old.device) (λ input. EndOf input result) }
 {
     let mut chunk = [0u8; 1024];
@@ -80,7 +81,7 @@ pub fn read_head<R: Read>(alloc: Global, reader: &mut Counted<R>) -> Result<Requ
         × HeadRead given result (R.remaining reader.new.device) }
     ensures calm { result ≢ Err HeadFault.Read → reader.new.failures ≡ reader.old.failures }
     ensures failed { result ≡ Err HeadFault.Read → HasFailed reader.old.failures reader.new.failures }
-    ensures within { IfOk result (λ head. (head.end ≤ vec_len head.bytes) × (head.end ≤ 8192)) }
+    ensures within { IfOk result (λ head. (head.end ≤ vec_len head.bytes) × (head.end ≤ max_head)) }
     ensures whole { IfSome (R.remaining reader.old.device) (λ input. HeadOf input result) }
 {
     let mut bytes = Vec::new(alloc);

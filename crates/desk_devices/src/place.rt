@@ -1,7 +1,7 @@
 //! Where the head of a request ends.
 
 ghost use Rattle.std.specs.Prelude.{◌≡◌, ◌≤◌, length, IfSome};
-ghost use Rattle.desk_devices.specs.Heads.{head_end, empty_line_length, end_after_line_feed, head_at};
+ghost use Rattle.desk_devices.specs.Heads.{head_end, empty_line_length, end_after_line_feed, head_at, max_head};
 
 /// Where the head of a request ends in the bytes that have come.
 #[derive(Clone, Copy, Debug, PartialEq, Eq)]
@@ -42,7 +42,7 @@ fn end_here(bytes: &[u8]) -> Option<usize>
 
 /// The number of bytes of the shortest front that ends with an empty line.
 fn end_of_head(bytes: &[u8]) -> Option<usize>
-    requires { length bytes.now ≤ 8192 }
+    requires { length bytes.now ≤ max_head }
     ensures { result ≡ head_end bytes.now }
 {
     for at in 0..bytes.len() {

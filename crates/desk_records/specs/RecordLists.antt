@@ -1,7 +1,7 @@
 -- Records, one after the other. The format, and how many there may be, are Depot's own.
 use Rattle.std.specs.Prelude.{◌≡◌, ℕ, ◌<◌, ◌≤◌, List, [], ◌∷◌, ◌++◌, length, ⊤}
 use Rattle.jiff.specs.Types.{Date}
-use Rattle.desk_records.specs.Records.{IsRecord, record_text, answer_text, BeginsWithNone}
+use Rattle.desk_records.specs.Records.{IsRecord, record_text, answer_record, BeginsWithNone}
 
 -- a request that is to be replayed: its day and its bytes
 pub record RequestRecord : Type 0 where
@@ -35,4 +35,4 @@ HasRecords input items rest = IsSplit max_records input items rest
 -- the texts of the answers' records, one after the other
 abbrev pub answer_texts : List (List ℕ) → List ℕ
 answer_texts [] = []
-answer_texts (bytes ∷ answers) = answer_text bytes ++ answer_texts answers
+answer_texts (bytes ∷ answers) = answer_record bytes ++ answer_texts answers

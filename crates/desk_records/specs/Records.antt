@@ -59,5 +59,5 @@ WantsMore input = HasNoLine input ⊎ HasLine input
 -- ---- answers
 
 -- an answer record: `ANS `, the number of the answer's bytes, LF, the bytes, LF
-abbrev pub answer_text : List ℕ → List ℕ
-answer_text bytes = codes "ANS " ++ (decimal (length bytes) ++ (10 ∷ (bytes ++ 10 ∷ [])))
+abbrev pub answer_record : List ℕ → List ℕ
+answer_record bytes = codes "ANS " ++ (decimal (length bytes) ++ (10 ∷ (bytes ++ 10 ∷ [])))

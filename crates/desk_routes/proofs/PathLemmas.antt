@@ -19,16 +19,16 @@ use Rattle.desk_routes.proofs.RowLemmas.{Leaves, first-beside, first-end, first-
 
 abbrev pub CutSays : List ℕ → List ℕ × Option (List ℕ) → Type 0
 CutSays path (part, None) = (part ≡ path) × (segment path ≡ path) × (has_slash path ≡ false)
-CutSays path (part, Some rest) = (path ≡ part ++ 47 ∷ rest) × (segment path ≡ part ++ 47 ∷ []) × (has_slash path ≡ true)
+CutSays path (part, Some rest) = (path ≡ part ++ 47 ∷ rest) × (segment path ≡ part ++ 47 ∷ []) × (has_slash path ≡ true) × (has_slash part ≡ false)
 
 pub cut-says : (path : List ℕ) → CutSays path (cut path)
 cut-says [] = (refl, refl, refl)
 cut-says (b ∷ path) = by (b == 47) refl (cut path) (cut-says path)
   where
     by : (v : Bool) → (b == 47) ≡ v → (pair : List ℕ × Option (List ℕ)) → CutSays path pair → CutSays (b ∷ path) (cond v ([], Some path) (onto b pair))
-    by true e pair h = let same : b ≡ 47 = grind (arith, nat_tests) in rw same (refl, refl, refl)
+    by true e pair h = let same : b ≡ 47 = grind (arith, nat_tests) in rw same (refl, refl, refl, refl)
     by false e (part, None) h = rw e (ap (λ l. b ∷ l) h.0, ap (λ l. b ∷ l) h.1, h.2)
-    by false e (part, Some rest) h = rw e (ap (λ l. b ∷ l) h.0, ap (λ l. b ∷ l) h.1, h.2)
+    by false e (part, Some rest) h = rw e (ap (λ l. b ∷ l) h.0, ap (λ l. b ∷ l) h.1, h.2, h.3)
 
 -- ---- where a segment ends with a slash
 
@@ -133,16 +133,6 @@ pub or-says : (key : Parts → ℕ) (a b : Option Parts) → map_key key (option
 or-says key None b = refl
 or-says key (Some x) b = refl
 
-pub rows-after : (key : Parts → ℕ) (w : List ℕ) (t r : Rows) (f : List ℕ → Option Parts) (other : Option Parts) (path : List ℕ) → IsText w → Leaves w r → IsText path
-    → ((rest : List ℕ) → IsText rest → first t rest ≡ map_key key (f rest)) → first r path ≡ map_key key other
-    → first (prepend w t ++ r) path ≡ map_key key (option_or (after w f path) other)
-rows-after key w t r f other path h l text fs others =
-    first-beside w t r path h l ∙ ap (λ o. or_row o (first r path)) (first-prefix w t path h ∙ by (starts_with nat_eq path w)) ∙ ap (or_row (map_key key (after w f path))) others ∙ sym (or-says key (after w f path) other)
-  where
-    by : (v : Bool) → cond v (first t (drop (length w) path)) None ≡ map_key key (cond v (f (drop (length w) path)) None)
-    by true = fs (drop (length w) path) (IsText-drop (length w) path text)
-    by false = refl
-
 pub row-after : (key : Parts → ℕ) (w : List ℕ) (t : Rows) (f : List ℕ → Option Parts) (path : List ℕ) → IsText w → IsText path
     → ((rest : List ℕ) → IsText rest → first t rest ≡ map_key key (f rest)) → first (prepend w t) path ≡ map_key key (after w f path)
 row-after key w t f path h text fs = first-prefix w t path h ∙ by (starts_with nat_eq path w)
@@ -150,6 +140,12 @@ row-after key w t f path h text fs = first-prefix w t path h ∙ by (starts_with
     by : (v : Bool) → cond v (first t (drop (length w) path)) None ≡ map_key key (cond v (f (drop (length w) path)) None)
     by true = fs (drop (length w) path) (IsText-drop (length w) path text)
     by false = refl
+
+pub rows-after : (key : Parts → ℕ) (w : List ℕ) (t r : Rows) (f : List ℕ → Option Parts) (other : Option Parts) (path : List ℕ) → IsText w → Leaves w r → IsText path
+    → ((rest : List ℕ) → IsText rest → first t rest ≡ map_key key (f rest)) → first r path ≡ map_key key other
+    → first (prepend w t ++ r) path ≡ map_key key (option_or (after w f path) other)
+rows-after key w t r f other path h l text fs others =
+    first-beside w t r path h l ∙ ap (λ o. or_row o (first r path)) (row-after key w t f path h text fs) ∙ ap (or_row (map_key key (after w f path))) others ∙ sym (or-says key (after w f path) other)
 
 pub end-says : (key : Parts → ℕ) (parts : Parts) (path : List ℕ) → first (ends (Some (key parts))) path ≡ map_key key (nothing_more parts path)
 unfolding seek

@@ -6,6 +6,7 @@ use Rattle.std.specs.Option.{option_or}
 use Rattle.std.specs.Cmp.Lexicographic.{bytes_decides}
 use Rattle.std.proofs.lemmas.List.{take-append-drop}
 use Rattle.desk_routes.specs.PathReading.{Parts, after, nothing_more, onto, cut, by_part, no_more, last_part, all_of, under_deposit, of_deposit, parts_of, class, collection, deposit, holds_of_deposit, bag, audit, hold, file, deposits, holds, due}
+use Rattle.desk_routes.proofs.PathLemmas.{CutSays, cut-says}
 use Rattle.desk_routes.proofs.PartSpelling.{path_by_parts, has_slash, IsPart, AreParts, SpellsParts}
 
 or-gives : (P : Parts → Type 0) (a b : Option Parts) (parts : Parts) → (a ≡ Some parts → P parts) → (b ≡ Some parts → P parts) → option_or a b ≡ Some parts → P parts
@@ -32,13 +33,11 @@ Cuts path (part, None) = (part ≡ path) × (has_slash part ≡ false)
 Cuts path (part, Some rest) = (path ≡ part ++ 47 ∷ rest) × (has_slash part ≡ false)
 
 cuts : (path : List ℕ) → Cuts path (cut path)
-cuts [] = (refl, refl)
-cuts (b ∷ path) = by (b == 47) refl (cut path) (cuts path)
+cuts path = by (cut path) (cut-says path)
   where
-    by : (v : Bool) → (b == 47) ≡ v → (pair : List ℕ × Option (List ℕ)) → Cuts path pair → Cuts (b ∷ path) (cond v ([], Some path) (onto b pair))
-    by true e pair h = let same : b ≡ 47 = grind (arith, nat_tests) in rw same (refl, refl)
-    by false e (part, None) h = (ap (λ l. b ∷ l) h.0, rw e h.1)
-    by false e (part, Some rest) h = (ap (λ l. b ∷ l) h.0, rw e h.1)
+    by : (pair : List ℕ × Option (List ℕ)) → CutSays path pair → Cuts path pair
+    by (part, None) h = (h.0, subst (λ p. has_slash p ≡ false) (sym h.0) h.2)
+    by (part, Some rest) h = (h.0, h.3)
 
 part-gives : (P : Parts → Type 0) (last : List ℕ → Option Parts) (more : List ℕ → List ℕ → Option Parts) (path : List ℕ) (parts : Parts)
     → ((part : List ℕ) → path ≡ part → IsPart part → last part ≡ Some parts → P parts) → ((part rest : List ℕ) → path ≡ part ++ 47 ∷ rest → IsPart part → more part rest ≡ Some parts → P parts)

@@ -24,11 +24,12 @@ row_of due = route_row (codes "/due") (codes "/due") [] patterns.Due
 row_of (hold number) = route_row (codes "/holds/" ++ 256 ∷ []) (codes "/holds/{number}") ((8, 14) ∷ []) patterns.Hold
 row_of holds = route_row (codes "/holds") (codes "/holds") [] patterns.Holds
 
-abbrev pub row : Parts → List ℕ × RouteOf Pattern
-row parts = ((row_of parts).pattern, row_of parts)
+-- with its pattern, as the router keeps it
+abbrev pub router_row : Parts → List ℕ × RouteOf Pattern
+router_row parts = ((row_of parts).pattern, row_of parts)
 
 -- in the order in which the router keeps them
 abbrev pub the_rows : RowsOf (RouteOf Pattern)
 the_rows =
-    row (class []) ∷ row (collection []) ∷ row (audit []) ∷ row (bag []) ∷ row (file [] []) ∷ row (holds_of_deposit []) ∷ row (deposit [])
-    ∷ row deposits ∷ row due ∷ row (hold []) ∷ row holds ∷ []
+    router_row (class []) ∷ router_row (collection []) ∷ router_row (audit []) ∷ router_row (bag []) ∷ router_row (file [] []) ∷ router_row (holds_of_deposit []) ∷ router_row (deposit [])
+    ∷ router_row deposits ∷ router_row due ∷ router_row (hold []) ∷ router_row holds ∷ []

@@ -6,7 +6,7 @@ use Rattle.std.proofs.KnownBytes.{Appends-nil, Appends-trans, Consumes-nil, Cons
 use Rattle.sqlite.specs.Held.{Held}
 use Rattle.sqlite.specs.Store.{Ghosts}
 use Rattle.jiff.specs.Types.{Date}
-use Rattle.desk_records.specs.Records.{IsRecord, record_text, answer_text, BeginsWithNone, CanNotBegin, WantsMore}
+use Rattle.desk_records.specs.Records.{IsRecord, record_text, answer_record, BeginsWithNone, CanNotBegin, WantsMore}
 use Rattle.desk_records.specs.RecordLists.{RequestRecord, AreRecords, request_texts, answer_texts, max_records}
 use Rattle.desk_records.proofs.FoundLemmas.{wanted_none}
 use Rattle.desk_records.proofs.ListLemmas.{texts_more, are_all, rest_shorter}
@@ -34,9 +34,9 @@ same_count g old new (i ∷ items) [] each = absurd each
 same_count g old new (i ∷ items) (first ∷ texts) each = let h = same_count g each.0 new items texts each.2 in omega arith
 
 -- one answer more
-texts_one : (texts : List (List ℕ)) (text : List ℕ) → answer_texts (texts ++ text ∷ []) ≡ answer_texts texts ++ answer_text text
-texts_one [] text = append-nil (answer_text text)
-texts_one (first ∷ texts) text = ap (λ l. answer_text first ++ l) (texts_one texts text) ∙ sym (append_assoc (answer_text first) (answer_texts texts) (answer_text text))
+texts_one : (texts : List (List ℕ)) (text : List ℕ) → answer_texts (texts ++ text ∷ []) ≡ answer_texts texts ++ answer_record text
+texts_one [] text = append-nil (answer_record text)
+texts_one (first ∷ texts) text = ap (λ l. answer_record first ++ l) (texts_one texts text) ∙ sym (append_assoc (answer_record first) (answer_texts texts) (answer_record text))
 
 front_of : (texts : List (List ℕ)) (text : List ℕ) → take (length texts) (texts ++ text ∷ []) ≡ texts
 front_of [] text = refl
@@ -56,7 +56,7 @@ pub record Progress {S : Type 0} (g : Ghosts S) (old now : Held S) (input left o
   pub answers : AnswersEach g old items texts now
   pub writes : Appends output written (answer_texts texts)
   pub counted : count ≡ length items
-  pub few : count ≤ 1000000
+  pub few : count ≤ max_records
 
 pub started : {S : Type 0} (g : Ghosts S) (old : Held S) (input output : Option (List ℕ)) (pending : List ℕ) → pending ≡ [] → Progress g old old input input output output pending 0
 started g old input output pending none = record {
@@ -85,14 +85,14 @@ read_on g old now input left next output written pending more all count p c e = 
 
 pub answered_on : {S : Type 0} (g : Ghosts S) (old now new : Held S) (input left output written more : Option (List ℕ)) (pending rest : List ℕ) (count : ℕ) (item : RequestRecord) (text : List ℕ)
     → Progress g old now input left output written pending count → IsRecord item.day item.bytes → pending ≡ record_text item.day item.bytes ++ rest → count < max_records
-    → AnswersRecord g now item text new → Appends written more (answer_text text) → Progress g old new input left output more rest (count + 1)
+    → AnswersRecord g now item text new → Appends written more (answer_record text) → Progress g old new input left output more rest (count + 1)
 answered_on g old now new input left output written more pending rest count item text p is e low a w = record {
   items = p.items ++ item ∷ [];
   texts = p.texts ++ text ∷ [];
   reads = subst (Consumes input left) (ap (λ l. request_texts p.items ++ l) e ∙ sym (texts_more p.items item rest)) p.reads;
   each = are_all p.items (item ∷ []) p.each (is, tt);
   answers = answers_more g old now new p.items item p.texts text p.answers a;
-  writes = subst (Appends output more) (sym (texts_one p.texts text)) (Appends-trans output written more (answer_texts p.texts) (answer_text text) p.writes w);
+  writes = subst (Appends output more) (sym (texts_one p.texts text)) (Appends-trans output written more (answer_texts p.texts) (answer_record text) p.writes w);
   counted = (let c = p.counted in let l = length-append p.items (item ∷ []) in omega arith);
   few = omega arith;
 }
@@ -205,8 +205,8 @@ pub unwritten_stop : {S : Type 0} (g : Ghosts S) (old now new : Held S) (input l
 unwritten_stop g old now new input left output written more pending rest count item unwritten.Write T p is e low a = (
   p.items ++ item ∷ [],
   p.texts ++ a.0 ∷ [],
-  take a.1 (answer_text a.0),
-  done_one g old now new input left output written more pending rest count item a.0 (take a.1 (answer_text a.0)) p is e low a.2 a.4,
+  take a.1 (answer_record a.0),
+  done_one g old now new input left output written more pending rest count item a.0 (take a.1 (answer_record a.0)) p is e low a.2 a.4,
   (p.texts, a.0, a.1, refl, a.3, refl),
   more_items p.items item count p.counted,
   refl,

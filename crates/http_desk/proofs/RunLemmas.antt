@@ -1,5 +1,6 @@
 -- Records that are answered one after the other are a run.
 use Rattle.std.proofs.Common.{ℕ, List, [], ◌∷◌, Bool, true, false, refl, sym, subst}
+use Rattle.jiff.specs.Types.{Date}
 use Rattle.sqlite.specs.Held.{Held, state}
 use Rattle.sqlite.specs.State.{HasCleanDisk}
 use Rattle.sqlite.specs.Store.{Ghosts}
@@ -9,17 +10,17 @@ use Rattle.http_desk.specs.Serving.{IsAnswered}
 use Rattle.http_desk.specs.Replaying.{AnswersEach}
 use Rattle.http_desk.specs.ReplayRuns.{IsRunOf, none, served, refused, RunsEach}
 
--- a disk that is honest behind a record was so before it
-clean_before : {S : Type 0} (g : Ghosts S) (done : Bool) (item : RequestRecord) (old new : Held S) (text : List ℕ)
-    → IsAnswered g done item.day item.bytes old new text → HasCleanDisk (state g new) → HasCleanDisk (state g old)
-clean_before g true item old new text a clean = a.1.2.clean clean
-clean_before g false item old new text a clean = subst (λ o. HasCleanDisk (state g o)) a.2 clean
+-- a disk that is honest behind an answer, and behind records, was so before them
+pub was_clean : {S : Type 0} (g : Ghosts S) (done : Bool) (day : Date) (bytes text : List ℕ) (old new : Held S) → IsAnswered g done day bytes old new text
+    → HasCleanDisk (state g new) → HasCleanDisk (state g old)
+was_clean g true day bytes text old new is clean = is.1.2.clean clean
+was_clean g false day bytes text old new is clean = subst (λ o. HasCleanDisk (state g o)) is.2 clean
 
-clean_at : {S : Type 0} (g : Ghosts S) (old new : Held S) (items : List RequestRecord) (texts : List (List ℕ)) → AnswersEach g old items texts new → HasCleanDisk (state g new) → HasCleanDisk (state g old)
+pub clean_at : {S : Type 0} (g : Ghosts S) (old new : Held S) (items : List RequestRecord) (texts : List (List ℕ)) → AnswersEach g old items texts new → HasCleanDisk (state g new) → HasCleanDisk (state g old)
 clean_at g old new [] [] each clean = subst (λ o. HasCleanDisk (state g o)) each clean
 clean_at g old new [] (text ∷ texts) each clean = absurd each
 clean_at g old new (item ∷ items) [] each clean = absurd each
-clean_at g old new (item ∷ items) (text ∷ texts) each clean = clean_before g each.1.0 item old each.0 text each.1.1 (clean_at g each.0 new items texts each.2 clean)
+clean_at g old new (item ∷ items) (text ∷ texts) each clean = was_clean g each.1.0 item.day item.bytes text old each.0 each.1.1 (clean_at g each.0 new items texts each.2 clean)
 
 one_more : {S : Type 0} (g : Ghosts S) (done : Bool) (old mid new : Held S) (item : RequestRecord) (text : List ℕ) (items : List RequestRecord) (texts : List (List ℕ))
     → IsAnswered g done item.day item.bytes old mid text → HasCleanDisk (state g mid) → RunsEach g mid new items texts → RunsEach g old new (item ∷ items) (text ∷ texts)

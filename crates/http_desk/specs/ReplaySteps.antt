@@ -4,7 +4,7 @@ use Rattle.std.specs.Prelude.{◌≡◌, ◌≢◌, ◌⊎◌, ◌<◌, ◌≤�
 use Rattle.std.specs.Io.KnownBytes.{Appends, Consumes, IsAtEnd}
 use Rattle.sqlite.specs.Held.{Held}
 use Rattle.sqlite.specs.Store.{Ghosts}
-use Rattle.desk_records.specs.Records.{IsRecord, record_text, answer_text, CanNotBegin, WantsMore}
+use Rattle.desk_records.specs.Records.{IsRecord, record_text, answer_record, CanNotBegin, WantsMore}
 use Rattle.desk_records.specs.RecordLists.{RequestRecord, max_records}
 use Rattle.desk_records.specs.declared.record.Found.{Found}
 use Rattle.desk_records.specs.declared.record.Found.TheVariants as found
@@ -32,9 +32,9 @@ ReadsMore input left pending now (Err (stops.BadRecord index)) = ⊥
 
 -- one record: its answer is written whole, or a beginning of it, or nothing
 abbrev pub AnswersNext : {S T : Type 0} → Ghosts S → Held S → Held S → RequestRecord → Option (List ℕ) → Option (List ℕ) → Result T Unwritten → Type 0
-AnswersNext g old new item output written (Ok _) = (text : List ℕ) × AnswersRecord g old item text new × Appends output written (answer_text text)
+AnswersNext g old new item output written (Ok _) = (text : List ℕ) × AnswersRecord g old item text new × Appends output written (answer_record text)
 AnswersNext g old new item output written (Err unwritten.Write) =
-    (text : List ℕ) × (n : ℕ) × AnswersRecord g old item text new × (n < length (answer_text text)) × Appends output written (take n (answer_text text))
+    (text : List ℕ) × (n : ℕ) × AnswersRecord g old item text new × (n < length (answer_record text)) × Appends output written (take n (answer_record text))
 AnswersNext g old new item output written (Err (unwritten.Memory true)) = (text : List ℕ) × AnswersRecord g old item text new × Appends output written []
 AnswersNext g old new item output written (Err (unwritten.Memory false)) = (new ≡ old) × Appends output written []
 

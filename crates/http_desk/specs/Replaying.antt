@@ -5,7 +5,7 @@ use Rattle.std.specs.Prelude.{◌≡◌, ◌≢◌, ◌⊎◌, ◌<◌, ◌≤�
 use Rattle.std.specs.Io.KnownBytes.{Appends, Consumes, IsAtEnd}
 use Rattle.sqlite.specs.Held.{Held}
 use Rattle.sqlite.specs.Store.{Ghosts}
-use Rattle.desk_records.specs.Records.{answer_text, BeginsWithNone, CanNotBegin}
+use Rattle.desk_records.specs.Records.{answer_record, BeginsWithNone, CanNotBegin}
 use Rattle.desk_records.specs.RecordLists.{RequestRecord, AreRecords, HasRecords, request_texts, answer_texts, max_records}
 use Rattle.http_desk.specs.Serving.{IsAnswered}
 use Rattle.http_desk.specs.declared.replaying.ReplayStop.{ReplayStop}
@@ -53,7 +53,7 @@ IsNoRecord left count rest = (rest ≢ []) × (IsAtEnd left ⊎ (CanNotBegin res
 
 -- the part is a beginning of the record of the last answer, and not all of it
 abbrev pub IsBegun : List (List ℕ) → List ℕ → Type 0
-IsBegun texts part = (before : List (List ℕ)) × (last : List ℕ) × (n : ℕ) × (texts ≡ before ++ last ∷ []) × (n < length (answer_text last)) × (part ≡ take n (answer_text last))
+IsBegun texts part = (before : List (List ℕ)) × (last : List ℕ) × (n : ℕ) × (texts ≡ before ++ last ∷ []) × (n < length (answer_record last)) × (part ≡ take n (answer_record last))
 
 -- a replay stopped: of a bad record, a reader, a writer, or memory that failed
 abbrev pub Stopped : {S : Type 0} → Ghosts S → Held S → Held S → Option (List ℕ) → Option (List ℕ) → Option (List ℕ) → Option (List ℕ) → ReplayFault → ReplayStop → Type 0

@@ -2,6 +2,7 @@
 
 ghost use Rattle.std.specs.Prelude.{◌≡◌, ◌≢◌, ◌≤◌, ◌<◌, ◌+◌, ℕ, List, length, Err, Ok, IfErr, OnOk, MatchResult};
 ghost use Rattle.desk_devices.specs.Devices.{HasFailed};
+ghost use Rattle.desk_records.specs.RecordLists.{max_records};
 ghost use Rattle.http_desk.specs.Replaying.{Replayed};
 ghost use Rattle.http_desk.specs.ReplaySteps.{FoundBehind, ReadsMore, fault_behind};
 
@@ -58,7 +59,7 @@ impl ReplayFault {
 
     /// A stop where no record stands behind so many.
     fn bad_record(count: u64) -> ReplayFault
-        requires { count ≤ 1000000 }
+        requires { count ≤ max_records }
         ensures { result ≡ record { stop = ReplayStop.BadRecord (count + 1); done = count; answered = count } }
     {
         ReplayFault::between(ReplayStop::BadRecord { index: count + 1 }, count)
@@ -66,7 +67,7 @@ impl ReplayFault {
 
     /// A stop at the record behind so many.
     fn behind(count: u64, unwritten: Unwritten) -> ReplayFault
-        requires { count < 1000000 }
+        requires { count < max_records }
         ensures { result ≡ fault_behind count unwritten }
     {
         let next = ReplayFault {
@@ -90,7 +91,7 @@ impl ReplayFault {
 
 /// What stands behind so many records. Behind as many as there may be, anything is no record.
 fn found_behind(count: u64, pending: &[u8]) -> Found<'_>
-    requires { count ≤ 1000000 }
+    requires { count ≤ max_records }
     ensures { FoundBehind count result pending.now }
 {
     if pending.is_empty() {

@@ -18,8 +18,3 @@ answered_from g true day bytes text old new is clean h legal kept =
     (s.0, served is.1.0 it.item is.0 is.1.1 it.asks s.1 is.2, s.2)
 answered_from g false day bytes text old new is clean h legal kept =
     (h, refused is.0 is.1 refl is.3, record { legal = legal; kept = subst (λ (s : Held _). IsKeptBy h (state g s)) (sym is.2) kept })
-
-pub was_clean : {S : Type 0} (g : Ghosts S) (done : Bool) (day : Date) (bytes text : List ℕ) (old new : Held S) → IsAnswered g done day bytes old new text
-    → HasCleanDisk (state g new) → HasCleanDisk (state g old)
-was_clean g true day bytes text old new is clean = is.1.2.clean clean
-was_clean g false day bytes text old new is clean = subst (λ (s : Held _). HasCleanDisk (state g s)) is.2 clean

@@ -29,7 +29,7 @@ use Rattle.office_commands.specs.Working.{StopsUnder, whole_of}
 use Rattle.office_commands.specs.declared.fault.CommandFault.{CommandFault}
 use Rattle.office_commands.specs.declared.task.Task.{Task}
 use Rattle.office_commands.specs.declared.task.Task.TheVariants.{Install, Ask, Replay}
-use Rattle.office_commands.proofs.AnsweringLemmas.{was_clean}
+use Rattle.http_desk.proofs.RunLemmas.{was_clean}
 use Rattle.office_commands.proofs.FileLemmas.{held_of}
 use Rattle.office_commands.proofs.ReplayingLemmas.{clean_before, stops_from}
 use Rattle.office_commands.proofs.TaskLemmas.{done_from, made_is_legal, stopped_alike, stopped_so}

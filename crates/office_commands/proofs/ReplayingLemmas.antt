@@ -23,20 +23,12 @@ use Rattle.office_commands.specs.declared.fault.CommandFault.{CommandFault}
 use Rattle.office_commands.specs.declared.fault.CommandFault.TheVariants.{BadRecord, Failed, Policy}
 use Rattle.office_commands.specs.declared.fault.StoreFault.TheVariants.{Device}
 use Rattle.office_commands.specs.declared.task.Task.TheVariants.{Replay}
-use Rattle.office_commands.proofs.AnsweringLemmas.{was_clean}
+use Rattle.http_desk.proofs.RunLemmas.{clean_at}
 use Rattle.commands.proofs.WritingLemmas.{appends_kept}
 
 -- ---- the history
 
--- a disk that is honest behind records was so before them
-clean_at : {S : Type 0} (g : Ghosts S) (first last : Held S) (items : List RequestRecord) (texts : List (List ℕ)) → AnswersEach g first items texts last → HasCleanDisk (state g last) → HasCleanDisk (state g first)
-clean_at g first last [] [] each clean = subst (λ (s : Held _). HasCleanDisk (state g s)) each clean
-clean_at g first last [] (text ∷ texts) each clean = absurd each
-clean_at g first last (item ∷ items) [] each clean = absurd each
-clean_at g first last (item ∷ items) (text ∷ texts) each clean =
-    was_clean g each.1.0 item.day item.bytes text first each.0 each.1.1 (clean_at g each.0 last items texts each.2 clean)
-
--- and before the policy that came first
+-- a disk that is honest behind records was so before the policy that came first
 pub clean_before : {S : Type 0} (g : Ghosts S) (policy : Option Contents) (first mid last : Held S) (items : List RequestRecord) (texts : List (List ℕ)) → InstallsFirst g policy first mid
     → AnswersEach g mid items texts last → HasCleanDisk (state g last) → HasCleanDisk (state g first)
 clean_before g None first mid last items texts installs each clean = subst (λ (s : Held _). HasCleanDisk (state g s)) installs (clean_at g mid last items texts each clean)

@@ -23,7 +23,7 @@ use Rattle.bag_folders.specs.declared.unpack_fault.UnpackFault.{UnpackFault}
 use Rattle.bag_folders.specs.declared.unpacking.Unpacked.{Unpacked}
 use Rattle.program.specs.Folders.{IsPrinted, Packs, Unpacks}
 use Rattle.program.specs.Running.{Comes, ComesOfWords}
-use Rattle.program.specs.Stopping.{IsToldOf, IsToldOfUse, Tells, ending_of, line_told}
+use Rattle.program.specs.Stopping.{IsToldOf, IsToldOfUse, Tells, ending_told, line_told}
 use Rattle.program.specs.declared.done.Done.{Done}
 use Rattle.program.specs.declared.stopped.Stopped.{Stopped}
 
@@ -34,10 +34,10 @@ tells_more text end ending told mid tells (inl is) said whole more =
     inl (is, (more.0, appends_both told mid tells text more.0 (whole said) more.1))
 tells_more text end ending told mid tells (inr unsaid) said whole more = absurd (said unsaid)
 
-pub told_of : (stopped : Stopped) (text : List ℕ) (end ending : Ending) (told mid tells : Option (List ℕ)) → text ≡ line_told stopped → end ≡ ending_of stopped
+pub told_of : (stopped : Stopped) (text : List ℕ) (end ending : Ending) (told mid tells : Option (List ℕ)) → text ≡ line_told stopped → end ≡ ending_told stopped
     → (ending ≡ end) ⊎ (ending ≡ Unsaid) → (ending ≡ Unsaid → ⊥) → ((ending ≡ Unsaid → ⊥) → Appends told mid text) → MayGrow mid tells → IsToldOf stopped told tells ending
 told_of stopped text end ending told mid tells line ends is said whole more =
-    inl (subst (λ t. Tells t (ending_of stopped) told tells ending) line
+    inl (subst (λ t. Tells t (ending_told stopped) told tells ending) line
     (subst (λ e. Tells text e told tells ending) ends (tells_more text end ending told mid tells is said whole more)))
 
 -- ---- what is done

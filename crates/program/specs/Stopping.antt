@@ -20,10 +20,10 @@ line_told (Output error) = message_of (failure_of (error_kind error))
 line_told (Store fault) = store_fault_text fault
 
 -- how the program ends then
-abbrev pub ending_of : Stopped → Ending
-ending_of (Folder failed) = endings.Failed
-ending_of (Output error) = endings.Failed
-ending_of (Store fault) = store_ending fault
+abbrev pub ending_told : Stopped → Ending
+ending_told (Folder failed) = endings.Failed
+ending_told (Output error) = endings.Failed
+ending_told (Store fault) = store_ending fault
 
 -- standard error, where its bytes are known, goes on with this text, and the program ends in this way; or standard error fails, and has a
 -- beginning of the text
@@ -33,7 +33,7 @@ Tells text end told tells ending = ((ending ≡ end) × BeginsWith text told tel
 -- it is told of this, or that there was no memory to tell of it
 abbrev pub IsToldOf : Stopped → Option (List ℕ) → Option (List ℕ) → Ending → Type 0
 IsToldOf stopped told tells ending =
-    Tells (line_told stopped) (ending_of stopped) told tells ending ⊎ Tells (message_of failures.Memory) endings.Failed told tells ending
+    Tells (line_told stopped) (ending_told stopped) told tells ending ⊎ Tells (message_of failures.Memory) endings.Failed told tells ending
 
 -- it is told why words are no use of the program, or that there was no memory to read them
 abbrev pub IsToldOfUse : UseFault → Option (List ℕ) → Option (List ℕ) → Ending → Type 0

@@ -1,7 +1,7 @@
 //! Why a command on folders or a store doesn't come to its end.
 
 ghost use Rattle.std.specs.Prelude.{◌≡◌, IfOk, string_bytes};
-ghost use Rattle.program.specs.Stopping.{ending_of, line_told};
+ghost use Rattle.program.specs.Stopping.{ending_told, line_told};
 
 use bag_folders::Failed;
 use commands::{Ending, Failure};
@@ -36,7 +36,7 @@ impl Stopped {
 
     /// How the program ends, once standard error was told.
     pub fn ending(&self) -> Ending
-        ensures { result ≡ ending_of self.now }
+        ensures { result ≡ ending_told self.now }
     {
         match self {
             Stopped::Folder(_) | Stopped::Output(_) => Ending::Failed,

@@ -1,5 +1,6 @@
 use Rattle.std.proofs.Common.{◌≡◌, ◌-◌, length}
 use Rattle.std.specs.Io.KnownBytes.{Consumes}
+use Rattle.desk_devices.specs.Heads.{max_head}
 use Rattle.desk_devices.proofs.head.read_to_end_of_head.Given as goal
 
 -- what came stands in bytes, and no call has failed
@@ -10,4 +11,4 @@ invariant-reads g l = record {
 }
 
 abbrev pub decreases-reads : goal.decreases-reads
-decreases-reads g l = 8192 - length l.bytes.items
+decreases-reads g l = max_head - length l.bytes.items

@@ -1,4 +1,5 @@
 use Rattle.std.proofs.Common.{◌≡◌, ◌≤◌, ◌-◌, ◌*◌, ◌+◌, length}
+use Rattle.desk_records.specs.RecordLists.{max_records}
 use Rattle.http_desk.proofs.ReplayLemmas.{Progress}
 use Rattle.http_desk.proofs.replaying.replay.Given as goal
 
@@ -11,4 +12,4 @@ invariant-records g l = record {
 }
 
 abbrev pub decreases-records : goal.decreases-records
-decreases-records g l = (1000000 - l.count) * 16804200 + (16804200 - length l.pending.items)
+decreases-records g l = (max_records - l.count) * 16804200 + (16804200 - length l.pending.items)
