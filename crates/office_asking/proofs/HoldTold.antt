@@ -6,7 +6,7 @@ use Rattle.std.specs.Option.{option_map_or}
 use Rattle.std.specs.Ordering.{int_eq}
 use Rattle.std.proofs.lemmas.Option.{same_Some}
 use Rattle.office_rows.proofs.Order.{map_back}
-use Rattle.office_history.proofs.DistinctLemmas.{or_false}
+use Rattle.std.proofs.Math.Bool.{or-false}
 use Rattle.jiff.specs.Types.{Date}
 use Rattle.jiff.specs.Words.{epoch_day}
 use Rattle.office_core.specs.declared.answer.LiveHold.{LiveHold}
@@ -53,7 +53,7 @@ live_same (Some day) = refl
 
 reach_same : (target : Target) (n : ℕ) (deposit : Deposit)
     → (unwrap_or (option_map (λ d. int_eq d (pos n)) (held_deposit target)) false || unwrap_or (option_map (λ c. bytes_eq c deposit.collection) (held_collection target)) false) ≡ reaches target n deposit
-reach_same (OnDeposit m) n deposit = or_false (int_eq (pos m) (pos n)) ∙ same_number m n
+reach_same (OnDeposit m) n deposit = or-false (int_eq (pos m) (pos n)) ∙ same_number m n
 reach_same (OnCollection name) n deposit = refl
 
 pub live_told : (h : History) (n : ℕ) (deposit : Deposit) (version : ℤ) → rows.live_holds (pos n) deposit.collection (picture version h) ≡ map pos (histories.live_holds h n deposit)

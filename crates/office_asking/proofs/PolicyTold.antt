@@ -1,11 +1,9 @@
 -- What the rows of callers and rules tell of the policy.
-use Rattle.std.proofs.Common.{◌≡◌, ℕ, zero, suc, ◌+◌, Bool, true, false, ◌||◌, ◌&&◌, List, [], ◌∷◌, map, Option, Some, None, option_map, slice_get, refl, sym, ap, subst, ◌∙◌, true≢false, cond}
+use Rattle.std.proofs.Common.{◌≡◌, ℕ, zero, suc, ◌+◌, Bool, true, false, ◌||◌, ◌&&◌, List, [], ◌∷◌, map, Option, Some, None, option_map, slice_get, refl, ap, ◌∙◌, cond}
 use Rattle.std.specs.Prelude.{bytes_eq, find, position, option_and_then, nat_lt, not}
 use Rattle.std.specs.List.{AllByRecursion, prefix_len}
 use Rattle.std.proofs.lemmas.Option.{same_Some}
-use Rattle.std.proofs.lemmas.Slice.Eq.{bytes_eq-Decides}
 use Rattle.office_core.specs.Actions.{action_text}
-use Rattle.office_core.specs.Names.{is_name, IsName}
 use Rattle.office_core.specs.Policies.{Contents, IsPolicy, IsNamed, HasNames, or_stranger}
 use Rattle.office_core.specs.Rules.{Question, matches_name, matches_action, matches_optional, matches, decision_at, decision_of}
 use Rattle.office_core.specs.declared.action.Action.{Action}

@@ -7,7 +7,7 @@ ghost use Rattle.office_history.specs.Answers.{told_hold};
 ghost use Rattle.office_asking.specs.Serving.{Finds};
 ghost use Rattle.office_asking.specs.Holds.{IsHoldOf, scope_in};
 
-use crate::rows::{day_numbered, matter_in};
+use crate::rows::{day_numbered, text_of_kind};
 use office_core::{LiveHold, Scope};
 use office_tables::{HoldRow, TableFault, hold_row};
 use sqlite::{Alter, Transaction};
@@ -35,7 +35,7 @@ pub fn hold_in(alloc: Global, row: &HoldRow) -> Result<LiveHold, TableFault>
 {
     Ok(LiveHold {
         number: row.number,
-        matter: matter_in(alloc, &row.matter)?,
+        matter: text_of_kind(alloc, &row.matter)?,
         on: scope_of(row)?,
         placed: day_numbered(row.placed)?,
     })

@@ -14,4 +14,4 @@ pub use deposits::{DepositDays, days_in, kept_deposit};
 pub use due::{disposal_facts, due_day, least_hold};
 pub use holds::{hold_in, told_hold};
 pub use limits::number_after;
-pub use rows::{day_numbered, optional_day_numbered, years_numbered};
+pub use rows::{day_numbered, optional_day_numbered, text_of_kind, years_numbered};

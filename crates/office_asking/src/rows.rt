@@ -1,14 +1,13 @@
-//! What the numbers and matters of rows stand for. What stands for nothing is of a row that no accepted
+//! What the numbers and texts of rows stand for. What stands for nothing is of a row that no accepted
 //! change writes, which is a fault of the store.
 
-ghost use Rattle.std.specs.Prelude.{◌≡◌, Err, IfErr, IfOk, option_map};
+ghost use Rattle.std.specs.Prelude.{◌≡◌, Err, IfErr, IfOk, option_map, true};
 ghost use Rattle.jiff.specs.Words.{epoch_day};
-ghost use Rattle.office_core.specs.Names.{IsMatter};
 ghost use Rattle.office_tables.specs.Faults.{IsFailure};
 ghost use Rattle.office_tables.specs.declared.fault.TableFault.TheVariants.{Memory, Store};
 ghost use Rattle.office_history.specs.Pictures.{years_back, years_number};
 
-use office_core::{Day, Matter, OwnedMatter, Years};
+use office_core::{Day, OwnedText, Text, TextKind, Years};
 use office_tables::TableFault;
 use std::alloc::Global;
 
@@ -57,15 +56,16 @@ pub fn years_numbered(number: i64) -> Result<Years, TableFault>
     }
 }
 
-/// The matter that a text is.
-pub fn matter_in(alloc: Global, text: &str) -> Result<OwnedMatter, TableFault>
-    ensures matter { IfOk result (λ matter. matter ≡ text.now) }
+/// The name, accession number or matter that a text is.
+pub fn text_of_kind<K: TextKind>(alloc: Global, text: &str) -> Result<OwnedText<K>, TableFault>
+    ensures text { IfOk result (λ owned. owned ≡ text.now) }
     ensures failure { IfErr result IsFailure }
-    ensures memory { IsMatter text.now → IfErr result (λ fault. fault ≡ Memory) }
-    ensures store { (IsMatter text.now → ⊥) → result ≡ Err Store }
+    // A text of the kind fails for want of memory alone, and what is none is a fault of the store.
+    ensures memory { K.is_of_kind text.now ≡ true → IfErr result (λ fault. fault ≡ Memory) }
+    ensures store { (K.is_of_kind text.now ≡ true → ⊥) → result ≡ Err Store }
 {
-    match Matter::read(text) {
-        Some(matter) => Ok(matter.to_owned(alloc)?),
+    match Text::<K>::read(text) {
+        Some(found) => Ok(found.to_owned(alloc)?),
         None => Err(TableFault::Store),
     }
 }

@@ -46,3 +46,4 @@ pub use retention::{Due, MAX_YEARS, Years};
 pub use rule::{ActionPattern, Ask, Decision, Effect, Pattern, Rule, decide, first_match};
 pub use sequence::Sequence;
 pub use text::FaultText;
+pub use text_kind::{OwnedText, Text, TextKind};

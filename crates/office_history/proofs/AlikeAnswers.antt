@@ -6,6 +6,7 @@ use Rattle.std.specs.Option.{option_map_or}
 use Rattle.std.proofs.lemmas.Option.{same_Some}
 use Rattle.std.proofs.lemmas.Iterator.Adapters.{position_from-zero}
 use Rattle.std.proofs.lemmas.Slice.Eq.{bytes_eq-Decides}
+use Rattle.std.proofs.Math.Bool.{and-true}
 use Rattle.jiff.specs.Types.{Date}
 use Rattle.bag_text.specs.TransferForm.{set_text, content_at}
 use Rattle.office_core.specs.FirstOf.{first_some, answer_if}
@@ -65,11 +66,7 @@ among_distinct text seen (x ∷ texts) =
     split false = refl
 
 pub among_first_places : (text : List ℕ) (texts : List (List ℕ)) → list_any (bytes_eq text) (in_first_places texts) ≡ list_any (bytes_eq text) texts
-among_first_places text texts = among_distinct text [] texts ∙ all_of (list_any (bytes_eq text) texts)
-  where
-    all_of : (b : Bool) → (b && true) ≡ b
-    all_of true = refl
-    all_of false = refl
+among_first_places text texts = among_distinct text [] texts ∙ and-true (list_any (bytes_eq text) texts)
 
 same_collection : (h k : History) → Alike h k → (name : List ℕ) → has_collection h name ≡ has_collection k name
 same_collection h k a name =

@@ -1,8 +1,8 @@
 -- Keeping each text once, one after the other.
-use Rattle.std.proofs.Common.{◌≡◌, ℕ, Bool, true, false, ◌||◌, List, [], ◌∷◌, ◌++◌, refl, sym, ap, ◌∙◌, append_assoc, cond}
+use Rattle.std.proofs.Common.{◌≡◌, ℕ, true, false, ◌||◌, List, [], ◌∷◌, ◌++◌, refl, sym, ap, ◌∙◌, append_assoc, cond}
 use Rattle.std.specs.Prelude.{bytes_eq}
 use Rattle.std.specs.List.{list_any}
-use Rattle.std.proofs.Math.Bool.{or_comm}
+use Rattle.std.proofs.Math.Bool.{or_comm, or-false}
 use Rattle.std.proofs.lemmas.List.Folds.{list_any-append}
 use Rattle.std.proofs.lemmas.List.{map-append}
 use denote.Ref.{Bor}
@@ -18,14 +18,10 @@ same_after seen others [] same = refl
 same_after seen others (text ∷ texts) same = λ i.
     cond (same text i) (same_after seen others texts same i) (text ∷ same_after (text ∷ seen) (text ∷ others) texts (λ x. ap (λ b. bytes_eq x text || b) (same x)) i)
 
-pub or_false : (b : Bool) → (b || false) ≡ b
-or_false true = refl
-or_false false = refl
-
 one_behind : (seen : List (List ℕ)) (text : List ℕ) → HaveSame (text ∷ seen) (seen ++ text ∷ [])
 one_behind seen text x =
     or_comm (bytes_eq x text) (list_any (bytes_eq x) seen)
-    ∙ ap (λ b. list_any (bytes_eq x) seen || b) (sym (or_false (bytes_eq x text)))
+    ∙ ap (λ b. list_any (bytes_eq x) seen || b) (sym (or-false (bytes_eq x text)))
     ∙ sym (list_any-append (bytes_eq x) seen (text ∷ []))
 
 -- a text that isn't among those found is the next of them

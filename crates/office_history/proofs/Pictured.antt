@@ -8,7 +8,7 @@ use Rattle.std.proofs.lemmas.Bool.Decides.{Decides-int_eq}
 use Rattle.std.proofs.lemmas.List.Elements.{filter_map-append}
 use Rattle.std.proofs.lemmas.Option.{same_Some, slice_get-map, slice_get_past, slice_get_within}
 use Rattle.std.proofs.lemmas.Slice.Eq.{bytes_eq-Decides}
-use Rattle.std.proofs.lemmas.Bool.{or_right}
+use Rattle.std.proofs.Math.Bool.{or-true}
 use Rattle.jiff_core.proofs.DateLemmas.{epoch_day_injective}
 use Rattle.jiff.specs.Types.{Date}
 use Rattle.jiff.specs.Words.{epoch_day}
@@ -370,7 +370,7 @@ some_told years name y (other ∷ names) is among = by (bytes_eq other name) ref
 class_at : (name other : List ℕ) (years y : Option ℕ) (o : Option (Option ℕ)) (among : Bool) (b : Bool) → bytes_eq other name ≡ b → (o ≡ Some y → among ≡ true)
     → option_or o (if b then Some years else None) ≡ Some y → (bytes_eq name other || among) ≡ true
 class_at name other years y o among true f rest e = ap (λ b. b || among) ((bytes_eq-Decides name other).1 (sym ((bytes_eq-Decides other name).0 f)))
-class_at name other years y o among false f rest e = ap (λ b. bytes_eq name other || b) (rest (sym (or_none o) ∙ e)) ∙ or_right (bytes_eq name other) true refl
+class_at name other years y o among false f rest e = ap (λ b. bytes_eq name other || b) (rest (sym (or_none o) ∙ e)) ∙ or-true (bytes_eq name other)
 
 pub was_defined : (name : List ℕ) (y : Option ℕ) (changes : List Change) → last_said (years_in name) changes ≡ Some y → list_any (bytes_eq name) (filter_map class_in changes) ≡ true
 was_defined name y [] e = absurd cc

@@ -1,12 +1,12 @@
 -- An office whose files are opened again.
-use Rattle.std.proofs.Common.{◌≡◌, ℤ, IsTrue, refl, sym, ap, subst, ◌∙◌}
+use Rattle.std.proofs.Common.{◌≡◌, ℤ, IsTrue, refl, sym, ap, subst, ◌∙◌, arith}
 use Rattle.std.proofs.Math.Logic.{∥∥₁_map}
 use Rattle.sqlite_disk.specs.declared.Disk.{Ghosts}
 use Rattle.sqlite.specs.Recovery.{Image}
 use Rattle.sqlite.specs.Tree.{Trees}
 use Rattle.sqlite.specs.declared.FileStore.{FileStore}
 use Rattle.sqlite_store.specs.FileStore.{state, view, recovers}
-use Rattle.sqlite.specs.State.{State, Opens, IsLive}
+use Rattle.sqlite.specs.State.{State, HasCleanDisk, Survives, Opens, IsLive}
 use Rattle.sqlite.specs.Held.{AreDatabases}
 use Rattle.sqlite.specs.Effect.{Database}
 use Rattle.sqlite.specs.Start.{FindsIn}
@@ -27,20 +27,27 @@ holds_left it numbered sound P all image may = ∥∥₁_map (opens_again it num
 pub found_where : (P : Trees → Type 0) (image : Image) (s : State) → FindsIn image s → HoldsWhere P image → ∥ P s.committed.trees ∥₁
 found_where P image s finds holds = ∥∥₁_map holds (λ d. subst P (sym (finds.holds d.0 d.2)) d.1)
 
+-- where the disk is clean after a call it was before
+clean_before : (first last : State) → Survives first last (λ _. ⊥) → HasCleanDisk last → HasCleanDisk first
+clean_before first last survives clean = omega (arith, survives.clean, clean)
+
 -- a connection that was just opened over the trees of an office keeps it
 pub opened_keeps : (s : State) → Opens s → IsLive s → (tables : Tables) → IsLeft tables s.committed.trees → IsKeptAs tables s
 opened_keeps s opens live tables left is_open =
     (becomes_again tables s.now.trees s.now (subst (λ (d : Database). IsLeft tables d.trees) (sym opens.clean) left) (live is_open).0 refl, sym opens.clean)
 
 -- and so does one that picks it up
-pub picks_up : (image : Image) (first last : State) → ((db : Trees) → HoldsDatabase image db → first.committed.trees ≡ db) → Opens first → GoesOnAs first last → PicksUp image last
-picks_up image first last finds opens on db held tables left =
-    on tables (subst (IsLeft tables) (sym (ap (λ (d : Database). d.trees) opens.clean ∙ finds db held)) left)
+pub picks_up : (image : Image) (first last : State) → Survives first last (λ _. ⊥) → (HasCleanDisk first → (db : Trees) → HoldsDatabase image db → first.committed.trees ≡ db) → (HasCleanDisk first → Opens first)
+    → (HasCleanDisk last → GoesOnAs first last) → HasCleanDisk last → PicksUp image last
+picks_up image first last survives finds opens on clean db held tables left =
+    let early = clean_before first last survives clean in
+    on clean tables (subst (IsLeft tables) (sym (ap (λ (d : Database). d.trees) (opens early).clean ∙ finds early db held)) left)
 
 -- and shows the version that it was found to have
-pub shows_version : (first last : State) (version : ℤ) → Opens first → KeepsTables first last → HasVersion first.now version → IsTrue last.is_open → HasVersion last.now version
-shows_version first last version opens kept has is_open =
-    let same = (kept is_open).1 (sym opens.clean) in subst (λ (d : Database). HasVersion d version) (sym same.0) has
+pub shows_version : (first last : State) (version : ℤ) → Survives first last (λ _. ⊥) → (HasCleanDisk first → Opens first) → (HasCleanDisk last → KeepsTables first last)
+    → (HasCleanDisk last → HasVersion first.now version) → HasCleanDisk last → IsTrue last.is_open → HasVersion last.now version
+shows_version first last version survives opens kept has clean is_open =
+    let same = (kept clean is_open).1 (sym (opens (clean_before first last survives clean)).clean) in subst (λ (d : Database). HasVersion d version) (sym same.0) (has clean)
 
 -- Of several that a crash may leave, one is picked up.
 pub picks_one : {H : Type 0} (image : Image) (s : State) (May : H → Type 0) (rows : H → Tables) → PicksUp image s

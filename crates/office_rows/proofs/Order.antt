@@ -1,5 +1,5 @@
 -- Rows in the order of their numbers: how one is put, how all are sorted, and which number is the highest.
-use Rattle.std.proofs.Common.{◌≡◌, ◌≢◌, ℤ, Bool, true, false, List, [], ◌∷◌, ◌++◌, None, Some, Ordering, Less, Equal, Greater, if◌then◌else◌, map, refl, sym, ap, ap₂, subst, ◌∙◌, append-nil, append_assoc}
+use Rattle.std.proofs.Common.{◌≡◌, ◌≢◌, ℤ, Bool, true, false, List, [], ◌∷◌, ◌++◌, map, None, Some, Ordering, Less, Equal, Greater, if◌then◌else◌, refl, sym, ap, subst, ◌∙◌, append-nil, append_assoc}
 use Rattle.std.specs.List.{AllByRecursion}
 use Rattle.std.specs.List.Sorted.{IsPermutation}
 use Rattle.std.specs.FinMap.{int_cmp-IsAntisymmetric}
@@ -8,19 +8,19 @@ use Rattle.std.proofs.lemmas.Cmp.{int_cmp_total}
 use Rattle.std.proofs.lemmas.List.Sorted.{IsPermutation-refl, IsPermutation-trans, IsPermutation-cons, IsPermutation-middle, IsPermutation-sym, IsPermutation-append_right}
 use Rattle.office_rows.specs.Rows.{put_by, put_each_by, sorted_by, NumbersBelow, NumbersRise, NumbersDiffer, last_number}
 
--- lists that are alike under what tells their items apart are alike
-pub map_back : {A B : Type 0} (f : A → B) → ((x y : A) → f x ≡ f y → x ≡ y) → (xs ys : List A) → map f xs ≡ map f ys → xs ≡ ys
-map_back f apart [] [] e = refl
-map_back f apart [] (y ∷ ys) e = absurd cc
-map_back f apart (x ∷ xs) [] e = absurd cc
-map_back f apart (x ∷ xs) (y ∷ ys) e =
-    let first : f x ≡ f y = cc in
-    let rest : map f xs ≡ map f ys = cc in
-    ap₂ ◌∷◌ (apart x y first) (map_back f apart xs ys rest)
-
 pub all_append : {X : Type 0} (P : X → Type 0) (xs ys : List X) → AllByRecursion P xs → AllByRecursion P ys → AllByRecursion P (xs ++ ys)
 all_append P [] ys h k = k
 all_append P (x ∷ xs) ys h k = (h.0, all_append P xs ys h.1 k)
+
+-- lists of which a one-to-one function makes the same are the same
+pub map_back : {A B : Type 0} (f : A → B) → ((x y : A) → f x ≡ f y → x ≡ y) → (xs ys : List A) → map f xs ≡ map f ys → xs ≡ ys
+map_back f one_to_one [] [] e = refl
+map_back f one_to_one [] (y ∷ ys) e = absurd cc
+map_back f one_to_one (x ∷ xs) [] e = absurd cc
+map_back f one_to_one (x ∷ xs) (y ∷ ys) e =
+    let first : f x ≡ f y = cc in
+    let rest : map f xs ≡ map f ys = cc in
+    λ i. one_to_one x y first i ∷ map_back f one_to_one xs ys rest i
 
 module _ {Row : Type 0} (number : Row → ℤ) where
   -- each of the rows is lower

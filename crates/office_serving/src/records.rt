@@ -11,8 +11,8 @@ ghost use Rattle.office_history.specs.Answers.{record_of};
 ghost use Rattle.office_asking.specs.Serving.{Finds, Decides};
 ghost use Rattle.office_serving.specs.Told.{IsRecordOf};
 
-use crate::texts::{accession_in, count_in, name_in};
-use office_asking::{day_numbered, due_day, kept_deposit};
+use crate::texts::count_in;
+use office_asking::{day_numbered, due_day, kept_deposit, text_of_kind};
 use office_core::{Action, Answer, Day, DepositRecord, Due};
 use office_tables::{DepositRow, TableFault};
 use sqlite::{Alter, Transaction};
@@ -29,9 +29,9 @@ fn record_in(alloc: Global, row: &DepositRow, due: Due) -> Result<DepositRecord,
     let bytes = count_in(row.bytes)?;
     Ok(DepositRecord {
         number: row.number,
-        accession: accession_in(alloc, &row.accession)?,
-        collection: name_in(alloc, &row.collection)?,
-        class: name_in(alloc, &row.class)?,
+        accession: text_of_kind(alloc, &row.accession)?,
+        collection: text_of_kind(alloc, &row.collection)?,
+        class: text_of_kind(alloc, &row.class)?,
         closed,
         deposited,
         files,

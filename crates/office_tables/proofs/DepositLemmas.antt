@@ -21,7 +21,7 @@ use Rattle.sql_meaning.specs.Columns.{int_at, bytes_at}
 use Rattle.sql_meaning.proofs.Scanning.{shown_of, finds_one}
 use Rattle.sql_meaning.proofs.Reading.{reads_same, reads_one, reads_rising}
 use Rattle.sql_meaning.proofs.TextKeys.{has_text, by_text, each_passes, few_named}
-use Rattle.sql_meaning.proofs.RowidKeys.{by_number, has_number, each_numbered, few_numbered}
+use Rattle.sql_meaning.proofs.RowidKeys.{by_number, has_number, each_numbered, few_numbered, rising}
 use Rattle.sql_meaning.proofs.Typed.{text_at, int_in, all_both}
 use Rattle.sql_meaning.proofs.Edits.{kept_all, decoded, cast_null, cast_int}
 use Rattle.sql_meaning.proofs.Whole.{keeps_rule}
@@ -32,7 +32,7 @@ use Rattle.office_tables.specs.Tables.{IsOffice, Becomes, tables_of, deposit_in}
 use Rattle.office_tables.specs.Deposits.{shown_deposit}
 use Rattle.office_tables.proofs.Frames.{idle, becomes}
 use Rattle.office_tables.proofs.LastRow.{reads_last}
-use Rattle.office_tables.proofs.DepositTexts.{deposit_text, accession_text, deposits_text, last_text, asks_last, deposit_columns, rising, asks_deposit, asks_accession, asks_deposits, gone_text, gone_columns, gone_means}
+use Rattle.office_tables.proofs.DepositTexts.{deposit_text, accession_text, deposits_text, last_text, asks_last, deposit_columns, asks_deposit, asks_accession, asks_deposits, gone_text, gone_columns, gone_means}
 
 -- a stored deposit, as the rules of its table leave it
 abbrev IsDepositRow : Row → Type 0

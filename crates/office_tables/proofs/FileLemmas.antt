@@ -8,13 +8,12 @@ use Rattle.std.specs.Cmp.Lexicographic.{on_texts, slice_cmp}
 use Rattle.std.proofs.lemmas.List.{map_push, map_more}
 use Rattle.std.specs.List.Sorted.{IsPermutation, IsSorted}
 use Rattle.std.proofs.lemmas.Bool.{cases_Bool}
+use Rattle.std.proofs.lemmas.Option.{same_Some}
 use Rattle.std.proofs.lemmas.Cmp.{tied_itself}
 use Rattle.std.proofs.lemmas.Map.Text.{is_eq-slice_cmp}
 use Rattle.std.proofs.lemmas.List.Sorted.{IsPermutation-map, IsPermutation-sym, All-permutation}
 use Rattle.std.proofs.lemmas.Slice.Eq.{bytes_eq-Decides}
 use Rattle.std.proofs.lemmas.List.Elements.{recursion_from_All, All-from_recursion}
-use Rattle.std.proofs.lemmas.Option.{same_Some}
-use Rattle.office_rows.proofs.Order.{map_back}
 use Rattle.sqlite.specs.declared.types.Value.TheVariants.{Null, Int, Text, Blob}
 use Rattle.sqlite.specs.Order.{Row, column, value_cmp}
 use Rattle.sqlite.specs.Edit.{Edit, edit_of, with_rowid}
@@ -49,12 +48,13 @@ use Rattle.sql_meaning.proofs.Writing.{Changes, inserts}
 use Rattle.sql_meaning.proofs.Scanning.{scan, passes, shown_of}
 use Rattle.sql_meaning.proofs.Reading.{reads_same, reads_one, reads_scan, finds_part}
 use Rattle.sql_meaning.proofs.Inserts.{none_before}
-use Rattle.sql_meaning.proofs.Keys.{found_by, bytes_itself, int_itself, filter_same, same_key, trailing, same_text, same_int, lone}
+use Rattle.sql_meaning.proofs.Keys.{found_by, bytes_itself, int_itself, filter_same, same_key, trailing, unclashed, same_text, same_int, lone}
 use Rattle.sql_meaning.proofs.Typed.{text_at, int_in, all_both}
 use Rattle.sql_meaning.proofs.Edits.{appended, cast_null, cast_int, map_append}
 use Rattle.sql_meaning.proofs.Whole.{keeps_rule}
 use Rattle.sql_meaning.proofs.Changing.{drops}
 use Rattle.office_tables.specs.Schema.{office_schema, file_table, needed}
+use Rattle.office_rows.proofs.Order.{map_back}
 use Rattle.office_rows.specs.Rows.{FileRow, is_file_of, is_file_at, file_at, with_file, without_files}
 use Rattle.office_tables.specs.Tables.{IsOffice, Becomes, tables_of, file_in}
 use Rattle.office_tables.specs.Deposits.{shown_path, path_cmp, files_by_path}
@@ -119,10 +119,6 @@ module _ (db : Database) (office : IsOffice db) (n : ℤ) where
       let ky : agree plain (1 ∷ 2 ∷ []) y (0 ∷ 1 ∷ []) key ≡ true = rw (eqy, pathy) refl in
       let agrees = agree_chain plain (1 ∷ 2 ∷ []) (0 ∷ 1 ∷ []) (1 ∷ 2 ∷ []) x key y kx (agree_back plain (1 ∷ 2 ∷ []) (0 ∷ 1 ∷ []) y key ky) in
       same_key plain (1 ∷ 2 ∷ []) (db.trees 10) office.shaped.1.1.1.1.1.1.0 x y hx hy (unclashed _ apart) agrees
-    where
-      unclashed : (b : Bool) → (not b && true) ≡ true → b ≡ false
-      unclashed true h = absurd cc
-      unclashed false h = refl
 
   pub few_files : (path : List ℕ) → (filter (has_place n path) (db.trees 10) ≡ []) ⊎ ((r : Row) × Has (db.trees 10) r × (has_place n path r ≡ true) × (filter (has_place n path) (db.trees 10) ≡ r ∷ []))
   few_files path = lone (has_place n path) (db.trees 10) (db.trees 10) office.shaped.1.1.1.1.1.1.0.0 (λ r there. there) (one_file path)

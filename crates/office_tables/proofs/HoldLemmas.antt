@@ -40,7 +40,7 @@ use Rattle.sql_meaning.proofs.Inserts.{none_before}
 use Rattle.sqlite_schema.specs.declared.schema.Keys.TheVariants.{Enforced}
 use Rattle.sql_meaning.proofs.Scanning.{passes, shown_of, finds_one}
 use Rattle.sql_meaning.proofs.Reading.{Asks, reads_same, reads_one, reads_rising}
-use Rattle.sql_meaning.proofs.RowidKeys.{by_number, has_number, each_numbered, few_numbered, one_numbered}
+use Rattle.sql_meaning.proofs.RowidKeys.{by_number, has_number, each_numbered, few_numbered, one_numbered, rising}
 use Rattle.sql_meaning.proofs.Typed.{text_at, int_in, maybe_int_at as some_int_at, maybe_text_at as some_text_at, all_both}
 use Rattle.sql_meaning.proofs.Edits.{decoded, cast_null, cast_int, map_append}
 use Rattle.sql_meaning.proofs.Whole.{keeps_rule}
@@ -52,7 +52,7 @@ use Rattle.office_tables.specs.ShownHolds.{shown_hold}
 use Rattle.office_tables.proofs.Frames.{idle, becomes}
 use Rattle.office_tables.proofs.InOrder.{placed}
 use Rattle.office_tables.proofs.LastRow.{reads_last}
-use Rattle.office_tables.proofs.HoldTexts.{hold_text, hold_columns, asks_hold, last_text, asks_last, put_text, hold_terms, put_means, end_text, ended_columns, end_means, number_column, rising, on_text, on, asks_on, within_text, within, asks_within}
+use Rattle.office_tables.proofs.HoldTexts.{hold_text, hold_columns, asks_hold, last_text, asks_last, put_text, hold_terms, put_means, end_text, ended_columns, end_means, number_column, on_text, on, asks_on, within_text, within, asks_within}
 
 -- ---- reads
 

@@ -1,5 +1,5 @@
 -- What the statements on holds mean under the schema of an office.
-use Rattle.std.proofs.Common.{ℕ, false, List, [], ◌∷◌, codes, refl}
+use Rattle.std.proofs.Common.{ℕ, List, [], ◌∷◌, codes, refl}
 use Rattle.sqlite.specs.declared.types.Value.TheVariants.{Null}
 use Rattle.sqlite.specs.Term.{Term, lit, col, op1, op2}
 use Rattle.sqlite.specs.Collation.TheVariants.{Binary}
@@ -10,10 +10,9 @@ use Rattle.sqlite_tied.specs.Compute.{everything}
 use Rattle.sqlite_sql.specs.declared.ops.BinaryOp.TheVariants.{Compare, Is}
 use Rattle.sqlite_sql.specs.declared.ops.UnaryOp.TheVariants.{Not}
 use Rattle.sqlite_sql.specs.declared.ops.CompareOp.TheVariants.{Eq}
-use Rattle.sqlite_value.specs.declared.keys.Key.{Key}
 use Rattle.sql_meaning.proofs.Scanning.{scan, as_program}
 use Rattle.sql_meaning.proofs.Reading.{Asks}
-use Rattle.sql_meaning.proofs.RowidKeys.{by_number}
+use Rattle.sql_meaning.proofs.RowidKeys.{by_number, rising}
 use Rattle.sql_meaning.proofs.Writing.{Means}
 use Rattle.office_tables.specs.Schema.{office_schema}
 use Rattle.office_tables.proofs.LastRow.{AsksLast}
@@ -64,10 +63,6 @@ end_means = record { is = refl; plain = (refl, refl) }
 
 abbrev pub number_column : List Term
 number_column = col 1 0 ∷ []
-
--- ORDER BY the rowid
-abbrev pub rising : List (Term × Key)
-rising = (col 1 0, record { collation = Binary; descending = false }) ∷ []
 
 abbrev pub on_text : List ℕ
 on_text = codes "SELECT number FROM hold WHERE deposit = ?1 AND released IS NULL ORDER BY number"

@@ -20,6 +20,7 @@ use Rattle.sql_meaning.specs.Columns.{bytes_at}
 use Rattle.sql_meaning.proofs.Writing.{inserts}
 use Rattle.sql_meaning.proofs.Scanning.{shown_of}
 use Rattle.sql_meaning.proofs.Reading.{reads_same, reads_one, reads_rising, finds_part}
+use Rattle.sql_meaning.proofs.RowidKeys.{rising}
 use Rattle.sql_meaning.proofs.Keys.{none_pass}
 use Rattle.sql_meaning.proofs.TextKeys.{has_text, by_text, each_passes, few_named}
 use Rattle.sql_meaning.proofs.Typed.{text_at, all_both}
@@ -32,7 +33,7 @@ use Rattle.office_tables.specs.Tables.{IsOffice, Becomes, tables_of, caller_in, 
 use Rattle.office_tables.specs.ShownPolicy.{shown_rule}
 use Rattle.office_tables.proofs.Frames.{idle, becomes}
 use Rattle.office_tables.proofs.InOrder.{placed}
-use Rattle.office_tables.proofs.PolicyTexts.{role_text, role_columns, asks_role, rules_text, rule_columns, rising, asks_rules, drop_callers_text, drop_callers_means, drop_rules_text, drop_rules_means, add_caller_text, caller_terms, add_caller_means, add_rule_text, rule_terms, add_rule_means}
+use Rattle.office_tables.proofs.PolicyTexts.{role_text, role_columns, asks_role, rules_text, rule_columns, asks_rules, drop_callers_text, drop_callers_means, drop_rules_text, drop_rules_means, add_caller_text, caller_terms, add_caller_means, add_rule_text, rule_terms, add_rule_means}
 
 -- what is known of the callers: each name is a text, and at most one caller has it
 module _ (db : Database) (office : IsOffice db) (name : List ℕ) where

@@ -1,15 +1,14 @@
 -- What the statements on callers and rules mean under the schema of an office.
-use Rattle.std.proofs.Common.{ℕ, false, List, [], ◌∷◌, codes, refl}
+use Rattle.std.proofs.Common.{ℕ, List, [], ◌∷◌, codes, refl}
 use Rattle.sqlite.specs.declared.types.Value.TheVariants.{Null}
 use Rattle.sqlite.specs.Term.{Term, lit, col}
-use Rattle.sqlite.specs.Collation.TheVariants.{Binary}
 use Rattle.sqlite.specs.Command.TheVariants.{Insert, Delete}
 use Rattle.sqlite.specs.Source.TheVariants.{Values}
 use Rattle.sqlite.specs.Listing.{understood}
 use Rattle.sqlite_tied.specs.Compute.{everything}
-use Rattle.sqlite_value.specs.declared.keys.Key.{Key}
 use Rattle.sql_meaning.proofs.Scanning.{scan, as_program}
 use Rattle.sql_meaning.proofs.Reading.{Asks}
+use Rattle.sql_meaning.proofs.RowidKeys.{rising}
 use Rattle.sql_meaning.proofs.TextKeys.{by_text}
 use Rattle.sql_meaning.proofs.Writing.{Means}
 use Rattle.office_tables.specs.Schema.{office_schema}
@@ -29,10 +28,6 @@ rules_text = codes "SELECT place, effect, role, action, collection, class FROM r
 
 abbrev pub rule_columns : List Term
 rule_columns = col 1 0 ∷ col 1 2 ∷ col 1 3 ∷ col 1 4 ∷ col 1 5 ∷ col 1 6 ∷ []
-
--- ORDER BY the rowid
-abbrev pub rising : List (Term × Key)
-rising = (col 1 0, record { collation = Binary; descending = false }) ∷ []
 
 pub asks_rules : Asks office_schema rules_text 3 [] rule_columns rising
 unfolding understood everything

@@ -2,7 +2,7 @@
 use Rattle.std.proofs.Common.{◌≡◌, List, [], ◌∷◌, filter, Bool, true, false, Ordering, Less, Equal, Greater, refl, sym, ap, subst, inl, inr}
 use Rattle.std.specs.List.{AllByRecursion}
 use Rattle.std.specs.Ordering.{is_eq}
-use Rattle.std.proofs.lemmas.Bool.{cases_Bool}
+use Rattle.std.proofs.lemmas.Bool.{cases_Bool, not-true}
 use Rattle.std.proofs.lemmas.Cmp.{tied_itself}
 use Rattle.sqlite.specs.Order.{Row, value_cmp}
 use Rattle.sqlite.specs.Table.{Table}
@@ -17,7 +17,7 @@ use Rattle.sqlite_rules.specs.Lists.{Has}
 use Rattle.sqlite_rules.proofs.ListLemmas.{all_has}
 use Rattle.sqlite_keyed.proofs.ListLemmas.{none_from_any}
 use Rattle.sql_meaning.proofs.Typed.{both}
-use Rattle.sql_meaning.proofs.Keys.{none_pass, not_is}
+use Rattle.sql_meaning.proofs.Keys.{none_pass}
 
 -- no row has the rowid of this one
 abbrev pub IsApart : Row → List Row → Type 0
@@ -53,7 +53,7 @@ module _ (schema : Schema) (keys : Keys) (db next : Trees) (table : Table) (sour
 
   -- no row had its rowid
   pub apart : IsApart put (db table.tree)
-  apart = none_from_any (λ r. is_eq (value_cmp (rowid r) (rowid put))) (db table.tree) (not_is _ (both _ _ applies.fresh).0)
+  apart = none_from_any (λ r. is_eq (value_cmp (rowid r) (rowid put))) (db table.tree) (not-true _ (both _ _ applies.fresh).0)
 
   pub was_put : Has (next table.tree) put
   was_put = subst (λ rows. Has rows put) (sym applies.rows) (put_there put (db table.tree))

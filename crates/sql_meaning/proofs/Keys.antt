@@ -2,7 +2,7 @@
 use Rattle.std.proofs.Common.{◌≡◌, ◌&&◌, ◌⊎◌, not, ℕ, ℤ, List, [], ◌∷◌, map, filter, find, slice_get, option_map, bytes_eq, Bool, true, false, Some, Ordering, Equal, Less, Greater, IsTrue, subst₂, refl, sym, ap, subst, ◌∙◌, inl, inr}
 use Rattle.std.specs.Ordering.{is_eq, is_ne, ordering_reverse, int_cmp}
 use Rattle.std.specs.List.{AllByRecursion, list_any}
-use Rattle.std.proofs.lemmas.Bool.{cases_Bool}
+use Rattle.std.proofs.lemmas.Bool.{cases_Bool, not-true}
 use Rattle.std.proofs.lemmas.Cmp.{tied_itself}
 use Rattle.std.proofs.lemmas.Map.Text.{is_eq-slice_cmp}
 use Rattle.sqlite.specs.declared.types.Value.{Value}
@@ -26,13 +26,13 @@ use Rattle.sqlite_trees.specs.declared.store.Shape.TheVariants as shape
 pub true_is : (b : Bool) → IsTrue b → b ≡ true
 true_is b h = h
 
-pub not_is : (b : Bool) → not b ≡ true → b ≡ false
-not_is true h = absurd cc
-not_is false h = refl
-
 pub trailing : (b : Bool) → (b && true) ≡ b
 trailing true = refl
 trailing false = refl
+
+-- a row that a rule of its own key passes clashes with no other
+pub unclashed : (b : Bool) → (not b && true) ≡ true → b ≡ false
+unclashed b h = not-true b (sym (trailing (not b)) ∙ h)
 
 truth_back : (b : Bool) → is_true (from_truth (Some b)) ≡ b
 truth_back true = refl

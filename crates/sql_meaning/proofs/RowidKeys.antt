@@ -1,5 +1,5 @@
 -- A key that is the rowid: the test by it, and that it names at most one row.
-use Rattle.std.proofs.Common.{◌≡◌, ◌⊎◌, ℤ, List, [], ◌∷◌, filter, Bool, true, Equal, IsTrue, sym, ap, subst₂, ◌∙◌}
+use Rattle.std.proofs.Common.{◌≡◌, ◌⊎◌, ℤ, List, [], ◌∷◌, filter, Bool, true, false, Equal, IsTrue, sym, ap, subst₂, ◌∙◌}
 use Rattle.std.specs.List.{AllByRecursion}
 use Rattle.std.specs.Ordering.{int_eq, int_cmp, ordering_reverse}
 use Rattle.std.proofs.lemmas.Cmp.{int_cmp_total}
@@ -10,6 +10,7 @@ use Rattle.sqlite.specs.Ops.{binary, is_true}
 use Rattle.sqlite.specs.Collation.TheVariants.{Binary}
 use Rattle.sqlite_sql.specs.declared.ops.BinaryOp.TheVariants.{Compare}
 use Rattle.sqlite_sql.specs.declared.ops.CompareOp.TheVariants.{Eq}
+use Rattle.sqlite_value.specs.declared.keys.Key.{Key}
 use Rattle.sqlite_value.proofs.OrderLemmas.{value_cmp-Int}
 use Rattle.sqlite.specs.Tree.{rowid}
 use Rattle.sqlite_rules.specs.Lists.{Has}
@@ -29,6 +30,10 @@ has_number n r = int_eq (int_at r 0) n
 -- WHERE number = ?1
 abbrev pub by_number : List Term
 by_number = op2 (Compare Eq Binary) (col 1 0) (col 0 0) ∷ []
+
+-- ORDER BY the rowid
+abbrev pub rising : List (Term × Key)
+rising = (col 1 0, record { collation = Binary; descending = false }) ∷ []
 
 passes_number : (n : ℤ) (more r : Row) → IsTrue (is_int (rowid r)) → passes (Int n ∷ more) by_number r ≡ has_number n r
 passes_number n more r whole = trailing _ ∙ ap (λ v. is_true (binary (Compare Eq Binary) v (Int n))) (int_is (rowid r) whole) ∙ same_int (int_at r 0) n

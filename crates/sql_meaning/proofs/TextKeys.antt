@@ -1,5 +1,5 @@
 -- A text column that is a key: the test by it, and that it names at most one row.
-use Rattle.std.proofs.Common.{◌≡◌, ◌&&◌, ◌||◌, ap₂, ◌⊎◌, not, ℕ, List, [], ◌∷◌, filter, bytes_eq, Bool, true, false, refl, ap, ◌∙◌}
+use Rattle.std.proofs.Common.{◌≡◌, ◌&&◌, ◌||◌, ap₂, ◌⊎◌, not, ℕ, List, [], ◌∷◌, filter, bytes_eq, Bool, true, refl, ap, ◌∙◌}
 use Rattle.std.specs.List.{AllByRecursion, list_any}
 use Rattle.sqlite.specs.declared.types.Value.TheVariants.{Text}
 use Rattle.sqlite.specs.Order.{Row, column}
@@ -17,7 +17,7 @@ use Rattle.sqlite_trees.specs.View.{IsShaped}
 use Rattle.sqlite_trees.specs.declared.store.Shape.TheVariants as shape
 use Rattle.sql_meaning.specs.Columns.{bytes_at}
 use Rattle.sql_meaning.proofs.Scanning.{passes}
-use Rattle.sql_meaning.proofs.Keys.{trailing, same_text, same_key, lone}
+use Rattle.sql_meaning.proofs.Keys.{trailing, unclashed, same_text, same_key, lone}
 
 abbrev pub has_text : ℕ → List ℕ → Row → Bool
 has_text place name r = bytes_eq (bytes_at r place) name
@@ -48,10 +48,6 @@ one_named place rows shaped typed unique name x y hx hy px py =
     let ky = key_is place name y (all_has (IsText place) rows y typed hy) py in
     let agrees = agree_chain plain (place ∷ []) (0 ∷ []) (place ∷ []) x key y kx (agree_back plain (place ∷ []) (0 ∷ []) y key ky) in
     same_key plain (place ∷ []) rows shaped x y hx hy (unclashed _ (all_has _ rows y unique hy)) agrees
-  where
-    unclashed : (b : Bool) → (not b && true) ≡ true → b ≡ false
-    unclashed true h = absurd cc
-    unclashed false h = refl
 
 -- at most one row has the text
 pub few_named : (place : ℕ) (rows : List Row) → IsShaped shape.Table rows → AllByRecursion (IsText place) rows → AllByRecursion (λ r. (not (clashes plain (place ∷ []) rows r) && true) ≡ true) rows → (name : List ℕ)

@@ -1,6 +1,7 @@
 -- What a STRICT table's rules say of the columns of its rows.
 use Rattle.std.proofs.Common.{◌≡◌, ◌&&◌, ◌||◌, ◌⊎◌, not, ℕ, zero, suc, ◌+◌, List, [], ◌∷◌, drop, slice_get, slice_index_or, Bool, true, false, Some, Option, refl, sym, ap, subst, ◌∙◌, inl, inr, if◌then◌else◌, arith}
 use Rattle.std.specs.List.{AllByRecursion}
+use Rattle.std.proofs.lemmas.Bool.{not-true}
 use Rattle.sqlite.specs.declared.types.Value.{Value}
 use Rattle.sqlite.specs.declared.types.Value.TheVariants.{Null, Int, Text, Blob, Real}
 use Rattle.sqlite.specs.Order.{Row, column, bytes}
@@ -56,11 +57,7 @@ present_at key at (d ∷ cs) row h zero c found needed free =
     let must : d.not_null ≡ true = ap (λ (k : Column). k.not_null) same ∙ needed in
     let it : is_key key at || not d.not_null || not (is_null (column row (at + 1))) ≡ true = (both _ _ h).0 in
     let bare : not (is_null (column row (at + 1))) ≡ true = rw (here, must) at it in
-    subst (λ n. is_null (column row n) ≡ false) (sym there) (not_null (is_null (column row (at + 1))) bare)
-  where
-    not_null : (b : Bool) → not b ≡ true → b ≡ false
-    not_null true h = absurd cc
-    not_null false h = refl
+    subst (λ n. is_null (column row n) ≡ false) (sym there) (not-true (is_null (column row (at + 1))) bare)
 present_at key at (d ∷ cs) row h (suc i) c found needed free =
     let there : (at + suc i + 1) ≡ at + 1 + i + 1 = omega arith in
     let more = present_at key (at + 1) cs row (both _ _ h).1 i c found needed (subst (λ n. is_key key n ≡ false) (omega arith) free) in

@@ -1,11 +1,11 @@
 use Rattle.std.proofs.Common.{rules, ◌≡◌, ◌∙◌, sym, None}
 use Rattle.sqlite.specs.State.{HasCleanDisk}
 use Rattle.sqlite.specs.Held.{state}
-use Rattle.sql_meaning.proofs.Results.{if_ok, ok_then}
+use Rattle.sql_meaning.proofs.Results.{if_ok}
 use Rattle.office_core.specs.FirstOf.{first_some}
 use Rattle.office_holding.specs.Holds.{collection_denials}
 use Rattle.office_holding.proofs.HoldPlaces.{collection_denied, collection_placed}
-use Rattle.office_asking.proofs.InTurn.{clean_before}
+use Rattle.office_asking.proofs.InTurn.{clean_before, on_after}
 use Rattle.sql_meaning.proofs.Inside.{stays_then, goes_then}
 use Rattle.office_holding.proofs.placing.place_for_collection.Goals as goal
 
@@ -28,8 +28,8 @@ pub returns-clause-stays : goal.returns-clause-stays
 returns-clause-stays g c = stays_then (state g.S.Store c.args.tx.now.conn.now) (state g.S.Store c.collection_denial.new.tx.conn.now) (state g.S.Store c.next_hold.new.tx.conn.now) c.collection_denial.ensures.stays c.in_ok-why.ensures.goes_on c.next_hold.ensures.stays
 
 pub returns-clause-goes_on : goal.returns-clause-goes_on
-returns-clause-goes_on g c clean =
+returns-clause-goes_on g c =
     let s0 = state g.S.Store c.args.tx.now.conn.now in
     let s1 = state g.S.Store c.collection_denial.new.tx.conn.now in
     let s2 = state g.S.Store c.next_hold.new.tx.conn.now in
-    ok_then c.next_hold.result (goes_then s0 s1 s2 (c.in_ok-why.ensures.goes_on (clean_before s1 s2 c.next_hold.ensures.stays clean))) (c.next_hold.ensures.goes_on clean)
+    on_after s0 s1 s2 c.next_hold.ensures.stays c.next_hold.result (goes_then s0 s1 s2) c.in_ok-why.ensures.goes_on c.next_hold.ensures.goes_on

@@ -1,12 +1,12 @@
 use Rattle.std.proofs.Common.{subst}
 use Rattle.sqlite.specs.State.{HasCleanDisk}
 use Rattle.sqlite.specs.Held.{state}
-use Rattle.sql_meaning.proofs.Results.{if_ok, ok_then}
+use Rattle.sql_meaning.proofs.Results.{if_ok}
 use Rattle.office_core.specs.declared.action.Action.TheVariants as acts
 use Rattle.office_history.specs.Refusals.{kept_refusals}
 use Rattle.office_asking.specs.Deposits.{IsAsked}
 use Rattle.office_holding.proofs.HoldPlaces.{deposit_denied, deposit_placed}
-use Rattle.office_asking.proofs.InTurn.{clean_before}
+use Rattle.office_asking.proofs.InTurn.{clean_before, on_after}
 use Rattle.sql_meaning.proofs.Inside.{stays_then, goes_then}
 use Rattle.office_holding.proofs.placing.place_for_deposit.Goals as goal
 
@@ -29,8 +29,8 @@ pub returns-in-Ok-clause-stays : goal.returns-in-Ok-clause-stays
 returns-in-Ok-clause-stays g c = stays_then (state g.S.Store c.args.tx.now.conn.now) (state g.S.Store c.kept_deposit.new.tx.conn.now) (state g.S.Store c.next_hold.new.tx.conn.now) c.kept_deposit.ensures.stays c.in_ok-kept_deposit.ensures.goes_on c.next_hold.ensures.stays
 
 pub returns-in-Ok-clause-goes_on : goal.returns-in-Ok-clause-goes_on
-returns-in-Ok-clause-goes_on g c clean =
+returns-in-Ok-clause-goes_on g c =
     let s0 = state g.S.Store c.args.tx.now.conn.now in
     let s1 = state g.S.Store c.kept_deposit.new.tx.conn.now in
     let s2 = state g.S.Store c.next_hold.new.tx.conn.now in
-    ok_then c.next_hold.result (goes_then s0 s1 s2 (c.in_ok-kept_deposit.ensures.goes_on (clean_before s1 s2 c.next_hold.ensures.stays clean))) (c.next_hold.ensures.goes_on clean)
+    on_after s0 s1 s2 c.next_hold.ensures.stays c.next_hold.result (goes_then s0 s1 s2) c.in_ok-kept_deposit.ensures.goes_on c.next_hold.ensures.goes_on

@@ -1,7 +1,7 @@
 use Rattle.std.proofs.Common.{rules, ◌≡◌, sym, ◌∙◌, Some, option_map}
 use Rattle.sqlite.specs.State.{HasCleanDisk}
 use Rattle.sqlite.specs.Held.{state}
-use Rattle.sql_meaning.proofs.Results.{if_ok, ok_then}
+use Rattle.sql_meaning.proofs.Results.{if_ok}
 use Rattle.office_core.specs.declared.action.Action.TheVariants as acts
 use Rattle.office_history.specs.Histories.{deposit_numbered}
 use Rattle.office_history.specs.Pictures.{deposit_row}
@@ -9,7 +9,7 @@ use Rattle.office_history.specs.Refusals.{denial}
 use Rattle.office_asking.proofs.Readings.{pictured_still}
 use Rattle.office_asking.proofs.DepositAsked.{deposit_read}
 use Rattle.office_holding.proofs.HoldAsked.{asked_of_deposit}
-use Rattle.office_asking.proofs.InTurn.{clean_before}
+use Rattle.office_asking.proofs.InTurn.{clean_before, on_after}
 use Rattle.sql_meaning.proofs.Inside.{stays_then, goes_then}
 use Rattle.office_holding.proofs.releasing.deposit_release_denial.Goals as goal
 
@@ -31,8 +31,8 @@ pub returns-clause-stays : goal.returns-clause-stays
 returns-clause-stays g c = stays_then (state g.S.Store c.args.tx.now.conn.now) (state g.S.Store c.deposit_row.new.tx.conn.now) (state g.S.Store c.denial.new.tx.conn.now) c.deposit_row.ensures.stays c.in_ok-deposit.ensures.goes_on c.denial.ensures.stays
 
 pub returns-clause-goes_on : goal.returns-clause-goes_on
-returns-clause-goes_on g c clean =
+returns-clause-goes_on g c =
     let s0 = state g.S.Store c.args.tx.now.conn.now in
     let s1 = state g.S.Store c.deposit_row.new.tx.conn.now in
     let s2 = state g.S.Store c.denial.new.tx.conn.now in
-    ok_then c.denial.result (goes_then s0 s1 s2 (c.in_ok-deposit.ensures.goes_on (clean_before s1 s2 c.denial.ensures.stays clean))) (c.denial.ensures.goes_on clean)
+    on_after s0 s1 s2 c.denial.ensures.stays c.denial.result (goes_then s0 s1 s2) c.in_ok-deposit.ensures.goes_on c.denial.ensures.goes_on

@@ -1,12 +1,12 @@
 use Rattle.std.proofs.Common.{rules, ◌≡◌, [], ◌∷◌, None, Some, sym, ◌∙◌}
 use Rattle.sqlite.specs.State.{HasCleanDisk}
 use Rattle.sqlite.specs.Held.{state}
-use Rattle.sql_meaning.proofs.Results.{if_ok, ok_then}
+use Rattle.sql_meaning.proofs.Results.{if_ok}
 use Rattle.office_core.specs.FirstOf.{first_some}
 use Rattle.office_history.specs.Refusals.{bad_bag, full_of_deposits}
 use Rattle.office_keeping.specs.Depositing.{refusals_before_the_bag}
 use Rattle.office_keeping.proofs.AskedFor.{first_stands, asked_later}
-use Rattle.office_asking.proofs.InTurn.{clean_before}
+use Rattle.office_asking.proofs.InTurn.{clean_before, on_after}
 use Rattle.sql_meaning.proofs.Inside.{stays_then, goes_then}
 use Rattle.office_keeping.proofs.depositing.new_bag.Goals as goal
 
@@ -31,8 +31,8 @@ pub returns-clause-stays : goal.returns-clause-stays
 returns-clause-stays g c = stays_then (state g.S.Store c.args.tx.now.conn.now) (state g.S.Store c.refusal_before_the_bag.new.tx.conn.now) (state g.S.Store c.numbered_bag.new.tx.conn.now) c.refusal_before_the_bag.ensures.stays c.in_ok-why.ensures.goes_on c.numbered_bag.ensures.stays
 
 pub returns-clause-goes_on : goal.returns-clause-goes_on
-returns-clause-goes_on g c clean =
+returns-clause-goes_on g c =
     let s0 = state g.S.Store c.args.tx.now.conn.now in
     let s1 = state g.S.Store c.refusal_before_the_bag.new.tx.conn.now in
     let s2 = state g.S.Store c.numbered_bag.new.tx.conn.now in
-    ok_then c.numbered_bag.result (goes_then s0 s1 s2 (c.in_ok-why.ensures.goes_on (clean_before s1 s2 c.numbered_bag.ensures.stays clean))) (c.numbered_bag.ensures.goes_on clean)
+    on_after s0 s1 s2 c.numbered_bag.ensures.stays c.numbered_bag.result (goes_then s0 s1 s2) c.in_ok-why.ensures.goes_on c.numbered_bag.ensures.goes_on

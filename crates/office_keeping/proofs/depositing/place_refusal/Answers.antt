@@ -1,12 +1,12 @@
 use Rattle.std.proofs.Common.{rules, ◌≡◌, true, false, ◌∙◌, is_some}
 use Rattle.sqlite.specs.State.{HasCleanDisk}
 use Rattle.sqlite.specs.Held.{state}
-use Rattle.sql_meaning.proofs.Results.{if_ok, ok_then}
+use Rattle.sql_meaning.proofs.Results.{if_ok}
 use Rattle.office_asking.proofs.Readings.{pictured_still}
 use Rattle.office_asking.proofs.DueTold.{years_read_back}
 use Rattle.office_asking.proofs.CollectionTold.{collection_told}
 use Rattle.office_keeping.proofs.Placing.{class_there, no_collection, no_class, both_there}
-use Rattle.office_asking.proofs.InTurn.{clean_before, goes_twice}
+use Rattle.office_asking.proofs.InTurn.{clean_before, goes_twice, on_after}
 use Rattle.sql_meaning.proofs.Inside.{stays_then, goes_then}
 use Rattle.office_keeping.proofs.depositing.place_refusal.Goals as goal
 
@@ -68,10 +68,9 @@ returns-clause-stays g c =
     stays_then s0 s2 (state g.S.Store c.denial.new.tx.conn.now) (stays_then s0 s1 s2 c.has_collection.ensures.stays c.in_ok-has_collection.ensures.goes_on c.class_of.ensures.stays) (goes_twice s0 s1 s2 c.class_of.ensures.stays c.in_ok-has_collection.ensures.goes_on c.in_ok-class_of.ensures.goes_on) c.denial.ensures.stays
 
 pub returns-clause-goes_on : goal.returns-clause-goes_on
-returns-clause-goes_on g c clean =
+returns-clause-goes_on g c =
     let s0 = state g.S.Store c.args.tx.now.conn.now in
     let s1 = state g.S.Store c.has_collection.new.tx.conn.now in
     let s2 = state g.S.Store c.class_of.new.tx.conn.now in
     let s3 = state g.S.Store c.denial.new.tx.conn.now in
-    let p = goes_twice s0 s1 s2 c.class_of.ensures.stays c.in_ok-has_collection.ensures.goes_on c.in_ok-class_of.ensures.goes_on (clean_before s2 s3 c.denial.ensures.stays clean) in
-    ok_then c.denial.result (goes_then s0 s2 s3 p) (c.denial.ensures.goes_on clean)
+    on_after s0 s2 s3 c.denial.ensures.stays c.denial.result (goes_then s0 s2 s3) (goes_twice s0 s1 s2 c.class_of.ensures.stays c.in_ok-has_collection.ensures.goes_on c.in_ok-class_of.ensures.goes_on) c.denial.ensures.goes_on

@@ -9,7 +9,7 @@ use Rattle.office_rows.specs.Rows.{with_gone}
 use Rattle.office_tables.specs.Tables.{Becomes, tables_of}
 use Rattle.office_keeping.proofs.GoneTold.{destroyed}
 use Rattle.sql_meaning.proofs.Results.{ok_then}
-use Rattle.office_asking.proofs.InTurn.{clean_before}
+use Rattle.office_asking.proofs.InTurn.{clean_before, on_after}
 use Rattle.office_keeping.proofs.disposing.destroy.Goals as goal
 
 pub returns-clause-stays : goal.returns-clause-stays
@@ -29,8 +29,8 @@ returns-clause-destroyed g c clean h legal pictured kept =
     ok_then c.drop_files.result (destroyed h a.day a.number kept old.now mid.now new.now pictured marked) (c.drop_files.ensures.becomes clean marked.office)
 
 pub returns-clause-goes_on : goal.returns-clause-goes_on
-returns-clause-goes_on g c clean =
+returns-clause-goes_on g c =
     let s0 = state g.S.Store c.args.tx.now.conn.now in
     let s1 = state g.S.Store c.mark_gone.new.tx.conn.now in
     let s2 = state g.S.Store c.drop_files.new.tx.conn.now in
-    ok_then c.drop_files.result (goes_then s0 s1 s2 (c.in_ok-mark_gone.ensures.goes_on (clean_before s1 s2 c.drop_files.ensures.stays clean))) (c.drop_files.ensures.goes_on clean)
+    on_after s0 s1 s2 c.drop_files.ensures.stays c.drop_files.result (goes_then s0 s1 s2) c.in_ok-mark_gone.ensures.goes_on c.drop_files.ensures.goes_on

@@ -1,10 +1,10 @@
 use Rattle.std.proofs.Common.{◌∙◌}
 use Rattle.sqlite.specs.State.{HasCleanDisk}
 use Rattle.sqlite.specs.Held.{state}
-use Rattle.sql_meaning.proofs.Results.{if_ok, ok_then}
+use Rattle.sql_meaning.proofs.Results.{if_ok}
 use Rattle.office_asking.proofs.Readings.{in_picture, pictured_still}
 use Rattle.sql_meaning.proofs.Inside.{stays_then}
-use Rattle.office_asking.proofs.InTurn.{clean_before, goes_twice}
+use Rattle.office_asking.proofs.InTurn.{clean_before, goes_twice, on_after}
 use Rattle.office_serving.proofs.InTurn.{goes_still, stays_thrice}
 use Rattle.office_serving.proofs.due_lists.due_numbers.Goals as goal
 
@@ -28,10 +28,9 @@ pub returns-clause-stays : goal.returns-clause-stays
 returns-clause-stays g c = stays_thrice (state g.S.Store c.args.tx.now.conn.now) (state g.S.Store c.read.new.tx.conn.now) (state g.S.Store c.deposit_rows.new.tx.conn.now) (state g.S.Store c.due_among.new.tx.conn.now) c.read.ensures.stays c.in_ok-asker.ensures.goes_on c.deposit_rows.ensures.stays c.in_ok-rows.ensures.goes_on c.due_among.ensures.stays
 
 pub returns-clause-goes_on : goal.returns-clause-goes_on
-returns-clause-goes_on g c clean =
+returns-clause-goes_on g c =
     let s0 = state g.S.Store c.args.tx.now.conn.now in
     let s1 = state g.S.Store c.read.new.tx.conn.now in
     let s2 = state g.S.Store c.deposit_rows.new.tx.conn.now in
     let s3 = state g.S.Store c.due_among.new.tx.conn.now in
-    let p = goes_twice s0 s1 s2 c.deposit_rows.ensures.stays c.in_ok-asker.ensures.goes_on c.in_ok-rows.ensures.goes_on (clean_before s2 s3 c.due_among.ensures.stays clean) in
-    ok_then c.due_among.result (goes_still s0 s2 s3 p) (c.due_among.ensures.goes_on clean)
+    on_after s0 s2 s3 c.due_among.ensures.stays c.due_among.result (goes_still s0 s2 s3) (goes_twice s0 s1 s2 c.deposit_rows.ensures.stays c.in_ok-asker.ensures.goes_on c.in_ok-rows.ensures.goes_on) c.due_among.ensures.goes_on

@@ -2,11 +2,11 @@ use Rattle.std.proofs.Common.{ap, ◌∙◌}
 use Rattle.std.specs.List.{filter_map}
 use Rattle.sqlite.specs.State.{HasCleanDisk}
 use Rattle.sqlite.specs.Held.{state}
-use Rattle.sql_meaning.proofs.Results.{if_ok, ok_then}
+use Rattle.sql_meaning.proofs.Results.{if_ok}
 use Rattle.office_history.specs.Answers.{told_hold}
 use Rattle.office_asking.proofs.HoldTold.{live_read}
 use Rattle.office_asking.proofs.Readings.{pictured_still}
-use Rattle.office_asking.proofs.InTurn.{clean_before}
+use Rattle.office_asking.proofs.InTurn.{clean_before, on_after}
 use Rattle.sql_meaning.proofs.Inside.{stays_then}
 use Rattle.office_serving.proofs.InTurn.{goes_still}
 use Rattle.office_serving.proofs.hold_lists.told_holds.Goals as goal
@@ -30,9 +30,8 @@ pub returns-clause-stays : goal.returns-clause-stays
 returns-clause-stays g c = stays_then (state g.S.Store c.args.tx.now.conn.now) (state g.S.Store c.live_holds.new.tx.conn.now) (state g.S.Store c.told_each.new.tx.conn.now) c.live_holds.ensures.stays c.in_ok-numbers.ensures.goes_on c.told_each.ensures.stays
 
 pub returns-clause-goes_on : goal.returns-clause-goes_on
-returns-clause-goes_on g c clean =
+returns-clause-goes_on g c =
     let s0 = state g.S.Store c.args.tx.now.conn.now in
     let s1 = state g.S.Store c.live_holds.new.tx.conn.now in
     let s2 = state g.S.Store c.told_each.new.tx.conn.now in
-    let p = c.in_ok-numbers.ensures.goes_on (clean_before s1 s2 c.told_each.ensures.stays clean) in
-    ok_then c.told_each.result (goes_still s0 s1 s2 p) (c.told_each.ensures.goes_on clean)
+    on_after s0 s1 s2 c.told_each.ensures.stays c.told_each.result (goes_still s0 s1 s2) c.in_ok-numbers.ensures.goes_on c.told_each.ensures.goes_on
