@@ -1,4 +1,4 @@
--- The verdict on a bag by computing, one number of the faults after the other: what the code is proved to
+-- A bag judged by computing, one number of the faults after the other: what the code is proved to
 -- answer.
 use Rattle.std.specs.Prelude.{ℕ, Bool, true, false, not, List, [], ◌∷◌, length, map, filter, find, Option, Some, None, is_some, option_map, Result, Ok, Err, ◌==◌, ◌||◌, nat_lt, if◌then◌else◌}
 use Rattle.std.specs.List.{list_any}
@@ -201,7 +201,7 @@ info_kept bag (Some text) = or_info (info_of text) >>= λ pairs. oxums_kept bag 
 abbrev pub keeps_info : List File → Result (Unit {0}) Fault
 keeps_info bag = info_kept bag (content_at bag info_path)
 
--- ---- the verdict
+-- ---- judging a bag
 
 -- the last steps: `bag-info.txt`, then the checksums
 abbrev pub keeps_contents : List File → List Listed → Result (Unit {0}) Fault

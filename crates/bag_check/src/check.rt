@@ -1,4 +1,4 @@
-//! The verdict on a bag.
+//! A bag is judged.
 
 ghost use Rattle.std.specs.Prelude.{◌≡◌, ◌⊎◌, IfOk, IfErr, IsErrAnd, MatchResult, Some, map};
 ghost use Rattle.std.specs.List.{list_any};

@@ -19,7 +19,7 @@ pub record IsItemOf (day : Date) (heard : HeardValue) (item : Item) : Type 0 whe
   pub caller : item.1.now ≡ heard.caller
   pub asked : asked_of item.2 ≡ heard.asked
 
--- the office serves what was heard, with this answer, which leaves the tables as they were unless it tells of a change, is the verdict on
+-- the office serves what was heard, with this answer, which leaves the tables as they were unless it tells of a change, is the report on
 -- what stood there where an audit is asked, and is a failure over a store that a fault has shut; what a crash may leave then is the office
 -- before or after it, and after an answer that accepts a change the latter alone
 pub record IsServed (day : Date) (heard : HeardValue) (old new : State) (answer : Answer) : Type 0 where

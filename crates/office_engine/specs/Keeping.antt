@@ -81,7 +81,7 @@ is_accepted (answers.HoldReleased k day) = true
 is_accepted (answers.Destroyed n day) = true
 is_accepted _ = false
 
--- whatever the tables of an office held, the answer to an audit is the verdict on the files that stood there
+-- whatever the tables of an office held, the answer to an audit is the report on the files that stood there
 abbrev pub Audits : State → Request → Answer → Type 0
 Audits old request given = (number : ℕ) → request ≡ Audit number → IsOffice old.now → IsAuditOf (tables_of old.now) number given
 

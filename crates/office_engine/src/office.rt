@@ -156,7 +156,7 @@ impl<S: Alter> Office<S> {
             → Serves (state S.Store self.old) (state S.Store self.new) (day, caller.entry, request.now) result }
         ensures kept { HasCleanDisk (state S.Store self.new) → is_accepted result ≡ false
             → IsUnchanged (state S.Store self.old) (state S.Store self.new) }
-        // Whatever the tables of the office hold, an audit is the verdict on what stands there.
+        // Whatever the tables of the office hold, an audit is the report on what stands there.
         ensures audited { HasCleanDisk (state S.Store self.new) → Audits (state S.Store self.old) request.now result }
         // Over a store that a fault has shut, it is a failure.
         ensures shut { HasCleanDisk (state S.Store self.new) → StaysShut (state S.Store self.old) (state S.Store self.new) result }
