@@ -4,7 +4,7 @@ use Rattle.std.specs.Prelude.{IfOk, Option, Some, None, is_none}
 use Rattle.std.specs.Str.{is_utf8}
 use Rattle.std.specs.List.{flat_map, AllByRecursion}
 use Rattle.std.proofs.lemmas.Bool.Decides.{nat_tests}
-use Rattle.std.proofs.lemmas.Bool.{eqb-true, ltb-false, le-ltb}
+use Rattle.std.proofs.lemmas.Bool.{not-false, eqb-true, ltb-false, le-ltb}
 use Rattle.std.proofs.lemmas.List.{append-nil, take_at, drop_at, take-append-drop, length-append, length-take, length-drop, drop_more}
 use Rattle.bag_text.specs.declared.header.Flaw.{Flaw}
 use Rattle.bag_text.specs.declared.header.Flaw.TheVariants.{Short, Bad}
@@ -28,10 +28,6 @@ right x = Ok x
 right_is : {A : Type 0} (x y : A) → right x ≡ right y → x ≡ y
 right_is x y e = cc
 
-was_not : (b : Bool) → not b ≡ false → b ≡ true
-was_not true e = refl
-was_not false e = absurd cc
-
 -- a file with its bytes in place
 pub record Stands (before rest : List ℕ) (head : Head) (f : File) (behind : List ℕ) : Type 0 where
   pub bytes : rest ≡ f.path ++ (f.content ++ 10 ∷ behind)
@@ -52,7 +48,7 @@ file_ok offset before head x e =
     let g3 = guard (not (is_good path)) (BadPath offset) (cond (not (comes_before before path)) (Err (OutOfOrder offset)) (Ok made)) x g2.1 in
     let g4 = guard (not (comes_before before path)) (OutOfOrder offset) (Ok made) x g3.1 in
     let long : head.path_len + head.content_len + 1 ≤ length head.rest = ltb-false _ _ g1.0 in
-    let lf : get_or behind 0 0 ≡ 10 = eqb-true _ _ (was_not _ g2.0) in
+    let lf : get_or behind 0 0 ≡ 10 = eqb-true _ _ (not-false _ g2.0) in
     let some : 0 < length behind = omega (arith, length-drop head.content_len (drop head.path_len head.rest), length-drop head.path_len head.rest) in
     let last : behind ≡ 10 ∷ drop 1 behind = drop_more behind 0 0 some ∙ ap (λ (b : ℕ). b ∷ drop 1 behind) lf in
     let two : drop head.path_len head.rest ≡ content ++ 10 ∷ drop 1 behind = sym (take-append-drop head.content_len (drop head.path_len head.rest)) ∙ ap (λ (t : List ℕ). content ++ t) last in
@@ -61,8 +57,8 @@ file_ok offset before head x e =
       bytes = whole;
       path_len = omega (arith, length-take head.path_len head.rest);
       content_len = omega (arith, length-take head.content_len (drop head.path_len head.rest), length-drop head.path_len head.rest);
-      good = was_not _ g3.0;
-      after = was_not _ g4.0;
+      good = not-false _ g3.0;
+      after = not-false _ g4.0;
     })
 
 pub file_again : (offset : ℕ) (before : List ℕ) (f : File) (behind : List ℕ) → is_good f.path ≡ true → comes_before before f.path ≡ true

@@ -4,7 +4,7 @@ use Rattle.std.specs.Prelude.{Option, Some, None, Result, Ok, Err, ◌≢◌, op
 use Rattle.std.specs.List.{list_any, list_all, position_or_len}
 use Rattle.std.specs.Result.{result_ok}
 use Rattle.std.proofs.lemmas.Bool.{eqb-true, or_cases, or_parts, and_parts, or_from}
-use Rattle.std.proofs.lemmas.List.{take-append-drop, drop_at}
+use Rattle.std.proofs.lemmas.List.{take-append-drop, take_at, drop_at}
 use Rattle.std.proofs.lemmas.Option.{same_Some}
 use Rattle.std.proofs.Math.Seq.{drop-nil}
 use Rattle.hex.specs.Hex.{decode_sized, decode_pairs, hex_digit_value, digit_or_error, ◌>>=◌}
@@ -73,11 +73,6 @@ digits_end (d ∷ digits) b t none blank =
     rw (parts.0, digits_end digits b t parts.1 blank) (one_plus (length digits))
 
 -- the front of a text in two parts
-take_front : (xs ys : List ℕ) → take (length xs) (xs ++ ys) ≡ xs
-take_front [] [] = refl
-take_front [] (y ∷ ys) = refl
-take_front (x ∷ xs) ys = ap (λ (r : List ℕ). x ∷ r) (take_front xs ys)
-
 -- blanks at the front are skipped
 skipped : (blanks spelled : List ℕ) → list_all is_blank blanks ≡ true → skip_blanks (blanks ++ spelled) ≡ skip_blanks spelled
 skipped [] spelled e = refl
@@ -156,7 +151,7 @@ entry_parts v a line path checksum e = e.is ∙ append_assoc e.digits e.blanks e
 -- what stands before the first blank are an entry's digits
 pub entry_digits : (v : Version) (a : Algorithm) (line path checksum : List ℕ) (e : IsEntry v a line path checksum) → sum_text line ≡ e.digits
 entry_digits v a line path checksum e =
-    ap sum_text (entry_parts v a line path checksum e) ∙ ap (λ (n : ℕ). take n (e.digits ++ (e.blanks ++ e.spelled))) (entry_front v a line path checksum e) ∙ take_front e.digits (e.blanks ++ e.spelled)
+    ap sum_text (entry_parts v a line path checksum e) ∙ ap (λ (n : ℕ). take n (e.digits ++ (e.blanks ++ e.spelled))) (entry_front v a line path checksum e) ∙ take_at e.digits (e.blanks ++ e.spelled) (length e.digits) refl
 
 -- what stands behind the blanks spells an entry's path
 pub entry_spelled : (v : Version) (a : Algorithm) (line path checksum : List ℕ) (e : IsEntry v a line path checksum) → path_text line ≡ e.spelled

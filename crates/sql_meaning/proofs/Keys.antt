@@ -1,8 +1,9 @@
 -- Tests by a key, and that a key finds at most one row.
-use Rattle.std.proofs.Common.{◌≡◌, ◌&&◌, ◌⊎◌, not, ℕ, ℤ, List, [], ◌∷◌, map, filter, find, slice_get, option_map, bytes_eq, Bool, true, false, Some, Ordering, Equal, Less, Greater, IsTrue, subst₂, refl, sym, ap, subst, ◌∙◌, inl, inr}
+use Rattle.std.proofs.Common.{◌≡◌, ◌&&◌, ◌⊎◌, not, ℕ, ℤ, List, [], ◌∷◌, map, filter, find, slice_get, option_map, bytes_eq, Bool, true, false, Some, Ordering, Equal, Less, Greater, subst₂, refl, sym, ap, subst, ◌∙◌, inl, inr}
 use Rattle.std.specs.Ordering.{is_eq, is_ne, ordering_reverse, int_cmp}
 use Rattle.std.specs.List.{AllByRecursion, list_any}
 use Rattle.std.proofs.lemmas.Bool.{cases_Bool, not-true}
+use Rattle.std.proofs.Math.Bool.{and-true}
 use Rattle.std.proofs.lemmas.Cmp.{tied_itself}
 use Rattle.std.proofs.lemmas.Map.Text.{is_eq-slice_cmp}
 use Rattle.sqlite.specs.declared.types.Value.{Value}
@@ -23,16 +24,9 @@ use Rattle.sqlite_rules.proofs.TableLemmas.{int_is}
 use Rattle.sqlite_trees.specs.View.{is_int, IsShaped}
 use Rattle.sqlite_trees.specs.declared.store.Shape.TheVariants as shape
 
-pub true_is : (b : Bool) → IsTrue b → b ≡ true
-true_is b h = h
-
-pub trailing : (b : Bool) → (b && true) ≡ b
-trailing true = refl
-trailing false = refl
-
 -- a row that a rule of its own key passes clashes with no other
 pub unclashed : (b : Bool) → (not b && true) ≡ true → b ≡ false
-unclashed b h = not-true b (sym (trailing (not b)) ∙ h)
+unclashed b h = not-true b (sym (and-true (not b)) ∙ h)
 
 truth_back : (b : Bool) → is_true (from_truth (Some b)) ≡ b
 truth_back true = refl
@@ -99,10 +93,7 @@ pub same_key : (o : Order) (places : List ℕ) (rows : List Row) → IsShaped sh
 same_key o places rows shaped x y hx hy apart agrees =
     let differs_not : (agree o places x places y && differ (rowid x) (rowid y)) ≡ false = none_of (λ other. agree o places other places y && differ (rowid other) (rowid y)) rows x apart hx in
     let same : differ (rowid x) (rowid y) ≡ false = rw agrees at differs_not in
-    tied_same rows x y shaped.0 hx hy (tied (rowid x) (rowid y) (is_whole (rowid x) (all_has _ rows x shaped.1 hx)) (is_whole (rowid y) (all_has _ rows y shaped.1 hy)) same)
-  where
-    is_whole : (v : Value) → IsTrue (is_int v) → is_int v ≡ true
-    is_whole v h = true_is (is_int v) h
+    tied_same rows x y shaped.0 hx hy (tied (rowid x) (rowid y) (all_has _ rows x shaped.1 hx) (all_has _ rows y shaped.1 hy) same)
 
 pub found_by : {X Y : Type 0} (q : Y → Bool) (p : X → Bool) (f : X → Y) (xs : List X) → AllByRecursion (λ x. q (f x) ≡ p x) xs → find q (map f xs) ≡ option_map f (slice_get (filter p xs) 0)
 found_by q p f [] same = refl

@@ -2,6 +2,7 @@
 use Rattle.std.proofs.Common.{◌≡◌, ◌⊎◌, ℤ, List, [], ◌∷◌, filter, Bool, true, false, Equal, IsTrue, sym, ap, subst₂, ◌∙◌}
 use Rattle.std.specs.List.{AllByRecursion}
 use Rattle.std.specs.Ordering.{int_eq, int_cmp, ordering_reverse}
+use Rattle.std.proofs.Math.Bool.{and-true}
 use Rattle.std.proofs.lemmas.Cmp.{int_cmp_total}
 use Rattle.sqlite.specs.declared.types.Value.TheVariants.{Int}
 use Rattle.sqlite.specs.Order.{Row, value_cmp}
@@ -22,7 +23,7 @@ use Rattle.sqlite_trees.specs.declared.store.Shape.TheVariants as shape
 use Rattle.sql_meaning.specs.Columns.{int_at}
 use Rattle.sql_meaning.proofs.Edits.{equal_is}
 use Rattle.sql_meaning.proofs.Scanning.{passes}
-use Rattle.sql_meaning.proofs.Keys.{trailing, same_int, lone}
+use Rattle.sql_meaning.proofs.Keys.{same_int, lone}
 
 abbrev pub has_number : ℤ → Row → Bool
 has_number n r = int_eq (int_at r 0) n
@@ -36,7 +37,7 @@ abbrev pub rising : List (Term × Key)
 rising = (col 1 0, record { collation = Binary; descending = false }) ∷ []
 
 passes_number : (n : ℤ) (more r : Row) → IsTrue (is_int (rowid r)) → passes (Int n ∷ more) by_number r ≡ has_number n r
-passes_number n more r whole = trailing _ ∙ ap (λ v. is_true (binary (Compare Eq Binary) v (Int n))) (int_is (rowid r) whole) ∙ same_int (int_at r 0) n
+passes_number n more r whole = and-true _ ∙ ap (λ v. is_true (binary (Compare Eq Binary) v (Int n))) (int_is (rowid r) whole) ∙ same_int (int_at r 0) n
 
 pub each_numbered : (n : ℤ) (more : Row) (rows : List Row) → IsShaped shape.Table rows → AllByRecursion (λ r. passes (Int n ∷ more) by_number r ≡ has_number n r) rows
 each_numbered n more rows shaped = all_from _ rows (λ r there. passes_number n more r (all_has _ rows r shaped.1 there))

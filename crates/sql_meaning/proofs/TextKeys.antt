@@ -1,6 +1,7 @@
 -- A text column that is a key: the test by it, and that it names at most one row.
 use Rattle.std.proofs.Common.{◌≡◌, ◌&&◌, ◌||◌, ap₂, ◌⊎◌, not, ℕ, List, [], ◌∷◌, filter, bytes_eq, Bool, true, refl, ap, ◌∙◌}
 use Rattle.std.specs.List.{AllByRecursion, list_any}
+use Rattle.std.proofs.Math.Bool.{and-true}
 use Rattle.sqlite.specs.declared.types.Value.TheVariants.{Text}
 use Rattle.sqlite.specs.Order.{Row, column}
 use Rattle.sqlite.specs.Term.{Term, col, op2}
@@ -17,7 +18,7 @@ use Rattle.sqlite_trees.specs.View.{IsShaped}
 use Rattle.sqlite_trees.specs.declared.store.Shape.TheVariants as shape
 use Rattle.sql_meaning.specs.Columns.{bytes_at}
 use Rattle.sql_meaning.proofs.Scanning.{passes}
-use Rattle.sql_meaning.proofs.Keys.{trailing, unclashed, same_text, same_key, lone}
+use Rattle.sql_meaning.proofs.Keys.{unclashed, same_text, same_key, lone}
 
 abbrev pub has_text : ℕ → List ℕ → Row → Bool
 has_text place name r = bytes_eq (bytes_at r place) name
@@ -30,7 +31,7 @@ abbrev pub by_text : ℕ → List Term
 by_text place = op2 (Compare Eq Binary) (col 1 place) (col 0 0) ∷ []
 
 passes_text : (place : ℕ) (name : List ℕ) (more r : Row) → IsText place r → passes (Text name ∷ more) (by_text place) r ≡ has_text place name r
-passes_text place name more r is = trailing _ ∙ ap (λ v. is_true (binary (Compare Eq Binary) v (Text name))) is ∙ same_text (bytes_at r place) name
+passes_text place name more r is = and-true _ ∙ ap (λ v. is_true (binary (Compare Eq Binary) v (Text name))) is ∙ same_text (bytes_at r place) name
 
 pub each_passes : (place : ℕ) (name : List ℕ) (more : Row) (rows : List Row) → AllByRecursion (IsText place) rows → AllByRecursion (λ r. passes (Text name ∷ more) (by_text place) r ≡ has_text place name r) rows
 each_passes place name more rows typed = all_from _ rows (λ r there. passes_text place name more r (all_has (IsText place) rows r typed there))
@@ -59,7 +60,7 @@ few_named place rows shaped typed unique name = lone (has_text place name) rows 
 -- a row is the parent of one that names it
 parent_is : (place at : ℕ) (name : List ℕ) (row parent : Row) → IsText place parent → column row at ≡ Text name → agree plain (place ∷ []) parent (at ∷ []) row ≡ has_text place name parent
 unfolding first_key
-parent_is place at name row parent is names = trailing _ ∙ ap₂ (λ a b. is_true (binary (Compare Eq Binary) a b)) is names ∙ same_text (bytes_at parent place) name
+parent_is place at name row parent is names = and-true _ ∙ ap₂ (λ a b. is_true (binary (Compare Eq Binary) a b)) is names ∙ same_text (bytes_at parent place) name
 
 pub any_parent : (place at : ℕ) (name : List ℕ) (row : Row) (parents : List Row) → AllByRecursion (IsText place) parents → column row at ≡ Text name
     → list_any (λ parent. agree plain (place ∷ []) parent (at ∷ []) row) parents ≡ list_any (has_text place name) parents
