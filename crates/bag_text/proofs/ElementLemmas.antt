@@ -1,5 +1,5 @@
 -- The elements of a list, and of one that is mapped or filtered.
-use Rattle.std.proofs.Common.{◌≡◌, ◌⊎◌, inl, inr, Bool, true, false, cond, ◌||◌, List, [], ◌∷◌, zero, suc, map, filter, refl, sym, ap, ◌∙◌, arith}
+use Rattle.std.proofs.Common.{◌≡◌, ◌⊎◌, inl, inr, ℕ, Bool, true, false, cond, ◌||◌, List, [], ◌∷◌, ◌++◌, length, zero, suc, map, filter, slice_get, Some, refl, sym, ap, ◌∙◌, arith}
 use Rattle.std.specs.Prelude.{Contains}
 use Rattle.std.specs.List.{list_any}
 use Rattle.std.proofs.lemmas.Bool.{false≢true}
@@ -74,3 +74,16 @@ filter_has {A} p (y ∷ ys) x h = by_test (p y) refl h (λ h. filter_has p ys x 
     by_test true t (inl is) again = (inl is, ap p (sym is) ∙ t)
     by_test true t (inr h) again = let more = again h in (inr more.0, more.1)
     by_test false t h again = let more = again h in (inr more.0, more.1)
+
+-- ---- by their places
+
+-- an element of the front is one of the whole
+pub slice_get-append : {A : Type 0} (xs ys : List A) (i : ℕ) (x : A) → slice_get xs i ≡ Some x → slice_get (xs ++ ys) i ≡ Some x
+slice_get-append [] ys i x e = absurd cc
+slice_get-append (y ∷ xs) ys zero x e = e
+slice_get-append (y ∷ xs) ys (suc i) x e = slice_get-append xs ys i x e
+
+-- the element behind the front
+pub slice_get_last : {A : Type 0} (xs : List A) (x : A) (ys : List A) → slice_get (xs ++ x ∷ ys) (length xs) ≡ Some x
+slice_get_last [] x ys = refl
+slice_get_last (y ∷ xs) x ys = slice_get_last xs x ys

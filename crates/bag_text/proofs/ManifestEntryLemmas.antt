@@ -17,7 +17,7 @@ use Rattle.std.proofs.lemmas.List.{length_push}
 use Rattle.bag_text.specs.Paths.{comes_before}
 use Rattle.bag_text.specs.Manifest.{AscendingPaths}
 use Rattle.bag_text.specs.ManifestReading.{Entry, Entries, is_listed}
-use Rattle.bag_text.proofs.ElementLemmas.{Has}
+use Rattle.bag_text.proofs.ElementLemmas.{Has, slice_get-append, slice_get_last}
 use Rattle.bag_text.proofs.OrderLemmas.{less}
 
 -- ---- places in a list of lines
@@ -25,17 +25,6 @@ use Rattle.bag_text.proofs.OrderLemmas.{less}
 -- the line of this number, from 1
 abbrev pub At : List (List ℕ) → ℕ → List ℕ → Type 0
 At ls n line = (1 ≤ n) × (slice_get ls (n - 1) ≡ Some line)
-
--- an element of the front is one of the whole
-get_front : (xs ys : List (List ℕ)) (k : ℕ) (x : List ℕ) → slice_get xs k ≡ Some x → slice_get (xs ++ ys) k ≡ Some x
-get_front [] ys k x e = absurd cc
-get_front (y ∷ xs) ys zero x e = e
-get_front (y ∷ xs) ys (suc k) x e = get_front xs ys k x e
-
--- the element behind the front
-get_last : (xs : List (List ℕ)) (x : List ℕ) (ys : List (List ℕ)) → slice_get (xs ++ x ∷ ys) (length xs) ≡ Some x
-get_last [] x ys = refl
-get_last (y ∷ xs) x ys = get_last xs x ys
 
 -- an element within the front is one of it
 get_back : (xs ys : List (List ℕ)) (k : ℕ) (x : List ℕ) → k < length xs → slice_get (xs ++ ys) k ≡ Some x → slice_get xs k ≡ Some x
@@ -45,7 +34,7 @@ get_back (y ∷ xs) ys (suc k) x lt e = get_back xs ys k x (omega arith) e
 
 -- a line of the front is one of the whole
 pub at_front : (xs ys : List (List ℕ)) (n : ℕ) (line : List ℕ) → At xs n line → At (xs ++ ys) n line
-at_front xs ys n line at = (at.0, get_front xs ys (n - 1) line at.1)
+at_front xs ys n line at = (at.0, slice_get-append xs ys (n - 1) line at.1)
 
 -- a line's number is within the list
 pub at_within : (xs : List (List ℕ)) (n : ℕ) (line : List ℕ) → At xs n line → n < length xs + 1
@@ -61,7 +50,7 @@ at_same xs n one two a b = same_Some one two (sym a.1 ∙ b.1)
 
 -- the line behind the front
 pub at_last : (xs : List (List ℕ)) (line : List ℕ) (ys : List (List ℕ)) → At (xs ++ line ∷ ys) (length xs + 1) line
-at_last xs line ys = let n : length xs + 1 - 1 ≡ length xs = omega arith in (omega arith, rw n (get_last xs line ys))
+at_last xs line ys = let n : length xs + 1 - 1 ≡ length xs = omega arith in (omega arith, rw n (slice_get_last xs line ys))
 
 -- a line of a list with one more is of the list, or that one
 pub at_push : (xs : List (List ℕ)) (last : List ℕ) (n : ℕ) (line : List ℕ) → At (xs ++ last ∷ []) n line → At xs n line ⊎ ((n ≡ length xs + 1) × (last ≡ line))

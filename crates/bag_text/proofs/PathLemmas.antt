@@ -10,6 +10,7 @@ use Rattle.std.proofs.lemmas.Str.{is_utf8-from_IsUtf8}
 use Rattle.bag_text.specs.Paths.{GoodPath, is_good, path_fault, path_has, segments, is_dots_of, max_path}
 use Rattle.bag_text.specs.declared.path.PathFault.{PathFault}
 use Rattle.bag_text.specs.declared.path.PathFault.TheVariants.{Empty, TooLong, EmptySegment, DotSegment, Nul}
+use Rattle.bag_text.proofs.ResultLemmas.{is_nothing}
 
 -- where no element passes, each one fails
 pub none_such : {X : Type 0} (p : X → Bool) (xs : List X) (x : X) → list_any p xs ≡ false → Contains xs x → p x ≡ false
@@ -87,12 +88,8 @@ no_fault path good =
       no_nul = none_any (λ b. eqb b 0) path (λ b in_path. false_from_ne_true (eqb b 0) (λ e. let zero_is : b ≡ 0 = grind (arith, nat_tests, e) in good.no_nul (subst (Contains path) zero_is in_path)));
     })
 
-is_none_so : (o : Option PathFault) → is_none o ≡ true → o ≡ None
-is_none_so None e = refl
-is_none_so (Some f) e = absurd cc
-
 pub good_read : (path : List ℕ) → is_good path ≡ true → GoodPath path
-good_read path e = let both = and_parts (is_utf8 path) (is_none (path_fault path)) e in without_fault path both.0 (is_none_so (path_fault path) both.1)
+good_read path e = let both = and_parts (is_utf8 path) (is_none (path_fault path)) e in without_fault path both.0 (is_nothing (path_fault path) both.1)
 
 pub good_again : (path : List ℕ) → GoodPath path → is_good path ≡ true
 good_again path good = and_from (is_utf8 path) (is_none (path_fault path)) good.utf8 (ap is_none (no_fault path good))

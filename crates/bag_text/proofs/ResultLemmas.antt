@@ -1,5 +1,5 @@
 -- Steps that may fail, one after the other, and what is answered of them.
-use Rattle.std.proofs.Common.{◌≡◌, ◌⊎◌, inl, inr, refl}
+use Rattle.std.proofs.Common.{◌≡◌, ◌⊎◌, inl, inr, true, is_none, refl}
 use Rattle.std.specs.Prelude.{Option, Some, None, Result, Ok, Err}
 use Rattle.bag_text.specs.Answers.{◌>>=◌, FailsAs}
 
@@ -32,3 +32,8 @@ never_both x y (Err z) e f = absurd cc
 pub fails_on : {A B F : Type 0} (named : Option F) (step : Result A F) (total : Result B F) → ((f : F) → step ≡ Err f → total ≡ Err f) → FailsAs named step → FailsAs named total
 fails_on None step total on e = tt
 fails_on (Some f) step total on e = on f e
+
+-- what is none
+pub is_nothing : {A : Type 0} (o : Option A) → is_none o ≡ true → o ≡ None
+is_nothing None e = refl
+is_nothing (Some x) e = absurd cc

@@ -84,37 +84,13 @@ content_kept h text found =
 
 -- ---- audits
 
--- a bag that was read is reported on as valid
-abbrev IsReported : Date × Deposit → Type 0
-IsReported found = (report : Report) × (report_on found.1.bag ≡ Ok report)
-
-read_is_reported : (text : List ℕ) (bag : List File) → bag_of text ≡ Ok bag → (report : Report) × (report_on bag ≡ Ok report)
-read_is_reported text bag e = by_set (set_of text) e
+-- an audit that is answered is of the deposit that was asked for, and reports on its bag
+pub audited : (h : History) (day : Date) (caller : List ℕ) (n m : ℕ) (report : AuditReport) → answer h day caller (Audit n) ≡ answers.Audit m report
+    → (m ≡ n) × ((found : Date × Deposit) × (deposit_numbered h n ≡ Some found) × (report ≡ audit_report (report_on found.1.bag)))
+audited h day caller n m report e =
+    by (deposit_numbered h n) refl (unrefused (refusal h day caller (Audit n)) (allowed_answer h day caller (Audit n)) (answers.Audit m report) e (λ r. λ wrong. absurd cc)).1
   where
-    by_report : (files : List File) (r : Result Report (List ℕ)) → report_on files ≡ r → if_valid files r ≡ Ok bag → (report : Report) × (report_on bag ≡ Ok report)
-    by_report files (Ok report) is e = let same : files ≡ bag = cc in (report, ap report_on (sym same) ∙ is)
-    by_report files (Err fault) is e = absurd cc
-
-    by_set : (r : Result (List File) SetFault) → valid_bag r ≡ Ok bag → (report : Report) × (report_on bag ≡ Ok report)
-    by_set (Ok files) e = by_report files (report_on files) refl e
-    by_set (Err fault) e = absurd cc
-
-reported_deposits : (h : History) → IsLegal h → AllByRecursion IsReported (deposits h)
-reported_deposits h legal =
-    legal_by (λ x. AllByRecursion IsReported (deposits x)) (λ a b a_in b_in. tt)
-    (λ x c was ok all. deposits_by (AllByRecursion IsReported) x c ok all
-    (λ day deposit ranged allowed. all_append IsReported (deposits x) ((day, deposit) ∷ []) all (read_is_reported allowed.form deposit.bag allowed.read, tt)))
-    h legal
-
-pub audited_valid : (h : History) → IsLegal h → (day : Date) (caller : List ℕ) (n m : ℕ) (given : AuditReport) → answer h day caller (Audit n) ≡ answers.Audit m given → (counts : BagReport) × (given ≡ Valid counts)
-audited_valid h legal day caller n m given e =
-    let r = unrefused (refusal h day caller (Audit n)) (allowed_answer h day caller (Audit n)) (answers.Audit m given) e (λ r. λ wrong. absurd cc) in
-    by (deposit_numbered h n) refl r.1
-  where
-    by : (o : Option (Date × Deposit)) → deposit_numbered h n ≡ o → told_of o (λ found. answers.Audit n (audit_report (report_on found.1.bag))) ≡ answers.Audit m given → (counts : BagReport) × (given ≡ Valid counts)
+    by : (o : Option (Date × Deposit)) → deposit_numbered h n ≡ o → told_of o (λ found. answers.Audit n (audit_report (report_on found.1.bag))) ≡ answers.Audit m report
+        → (m ≡ n) × ((found : Date × Deposit) × (deposit_numbered h n ≡ Some found) × (report ≡ audit_report (report_on found.1.bag)))
     by None is e = absurd cc
-    by (Some found) is e =
-        let reported = all_numbered IsReported (deposits h) n found (reported_deposits h legal) is in
-        let same : audit_report (report_on found.1.bag) ≡ given = cc in
-        let valid : audit_report (Ok reported.0) ≡ given = ap audit_report (sym reported.1) ∙ same in
-        (record { version = reported.0.version; files = reported.0.files; bytes = reported.0.bytes; manifests = reported.0.manifests }, sym valid)
+    by (Some found) is e = (cc, found, is, cc)

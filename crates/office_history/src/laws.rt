@@ -10,7 +10,7 @@ ghost use Rattle.bag_text.specs.TransferFaults.{FaultIs};
 ghost use Rattle.bag_text.specs.FaultTexts.{set_fault_text};
 ghost use Rattle.bag_text.specs.declared.set_fault.SetFault.{SetFault};
 ghost use Rattle.bag_text.specs.declared.declaration.Version.{Version};
-ghost use Rattle.bag_check.specs.declared.report.BagReport.{BagReport};
+ghost use Rattle.bag_check.specs.Validity.{report_of};
 ghost use Rattle.bag_check.specs.Faults.{Fault, FirstFault};
 ghost use Rattle.bag_check.specs.FaultTexts.{fault_text};
 ghost use Rattle.office_core.specs.Policies.{Contents};
@@ -22,7 +22,6 @@ ghost use Rattle.office_core.specs.declared.action.Action.TheVariants as acts;
 ghost use Rattle.office_core.specs.declared.answer.Answer.{Answer};
 ghost use Rattle.office_core.specs.declared.answer.Answer.TheVariants as answers;
 ghost use Rattle.office_core.specs.declared.answer.AuditReport.{AuditReport};
-ghost use Rattle.office_core.specs.declared.answer.AuditReport.TheVariants.{Valid};
 ghost use Rattle.office_core.specs.declared.answer.LiveHold.{LiveHold};
 ghost use Rattle.office_core.specs.declared.refusal.Refusal.{Refusal};
 ghost use Rattle.office_core.specs.declared.refusal.Refusal.TheVariants.{Held};
@@ -31,7 +30,7 @@ ghost use Rattle.office_core.specs.declared.request.Request.TheVariants.{DefineC
 ghost use Rattle.office_history.specs.Bags.{bag_of};
 ghost use Rattle.office_history.specs.Histories.{History, Change, Installed, ReleasedHold, Destroyed, Deposit, Hold, OnCollection, with_changes, has_class, has_collection, deposit_numbered, hold_numbered, release_day, covers, live_holds, due};
 ghost use Rattle.office_history.specs.Refusals.{asked_refusals, facts_of, refusal, refusal_of};
-ghost use Rattle.office_history.specs.Answers.{answer, due_list, change, after};
+ghost use Rattle.office_history.specs.Answers.{answer, audit_report, due_list, change, after};
 ghost use Rattle.office_history.specs.Pictures.{picture};
 ghost use Rattle.office_history.specs.RowRanges.{AreInRange};
 ghost use Rattle.office_history.specs.Stocks.{stock, contents, IsKept};
@@ -196,13 +195,19 @@ pub fn due_lists_are_disposals()
         ↔ (answer h day caller (Dispose n) ≡ answers.Destroyed n day) }
 {}
 
-/// In a legal history each audit that is answered says that the bag is valid.
+/// In a legal history each audit that is answered is of the deposit that was asked for, and says
+/// that its bag is valid, of its version, with the counts of what the bag has.
 pub fn audits_are_valid()
     ensures { (h : History) → IsLegal h → (day : Date) (caller : List ℕ)
         (n m : ℕ) (report : AuditReport)
         → answer h day caller (Audit n) ≡ answers.Audit m report
-        → (counts : BagReport) × (report ≡ Valid counts) }
-{}
+        → (m ≡ n) × ((found : Date × Deposit) × (deposit_numbered h n ≡ Some found)
+        × (sound : IsSound found.1.bag)
+        × (report ≡ audit_report (Ok (report_of sound.version found.1.bag)))) }
+{
+    bag_text::laws::transfer_forms();
+    bag_check::laws::judged_bags();
+}
 
 /// The contents that are kept are exactly those of the files of kept deposits, each once.
 pub fn contents_are_kept_once()

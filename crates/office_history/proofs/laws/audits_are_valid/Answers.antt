@@ -1,5 +1,17 @@
-use Rattle.office_history.proofs.KeptLemmas.{audited_valid}
+use Rattle.std.proofs.Common.{sym, ap, ◌∙◌}
+use Rattle.office_history.specs.Bags.{report_or_text}
+use Rattle.office_history.specs.Answers.{audit_report}
+use Rattle.office_history.specs.Histories.{deposits}
+use Rattle.office_history.proofs.ListLemmas.{all_numbered}
+use Rattle.office_history.proofs.LegalLemmas.{HasSoundBag, sound_deposits}
+use Rattle.office_history.proofs.KeptLemmas.{audited}
 use Rattle.office_history.proofs.laws.audits_are_valid.Goals as goal
 
 pub returns : goal.returns
-returns c = audited_valid
+returns c = λ h legal day caller n m report e.
+    let told = audited h day caller n m report e in
+    let found = told.1.0 in
+    let sound = all_numbered HasSoundBag (deposits h) n found
+        (sound_deposits (λ t files is. ((c.transfer_forms.ensures.read t files).0 is).0) (λ files report is j. let v = c.judged_bags.ensures.report files report is j in (v.0, v.1)) h legal)
+        told.1.1 in
+    (told.0, found, told.1.1, sound, told.1.2 ∙ ap (λ judged. audit_report (report_or_text judged)) (c.judged_bags.ensures.valid found.1.bag sound.version sound.bag sound.valid))
