@@ -1,6 +1,6 @@
 -- Which rule decides, and what follows from its effect.
 use Rattle.std.proofs.Common.{◌≡◌, ◌<◌, ◌<ℤ◌, ◌≤ℤ◌, ℕ, zero, suc, ◌+◌, Bool, true, false, ◌&&◌, ◌++◌, List, [], ◌∷◌, length, Option, Some, None, refl, sym, ap, ◌∙◌, inl, inr, arith, rules, slice_get, get_or, ◌≤◌, ◌↔◌, position, unwrap_or, int_lt, option_and_then, option_map, not, nat_lt, length-append}
-use Rattle.std.specs.List.{list_any, position_or_len, prefix_len, AllByRecursion}
+use Rattle.std.specs.List.{position_or_len, prefix_len, AllByRecursion}
 use Rattle.std.proofs.lemmas.Bool.{cases_Bool, false≢true, and_parts}
 use Rattle.std.proofs.lemmas.Bool.Decides.{nat_tests}
 use Rattle.std.proofs.lemmas.Int.{by_lt_z}
@@ -8,6 +8,7 @@ use Rattle.std.proofs.lemmas.Option.{none-some, same_Some, cond_some, option_and
 use Rattle.std.proofs.lemmas.List.Quantifiers.{position-Some}
 use Rattle.jiff.specs.Types.{Date}
 use Rattle.jiff.specs.Words.{epoch_day}
+use Rattle.std.proofs.lemmas.Map.Keys.{any_passes_from_place}
 use Rattle.office_core.specs.FirstOf.{first_some}
 use Rattle.office_core.specs.Rules.{Question, IsFirstMatch, NoneMatches, matches, matches_name, first_place, decision_of, decision_at, some_rule_allows, allows}
 use Rattle.office_core.specs.Verdicts.{verdict_of, is_denied, IsReadyForDisposal, hold_verdict, due_verdict}
@@ -21,22 +22,7 @@ use Rattle.office_core.specs.declared.retention.Due.TheVariants.{On, Never}
 use Rattle.office_core.specs.declared.facts.Facts.{Facts}
 use Rattle.office_core.specs.declared.facts.Verdict.TheVariants.{DeniedByRule, DeniedByDefault, Gone, NotDue, Allow}
 use Rattle.office_core.proofs.OptionLemmas.{option_map_some}
-
--- what passes at some place passes somewhere
-list_any_at : {A : Type 0} (p : A → Bool) (xs : List A) (i : ℕ) (x : A) → slice_get xs i ≡ Some x → p x ≡ true → list_any p xs ≡ true
-list_any_at p [] i x e h = cc
-list_any_at p (y ∷ ys) zero x e h = let same : y ≡ x = same_Some _ _ e in rw (same, h) refl
-list_any_at p (y ∷ ys) (suc i) x e h =
-    elim (cases_Bool (p y)) [
-      | inl hit ↦ rw hit refl
-      | inr miss ↦ rw miss (list_any_at p ys i x e h)
-    ]
-
--- an item of a list is one of a longer list
-pub slice_get-append : {A : Type 0} (xs ys : List A) (i : ℕ) (x : A) → slice_get xs i ≡ Some x → slice_get (xs ++ ys) i ≡ Some x
-slice_get-append [] ys i x e = cc
-slice_get-append (y ∷ xs) ys zero x e = e
-slice_get-append (y ∷ xs) ys (suc i) x e = slice_get-append xs ys i x e
+use Rattle.bag_text.proofs.ElementLemmas.{slice_get-append}
 
 prefix_len-append : {A : Type 0} (p : A → Bool) (xs ys : List A) → prefix_len p xs < length xs → prefix_len p (xs ++ ys) ≡ prefix_len p xs
 prefix_len-append p [] ys h = absurd (omega (arith, h))
@@ -151,7 +137,7 @@ denied_role rules asked decision none e =
     let role : matches_name rule.role asked.role ≡ true = (and_parts _ _ (and_parts _ _ (and_parts _ _ matched).0).0).0 in
     let effect : rule.effect ≡ decision.effect = ap (λ d. d.effect) same in
     allows_none rule.effect decision.effect effect
-    (λ allowed. false≢true (sym none ∙ list_any_at (λ r. allows r.effect && matches_name r.role asked.role) rules place rule found (rw (allowed, role) refl)))
+    (λ allowed. false≢true (sym none ∙ any_passes_from_place (λ r. allows r.effect && matches_name r.role asked.role) rules place rule found (rw (allowed, role) refl)))
 
 -- a denied decision is a denial
 pub denied_verdict : (facts : Facts) (day : Date) (decision : Option Decision) → facts.decision ≡ decision → ((d : Decision) → decision ≡ Some d → allows d.effect ≡ false) → is_denied (verdict_of facts day) ≡ true

@@ -1,5 +1,5 @@
 -- Two histories that agree in all that the office decides by: they grow alike, and have one picture.
-use Rattle.std.proofs.Common.{◌≡◌, ℕ, zero, suc, ℤ, Bool, true, false, List, [], ◌∷◌, ◌++◌, length, map, filter, Option, Some, None, option_map, unwrap_or, slice_get, is_none, is_some, refl, sym, ap, ◌∙◌, pos, true≢false, arith, cond}
+use Rattle.std.proofs.Common.{◌≡◌, ℕ, zero, suc, ℤ, Bool, true, false, List, [], ◌∷◌, ◌++◌, length, map, filter, Option, Some, None, option_map, unwrap_or, slice_get, is_none, is_some, refl, sym, ap, ◌∙◌, pos, arith, cond}
 use Rattle.std.specs.Prelude.{bytes_eq, sum}
 use Rattle.std.specs.List.{filter_map, flat_map, list_any, cons_option}
 use Rattle.std.specs.Option.{option_or, option_map_or}
@@ -16,6 +16,7 @@ use Rattle.office_history.specs.Histories.{History, Change, Deposit, with_change
 use Rattle.office_history.specs.Stocks.{files_of, Stock, stock}
 use Rattle.office_history.specs.Pictures.{class_in, class_row, caller_row, rule_rows, file_row, file_rows, row_by_release, deposit_row, row_of_deposit, picture}
 use Rattle.office_history.proofs.HistoryLemmas.{deposits_grown, holds_grown}
+use Rattle.bag_text.proofs.ResultLemmas.{is_nothing}
 
 -- what is known of a deposit whose bag may be gone
 pub record Outline : Type 0 where
@@ -229,14 +230,10 @@ same_row h k a n =
     ∙ (λ i. option_map (row_from n (a.same_gone n i)) (same_outline h k a n i))
     ∙ sym (row_of_outline k n (deposit_numbered k n))
 
-pub kept_is_not_gone : (o : Option Date) → is_none o ≡ true → o ≡ None
-kept_is_not_gone None e = refl
-kept_is_not_gone (Some day) e = absurd (true≢false (sym e))
-
 pub same_file_rows : (h k : History) → Alike h k → file_rows h ≡ file_rows k
 same_file_rows h k a =
     gathered_of_kept (λ n. is_none (destruction_day h n)) (λ n. map (file_row n) (files_of h n)) (λ n. map (file_row n) (files_of k n)) (numbers (length (deposits h)))
-    (λ n e. ap (map (file_row n)) (a.same_bags n (kept_is_not_gone (destruction_day h n) e)))
+    (λ n e. ap (map (file_row n)) (a.same_bags n (is_nothing (destruction_day h n) e)))
     ∙ ap (flat_map (λ n. map (file_row n) (files_of k n))) (same_kept h k a)
 
 -- histories that agree have one picture
@@ -257,7 +254,7 @@ same_picture h k a version = λ i. record {
 kept_files : (h k : History) → Alike h k → flat_map (files_of h) (kept_numbers h) ≡ flat_map (files_of k) (kept_numbers k)
 kept_files h k a =
     gathered_of_kept (λ n. is_none (destruction_day h n)) (files_of h) (files_of k) (numbers (length (deposits h)))
-    (λ n e. a.same_bags n (kept_is_not_gone (destruction_day h n) e))
+    (λ n e. a.same_bags n (is_nothing (destruction_day h n) e))
     ∙ ap (flat_map (files_of k)) (same_kept h k a)
 
 -- the stock of these files

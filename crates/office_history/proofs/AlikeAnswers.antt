@@ -29,7 +29,8 @@ use Rattle.office_history.specs.Bags.{report_on}
 use Rattle.office_core.specs.Verdicts as deciding
 use Rattle.office_history.specs.Refusals.{refusal_in, denial, denial_at, closed_ahead_refusal, bad_bag, held_refusal, not_due_refusal, full_of_holds, no_file, of_deposit, of_hold, release_denial_of, release_denial, refusal}
 use Rattle.office_history.specs.Answers.{record_of, is_asked, listed_record, listed_records, due_list, live_hold, told_holds, audit_report, told_of, file_answer, allowed_answer, allowed_change, answer_unless, answer, changes_unless, change, after}
-use Rattle.office_history.proofs.Alike.{Outline, outline, Alike, alike_grown, same_count, same_outline, same_found, same_kept, mapped_of_kept, kept_is_not_gone}
+use Rattle.office_history.proofs.Alike.{Outline, outline, Alike, alike_grown, same_count, same_outline, same_found, same_kept, mapped_of_kept}
+use Rattle.bag_text.proofs.ResultLemmas.{is_nothing}
 
 -- ---- what the rules say
 
@@ -210,7 +211,7 @@ same_listed h k a caller collection class n e = λ i.
 same_list : (h k : History) → Alike h k → (caller : List ℕ) (collection class : Option (List ℕ)) → listed_records h caller collection class ≡ listed_records k caller collection class
 same_list h k a caller collection class =
     mapped_of_kept (λ n. is_none (destruction_day h n)) (listed_record h caller collection class) (listed_record k caller collection class) (numbers (length (deposits h)))
-    (λ n e. same_listed h k a caller collection class n (kept_is_not_gone (destruction_day h n) e))
+    (λ n e. same_listed h k a caller collection class n (is_nothing (destruction_day h n) e))
     ∙ ap (filter_map (listed_record k caller collection class)) (same_kept h k a)
 
 same_due_list : (h k : History) → Alike h k → (day : Date) (caller : List ℕ) → due_list h day caller ≡ due_list k day caller

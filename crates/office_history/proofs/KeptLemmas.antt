@@ -1,36 +1,25 @@
 -- Due lists and what is kept, by what stands in the lists; audits of legal histories.
-use Rattle.std.proofs.Common.{◌≡◌, ℕ, true, List, [], ◌∷◌, length, map, Option, Some, None, Result, Ok, Err, is_none, refl, sym, ap, subst, ◌∙◌}
-use Rattle.std.specs.List.{AllByRecursion, flat_map}
+use Rattle.std.proofs.Common.{◌≡◌, ℕ, List, [], length, map, Option, Some, None, is_none, refl, sym, ap, subst}
+use Rattle.std.specs.List.{flat_map}
 use Rattle.std.specs.Prelude.{Contains}
 use Rattle.std.specs.Option.{option_map_or}
 use Rattle.jiff.specs.Types.{Date}
 use Rattle.bag_text.specs.TransferForm.{File}
-use Rattle.bag_text.specs.TransferReading.{set_of}
-use Rattle.bag_text.specs.declared.set_fault.SetFault.{SetFault}
-use Rattle.bag_check.specs.Validity.{Report}
-use Rattle.bag_check.specs.declared.report.BagReport.{BagReport}
 use Rattle.office_core.specs.declared.answer.Answer.TheVariants as answers
 use Rattle.office_core.specs.declared.answer.AuditReport.{AuditReport}
-use Rattle.office_core.specs.declared.answer.AuditReport.TheVariants.{Valid}
 use Rattle.office_core.specs.declared.refusal.Refusal.{Refusal}
 use Rattle.office_core.specs.declared.request.Request.TheVariants.{Audit, Dispose}
 use Rattle.office_history.specs.Lists.{numbers}
 use Rattle.office_history.specs.Histories.{History, Deposit, deposits, deposit_numbered, destruction_day, kept_numbers}
-use Rattle.office_history.specs.Bags.{bag_of, valid_bag, if_valid, report_on}
+use Rattle.office_history.specs.Bags.{report_on}
 use Rattle.office_history.specs.Refusals.{refusal}
 use Rattle.office_history.specs.Answers.{answer, answer_unless, allowed_answer, told_of, audit_report, due_list}
-use Rattle.office_history.specs.Runs.{IsLegal}
 use Rattle.office_history.specs.Stocks.{files_of, contents, IsKept}
-use Rattle.office_history.proofs.ListLemmas.{all_numbered}
-use Rattle.office_rows.proofs.Order.{all_append}
+use Rattle.bag_text.proofs.ResultLemmas.{is_nothing}
 use Rattle.bag_text.proofs.ElementLemmas.{Has, contains_has, has_contains, has_filter, filter_has, has_map, map_has}
 use Rattle.office_history.proofs.MemberLemmas.{numbered_has, has_gathered, gathered_has, first_places_have, has_in_places}
-use Rattle.office_history.proofs.Accepted.{legal_by, deposits_by, disposable}
+use Rattle.office_history.proofs.Accepted.{disposable}
 use Rattle.office_history.proofs.LawLemmas.{unrefused}
-
-pub is_nothing : {A : Type 0} (o : Option A) → is_none o ≡ true → o ≡ None
-is_nothing None e = refl
-is_nothing (Some x) e = absurd cc
 
 -- ---- due lists
 
@@ -93,4 +82,4 @@ audited h day caller n m report e =
     by : (o : Option (Date × Deposit)) → deposit_numbered h n ≡ o → told_of o (λ found. answers.Audit n (audit_report (report_on found.1.bag))) ≡ answers.Audit m report
         → (m ≡ n) × ((found : Date × Deposit) × (deposit_numbered h n ≡ Some found) × (report ≡ audit_report (report_on found.1.bag)))
     by None is e = absurd cc
-    by (Some found) is e = (cc, found, is, cc)
+    by (Some found) is e = (cc, (found, is, cc))

@@ -5,7 +5,7 @@ use Rattle.std.proofs.lemmas.Bool.{cases_Bool}
 use Rattle.std.proofs.lemmas.Bool.Decides.{nat_tests}
 use Rattle.std.specs.Option.{option_or}
 use Rattle.std.proofs.lemmas.Option.{same_Some}
-use Rattle.office_core.proofs.RuleLemmas.{slice_get-append}
+use Rattle.bag_text.proofs.ElementLemmas.{slice_get-append, slice_get_last}
 use Rattle.office_history.specs.Lists.{first_said, last_said, item_numbered}
 
 -- an item keeps its number in a longer list
@@ -54,13 +54,9 @@ split_two (x ∷ xs) ys (b ∷ before) c rest e =
       | inr found ↦ inr (found.0, (let k = found.1 in rw (← head, k) refl), found.2)
     ]
 
-pub slice_get_last : {A : Type 0} (xs : List A) (y : A) → slice_get (xs ++ y ∷ []) (length xs) ≡ Some y
-slice_get_last [] y = refl
-slice_get_last (x ∷ xs) y = slice_get_last xs y
-
 -- the item that was added has the next number
 pub numbered_last : {A : Type 0} (xs : List A) (y : A) → item_numbered (xs ++ y ∷ []) (length xs + 1) ≡ Some y
-numbered_last xs y = let next : length xs + 1 ≡ suc (length xs) = omega arith in rw next (slice_get_last xs y)
+numbered_last xs y = let next : length xs + 1 ≡ suc (length xs) = omega arith in rw next (slice_get_last xs y [])
 
 slice_get_cases : {A : Type 0} (xs : List A) (y : A) (i : ℕ) (x : A) → slice_get (xs ++ y ∷ []) i ≡ Some x → (slice_get xs i ≡ Some x) ⊎ ((i ≡ length xs) × (y ≡ x))
 slice_get_cases [] y zero x e = inr (refl, same_Some _ _ e)

@@ -1,5 +1,5 @@
 -- What the rows of a legal history tell of it: all that the office decides by.
-use Rattle.std.proofs.Common.{◌≡◌, ℕ, zero, suc, ◌+◌, ◌<◌, ◌≤◌, ◌||◌, ℤ, pos, negsuc, Bool, true, false, List, [], ◌∷◌, ◌++◌, length, map, filter, Option, Some, None, option_map, unwrap_or, slice_get, is_none, is_some, refl, sym, ap, subst, ◌∙◌, true≢false, arith, append-nil, cond, if◌then◌else◌}
+use Rattle.std.proofs.Common.{one-add, ◌≡◌, ℕ, zero, suc, ◌+◌, ◌<◌, ◌≤◌, ◌||◌, ℤ, pos, negsuc, Bool, true, false, List, [], ◌∷◌, ◌++◌, length, map, filter, Option, Some, None, option_map, unwrap_or, slice_get, is_none, is_some, refl, sym, ap, subst, ◌∙◌, true≢false, arith, append-nil, cond, if◌then◌else◌}
 use Rattle.std.specs.Prelude.{bytes_eq, codes, unsigned_abs}
 use Rattle.std.specs.List.{AllByRecursion, filter_map, flat_map, list_any, range_with_len, cons_option}
 use Rattle.std.specs.Option.{option_or, option_map_or}
@@ -34,6 +34,7 @@ use Rattle.office_history.specs.Stocks.{files_of}
 use Rattle.office_core.specs.Policies.{IsNamed, HasNames}
 use Rattle.office_history.specs.Runs.{IsLegal}
 use Rattle.bag_text.proofs.OrderLemmas.{other_way}
+use Rattle.office_rows.proofs.Order.{all_weaker}
 use Rattle.office_history.proofs.Alike.{outline, Alike, or_none, some_behind}
 use Rattle.office_history.proofs.AlikeAnswers.{among_first_places}
 use Rattle.office_history.proofs.LegalReadings.{legal_policy, none_gone, none_released}
@@ -80,16 +81,13 @@ row_at f (suc len) start there past j =
 -- the row of a number is what is said of the item of that number
 pub told_at : {A R : Type 0} (xs : List A) (tell : ℕ → A → R) (n : ℕ) → item_numbered (filter_map (λ m. option_map (tell m) (item_numbered xs m)) (numbers (length xs))) n ≡ option_map (tell n) (item_numbered xs n)
 told_at {A} {R} xs tell zero = refl
-told_at {A} {R} xs tell (suc j) = row_at (λ m. option_map (tell m) (item_numbered xs m)) (length xs) 1 there past j ∙ ap (λ m. option_map (tell m) (item_numbered xs m)) (one j)
+told_at {A} {R} xs tell (suc j) = row_at (λ m. option_map (tell m) (item_numbered xs m)) (length xs) 1 there past j ∙ ap (λ m. option_map (tell m) (item_numbered xs m)) (one-add j)
   where
-    one : (i : ℕ) → 1 + i ≡ suc i
-    one i = omega arith
-
     there : (i : ℕ) → i < length xs → (r : R) × (option_map (tell (1 + i)) (item_numbered xs (1 + i)) ≡ Some r)
-    there i lt = let x = there_is xs i lt in (tell (suc i) x.0, ap (λ m. option_map (tell m) (item_numbered xs m)) (one i) ∙ ap (option_map (tell (suc i))) x.1)
+    there i lt = let x = there_is xs i lt in (tell (suc i) x.0, ap (λ m. option_map (tell m) (item_numbered xs m)) (one-add i) ∙ ap (option_map (tell (suc i))) x.1)
 
     past : (i : ℕ) → length xs ≤ i → option_map (tell (1 + i)) (item_numbered xs (1 + i)) ≡ None
-    past i le = ap (λ m. option_map (tell m) (item_numbered xs m)) (one i) ∙ ap (option_map (tell (suc i))) (slice_get_past xs i le)
+    past i le = ap (λ m. option_map (tell m) (item_numbered xs m)) (one-add i) ∙ ap (option_map (tell (suc i))) (slice_get_past xs i le)
 
 -- ---- days
 
@@ -395,10 +393,6 @@ years_read h name = by (years_of h name) refl
 
 -- ---- the names of the classes
 
-all_weaker : (P Q : List ℕ → Type 0) (xs : List (List ℕ)) → ((x : List ℕ) → P x → Q x) → AllByRecursion P xs → AllByRecursion Q xs
-all_weaker P Q [] f a = tt
-all_weaker P Q (x ∷ xs) f a = (f x a.0, all_weaker P Q xs f a.1)
-
 pub all_distinct : (P : List ℕ → Type 0) (seen xs : List (List ℕ)) → AllByRecursion P xs → AllByRecursion P (distinct_after seen xs)
 all_distinct P seen [] a = tt
 all_distinct P seen (x ∷ xs) a = by (list_any (bytes_eq x) seen) (all_distinct P seen xs a.1) (all_distinct P (x ∷ seen) xs a.1)
@@ -417,7 +411,7 @@ still_some (Some x) b e = refl
 -- each class that was defined has years
 pub all_have_years : (changes : List Change) → AllByRecursion (HasYears changes) (filter_map class_in changes)
 all_have_years [] = tt
-all_have_years (c ∷ changes) = by c (all_weaker (HasYears changes) (HasYears (c ∷ changes)) (filter_map class_in changes) (λ name. still_some (last_said (years_in name) changes) (years_in name c)) (all_have_years changes))
+all_have_years (c ∷ changes) = by c (all_weaker (HasYears changes) (HasYears (c ∷ changes)) (λ name. still_some (last_said (years_in name) changes) (years_in name c)) (filter_map class_in changes) (all_have_years changes))
   where
     by : (c : Change) → AllByRecursion (HasYears (c ∷ changes)) (filter_map class_in changes) → AllByRecursion (HasYears (c ∷ changes)) (filter_map class_in (c ∷ changes))
     by (DefinedClass day name years) rest = (

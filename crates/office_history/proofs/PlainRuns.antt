@@ -1,6 +1,6 @@
 -- What the plain office does, item by item, and that it is a run.
-use Rattle.std.proofs.Common.{◌≡◌, ℕ, zero, suc, arith, append-nil, ◌≤◌, ◌+◌, ◌<◌, List, [], ◌∷◌, ◌++◌, length, drop, get_or, sym, ap, ◌∙◌, subst, refl, inl, inr, append_assoc}
-use Rattle.std.proofs.lemmas.List.{drop_more}
+use Rattle.std.proofs.Common.{◌≡◌, ℕ, append-nil, ◌≤◌, ◌+◌, ◌<◌, List, [], ◌∷◌, ◌++◌, length, drop, get_or, sym, ap, ◌∙◌, subst, refl, inl, inr, append_assoc}
+use Rattle.std.proofs.lemmas.List.{drop_all, drop_more}
 use Rattle.office_core.specs.declared.answer.Answer.{Answer}
 use Rattle.std.specs.Prelude.{Result, Ok, Err, OnOk, OnErr}
 use Rattle.office_core.specs.Policies.{Contents, IsPolicy}
@@ -28,12 +28,6 @@ run_on first h mid last items i item so_far more given within is served begun re
     let Q : List Answer → Type 0 = λ all. RunFailing IsWantOfMemory first items all last in
     subst Q (sym (append_assoc so_far (given ∷ []) more)) (begun (given ∷ more) last on)
 
-drop_past : {A : Type 0} (i : ℕ) (xs : List A) → length xs ≤ i → drop i xs ≡ []
-drop_past zero [] h = refl
-drop_past zero (x ∷ xs) h = absurd (omega arith)
-drop_past (suc i) [] h = refl
-drop_past (suc i) (x ∷ xs) h = drop_past i xs (omega arith)
-
 -- items that were served up to the end
 pub run_end : (first last : History) (items : List Item) (i : ℕ) (answers : List Answer)
     → length items ≤ i
@@ -42,7 +36,7 @@ pub run_end : (first last : History) (items : List Item) (i : ℕ) (answers : Li
 run_end first last items i answers past begun =
     let P : List Item → Type 0 = λ left. RunFailing IsWantOfMemory last left [] last in
     let Q : List Answer → Type 0 = λ all. RunFailing IsWantOfMemory first items all last in
-    subst Q (append-nil answers) (begun [] last (subst P (sym (drop_past i items past)) refl))
+    subst Q (append-nil answers) (begun [] last (subst P (sym (drop_all i items past)) refl))
 
 -- an install keeps a history legal, and so does one that failed
 pub install_legal : {E : Type 0} (h next : History) (policy : Contents) (r : Result (Unit {0}) E) → IsPolicy policy

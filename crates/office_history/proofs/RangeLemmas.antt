@@ -1,11 +1,12 @@
 -- Each legal history: its limits hold, what is named is there, and its rows are in range.
-use Rattle.std.proofs.Common.{◌≡◌, ◌≤ℤ◌, ℕ, ◌||◌, Bool, true, false, List, [], ◌∷◌, Option, Some, None, IsSome, is_some, refl, sym, ap, subst, ◌∙◌, arith, if◌then◌else◌}
+use Rattle.std.proofs.Common.{◌≡◌, ◌≤ℤ◌, ℕ, true, List, [], ◌∷◌, Option, Some, None, IsSome, is_some, refl, sym, ap, subst, ◌∙◌, arith}
 use Rattle.std.specs.Prelude.{bytes_eq}
 use Rattle.std.specs.List.{AllByRecursion, filter_map, list_any, cons_option}
 use Rattle.std.specs.Option.{option_or}
 use Rattle.std.proofs.lemmas.List.Elements.{filter_map-append}
 use Rattle.std.proofs.lemmas.List.Folds.{list_any-append}
-use Rattle.std.proofs.lemmas.Option.{same_Some}
+use Rattle.std.proofs.lemmas.Bool.{or_left}
+use Rattle.std.proofs.lemmas.Option.{same_Some, cond_some}
 use Rattle.std.proofs.lemmas.Slice.Eq.{bytes_eq-Decides}
 use Rattle.jiff.specs.Types.{Date}
 use Rattle.jiff.specs.Words.{epoch_day}
@@ -16,7 +17,7 @@ use Rattle.office_history.specs.Lists.{first_said, last_said}
 use Rattle.office_history.specs.Histories.{History, Change, Installed, DefinedClass, DefinedCollection, Deposited, PlacedHold, ReleasedHold, Destroyed, Target, OnDeposit, OnCollection, Deposit, Hold, with_changes, years_in, years_of, has_class, collection_in, has_collection, deposit_in, deposits, deposit_numbered, destroyed_in, destruction_day, hold_in, holds, released_in, release_day}
 use Rattle.office_history.specs.Acceptance.{IsChange, IsDeposit, IsHold, IsThere}
 use Rattle.office_history.specs.Runs.{IsLegal, IsWithin}
-use Rattle.office_rows.proofs.Order.{all_append}
+use Rattle.office_rows.proofs.Order.{all_append, all_weaker}
 use Rattle.office_history.proofs.HistoryLemmas.{deposit_stays}
 use Rattle.office_history.proofs.Alike.{some_behind, last_said-append}
 use Rattle.office_history.proofs.Accepted.{IsAccepted, legal_by, deposits_by, holds_by}
@@ -73,12 +74,8 @@ all_ranged {B = B} says P so (c ∷ cs) all = by (says c) refl (all_ranged says 
     by None e rest = rest
     by (Some b) e rest = (so c all.0 b e, rest)
 
-where_so : {A : Type 0} (test : Bool) (x y : A) → (if test then Some x else None) ≡ Some y → (test ≡ true) × (x ≡ y)
-where_so true x y e = (refl, (let same : x ≡ y = cc in same))
-where_so false x y e = absurd cc
-
 gone_day : (n : ℕ) → Says (destroyed_in n) IsDay
-gone_day n (Destroyed day m) ranged b e = subst IsDay (where_so _ day b e).1 ranged
+gone_day n (Destroyed day m) ranged b e = subst IsDay (cond_some _ day b e).1 ranged
 gone_day n (Installed policy) ranged b e = absurd cc
 gone_day n (DefinedClass day name years) ranged b e = absurd cc
 gone_day n (DefinedCollection day name) ranged b e = absurd cc
@@ -87,7 +84,7 @@ gone_day n (PlacedHold day hold) ranged b e = absurd cc
 gone_day n (ReleasedHold day k) ranged b e = absurd cc
 
 released_day : (k : ℕ) → Says (released_in k) IsDay
-released_day k (ReleasedHold day j) ranged b e = subst IsDay (where_so _ day b e).1 ranged
+released_day k (ReleasedHold day j) ranged b e = subst IsDay (cond_some _ day b e).1 ranged
 released_day k (Installed policy) ranged b e = absurd cc
 released_day k (DefinedClass day name years) ranged b e = absurd cc
 released_day k (DefinedCollection day name) ranged b e = absurd cc
@@ -98,7 +95,7 @@ released_day k (Destroyed day n) ranged b e = absurd cc
 -- the years of a class that is there, and its name
 class_years : (name : List ℕ) → Says (years_in name) (λ years. IsName name × IsYears years)
 class_years name (DefinedClass day class years) ranged b e =
-    let found = where_so (bytes_eq class name) years b e in
+    let found = cond_some (bytes_eq class name) years b e in
     (subst IsName ((bytes_eq-Decides class name).0 found.0) ranged.1, subst IsYears found.1 ranged.2)
 class_years name (Installed policy) ranged b e = absurd cc
 class_years name (DefinedCollection day other) ranged b e = absurd cc
@@ -160,10 +157,6 @@ ranged_holds h legal = all_ranged hold_in IsPlaced placed_so h.changes (ranged_c
 
 -- ---- what is named is there
 
-or_true : (a b : Bool) → a ≡ true → (a || b) ≡ true
-or_true true b e = refl
-or_true false b e = absurd cc
-
 class_stays : (h : History) (more : List Change) (name : List ℕ) → has_class h name ≡ true → has_class (with_changes h more) name ≡ true
 class_stays h more name e = ap is_some (last_said-append (years_in name) h.changes more) ∙ some_behind (last_said (years_in name) more) (years_of h name) e
 
@@ -171,7 +164,7 @@ collection_stays : (h : History) (more : List Change) (name : List ℕ) → has_
 collection_stays h more name e =
     ap (list_any (bytes_eq name)) (filter_map-append collection_in h.changes more)
     ∙ list_any-append (bytes_eq name) (filter_map collection_in h.changes) (filter_map collection_in more)
-    ∙ or_true (has_collection h name) _ e
+    ∙ or_left (has_collection h name) _ e
 
 there_stays : (h : History) (more : List Change) (target : Target) → IsThere h target → IsThere (with_changes h more) target
 there_stays h more (OnCollection name) e = collection_stays h more name e
@@ -180,10 +173,6 @@ there_stays h more (OnDeposit n) e = by (deposit_numbered h n) refl e
     by : (o : Option (Date × Deposit)) → deposit_numbered h n ≡ o → IsSome o → IsSome (deposit_numbered (with_changes h more) n)
     by None is e = absurd cc
     by (Some found) is e = subst (λ (o : Option (Date × Deposit)). IsSome o) (sym (deposit_stays h more n found is)) e
-
-all_weaker : {A : Type 0} (P Q : A → Type 0) → ((x : A) → P x → Q x) → (xs : List A) → AllByRecursion P xs → AllByRecursion Q xs
-all_weaker P Q so [] all = tt
-all_weaker P Q so (x ∷ xs) all = (so x all.0, all_weaker P Q so xs all.1)
 
 abbrev pub HasPlace : History → Date × Deposit → Type 0
 HasPlace h found = (has_collection h found.1.collection ≡ true) × (has_class h found.1.class ≡ true)

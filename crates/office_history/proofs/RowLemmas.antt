@@ -39,7 +39,8 @@ use Rattle.office_rows.proofs.Order.{all_append}
 use Rattle.office_history.proofs.LegalLemmas.{Reads, Judges, HasSoundBag, sound_deposits}
 use Rattle.office_history.proofs.LegalReadings.{legal_policy}
 use Rattle.office_history.proofs.MemberLemmas.{first_places_have}
-use Rattle.office_history.proofs.KeptLemmas.{is_nothing}
+use Rattle.bag_text.proofs.ResultLemmas.{is_nothing}
+use Rattle.office_core.proofs.OptionLemmas.{option_map_some}
 use Rattle.office_history.proofs.Pictured.{there_is, told_at, was_defined, all_distinct, names_read}
 use Rattle.office_history.proofs.RangeLemmas.{limits_hold, WasClosed, closed_deposits, gone_days, released_days, named_classes, named_collections, IsDeposited, ranged_deposits, IsPlaced, ranged_holds, HasPlace, placed_deposits, HasTarget, placed_holds}
 
@@ -53,10 +54,6 @@ all_told {R = R} P tell so (item ∷ items) = by (tell item) refl (all_told P te
     by : (o : Option R) → tell item ≡ o → AllByRecursion P (filter_map tell items) → AllByRecursion P (cons_option o (filter_map tell items))
     by None e rest = rest
     by (Some row) e rest = (so item row e, rest)
-
-mapped_some : {A R : Type 0} (f : A → R) (o : Option A) (r : R) → option_map f o ≡ Some r → (x : A) × (o ≡ Some x) × (f x ≡ r)
-mapped_some f None r e = absurd cc
-mapped_some f (Some x) r e = (x, refl, (let same : f x ≡ r = cc in same))
 
 -- the items have the numbers from 1 on
 item_there : {A : Type 0} (xs : List A) (n : ℕ) → 1 ≤ n → n ≤ length xs → (x : A) × (item_numbered xs n ≡ Some x)
@@ -150,9 +147,9 @@ years_ranged (Some years) is = (omega (arith, signed_arith), omega (arith, signe
 
 class_ranged : (h : History) → IsLegal h → (name : List ℕ) (row : ClassRow) → row_of_class h name ≡ Some row → IsClassRow row
 class_ranged h legal name row e =
-    let found = mapped_some (class_row name) (years_of h name) row e in
-    let named = named_classes h legal name found.0 found.1 in
-    subst IsClassRow found.2 (record { name = named.0; years = years_ranged found.0 named.1 })
+    option_map_some (class_row name) (years_of h name) row e (λ years there same.
+    let named = named_classes h legal name years there in
+    subst IsClassRow same (record { name = named.0; years = years_ranged years named.1 }))
 
 -- ---- deposits and their files
 
@@ -162,22 +159,22 @@ day_ranged (Some day) so = day_number day (so day refl)
 
 deposit_ranged : Reads → Judges → (h : History) (version : ℤ) → IsLegal h → (n : ℕ) (row : DepositRow) → row_of_deposit h n ≡ Some row → IsDepositRow (picture version h) row
 deposit_ranged reads judges h version legal n row e =
-    let found = mapped_some (deposit_row h n) (deposit_numbered h n) row e in
-    let made = all_numbered IsDeposited (deposits h) n found.0 (ranged_deposits h legal) found.1 in
-    let closed = all_numbered WasClosed (deposits h) n found.0 (closed_deposits h legal) found.1 in
-    let place = all_numbered (HasPlace h) (deposits h) n found.0 (placed_deposits h legal) found.1 in
-    let bag = (all_numbered HasSoundBag (deposits h) n found.0 (sound_deposits reads judges h legal) found.1).bag in
-    subst (IsDepositRow (picture version h)) found.2 (record {
+    option_map_some (deposit_row h n) (deposit_numbered h n) row e (λ found there same.
+    let made = all_numbered IsDeposited (deposits h) n found (ranged_deposits h legal) there in
+    let closed = all_numbered WasClosed (deposits h) n found (closed_deposits h legal) there in
+    let place = all_numbered (HasPlace h) (deposits h) n found (placed_deposits h legal) there in
+    let bag = (all_numbered HasSoundBag (deposits h) n found (sound_deposits reads judges h legal) there).bag in
+    subst (IsDepositRow (picture version h)) same (record {
       accession = made.1.accession;
-      collection = collection_there h found.0.1.collection place.0;
-      class = class_there h found.0.1.class place.1;
-      closed = day_number found.0.1.closed made.1.closed;
-      deposited = day_number found.0.0 made.0;
+      collection = collection_there h found.1.collection place.0;
+      class = class_there h found.1.class place.1;
+      closed = day_number found.1.closed made.1.closed;
+      deposited = day_number found.0 made.0;
       in_turn = closed;
-      files = (omega (arith, signed_arith), omega (arith, signed_arith, bag.few, few_payload found.0.1.bag));
-      bytes = (omega (arith, signed_arith), omega (arith, signed_arith, bag.few, small_payload found.0.1.bag bag.each));
+      files = (omega (arith, signed_arith), omega (arith, signed_arith, bag.few, few_payload found.1.bag));
+      bytes = (omega (arith, signed_arith), omega (arith, signed_arith, bag.few, small_payload found.1.bag bag.each));
       gone = day_ranged (destruction_day h n) (gone_days h legal n);
-    })
+    }))
 
 bag_ranged : Reads → Judges → (h : History) → IsLegal h → (n : ℕ) → AllByRecursion Fits (files_of h n)
 bag_ranged reads judges h legal n = by (deposit_numbered h n) refl
@@ -231,15 +228,15 @@ target_ranged h version (OnCollection name) there = collection_there h name ther
 
 hold_ranged : (h : History) (version : ℤ) → IsLegal h → (k : ℕ) (row : HoldRow) → row_of_hold h k ≡ Some row → IsHoldRow (picture version h) row
 hold_ranged h version legal k row e =
-    let found = mapped_some (hold_row h k) (hold_numbered h k) row e in
-    let made = all_numbered IsPlaced (holds h) k found.0 (ranged_holds h legal) found.1 in
-    let there = all_numbered (HasTarget h) (holds h) k found.0 (placed_holds h legal) found.1 in
-    subst (IsHoldRow (picture version h)) found.2 (record {
-      target = target_ranged h version found.0.1.target there;
+    option_map_some (hold_row h k) (hold_numbered h k) row e (λ found there same.
+    let made = all_numbered IsPlaced (holds h) k found (ranged_holds h legal) there in
+    let target = all_numbered (HasTarget h) (holds h) k found (placed_holds h legal) there in
+    subst (IsHoldRow (picture version h)) same (record {
+      target = target_ranged h version found.1.target target;
       matter = made.1.matter;
-      placed = day_number found.0.0 made.0;
+      placed = day_number found.0 made.0;
       released = day_ranged (release_day h k) (released_days h legal k);
-    })
+    }))
 
 -- ---- all rows
 

@@ -2,6 +2,7 @@
 
 use crate::devices::{Given, Torn, prints, ran, words_of};
 use crate::marks::{bytes_of, text_of};
+use bag_text::MAX_FORM;
 use commands::{Asked, Ending, Line, UseFault, explain_outcome, read_line, refuse_words, run};
 use office_core::{Action, Name};
 use std::alloc::Global;
@@ -184,9 +185,10 @@ fn files_are_read_whole(rt: HostRuntime) -> Result<(), Fail> {
     )?;
     assert!(rt; is_so);
     fs::remove_file(&rt, "bag-a.bagset")?;
-    // A policy behind 1 MiB of comment, and in a file that is named as standard input is elsewhere.
+    // A policy behind a comment that is longer than any form, and in a file that is named as standard
+    // input is elsewhere.
     let policy = bytes_of(rt.alloc(), "{policy}")?;
-    let mut long = vec![in rt.alloc(); b'#'; 1_048_576]?;
+    let mut long = vec![in rt.alloc(); b'#'; MAX_FORM + 1]?;
     long.extend_from_slice(b"\n")?;
     long.extend_from_slice(policy.as_slice())?;
     fs::write(&rt, "-", long.as_slice())?;

@@ -3,7 +3,7 @@
 use crate::marks::text_of;
 use bag_text::{
     Algorithm, BagPath, BagSet, Checksum, Listing, MAX_CONTENT, MAX_FILES, MAX_PATH, Version,
-    read_bag_info, read_bagset, read_declaration, read_manifest, write_bagset,
+    as_text, read_bag_info, read_bagset, read_declaration, read_manifest, write_bagset,
 };
 use std::alloc::{AllocError, Global};
 use std::borrow::CowStr;
@@ -35,6 +35,7 @@ fn reads_a_small_bag(rt: HostRuntime) -> Result<(), Fail> {
     assert!(rt; bag.get("bagit.txt") == Some(DECLARATION.as_bytes()));
     assert!(rt; bag.get("data/a") == Some(b"abc".as_slice()));
     assert!(rt; bag.get("data") == None);
+    assert!(rt; bag.get("bagit.txt").and_then(as_text) == Some(DECLARATION));
     // And makes and writes it.
     assert!(rt; form_of(rt.alloc(), bag.files())?.as_str() == form.as_str());
     Ok(())

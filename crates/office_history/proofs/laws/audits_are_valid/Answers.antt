@@ -1,4 +1,4 @@
-use Rattle.std.proofs.Common.{sym, ap, ◌∙◌}
+use Rattle.std.proofs.Common.{ap, ◌∙◌}
 use Rattle.office_history.specs.Bags.{report_or_text}
 use Rattle.office_history.specs.Answers.{audit_report}
 use Rattle.office_history.specs.Histories.{deposits}
@@ -12,6 +12,6 @@ returns c = λ h legal day caller n m report e.
     let told = audited h day caller n m report e in
     let found = told.1.0 in
     let sound = all_numbered HasSoundBag (deposits h) n found
-        (sound_deposits (λ t files is. ((c.transfer_forms.ensures.read t files).0 is).0) (λ files report is j. let v = c.judged_bags.ensures.report files report is j in (v.0, v.1)) h legal)
-        told.1.1 in
-    (told.0, found, told.1.1, sound, told.1.2 ∙ ap (λ judged. audit_report (report_or_text judged)) (c.judged_bags.ensures.valid found.1.bag sound.version sound.bag sound.valid))
+    (sound_deposits (λ t files is. ((c.transfer_forms.ensures.read t files).0 is).0) (λ files report is j. let v = c.judged_bags.ensures.report files report is j in (v.0, v.1)) h legal)
+    told.1.1 in
+    (told.0, (found, told.1.1, sound, told.1.2 ∙ ap (λ judged. audit_report (report_or_text judged)) (c.judged_bags.ensures.valid found.1.bag sound.version sound.bag sound.valid)))
