@@ -1,12 +1,13 @@
 //! Sessions over each store, and rows put to the plain office.
 
-use crate::files::{Disks, MANY, empty, take_once};
+use crate::files::take_once;
 use crate::offices::{Way, equip, limits, put};
 use crate::parts::{Part, agree, take_part};
 use office_history::plain;
 use sqlite::Connection;
 use std::alloc::Global;
 use std::test::Fail;
+use worked_sessions::{Disks, MANY, empty};
 
 /// A plain office with the policy, the classes and the collections of `worked_sessions`.
 pub fn plain_office(alloc: Global, most: &str) -> Result<plain::Office, Fail> {

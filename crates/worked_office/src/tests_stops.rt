@@ -1,6 +1,5 @@
 //! A stop in a request and in a run, and what is found again in the files.
 
-use crate::files::SMALL;
 use crate::offices::{Way, put};
 use crate::parts::{Part, agree};
 use crate::stores::in_files;
@@ -10,7 +9,7 @@ use sqlite::{FileStore, Files};
 use sqlite_disk::Disk;
 use std::alloc::{AllocError, Global};
 use std::test::*;
-use worked_sessions::{Asked, words};
+use worked_sessions::{Asked, SMALL_CACHES, words};
 
 static BEFORE: [Part; 2] = [
     ("office", "1000000"),
@@ -38,7 +37,7 @@ fn find_office<D: Disk + Drop>(alloc: Global, files: Files<D>) -> Option<Office<
     if !files.may_be_used() {
         return None;
     }
-    reopen(alloc, files, SMALL)
+    reopen(alloc, files, SMALL_CACHES)
 }
 
 /// Stops in a hold of deposit 1. Then the files show the office after it.

@@ -1,7 +1,7 @@
 //! An office in two files, and what is done with it.
 
 use crate::day::take_day;
-use crate::files::{Disks, leave, open};
+use crate::files::{leave, open};
 use crate::listening::take_peers;
 use crate::replays::take_records;
 use crate::stops::{START, Visit, Way, visit_over};
@@ -10,6 +10,7 @@ use office_engine::Office;
 use sqlite::{Alter, Connection, Files, Options};
 use sqlite_disk::Disk;
 use std::test::Fail;
+use worked_sessions::Disks;
 
 /// What is put to an office that was made.
 #[derive(Clone, Copy)]

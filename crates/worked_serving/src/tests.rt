@@ -1,6 +1,5 @@
 //! Offices are served, and stopped.
 
-use crate::files::empty;
 use crate::listening::drop_all;
 use crate::offices::{Part, Task, perform};
 use crate::stops::take_stops;
@@ -8,13 +7,14 @@ use desk_listening::Patience;
 use sqlite::Options;
 use std::test::*;
 use std::time::Duration;
+use worked_sessions::{MANY, empty};
 
 /// Each part is put to an office of its own, in files that don't stop, with caches that hold all
 /// pages.
 #[test]
 fn offices_are_served(rt: HostRuntime) -> Result<(), Fail> {
     for part in [Part::Requests, Part::Records, Part::Peers] {
-        let files = empty(rt.alloc());
+        let files = empty(rt.alloc(), MANY, MANY);
         let (visit, _) = perform(&rt, files, Options::new(7), Task::Make(part))?;
         assert!(rt; visit.is_some());
     }

@@ -4,6 +4,7 @@
 
 mod asking;
 mod bags;
+mod files;
 mod offices;
 mod session_fault;
 mod sessions;
@@ -12,6 +13,7 @@ mod wording;
 
 pub use asking::Asked;
 pub use bags::{BAG, BAG_0_97, PERCENT};
+pub use files::{Disks, MANY, SMALL_CACHES, copy_files, empty, has_stopped, lose};
 pub use offices::AnyOffice;
 pub use session_fault::SessionFault;
 pub use sessions::{OPENING, POLICY, Row, answer_in_words, differs, differs_in_run, open};

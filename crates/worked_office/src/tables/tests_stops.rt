@@ -1,11 +1,12 @@
 //! A stop of both files at any of their calls, while an office is made and the files are closed.
 
-use crate::files::{Disks, NOT_CLOSED, copy_files, empty, has_stopped, lose};
+use crate::files::NOT_CLOSED;
 use crate::offices::Way;
 use crate::parts::agree;
 use crate::stores::take_over;
 use std::alloc::Global;
 use std::test::*;
+use worked_sessions::{Disks, MANY, copy_files, empty, has_stopped, lose};
 
 /// The whole empty office: the eight tables of an office, and its indexes, those that keys make too.
 const WHOLE: &str = "open\n\
@@ -44,7 +45,7 @@ fn stop(alloc: Global, log_calls: u64, db_calls: u64) -> Result<(bool, bool), Fa
     let made = made.ok_or("no answer")?;
     let is_made = made.is_empty() || made.as_str() == NOT_CLOSED;
     let stopped = (has_stopped(&mut left.log), has_stopped(&mut left.db));
-    let is_written = hold_office(alloc, copy_files(alloc, &left)?)?;
+    let is_written = hold_office(alloc, copy_files(alloc, &left, MANY, MANY)?)?;
     let is_synced = hold_office(alloc, lose(left))?;
     if is_made && !(is_written && is_synced) {
         return Err(Fail::new("an office that was made is lost"));

@@ -3,18 +3,19 @@
 mod steps;
 mod visits;
 
-use crate::files::{Disks, MANY, copy_files, empty, have_stopped, lose, small_caches};
+use crate::files::have_stopped;
 use crate::offices::{Part, Task, perform};
 use std::test::Fail;
 use steps::WHOLE;
 pub use steps::Way;
 pub use visits::{START, Visit, visit_over};
+use worked_sessions::{Disks, MANY, SMALL_CACHES, copy_files, empty, lose};
 
 /// Takes the session over files in which an office was stopped when the session had come so far, or
 /// in the next step. Fails where the office is neither as before that step nor as after it, or
 /// where the rest of the session is answered otherwise than in an office that wasn't stopped.
 fn find(rt: &HostRuntime, files: Disks, way: Way, reached: usize) -> Result<(), Fail> {
-    let (visit, _) = perform(rt, files, small_caches(), Task::Visit(way))?;
+    let (visit, _) = perform(rt, files, SMALL_CACHES, Task::Visit(way))?;
     let visit = visit.ok_or("no office is found")?;
     if visit.found != reached && visit.found != reached.saturating_add(1) {
         return Err("the office is found with other steps than those that were accepted".into());
@@ -36,7 +37,7 @@ fn stop(
     db_calls: u64,
 ) -> Result<bool, Fail> {
     let files = copy_files(rt.alloc(), made, log_calls, db_calls)?;
-    let (visit, mut left) = perform(rt, files, small_caches(), Task::Visit(way))?;
+    let (visit, mut left) = perform(rt, files, SMALL_CACHES, Task::Visit(way))?;
     let visit = visit.unwrap_or(START);
     let reached = visit.reached;
     if visit.found != 0 || visit.shown.unwrap_or(reached) != reached {
@@ -102,8 +103,8 @@ fn count_stops(rt: &HostRuntime, made: &Disks, stopped: &Stopped) -> Result<u64,
 pub fn take_stops(rt: &HostRuntime) -> Result<(), Fail> {
     let (_, made) = perform(
         rt,
-        empty(rt.alloc()),
-        small_caches(),
+        empty(rt.alloc(), MANY, MANY),
+        SMALL_CACHES,
         Task::Make(Part::Nothing),
     )?;
     for stopped in &STOPS {
