@@ -12,6 +12,9 @@ use Rattle.bag_text.specs.TransferForm.{File, max_content, max_files, Ascends, c
 use Rattle.bag_text.specs.TransferFaults.{last_path}
 use Rattle.bag_text.specs.BagList.{IsFront, FileFault, ListFault, file_fault, fault_from, clash_fault, list_fault}
 
+abbrev pub some : SetFault → Option SetFault
+some f = Some f
+
 -- ---- one file
 
 -- a file without fault, at this position behind this path
