@@ -60,7 +60,7 @@ one_file (x ∷ xs) f g up (inr more) (inl is) e =
 one_file (x ∷ xs) f g up (inr more) (inr others) e = one_file xs f g (ascending_rest x.path (paths xs) up) more others e
 
 -- a file of this path and content
-abbrev at : List ℕ → List ℕ → File
+abbrev pub at : List ℕ → List ℕ → File
 at path content = record { path = path; content = content }
 
 -- a bag has one content at a path

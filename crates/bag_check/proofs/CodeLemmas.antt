@@ -10,7 +10,7 @@ use Rattle.std.specs.Cow.{cow_str_bytes}
 use Rattle.std.specs.declared.borrow.CowStr.{CowStr}
 use Rattle.std.specs.Global.{Global}
 use Rattle.std.specs.List.{list_any, count_by, AllByRecursion}
-use Rattle.std.proofs.lemmas.List.{append-nil, drop_more}
+use Rattle.std.proofs.lemmas.List.{drop_more}
 use Rattle.std.proofs.lemmas.List.Recursion.{is_count_by}
 use Rattle.std.proofs.lemmas.List.Sums.{sum-map, sum_by-cons}
 use Rattle.std.proofs.lemmas.Bool.{and_parts}
@@ -35,6 +35,7 @@ use Rattle.bag_check.specs.FaultTexts.{is_escaped, printed_text, printed_byte, f
 use Rattle.bag_check.specs.Faults.{Fault, Breaks, rule_number}
 use Rattle.bag_text.specs.Answers.{◌>>=◌, FailsAs}
 use Rattle.bag_check.specs.Judging.{Named, Listed, named_of, onto, manifests_in, listed_or_fault, listings_of, asks_for, first_unlisted, first_in, first_place, named_by, named_or_fault, version_in, no_fetch, some_payload, keeps, listing_rules, keeps_contents, judge}
+use Rattle.bag_text.proofs.ResultLemmas.{fronted, again_onto, nothing_onto}
 
 -- ---- bytes that are printed as escapes
 
@@ -123,19 +124,6 @@ broken_text rule name path =
     ∙ ap (λ (t : List ℕ). t ++ 32 ∷ printed_text path) (append_assoc (code rule) (codes " ") (printed_text name))
 
 -- ---- manifests, file after file
-
--- what was found before, and what is still found
-abbrev pub fronted : {A : Type 0} → List A → Result (List A) Fault → Result (List A) Fault
-fronted front read = read >>= λ xs. Ok (front ++ xs)
-
--- what is found goes to what was found before
-again_onto : {A : Type 0} (front : List A) (x : A) (r : Result (List A) Fault) → fronted front (r >>= λ xs. Ok (x ∷ xs)) ≡ fronted (front ++ x ∷ []) r
-again_onto {A = A} front x (Ok xs) = ap (λ (t : List A). Ok t) (sym (append_assoc front (x ∷ []) xs))
-again_onto front x (Err e) = refl
-
--- nothing is left to be found
-nothing_onto : {A : Type 0} (front : List A) → fronted front (Ok []) ≡ Ok front
-nothing_onto {A = A} front = ap (λ (t : List A). Ok t) (append-nil front)
 
 -- a file whose name is refused refuses all of them
 pub manifests_fail : (front : List Named) (fs more : List File) (f : File) (fault : Option Fault) (total : Result (List Named) Fault)

@@ -1,5 +1,5 @@
 -- Reading the value of a `Payload-Oxum` gives the counts that it names.
-use Rattle.std.proofs.Common.{◌≡◌, ℕ, ◌+◌, ◌≤◌, Bool, true, false, cond, not, eqb, ◌&&◌, List, [], ◌∷◌, ◌++◌, length, take, drop, refl, sym, ap, subst, ◌∙◌, arith, append_assoc}
+use Rattle.std.proofs.Common.{◌≡◌, one-add, ℕ, ◌+◌, ◌≤◌, Bool, true, false, cond, not, eqb, ◌&&◌, List, [], ◌∷◌, ◌++◌, length, take, drop, refl, sym, ap, subst, ◌∙◌, arith, append_assoc}
 use Rattle.std.specs.Prelude.{Option, Some, None, nat_le}
 use Rattle.std.specs.List.{list_all}
 use Rattle.std.specs.Char.{is_ascii_digit}
@@ -9,7 +9,6 @@ use Rattle.std.proofs.lemmas.List.{take-append-drop}
 use Rattle.std.proofs.lemmas.List.Sums.{prefix_len-le-length}
 use Rattle.std.proofs.lemmas.Option.{same_Some}
 use Rattle.bag_text.specs.Text.{is_blank, AreBlanks}
-use Rattle.bag_text.proofs.LineLemmas.{one_plus}
 use Rattle.bag_check.specs.Validity.{number_from, IsNumber, NamesCounts}
 use Rattle.bag_check.specs.OxumReading.{digit_len, digits_in, behind_digits, number_of, behind_stop, last_number, with_files, with_rest, with_bytes, counts_of}
 use Rattle.bag_check.proofs.OxumLemmas.{Stops, same_run, blanks_stop}
@@ -26,7 +25,7 @@ digits_all [] = refl
 digits_all (b ∷ t) = by_first (is_ascii_digit b) refl (digit_len t) (digits_all t)
   where
     by_first : (x : Bool) → is_ascii_digit b ≡ x → (n : ℕ) → list_all is_ascii_digit (take n t) ≡ true → list_all is_ascii_digit (take (cond (not (not x)) (1 + n) 0) (b ∷ t)) ≡ true
-    by_first true is n again = ap (λ (k : ℕ). list_all is_ascii_digit (take k (b ∷ t))) (one_plus n) ∙ and_from (is_ascii_digit b) (list_all is_ascii_digit (take n t)) is again
+    by_first true is n again = ap (λ (k : ℕ). list_all is_ascii_digit (take k (b ∷ t))) (one-add n) ∙ and_from (is_ascii_digit b) (list_all is_ascii_digit (take n t)) is again
     by_first false is n again = refl
 
 -- no digit follows them
@@ -35,7 +34,7 @@ digits_stop [] = tt
 digits_stop (b ∷ t) = by_first (is_ascii_digit b) refl (digit_len t) (digits_stop t)
   where
     by_first : (x : Bool) → is_ascii_digit b ≡ x → (n : ℕ) → Stops is_ascii_digit (drop n t) → Stops is_ascii_digit (drop (cond (not (not x)) (1 + n) 0) (b ∷ t))
-    by_first true is n again = subst (λ (k : ℕ). Stops is_ascii_digit (drop k (b ∷ t))) (sym (one_plus n)) again
+    by_first true is n again = subst (λ (k : ℕ). Stops is_ascii_digit (drop k (b ∷ t))) (sym (one-add n)) again
     by_first false is n again = is
 
 -- a text is its digits and what follows them

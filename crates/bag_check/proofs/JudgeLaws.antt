@@ -19,9 +19,9 @@ use Rattle.bag_text.specs.Answers.{◌>>=◌}
 use Rattle.bag_check.specs.Judging.{has_path, version_in, no_fetch, Named, manifests_in, some_payload, Listed, listings_of, keeps, listing_rules, keeps_info, keeps_contents, judge}
 use Rattle.bag_text.proofs.ResultLemmas.{bind_ok, bind_err, same_ok}
 use Rattle.bag_text.proofs.ManifestLaws.{read_is_manifest}
-use Rattle.bag_check.proofs.BagLemmas.{has_path_is, no_path_is, is_payload_is, is_payload_again}
+use Rattle.bag_check.proofs.BagLemmas.{at, has_path_is, no_path_is, is_payload_is, is_payload_again}
 use Rattle.bag_check.proofs.FaultLemmas.{number_range, NoneBelow, one_version, one_first_fault}
-use Rattle.bag_check.proofs.ManifestLemmas.{at, Found, found_all, payload_manifest, all_read}
+use Rattle.bag_check.proofs.ManifestLemmas.{Found, found_all, payload_manifest, all_read}
 use Rattle.bag_check.proofs.RuleLemmas.{AreListed, listed, lists_found, found_lists, matches_is, matches_again}
 use Rattle.bag_check.proofs.StepLemmas.{version_ok, version_err, below_3, fetch_ok, fetch_err, below_4, names_err, below_5, payload_err, below_6, are_listed, texts_err, below_7, Follow, rules_ok, rules_err}
 use Rattle.bag_check.proofs.InfoStepLemmas.{info_ok, info_err, info_right}

@@ -17,15 +17,11 @@ use Rattle.bag_check.specs.Judging.{Named, named_by, named_or_fault, named_of, o
 use Rattle.bag_text.proofs.ResultLemmas.{bind_ok, bind_err, same_ok, same_err, never_both}
 use Rattle.bag_text.proofs.OrderLemmas.{before_chain}
 use Rattle.bag_check.proofs.OrderLemmas.{apart, Up, Ascending, ascending_rest, later_path}
-use Rattle.bag_check.proofs.BagLemmas.{paths, up_skip}
+use Rattle.bag_check.proofs.BagLemmas.{paths, up_skip, at}
 use Rattle.bag_check.proofs.NameLemmas.{kind_is, kind_again, name_is, no_name, one_name, algorithm_is, no_algorithm}
 use Rattle.bag_text.proofs.ElementLemmas.{Has, any_has, none_has, has_map}
 
 -- ---- what a file is
-
--- a file of this path and content
-abbrev pub at : List ℕ → List ℕ → File
-at path content = record { path = path; content = content }
 
 -- a file as a manifest of this kind and algorithm
 abbrev pub as_named : File → Kind → Algorithm → Named

@@ -19,10 +19,10 @@ use Rattle.bag_check.proofs.OrderLemmas.{apart, Ascending, ascending_rest}
 use Rattle.bag_text.proofs.DeclarationLemmas.{is_declared, declared_again, refused_again}
 use Rattle.bag_text.proofs.DeclarationLemmas as declaration
 use Rattle.bag_text.proofs.ManifestLaws.{refused_is_fault, fault_is_refused}
-use Rattle.bag_check.proofs.BagLemmas.{bag_ascends, ascends_up, path_of_file, one_content, content_found, no_content, has_path_is, no_path_is}
+use Rattle.bag_check.proofs.BagLemmas.{at, bag_ascends, ascends_up, path_of_file, one_content, content_found, no_content, has_path_is, no_path_is}
 use Rattle.bag_check.proofs.NameLemmas.{one_algorithm}
 use Rattle.bag_check.proofs.FaultLemmas.{at_1, at_2, at_3, at_4, at_5, at_6, at_rule, Earlier, none_earlier, NoneBelow, NoneAt, IsLeast, none_below_1, none_more, named_first, one_version}
-use Rattle.bag_check.proofs.ManifestLemmas.{at, as_named, as_listed, read_of, names, Found, IsFirstUnsupported, first_unsupported, no_payload_manifest, AreRead, IsFirstRefused, first_refused}
+use Rattle.bag_check.proofs.ManifestLemmas.{as_named, as_listed, read_of, names, Found, IsFirstUnsupported, first_unsupported, no_payload_manifest, AreRead, IsFirstRefused, first_refused}
 use Rattle.bag_check.proofs.PlaceLemmas.{Place, IsLeastPlace}
 use Rattle.bag_check.proofs.RuleLemmas.{AreListed, listed, broken_first}
 use Rattle.bag_text.proofs.ElementLemmas.{Has, contains_has, has_contains}

@@ -13,6 +13,7 @@ use Rattle.bag_text.specs.Answers.{Answers}
 use Rattle.bag_text.specs.TransferReading.{named_set_fault}
 use Rattle.bag_text.specs.BagList.{ListFault, file_fault, fault_from, list_fault}
 use Rattle.bag_text.specs.ListReading.{Makes}
+use Rattle.bag_text.proofs.ResultLemmas.{err_is}
 use Rattle.bag_text.proofs.ListLemmas.{from_none, list_fault_law, list_bag_law}
 
 -- ---- one file after the other
@@ -74,12 +75,6 @@ made view files x h = by_fault (list_fault files) refl h
 pub made_bag : {X : Type 0} (view : X → List File) (files : List File) (x : X) → Makes view files (list_fault files) (Ok x) → IsBag (view x)
 made_bag view files x h = let m = made view files x h in subst (λ (fs : List File). IsBag fs) (sym m.0) m.1
 
-abbrev failed : SetFault → Result (List File) SetFault
-failed fault = Err fault
-
-failed_is : {X : Type 0} (a b : SetFault) (r : Result X SetFault) → r ≡ Err a → r ≡ Err b → a ≡ b
-failed_is a b r e f = cc
-
 -- ---- the clauses
 
 -- what is made is the list, and it is a bag
@@ -106,4 +101,4 @@ has_fault files (Err fault) h = by_fault (list_fault files) refl h
   where
     by_fault : (found : Option SetFault) → list_fault files ≡ found → Makes (λ set. set) files found (Err fault) → fault ≢ Memory → ListFault files fault
     by_fault None is h = λ other. absurd (other h)
-    by_fault (Some named) is h = λ other. (list_fault_law files fault).0 (is ∙ sym (ap (λ (f : SetFault). Some f) (failed_is fault named (failed fault) refl h)))
+    by_fault (Some named) is h = λ other. (list_fault_law files fault).0 (is ∙ sym (ap (λ (f : SetFault). Some f) (err_is fault named h)))

@@ -15,18 +15,13 @@ use Rattle.bag_text.specs.Answers.{◌>>=◌, Gives}
 use Rattle.bag_text.specs.TransferReading.{Head, Place, End, Entry, literal_at, header_at, place_at, file_at, result_at, entry_of, entry_at, files_at, after_opening, set_of, named_set_fault}
 use Rattle.bag_text.specs.TransferForm.{File, header, entry, opening, ending, set_text, max_content, max_files, Ascends, clashes, Fits, IsBag}
 use Rattle.bag_text.specs.Paths.{max_path, is_good, comes_before}
+use Rattle.bag_text.proofs.ResultLemmas.{ok_is}
 use Rattle.bag_text.proofs.NumberLemmas.{InBounds}
 use Rattle.bag_text.proofs.HeaderLemmas.{HeadFits, literal_ok, literal_again, header_ok, header_again}
 
 guard : {A : Type 0} (b : Bool) (f : SetFault) (r : Result A SetFault) (x : A) → cond b (Err f) r ≡ Ok x → (b ≡ false) × (r ≡ Ok x)
 guard true f r x e = absurd cc
 guard false f r x e = (refl, e)
-
-abbrev right : {A : Type 0} → A → Result A SetFault
-right x = Ok x
-
-right_is : {A : Type 0} (x y : A) → right x ≡ right y → x ≡ y
-right_is x y e = cc
 
 -- a file with its bytes in place
 pub record Stands (before rest : List ℕ) (head : Head) (f : File) (behind : List ℕ) : Type 0 where
@@ -53,7 +48,7 @@ file_ok offset before head x e =
     let last : behind ≡ 10 ∷ drop 1 behind = drop_more behind 0 0 some ∙ ap (λ (b : ℕ). b ∷ drop 1 behind) lf in
     let two : drop head.path_len head.rest ≡ content ++ 10 ∷ drop 1 behind = sym (take-append-drop head.content_len (drop head.path_len head.rest)) ∙ ap (λ (t : List ℕ). content ++ t) last in
     let whole : head.rest ≡ path ++ (content ++ 10 ∷ drop 1 behind) = sym (take-append-drop head.path_len head.rest) ∙ ap (λ (t : List ℕ). path ++ t) two in
-    subst (λ (y : File × List ℕ). Stands before head.rest head y.0 y.1) (right_is made x g4.1) (record {
+    subst (λ (y : File × List ℕ). Stands before head.rest head y.0 y.1) (ok_is made x g4.1) (record {
       bytes = whole;
       path_len = omega (arith, length-take head.path_len head.rest);
       content_len = omega (arith, length-take head.content_len (drop head.path_len head.rest), length-drop head.path_len head.rest);
@@ -132,12 +127,6 @@ set_again fs bag =
 
 -- ---- what is read
 
-abbrev placed_right : Place → Result Place Flaw
-placed_right p = Ok p
-
-right_place : (x y : Place) → placed_right x ≡ placed_right y → x ≡ y
-right_place x y e = cc
-
 pub record IsPlace (t : List ℕ) (p : Place) : Type 0 where
   pub at_end : (rest : List ℕ) → p ≡ End rest → t ≡ ending ++ rest
   pub at_entry : (head : Head) → p ≡ Entry head → (t ≡ header head.path_len head.content_len ++ head.rest) × HeadFits head.path_len head.content_len
@@ -152,7 +141,7 @@ place_ok (b ∷ t) p e = by_first (eqb b 69) e
       where
         by_end : (r : Result (List ℕ) Flaw) → literal_at ending (b ∷ t) ≡ r → (r >>= λ rest. Ok (End rest)) ≡ Ok p → IsPlace (b ∷ t) p
         by_end (Err f) is e = absurd cc
-        by_end (Ok rest) is e = subst (λ (p : Place). IsPlace (b ∷ t) p) (right_place (End rest) p e) (record {
+        by_end (Ok rest) is e = subst (λ (p : Place). IsPlace (b ∷ t) p) (ok_is (End rest) p e) (record {
           at_end = λ other same. literal_ok ending (b ∷ t) other (is ∙ (let k : rest ≡ other = cc in rw k refl));
           at_entry = λ head same. absurd cc;
         })
@@ -160,7 +149,7 @@ place_ok (b ∷ t) p e = by_first (eqb b 69) e
       where
         by_head : (r : Result Head Flaw) → header_at (b ∷ t) ≡ r → (r >>= λ head. Ok (Entry head)) ≡ Ok p → IsPlace (b ∷ t) p
         by_head (Err f) is e = absurd cc
-        by_head (Ok head) is e = subst (λ (p : Place). IsPlace (b ∷ t) p) (right_place (Entry head) p e) (record {
+        by_head (Ok head) is e = subst (λ (p : Place). IsPlace (b ∷ t) p) (ok_is (Entry head) p e) (record {
           at_end = λ rest same. absurd cc;
           at_entry = λ other same. header_ok (b ∷ t) other (is ∙ (let k : head ≡ other = cc in rw k refl));
         })
@@ -169,12 +158,6 @@ place_ok (b ∷ t) p e = by_first (eqb b 69) e
 pub record IsEntry (before t : List ℕ) (o : Option (File × List ℕ)) : Type 0 where
   pub none : o ≡ None → t ≡ ending
   pub some : (x : File × List ℕ) → o ≡ Some x → (t ≡ entry x.0 ++ x.1) × Fits x.0 × (comes_before before x.0.path ≡ true)
-
-abbrev right_o : Option (File × List ℕ) → Result (Option (File × List ℕ)) SetFault
-right_o o = Ok o
-
-right_option : (x y : Option (File × List ℕ)) → right_o x ≡ right_o y → x ≡ y
-right_option x y e = cc
 
 entry_whole : (offset : ℕ) (before t : List ℕ) (head : Head) (x : File × List ℕ) → (t ≡ header head.path_len head.content_len ++ head.rest) × HeadFits head.path_len head.content_len → file_at offset before head ≡ Ok x
     → (t ≡ entry x.0 ++ x.1) × Fits x.0 × (comes_before before x.0.path ≡ true)
@@ -195,7 +178,7 @@ entry_ok offset left before t o e = by_place left (place_at t) refl e
     by_place left (Ok (End rest)) is e = by_rest rest is e
       where
         by_rest : (rest : List ℕ) → place_at t ≡ Ok (End rest) → (cond (eqb (length rest) 0) (Ok None) (Err TrailingBytes)) ≡ Ok o → IsEntry before t o
-        by_rest [] is e = subst (λ (o : Option (File × List ℕ)). IsEntry before t o) (right_option None o e) (record {
+        by_rest [] is e = subst (λ (o : Option (File × List ℕ)). IsEntry before t o) (ok_is None o e) (record {
           none = λ _. (place_ok t (End []) is).at_end [] refl ∙ append-nil ending;
           some = λ x same. absurd cc;
         })
@@ -209,7 +192,7 @@ entry_ok offset left before t o e = by_place left (place_at t) refl e
       where
         by_file : (r : Result (File × List ℕ) SetFault) → file_at offset before head ≡ r → (r >>= λ file. Ok (Some file)) ≡ Ok o → IsEntry before t o
         by_file (Err f) is2 e = absurd cc
-        by_file (Ok x) is2 e = subst (λ (o : Option (File × List ℕ)). IsEntry before t o) (right_option (Some x) o e) (record {
+        by_file (Ok x) is2 e = subst (λ (o : Option (File × List ℕ)). IsEntry before t o) (ok_is (Some x) o e) (record {
           none = λ same. absurd cc;
           some = λ y same. entry_whole offset before t head y ((place_ok t (Entry head) is).at_entry head refl) (is2 ∙ (let k : x ≡ y = cc in rw k refl));
         })
@@ -233,33 +216,30 @@ pub record AreFiles (left : ℕ) (before t : List ℕ) (fs : List File) : Type 0
   pub each : AllByRecursion Fits fs
   pub up : Ascends before fs
 
-right_files : (x y : List File) → right x ≡ right y → x ≡ y
-right_files x y e = cc
-
 pub files_ok : (whole left : ℕ) (before t : List ℕ) (fs : List File) → files_at whole left before t ≡ Ok fs → AreFiles left before t fs
 unfolding files_at
 files_ok whole zero before t fs e = by_entry (entry_at (whole - length t) zero before t) refl e
   where
-    by_entry : (r : Result (Option (File × List ℕ)) SetFault) → entry_at (whole - length t) zero before t ≡ r → (r >>= λ found. right []) ≡ Ok fs → AreFiles zero before t fs
+    by_entry : (r : Result (Option (File × List ℕ)) SetFault) → entry_at (whole - length t) zero before t ≡ r → (r >>= λ found. Ok []) ≡ Ok fs → AreFiles zero before t fs
     by_entry (Err f) is e = absurd cc
-    by_entry (Ok None) is e = subst (λ (fs : List File). AreFiles zero before t fs) (right_files [] fs e) (record { text = (entry_ok (whole - length t) zero before t None is).none refl; few = omega arith; each = tt; up = tt })
+    by_entry (Ok None) is e = subst (λ (fs : List File). AreFiles zero before t fs) (ok_is [] fs e) (record { text = (entry_ok (whole - length t) zero before t None is).none refl; few = omega arith; each = tt; up = tt })
     by_entry (Ok (Some x)) is e = absurd (no_file_past_limit (whole - length t) before t x is)
 files_ok whole (suc more) before t fs e = by_entry (entry_at (whole - length t) (suc more) before t) refl e (λ x rest g. files_ok whole more x.0.path x.1 rest g)
   where
     by_entry : (r : Result (Option (File × List ℕ)) SetFault) → entry_at (whole - length t) (suc more) before t ≡ r
-        → (r >>= λ found. elim found [ None ↦ right [] | Some file ↦ files_at whole more file.0.path file.1 >>= λ files. Ok (file.0 ∷ files) ]) ≡ Ok fs
+        → (r >>= λ found. elim found [ None ↦ Ok [] | Some file ↦ files_at whole more file.0.path file.1 >>= λ files. Ok (file.0 ∷ files) ]) ≡ Ok fs
         → ((x : File × List ℕ) (rest : List File) → files_at whole more x.0.path x.1 ≡ Ok rest → AreFiles more x.0.path x.1 rest)
         → AreFiles (suc more) before t fs
     by_entry (Err f) is e again = absurd cc
-    by_entry (Ok None) is e again = subst (λ (fs : List File). AreFiles (suc more) before t fs) (right_files [] fs e) (record { text = (entry_ok (whole - length t) (suc more) before t None is).none refl; few = omega arith; each = tt; up = tt })
+    by_entry (Ok None) is e again = subst (λ (fs : List File). AreFiles (suc more) before t fs) (ok_is [] fs e) (record { text = (entry_ok (whole - length t) (suc more) before t None is).none refl; few = omega arith; each = tt; up = tt })
     by_entry (Ok (Some x)) is e again = by_rest (files_at whole more x.0.path x.1) refl e
       where
-        by_rest : (r : Result (List File) SetFault) → files_at whole more x.0.path x.1 ≡ r → (r >>= λ files. right (x.0 ∷ files)) ≡ Ok fs → AreFiles (suc more) before t fs
+        by_rest : (r : Result (List File) SetFault) → files_at whole more x.0.path x.1 ≡ r → (r >>= λ files. Ok (x.0 ∷ files)) ≡ Ok fs → AreFiles (suc more) before t fs
         by_rest (Err f) is2 e = absurd cc
         by_rest (Ok rest) is2 e =
             let first = (entry_ok (whole - length t) (suc more) before t (Some x) is).some x refl in
             let others = again x rest is2 in
-            subst (λ (fs : List File). AreFiles (suc more) before t fs) (right_files (x.0 ∷ rest) fs e) (record {
+            subst (λ (fs : List File). AreFiles (suc more) before t fs) (ok_is (x.0 ∷ rest) fs e) (record {
               text = first.0 ∙ ap (λ (r : List ℕ). entry x.0 ++ r) others.text ∙ sym (append_assoc (entry x.0) (flat_map entry rest) ending);
               few = (let k = others.few in omega arith);
               each = (first.1, others.each);
@@ -284,7 +264,7 @@ set_ok t fs e = by_opening (literal_at opening t) refl e
         by_files (Ok files) is2 e =
             let g = guard (clashes files) PathClash (Ok files) fs e in
             let r = files_ok (length t) max_files [] rest files is2 in
-            subst (λ (fs : List File). IsRead t fs) (right_files files fs g.1) (record {
+            subst (λ (fs : List File). IsRead t fs) (ok_is files fs g.1) (record {
               text = literal_ok opening t rest is ∙ ap (λ (r : List ℕ). opening ++ r) r.text ∙ sym (append_assoc opening (flat_map entry files) ending);
               bag = record { few = r.few; each = r.each; ascending = r.up; apart = g.0 };
             })
@@ -295,7 +275,7 @@ is_found t view (Ok x) e = let r = set_ok t (view x) e in (r.bag, r.text)
 is_found t view (Err f) e = tt
 
 pub two_texts : (a b : List File) → IsBag a → IsBag b → set_text a ≡ set_text b → a ≡ b
-two_texts a b p q same = right_files a b (sym (set_again a p) ∙ ap set_of same ∙ set_again b q)
+two_texts a b p q same = ok_is a b (sym (set_again a p) ∙ ap set_of same ∙ set_again b q)
 
 -- ---- no text begins another
 

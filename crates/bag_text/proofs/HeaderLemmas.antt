@@ -9,7 +9,8 @@ use Rattle.bag_text.specs.Answers.{◌>>=◌}
 use Rattle.bag_text.specs.TransferReading.{Head, literal_at, number_at, header_at}
 use Rattle.bag_text.specs.TransferForm.{header, max_content}
 use Rattle.bag_text.specs.Paths.{max_path}
-use Rattle.bag_text.proofs.NumberLemmas.{InBounds, ok_is, number_ok, number_again}
+use Rattle.bag_text.proofs.ResultLemmas.{ok_is}
+use Rattle.bag_text.proofs.NumberLemmas.{InBounds, number_ok, number_again}
 
 -- ---- bytes that a text must begin with
 

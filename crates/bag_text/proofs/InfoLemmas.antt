@@ -1,5 +1,5 @@
 -- What `bag-info.txt` says, and its first fault.
-use Rattle.std.proofs.Common.{◌≡◌, ℕ, suc, ◌+◌, Bool, true, false, cond, eqb, not, ◌||◌, List, [], ◌∷◌, ◌++◌, length, take, drop, refl, sym, ap, subst, ◌∙◌, arith, append_assoc, ◌≢◌}
+use Rattle.std.proofs.Common.{◌≡◌, one-add, ℕ, suc, ◌+◌, Bool, true, false, cond, eqb, not, ◌||◌, List, [], ◌∷◌, ◌++◌, length, take, drop, refl, sym, ap, subst, ◌∙◌, arith, append_assoc, ◌≢◌}
 use Rattle.std.specs.Prelude.{Result, Ok, Err, ◌↔◌}
 use Rattle.std.specs.List.{list_any, list_all, position_or_len, flat_map}
 use Rattle.std.specs.Str.{is_utf8}
@@ -15,7 +15,6 @@ use Rattle.bag_text.specs.BagInfo.{Pair, begins_blank, is_colon, IsPairLine, Are
 use Rattle.bag_text.specs.Answers.{◌>>=◌}
 use Rattle.bag_text.specs.InfoReading.{label_of, value_of, pair_of, extend_last, add_info_line, pairs_from, info_of}
 use Rattle.bag_text.proofs.BlankLemmas.{skipped, dropped, skip_front, drop_back}
-use Rattle.bag_text.proofs.LineLemmas.{one_plus}
 use Rattle.bag_text.proofs.PathLemmas.{not_empty}
 
 -- ---- a line that is a pair
@@ -34,7 +33,7 @@ cut_again (b ∷ front) back h =
     let n : ℕ = position_or_len is_colon (front ++ 58 ∷ back) in
     let far : 1 + n + 1 ≡ suc (n + 1) = omega arith in
     record {
-      front_is = rw (parts.0, one_plus n) (ap (λ (x : List ℕ). b ∷ x) cut.front_is);
+      front_is = rw (parts.0, one-add n) (ap (λ (x : List ℕ). b ∷ x) cut.front_is);
       back_is = rw (parts.0, far) cut.back_is;
       colon = rw parts.0 cut.colon;
     }

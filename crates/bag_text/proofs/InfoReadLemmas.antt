@@ -1,5 +1,5 @@
 -- Reading the lines of `bag-info.txt`.
-use Rattle.std.proofs.Common.{◌≡◌, ℕ, suc, zero, ◌+◌, ◌-◌, ◌<◌, ◌≤◌, Bool, true, false, cond, eqb, not, ◌&&◌, ◌||◌, List, [], ◌∷◌, ◌++◌, length, take, drop, refl, sym, ap, subst, ◌∙◌, ◌⊎◌, inl, inr, arith, append_assoc, length-append}
+use Rattle.std.proofs.Common.{◌≡◌, one-add, ℕ, suc, zero, ◌+◌, ◌-◌, ◌<◌, ◌≤◌, Bool, true, false, cond, eqb, not, ◌&&◌, ◌||◌, List, [], ◌∷◌, ◌++◌, length, take, drop, refl, sym, ap, subst, ◌∙◌, ◌⊎◌, inl, inr, arith, append_assoc, length-append}
 use Rattle.std.specs.Prelude.{Option, Some, None, Result, Ok, Err, Contains}
 use Rattle.std.specs.List.{list_any, list_all, position_or_len, AllByRecursion}
 use Rattle.std.specs.Option.{option_to_list}
@@ -7,7 +7,8 @@ use Rattle.std.specs.Str.{is_utf8, IsUtf8, IsCharBoundary}
 use Rattle.std.specs.Cow.{cow_str_bytes}
 use Rattle.std.proofs.lemmas.Str.{IsUtf8-from_is_utf8, is_utf8-from_IsUtf8, IsUtf8-take, IsUtf8-drop, IsCharBoundary-after_ascii}
 use Rattle.std.proofs.lemmas.List.Sums.{prefix_len-le-length}
-use Rattle.std.proofs.lemmas.List.{append-nil, map_push}
+use Rattle.std.proofs.lemmas.List.{append-nil, map_push, nil_from_length}
+use Rattle.std.proofs.lemmas.Option.{same_Some}
 use Rattle.std.proofs.lemmas.List.Folds.{list_any-append}
 use Rattle.std.proofs.lemmas.List.Elements.{Contains-append_left, Contains-push_cases}
 use Rattle.std.proofs.lemmas.Bool.{and_parts, or_parts, or_right, eqb-true}
@@ -21,7 +22,7 @@ use Rattle.bag_text.specs.Answers.{◌>>=◌, FailsAs}
 use Rattle.bag_text.proofs.ResultLemmas.{fails_on}
 use Rattle.bag_text.specs.InfoReading.{label_of, value_of, colon_cut, pair_of, extend_last, add_info_line, pairs_from, named_info_fault, Kept, pair_in, pairs_of, has_line_feed, IsMarked, AreMarked}
 use Rattle.bag_text.proofs.BlankLemmas.{dropped}
-use Rattle.bag_text.proofs.LineLemmas.{no_lines, are_lines, one_plus}
+use Rattle.bag_text.proofs.LineLemmas.{no_lines, are_lines}
 use Rattle.bag_text.proofs.InfoLemmas.{cut_again, has_colon, extended, some_pairs, unfolded_lines, no_lines_left}
 
 -- ---- the first colon
@@ -37,7 +38,7 @@ no_colon_left (a ∷ line) e = by_first (is_colon a) refl (position_or_len is_co
   where
     by_first : (x : Bool) → is_colon a ≡ x → (n : ℕ) → drop (cond (not x) (1 + n) 0) (a ∷ line) ≡ [] → (drop n line ≡ [] → list_any is_colon line ≡ false) → (x || list_any is_colon line) ≡ false
     by_first true is n e again = absurd cc
-    by_first false is n e again = again (ap (λ (k : ℕ). drop k (a ∷ line)) (sym (one_plus n)) ∙ e)
+    by_first false is n e again = again (ap (λ (k : ℕ). drop k (a ∷ line)) (sym (one-add n)) ∙ e)
 
 -- what stands from the first colon on begins with it
 pub colon_left : (line : List ℕ) (b : ℕ) (after : List ℕ) → drop (position_or_len is_colon line) line ≡ b ∷ after → (list_any is_colon line ≡ true) × (drop (position_or_len is_colon line + 1) line ≡ after)
@@ -47,7 +48,7 @@ colon_left (a ∷ line) b after e = by_first (is_colon a) refl (position_or_len 
     by_first : (x : Bool) → is_colon a ≡ x → (n : ℕ) → drop (cond (not x) (1 + n) 0) (a ∷ line) ≡ b ∷ after → (drop n line ≡ b ∷ after → (list_any is_colon line ≡ true) × (drop (n + 1) line ≡ after)) → ((x || list_any is_colon line) ≡ true) × (drop (cond (not x) (1 + n) 0 + 1) (a ∷ line) ≡ after)
     by_first true is n e again = (refl, cc)
     by_first false is n e again =
-        let h = again (ap (λ (k : ℕ). drop k (a ∷ line)) (sym (one_plus n)) ∙ e) in
+        let h = again (ap (λ (k : ℕ). drop k (a ∷ line)) (sym (one-add n)) ∙ e) in
         let far : 1 + n + 1 ≡ suc (n + 1) = omega arith in
         (h.0, ap (λ (k : ℕ). drop k (a ∷ line)) far ∙ h.1)
 
@@ -56,11 +57,7 @@ found x = Some x
 
 -- a line of which nothing stands from the first colon on is not cut
 pub nothing_behind : (line rest : List ℕ) (n : ℕ) → n ≡ position_or_len is_colon line → rest ≡ drop n line → length rest < 1 → ◌≡◌ {A = Option (List ℕ × List ℕ)} None (colon_cut line)
-nothing_behind line rest n place is short = let none : list_any is_colon line ≡ false = no_colon_left line (ap (λ (k : ℕ). drop k line) (sym place) ∙ sym is ∙ empty rest short) in rw none refl
-  where
-    empty : (t : List ℕ) → length t < 1 → t ≡ []
-    empty [] h = refl
-    empty (b ∷ t) h = absurd (omega arith)
+nothing_behind line rest n place is short = let none : list_any is_colon line ≡ false = no_colon_left line (ap (λ (k : ℕ). drop k line) (sym place) ∙ sym is ∙ nil_from_length rest (omega arith)) in rw none refl
 
 -- a line of which something stands from the first colon on is cut there
 pub something_behind : (line front rest : List ℕ) (n : ℕ) → n ≡ position_or_len is_colon line → front ≡ take n line → rest ≡ drop n line → 1 ≤ length rest → found (front, take (length rest - 1) (drop 1 rest)) ≡ colon_cut line
@@ -129,9 +126,6 @@ pub record WasCut (line front back : List ℕ) : Type 0 where
   pub front_is : front ≡ take (position_or_len is_colon line) line
   pub back_is : back ≡ drop (position_or_len is_colon line + 1) line
 
-found_same : (x y : List ℕ × List ℕ) → found x ≡ found y → x ≡ y
-found_same x y e = cc
-
 -- a cut is at the first colon
 pub was_cut : (line : List ℕ) (o : Option (List ℕ × List ℕ)) (front back : List ℕ) → o ≡ colon_cut line → o ≡ Some (front, back) → WasCut line front back
 was_cut line o front back is some = by_colon (list_any is_colon line) refl (sym is ∙ some)
@@ -139,7 +133,7 @@ was_cut line o front back is some = by_colon (list_any is_colon line) refl (sym 
     by_colon : (x : Bool) → list_any is_colon line ≡ x → cond x (found (take (position_or_len is_colon line) line, drop (position_or_len is_colon line + 1) line)) None ≡ Some (front, back) → WasCut line front back
     by_colon false e g = absurd cc
     by_colon true e g =
-        let same = found_same (take (position_or_len is_colon line) line, drop (position_or_len is_colon line + 1) line) (front, back) g in
+        let same = same_Some (take (position_or_len is_colon line) line, drop (position_or_len is_colon line + 1) line) (front, back) g in
         record { colon = e; front_is = ap (λ (x : List ℕ × List ℕ). x.0) (sym same); back_is = ap (λ (x : List ℕ × List ℕ). x.1) (sym same) }
 
 -- a label of a text is text
@@ -192,11 +186,7 @@ blanks_alone (b ∷ line) e = by_first (is_blank b) refl e (λ e. blanks_alone l
 
 -- the same, of the length of what is left
 pub no_rest : (line : List ℕ) → length (skip_blanks line) ≡ 0 → list_all is_blank line ≡ true
-no_rest line e = blanks_alone line (empty (skip_blanks line) e)
-  where
-    empty : (t : List ℕ) → length t ≡ 0 → t ≡ []
-    empty [] e = refl
-    empty (b ∷ t) e = absurd (omega arith)
+no_rest line e = blanks_alone line (nil_from_length (skip_blanks line) e)
 
 -- a line of which something is left has more than blanks
 pub more_than_blanks : (line : List ℕ) → 0 < length (skip_blanks line) → list_all is_blank line ≡ false

@@ -1,5 +1,5 @@
 -- The first line of a text.
-use Rattle.std.proofs.Common.{◌≡◌, ℕ, suc, subst, ◌+◌, ◌<◌, ◌≤◌, Bool, true, false, cond, eqb, ltb, ◌&&◌, ◌||◌, not, List, [], ◌∷◌, ◌++◌, length, drop, refl, sym, ap, ◌∙◌, arith, ◌≢◌, ◌⊎◌, inl, inr, append_assoc}
+use Rattle.std.proofs.Common.{◌≡◌, one-add, ℕ, subst, ◌<◌, ◌≤◌, Bool, true, false, cond, eqb, ltb, ◌&&◌, ◌||◌, not, List, [], ◌∷◌, ◌++◌, length, drop, refl, sym, ap, ◌∙◌, arith, ◌≢◌, ◌⊎◌, inl, inr, append_assoc}
 use Rattle.std.specs.List.{list_any, onto_first, position_or_len, position}
 use Rattle.std.specs.Option.{unwrap_or}
 use Rattle.std.specs.Prelude.{Some, None}
@@ -20,10 +20,6 @@ after_end_shorter (b ∷ t) h = let e = by_test (eqb b 13 && begins_with 10 t) t
     by_test : (x : Bool) (t : List ℕ) → length (cond x (drop 1 t) t) ≤ length t
     by_test true t = omega (arith, length-drop 1 t)
     by_test false t = omega arith
-
--- one more than a number is the next
-pub one_plus : (n : ℕ) → 1 + n ≡ suc n
-one_plus n = omega arith
 
 lines_nil : lines [] ≡ []
 unfolding lines
@@ -60,7 +56,7 @@ lines_step (b ∷ t) h = by_first (is_end b) refl t (λ k. lines_step t k)
     by_first : (x : Bool) → is_end b ≡ x → (t : List ℕ) → (0 < length t → lines t ≡ first_line t ∷ lines (after_first_line t)) → lines (b ∷ t) ≡ first_line (b ∷ t) ∷ lines (after_first_line (b ∷ t))
     by_first true e t step = rw e (at_end b t e)
     by_first false e [] step = rw e (in_line b [] e ∙ rw lines_nil refl)
-    by_first false e (c ∷ t) step = rw (e, one_plus (position_or_len is_end (c ∷ t))) (in_line b (c ∷ t) e ∙ ap (onto_first b) (step (omega arith)))
+    by_first false e (c ∷ t) step = rw (e, one-add (position_or_len is_end (c ∷ t))) (in_line b (c ∷ t) e ∙ ap (onto_first b) (step (omega arith)))
 
 pub shorter : (t : List ℕ) → 0 < length t → length (after_first_line t) < length t
 shorter t h = by_rest (drop (position_or_len is_end t) t) refl

@@ -4,6 +4,7 @@ use Rattle.std.specs.Prelude.{Option, Some, None}
 use Rattle.std.specs.Option.{option_or}
 use Rattle.std.specs.List.{AllByRecursion}
 use Rattle.std.proofs.lemmas.Bool.Decides.{nat_tests}
+use Rattle.std.proofs.lemmas.Option.{same_Some}
 use Rattle.bag_text.specs.declared.set_fault.SetFault.{SetFault}
 use Rattle.bag_text.specs.declared.set_fault.SetFault.TheVariants.{BadOpening, BadEntry, Truncated, OutOfOrder, BadPath, TooManyFiles, TrailingBytes, PathClash, Memory}
 use Rattle.bag_text.specs.Paths.{is_good, comes_before}
@@ -13,9 +14,6 @@ use Rattle.bag_text.specs.BagList.{IsFront, FileFault, ListFault, file_fault, fa
 
 abbrev pub some : SetFault → Option SetFault
 some f = Some f
-
-some_is : (f g : SetFault) → some f ≡ some g → f ≡ g
-some_is f g e = cc
 
 -- ---- one file
 
@@ -51,10 +49,10 @@ file_some : (place : ℕ) (before : List ℕ) (f : File) (g : SetFault) → file
 file_some place before f g e = by_tests (ltb max_content (length f.content)) (leb max_files place) (is_good f.path) (comes_before before f.path) refl refl refl refl e
   where
     by_tests : (long full good up : Bool) → ltb max_content (length f.content) ≡ long → leb max_files place ≡ full → is_good f.path ≡ good → comes_before before f.path ≡ up → judged place long full good up ≡ Some g → FileFault place before f g
-    by_tests true full good up a b c d e = subst (λ (g : SetFault). FileFault place before f g) (some_is (BadEntry place) g e) (refl, grind (arith, nat_tests))
-    by_tests false true good up a b c d e = subst (λ (g : SetFault). FileFault place before f g) (some_is TooManyFiles g e) (grind (arith, nat_tests), grind (arith, nat_tests))
-    by_tests false false false up a b c d e = subst (λ (g : SetFault). FileFault place before f g) (some_is (BadPath place) g e) (refl, grind (arith, nat_tests), grind (arith, nat_tests), c)
-    by_tests false false true false a b c d e = subst (λ (g : SetFault). FileFault place before f g) (some_is (OutOfOrder place) g e) (refl, grind (arith, nat_tests), grind (arith, nat_tests), c, d)
+    by_tests true full good up a b c d e = subst (λ (g : SetFault). FileFault place before f g) (same_Some (BadEntry place) g e) (refl, grind (arith, nat_tests))
+    by_tests false true good up a b c d e = subst (λ (g : SetFault). FileFault place before f g) (same_Some TooManyFiles g e) (grind (arith, nat_tests), grind (arith, nat_tests))
+    by_tests false false false up a b c d e = subst (λ (g : SetFault). FileFault place before f g) (same_Some (BadPath place) g e) (refl, grind (arith, nat_tests), grind (arith, nat_tests), c)
+    by_tests false false true false a b c d e = subst (λ (g : SetFault). FileFault place before f g) (same_Some (OutOfOrder place) g e) (refl, grind (arith, nat_tests), grind (arith, nat_tests), c, d)
     by_tests false false true true a b c d e = absurd cc
 
 file_stands : (place : ℕ) (before : List ℕ) (f : File) (g : SetFault) → FileFault place before f g → file_fault place before f ≡ Some g
@@ -190,7 +188,7 @@ list_some files g e = by_files (fault_from 0 [] files) refl e
       where
         by_clash : (r : Bool) → clashes files ≡ r → cond r (Some PathClash) None ≡ Some g → ListFault files g
         by_clash false so e = absurd cc
-        by_clash true so e = subst (λ (g : SetFault). ListFault files g) (some_is PathClash g e) (front_of files (from_none 0 [] files (omega arith) is), so)
+        by_clash true so e = subst (λ (g : SetFault). ListFault files g) (same_Some PathClash g e) (front_of files (from_none 0 [] files (omega arith) is), so)
 
 listed_stands : (files : List File) (g : SetFault) (front : List File) (f : File) (rest : List File) → files ≡ front ++ f ∷ rest → IsFront front → FileFault (length front) (last_path [] front) f g → list_fault files ≡ Some g
 listed_stands files g front f rest is fine h =

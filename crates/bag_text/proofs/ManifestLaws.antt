@@ -96,10 +96,6 @@ as_row v a text (ListedTwice n) utf8 unmarked (line, reached, (first, path, one,
     record { number = n; line = line; reached = reached; row = listed_again first path one two refl lt lists entry }
 as_row v a text Memory utf8 unmarked is = absurd is
 
--- no line is read and refused
-ok_or_err : (x : List ℕ × Entry) (f : LineFault) (r : Result (List ℕ × Entry) LineFault) → r ≡ Ok x → r ≡ Err f → ⊥
-ok_or_err x f r a b = cc
-
 -- a line at fault is neither blanks nor does it list a path of its own
 no_row : (v : Version) (a : Algorithm) (text : List ℕ) (fault : LineFault) (row : LineRow v a text fault) → AreBlanks row.line ⊎ IsSomeEntry v a row.line
     → ((first : ℕ) (path one two : List ℕ) → first < row.number → ListsOn v a text first path one → ListsOn v a text row.number path two → ⊥) → ⊥
@@ -107,17 +103,14 @@ no_row v a text fault row (inl blank) once = true≢false (sym blank ∙ row.rea
 no_row v a text fault row (inr (p, sum, is)) once = of_row row.row
   where
     of_row : RowAt v a text row.number row.line fault → ⊥
-    of_row (unread e) = ok_or_err _ fault _ (entry_reads v a row.number row.line p sum is) e
+    of_row (unread e) = never_both _ fault _ (entry_reads v a row.number row.line p sum is) e
     of_row (listed_again first path one two e lt lists entry) = once first path one two lt lists (row.line, row.reached.is, entry)
 
 -- a line has one fault
 same_row : (v : Version) (a : Algorithm) (text : List ℕ) (number : ℕ) (line : List ℕ) (f g : LineFault) → RowAt v a text number line f → RowAt v a text number line g → f ≡ g
-same_row v a text number line f g (unread x) (unread y) = err_is f g (sym x ∙ y)
-  where
-    err_is : (f g : LineFault) → ◌≡◌ {A = Result (List ℕ × Entry) LineFault} (Err f) (Err g) → f ≡ g
-    err_is f g e = cc
-same_row v a text number line f g (unread x) (listed_again first path one two is lt lists entry) = absurd (ok_or_err _ f _ (entry_reads v a number line path two entry) x)
-same_row v a text number line f g (listed_again first path one two is lt lists entry) (unread y) = absurd (ok_or_err _ g _ (entry_reads v a number line path two entry) y)
+same_row v a text number line f g (unread x) (unread y) = same_err f g (entry_of v a number line) x y
+same_row v a text number line f g (unread x) (listed_again first path one two is lt lists entry) = absurd (never_both _ f _ (entry_reads v a number line path two entry) x)
+same_row v a text number line f g (listed_again first path one two is lt lists entry) (unread y) = absurd (never_both _ g _ (entry_reads v a number line path two entry) y)
 same_row v a text number line f g (listed_again first path one two is lt lists entry) (listed_again first2 path2 one2 two2 is2 lt2 lists2 entry2) = is ∙ sym is2
 
 -- a text has one first fault

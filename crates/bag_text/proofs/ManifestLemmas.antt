@@ -5,6 +5,7 @@ use Rattle.std.specs.List.{list_all, position_or_len}
 use Rattle.std.proofs.lemmas.Bool.{and_parts, or_parts}
 use Rattle.std.proofs.lemmas.List.Sums.{prefix_len-le-length}
 use Rattle.std.proofs.lemmas.List.{append-nil}
+use Rattle.std.proofs.lemmas.Option.{same_Some}
 use Rattle.bag_text.specs.declared.declaration.Version.{Version}
 use Rattle.std.specs.Prelude.{is_none, is_some, Result, Ok, Err, map}
 use Rattle.std.specs.declared.cmp.Ordering.{Ordering}
@@ -57,17 +58,11 @@ next_code v a b c s = of_code (coded_character v a b c)
     of_code (Some x) = refl
     of_code None = refl
 
-abbrev some : ℕ × List ℕ → Option (ℕ × List ℕ)
-some x = Some x
-
-is_some_is : (x y : ℕ × List ℕ) → some x ≡ some y → x ≡ y
-is_some_is x y e = cc
-
 abbrev onto : Version → ℕ × List ℕ → List ℕ
 onto v x = x.0 ∷ decode v x.1
 
-short_step : (v : Version) (a x : ℕ) (s rest t : List ℕ) → t ≡ a ∷ decode v s → some (a, s) ≡ Some (x, rest) → t ≡ x ∷ decode v rest
-short_step v a x s rest t is e = is ∙ ap (onto v) (is_some_is (a, s) (x, rest) e)
+short_step : (v : Version) (a x : ℕ) (s rest t : List ℕ) → t ≡ a ∷ decode v s → ◌≡◌ {A = Option (ℕ × List ℕ)} (Some (a, s)) (Some (x, rest)) → t ≡ x ∷ decode v rest
+short_step v a x s rest t is e = is ∙ ap (onto v) (same_Some (a, s) (x, rest) e)
 
 pub decode_step : (v : Version) (s : List ℕ) (x : ℕ) (rest : List ℕ) → next_char v s ≡ Some (x, rest) → decode v s ≡ x ∷ decode v rest
 unfolding decode

@@ -1,5 +1,5 @@
 -- What one line of a manifest lists, read and as a relation.
-use Rattle.std.proofs.Common.{◌≡◌, ℕ, zero, suc, ◌+◌, ◌*◌, ◌/◌, ◌%◌, Bool, true, false, cond, eqb, not, List, [], ◌∷◌, ◌++◌, length, take, drop, refl, sym, ap, subst, ◌∙◌, ◌⊎◌, inl, inr, append_assoc}
+use Rattle.std.proofs.Common.{◌≡◌, one-add, ℕ, zero, suc, ◌+◌, ◌*◌, ◌/◌, ◌%◌, Bool, true, false, cond, eqb, not, List, [], ◌∷◌, ◌++◌, length, take, drop, refl, sym, ap, subst, ◌∙◌, ◌⊎◌, inl, inr, append_assoc}
 use Rattle.std.specs.Prelude.{Option, Some, None, Result, Ok, Err, ◌≢◌, option_map}
 use Rattle.std.specs.List.{list_any, list_all, position_or_len}
 use Rattle.std.specs.Result.{result_ok}
@@ -18,7 +18,6 @@ use Rattle.bag_text.specs.Text.{is_blank, begins_with, skip_blanks}
 use Rattle.bag_text.specs.Paths.{GoodPath, is_good}
 use Rattle.bag_text.specs.Manifest.{Spells, has_coded, decode, size_of, checksum_of, IsEntry, sum_text, path_text}
 use Rattle.bag_text.specs.ManifestReading.{good_of, path_of, checksum_in, Entry, entry_of}
-use Rattle.bag_text.proofs.LineLemmas.{one_plus}
 use Rattle.bag_text.proofs.PathLemmas.{good_read, good_again, not_empty}
 use Rattle.bag_text.proofs.ManifestLemmas.{spells_decoded, spelled_is_decoded}
 
@@ -63,14 +62,14 @@ blank_first (b ∷ t) some = by_test (is_blank b) refl some (blank_first t)
   where
     by_test : (x : Bool) → is_blank b ≡ x → drop (cond (not x) (1 + position_or_len is_blank t) 0) (b ∷ t) ≢ [] → (drop (position_or_len is_blank t) t ≢ [] → first_blanks (drop (position_or_len is_blank t) t) ≢ []) → first_blanks (drop (cond (not x) (1 + position_or_len is_blank t) 0) (b ∷ t)) ≢ []
     by_test true e some again = rw e (λ h. absurd cc)
-    by_test false e some again = rw one_plus (again (rw one_plus at some))
+    by_test false e some again = rw one-add (again (rw one-add at some))
 
 -- where the digits end
 digits_end : (digits : List ℕ) (b : ℕ) (t : List ℕ) → list_any is_blank digits ≡ false → is_blank b ≡ true → position_or_len is_blank (digits ++ b ∷ t) ≡ length digits
 digits_end [] b t none blank = rw blank refl
 digits_end (d ∷ digits) b t none blank =
     let parts = or_parts (is_blank d) (list_any is_blank digits) none in
-    rw (parts.0, digits_end digits b t parts.1 blank) (one_plus (length digits))
+    rw (parts.0, digits_end digits b t parts.1 blank) (one-add (length digits))
 
 -- the front of a text in two parts
 -- blanks at the front are skipped

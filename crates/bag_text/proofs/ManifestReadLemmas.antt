@@ -22,6 +22,7 @@ use Rattle.bag_text.specs.Paths.{GoodPath, is_good}
 use Rattle.bag_text.specs.Manifest.{Spells, decode, has_coded, size_of, checksum_of, IsEntry, LineIs, ListsOn, IsSoundBefore, AscendingPaths, sum_text, path_text, IsReached, ManifestFault}
 use Rattle.bag_text.specs.Answers.{◌>>=◌}
 use Rattle.bag_text.specs.ManifestReading.{Entry, Entries, checksum_in, path_of, entry_of, is_listed, add_line_of, entries_of, manifest_of}
+use Rattle.bag_text.proofs.ResultLemmas.{ok_is}
 use Rattle.bag_text.proofs.PathLemmas.{good_again}
 use Rattle.bag_text.proofs.ManifestLemmas.{spells_decoded, spelled_is_decoded}
 use Rattle.bag_text.proofs.ManifestLineLemmas.{LineView, bad_checksum, no_path, bad_path, sound, line_view, reads_bad_checksum, reads_no_path, reads_bad_path, reads_sound, EntryRead, sound_entry, blank_is_no_entry, entry_digits, entry_spelled}
@@ -124,9 +125,6 @@ one_path_a_line v a line p q one two x y = (both_paths, both_sums)
 
     both_paths : p ≡ q
     both_paths = sym (spelled_is_decoded v x.spelled p x.spells) ∙ ap (decode v) spelled ∙ spelled_is_decoded v y.spelled q y.spells
-
-    ok_is : (r s : List ℕ) → ◌≡◌ {A = Result (List ℕ) FromHexError} (Ok r) (Ok s) → r ≡ s
-    ok_is r s e = cc
 
     both_sums : one ≡ two
     both_sums = ok_is one two (sym x.checked ∙ ap (λ (d : List ℕ). decode_sized d (size_of a)) digits ∙ y.checked)

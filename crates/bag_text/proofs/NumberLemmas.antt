@@ -1,14 +1,14 @@
 -- A number that is read is the number that is spelled, up to the byte that stops it.
-use Rattle.std.proofs.Common.{◌≡◌, ℕ, ◌+◌, ◌-◌, ◌*◌, ◌/◌, ◌%◌, ◌^◌, ◌<◌, ◌≤◌, Bool, true, false, cond, eqb, ltb, leb, ◌&&◌, List, [], ◌∷◌, ◌++◌, Result, Ok, Err, refl, sym, ap, subst, ◌∙◌, arith, append_assoc}
+use Rattle.std.proofs.Common.{◌≡◌, ℕ, ◌+◌, ◌-◌, ◌*◌, ◌/◌, ◌%◌, ◌^◌, ◌<◌, ◌≤◌, Bool, true, false, cond, eqb, ltb, leb, ◌&&◌, List, [], ◌∷◌, ◌++◌, Ok, Err, refl, sym, ap, subst, ◌∙◌, arith, append_assoc}
 use Rattle.std.specs.Prelude.{decimal}
 use Rattle.std.specs.Char.{is_ascii_digit}
 use Rattle.std.proofs.lemmas.Bool.Decides.{nat_tests}
 use Rattle.std.proofs.lemmas.Bool.{eqb-true}
 use Rattle.std.proofs.lemmas.List.{append-nil}
 use Rattle.std.proofs.lemmas.Fmt.{decimal_digit, decimal_step, decimal_by_steps}
-use Rattle.bag_text.specs.declared.header.Flaw.{Flaw}
 use Rattle.bag_text.specs.declared.header.Flaw.TheVariants.{Short, Bad}
 use Rattle.bag_text.specs.TransferReading.{digits_at, number_at}
+use Rattle.bag_text.proofs.ResultLemmas.{ok_is}
 
 -- one more digit
 pub push_digit : (n b : ℕ) → 0 < n → n * 10 + (b - 48) < 2 ^ 64 → is_ascii_digit b ≡ true → decimal (n * 10 + (b - 48)) ≡ decimal n ++ b ∷ []
@@ -45,12 +45,6 @@ pub record Goes (most n b : ℕ) : Type 0 where
 
 goes : (most n b : ℕ) → may_go most n b ≡ true → Goes most n b
 goes most n b e = record { digit = grind (arith, nat_tests); above = grind (arith, nat_tests); within = grind (arith, nat_tests) }
-
-abbrev pub done : {A : Type 0} → A → Result A Flaw
-done x = Ok x
-
-pub ok_is : {A : Type 0} (x y : A) → done x ≡ done y → x ≡ y
-ok_is x y e = cc
 
 pub digits_ok : (stop most n : ℕ) (t : List ℕ) (m : ℕ) (rest : List ℕ) → most < 2 ^ 32 → n ≤ most → digits_at stop most n t ≡ Ok (m, rest) → (taken : List ℕ) × (t ≡ taken ++ stop ∷ rest) × More most n m taken
 unfolding digits_at

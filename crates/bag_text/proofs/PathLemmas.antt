@@ -1,6 +1,6 @@
 -- Good paths.
 use Rattle.std.proofs.Common.{◌≡◌, ℕ, suc, zero, Bool, true, false, cond, eqb, ltb, List, [], ◌∷◌, length, refl, sym, ap, subst, ◌∙◌, arith, ◌≢◌}
-use Rattle.std.specs.Prelude.{Option, Some, None, is_none, codes, bytes_eq, Contains, IsUtf8, ◌↔◌}
+use Rattle.std.specs.Prelude.{Some, None, is_none, codes, bytes_eq, Contains, IsUtf8, ◌↔◌}
 use Rattle.std.specs.List.{list_any}
 use Rattle.std.specs.Str.{is_utf8}
 use Rattle.std.proofs.lemmas.Bool.{ltb-false, or_parts, or_from, and_parts, and_from, false_from_ne_true}

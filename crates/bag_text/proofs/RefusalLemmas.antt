@@ -12,20 +12,12 @@ use Rattle.bag_text.specs.Paths.{is_good, comes_before}
 use Rattle.bag_text.specs.TransferForm.{File, header, entry, opening, ending, set_text, max_files, Ascends, clashes, Fits, IsBag}
 use Rattle.bag_text.specs.TransferFaults.{BeginsWith, IsProperBeginning, IsOpening, HasSizes, IsEndOrHeader, EntryFault, PlaceFault, last_path, GoOn, FaultIs}
 use Rattle.bag_text.specs.TransferReading.{Head, Place, End, Entry, literal_at, place_at, file_at, result_at, entry_at, files_at, after_opening, set_of}
+use Rattle.bag_text.proofs.ResultLemmas.{same_ok, same_err, never_both}
 use Rattle.bag_text.proofs.HeaderLemmas.{literal_ok, literal_again, literal_ends, literal_bad}
 use Rattle.bag_text.proofs.FormLemmas.{place_ok, place_header, end_trails, entry_again, files_again, set_ok, set_again}
 use Rattle.bag_text.proofs.FaultLemmas.{sized, fit, place_end, short_place, bad_place}
 use Rattle.bag_text.proofs.SetLemmas.{at_fault, at_file}
 use Rattle.bag_text.proofs.TableLemmas.{set_fault}
-
--- two answers to one question are one
-agree : {A E : Type 0} (r : Result A E) (x : A) (f : E) → r ≡ Ok x → r ≡ Err f → ⊥
-agree (Ok y) x f e g = absurd cc
-agree (Err h) x f e g = absurd cc
-
-same_error : {A E : Type 0} (r : Result A E) (f g : E) → r ≡ Err f → r ≡ Err g → f ≡ g
-same_error (Ok y) f g a b = absurd cc
-same_error (Err h) f g a b = cc
 
 -- nothing is left of two pieces where nothing is left of both
 nothing_more : (a b : List ℕ) → a ++ b ≡ [] → b ≡ []
@@ -40,7 +32,7 @@ opening_short t proper = by_read (literal_at opening t) refl
   where
     by_read : (r : Result (List ℕ) Flaw) → literal_at opening t ≡ r → r ≡ Err Short
     by_read (Err Short) is = refl
-    by_read (Err Bad) is = absurd (agree (literal_at opening (t ++ proper.0)) [] Bad (ap (literal_at opening) (proper.2 ∙ sym (append-nil opening)) ∙ literal_again opening []) (literal_bad opening t proper.0 is))
+    by_read (Err Bad) is = absurd (never_both [] Bad (literal_at opening (t ++ proper.0)) (ap (literal_at opening) (proper.2 ∙ sym (append-nil opening)) ∙ literal_again opening []) (literal_bad opening t proper.0 is))
     by_read (Ok rest) is = absurd (proper.1 (longer rest (literal_ok opening t rest is)))
       where
         longer : (rest : List ℕ) → t ≡ opening ++ rest → proper.0 ≡ []
@@ -88,10 +80,6 @@ unfolding behind_place
 place_whole t (inl end) = (End [], ap place_at (end ∙ sym (append-nil ending)) ∙ place_end [], refl)
 place_whole t (inr h) = (Entry (record { path_len = h.0; content_len = h.1; rest = [] }), ap place_at (h.3 ∙ sym (append-nil (header h.0 h.1))) ∙ place_header h.0 h.1 [] (fit h.0 h.1 h.2), refl)
 
-same_place : (r : Result Place Flaw) (p q : Place) → r ≡ Ok p → r ≡ Ok q → p ≡ q
-same_place (Ok x) p q a b = cc
-same_place (Err e) p q a b = absurd cc
-
 -- A proper beginning of the end or of a header is too short.
 place_short : (t : List ℕ) → IsProperBeginning IsEndOrHeader t → place_at t ≡ Err Short
 place_short t proper = by_read (place_at t) refl
@@ -102,7 +90,7 @@ place_short t proper = by_read (place_at t) refl
     by_read (Ok p) is =
         let grown = place_grows t proper.0 p is in
         let whole = place_whole (t ++ proper.0) proper.2 in
-        let same = same_place (place_at (t ++ proper.0)) grown.0 whole.0 grown.1 whole.1 in
+        let same = same_ok grown.0 whole.0 (place_at (t ++ proper.0)) grown.1 whole.1 in
         absurd (proper.1 (nothing_more (behind_place p) proper.0 (sym grown.2 ∙ ap behind_place same ∙ whole.2)))
 
 -- What neither begins with the end or a header nor is a beginning of one is bad.
@@ -240,11 +228,11 @@ refuses t Memory (files, rest, on, h) = going_refused t Memory files rest on h
 
 -- A text has at most one fault.
 pub one_fault_stands : (t : List ℕ) (f g : SetFault) → FaultIs t f → FaultIs t g → f ≡ g
-one_fault_stands t f g a b = same_error (set_of t) f g (refuses t f a) (refuses t g b)
+one_fault_stands t f g a b = same_err f g (set_of t) (refuses t f a) (refuses t g b)
 
 -- The form of a bag has no fault.
 pub form_has_none : (files : List File) (f : SetFault) → IsBag files → FaultIs (set_text files) f → ⊥
-form_has_none files f bag h = agree (set_of (set_text files)) files f (set_again files bag) (refuses (set_text files) f h)
+form_has_none files f bag h = never_both files f (set_of (set_text files)) (set_again files bag) (refuses (set_text files) f h)
 
 -- A text is the form of a bag, or has a fault.
 pub form_or_fault : (t : List ℕ) → ((files : List File) × IsBag files × (t ≡ set_text files)) ⊎ ((f : SetFault) × FaultIs t f)

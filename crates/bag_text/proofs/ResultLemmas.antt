@@ -1,6 +1,7 @@
 -- Steps that may fail, one after the other, and what is answered of them.
-use Rattle.std.proofs.Common.{◌≡◌, ◌⊎◌, inl, inr, true, is_none, refl}
+use Rattle.std.proofs.Common.{◌≡◌, ◌⊎◌, inl, inr, true, is_none, List, [], ◌∷◌, ◌++◌, refl, sym, ap, append_assoc}
 use Rattle.std.specs.Prelude.{Option, Some, None, Result, Ok, Err}
+use Rattle.std.proofs.lemmas.List.{append-nil}
 use Rattle.bag_text.specs.Answers.{◌>>=◌, FailsAs}
 
 -- where two steps succeed each does
@@ -23,6 +24,13 @@ pub same_err : {A E : Type 0} (x y : E) (r : Result A E) → r ≡ Err x → r �
 same_err x y (Ok z) e f = absurd cc
 same_err x y (Err z) e f = cc
 
+-- the same, of steps that are told
+pub ok_is : {A E : Type 0} (x y : A) → ◌≡◌ {A = Result A E} (Ok x) (Ok y) → x ≡ y
+ok_is x y e = cc
+
+pub err_is : {A E : Type 0} (x y : E) → ◌≡◌ {A = Result A E} (Err x) (Err y) → x ≡ y
+err_is x y e = cc
+
 -- no step both succeeds and fails
 pub never_both : {A E : Type 0} (x : A) (y : E) (r : Result A E) → r ≡ Ok x → r ≡ Err y → ⊥
 never_both x y (Ok z) e f = absurd cc
@@ -37,3 +45,18 @@ fails_on (Some f) step total on e = on f e
 pub is_nothing : {A : Type 0} (o : Option A) → is_none o ≡ true → o ≡ None
 is_nothing None e = refl
 is_nothing (Some x) e = absurd cc
+
+-- ---- item after item
+
+-- what was read before, and what is still read
+abbrev pub fronted : {A E : Type 0} → List A → Result (List A) E → Result (List A) E
+fronted front read = read >>= λ xs. Ok (front ++ xs)
+
+-- what is read goes to what was read before
+pub again_onto : {A E : Type 0} (front : List A) (x : A) (r : Result (List A) E) → fronted front (r >>= λ xs. Ok (x ∷ xs)) ≡ fronted (front ++ x ∷ []) r
+again_onto {A = A} front x (Ok xs) = ap (λ (t : List A). Ok t) (sym (append_assoc front (x ∷ []) xs))
+again_onto front x (Err e) = refl
+
+-- nothing is left to be read
+pub nothing_onto : {A E : Type 0} (front : List A) → fronted {E = E} front (Ok []) ≡ Ok front
+nothing_onto {A = A} front = ap (λ (t : List A). Ok t) (append-nil front)

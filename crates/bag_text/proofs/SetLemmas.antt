@@ -1,6 +1,6 @@
 -- Reading the transfer form.
-use Rattle.std.proofs.Common.{◌≡◌, ℕ, zero, suc, ◌+◌, ◌-◌, ◌<◌, List, [], ◌∷◌, ◌++◌, length, get_or, drop, Result, Ok, Err, refl, sym, ap, ◌∙◌, arith, append_assoc}
-use Rattle.std.proofs.lemmas.List.{drop_more, append-nil}
+use Rattle.std.proofs.Common.{◌≡◌, ℕ, zero, suc, ◌+◌, ◌-◌, ◌<◌, List, [], ◌∷◌, ◌++◌, length, get_or, drop, Result, Ok, Err, refl, sym, ap, ◌∙◌, arith}
+use Rattle.std.proofs.lemmas.List.{drop_more}
 use Rattle.std.specs.Prelude.{Option, Some, None}
 use Rattle.bag_text.specs.declared.header.Flaw.TheVariants.{Short}
 use Rattle.bag_text.specs.declared.set_fault.SetFault.{SetFault}
@@ -8,6 +8,7 @@ use Rattle.bag_text.specs.declared.set_fault.SetFault.TheVariants.{BadOpening, B
 use Rattle.bag_text.specs.Answers.{◌>>=◌, FailsAs}
 use Rattle.bag_text.specs.TransferReading.{literal_at, files_at, entry_at, named_set_fault}
 use Rattle.bag_text.specs.TransferForm.{File}
+use Rattle.bag_text.proofs.ResultLemmas.{fronted, again_onto, nothing_onto}
 
 literal_nil : (w : List ℕ) → 0 < length w → literal_at w [] ≡ Err Short
 unfolding literal_at
@@ -19,10 +20,6 @@ literal_short w i [] lt e = rw (drop_more w i 0 lt) (literal_nil (get_or w i 0 �
 literal_short w i (b ∷ t) lt e = absurd (omega arith)
 
 -- ---- one file after the other
-
--- what was read before, and what is still read
-abbrev pub fronted : List File → Result (List File) SetFault → Result (List File) SetFault
-fronted front read = read >>= λ files. Ok (front ++ files)
 
 pub at_fault : (whole left : ℕ) (before text : List ℕ) (fault : SetFault) → entry_at (whole - length text) left before text ≡ Err fault → files_at whole left before text ≡ Err fault
 unfolding files_at
@@ -38,10 +35,6 @@ pub at_file : (whole more : ℕ) (before text : List ℕ) (file : File × List �
 unfolding files_at
 at_file whole more before text file e = rw e refl
 
-regroup : (front : List File) (f : File) (read : Result (List File) SetFault) → fronted front (read >>= λ files. Ok (f ∷ files)) ≡ fronted (front ++ f ∷ []) read
-regroup front f (Ok files) = ap (λ (fs : List File). Ok fs) (simp append_assoc)
-regroup front f (Err e) = refl
-
 -- ---- the steps of the loop
 
 pub goes_on : (front now : List File) (whole offset left : ℕ) (before text : List ℕ) (o : Option (File × List ℕ)) (file : File × List ℕ) (total : Result (List File) SetFault)
@@ -51,14 +44,14 @@ goes_on front now whole offset zero before text o file total lt at is e some so_
 goes_on front now whole offset (suc more) before text o file total lt at is e some so_far =
     let less : suc more - 1 ≡ more = omega arith in
     let found : entry_at (whole - length text) (suc more) before text ≡ Ok (Some file) = rw (← at, ← some) e in
-    rw (less, is) (sym (ap (fronted front) (at_file whole more before text file found) ∙ regroup front file.0 (files_at whole more file.0.path file.1)) ∙ so_far)
+    rw (less, is) (sym (ap (fronted front) (at_file whole more before text file found) ∙ again_onto front file.0 (files_at whole more file.0.path file.1)) ∙ so_far)
 
 pub is_done : (front : List File) (whole offset left : ℕ) (before text : List ℕ) (o : Option (File × List ℕ)) (total : Result (List File) SetFault)
     → offset ≡ whole - length text → entry_at offset left before text ≡ Ok o → o ≡ None
     → fronted front (files_at whole left before text) ≡ total → total ≡ Ok front
 is_done front whole offset left before text o total at e none so_far =
     let found : entry_at (whole - length text) left before text ≡ Ok None = rw (← at, ← none) e in
-    sym so_far ∙ ap (fronted front) (at_end whole left before text found) ∙ ap (λ (fs : List File). Ok fs) (append-nil front)
+    sym so_far ∙ ap (fronted front) (at_end whole left before text found) ∙ nothing_onto front
 
 pub ends : (front : List File) (whole offset left : ℕ) (before text : List ℕ) (fault : SetFault) (total : Result (List File) SetFault)
     → offset ≡ whole - length text → entry_at offset left before text ≡ Err fault

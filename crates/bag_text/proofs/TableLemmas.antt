@@ -14,15 +14,13 @@ use Rattle.bag_text.specs.TransferReading.{Head, Place, End, Entry, literal_at, 
 use Rattle.bag_text.specs.TransferForm.{File, header, entry, opening, ending, max_files, Ascends, clashes, Fits}
 use Rattle.bag_text.specs.Paths.{is_good, comes_before}
 use Rattle.bag_text.specs.TransferFaults.{HasSizes, EntryFault, PlaceFault, last_path, GoOn, FaultIs}
+use Rattle.bag_text.proofs.ResultLemmas.{err_is}
 use Rattle.bag_text.proofs.HeaderLemmas.{literal_ok, literal_again, literal_ends, literal_bad}
 use Rattle.bag_text.proofs.FormLemmas.{place_ok, entry_ok, files_ok}
 use Rattle.bag_text.proofs.FaultLemmas.{sized, short_place, bad_place}
 
 abbrev wrong : {A : Type 0} → SetFault → Result A SetFault
 wrong f = Err f
-
-wrong_is : {A : Type 0} (f g : SetFault) → wrong {A = A} f ≡ wrong g → f ≡ g
-wrong_is f g e = cc
 
 pub file_fault : (offset : ℕ) (before : List ℕ) (head : Head) (f : SetFault) → file_at offset before head ≡ Err f → EntryFault offset before head.path_len head.content_len head.rest f
 unfolding file_at
@@ -44,7 +42,7 @@ file_fault offset before head f e = by_length (ltb (length head.rest) (head.path
     Is f = EntryFault offset before head.path_len head.content_len head.rest f
 
     by_length : (x : Bool) → ltb (length head.rest) (head.path_len + head.content_len + 1) ≡ x → cond x (Err Truncated) (cond (not (eqb (get_or behind 0 0) 10)) (Err (BadEntry offset)) (cond (not (is_good path)) (Err (BadPath offset)) (cond (not (comes_before before path)) (Err (OutOfOrder offset)) (Ok made)))) ≡ Err f → Is f
-    by_length true is e = subst Is (wrong_is {A = File × List ℕ} Truncated f e) (ltb-true _ _ is)
+    by_length true is e = subst Is (err_is Truncated f e) (ltb-true _ _ is)
     by_length false is e = by_end (eqb (get_or behind 0 0) 10) refl e
       where
         long : head.path_len + head.content_len + 1 ≤ length head.rest
@@ -66,15 +64,15 @@ file_fault offset before head f e = by_length (ltb (length head.rest) (head.path
             sym (take-append-drop head.path_len head.rest) ∙ ap (λ (t : List ℕ). path ++ t) two ∙ sym (append_assoc path content (b ∷ drop 1 behind))
 
         by_end : (x : Bool) → eqb (get_or behind 0 0) 10 ≡ x → cond (not x) (Err (BadEntry offset)) (cond (not (is_good path)) (Err (BadPath offset)) (cond (not (comes_before before path)) (Err (OutOfOrder offset)) (Ok made))) ≡ Err f → Is f
-        by_end false is2 e = subst Is (wrong_is {A = File × List ℕ} (BadEntry offset) f e) (refl, (path, content, get_or behind 0 0, drop 1 behind, path_len, content_len, grind (arith, nat_tests), whole (get_or behind 0 0) refl))
+        by_end false is2 e = subst Is (err_is (BadEntry offset) f e) (refl, (path, content, get_or behind 0 0, drop 1 behind, path_len, content_len, grind (arith, nat_tests), whole (get_or behind 0 0) refl))
         by_end true is2 e = by_path (is_good path) refl e
           where
             by_path : (x : Bool) → is_good path ≡ x → cond (not x) (Err (BadPath offset)) (cond (not (comes_before before path)) (Err (OutOfOrder offset)) (Ok made)) ≡ Err f → Is f
-            by_path false is3 e = subst Is (wrong_is {A = File × List ℕ} (BadPath offset) f e) (refl, (path, content, drop 1 behind, path_len, content_len, whole 10 (eqb-true _ _ is2), is3))
+            by_path false is3 e = subst Is (err_is (BadPath offset) f e) (refl, (path, content, drop 1 behind, path_len, content_len, whole 10 (eqb-true _ _ is2), is3))
             by_path true is3 e = by_order (comes_before before path) refl e
               where
                 by_order : (x : Bool) → comes_before before path ≡ x → cond (not x) (Err (OutOfOrder offset)) (Ok made) ≡ Err f → Is f
-                by_order false is4 e = subst Is (wrong_is {A = File × List ℕ} (OutOfOrder offset) f e) (refl, (path, content, drop 1 behind, path_len, content_len, whole 10 (eqb-true _ _ is2), is3, is4))
+                by_order false is4 e = subst Is (err_is (OutOfOrder offset) f e) (refl, (path, content, drop 1 behind, path_len, content_len, whole 10 (eqb-true _ _ is2), is3, is4))
                 by_order true is4 e = absurd cc
 
 of_entry : (offset left : ℕ) (before t : List ℕ) (p c : ℕ) (rest : List ℕ) (f : SetFault) → HasSizes p c → t ≡ header p c ++ rest → 0 < left → EntryFault offset before p c rest f → PlaceFault offset left before t f
@@ -93,17 +91,17 @@ unfolding entry_at
 entry_fault offset left before t f e = by_place left (place_at t) refl e
   where
     by_place : (left : ℕ) (r : Result Place Flaw) → place_at t ≡ r → (result_at offset r >>= entry_of offset left before) ≡ Err f → PlaceFault offset left before t f
-    by_place left (Err Short) is e = subst (λ (f : SetFault). PlaceFault offset left before t f) (wrong_is {A = Option (File × List ℕ)} Truncated f e) (inl (short_place t is))
-    by_place left (Err Bad) is e = let b = bad_place t is in subst (λ (f : SetFault). PlaceFault offset left before t f) (wrong_is {A = Option (File × List ℕ)} (BadEntry offset) f e) (inl (refl, b.0, b.1))
+    by_place left (Err Short) is e = subst (λ (f : SetFault). PlaceFault offset left before t f) (err_is Truncated f e) (inl (short_place t is))
+    by_place left (Err Bad) is e = let b = bad_place t is in subst (λ (f : SetFault). PlaceFault offset left before t f) (err_is (BadEntry offset) f e) (inl (refl, b.0, b.1))
     by_place left (Ok (End [])) is e = absurd cc
     by_place left (Ok (End (b ∷ rest))) is e = by_rest (eqb (length (b ∷ rest)) 0) refl e
       where
         by_rest : (x : Bool) → eqb (length (b ∷ rest)) 0 ≡ x → cond x (Ok None) (wrong {A = Option (File × List ℕ)} TrailingBytes) ≡ Err f → PlaceFault offset left before t f
         by_rest true is2 e = absurd cc
-        by_rest false is2 e = subst (λ (f : SetFault). PlaceFault offset left before t f) (wrong_is {A = Option (File × List ℕ)} TrailingBytes f e) (b ∷ rest, (λ none. absurd cc), (place_ok t (End (b ∷ rest)) is).at_end (b ∷ rest) refl)
+        by_rest false is2 e = subst (λ (f : SetFault). PlaceFault offset left before t f) (err_is TrailingBytes f e) (b ∷ rest, (λ none. absurd cc), (place_ok t (End (b ∷ rest)) is).at_end (b ∷ rest) refl)
     by_place zero (Ok (Entry head)) is e =
         let h = (place_ok t (Entry head) is).at_entry head refl in
-        subst (λ (f : SetFault). PlaceFault offset zero before t f) (wrong_is {A = Option (File × List ℕ)} TooManyFiles f e) (refl, (head.path_len, head.content_len, head.rest, sized head.path_len head.content_len h.1, h.0))
+        subst (λ (f : SetFault). PlaceFault offset zero before t f) (err_is TooManyFiles f e) (refl, (head.path_len, head.content_len, head.rest, sized head.path_len head.content_len h.1, h.0))
     by_place (suc more) (Ok (Entry head)) is e = by_file (file_at offset before head) refl e
       where
         by_file : (r : Result (File × List ℕ) SetFault) → file_at offset before head ≡ r → (r >>= λ file. Ok (Some file)) ≡ Err f → PlaceFault offset (suc more) before t f
@@ -191,9 +189,9 @@ set_fault t f e = by_opening (literal_at opening t) refl e
     by_opening : (r : Result (List ℕ) Flaw) → literal_at opening t ≡ r → (after_opening r >>= λ rest. files_at (length t) max_files [] rest >>= λ files. cond (clashes files) (Err PathClash) (Ok files)) ≡ Err f → FaultIs t f
     by_opening (Err Short) is e =
         let w = literal_ends opening t is in
-        subst (λ (f : SetFault). FaultIs t f) (wrong_is {A = List File} Truncated f e) (inl (w.0, (λ none. not_both t [] Short is (sym (append-nil t) ∙ ap (λ (x : List ℕ). t ++ x) (sym none) ∙ w.1 ∙ sym (append-nil opening))), w.1))
+        subst (λ (f : SetFault). FaultIs t f) (err_is Truncated f e) (inl (w.0, (λ none. not_both t [] Short is (sym (append-nil t) ∙ ap (λ (x : List ℕ). t ++ x) (sym none) ∙ w.1 ∙ sym (append-nil opening))), w.1))
     by_opening (Err Bad) is e =
-        subst (λ (f : SetFault). FaultIs t f) (wrong_is {A = List File} BadOpening f e) (
+        subst (λ (f : SetFault). FaultIs t f) (err_is BadOpening f e) (
           (λ b. not_both t b.1 Bad is (b.3 ∙ ap (λ (x : List ℕ). x ++ b.1) b.2)),
           (λ b. not_both (t ++ b.0) [] Bad (literal_bad opening t b.0 is) (b.2 ∙ sym (append-nil opening))),
         )
@@ -207,7 +205,7 @@ set_fault t f e = by_opening (literal_at opening t) refl e
             by_clash false is3 e = absurd cc
             by_clash true is3 e =
                 let r = files_ok (length t) max_files [] rest files is2 in
-                subst (λ (f : SetFault). FaultIs t f) (wrong_is {A = List File} PathClash f e) (files, record { text = literal_ok opening t rest is ∙ ap (λ (x : List ℕ). opening ++ x) r.text ∙ sym (append_assoc opening (flat_map entry files) ending); few = r.few; each = r.each; ascending = r.up }, is3)
+                subst (λ (f : SetFault). FaultIs t f) (err_is PathClash f e) (files, record { text = literal_ok opening t rest is ∙ ap (λ (x : List ℕ). opening ++ x) r.text ∙ sym (append_assoc opening (flat_map entry files) ending); few = r.few; each = r.each; ascending = r.up }, is3)
 
 pub is_fault : {X : Type 0} (t : List ℕ) (view : X → List File) (r : Result X SetFault) → Gives named_set_fault view r (set_of t) → IfErr r (λ f. f ≢ Memory → FaultIs t f)
 is_fault t view (Ok x) e = tt

@@ -1,5 +1,5 @@
 -- What reading a manifest gives, line by line.
-use Rattle.std.specs.Prelude.{◌≡◌, ℕ, ◌+◌, Bool, true, false, not, List, [], ◌∷◌, length, map, Option, Some, None, Result, Ok, Err, is_some, option_map, Contains, ◌==◌, if◌then◌else◌}
+use Rattle.std.specs.Prelude.{◌≡◌, ℕ, ◌+◌, Bool, true, false, not, List, [], ◌∷◌, length, map, Option, Some, None, Result, Ok, Err, ok_or, is_some, option_map, Contains, ◌==◌, if◌then◌else◌}
 use Rattle.std.specs.Str.{is_utf8}
 use Rattle.std.specs.List.{list_all}
 use Rattle.std.specs.Result.{result_ok}
@@ -44,10 +44,6 @@ path_of v spelled = if begins_with 42 spelled then None else good_of (has_coded 
 abbrev pub checksum_in : Algorithm → List ℕ → Option Checksum
 checksum_in a digits = option_map (checksum_of a) (result_ok (decode_sized digits (size_of a)))
 
-abbrev pub or_fault : {A : Type 0} → Option A → LineFault → Result A LineFault
-or_fault (Some x) fault = Ok x
-or_fault None fault = Err fault
-
 -- what a line lists of its path: the checksum, the line's number, and whether something was decoded for the path
 pub record Entry : Type 0 where
   pub checksum : Checksum
@@ -57,9 +53,9 @@ pub record Entry : Type 0 where
 -- a line's path and checksum
 unfoldable pub entry_of : Version → Algorithm → ℕ → List ℕ → Result (List ℕ × Entry) LineFault
 entry_of v a number line = do
-  checksum ← or_fault (checksum_in a (sum_text line)) (BadChecksum number)
+  checksum ← ok_or (checksum_in a (sum_text line)) (BadChecksum number)
   spelled ← if length (path_text line) == 0 then Err (NoPath number) else Ok (path_text line)
-  path ← or_fault (path_of v spelled) (BadPath number)
+  path ← ok_or (path_of v spelled) (BadPath number)
   Ok (path.0, record { checksum = checksum; line = number; is_decoded = path.1 })
 
 abbrev pub Entries : Type 0

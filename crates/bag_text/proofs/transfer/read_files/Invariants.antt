@@ -1,7 +1,7 @@
 use Rattle.std.proofs.Common.{◌≡◌, []}
 use Rattle.bag_text.specs.TransferReading.{files_of, files_at}
 use Rattle.bag_text.specs.TransferForm.{max_files}
-use Rattle.bag_text.proofs.SetLemmas.{fronted}
+use Rattle.bag_text.proofs.ResultLemmas.{fronted}
 use Rattle.bag_text.proofs.transfer.read_files.Given as goal
 
 abbrev pub invariant-loop-files : goal.invariant-loop-files

@@ -1,16 +1,12 @@
-use Rattle.std.proofs.Common.{ℕ, ◌-◌, ◌≤◌, Bool, false, List, ◌≡◌, ◌∙◌, sym, ap, length, take, drop, nat_lt, arith, length-drop}
+use Rattle.std.proofs.Common.{ℕ, false, List, ◌≡◌, ◌∙◌, sym, ap, length, nat_lt, arith}
 use Rattle.std.specs.Prelude.{codes}
-use Rattle.std.proofs.lemmas.List.{at_drop_all, take_all}
+use Rattle.std.proofs.lemmas.List.{at_drop_all, take_rest}
 use Rattle.std.proofs.lemmas.Bool.Decides.{nat_tests}
 use Rattle.fault_words.specs.OtherFiles.{begins}
 use Rattle.fault_words.proofs.other_file.has_tar_mark.Goals as goal
 
--- all that is left behind a place is the rest
-whole_rest : (n : ℕ) (bs : List ℕ) → take (length bs - n) (drop n bs) ≡ drop n bs
-whole_rest n bs = take_all (length bs - n) (drop n bs) (omega (arith, length-drop n bs))
-
 pub returns-then-bytes-gt257 : goal.returns-then-bytes-gt257
-returns-then-bytes-gt257 c = c.starts_with.ensures.value ∙ ap (λ (bs : List ℕ). begins bs (codes "ustar")) (whole_rest 257 c.args.bytes.now)
+returns-then-bytes-gt257 c = c.starts_with.ensures.value ∙ ap (λ (bs : List ℕ). begins bs (codes "ustar")) (take_rest c.args.bytes.now 257)
 
 -- bytes that end before have no such mark
 pub returns-else-bytes-gt257 : goal.returns-else-bytes-gt257
