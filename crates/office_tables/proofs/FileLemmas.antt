@@ -5,7 +5,7 @@ use Rattle.std.specs.Ordering.{is_lt, is_eq, int_eq}
 use Rattle.std.specs.Cmp.{IsTotalOrder}
 use Rattle.std.specs.Ordering.{nat_cmp}
 use Rattle.std.specs.Cmp.Lexicographic.{on_texts, slice_cmp}
-use Rattle.std.proofs.lemmas.List.{map_push, map_more}
+use Rattle.std.proofs.lemmas.List.{map-append, map_push, map_more}
 use Rattle.std.specs.List.Sorted.{IsPermutation, IsSorted}
 use Rattle.std.proofs.Math.Bool.{and-true}
 use Rattle.std.proofs.lemmas.Bool.{cases_Bool, and_parts}
@@ -35,7 +35,7 @@ use Rattle.sqlite_exec.proofs.RowsLemmas.{IsSorted-map}
 use Rattle.sqlite_keyed.specs.Lists.{sort_by}
 use Rattle.sqlite_keyed.proofs.SortLemmas.{sorted_is-sort_by, sort_by-map, IsPermutation-sort_by}
 use Rattle.sqlite_keyed.proofs.KeyedLemmas.{same_int as same_number}
-use Rattle.sqlite_trees.proofs.ListLemmas.{all-permutation}
+use Rattle.sqlite_trees.proofs.ListLemmas.{all-permutation, filter_same}
 use Rattle.sqlite_keyed.proofs.ListLemmas.{ascending-map, ascending-filter, all_map, map-map, filter-map}
 use Rattle.sqlite_rules.specs.Lists.{Has}
 use Rattle.sqlite_rules.specs.Calls.{ids_of}
@@ -49,9 +49,9 @@ use Rattle.sql_meaning.proofs.Writing.{Changes, inserts}
 use Rattle.sql_meaning.proofs.Scanning.{scan, passes, shown_of}
 use Rattle.sql_meaning.proofs.Reading.{reads_same, reads_one, reads_scan, finds_part}
 use Rattle.sql_meaning.proofs.Inserts.{none_before}
-use Rattle.sql_meaning.proofs.Keys.{found_by, bytes_itself, int_itself, filter_same, same_key, unclashed, same_text, same_int, lone}
+use Rattle.sql_meaning.proofs.Keys.{found_by, bytes_itself, int_itself, same_key, unclashed, same_text, same_int, lone}
 use Rattle.sql_meaning.proofs.Typed.{text_at, int_in, all_both}
-use Rattle.sql_meaning.proofs.Edits.{appended, cast_null, cast_int, map_alike, map_append}
+use Rattle.sql_meaning.proofs.Edits.{appended, cast_null, cast_int, map_alike}
 use Rattle.sql_meaning.proofs.Whole.{keeps_rule}
 use Rattle.sql_meaning.proofs.Changing.{drops}
 use Rattle.office_tables.specs.Schema.{office_schema, file_table, needed}
@@ -147,7 +147,7 @@ module _ (old new : State) (n : ℤ) (path content : List ℕ) (count : ℕ) (of
   pub puts_file : Becomes new.now (with_file (record { deposit = n; path = path; content = content }) (tables_of old.now))
   puts_file =
       let end = appended old.now.trees file_table (Null ∷ put_columns) put_columns office.shaped.1.1.1.1.1.1.0 put_cast in
-      becomes old new put_edit count put_edit.news office.shaped put_change _ (ap (λ rows. record (tables_of old.now) { files = rows }) (ap (map file_in) end ∙ map_append file_in (old.now.trees 10) _))
+      becomes old new put_edit count put_edit.news office.shaped put_change _ (ap (λ rows. record (tables_of old.now) { files = rows }) (ap (map file_in) end ∙ map-append file_in (old.now.trees 10) _))
 
   -- so there was no such file
   pub path_was_new : file_at n path (tables_of old.now).files ≡ None
