@@ -2,6 +2,7 @@
 use Rattle.std.proofs.Common.{IsTrue, if◌then◌else◌, ◌≡◌, ◌≢◌, ◌⊎◌, ℕ, ℤ, List, [], ◌∷◌, map, filter, slice_get, option_map, true, Ok, refl, ap, subst, sym, ◌∙◌, inl, inr, codes, arith}
 use Rattle.std.specs.List.{AllByRecursion, list_any}
 use Rattle.std.proofs.lemmas.Bool.{cases_Bool}
+use Rattle.std.proofs.lemmas.List.{map-append}
 use Rattle.sqlite.specs.declared.types.Value.TheVariants.{Null, Int, Text}
 use Rattle.sqlite.specs.Order.{Row, column}
 use Rattle.sqlite.specs.Edit.{id_in, edit_of}
@@ -23,7 +24,7 @@ use Rattle.sql_meaning.proofs.Scanning.{shown_of}
 use Rattle.sql_meaning.proofs.Reading.{reads_same, reads_one, finds_part}
 use Rattle.sql_meaning.proofs.TextKeys.{has_text, by_text, each_passes, few_named}
 use Rattle.sql_meaning.proofs.Typed.{text_at, int_in, all_both}
-use Rattle.sql_meaning.proofs.Edits.{appended, decoded, counted, cast_null, cast_int, map_append, none_revised}
+use Rattle.sql_meaning.proofs.Edits.{appended, decoded, counted, cast_null, cast_int, none_revised}
 use Rattle.sql_meaning.proofs.Whole.{keeps_rule}
 use Rattle.sql_meaning.proofs.Changing.{revises}
 use Rattle.office_tables.specs.Schema.{office_schema, class_table, needed}
@@ -75,7 +76,7 @@ adds_class old new name years count office h =
     let done = inserts add_class_text params old new office_schema office.schema_is 3 class_table refl idle class_terms 3 add_class_means refl refl count h in
     let cast_is : cast_row class_table source ≡ Null ∷ Text name ∷ Int years ∷ [] = rw (cast_null, cast_int years) refl in
     let end = appended db class_table source (Text name ∷ Int years ∷ []) office.shaped.1.1.1.0 cast_is in
-    becomes old new edit count edit.news office.shaped done _ (ap (λ rows. record (tables_of old.now) { classes = rows }) (ap (map class_in) end ∙ map_append class_in (db 4) _))
+    becomes old new edit count edit.news office.shaped done _ (ap (λ rows. record (tables_of old.now) { classes = rows }) (ap (map class_in) end ∙ map-append class_in (db 4) _))
 
 -- ---- other years
 

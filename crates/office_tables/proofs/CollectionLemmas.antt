@@ -1,6 +1,7 @@
 -- What the statements on collections do to the rows of an office.
 use Rattle.std.proofs.Common.{◌≡◌, ◌⊎◌, ℕ, List, [], ◌∷◌, map, filter, length, ◌==◌, not, true, Ok, refl, ap, sym, ◌∙◌, inl, inr, arith, codes}
 use Rattle.std.proofs.lemmas.Bool.{cases_Bool}
+use Rattle.std.proofs.lemmas.List.{map-append}
 use Rattle.std.proofs.lemmas.Bool.Decides.{nat_tests}
 use Rattle.std.specs.List.{AllByRecursion, list_any}
 use Rattle.sqlite.specs.declared.types.Value.TheVariants.{Null, Text}
@@ -19,7 +20,7 @@ use Rattle.sql_meaning.proofs.Scanning.{shown_of}
 use Rattle.sql_meaning.proofs.Reading.{reads_same, reads_one, finds_any}
 use Rattle.sql_meaning.proofs.TextKeys.{has_text, by_text, each_passes, few_named}
 use Rattle.sql_meaning.proofs.Typed.{text_at, all_both}
-use Rattle.sql_meaning.proofs.Edits.{appended, cast_null, map_append}
+use Rattle.sql_meaning.proofs.Edits.{appended, cast_null}
 use Rattle.sql_meaning.proofs.Whole.{keeps_rule}
 use Rattle.office_tables.specs.Schema.{office_schema, collection_table, needed}
 use Rattle.office_rows.specs.Rows.{has_collection, is_collection, with_new_collection}
@@ -63,4 +64,4 @@ adds_collection old new name count office h =
     let done = inserts add_collection_text params old new office_schema office.schema_is 4 collection_table refl idle collection_terms 2 add_collection_means refl refl count h in
     let cast_is : cast_row collection_table source ≡ Null ∷ Text name ∷ [] = rw cast_null refl in
     let end = appended db collection_table source (Text name ∷ []) office.shaped.1.1.1.1.0 cast_is in
-    becomes old new edit count edit.news office.shaped done _ (ap (λ rows. record (tables_of old.now) { collections = rows }) (ap (map collection_in) end ∙ map_append collection_in (db 6) _))
+    becomes old new edit count edit.news office.shaped done _ (ap (λ rows. record (tables_of old.now) { collections = rows }) (ap (map collection_in) end ∙ map-append collection_in (db 6) _))

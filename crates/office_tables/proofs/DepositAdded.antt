@@ -1,6 +1,7 @@
 -- What a deposit that was put tells of the rows before it: its number and its accession are new, and its collection and its class are there.
 use Rattle.std.proofs.Common.{◌≡◌, ℕ, ℤ, [], ◌∷◌, filter, slice_get, option_map, Bool, true, None, Ok, IsTrue, map, refl, sym, ap, subst, ◌∙◌}
 use Rattle.std.specs.List.{AllByRecursion, list_any}
+use Rattle.std.proofs.lemmas.Bool.{and_parts}
 use Rattle.sqlite.specs.declared.types.Value.TheVariants.{Null, Int, Text}
 use Rattle.sqlite.specs.Order.{Row}
 use Rattle.sqlite.specs.Edit.{Edit, edit_of, with_rowid}
@@ -15,7 +16,6 @@ use Rattle.sqlite_schema.specs.Names.{same_name}
 use Rattle.sqlite_rules.specs.Lists.{Has}
 use Rattle.sqlite_rules.proofs.ListLemmas.{all_has, all_from}
 use Rattle.sql_meaning.proofs.Keys.{found_by, bytes_itself, int_itself}
-use Rattle.sql_meaning.proofs.Typed.{both}
 use Rattle.sql_meaning.proofs.Writing.{Changes, inserts}
 use Rattle.sql_meaning.proofs.Inserts.{put, was_put, none_before}
 use Rattle.sql_meaning.proofs.TextKeys.{IsText, has_text, one_named, any_parent}
@@ -85,8 +85,8 @@ module _ (old new : State) (d : DepositRow) (kept : d.gone ≡ None) (count : �
   unfolding joined same_name
   held =
       let each = all_has _ (new.now.trees 8) row (keeps_rule after.office ForeignKey).1.1.1.1.1.0 was_there in
-      let two = both _ _ each in
-      (two.0, (both _ _ two.1).0)
+      let two = and_parts _ _ each in
+      (two.0, (and_parts _ _ two.1).0)
 
   collection_was_there : IsTrue (has_collection d.collection (tables_of old.now))
   collection_was_there =

@@ -16,6 +16,7 @@ use Rattle.sqlite_rules.specs.Calls.{ids_of}
 use Rattle.sqlite_rules.proofs.ListLemmas.{all_has, all_from}
 use Rattle.sqlite_rules.proofs.TableLemmas.{int_is}
 use Rattle.sqlite_keyed.proofs.ListLemmas.{ascending_weaker, map-map}
+use Rattle.sqlite_catalog.proofs.ListFacts.{filter_all}
 use Rattle.sqlite_schema.specs.declared.schema.Constraint.TheVariants.{Datatype, NotNull, Unique}
 use Rattle.sql_meaning.specs.Columns.{int_at, bytes_at}
 use Rattle.sql_meaning.proofs.Scanning.{shown_of, finds_one}
@@ -23,7 +24,7 @@ use Rattle.sql_meaning.proofs.Reading.{reads_same, reads_one, reads_rising}
 use Rattle.sql_meaning.proofs.TextKeys.{has_text, by_text, each_passes, few_named}
 use Rattle.sql_meaning.proofs.RowidKeys.{by_number, has_number, each_numbered, few_numbered, rising}
 use Rattle.sql_meaning.proofs.Typed.{text_at, int_in, all_both}
-use Rattle.sql_meaning.proofs.Edits.{kept_all, decoded, cast_null, cast_int}
+use Rattle.sql_meaning.proofs.Edits.{decoded, cast_null, cast_int}
 use Rattle.sql_meaning.proofs.Whole.{keeps_rule}
 use Rattle.sql_meaning.proofs.Changing.{revises}
 use Rattle.office_tables.specs.Schema.{office_schema, deposit_table, needed}
@@ -91,7 +92,7 @@ lists_deposits old new rows office h =
     let stored = old.now.trees 8 in
     let up = ascending_weaker _ _ (λ a b lower. rw lower refl) stored office.shaped.1.1.1.1.1.0.0 in
     let is = reads_rising office_schema deposits_text 8 [] deposit_columns rising asks_deposits [] old new office.schema_is rows h (λ r. true) (all_from _ stored (λ r there. refl)) up in
-    let whole : rows ≡ map (shown_of [] deposit_columns) stored = is ∙ ap (map (shown_of [] deposit_columns)) (kept_all (λ r. true) stored (λ r there. refl)) in
+    let whole : rows ≡ map (shown_of [] deposit_columns) stored = is ∙ ap (map (shown_of [] deposit_columns)) (filter_all (λ r. true) stored (λ r there. refl)) in
     let shows : map shown_deposit (map (shown_of [] deposit_columns) stored) ≡ map deposit_in stored = map-map shown_deposit (shown_of [] deposit_columns) stored in (
       reads_same office_schema deposits_text 8 [] deposit_columns rising asks_deposits [] old new office.schema_is rows h,
       sym shows ∙ ap (map shown_deposit) (sym whole),

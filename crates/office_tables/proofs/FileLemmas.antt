@@ -5,9 +5,10 @@ use Rattle.std.specs.Ordering.{is_lt, is_eq, int_eq}
 use Rattle.std.specs.Cmp.{IsTotalOrder}
 use Rattle.std.specs.Ordering.{nat_cmp}
 use Rattle.std.specs.Cmp.Lexicographic.{on_texts, slice_cmp}
-use Rattle.std.proofs.lemmas.List.{map_push, map_more}
+use Rattle.std.proofs.lemmas.List.{map-append, map_push, map_more}
 use Rattle.std.specs.List.Sorted.{IsPermutation, IsSorted}
-use Rattle.std.proofs.lemmas.Bool.{cases_Bool}
+use Rattle.std.proofs.Math.Bool.{and-true}
+use Rattle.std.proofs.lemmas.Bool.{cases_Bool, and_parts}
 use Rattle.std.proofs.lemmas.Option.{same_Some}
 use Rattle.std.proofs.lemmas.Cmp.{tied_itself}
 use Rattle.std.proofs.lemmas.Map.Text.{is_eq-slice_cmp}
@@ -34,7 +35,7 @@ use Rattle.sqlite_exec.proofs.RowsLemmas.{IsSorted-map}
 use Rattle.sqlite_keyed.specs.Lists.{sort_by}
 use Rattle.sqlite_keyed.proofs.SortLemmas.{sorted_is-sort_by, sort_by-map, IsPermutation-sort_by}
 use Rattle.sqlite_keyed.proofs.KeyedLemmas.{same_int as same_number}
-use Rattle.sqlite_trees.proofs.ListLemmas.{all-permutation}
+use Rattle.sqlite_trees.proofs.ListLemmas.{all-permutation, filter_same}
 use Rattle.sqlite_keyed.proofs.ListLemmas.{ascending-map, ascending-filter, all_map, map-map, filter-map}
 use Rattle.sqlite_rules.specs.Lists.{Has}
 use Rattle.sqlite_rules.specs.Calls.{ids_of}
@@ -48,9 +49,9 @@ use Rattle.sql_meaning.proofs.Writing.{Changes, inserts}
 use Rattle.sql_meaning.proofs.Scanning.{scan, passes, shown_of}
 use Rattle.sql_meaning.proofs.Reading.{reads_same, reads_one, reads_scan, finds_part}
 use Rattle.sql_meaning.proofs.Inserts.{none_before}
-use Rattle.sql_meaning.proofs.Keys.{found_by, bytes_itself, int_itself, filter_same, same_key, trailing, unclashed, same_text, same_int, lone}
+use Rattle.sql_meaning.proofs.Keys.{found_by, bytes_itself, int_itself, same_key, unclashed, same_text, same_int, lone}
 use Rattle.sql_meaning.proofs.Typed.{text_at, int_in, all_both}
-use Rattle.sql_meaning.proofs.Edits.{appended, cast_null, cast_int, map_append}
+use Rattle.sql_meaning.proofs.Edits.{appended, cast_null, cast_int, map_alike}
 use Rattle.sql_meaning.proofs.Whole.{keeps_rule}
 use Rattle.sql_meaning.proofs.Changing.{drops}
 use Rattle.office_tables.specs.Schema.{office_schema, file_table, needed}
@@ -80,26 +81,18 @@ abbrev has_place : ℤ → List ℕ → Row → Bool
 has_place n path r = has_deposit n r && bytes_eq (bytes_at r 2) path
 
 passes_deposit : (n : ℤ) (r : Row) → IsFileRow r → passes (Int n ∷ []) by_deposit r ≡ has_deposit n r
-passes_deposit n r it = trailing _ ∙ ap (λ v. is_true (binary (Compare Eq Binary) v (Int n))) it.0 ∙ same_int (int_at r 1) n
+passes_deposit n r it = and-true _ ∙ ap (λ v. is_true (binary (Compare Eq Binary) v (Int n))) it.0 ∙ same_int (int_at r 1) n
 
 passes_place : (n : ℤ) (path : List ℕ) (r : Row) → IsFileRow r → passes (Int n ∷ Text path ∷ []) by_place r ≡ has_place n path r
 passes_place n path r it = ap₂ ◌&&◌
     (ap (λ v. is_true (binary (Compare Eq Binary) v (Int n))) it.0 ∙ same_int (int_at r 1) n)
-    (trailing _ ∙ ap (λ v. is_true (binary (Compare Eq Binary) v (Text path))) it.1 ∙ same_text (bytes_at r 2) path)
+    (and-true _ ∙ ap (λ v. is_true (binary (Compare Eq Binary) v (Text path))) it.1 ∙ same_text (bytes_at r 2) path)
 
 each_of : (db : Database) → IsOffice db → (n : ℤ) → AllByRecursion (λ r. passes (Int n ∷ []) by_deposit r ≡ has_deposit n r) (db.trees 10)
 each_of db office n = all_from _ (db.trees 10) (λ r there. passes_deposit n r (all_has IsFileRow (db.trees 10) r (file_rows db office) there))
 
 each_at : (db : Database) → IsOffice db → (n : ℤ) (path : List ℕ) → AllByRecursion (λ r. passes (Int n ∷ Text path ∷ []) by_place r ≡ has_place n path r) (db.trees 10)
 each_at db office n path = all_from _ (db.trees 10) (λ r there. passes_place n path r (all_has IsFileRow (db.trees 10) r (file_rows db office) there))
-
-first_of : (a b : Bool) → a && b ≡ true → a ≡ true
-first_of true b h = refl
-first_of false b h = absurd cc
-
-second_of : (a b : Bool) → a && b ≡ true → b ≡ true
-second_of true b h = h
-second_of false b h = absurd cc
 
 -- two files of one deposit with one path are one row
 module _ (db : Database) (office : IsOffice db) (n : ℤ) where
@@ -111,10 +104,10 @@ module _ (db : Database) (office : IsOffice db) (n : ℤ) where
       let ty = all_has IsFileRow (db.trees 10) y rows hy in
       let apart = all_has _ (db.trees 10) y (keeps_rule office Unique).1.1.1.1.1.1.0 hy in
       let key : Row = Int n ∷ Text path ∷ [] in
-      let eqx : equal Binary (column x 1) (Int n) ≡ true = ap (λ v. equal Binary v (Int n)) tx.0 ∙ same_int (int_at x 1) n ∙ first_of _ _ px in
-      let eqy : equal Binary (column y 1) (Int n) ≡ true = ap (λ v. equal Binary v (Int n)) ty.0 ∙ same_int (int_at y 1) n ∙ first_of _ _ py in
-      let pathx : equal Binary (column x 2) (Text path) ≡ true = ap (λ v. equal Binary v (Text path)) tx.1 ∙ same_text (bytes_at x 2) path ∙ second_of _ _ px in
-      let pathy : equal Binary (column y 2) (Text path) ≡ true = ap (λ v. equal Binary v (Text path)) ty.1 ∙ same_text (bytes_at y 2) path ∙ second_of _ _ py in
+      let eqx : equal Binary (column x 1) (Int n) ≡ true = ap (λ v. equal Binary v (Int n)) tx.0 ∙ same_int (int_at x 1) n ∙ (and_parts _ _ px).0 in
+      let eqy : equal Binary (column y 1) (Int n) ≡ true = ap (λ v. equal Binary v (Int n)) ty.0 ∙ same_int (int_at y 1) n ∙ (and_parts _ _ py).0 in
+      let pathx : equal Binary (column x 2) (Text path) ≡ true = ap (λ v. equal Binary v (Text path)) tx.1 ∙ same_text (bytes_at x 2) path ∙ (and_parts _ _ px).1 in
+      let pathy : equal Binary (column y 2) (Text path) ≡ true = ap (λ v. equal Binary v (Text path)) ty.1 ∙ same_text (bytes_at y 2) path ∙ (and_parts _ _ py).1 in
       let kx : agree plain (1 ∷ 2 ∷ []) x (0 ∷ 1 ∷ []) key ≡ true = rw (eqx, pathx) refl in
       let ky : agree plain (1 ∷ 2 ∷ []) y (0 ∷ 1 ∷ []) key ≡ true = rw (eqy, pathy) refl in
       let agrees = agree_chain plain (1 ∷ 2 ∷ []) (0 ∷ 1 ∷ []) (1 ∷ 2 ∷ []) x key y kx (agree_back plain (1 ∷ 2 ∷ []) (0 ∷ 1 ∷ []) y key ky) in
@@ -154,7 +147,7 @@ module _ (old new : State) (n : ℤ) (path content : List ℕ) (count : ℕ) (of
   pub puts_file : Becomes new.now (with_file (record { deposit = n; path = path; content = content }) (tables_of old.now))
   puts_file =
       let end = appended old.now.trees file_table (Null ∷ put_columns) put_columns office.shaped.1.1.1.1.1.1.0 put_cast in
-      becomes old new put_edit count put_edit.news office.shaped put_change _ (ap (λ rows. record (tables_of old.now) { files = rows }) (ap (map file_in) end ∙ map_append file_in (old.now.trees 10) _))
+      becomes old new put_edit count put_edit.news office.shaped put_change _ (ap (λ rows. record (tables_of old.now) { files = rows }) (ap (map file_in) end ∙ map-append file_in (old.now.trees 10) _))
 
   -- so there was no such file
   pub path_was_new : file_at n path (tables_of old.now).files ≡ None
@@ -270,8 +263,8 @@ is_found n path files x None is number place content = absurd cc
 is_found n path files x (Some f) is number place content =
     let its_content : x.content ≡ f.content = cc in
     let passed : is_file_at n path f ≡ true = (has_found (is_file_at n path) files f is).1 in
-    let its_number : f.deposit ≡ n = same_number f.deposit n (first_of (is_file_of n f) (bytes_eq f.path path) passed) in
-    let its_path : f.path ≡ path = (bytes_eq-Decides f.path path).0 (second_of (is_file_of n f) (bytes_eq f.path path) passed) in
+    let its_number : f.deposit ≡ n = same_number f.deposit n (and_parts (is_file_of n f) (bytes_eq f.path path) passed).0 in
+    let its_path : f.path ≡ path = (bytes_eq-Decides f.path path).0 (and_parts (is_file_of n f) (bytes_eq f.path path) passed).1 in
     ap Some (same_file x.deposit f.deposit x.path f.path x.content f.content (number ∙ sym its_number) (place ∙ sym its_path) its_content)
 
 -- a file of that number, that path and the content that is found there is the one that is there
@@ -284,10 +277,6 @@ pub finds_next : (find : Row → Option FileRow) (rows : List Row) (i : ℕ) (ro
     → map Some files ≡ map find (take i rows) → Some x ≡ find row → map Some (files ++ x ∷ []) ≡ map find (take (i + 1) rows)
 finds_next find rows i row files x is low before here =
     map_push Some files x ∙ ap₂ (λ xs y. xs ++ y ∷ []) before (here ∙ ap find is) ∙ sym (map_more find rows i row low)
-
-map_each : (f g : FileRow → Option FileRow) (xs : List FileRow) → AllByRecursion (λ x. f x ≡ g x) xs → map f xs ≡ map g xs
-map_each f g [] all = refl
-map_each f g (x ∷ xs) all = ap₂ ◌∷◌ all.0 (map_each f g xs all.1)
 
 module _ (db : Database) (office : IsOffice db) (n : ℤ) where
   abbrev stored : List Row
@@ -324,4 +313,4 @@ module _ (db : Database) (office : IsOffice db) (n : ℤ) where
       let at : List ℕ → Option FileRow = λ path. file_at n path (tables_of db).files in
       let by_rows : map at (map shown_path rows) ≡ map (λ row. at (shown_path row)) rows = map-map at shown_path rows in
       let by_paths : map at (map (λ (f : FileRow). f.path) all) ≡ map (λ f. at f.path) all = map-map at (λ (f : FileRow). f.path) all in
-      map_back Some same_Some files all (found ∙ sym by_rows ∙ ap (map at) (sym paths) ∙ by_paths ∙ map_each (λ f. at f.path) Some all each_found)
+      map_back Some same_Some files all (found ∙ sym by_rows ∙ ap (map at) (sym paths) ∙ by_paths ∙ map_alike (λ f. at f.path) Some all (λ f there. all_has IsFound all f each_found there))

@@ -5,6 +5,7 @@ use Rattle.std.specs.Ordering.{int_eq, int_cmp, nat_cmp, is_eq, is_lt}
 use Rattle.std.proofs.lemmas.Int.{ints}
 use Rattle.std.specs.List.Sorted.{IsPermutation, IsSorted}
 use Rattle.std.proofs.lemmas.Bool.{cases_Bool}
+use Rattle.std.proofs.lemmas.List.{map-append}
 use Rattle.std.proofs.lemmas.Cmp.{int_cmp_total}
 use Rattle.std.proofs.lemmas.List.Sorted.{IsPermutation-refl, IsPermutation-sym, IsPermutation-trans, IsPermutation-cons, IsPermutation-middle, IsPermutation-map}
 use Rattle.sqlite.specs.declared.types.Value.{Value}
@@ -42,7 +43,7 @@ use Rattle.sql_meaning.proofs.Scanning.{passes, shown_of, finds_one}
 use Rattle.sql_meaning.proofs.Reading.{Asks, reads_same, reads_one, reads_rising}
 use Rattle.sql_meaning.proofs.RowidKeys.{by_number, has_number, each_numbered, few_numbered, one_numbered, rising}
 use Rattle.sql_meaning.proofs.Typed.{text_at, int_in, maybe_int_at as some_int_at, maybe_text_at as some_text_at, all_both}
-use Rattle.sql_meaning.proofs.Edits.{decoded, cast_null, cast_int, map_append}
+use Rattle.sql_meaning.proofs.Edits.{decoded, cast_null, cast_int}
 use Rattle.sql_meaning.proofs.Whole.{keeps_rule}
 use Rattle.sql_meaning.proofs.Changing.{revises}
 use Rattle.office_tables.specs.Schema.{office_schema, hold_table, needed, optional}
@@ -320,7 +321,7 @@ sorts_live db office n c both sorted are same up =
     let number : HoldRow → ℤ = λ h. h.number in
     let all = joined (is_live_on n) (is_live_within n c) (is_live_over n c)
     (λ h. over_either (is_live h) (holds_deposit n h) (holds_collection c h)) (λ h. on_apart (is_live h) (holds_deposit n h) (holds_collection c h)) holds in
-    let moved : IsPermutation (map pos both) (live_holds n c (tables_of db)) = subst (λ xs. IsPermutation xs (live_holds n c (tables_of db))) (map_append number (filter (is_live_on n) holds) (filter (is_live_within n c) holds) ∙ sym are) (IsPermutation-map number _ _ all) in
+    let moved : IsPermutation (map pos both) (live_holds n c (tables_of db)) = subst (λ xs. IsPermutation xs (live_holds n c (tables_of db))) (map-append number (filter (is_live_on n) holds) (filter (is_live_within n c) holds) ∙ sym are) (IsPermutation-map number _ _ all) in
     sorted_unique int_cmp int_cmp_total (live_holds n c (tables_of db)) (map pos sorted) (live_rise db office n c)
     (IsPermutation-trans _ _ _ (IsPermutation-sym _ _ moved) (IsPermutation-map pos both sorted same)) (IsSorted-map int_cmp pos sorted (λ k d low high. subst (λ o. is_lt o ≡ false) (pos_cmp (slice_index_or sorted (k + 1) d) (slice_index_or sorted k d)) (up k d low high)))
 

@@ -20,9 +20,9 @@ use Rattle.sqlite_sql.proofs.QueryLemmas.{output_cmp_total}
 use Rattle.sqlite_rules.proofs.ListLemmas.{all_has, all_from}
 use Rattle.sqlite_keyed.proofs.ListLemmas.{first_taken, ascending-append, ascending-map, ascending_weaker, all-append}
 use Rattle.sqlite_keyed.proofs.SortLemmas.{sorted_unique}
+use Rattle.sqlite_catalog.proofs.ListFacts.{filter_all}
 use Rattle.sql_meaning.specs.Columns.{int_at}
 use Rattle.sql_meaning.proofs.Scanning.{scan, as_program, passes, scanned, shown_same}
-use Rattle.sql_meaning.proofs.Edits.{kept_all}
 use Rattle.office_rows.specs.Rows.{last_number}
 
 abbrev falling : List (Term × Key)
@@ -89,7 +89,7 @@ module _ {Y : Type 0} (tree : ℕ) (decode : Row → Y) (number : Y → ℤ) (nu
       let all = map (λ (o : Output). o.1) a.ordered in
       let whole : IsSureAnswer (scan tree [] (col 1 0 ∷ []) falling) (overlay db []) [] all = λ lost. record { staged = a.staged; grouped = a.grouped; kept = a.kept; distinct = a.distinct; ordered = a.ordered; same = a.same; sorted = a.sorted; shown = refl } in
       let s = scanned db [] tree [] (col 1 0 ∷ []) falling all whole in
-      let kept : filter (passes [] []) (db tree) ≡ db tree = kept_all (passes [] []) (db tree) (λ r there. refl) in
+      let kept : filter (passes [] []) (db tree) ≡ db tree = filter_all (passes [] []) (db tree) (λ r there. refl) in
       let same : IsPermutation (map (out tree) (db tree)) s.ordered = subst (λ rs. IsPermutation (map (out tree) rs) s.ordered) kept s.same in
       let outs = map (out tree) (db tree) in
       let down : IsAscending (λ a b. output_cmp (last_scan tree) b a ≡ Less) outs =

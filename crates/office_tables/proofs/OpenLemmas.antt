@@ -1,7 +1,7 @@
 -- What opening finds in the database of an office is what its rows say.
 use Rattle.std.proofs.Common.{◌≡◌, ◌&&◌, ap₂, ℤ, pos, negsuc, ◌==◌, arith, List, [], ◌∷◌, codes, map, find, filter, slice_get, option_map, Bool, true, false, Option, Some, None, Equal, Ok, IsTrue, refl, sym, ap, subst, subst₂, ◌∙◌, inl, inr}
 use Rattle.std.proofs.lemmas.Int.{ints}
-use Rattle.std.proofs.lemmas.Bool.{cases_Bool}
+use Rattle.std.proofs.lemmas.Bool.{cases_Bool, and_parts}
 use Rattle.std.proofs.lemmas.Bool.Decides.{nat_tests}
 use Rattle.std.specs.List.{AllByRecursion}
 use Rattle.std.specs.Ordering.{int_cmp, int_eq, is_eq}
@@ -30,7 +30,7 @@ use Rattle.sql_meaning.proofs.Keys.{found_by, lone, none_pass}
 use Rattle.sql_meaning.proofs.RowidKeys.{one_numbered}
 use Rattle.sql_meaning.proofs.Reading.{Asks}
 use Rattle.sql_meaning.proofs.Scanning.{scan, as_program, passes, shown_of, Scans, scanned, answer_sound, answer_complete}
-use Rattle.sql_meaning.proofs.Typed.{both, int_in, all_both}
+use Rattle.sql_meaning.proofs.Typed.{int_in, all_both}
 use Rattle.sql_meaning.proofs.Whole.{keeps_rule}
 use Rattle.office_tables.specs.Schema.{office_schema, office_table, needed}
 use Rattle.office_rows.specs.Rows.{OfficeRow, is_known, version_of}
@@ -108,7 +108,7 @@ module _ (db : Database) (office : IsOffice db) where
   every = all_from _ (db.trees 0) (λ r there. refl)
 
   alike : (x y : Row) → Has (db.trees 0) x → Has (db.trees 0) y → known x ≡ true → known y ≡ true → x ≡ y
-  alike x y hx hy kx ky = one_numbered (db.trees 0) office.shaped.0 (pos 1) x y hx hy (both _ _ kx).0 (both _ _ ky).0
+  alike x y hx hy kx ky = one_numbered (db.trees 0) office.shaped.0 (pos 1) x y hx hy (and_parts _ _ kx).0 (and_parts _ _ ky).0
 
   pub tells_version : (told_version : Option ℤ) → ShowsVersion db told_version → version_of (tables_of db) ≡ told_version
   tells_version None shown =

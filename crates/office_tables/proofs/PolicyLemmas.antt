@@ -1,7 +1,7 @@
 -- What the statements on callers and rules do to the rows of an office.
 use Rattle.std.proofs.Common.{◌≡◌, ◌⊎◌, ℕ, List, [], ◌∷◌, ◌++◌, map, filter, slice_get, option_map, true, false, Ok, refl, ap, sym, ◌∙◌, codes, append-nil, append_assoc, get_or, drop, length, ◌+◌, ◌<◌}
 use Rattle.std.specs.List.{AllByRecursion}
-use Rattle.std.proofs.lemmas.List.{at_drop_more}
+use Rattle.std.proofs.lemmas.List.{at_drop_more, map-append}
 use Rattle.sqlite.specs.declared.types.Value.TheVariants.{Null, Int, Text}
 use Rattle.sqlite.specs.Order.{Row, column}
 use Rattle.sqlite.specs.Edit.{edit_of}
@@ -16,6 +16,7 @@ use Rattle.sqlite_rules.specs.Lists.{Has}
 use Rattle.sqlite_rules.specs.Calls.{ids_of}
 use Rattle.sqlite_rules.proofs.ListLemmas.{all_from}
 use Rattle.sqlite_keyed.proofs.ListLemmas.{ascending_weaker, map-map}
+use Rattle.sqlite_catalog.proofs.ListFacts.{filter_all}
 use Rattle.sql_meaning.specs.Columns.{bytes_at}
 use Rattle.sql_meaning.proofs.Writing.{inserts}
 use Rattle.sql_meaning.proofs.Scanning.{shown_of}
@@ -24,7 +25,7 @@ use Rattle.sql_meaning.proofs.RowidKeys.{rising}
 use Rattle.sql_meaning.proofs.Keys.{none_pass}
 use Rattle.sql_meaning.proofs.TextKeys.{has_text, by_text, each_passes, few_named}
 use Rattle.sql_meaning.proofs.Typed.{text_at, all_both}
-use Rattle.sql_meaning.proofs.Edits.{appended, kept_all, cast_null, cast_int, map_append}
+use Rattle.sql_meaning.proofs.Edits.{appended, cast_null, cast_int}
 use Rattle.sql_meaning.proofs.Whole.{keeps_rule}
 use Rattle.sql_meaning.proofs.Changing.{drops}
 use Rattle.office_tables.specs.Schema.{office_schema, caller_table, rule_table, needed}
@@ -63,7 +64,7 @@ lists_rules old new rows office h =
     let db = old.now.trees in
     let up = ascending_weaker _ _ (λ a b lower. rw lower refl) (db 3) office.shaped.1.1.0.0 in
     let is = reads_rising office_schema rules_text 3 [] rule_columns rising asks_rules [] old new office.schema_is rows h (λ r. true) (all_from _ (db 3) (λ r there. refl)) up in
-    let whole : rows ≡ map (shown_of [] rule_columns) (db 3) = is ∙ ap (map (shown_of [] rule_columns)) (kept_all (λ r. true) (db 3) (λ r there. refl)) in
+    let whole : rows ≡ map (shown_of [] rule_columns) (db 3) = is ∙ ap (map (shown_of [] rule_columns)) (filter_all (λ r. true) (db 3) (λ r there. refl)) in
     let shows : map shown_rule (map (shown_of [] rule_columns) (db 3)) ≡ map rule_in (db 3) = map-map shown_rule (shown_of [] rule_columns) (db 3) in (
       reads_same office_schema rules_text 3 [] rule_columns rising asks_rules [] old new office.schema_is rows h,
       sym shows ∙ ap (map shown_rule) (sym whole),
@@ -94,7 +95,7 @@ adds_caller old new caller count office h =
     let done = inserts add_caller_text (Text caller.name ∷ Text caller.role ∷ []) old new office_schema office.schema_is 1 caller_table refl idle caller_terms 3 add_caller_means refl refl count h in
     let cast_is : cast_row caller_table source ≡ Null ∷ Text caller.name ∷ Text caller.role ∷ [] = rw cast_null refl in
     let end = appended db caller_table source (Text caller.name ∷ Text caller.role ∷ []) office.shaped.1.0 cast_is in
-    becomes old new edit count edit.news office.shaped done _ (ap (λ rows. record (tables_of old.now) { callers = rows }) (ap (map caller_in) end ∙ map_append caller_in (db 1) _))
+    becomes old new edit count edit.news office.shaped done _ (ap (λ rows. record (tables_of old.now) { callers = rows }) (ap (map caller_in) end ∙ map-append caller_in (db 1) _))
 
 abbrev pub params_of : RuleRow → Row
 params_of r = Int r.place ∷ Int r.effect ∷ Text r.role ∷ Text r.action ∷ Text r.collection ∷ Text r.class ∷ []

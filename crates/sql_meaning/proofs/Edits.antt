@@ -1,10 +1,12 @@
 -- What one edit makes of the list of a table's rows.
-use Rattle.std.proofs.Common.{◌≡◌, ◌&&◌, ◌||◌, ◌⊎◌, not, ℤ, pos, ◌+ℤ◌, suc, List, [], ◌∷◌, ◌++◌, map, filter, fold, drop, Bool, true, false, cond, Ordering, Equal, Less, Greater, IsTrue, subst₂, ap₂, length, refl, sym, ap, subst, ◌∙◌, inl, inr, if◌then◌else◌, arith}
+use Rattle.std.proofs.Common.{◌≡◌, ◌&&◌, ◌||◌, ◌⊎◌, not, ℤ, pos, ◌+ℤ◌, List, [], ◌∷◌, ◌++◌, map, filter, fold, drop, Bool, true, false, cond, Ordering, Equal, Less, Greater, IsTrue, subst₂, ap₂, length, refl, sym, ap, subst, ◌∙◌, inl, inr, if◌then◌else◌, arith}
 use Rattle.std.proofs.Common.{◌<ℤ◌}
 use Rattle.std.proofs.lemmas.Int.{ints}
 use Rattle.std.specs.Ordering.{is_eq, ordering_reverse, int_cmp}
 use Rattle.std.specs.List.{AllByRecursion, list_all, list_any}
-use Rattle.std.proofs.lemmas.Bool.{cases_Bool}
+use Rattle.std.proofs.lemmas.Bool.{cases_Bool, and_parts}
+use Rattle.std.proofs.lemmas.Cmp.{tied_itself}
+use Rattle.std.proofs.lemmas.List.{length-map}
 use Rattle.sqlite.specs.declared.types.Value.{Value}
 use Rattle.sqlite.specs.declared.types.Value.TheVariants.{Null, Int}
 use Rattle.sqlite.specs.Order.{Row, value_cmp}
@@ -24,13 +26,9 @@ use Rattle.sqlite_rules.proofs.TableLemmas.{int_is}
 use Rattle.sqlite_rules.proofs.RowLemmas.{length-numbered}
 use Rattle.sqlite_trees.specs.View.{is_int, IsShaped}
 use Rattle.sqlite_trees.specs.declared.store.Shape.TheVariants as shape
+use Rattle.sqlite_trees.proofs.ListLemmas.{filter_same}
+use Rattle.sqlite_catalog.proofs.ListFacts.{filter_all}
 use Rattle.sqlite_trees.proofs.TreeLemmas.{IsShaped-filter, IsShaped-put_row}
-use Rattle.sql_meaning.proofs.Typed.{both}
-use Rattle.sql_meaning.proofs.Keys.{filter_same}
-
-pub kept_all : {X : Type 0} (p : X → Bool) (xs : List X) → ((x : X) → Has xs x → p x ≡ true) → filter p xs ≡ xs
-kept_all p [] all = refl
-kept_all p (x ∷ xs) all = rw (all x (inl refl)) (ap (λ more. x ∷ more) (kept_all p xs (λ y there. all y (inr there))))
 
 pub map_same : {X : Type 0} (f : X → X) (xs : List X) → ((x : X) → Has xs x → f x ≡ x) → map f xs ≡ xs
 map_same f [] all = refl
@@ -95,7 +93,7 @@ replaced id new (x ∷ rows) is up r there tied = elim (cases_Bool (has_rowid id
       let later : value_cmp (Int id) (rowid y) ≡ Less = sym (value_cmp_total.congr (rowid x) (Int id) (rowid y) tie) ∙ all_has _ rows y up.0 within in
       value_cmp_total.antisymm (rowid y) (Int id) ∙ ap ordering_reverse later in
       let other : (y : Row) → Has rows y → has_rowid id y ≡ false = λ y within. ap is_eq (greater y within) in
-      let filtered : without_rowid id rows ≡ rows = kept_all (λ y. not (has_rowid id y)) rows (λ y within. ap not (other y within)) in
+      let filtered : without_rowid id rows ≡ rows = filter_all (λ y. not (has_rowid id y)) rows (λ y within. ap not (other y within)) in
       let front : put_row new rows ≡ new ∷ rows = put_first new rows (λ y within. subst (λ v. value_cmp (rowid y) v ≡ Greater) (sym is) (greater y within)) in
       let stays : map (λ y. if has_rowid id y then new else y) rows ≡ rows = map_same (λ y. if has_rowid id y then new else y) rows (λ y within. ap (λ b. if b then new else y) (other y within)) in
       rw same (ap (put_row new) filtered ∙ front ∙ ap (λ more. new ∷ more) (sym stays))
@@ -113,16 +111,8 @@ replaced id new (x ∷ rows) is up r there tied = elim (cases_Bool (has_rowid id
 
 -- ---- UPDATE of the row that a key names
 
-ties_itself : (v : Value) → value_cmp v v ≡ Equal
-ties_itself v = own (value_cmp v v) (value_cmp_total.antisymm v v)
-  where
-    own : (o : Ordering) → o ≡ ordering_reverse o → o ≡ Equal
-    own Less h = absurd cc
-    own Equal h = refl
-    own Greater h = absurd cc
-
 numbered_id : (r : Row) → IsTrue (is_int (rowid r)) → has_rowid (id_in (rowid r)) r ≡ true
-numbered_id r whole = ap is_eq (subst (λ v. value_cmp (rowid r) v ≡ Equal) (int_is (rowid r) whole) (ties_itself (rowid r)))
+numbered_id r whole = ap is_eq (subst (λ v. value_cmp (rowid r) v ≡ Equal) (int_is (rowid r) whole) (tied_itself value_cmp_total (rowid r)))
 
 -- The query shows of each row that is kept its rowid and then its new columns, and at most one row is kept.
 pub updated : (db : Trees) (table : Table) (answer : List Row) (keep : Row → Bool) (shown set : Row → Row) → IsShaped shape.Table (db table.tree)
@@ -204,7 +194,7 @@ without_shaped rows (id ∷ ids) h = without_shaped (without_rowid id rows) ids 
 
 put_shaped : (rows news : List Row) → list_all (λ r. is_int (rowid r)) news ≡ true → IsShaped shape.Table rows → IsShaped shape.Table (put_all rows news)
 put_shaped rows [] keyed h = h
-put_shaped rows (n ∷ news) keyed h = put_shaped (put_row n rows) news (both _ _ keyed).1 (IsShaped-put_row n rows (both _ _ keyed).0 h)
+put_shaped rows (n ∷ news) keyed h = put_shaped (put_row n rows) news (and_parts _ _ keyed).1 (IsShaped-put_row n rows (and_parts _ _ keyed).0 h)
 
 pub edited_shaped : (db : Trees) (edit : Edit) → have_rowids edit.news ≡ true → IsShaped shape.Table (db edit.table.tree) → IsShaped shape.Table (edited db edit)
 edited_shaped db edit keyed h = put_shaped (without_all (db edit.table.tree) edit.gone) edit.news keyed (without_shaped (db edit.table.tree) edit.gone h)
@@ -229,13 +219,9 @@ pub counted : {Y : Type 0} (db : Trees) (table : Table) (answer : List Row) (kee
     → answer ≡ map shown (filter keep (db table.tree))
     → length (edit_of db table (ids_of answer) Given 1 answer).news ≡ (if list_any test (map decode (db table.tree)) then 1 else 0)
 counted db table answer keep shown decode test tests few is =
-    length-numbered Given (without_all (db table.tree) (ids_of answer)) (map (λ s. cast_row table (drop 1 s)) answer) ∙ length_mapped (λ s. cast_row table (drop 1 s)) answer
-    ∙ ap length is ∙ length_mapped shown (filter keep (db table.tree)) ∙ number few ∙ sym (ap (λ b. if b then 1 else 0) (any_mapped decode keep test tests (db table.tree)))
+    length-numbered Given (without_all (db table.tree) (ids_of answer)) (map (λ s. cast_row table (drop 1 s)) answer) ∙ length-map answer (λ s. cast_row table (drop 1 s))
+    ∙ ap length is ∙ length-map (filter keep (db table.tree)) shown ∙ number few ∙ sym (ap (λ b. if b then 1 else 0) (any_mapped decode keep test tests (db table.tree)))
   where
-    length_mapped : {A B : Type 0} (f : A → B) (xs : List A) → length (map f xs) ≡ length xs
-    length_mapped f [] = refl
-    length_mapped f (x ∷ xs) = ap suc (length_mapped f xs)
-
     number : (filter keep (db table.tree) ≡ []) ⊎ ((r : Row) × Has (db table.tree) r × (keep r ≡ true) × (filter keep (db table.tree) ≡ r ∷ [])) → length (filter keep (db table.tree)) ≡ (if list_any keep (db table.tree) then 1 else 0)
     number (inl none) = elim (cases_Bool (list_any keep (db table.tree))) [
       | inl some ↦ absurd (let it = some_has keep (db table.tree) some in let within = subst (λ rs. Has rs it.0) none (has_kept keep (db table.tree) it.0 it.1 it.2) in within)
@@ -268,7 +254,7 @@ abbrev among : List ℤ → Row → Bool
 among ids r = list_any (λ id. has_rowid id r) ids
 
 without_among : (ids : List ℤ) (rows : List Row) → without_all rows ids ≡ filter (λ r. not (among ids r)) rows
-without_among [] rows = sym (kept_all (λ r. not (among [] r)) rows (λ r there. refl))
+without_among [] rows = sym (filter_all (λ r. not (among [] r)) rows (λ r there. refl))
 without_among (i ∷ ids) rows =
     without_among ids (without_rowid i rows) ∙ filter_twice (λ r. not (among ids r)) (λ r. not (has_rowid i r)) (λ r. not (among (i ∷ ids) r)) (λ r. none_or (has_rowid i r) (among ids r)) rows
 
@@ -314,10 +300,6 @@ deleted db table answer keep shown shaped same sound complete =
     has_id [] id there = absurd there
     has_id (y ∷ rows) id (inl e) = (y, inl refl, e)
     has_id (y ∷ rows) id (inr more) = let it = has_id rows id more in (it.0, inr it.1, it.2)
-
-pub map_append : {X Y : Type 0} (f : X → Y) (xs ys : List X) → map f (xs ++ ys) ≡ map f xs ++ map f ys
-map_append f [] ys = refl
-map_append f (x ∷ xs) ys = ap (λ more. f x ∷ more) (map_append f xs ys)
 
 -- what is revised where nothing passes stays as it is
 pub none_revised : {Y : Type 0} (test : Y → Bool) (revise : Y → Y) (ys : List Y) → list_any test ys ≡ false → map (λ y. if test y then revise y else y) ys ≡ ys

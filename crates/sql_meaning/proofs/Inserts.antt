@@ -1,13 +1,13 @@
 -- What an INSERT of one row tells of the rows that were there before it.
-use Rattle.std.proofs.Common.{◌≡◌, List, [], ◌∷◌, filter, Bool, true, false, Ordering, Less, Equal, Greater, refl, sym, ap, subst, inl, inr}
+use Rattle.std.proofs.Common.{◌≡◌, List, [], ◌∷◌, filter, Bool, true, false, refl, sym, ap, subst, inl, inr}
 use Rattle.std.specs.List.{AllByRecursion}
 use Rattle.std.specs.Ordering.{is_eq}
-use Rattle.std.proofs.lemmas.Bool.{cases_Bool, not-true}
+use Rattle.std.proofs.lemmas.Bool.{cases_Bool, not-true, and_parts}
 use Rattle.std.proofs.lemmas.Cmp.{tied_itself}
 use Rattle.sqlite.specs.Order.{Row, value_cmp}
 use Rattle.sqlite.specs.Table.{Table}
 use Rattle.sqlite.specs.Schema.{Schema}
-use Rattle.sqlite.specs.Tree.{Trees, rowid, put_row}
+use Rattle.sqlite.specs.Tree.{Trees, rowid}
 use Rattle.sqlite.specs.Cast.{cast_row}
 use Rattle.sqlite.specs.Edit.{edit_of, with_rowid, Applies}
 use Rattle.sqlite.specs.Rowids.TheVariants.{Chosen}
@@ -15,36 +15,13 @@ use Rattle.sqlite_schema.specs.declared.schema.Keys.{Keys}
 use Rattle.sqlite_value.proofs.OrderLemmas.{value_cmp_total}
 use Rattle.sqlite_rules.specs.Lists.{Has}
 use Rattle.sqlite_rules.proofs.ListLemmas.{all_has}
+use Rattle.sqlite_rules.proofs.TableLemmas.{put_all_adds, put_all_keeps}
 use Rattle.sqlite_keyed.proofs.ListLemmas.{none_from_any}
-use Rattle.sql_meaning.proofs.Typed.{both}
 use Rattle.sql_meaning.proofs.Keys.{none_pass}
 
 -- no row has the rowid of this one
 abbrev pub IsApart : Row → List Row → Type 0
 IsApart new = AllByRecursion (λ r. is_eq (value_cmp (rowid r) (rowid new)) ≡ false)
-
-there_by : (new r : Row) (rows : List Row) (o : Ordering) → value_cmp (rowid r) (rowid new) ≡ o → Has (put_row new rows) new → Has (put_row new (r ∷ rows)) new
-there_by new r rows Less is more = rw is (inr more)
-there_by new r rows Equal is more = rw is (inl refl)
-there_by new r rows Greater is more = rw is (inl refl)
-
-put_there : (new : Row) (rows : List Row) → Has (put_row new rows) new
-put_there new [] = inl refl
-put_there new (r ∷ rows) = there_by new r rows (value_cmp (rowid r) (rowid new)) refl (put_there new rows)
-
-later : (new r : Row) (rows : List Row) (x : Row) → (Has rows x → Has (put_row new rows) x) → Has (r ∷ rows) x → Has (r ∷ put_row new rows) x
-later new r rows x keeps (inl is) = inl is
-later new r rows x keeps (inr more) = inr (keeps more)
-
-keeps_by : (new r : Row) (rows : List Row) (x : Row) (o : Ordering) → value_cmp (rowid r) (rowid new) ≡ o → is_eq (value_cmp (rowid r) (rowid new)) ≡ false
-    → (Has rows x → Has (put_row new rows) x) → Has (r ∷ rows) x → Has (put_row new (r ∷ rows)) x
-keeps_by new r rows x Less is apart keeps there = rw is (later new r rows x keeps there)
-keeps_by new r rows x Equal is apart keeps there = absurd (let no : is_eq Equal ≡ false = rw is at apart in cc)
-keeps_by new r rows x Greater is apart keeps there = rw is (inr there)
-
-put_keeps : (new : Row) (rows : List Row) → IsApart new rows → (x : Row) → Has rows x → Has (put_row new rows) x
-put_keeps new [] apart x there = absurd there
-put_keeps new (r ∷ rows) apart x there = keeps_by new r rows x (value_cmp (rowid r) (rowid new)) refl apart.0 (λ more. put_keeps new rows apart.1 x more) there
 
 module _ (schema : Schema) (keys : Keys) (db next : Trees) (table : Table) (source : Row) (applies : Applies schema keys db (edit_of db table [] Chosen 0 (source ∷ [])) next) where
   -- the row as it was put
@@ -53,13 +30,13 @@ module _ (schema : Schema) (keys : Keys) (db next : Trees) (table : Table) (sour
 
   -- no row had its rowid
   pub apart : IsApart put (db table.tree)
-  apart = none_from_any (λ r. is_eq (value_cmp (rowid r) (rowid put))) (db table.tree) (not-true _ (both _ _ applies.fresh).0)
+  apart = none_from_any (λ r. is_eq (value_cmp (rowid r) (rowid put))) (db table.tree) (not-true _ (and_parts _ _ applies.fresh).0)
 
   pub was_put : Has (next table.tree) put
-  was_put = subst (λ rows. Has rows put) (sym applies.rows) (put_there put (db table.tree))
+  was_put = subst (λ rows. Has rows put) (sym applies.rows) (put_all_adds (put ∷ []) (db table.tree) put applies.fresh (inl refl))
 
   pub was_kept : (x : Row) → Has (db table.tree) x → Has (next table.tree) x
-  was_kept x there = subst (λ rows. Has rows x) (sym applies.rows) (put_keeps put (db table.tree) apart x there)
+  was_kept x there = subst (λ rows. Has rows x) (sym applies.rows) (put_all_keeps (put ∷ []) (db table.tree) x applies.fresh there)
 
   -- where no two rows pass a test after it, and the new one does, none did before
   pub none_before : (keep : Row → Bool) → keep put ≡ true → ((x y : Row) → Has (next table.tree) x → Has (next table.tree) y → keep x ≡ true → keep y ≡ true → x ≡ y) → filter keep (db table.tree) ≡ []

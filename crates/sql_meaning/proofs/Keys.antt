@@ -101,10 +101,3 @@ found_by q p f (x ∷ xs) same = elim (cases_Bool (p x)) [
   | inl is ↦ let q_is : q (f x) ≡ true = same.0 ∙ is in rw (is, q_is) refl
   | inr isnt ↦ let q_is : q (f x) ≡ false = same.0 ∙ isnt in rw (isnt, q_is) (found_by q p f xs same.1)
 ]
-
-pub filter_same : {X : Type 0} (p q : X → Bool) (xs : List X) → AllByRecursion (λ x. p x ≡ q x) xs → filter p xs ≡ filter q xs
-filter_same p q [] same = refl
-filter_same p q (x ∷ xs) same = elim (cases_Bool (q x)) [
-  | inl is ↦ let p_is : p x ≡ true = same.0 ∙ is in rw (is, p_is) (ap (λ more. x ∷ more) (filter_same p q xs same.1))
-  | inr isnt ↦ let p_is : p x ≡ false = same.0 ∙ isnt in rw (isnt, p_is) (filter_same p q xs same.1)
-]

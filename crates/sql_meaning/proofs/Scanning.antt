@@ -6,10 +6,12 @@ use Rattle.sqlite.specs.State.{State, Shown, IsUnchanged}
 use Rattle.sqlite.specs.Schema.{Schema}
 use Rattle.sqlite.specs.Listing.{understood}
 use Rattle.sqlite_rules.specs.Lists.{Has}
-use Rattle.sql_meaning.proofs.Keys.{filter_same, found_by}
+use Rattle.sqlite_trees.proofs.ListLemmas.{filter_same}
+use Rattle.sqlite_rules.proofs.ProbeLemmas.{has_mapped, mapped_has}
+use Rattle.sql_meaning.proofs.Keys.{found_by}
 use Rattle.sqlite.specs.Tree.{IsAscending}
 use Rattle.sqlite_keyed.proofs.SortLemmas.{sorted_unique}
-use Rattle.sqlite_keyed.proofs.ListLemmas.{ascending-map, ascending-filter}
+use Rattle.sqlite_keyed.proofs.ListLemmas.{ascending-map, ascending-filter, map-map}
 use Rattle.sqlite_sql.proofs.QueryLemmas.{output_cmp_total}
 use Rattle.sqlite_rules.proofs.ListLemmas.{all_from, has_contained, contains_had, has_filtered, has_kept}
 use Rattle.std.proofs.lemmas.Bool.{cases_Bool}
@@ -68,10 +70,6 @@ pub record Scans (db : Trees) (params : Row) (tree : ℕ) (test project : List T
   pub sorted : IsSorted (output_cmp (scan tree test project order)) ordered
   pub shown : rows ≡ map (λ (o : Output). o.1) ordered
 
-mapped : {A B C : Type 0} (g : B → C) (f : A → B) (xs : List A) → map g (map f xs) ≡ map (λ x. g (f x)) xs
-mapped g f [] = refl
-mapped g f (x ∷ xs) = ap (λ more. g (f x) ∷ more) (mapped g f xs)
-
 pub scanned : (db : Trees) (params : Row) (tree : ℕ) (test project : List Term) (order : List (Term × Key)) (rows : List Row)
     → IsSureAnswer (scan tree test project order) (overlay db []) params rows → Scans db params tree test project order rows
 scanned db params tree test project order rows h =
@@ -80,7 +78,7 @@ scanned db params tree test project order rows h =
     let over : overlay db [] tree ≡ db tree = none_given _ _ db in
     let found : matches_as Null (overlay db []) test (inner tree end) (params ∷ []) ≡ map (λ r. params ∷ r ∷ []) (filter (passes params test) (db tree)) =
     matched Null (overlay db []) params test (overlay db [] tree) ∙ ap (λ rs. map (λ r. params ∷ r ∷ []) (filter (passes params test) rs)) over in
-    let kept = a.distinct ∙ ap (map (output q)) (a.grouped ∙ found) ∙ mapped (output q) (λ r. params ∷ r ∷ []) (filter (passes params test) (db tree)) in
+    let kept = a.distinct ∙ ap (map (output q)) (a.grouped ∙ found) ∙ map-map (output q) (λ r. params ∷ r ∷ []) (filter (passes params test) (db tree)) in
     record {
       ordered = a.ordered;
       same = subst (λ k. IsPermutation k a.ordered) kept a.same;
@@ -93,16 +91,6 @@ empty_permutation [] h = refl
 empty_permutation (y ∷ ys) h = absurd (let len = length_permutation [] (y ∷ ys) h in cc)
 
 -- at most one row passes, so the answer is what is shown of it
-mapped_from : {A B : Type 0} (f : A → B) (xs : List A) (y : B) → Has (map f xs) y → (x : A) × Has xs x × (y ≡ f x)
-mapped_from f [] y there = absurd there
-mapped_from f (x ∷ xs) y (inl is) = (x, inl refl, is)
-mapped_from f (x ∷ xs) y (inr more) = let it = mapped_from f xs y more in (it.0, inr it.1, it.2)
-
-mapped_to : {A B : Type 0} (f : A → B) (xs : List A) (x : A) → Has xs x → Has (map f xs) (f x)
-mapped_to f [] x there = absurd there
-mapped_to f (y ∷ xs) x (inl is) = inl (ap f is)
-mapped_to f (y ∷ xs) x (inr more) = inr (mapped_to f xs x more)
-
 pub answers_one : (db : Trees) (params : Row) (tree : ℕ) (test project : List Term) (order : List (Term × Key)) (rows : List Row) (keep : Row → Bool) → Scans db params tree test project order rows
     → AllByRecursion (λ r. passes params test r ≡ keep r) (db tree) → (filter keep (db tree) ≡ []) ⊎ ((r : Row) × Has (db tree) r × (keep r ≡ true) × (filter keep (db tree) ≡ r ∷ []))
     → rows ≡ map (shown_of params project) (filter keep (db tree))
@@ -139,7 +127,7 @@ answers_rising db params tree test project order rows keep h each rising =
     let same : IsPermutation (map out (filter keep (db tree))) h.ordered = subst (λ rs. IsPermutation (map out rs) h.ordered) kept h.same in
     let up = ascending-map (λ a b. output_cmp q a b ≡ Less) out (filter keep (db tree)) (ascending-filter (λ a b. output_cmp q (out a) (out b) ≡ Less) keep (db tree) rising) in
     let is : h.ordered ≡ map out (filter keep (db tree)) = sorted_unique (output_cmp q) (output_cmp_total q) (map out (filter keep (db tree))) h.ordered up same h.sorted in
-    h.shown ∙ ap (map (λ (o : Output). o.1)) is ∙ mapped (λ (o : Output). o.1) out (filter keep (db tree))
+    h.shown ∙ ap (map (λ (o : Output). o.1)) is ∙ map-map (λ (o : Output). o.1) out (filter keep (db tree))
 
 -- one row by a key: the typed row that has it is the first of the answer
 pub finds_one : {Y : Type 0} (rows answer : List Row) (keep : Row → Bool) (shown : Row → Row) (decode show : Row → Y) (test : Y → Bool) → ((r : Row) → test (decode r) ≡ keep r) → ((r : Row) → show (shown r) ≡ decode r)
@@ -158,9 +146,9 @@ answer_sound db params tree test project order rows keep h each x there =
     let out : Row → Output = λ r. output (scan tree test project order) (params ∷ r ∷ []) in
     let kept = filter_same (passes params test) keep (db tree) each in
     let same : IsPermutation (map out (filter keep (db tree))) h.ordered = subst (λ rs. IsPermutation (map out rs) h.ordered) kept h.same in
-    let o = mapped_from (λ (o : Output). o.1) h.ordered x (subst (λ rs. Has rs x) h.shown there) in
+    let o = has_mapped (λ (o : Output). o.1) h.ordered x (subst (λ rs. Has rs x) h.shown there) in
     let before = has_contained (map out (filter keep (db tree))) o.0 (Contains-permutation h.ordered (map out (filter keep (db tree))) o.0 (IsPermutation-sym _ _ same) (contains_had h.ordered o.0 o.1)) in
-    let r = mapped_from out (filter keep (db tree)) o.0 before in
+    let r = has_mapped out (filter keep (db tree)) o.0 before in
     let within = has_filtered keep (db tree) r.0 r.1 in
     (r.0, within.0, within.1, o.2 ∙ ap (λ (p : Output). p.1) r.2)
 
@@ -170,6 +158,6 @@ answer_complete db params tree test project order rows keep h each r there is =
     let out : Row → Output = λ r. output (scan tree test project order) (params ∷ r ∷ []) in
     let kept = filter_same (passes params test) keep (db tree) each in
     let same : IsPermutation (map out (filter keep (db tree))) h.ordered = subst (λ rs. IsPermutation (map out rs) h.ordered) kept h.same in
-    let before = mapped_to out (filter keep (db tree)) r (has_kept keep (db tree) r there is) in
+    let before = mapped_has out (filter keep (db tree)) r (has_kept keep (db tree) r there is) in
     let after = has_contained h.ordered (out r) (Contains-permutation (map out (filter keep (db tree))) h.ordered (out r) same (contains_had (map out (filter keep (db tree))) (out r) before)) in
-    subst (λ rs. Has rs (shown_of params project r)) (sym h.shown) (mapped_to (λ (o : Output). o.1) h.ordered (out r) after)
+    subst (λ rs. Has rs (shown_of params project r)) (sym h.shown) (mapped_has (λ (o : Output). o.1) h.ordered (out r) after)

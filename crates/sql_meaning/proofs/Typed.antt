@@ -1,7 +1,7 @@
 -- What a STRICT table's rules say of the columns of its rows.
-use Rattle.std.proofs.Common.{◌≡◌, ◌&&◌, ◌||◌, ◌⊎◌, not, ℕ, zero, suc, ◌+◌, List, [], ◌∷◌, drop, slice_get, slice_index_or, Bool, true, false, Some, Option, refl, sym, ap, subst, ◌∙◌, inl, inr, if◌then◌else◌, arith}
+use Rattle.std.proofs.Common.{◌≡◌, ◌||◌, ◌⊎◌, not, ℕ, zero, suc, ◌+◌, List, [], ◌∷◌, drop, slice_get, slice_index_or, true, false, Some, Option, refl, sym, ap, subst, ◌∙◌, inl, inr, if◌then◌else◌, arith}
 use Rattle.std.specs.List.{AllByRecursion}
-use Rattle.std.proofs.lemmas.Bool.{not-true}
+use Rattle.std.proofs.lemmas.Bool.{not-true, and_parts}
 use Rattle.sqlite.specs.declared.types.Value.{Value}
 use Rattle.sqlite.specs.declared.types.Value.TheVariants.{Null, Int, Text, Blob, Real}
 use Rattle.sqlite.specs.Order.{Row, column, bytes}
@@ -16,11 +16,6 @@ use Rattle.sqlite_schema.specs.declared.schema.Constraint.TheVariants.{Datatype,
 use Rattle.sqlite_schema.specs.Names.{is_key}
 use Rattle.sqlite_schema.specs.Rules.{are_typed, are_present, suits, is_of, passes}
 use Rattle.sql_meaning.specs.Columns.{int_at, bytes_at}
-
-pub both : (a b : Bool) → a && b ≡ true → (a ≡ true) × (b ≡ true)
-both true true h = (refl, refl)
-both true false h = absurd cc
-both false b h = absurd cc
 
 pub all_both : {X : Type 0} {P Q R : X → Type 0} → ((x : X) → P x → Q x → R x) → (xs : List X) → AllByRecursion P xs → AllByRecursion Q xs → AllByRecursion R xs
 all_both f [] p q = tt
@@ -41,11 +36,11 @@ suits_at key at (d ∷ cs) [] h (suc i) c found strict free = nothing_suits c st
 suits_at key at (d ∷ cs) (v ∷ vs) h zero c found strict free =
     let same : d ≡ c = cc in
     let here : is_key key at ≡ false = subst (λ n. is_key key n ≡ false) (omega arith) free in
-    let first : (if is_key key at then is_null v else suits d v) ≡ true = (both _ _ h).0 in
+    let first : (if is_key key at then is_null v else suits d v) ≡ true = (and_parts _ _ h).0 in
     let it : suits d v ≡ true = rw here at first in
     subst (λ col. suits col v ≡ true) same it
 suits_at key at (d ∷ cs) (v ∷ vs) h (suc i) c found strict free =
-    suits_at key (at + 1) cs vs (both _ _ h).1 i c found strict (subst (λ n. is_key key n ≡ false) (omega arith) free)
+    suits_at key (at + 1) cs vs (and_parts _ _ h).1 i c found strict (subst (λ n. is_key key n ≡ false) (omega arith) free)
 
 present_at : (key : Option ℕ) (at : ℕ) (cs : List Column) (row : Row) → are_present key at cs row ≡ true
     → (i : ℕ) (c : Column) → slice_get cs i ≡ Some c → c.not_null ≡ true → is_key key (at + i) ≡ false → is_null (column row (at + i + 1)) ≡ false
@@ -55,12 +50,12 @@ present_at key at (d ∷ cs) row h zero c found needed free =
     let here : is_key key at ≡ false = subst (λ n. is_key key n ≡ false) (omega arith) free in
     let there : (at + 0 + 1) ≡ at + 1 = omega arith in
     let must : d.not_null ≡ true = ap (λ (k : Column). k.not_null) same ∙ needed in
-    let it : is_key key at || not d.not_null || not (is_null (column row (at + 1))) ≡ true = (both _ _ h).0 in
+    let it : is_key key at || not d.not_null || not (is_null (column row (at + 1))) ≡ true = (and_parts _ _ h).0 in
     let bare : not (is_null (column row (at + 1))) ≡ true = rw (here, must) at it in
     subst (λ n. is_null (column row n) ≡ false) (sym there) (not-true (is_null (column row (at + 1))) bare)
 present_at key at (d ∷ cs) row h (suc i) c found needed free =
     let there : (at + suc i + 1) ≡ at + 1 + i + 1 = omega arith in
-    let more = present_at key (at + 1) cs row (both _ _ h).1 i c found needed (subst (λ n. is_key key n ≡ false) (omega arith) free) in
+    let more = present_at key (at + 1) cs row (and_parts _ _ h).1 i c found needed (subst (λ n. is_key key n ≡ false) (omega arith) free) in
     subst (λ n. is_null (column row n) ≡ false) (sym there) more
 
 after_id : (row : Row) (i : ℕ) → slice_index_or (drop 1 row) i Null ≡ column row (i + 1)
@@ -104,7 +99,7 @@ or_text (Blob b) h = absurd cc
 
 module _ (schema : Schema) (db : Trees) (table : Table) (row : Row) (typed : passes Datatype schema db table row ≡ true) (present : passes NotNull schema db table row ≡ true) where
   suited : (i : ℕ) (c : Column) → slice_get table.columns i ≡ Some c → c.is_strict ≡ true → is_key table.key (0 + i) ≡ false → suits c (column row (i + 1)) ≡ true
-  suited i c found strict free = subst (λ v. suits c v ≡ true) (after_id row i) (suits_at table.key 0 table.columns (drop 1 row) (both _ _ typed).0 i c found strict free)
+  suited i c found strict free = subst (λ v. suits c v ≡ true) (after_id row i) (suits_at table.key 0 table.columns (drop 1 row) (and_parts _ _ typed).0 i c found strict free)
 
   of_kind : (i : ℕ) (c : Column) → slice_get table.columns i ≡ Some c → c.is_strict ≡ true → is_key table.key (0 + i) ≡ false → is_of c.kind (column row (i + 1)) ≡ true
   of_kind i c found strict free = rw strict at (suited i c found strict free)
