@@ -4,7 +4,7 @@ use Rattle.std.specs.Prelude.{bytes_eq, find, position, option_and_then, nat_lt,
 use Rattle.std.specs.List.{AllByRecursion, prefix_len}
 use Rattle.std.proofs.lemmas.Option.{same_Some}
 use Rattle.office_core.specs.Actions.{action_text}
-use Rattle.office_core.specs.Policies.{Contents, IsPolicy, IsNamed, HasNames, or_stranger}
+use Rattle.office_core.specs.Policies.{PolicyValue, IsPolicy, IsNamed, HasNames, or_stranger}
 use Rattle.office_core.specs.Rules.{Question, matches_name, matches_action, matches_optional, matches, decision_at, decision_of}
 use Rattle.office_core.specs.declared.action.Action.{Action}
 use Rattle.office_core.specs.declared.action.Action.TheVariants as acts
@@ -87,7 +87,7 @@ then_same : {A B C : Type 0} (f : A → Option C) (g : A → Option B) (into : B
 then_same f g into None same = refl
 then_same f g into (Some x) same = same x
 
-decision_told : (policy : Contents) (asked : Question) → IsPolicy policy → row_decision (rule_rows 1 policy.rules) asked ≡ option_map as_row (decision_of policy.rules asked)
+decision_told : (policy : PolicyValue) (asked : Question) → IsPolicy policy → row_decision (rule_rows 1 policy.rules) asked ≡ option_map as_row (decision_of policy.rules asked)
 decision_told policy asked named =
     ap (option_and_then (λ place. option_map (λ (row : RuleRow). (place + 1, row.effect)) (slice_get (rule_rows 1 policy.rules) place))) (same_place asked policy.rules named.rules_ask_for_names)
     ∙ then_same (λ place. option_map (λ (row : RuleRow). (place + 1, row.effect)) (slice_get (rule_rows 1 policy.rules) place)) (λ place. option_map (decision_at place) (slice_get policy.rules place)) as_row
@@ -110,6 +110,6 @@ same_decision (Some a) (Some b) e =
     λ i. Some (record { rule = ap (λ p. p.0) both i; effect = same_effect a.effect b.effect (ap (λ p. p.1) both) i })
 
 -- the decision by the rows is that of the policy
-pub decided : (policy : Contents) (asked : Question) (rows : List RuleRow) (decision : Option Decision) → IsPolicy policy → rows ≡ rule_rows 1 policy.rules → option_map as_row decision ≡ row_decision rows asked
+pub decided : (policy : PolicyValue) (asked : Question) (rows : List RuleRow) (decision : Option Decision) → IsPolicy policy → rows ≡ rule_rows 1 policy.rules → option_map as_row decision ≡ row_decision rows asked
     → decision ≡ decision_of policy.rules asked
 decided policy asked rows decision named is e = same_decision decision (decision_of policy.rules asked) (e ∙ ap (λ rs. row_decision rs asked) is ∙ decision_told policy asked named)

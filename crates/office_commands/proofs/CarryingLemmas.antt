@@ -15,7 +15,7 @@ use Rattle.sqlite.specs.declared.FileStore.{FileStore}
 use Rattle.sqlite.specs.declared.MemStore.{MemStore}
 use Rattle.sqlite.proofs.Callers.{memory_is_clean}
 use Rattle.office_rows.specs.Rows.{max_limit}
-use Rattle.office_core.specs.Policies.{Contents}
+use Rattle.office_core.specs.Policies.{PolicyValue}
 use Rattle.office_history.specs.Histories.{History}
 use Rattle.office_history.specs.Runs.{IsLegal, new_history}
 use Rattle.office_recovery.specs.Found.{HoldsWhere}
@@ -53,7 +53,7 @@ carries_task g task was_left left held holds = record {
   leads = λ old new does clean h legal keeps. done_from g task old new was_left left held holds does clean h legal keeps;
 }
 
-pub carries_stop : {S : Type 0} (g : Ghosts S) (policy : Option Contents) (index : ℕ) (was_left left held holds : Option (List ℕ))
+pub carries_stop : {S : Type 0} (g : Ghosts S) (policy : Option PolicyValue) (index : ℕ) (was_left left held holds : Option (List ℕ))
     → Carries g (λ old new. StopsUnder g policy index old new was_left left held holds) (λ h next. StopsFrom (after_install policy h) index next was_left left held holds)
 carries_stop g policy index was_left left held holds = record {
   cleans = λ old new stops clean. clean_before g policy old stops.0 new stops.2.0 stops.2.2.texts stops.1 stops.2.2.answers clean;

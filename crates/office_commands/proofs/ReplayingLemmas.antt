@@ -4,7 +4,7 @@ use Rattle.std.specs.Io.KnownBytes.{IsAtEnd, Keeps}
 use Rattle.sqlite.specs.Held.{Held, state}
 use Rattle.sqlite.specs.State.{HasCleanDisk, Survives}
 use Rattle.sqlite.specs.Store.{Ghosts}
-use Rattle.office_core.specs.Policies.{Contents}
+use Rattle.office_core.specs.Policies.{PolicyValue}
 use Rattle.office_history.specs.Histories.{History}
 use Rattle.office_history.specs.Runs.{IsLegal}
 use Rattle.office_engine.specs.Keeping.{CommitsTo, Installs, IsKeptBy, IsReached, after_policy}
@@ -29,17 +29,17 @@ use Rattle.commands.proofs.WritingLemmas.{appends_kept}
 -- ---- the history
 
 -- a disk that is honest behind records was so before the policy that came first
-pub clean_before : {S : Type 0} (g : Ghosts S) (policy : Option Contents) (first mid last : Held S) (items : List RequestRecord) (texts : List (List ℕ)) → InstallsFirst g policy first mid
+pub clean_before : {S : Type 0} (g : Ghosts S) (policy : Option PolicyValue) (first mid last : Held S) (items : List RequestRecord) (texts : List (List ℕ)) → InstallsFirst g policy first mid
     → AnswersEach g mid items texts last → HasCleanDisk (state g last) → HasCleanDisk (state g first)
 clean_before g None first mid last items texts installs each clean = subst (λ (s : Held _). HasCleanDisk (state g s)) installs (clean_at g mid last items texts each clean)
 clean_before g (Some policy) first mid last items texts installs each clean = installs.0 (clean_at g mid last items texts each clean)
 
-first_history : {S : Type 0} (g : Ghosts S) (policy : Option Contents) (first mid : Held S) → InstallsFirst g policy first mid → HasCleanDisk (state g mid) → (h : History) → IsLegal h → IsKeptBy h (state g first)
+first_history : {S : Type 0} (g : Ghosts S) (policy : Option PolicyValue) (first mid : Held S) → InstallsFirst g policy first mid → HasCleanDisk (state g mid) → (h : History) → IsLegal h → IsKeptBy h (state g first)
     → IsReached (after_install policy h) (state g mid)
 first_history g None first mid installs clean h legal keeps = record { legal = legal; kept = subst (λ (s : Held _). IsKeptBy h (state g s)) (sym installs) keeps }
 first_history g (Some policy) first mid installs clean h legal keeps = installs.1 clean h legal keeps
 
-pub replays_from : {S : Type 0} (g : Ghosts S) (policy : Option Contents) (first last : Held S) (was_left left held holds : Option (List ℕ)) → ReplaysUnder g policy first last was_left left held holds
+pub replays_from : {S : Type 0} (g : Ghosts S) (policy : Option PolicyValue) (first last : Held S) (was_left left held holds : Option (List ℕ)) → ReplaysUnder g policy first last was_left left held holds
     → HasCleanDisk (state g last) → (h : History) → IsLegal h → IsKeptBy h (state g first)
     → (next : History) × ReplaysFrom (after_install policy h) next was_left left held holds × IsReached next (state g last)
 replays_from g policy first last was_left left held holds does clean h legal keeps =
@@ -50,7 +50,7 @@ replays_from g policy first last was_left left held holds does clean h legal kee
     let run = runs_each g mid last items has.texts has.answers clean (after_install policy h) at.legal at.kept in
     (run.2, (has.given, items, has.texts, run.0, run.1, has.reads, does.2.2, has.records, run.3, run.4, has.writes), run.5)
 
-pub stops_from : {S : Type 0} (g : Ghosts S) (policy : Option Contents) (index : ℕ) (first last : Held S) (was_left left held holds : Option (List ℕ)) → StopsUnder g policy index first last was_left left held holds
+pub stops_from : {S : Type 0} (g : Ghosts S) (policy : Option PolicyValue) (index : ℕ) (first last : Held S) (was_left left held holds : Option (List ℕ)) → StopsUnder g policy index first last was_left left held holds
     → HasCleanDisk (state g last) → (h : History) → IsLegal h → IsKeptBy h (state g first)
     → (next : History) × StopsFrom (after_install policy h) index next was_left left held holds × IsReached next (state g last)
 stops_from g policy index first last was_left left held holds stops clean h legal keeps =
@@ -90,17 +90,17 @@ stopped {S = S} T g first last was_left left held holds fault named is stop =
 
 -- ---- a policy that comes first
 
-pub installed_first : {S T E : Type 0} (g : Ghosts S) (r : Result T E) (first last : Held S) (policy : Contents) → (HasCleanDisk (state g last) → OnOk r (Installs (state g first) (state g last) policy))
+pub installed_first : {S T E : Type 0} (g : Ghosts S) (r : Result T E) (first last : Held S) (policy : PolicyValue) → (HasCleanDisk (state g last) → OnOk r (Installs (state g first) (state g last) policy))
     → Survives (state g first) (state g last) (CommitsTo (state g first) (after_policy policy)) → OnOk r (InstallsFirst g (Some policy) first last)
 installed_first g (Ok x) first last policy installs survives = ((λ clean. omega (arith, clean, survives.clean)), installs)
 installed_first g (Err e) first last policy installs survives = tt
 
-pub replayed_under : {S T : Type 0} (g : Ghosts S) (r : Result T CommandFault) (policy : Option Contents) (first mid last : Held S) (was_left left held holds : Option (List ℕ)) → InstallsFirst g policy first mid
+pub replayed_under : {S T : Type 0} (g : Ghosts S) (r : Result T CommandFault) (policy : Option PolicyValue) (first mid last : Held S) (was_left left held holds : Option (List ℕ)) → InstallsFirst g policy first mid
     → EndsReplay g mid last was_left left held holds r → OnOk r (ReplaysUnder g policy first last was_left left held holds)
 replayed_under g (Ok x) policy first mid last was_left left held holds installs ends = (mid, installs, ends)
 replayed_under g (Err e) policy first mid last was_left left held holds installs ends = tt
 
-pub stopped_under : {S T : Type 0} (g : Ghosts S) (r : Result T CommandFault) (policy : Option (Bor Contents)) (first mid last : Held S) (was_left left held holds : Option (List ℕ))
+pub stopped_under : {S T : Type 0} (g : Ghosts S) (r : Result T CommandFault) (policy : Option (Bor PolicyValue)) (first mid last : Held S) (was_left left held holds : Option (List ℕ))
     → InstallsFirst g (option_copied policy) first mid → EndsReplay g mid last was_left left held holds r → IfErr r (λ fault. Stops g (Replay policy) fault first last was_left left held holds)
 stopped_under g (Ok x) policy first mid last was_left left held holds installs ends = tt
 stopped_under g (Err (BadRecord index)) policy first mid last was_left left held holds installs ends = (mid, installs, ends)

@@ -5,7 +5,7 @@ use Rattle.sqlite.specs.Held.{Held, state}
 use Rattle.sqlite.specs.State.{State, HasCleanDisk, Survives}
 use Rattle.sqlite.specs.Store.{Ghosts}
 use Rattle.office_rows.specs.Rows.{max_limit}
-use Rattle.office_core.specs.Policies.{Contents}
+use Rattle.office_core.specs.Policies.{PolicyValue}
 use Rattle.office_history.specs.Histories.{History}
 use Rattle.office_history.specs.Runs.{IsLegal, new}
 use Rattle.office_engine.specs.Keeping.{CommitsTo, Installs, IsKeptBy, IsReached, after_policy}
@@ -24,7 +24,7 @@ pub keeps_same : (known : Option (List ℕ)) → Keeps known known
 keeps_same None = tt
 keeps_same (Some xs) = refl
 
-pub install_does : {T E : Type 0} (r : Result T E) (first last : State) (policy : Contents) (held : Option (List ℕ)) → (HasCleanDisk last → OnOk r (Installs first last policy))
+pub install_does : {T E : Type 0} (r : Result T E) (first last : State) (policy : PolicyValue) (held : Option (List ℕ)) → (HasCleanDisk last → OnOk r (Installs first last policy))
     → Survives first last (CommitsTo first (after_policy policy))
     → OnOk r (((HasCleanDisk last → HasCleanDisk first) × (HasCleanDisk last → Installs first last policy)) × Keeps held held)
 install_does (Ok x) first last policy held installs survives = (((λ clean. omega (arith, clean, survives.clean)), installs), keeps_same held)
@@ -45,16 +45,16 @@ made_is_legal = new max_limit max_limit refl refl
 
 -- ---- what stops a task
 
-pub failure_stops : (task : Task) (fault : CommandFault) (AtRecord : Option Contents → ℕ → Type 0) → IsFailure fault → IsStoppedBy task fault AtRecord
+pub failure_stops : (task : Task) (fault : CommandFault) (AtRecord : Option PolicyValue → ℕ → Type 0) → IsFailure fault → IsStoppedBy task fault AtRecord
 failure_stops task (Policy refused) AtRecord is = absurd is
 failure_stops task (BadRecord index) AtRecord is = absurd is
 failure_stops task (Failed fault cause) AtRecord is = tt
 
-pub failures_stop : {T : Type 0} (r : Result T CommandFault) (task : Task) (AtRecord : Option Contents → ℕ → Type 0) → IfErr r IsFailure → IfErr r (λ fault. IsStoppedBy task fault AtRecord)
+pub failures_stop : {T : Type 0} (r : Result T CommandFault) (task : Task) (AtRecord : Option PolicyValue → ℕ → Type 0) → IfErr r IsFailure → IfErr r (λ fault. IsStoppedBy task fault AtRecord)
 failures_stop (Ok x) task AtRecord fails = tt
 failures_stop (Err fault) task AtRecord fails = failure_stops task fault AtRecord fails
 
-pub stopped_so : (task : Task) (fault : CommandFault) (AtRecord AtRecord' : Option Contents → ℕ → Type 0) → ((policy : Option Contents) (index : ℕ) → AtRecord policy index → AtRecord' policy index)
+pub stopped_so : (task : Task) (fault : CommandFault) (AtRecord AtRecord' : Option PolicyValue → ℕ → Type 0) → ((policy : Option PolicyValue) (index : ℕ) → AtRecord policy index → AtRecord' policy index)
     → IsStoppedBy task fault AtRecord → IsStoppedBy task fault AtRecord'
 stopped_so task (Failed fault cause) AtRecord AtRecord' so is = tt
 stopped_so (Replay policy) (BadRecord index) AtRecord AtRecord' so is = so (option_copied policy) index is
@@ -62,7 +62,7 @@ stopped_so (Install policy) (BadRecord index) AtRecord AtRecord' so is = absurd 
 stopped_so (Ask day) (BadRecord index) AtRecord AtRecord' so is = absurd is
 stopped_so task (Policy fault) AtRecord AtRecord' so is = absurd is
 
-pub stopped_alike : {T : Type 0} (r : Result T CommandFault) (task : Task) (AtRecord AtRecord' : Option Contents → ℕ → Type 0)
-    → ((policy : Option Contents) (index : ℕ) → AtRecord policy index → AtRecord' policy index) → IfErr r (λ fault. IsStoppedBy task fault AtRecord) → IfErr r (λ fault. IsStoppedBy task fault AtRecord')
+pub stopped_alike : {T : Type 0} (r : Result T CommandFault) (task : Task) (AtRecord AtRecord' : Option PolicyValue → ℕ → Type 0)
+    → ((policy : Option PolicyValue) (index : ℕ) → AtRecord policy index → AtRecord' policy index) → IfErr r (λ fault. IsStoppedBy task fault AtRecord) → IfErr r (λ fault. IsStoppedBy task fault AtRecord')
 stopped_alike (Ok x) task AtRecord AtRecord' so is = tt
 stopped_alike (Err fault) task AtRecord AtRecord' so is = stopped_so task fault AtRecord AtRecord' so is

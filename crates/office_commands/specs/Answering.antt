@@ -4,7 +4,7 @@ use Rattle.std.specs.Io.KnownBytes.{Appends, Consumes, IsAtEnd}
 use denote.Ref.{Bor}
 use Rattle.jiff.specs.Types.{Date}
 use Rattle.office_rows.specs.Rows.{max_limit}
-use Rattle.office_core.specs.Policies.{Contents}
+use Rattle.office_core.specs.Policies.{PolicyValue}
 use Rattle.office_core.specs.declared.answer.Answer.{Answer}
 use Rattle.commands.specs.Explaining.{Spells}
 use Rattle.office_history.specs.Histories.{History}
@@ -25,7 +25,7 @@ abbrev pub made_office : History
 made_office = new_history max_limit max_limit
 
 -- the history with a policy, where one is installed first
-abbrev pub after_install : Option Contents → History → History
+abbrev pub after_install : Option PolicyValue → History → History
 after_install None h = h
 after_install (Some policy) h = after_policy policy h
 
@@ -56,6 +56,6 @@ StopsFrom h index next was_left left held holds =
     × IsRunOf items texts run answers × Run h run answers next × Appends held holds (answer_texts texts)
 
 -- the policy that a file spells, where one is named, and none where none is
-abbrev pub IsNamed : Option (Bor (List ℕ)) → Option Contents → Type 0
+abbrev pub IsNamed : Option (Bor (List ℕ)) → Option PolicyValue → Type 0
 IsNamed None policy = policy ≡ None
-IsNamed (Some path) policy = (bytes : List ℕ) × (contents : Contents) × Spells bytes contents × (policy ≡ Some contents)
+IsNamed (Some path) policy = (bytes : List ℕ) × (contents : PolicyValue) × Spells bytes contents × (policy ≡ Some contents)

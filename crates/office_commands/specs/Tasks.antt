@@ -3,7 +3,7 @@ use Rattle.std.specs.Prelude.{◌≡◌, ℕ, Bool, true, false, List, Option, N
 use Rattle.std.specs.Io.KnownBytes.{Keeps}
 use Rattle.sqlite.specs.Held.{Held}
 use Rattle.sqlite.specs.Store.{Ghosts}
-use Rattle.office_core.specs.Policies.{Contents}
+use Rattle.office_core.specs.Policies.{PolicyValue}
 use Rattle.office_history.specs.Histories.{History}
 use Rattle.office_engine.specs.Keeping.{after_policy}
 use Rattle.office_commands.specs.Working.{Asks, InstallsFirst, ReplaysUnder, StopsUnder}
@@ -33,7 +33,7 @@ DoesFrom (Ask day) h next was_left left held holds = AsksFrom h day next was_lef
 DoesFrom (Replay policy) h next was_left left held holds = ReplaysFrom (after_install (option_copied policy) h) next was_left left held holds
 
 -- a task is stopped by a failure; or, a replay alone, by a bad record, of which this is so
-abbrev pub IsStoppedBy : Task → CommandFault → (Option Contents → ℕ → Type 0) → Type 0
+abbrev pub IsStoppedBy : Task → CommandFault → (Option PolicyValue → ℕ → Type 0) → Type 0
 IsStoppedBy task (Failed fault cause) AtRecord = ⊤
 IsStoppedBy (Replay policy) (BadRecord index) AtRecord = AtRecord (option_copied policy) index
 IsStoppedBy (Install policy) (BadRecord index) AtRecord = ⊥

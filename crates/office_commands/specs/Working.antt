@@ -6,7 +6,7 @@ use Rattle.jiff.specs.Types.{Date}
 use Rattle.sqlite.specs.Held.{Held, state}
 use Rattle.sqlite.specs.State.{HasCleanDisk}
 use Rattle.sqlite.specs.Store.{Ghosts}
-use Rattle.office_core.specs.Policies.{Contents}
+use Rattle.office_core.specs.Policies.{PolicyValue}
 use Rattle.office_engine.specs.Keeping.{Installs}
 use Rattle.desk_records.specs.RecordLists.{RequestRecord}
 use Rattle.http_desk.specs.Serving.{IsAnswered}
@@ -57,14 +57,14 @@ EndsReplay g old new was_left left held holds (Err (Policy fault)) = ⊥
 -- ---- a policy that comes first
 
 -- the policy is installed, where there is one
-abbrev pub InstallsFirst : {S : Type 0} → Ghosts S → Option Contents → Held S → Held S → Type 0
+abbrev pub InstallsFirst : {S : Type 0} → Ghosts S → Option PolicyValue → Held S → Held S → Type 0
 InstallsFirst g None old new = new ≡ old
 InstallsFirst g (Some policy) old new = (HasCleanDisk (state g new) → HasCleanDisk (state g old)) × (HasCleanDisk (state g new) → Installs (state g old) (state g new) policy)
 
 -- and then the records are replayed
-abbrev pub ReplaysUnder : {S : Type 0} → Ghosts S → Option Contents → Held S → Held S → Option (List ℕ) → Option (List ℕ) → Option (List ℕ) → Option (List ℕ) → Type 0
+abbrev pub ReplaysUnder : {S : Type 0} → Ghosts S → Option PolicyValue → Held S → Held S → Option (List ℕ) → Option (List ℕ) → Option (List ℕ) → Option (List ℕ) → Type 0
 ReplaysUnder {S} g policy old new was_left left held holds = (mid : Held S) × InstallsFirst g policy old mid × Replays g mid new was_left left held holds
 
 -- and then the records that come before a bad one
-abbrev pub StopsUnder : {S : Type 0} → Ghosts S → Option Contents → ℕ → Held S → Held S → Option (List ℕ) → Option (List ℕ) → Option (List ℕ) → Option (List ℕ) → Type 0
+abbrev pub StopsUnder : {S : Type 0} → Ghosts S → Option PolicyValue → ℕ → Held S → Held S → Option (List ℕ) → Option (List ℕ) → Option (List ℕ) → Option (List ℕ) → Type 0
 StopsUnder {S} g policy index old new was_left left held holds = (mid : Held S) × InstallsFirst g policy old mid × StopsAtRecord g index mid new was_left left held holds

@@ -5,20 +5,20 @@ use Rattle.toml.specs.Data.{Members}
 use Rattle.toml.specs.Parse.{parse_document}
 use Rattle.office_core.specs.FirstOf.{first_some}
 use Rattle.bag_text.specs.Answers.{Answers, FailsAs}
-use Rattle.office_core.specs.Policies.{Contents, HasFirstFault, SpellsPolicy, contents_of, faults, named_policy_fault, policy_of, read_tree, contents_unless}
+use Rattle.office_core.specs.Policies.{PolicyValue, HasFirstFault, SpellsPolicy, policy_in_tree, faults, named_policy_fault, policy_of, read_tree, policy_unless}
 use Rattle.office_core.specs.declared.policy_fault.PolicyFault.{PolicyFault}
 use Rattle.office_core.specs.declared.policy_fault.PolicyFault.TheVariants.{NotToml, BadVersion, UnknownKey, BadCaller, BadRule, TooMany, Memory}
 
 abbrev Read : Type 0
-Read = Result Contents PolicyFault
+Read = Result PolicyValue PolicyFault
 
 -- ---- reading a text is the relation of its policy, or of its first fault
 
-policy_is : (text : List ℕ) (policy : Contents) → policy_of text ≡ Ok policy → SpellsPolicy text policy
+policy_is : (text : List ℕ) (policy : PolicyValue) → policy_of text ≡ Ok policy → SpellsPolicy text policy
 policy_is text policy e = go (parse_document text) refl e
   where
     by_fault : (tree : Members) (fault : Option PolicyFault) → parse_document text ≡ Some tree → first_some (faults tree) ≡ fault
-        → contents_unless (contents_of tree) fault ≡ Ok policy → SpellsPolicy text policy
+        → policy_unless (policy_in_tree tree) fault ≡ Ok policy → SpellsPolicy text policy
     by_fault tree None parsed sound read = record { tree = tree; parsed = parsed; sound = sound; is = cc }
     by_fault tree (Some fault) parsed sound read = absurd cc
 
@@ -30,7 +30,7 @@ fault_is : (text : List ℕ) (fault : PolicyFault) → policy_of text ≡ Err fa
 fault_is text fault e = go (parse_document text) refl e
   where
     by_fault : (tree : Members) (found : Option PolicyFault) → parse_document text ≡ Some tree → first_some (faults tree) ≡ found
-        → contents_unless (contents_of tree) found ≡ Err fault → HasFirstFault text fault
+        → policy_unless (policy_in_tree tree) found ≡ Err fault → HasFirstFault text fault
     by_fault tree None parsed first read = absurd cc
     by_fault tree (Some found) parsed first read = let same : found ≡ fault = cc in inr (tree, parsed, first ∙ ap Some same)
 
@@ -38,13 +38,13 @@ fault_is text fault e = go (parse_document text) refl e
     go None parsed read = inl (parsed, cc)
     go (Some tree) parsed read = by_fault tree (first_some (faults tree)) parsed refl read
 
-of_policy : (text : List ℕ) (policy : Contents) → SpellsPolicy text policy → policy_of text ≡ Ok policy
+of_policy : (text : List ℕ) (policy : PolicyValue) → SpellsPolicy text policy → policy_of text ≡ Ok policy
 of_policy text policy spells =
-    ap read_tree spells.parsed ∙ ap (contents_unless (contents_of spells.tree)) spells.sound ∙ ap Ok (sym spells.is)
+    ap read_tree spells.parsed ∙ ap (policy_unless (policy_in_tree spells.tree)) spells.sound ∙ ap Ok (sym spells.is)
 
 of_fault : (text : List ℕ) (fault : PolicyFault) → HasFirstFault text fault → policy_of text ≡ Err fault
 of_fault text fault (inl (none, is)) = ap read_tree none ∙ ap Err (sym is)
-of_fault text fault (inr (tree, parsed, first)) = ap read_tree parsed ∙ ap (contents_unless (contents_of tree)) first
+of_fault text fault (inr (tree, parsed, first)) = ap read_tree parsed ∙ ap (policy_unless (policy_in_tree tree)) first
 
 -- ---- what an answer says
 
@@ -70,7 +70,7 @@ refused_is_first text (Err fault) answers = elim (refusal_is fault (policy_of te
   | inr first ↦ inr (fault_is text fault first)
 ]
 
-pub spelled_is_read : (text : List ℕ) (result : Read) → Answers named_policy_fault result (policy_of text) → (policy : Contents) → SpellsPolicy text policy
+pub spelled_is_read : (text : List ℕ) (result : Read) → Answers named_policy_fault result (policy_of text) → (policy : PolicyValue) → SpellsPolicy text policy
     → MatchResult result (λ read. read ≡ policy) (λ fault. fault ≡ Memory)
 spelled_is_read text (Ok read) answers policy spells = let same : Ok policy ≡ Ok read = sym (of_policy text policy spells) ∙ answers in cc
 spelled_is_read text (Err fault) answers policy spells = elim (refusal_is fault (policy_of text) answers) [

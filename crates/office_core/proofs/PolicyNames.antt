@@ -8,7 +8,7 @@ use Rattle.toml.specs.Data.{Data, string, integer, float, boolean, datetime, arr
 use Rattle.office_core.specs.Bounds.{max_rules, max_callers}
 use Rattle.office_core.specs.FirstOf.{◌>>=◌, first_some, answer_if}
 use Rattle.office_core.specs.Names.{is_name}
-use Rattle.office_core.specs.Policies.{Contents, contents_of, entries, is_one_of, caller_in, table_entries, caller_entries, callers_among, is_bad_among, callers_of, rule_keys, text_at, effect_at, action_at, pattern_in, pattern_at, rule_of, rule_in, rules_among, bad_rule_among, bad_rule, rule_values, rules_of, has_bad_version, has_unknown_key, has_bad_caller, has_too_many, faults, IsNamed, HasNames, IsNamedCaller, EachCallerOnce, IsPolicy, SpellsPolicy}
+use Rattle.office_core.specs.Policies.{PolicyValue, policy_in_tree, entries, is_one_of, caller_in, table_entries, caller_entries, callers_among, is_bad_among, callers_of, rule_keys, text_at, effect_at, action_at, pattern_in, pattern_at, rule_of, rule_in, rules_among, bad_rule_among, bad_rule, rule_values, rules_of, has_bad_version, has_unknown_key, has_bad_caller, has_too_many, faults, IsNamed, HasNames, IsNamedCaller, EachCallerOnce, IsPolicy, SpellsPolicy}
 use Rattle.office_core.specs.PolicyReading.{rules_or, read_callers, read_rules}
 use Rattle.office_core.specs.declared.caller.Caller.{Caller}
 use Rattle.office_core.specs.declared.policy_fault.PolicyFault.TheVariants.{BadVersion, UnknownKey, BadCaller, BadRule, TooMany}
@@ -177,7 +177,7 @@ not_too_many tree sound =
     let many = (none_of (option_map BadRule (bad_rule tree)) _ rule).1 in
     answer_if_none (has_too_many tree) TooMany (none_of (answer_if (has_too_many tree) TooMany) [] many).0
 
-tree_policy : (tree : Members) → AllSound tree → first_some (faults tree) ≡ None → IsPolicy (contents_of tree)
+tree_policy : (tree : Members) → AllSound tree → first_some (faults tree) ≡ None → IsPolicy (policy_in_tree tree)
 tree_policy tree once sound =
     let few = or_parts (nat_lt max_rules (length (rules_of tree))) (nat_lt max_callers (length (callers_of tree))) (not_too_many tree sound) in
     record {
@@ -188,7 +188,7 @@ tree_policy tree once sound =
       few_callers = grind (arith, nat_tests, few.1);
     }
 
-pub spelled_policy : (text : List ℕ) (policy : Contents) → SpellsPolicy text policy → IsPolicy policy
+pub spelled_policy : (text : List ℕ) (policy : PolicyValue) → SpellsPolicy text policy → IsPolicy policy
 spelled_policy text policy spells =
     subst IsPolicy (sym spells.is) (tree_policy spells.tree (parsed_sound text spells.tree spells.parsed) spells.sound)
 

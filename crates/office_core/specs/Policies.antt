@@ -21,7 +21,7 @@ use Rattle.office_core.specs.declared.rule.Rule.{Rule}
 use Rattle.office_core.specs.declared.caller.Caller.{Caller}
 
 -- a policy: its callers, each with its role, and its rules in their order
-pub record Contents : Type 0 where
+pub record PolicyValue : Type 0 where
   pub callers : List Caller
   pub rules : List Rule
 
@@ -161,28 +161,28 @@ faults tree =
     ∷ answer_if (has_too_many tree) TooMany
     ∷ []
 
-abbrev pub contents_of : Members → Contents
-contents_of tree = record { callers = callers_of tree; rules = rules_of tree }
+abbrev pub policy_in_tree : Members → PolicyValue
+policy_in_tree tree = record { callers = callers_of tree; rules = rules_of tree }
 
 -- a fault, or else the contents
-abbrev pub contents_unless : Contents → Option PolicyFault → Result Contents PolicyFault
-contents_unless contents (Some fault) = Err fault
-contents_unless contents None = Ok contents
+abbrev pub policy_unless : PolicyValue → Option PolicyFault → Result PolicyValue PolicyFault
+policy_unless contents (Some fault) = Err fault
+policy_unless contents None = Ok contents
 
-abbrev pub read_tree : Option Members → Result Contents PolicyFault
+abbrev pub read_tree : Option Members → Result PolicyValue PolicyFault
 read_tree None = Err NotToml
-read_tree (Some tree) = contents_unless (contents_of tree) (first_some (faults tree))
+read_tree (Some tree) = policy_unless (policy_in_tree tree) (first_some (faults tree))
 
 -- Y1 where the text is no TOML, else what its tree gives
-abbrev pub policy_of : List ℕ → Result Contents PolicyFault
+abbrev pub policy_of : List ℕ → Result PolicyValue PolicyFault
 policy_of text = read_tree (parse_document text)
 
 -- this is the policy of a text: its tree has no fault, and spells these callers and rules
-pub record SpellsPolicy (text : List ℕ) (policy : Contents) : Type 0 where
+pub record SpellsPolicy (text : List ℕ) (policy : PolicyValue) : Type 0 where
   pub tree : Members
   pub parsed : parse_document text ≡ Some tree
   pub sound : first_some (faults tree) ≡ None
-  pub is : policy ≡ contents_of tree
+  pub is : policy ≡ policy_in_tree tree
 
 -- each value gives the item at its place, and there are as many items as values
 pub record GivesEach {A B : Type 0} (read : A → Option B) (values : List A) (items : List B) : Type 0 where
@@ -223,7 +223,7 @@ abbrev pub EachCallerOnce : List Caller → Type 0
 EachCallerOnce [] = Unit {0}
 EachCallerOnce (caller ∷ more) = AllByRecursion (λ other. caller.name ≢ other.name) more × EachCallerOnce more
 
-pub record IsPolicy (policy : Contents) : Type 0 where
+pub record IsPolicy (policy : PolicyValue) : Type 0 where
   pub rules_ask_for_names : AllByRecursion HasNames policy.rules
   pub callers_are_names : AllByRecursion IsNamedCaller policy.callers
   pub callers_stand_once : EachCallerOnce policy.callers
@@ -241,5 +241,5 @@ abbrev pub or_stranger : Option (List ℕ) → List ℕ
 or_stranger role = unwrap_or role (codes "stranger")
 
 -- the role that a policy gives a caller, else `stranger`
-abbrev pub role_of : Contents → List ℕ → List ℕ
+abbrev pub role_of : PolicyValue → List ℕ → List ℕ
 role_of policy name = or_stranger (option_map (λ caller. caller.role) (find (λ caller. bytes_eq caller.name name) policy.callers))

@@ -3,7 +3,7 @@ use Rattle.std.specs.Prelude.{◌≡◌, ℕ, ◌||◌, List, length, Option, So
 use Rattle.toml.specs.Data.{Data, Members}
 use Rattle.bag_text.specs.Answers.{◌>>=◌}
 use Rattle.office_core.specs.Bounds.{max_rules, max_callers}
-use Rattle.office_core.specs.Policies.{Contents, callers_among, is_bad_among, caller_entries, rules_among, bad_rule_among, rule_values, has_bad_version, has_unknown_key}
+use Rattle.office_core.specs.Policies.{PolicyValue, callers_among, is_bad_among, caller_entries, rules_among, bad_rule_among, rule_values, has_bad_version, has_unknown_key}
 use Rattle.office_core.specs.declared.policy_fault.PolicyFault.{PolicyFault}
 use Rattle.office_core.specs.declared.policy_fault.PolicyFault.TheVariants.{BadVersion, UnknownKey, BadCaller, BadRule, TooMany}
 use Rattle.office_core.specs.declared.rule.Rule.{Rule}
@@ -21,16 +21,16 @@ rules_or rules None = Ok rules
 abbrev pub read_rules : Option (List Data) → Result (List Rule) PolicyFault
 read_rules found = rules_or (rules_among found) (bad_rule_among found)
 
-abbrev pub contents_within_limits : List Caller → List Rule → Result Contents PolicyFault
-contents_within_limits callers rules =
+abbrev pub policy_within_limits : List Caller → List Rule → Result PolicyValue PolicyFault
+policy_within_limits callers rules =
     if nat_lt max_rules (length rules) || nat_lt max_callers (length callers) then Err TooMany else Ok (record { callers = callers; rules = rules })
 
 -- what reading a tree gives
-abbrev pub read_contents : Members → Result Contents PolicyFault
-read_contents tree =
+abbrev pub read_members : Members → Result PolicyValue PolicyFault
+read_members tree =
     if has_bad_version tree then Err BadVersion
     else if has_unknown_key tree then Err UnknownKey
-    else (read_callers (caller_entries tree) >>= λ callers. read_rules (rule_values tree) >>= λ rules. contents_within_limits callers rules)
+    else (read_callers (caller_entries tree) >>= λ callers. read_rules (rule_values tree) >>= λ rules. policy_within_limits callers rules)
 
 -- a part of a rule is read, or isn't there, memory aside
 abbrev pub Reads : {A : Type 0} → Result A RuleFlaw → Option A → Type 0

@@ -2,7 +2,7 @@
 
 ghost use Rattle.std.specs.Prelude.{◌≡◌, ◌↔◌, ◌++◌, ℕ, List, Option, Some, None, true, false};
 ghost use Rattle.jiff.specs.Types.{Date};
-ghost use Rattle.office_core.specs.Policies.{Contents, SpellsPolicy, SpellsRules, SpellsCallers, IsPolicy};
+ghost use Rattle.office_core.specs.Policies.{PolicyValue, SpellsPolicy, SpellsRules, SpellsCallers, IsPolicy};
 ghost use Rattle.office_core.specs.Rules.{Question, IsFirstMatch, NoneMatches, first_place, decision_of, some_rule_allows};
 ghost use Rattle.office_core.specs.Days.{IsDay};
 ghost use Rattle.office_core.specs.Requests.{IsYears};
@@ -50,16 +50,16 @@ pub fn allowed_disposal()
 /// What a text spells is a policy: it asks for names, each caller stands once, and there are no
 /// more rules and callers than a policy may have.
 pub fn spelled_policies()
-    ensures { (text : List ℕ) (policy : Contents)
+    ensures { (text : List ℕ) (policy : PolicyValue)
         → SpellsPolicy text policy → IsPolicy policy }
 {}
 
 /// The values of the array `rule` of a text are the rules of its policy, one for one and in their
 /// order, and so are the entries of the table `callers`.
 pub fn spelled_in_order()
-    ensures rules { (text : List ℕ) (policy : Contents) (spells : SpellsPolicy text policy)
+    ensures rules { (text : List ℕ) (policy : PolicyValue) (spells : SpellsPolicy text policy)
         → SpellsRules spells.tree policy.rules }
-    ensures callers { (text : List ℕ) (policy : Contents) (spells : SpellsPolicy text policy)
+    ensures callers { (text : List ℕ) (policy : PolicyValue) (spells : SpellsPolicy text policy)
         → SpellsCallers spells.tree policy.callers }
 {}
 

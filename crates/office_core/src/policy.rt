@@ -3,8 +3,8 @@
 ghost use Rattle.std.specs.Prelude.{◌≡◌, ◌⊎◌, Err, IfErr, IfOk, MatchResult, option_copied, option_map, find, bytes_eq};
 ghost use Rattle.toml.specs.View.{table_view};
 ghost use Rattle.bag_text.specs.Answers.{Answers};
-ghost use Rattle.office_core.specs.Policies.{Contents, EachCallerOnce, HasFirstFault, IsPolicy, SpellsPolicy, callers_of, policy_of, role_of, or_stranger, named_policy_fault};
-ghost use Rattle.office_core.specs.PolicyReading.{read_contents};
+ghost use Rattle.office_core.specs.Policies.{PolicyValue, EachCallerOnce, HasFirstFault, IsPolicy, SpellsPolicy, callers_of, policy_of, role_of, or_stranger, named_policy_fault};
+ghost use Rattle.office_core.specs.PolicyReading.{read_members};
 ghost use Rattle.office_core.specs.declared.policy_fault.PolicyFault.{PolicyFault};
 ghost use Rattle.office_core.specs.declared.policy_fault.PolicyFault.TheVariants.{Memory};
 
@@ -32,9 +32,9 @@ pub struct Policy {
 }
 
 impl Model for Policy {
-    ghost use Rattle.office_core.specs.Policies.{Contents, IsPolicy, named_policy_fault};
+    ghost use Rattle.office_core.specs.Policies.{PolicyValue, IsPolicy, named_policy_fault};
 
-    ghost Value = { Contents };
+    ghost Value = { PolicyValue };
 
     ghost view = { λ policy. record { callers = policy.callers.items; rules = policy.rules.items } };
 
@@ -89,7 +89,7 @@ pub fn or_stranger(role: Option<&str>) -> &str
 
 fn read_tree(alloc: Global, tree: &Table) -> Result<Policy, PolicyFault>
     requires { EachCallerOnce (callers_of (table_view tree.now)) }
-    ensures { Answers named_policy_fault result (read_contents (table_view tree.now)) }
+    ensures { Answers named_policy_fault result (read_members (table_view tree.now)) }
 {
     if !has_version_1(tree) {
         return Err(PolicyFault::BadVersion);
@@ -124,7 +124,7 @@ fn read_text(alloc: Global, text: &str) -> Result<Policy, PolicyFault>
 pub fn read_policy(alloc: Global, text: &str) -> Result<Policy, PolicyFault>
     // What is read is the policy of the text, and each is read, unless memory runs out.
     ensures spells { IfOk result (SpellsPolicy text.now) }
-    ensures reads { (policy : Contents) → SpellsPolicy text.now policy
+    ensures reads { (policy : PolicyValue) → SpellsPolicy text.now policy
         → MatchResult result (λ read. read ≡ policy) (λ fault. fault ≡ Memory) }
 
     // A refusal names the first fault of the text, and where one stands it is the answer, unless

@@ -2,7 +2,7 @@
 use Rattle.std.proofs.Common.{◌≡◌, ℕ, zero, suc, ◌+◌, ◌<◌, pos, List, [], ◌∷◌, ◌++◌, map, length, take, get_or, Less, refl, sym, ap, ◌∙◌, arith}
 use Rattle.std.specs.List.{AllByRecursion}
 use Rattle.std.specs.Ordering.{int_cmp}
-use Rattle.office_core.specs.Policies.{Contents}
+use Rattle.office_core.specs.Policies.{PolicyValue}
 use Rattle.office_core.specs.declared.rule.Rule.{Rule}
 use Rattle.office_rows.specs.Rows.{RuleRow, PlacesRise, with_policy, this_version}
 use Rattle.office_rows.proofs.Order.{sorted_already}
@@ -40,7 +40,7 @@ places_rise place (rule ∷ rules) = (all_above place (place + 1) rules (omega a
 
 -- ---- a policy that is installed
 
-module _ (h : History) (new : Contents) where
+module _ (h : History) (new : PolicyValue) where
   abbrev install : List Change
   install = Installed new ∷ []
 
@@ -51,7 +51,7 @@ module _ (h : History) (new : Contents) where
   install_told = λ i. record {
     office = office_row this_version h ∷ [];
     callers = map caller_row (sym is_policy i).callers;
-    rules = (sorted_already (λ (r : RuleRow). r.place) (rule_rows 1 new.rules) (places_rise 1 new.rules) ∙ ap (λ (p : Contents). rule_rows 1 p.rules) (sym is_policy)) i;
+    rules = (sorted_already (λ (r : RuleRow). r.place) (rule_rows 1 new.rules) (places_rise 1 new.rules) ∙ ap (λ (p : PolicyValue). rule_rows 1 p.rules) (sym is_policy)) i;
     classes = sym (same_classes h install refl (λ n. refl)) i;
     collections = sym (same_collections h install refl) i;
     deposits = sym (same_deposit_rows h install refl (λ n. refl)) i;

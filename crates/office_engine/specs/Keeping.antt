@@ -7,7 +7,7 @@ use Rattle.sqlite.specs.Effect.{Database}
 use Rattle.sqlite.specs.Store.{Ghosts}
 use Rattle.sqlite.specs.State.{State, Survives}
 use Rattle.sqlite.specs.Held.{Held, state}
-use Rattle.office_core.specs.Policies.{Contents}
+use Rattle.office_core.specs.Policies.{PolicyValue}
 use Rattle.office_core.specs.declared.answer.Answer.{Answer}
 use Rattle.office_core.specs.declared.answer.Answer.TheVariants as answers
 use Rattle.office_core.specs.declared.request.Request.{Request}
@@ -151,15 +151,15 @@ LeavesRun old new items given =
 
 -- ---- an install
 
-abbrev pub after_policy : Contents → History → History
+abbrev pub after_policy : PolicyValue → History → History
 after_policy policy h = with_changes h (Installed policy ∷ [])
 
 -- whichever legal history was kept, it is kept with the policy
-abbrev pub Installs : State → State → Contents → Type 0
+abbrev pub Installs : State → State → PolicyValue → Type 0
 Installs old new policy = (h : History) → IsLegal h → IsKeptBy h old → IsReached (after_policy policy h) new
 
 -- and a crash leaves that, and nothing else
-abbrev pub InstallLasts : State → State → Contents → Type 0
+abbrev pub InstallLasts : State → State → PolicyValue → Type 0
 InstallLasts old new policy = (h : History) → IsLegal h → IsKeptBy h old → (left : Trees) → new.may_leave left → IsLeftOf (after_policy policy h) left
 
 -- ---- the due list

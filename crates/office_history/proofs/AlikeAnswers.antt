@@ -10,7 +10,7 @@ use Rattle.std.proofs.Math.Bool.{and-true}
 use Rattle.jiff.specs.Types.{Date}
 use Rattle.bag_text.specs.TransferForm.{set_text, content_at}
 use Rattle.office_core.specs.FirstOf.{first_some, answer_if}
-use Rattle.office_core.specs.Policies.{Contents, role_of}
+use Rattle.office_core.specs.Policies.{PolicyValue, role_of}
 use Rattle.office_core.specs.Rules.{decision_of}
 use Rattle.office_core.specs.RetentionReading.{due_of}
 use Rattle.office_core.specs.declared.action.Action.{Action}
@@ -36,7 +36,7 @@ use Rattle.bag_text.proofs.ResultLemmas.{is_nothing}
 
 same_denied : (h k : History) → Alike h k → (caller : List ℕ) (action : Action) (collection class : Option (List ℕ)) → denial h caller action collection class ≡ denial k caller action collection class
 same_denied h k a caller action collection class =
-    ap (λ (p : Contents). refusal_in (deciding.denial_verdict (decision_of p.rules (record { role = role_of p caller; action = action; collection = collection; class = class })))) a.same_policy
+    ap (λ (p : PolicyValue). refusal_in (deciding.denial_verdict (decision_of p.rules (record { role = role_of p caller; action = action; collection = collection; class = class })))) a.same_policy
 
 same_denied_at : (h k : History) → Alike h k → (caller : List ℕ) (action : Action) (deposit : Deposit) → denial_at h caller action deposit ≡ denial_at k caller action deposit
 same_denied_at h k a caller action deposit = same_denied h k a caller action (Some deposit.collection) (Some deposit.class)
@@ -105,10 +105,10 @@ same_full_of_holds h k a = λ i. answer_if (nat_le (a.same_max_holds i) (length 
 
 -- ---- the refusals of a request that names a deposit: whether it is denied, whether it is gone, and the rest
 
-abbrev denied_outline : Contents → List ℕ → Action → Outline → Option Refusal
+abbrev denied_outline : PolicyValue → List ℕ → Action → Outline → Option Refusal
 denied_outline p caller action o = refusal_in (deciding.denial_verdict (decision_of p.rules (record { role = role_of p caller; action = action; collection = Some o.collection; class = Some o.class })))
 
-abbrev row : Contents → List ℕ → Action → Option Date → Option (Date × Deposit) → (Deposit → List (Option Refusal)) → Option Refusal
+abbrev row : PolicyValue → List ℕ → Action → Option Date → Option (Date × Deposit) → (Deposit → List (Option Refusal)) → Option Refusal
 row p caller action day there rest =
     first_some (of_deposit there (λ d.
     refusal_in (deciding.denial_verdict (decision_of p.rules (record { role = role_of p caller; action = action; collection = Some d.collection; class = Some d.class })))
@@ -120,7 +120,7 @@ cut : (first : Option Refusal) (why : Refusal) (r s : List (Option Refusal)) →
 cut None why r s = refl
 cut (Some x) why r s = refl
 
-same_row_of : (p : Contents) (caller : List ℕ) (action : Action) (day : Option Date) (x y : Option (Date × Deposit)) (r s : Deposit → List (Option Refusal))
+same_row_of : (p : PolicyValue) (caller : List ℕ) (action : Action) (day : Option Date) (x y : Option (Date × Deposit)) (r s : Deposit → List (Option Refusal))
     → option_map outline x ≡ option_map outline y → (day ≡ None → x ≡ y) → (day ≡ None → (d : Deposit) → r d ≡ s d)
     → row p caller action day x r ≡ row p caller action day y s
 same_row_of p caller action None x y r s e same more = λ i. row p caller action None (same refl i) (λ d. more refl d i)
@@ -218,7 +218,7 @@ same_due_list : (h k : History) → Alike h k → (day : Date) (caller : List �
 same_due_list h k a day caller = λ i. filter (λ n. is_none (same_refusal h k a day caller (Dispose n) i)) (same_kept h k a i)
 
 -- of a deposit that is gone nothing is told
-row_stops : (p : Contents) (caller : List ℕ) (action : Action) (day : Date) (there : Option (Date × Deposit)) (r : Deposit → List (Option Refusal)) (x y : Answer)
+row_stops : (p : PolicyValue) (caller : List ℕ) (action : Action) (day : Date) (there : Option (Date × Deposit)) (r : Deposit → List (Option Refusal)) (x y : Answer)
     → answer_unless (row p caller action (Some day) there r) x ≡ answer_unless (row p caller action (Some day) there r) y
 row_stops p caller action day None r x y = refl
 row_stops p caller action day (Some found) r x y = stops (denied_outline p caller action (outline found))
@@ -227,7 +227,7 @@ row_stops p caller action day (Some found) r x y = stops (denied_outline p calle
     stops None = refl
     stops (Some why) = refl
 
-unless_gone : (p : Contents) (caller : List ℕ) (action : Action) (day : Option Date) (there : Option (Date × Deposit)) (r : Deposit → List (Option Refusal)) (x y : Answer) → (day ≡ None → x ≡ y)
+unless_gone : (p : PolicyValue) (caller : List ℕ) (action : Action) (day : Option Date) (there : Option (Date × Deposit)) (r : Deposit → List (Option Refusal)) (x y : Answer) → (day ≡ None → x ≡ y)
     → answer_unless (row p caller action day there r) x ≡ answer_unless (row p caller action day there r) y
 unless_gone p caller action None there r x y same = ap (answer_unless (row p caller action None there r)) (same refl)
 unless_gone p caller action (Some day) there r x y same = row_stops p caller action day there r x y

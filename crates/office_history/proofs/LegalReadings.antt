@@ -6,7 +6,7 @@ use Rattle.jiff.specs.Types.{Date}
 use Rattle.office_history.specs.Lists.{first_said, last_said}
 use Rattle.office_history.specs.Histories.{History, Change, Installed, DefinedClass, DefinedCollection, Deposited, PlacedHold, ReleasedHold, Destroyed, Deposit, Hold, with_changes, installed_in, policy, deposit_numbered, destroyed_in, destruction_day, hold_numbered, released_in, release_day}
 use Rattle.office_core.proofs.PolicyNames.{no_policy_is_policy}
-use Rattle.office_core.specs.Policies.{Contents, IsPolicy}
+use Rattle.office_core.specs.Policies.{PolicyValue, IsPolicy}
 use Rattle.office_history.specs.Acceptance.{IsChange, IsAllowed}
 use Rattle.office_history.specs.Runs.{IsLegal}
 use Rattle.office_history.proofs.HistoryLemmas.{deposit_stays, hold_stays}
@@ -79,7 +79,7 @@ none_released h legal = legal_by NoneReleased (λ a b a_in b_in k e. refl) more 
         let earlier = no_hold_before x (c ∷ []) k e in
         released_grown x (c ∷ []) k ∙ (λ i. option_or (so k earlier i) (not_released x k c earlier ok.1 i))
 
-installed_policy : (before : Contents) (c : Change) → IsChange c → IsPolicy before → IsPolicy (unwrap_or (last_said installed_in (c ∷ [])) before)
+installed_policy : (before : PolicyValue) (c : Change) → IsChange c → IsPolicy before → IsPolicy (unwrap_or (last_said installed_in (c ∷ [])) before)
 installed_policy before (Installed policy) ranged is = ranged
 installed_policy before (DefinedClass day name years) ranged is = is
 installed_policy before (DefinedCollection day name) ranged is = is

@@ -3,7 +3,7 @@ use Rattle.std.proofs.Common.{◌≡◌, ℕ, append-nil, ◌≤◌, ◌+◌, �
 use Rattle.std.proofs.lemmas.List.{drop_all, drop_more}
 use Rattle.office_core.specs.declared.answer.Answer.{Answer}
 use Rattle.std.specs.Prelude.{Result, Ok, Err, OnOk, OnErr}
-use Rattle.office_core.specs.Policies.{Contents, IsPolicy}
+use Rattle.office_core.specs.Policies.{PolicyValue, IsPolicy}
 use Rattle.office_history.specs.Histories.{History, Installed, with_changes}
 use Rattle.office_history.specs.Runs.{Item, Run, RunFailing, StepFailing, IsLegal, install}
 use Rattle.office_history.specs.PlainOffices.{IsWantOfMemory}
@@ -39,7 +39,7 @@ run_end first last items i answers past begun =
     subst Q (append-nil answers) (begun [] last (subst P (sym (drop_all i items past)) refl))
 
 -- an install keeps a history legal, and so does one that failed
-pub install_legal : {E : Type 0} (h next : History) (policy : Contents) (r : Result (Unit {0}) E) → IsPolicy policy
+pub install_legal : {E : Type 0} (h next : History) (policy : PolicyValue) (r : Result (Unit {0}) E) → IsPolicy policy
     → OnOk r (next ≡ with_changes h (Installed policy ∷ [])) → OnErr r (next ≡ h) → IsLegal h → IsLegal next
 install_legal h next policy (Ok x) names installed failed legal = subst IsLegal (sym installed) (install h policy names legal)
 install_legal h next policy (Err e) names installed failed legal = subst IsLegal (sym failed) legal

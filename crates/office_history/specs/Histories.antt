@@ -5,7 +5,7 @@ use Rattle.std.specs.List.{list_any, filter_map}
 use Rattle.std.specs.Option.{option_map_or}
 use Rattle.jiff.specs.Types.{Date}
 use Rattle.bag_text.specs.TransferForm.{File}
-use Rattle.office_core.specs.Policies.{Contents}
+use Rattle.office_core.specs.Policies.{PolicyValue}
 use Rattle.office_core.specs.RetentionReading.{due_of}
 use Rattle.office_core.specs.declared.retention.Due.{Due}
 use Rattle.office_core.specs.declared.retention.Due.TheVariants.{Never}
@@ -32,7 +32,7 @@ pub record Hold : Type 0 where
 
 -- an accepted change, with its day, which an install of a policy has none of
 pub data Change : Type 0 where
-  Installed : Contents → Change
+  Installed : PolicyValue → Change
   DefinedClass : Date → List ℕ → Option ℕ → Change
   DefinedCollection : Date → List ℕ → Change
   Deposited : Date → Deposit → Change
@@ -52,14 +52,14 @@ with_changes h more = record h { changes = h.changes ++ more }
 
 -- ---- the policy: the one that was installed last
 
-abbrev pub installed_in : Change → Option Contents
+abbrev pub installed_in : Change → Option PolicyValue
 installed_in (Installed policy) = Some policy
 installed_in _ = None
 
-abbrev pub no_policy : Contents
+abbrev pub no_policy : PolicyValue
 no_policy = record { callers = []; rules = [] }
 
-abbrev pub policy : History → Contents
+abbrev pub policy : History → PolicyValue
 policy h = unwrap_or (last_said installed_in h.changes) no_policy
 
 -- ---- classes and collections

@@ -5,7 +5,7 @@ use denote.Ref.{Bor}
 use Rattle.jiff.specs.Types.{Date}
 use Rattle.office_rows.specs.Rows.{IsLimit}
 use Rattle.office_core.specs.Days.{IsDay}
-use Rattle.office_core.specs.Policies.{Contents, IsPolicy}
+use Rattle.office_core.specs.Policies.{PolicyValue, IsPolicy}
 use Rattle.office_core.specs.Requests.{IsRequest}
 use Rattle.bag_text.specs.TransferForm.{File, IsBag}
 use Rattle.bag_text.specs.declared.declaration.Version.{Version}
@@ -67,7 +67,7 @@ new_history max_deposits max_holds =
 -- A legal history is made from that of a new office by installs of policies and by requests, all in range.
 pub data IsLegal : History → Type 0 where
   new : (max_deposits max_holds : ℕ) → IsLimit (pos max_deposits) → IsLimit (pos max_holds) → IsLegal (new_history max_deposits max_holds)
-  install : (h : History) (policy : Contents) → IsPolicy policy → IsLegal h → IsLegal (with_changes h (Installed policy ∷ []))
+  install : (h : History) (policy : PolicyValue) → IsPolicy policy → IsLegal h → IsLegal (with_changes h (Installed policy ∷ []))
   serve : (h : History) (day : Date) (caller : List ℕ) (request : Request)
       → IsDay day → IsRequest request → IsLegal h → IsLegal (after h day caller request)
 

@@ -13,7 +13,7 @@ ghost use Rattle.bag_text.specs.declared.declaration.Version.{Version};
 ghost use Rattle.bag_check.specs.Validity.{report_of};
 ghost use Rattle.bag_check.specs.Faults.{Fault, FirstFault};
 ghost use Rattle.bag_check.specs.FaultTexts.{fault_text};
-ghost use Rattle.office_core.specs.Policies.{Contents};
+ghost use Rattle.office_core.specs.Policies.{PolicyValue};
 ghost use Rattle.office_core.specs.FirstOf.{first_some};
 ghost use Rattle.office_core.specs.RetentionReading.{due_of};
 ghost use Rattle.office_core.specs.Verdicts.{verdict_of};
@@ -128,7 +128,7 @@ pub fn refused_changes_nothing()
 pub fn runs_only_add()
     ensures runs { (h next : History) (items : List Item) (given : List Answer)
         → Run h items given next → IsLater h next }
-    ensures installs { (h : History) (policy : Contents)
+    ensures installs { (h : History) (policy : PolicyValue)
         → IsLater h (with_changes h (Installed policy ∷ [])) }
     ensures further { (h mid next : History)
         → IsLater h mid → IsLater mid next → IsLater h next }
@@ -313,7 +313,7 @@ pub fn one_picture()
         ≡ picture version (after k day caller request) }
     ensures installs { (h k : History) (version : ℤ)
         → IsLegal h → IsLegal k → picture version h ≡ picture version k
-        → (policy : Contents)
+        → (policy : PolicyValue)
         → picture version (with_changes h (Installed policy ∷ []))
         ≡ picture version (with_changes k (Installed policy ∷ [])) }
     ensures stocks { (h k : History) (version : ℤ)
