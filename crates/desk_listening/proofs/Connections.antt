@@ -152,7 +152,7 @@ module _ {S : Type 0} (g : Ghosts S) (day : Date) where
       record {
         clean = it.clean rest.clean;
         runs = subst (λ (x : Item). Runs (state g old) (state g new) (x ∷ items_of more) (answer ∷ answers_of more)) all.1.3
-            (step_runs (state g old) (state g all.0) (state g new) it.item (items_of more) answer (answers_of more) (it.serves rest.clean) rest.runs);
+            (step_runs (state g old) (state g all.0) (state g new) it.item (items_of more) answer (answers_of more) ((it.turn rest.clean).served) rest.runs);
       }
   ran (refused bytes refusal ∷ more) old new all clean =
       let rest = subst (λ (x : Held S). Ran more x new) all.1.1 (ran more all.0 new all.2 clean) in

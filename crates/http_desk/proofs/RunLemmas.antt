@@ -26,7 +26,7 @@ one_more : {S : Type 0} (g : Ghosts S) (done : Bool) (old mid new : Held S) (ite
     → IsAnswered g done item.day item.bytes old mid text → HasCleanDisk (state g mid) → RunsEach g mid new items texts → RunsEach g old new (item ∷ items) (text ∷ texts)
 one_more g true old mid new item text items texts a at_mid later clean h legal kept =
     let s = a.1.2 in
-    let step = s.serves at_mid h legal kept in
+    let step = (s.turn at_mid).served h legal kept in
     let run = later clean step.0 step.2.legal step.2.kept in
     (s.item ∷ run.0, a.0 ∷ run.1, run.2, subst (λ t. IsRunOf (item ∷ items) (t ∷ texts) (s.item ∷ run.0) (a.0 ∷ run.1)) (sym a.2) (served item a.1.0 s.item a.0 items texts run.0 run.1 a.1.1 s.asks run.3), (step.0, step.1, run.4), run.5)
 one_more g false old mid new item text items texts a at_mid later clean h legal kept =

@@ -7,7 +7,7 @@ use Rattle.sqlite.specs.State.{State, HasCleanDisk, Survives}
 use Rattle.sqlite.specs.Store.{Ghosts}
 use Rattle.office_core.specs.declared.answer.Answer.{Answer}
 use Rattle.office_history.specs.Runs.{Item}
-use Rattle.office_engine.specs.Keeping.{Audits, CommitsTo, IsUnchanged, Lasts, LeavesEither, Serves, StaysShut, after_item, is_accepted}
+use Rattle.office_engine.specs.Keeping.{CommitsTo, IsTurn, after_item}
 use Rattle.desk_routes.specs.declared.refusal.DeskRefusal.{DeskRefusal}
 use Rattle.desk_hearing.specs.Asked.{HeardValue, asked_of}
 use Rattle.desk_hearing.specs.Hearing.{Hears}
@@ -19,20 +19,14 @@ pub record IsItemOf (day : Date) (heard : HeardValue) (item : Item) : Type 0 whe
   pub caller : item.1.now ≡ heard.caller
   pub asked : asked_of item.2 ≡ heard.asked
 
--- the office serves what was heard, with this answer, which leaves the tables as they were unless it tells of a change, is the report on
--- what stood there where an audit is asked, and is a failure over a store that a fault has shut; what a crash may leave then is the office
--- before or after it, and after an answer that accepts a change the latter alone
+-- the office serves what was heard, with this answer: as one turn of a run does, on an honest disk; what a crash may leave then is the
+-- office before or after it
 pub record IsServed (day : Date) (heard : HeardValue) (old new : State) (answer : Answer) : Type 0 where
   pub item : Item
   pub asks : IsItemOf day heard item
   pub clean : HasCleanDisk new → HasCleanDisk old
   pub survives : Survives old new (CommitsTo old (after_item item))
-  pub serves : HasCleanDisk new → Serves old new item answer
-  pub kept : HasCleanDisk new → is_accepted answer ≡ false → IsUnchanged old new
-  pub audited : HasCleanDisk new → Audits old item.2 answer
-  pub shut : HasCleanDisk new → StaysShut old new answer
-  pub lasts : HasCleanDisk new → Lasts old new item answer
-  pub leaves : HasCleanDisk new → LeavesEither old new (after_item item)
+  pub turn : HasCleanDisk new → IsTurn old new item answer
 
 -- the office serves what the bytes ask
 abbrev pub ServesBytes : Date → List ℕ → State → State → Answer → Type 0

@@ -14,7 +14,7 @@ pub answered_from : {S : Type 0} (g : Ghosts S) (done : Bool) (day : Date) (byte
     → HasCleanDisk (state g new) → (h : History) → IsLegal h → IsKeptBy h (state g old) → (next : History) × IsAnsweredFrom h day bytes text next × IsReached next (state g new)
 answered_from g true day bytes text old new is clean h legal kept =
     let it = is.1.2 in
-    let s = it.serves clean h legal kept in
+    let s = (it.turn clean).served h legal kept in
     (s.0, served is.1.0 it.item is.0 is.1.1 it.asks s.1 is.2, s.2)
 answered_from g false day bytes text old new is clean h legal kept =
     (h, refused is.0 is.1 refl is.3, record { legal = legal; kept = subst (λ (s : Held _). IsKeptBy h (state g s)) (sym is.2) kept })

@@ -28,7 +28,7 @@ fn policy_of_bytes(alloc: Global, bytes: &[u8]) -> Result<Policy, PolicyFault>
 }
 
 /// A file that could not be read.
-fn unread(error: Error) -> CommandFault
+fn read_failure(error: Error) -> CommandFault
     ensures is { result ≡ Failed (file_failure (error_kind error)) (Some (causes.Policy error)) }
     ensures failure { IsFailure result }
 {
@@ -55,7 +55,7 @@ pub fn policy_in_file<F: Files + AllocGlobal>(
 {
     let bytes = match bytes_of_file(rt, path) {
         Ok(bytes) => bytes,
-        Err(error) => return Err(unread(error)),
+        Err(error) => return Err(read_failure(error)),
     };
     match policy_of_bytes(rt.alloc(), bytes.as_slice()) {
         Ok(policy) => Ok(Ok(policy)),

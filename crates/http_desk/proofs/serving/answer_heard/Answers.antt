@@ -9,12 +9,15 @@ returns g c = (
     asks = record { on_day = refl; caller = c.caller.ensures; asked = c.request.ensures };
     clean = λ clean. omega (arith, clean, c.step-answer.ensures.survives.clean);
     survives = c.step-answer.ensures.survives;
-    serves = c.step-answer.ensures.served;
-    kept = c.step-answer.ensures.kept;
-    audited = c.step-answer.ensures.audited;
-    shut = c.step-answer.ensures.shut;
-    lasts = c.step-answer.ensures.durable;
-    leaves = c.step-answer.ensures.leaves;
+    turn = λ honest. record {
+      served = c.step-answer.ensures.served honest;
+      kept = c.step-answer.ensures.kept honest;
+      audited = c.step-answer.ensures.audited honest;
+      shut = c.step-answer.ensures.shut honest;
+      survives = c.step-answer.ensures.survives;
+      durable = c.step-answer.ensures.durable honest;
+      leaves = c.step-answer.ensures.leaves honest;
+    };
   },
   c.answer_bytes.ensures,
 )
