@@ -7,6 +7,7 @@ use Rattle.bag_text.specs.TransferFaults.{FaultIs}
 use Rattle.bag_text.specs.declared.declaration.Version.{Version}
 use Rattle.bag_text.specs.declared.set_fault.SetFault.{SetFault}
 use Rattle.bag_text.specs.declared.set_fault.SetFault.TheVariants as sets
+use Rattle.bag_text.proofs.ResultLemmas.{same_ok}
 use Rattle.bag_text.proofs.RefusalLemmas.{one_fault_stands, form_has_none}
 use Rattle.bag_text.proofs.FormLemmas.{two_texts}
 use Rattle.bag_check.specs.declared.fault.BagFault.{BagFault}
@@ -53,15 +54,10 @@ says_unreadable bytes fault (Ok outcome) few is memory prints =
 
 -- ---- only one thing is said
 
--- judging gives one report
-one_report : (a b : Report) (judged : Result Report Fault) → judged ≡ Ok a → judged ≡ Ok b → a ≡ b
-one_report a b (Ok c) e f = let one : c ≡ a = cc in let two : c ≡ b = cc in sym one ∙ two
-one_report a b (Err g) e f = absurd cc
-
 valid_here : (files : List File) (v : Version) (outcome : Outcome) → IsBag files → Valid files v → SaysOfBag files outcome
     → SaysValid (report_of v files) outcome
 valid_here files v outcome is ok (valid w ok_too prints) =
-    let report = one_report (report_of w files) (report_of v files) (judge files) (valid_judged files is w ok_too) (valid_judged files is v ok) in
+    let report = same_ok (report_of w files) (report_of v files) (judge files) (valid_judged files is w ok_too) (valid_judged files is v ok) in
     subst (λ (counted : Report). SaysValid counted outcome) report prints
 valid_here files v outcome is ok (invalid fault first prints) = absurd (none_stands files is v ok fault first.0)
 

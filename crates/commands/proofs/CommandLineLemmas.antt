@@ -159,7 +159,7 @@ question_found words asked plain are =
     plain.policy plain.caller (action_is_plain asked.action) plain.collection.0 plain.class.0)
 
 -- two answers to one question
-same_some : {X : Type 0} (o : Option X) (x y : X) → o ≡ Some x → o ≡ Some y → x ≡ y
+pub same_some : {X : Type 0} (o : Option X) (x y : X) → o ≡ Some x → o ≡ Some y → x ≡ y
 same_some o x y is is_too = ap (λ p. unwrap_or p x) (sym is ∙ is_too)
 
 -- what is given of a question in plain words

@@ -1,7 +1,6 @@
 -- What a writer has taken of a text.
-use Rattle.std.proofs.Common.{◌≡◌, ◌∙◌, ◌++◌, ◌+◌, [], ℕ, List, Option, Some, None, length, sym, ap, ap₂, subst, take, drop, ◌-◌, arith, length-drop, append_assoc}
-use Rattle.std.proofs.lemmas.List.{append-nil, drop-drop, drop-take, take-append-drop, take-take}
-use Rattle.std.proofs.Math.Seq.{take-length}
+use Rattle.std.proofs.Common.{◌≡◌, ◌∙◌, ◌++◌, ◌+◌, [], ℕ, List, Option, Some, None, sym, ap, subst, take, take-add, drop, append_assoc}
+use Rattle.std.proofs.lemmas.List.{append-nil, drop-drop}
 use Rattle.std.specs.Io.KnownBytes.{Appends, Keeps}
 use Rattle.commands.specs.Failing.{BeginsWith}
 
@@ -23,22 +22,14 @@ appends_kept (Some xs) None new a first kept = absurd first
 appends_kept (Some xs) (Some ys) None a first kept = absurd kept
 appends_kept (Some xs) (Some ys) (Some zs) a first kept = kept ∙ first
 
-take_both : (k n : ℕ) (xs : List ℕ) → take k xs ++ take n (drop k xs) ≡ take (k + n) xs
-take_both k n xs =
-    ap₂ (λ a b. a ++ b) (sym (take-take k (k + n) xs (omega arith))) (sym (drop-take k n xs)) ∙ take-append-drop k (take (k + n) xs)
-
 pub more_taken : (text rest : List ℕ) (old mid new : Option (List ℕ)) (n : ℕ) → HasTaken text rest old mid → Appends mid new (take n rest)
     → HasTaken text (drop n rest) old new
 more_taken text rest old mid new n is more = record {
   count = is.count + n;
   left = ap (drop n) is.left ∙ drop-drop n is.count text;
-  front = subst (Appends old new) (take_both is.count n text)
+  front = subst (Appends old new) (sym (take-add is.count n text))
       (appends_both old mid new (take is.count text) (take n (drop is.count text)) is.front (subst (λ (r : List ℕ). Appends mid new (take n r)) is.left more));
 }
-
--- a slice from a place on
-pub slice_from : (k : ℕ) (xs : List ℕ) → take (length xs - k) (drop k xs) ≡ drop k xs
-slice_from k xs = ap (λ (n : ℕ). take n (drop k xs)) (sym (length-drop k xs)) ∙ take-length (drop k xs)
 
 pub no_more_taken : (text rest : List ℕ) (old mid new : Option (List ℕ)) → HasTaken text rest old mid → Keeps mid new → HasTaken text rest old new
 no_more_taken text rest old mid new is kept =

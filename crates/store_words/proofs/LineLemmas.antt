@@ -1,13 +1,14 @@
 -- How words are refused.
-use Rattle.std.proofs.Common.{◌≡◌, ◌∙◌, ◌⊎◌, ◌∷◌, [], List, Option, Some, None, Result, Ok, Err, IsErrAnd, IfErr, if◌then◌else◌, ap, codes, false, inl, inr, is_some, refl, slice_get, subst, sym, true, unwrap_or}
+use Rattle.std.proofs.Common.{◌≡◌, ◌∙◌, ◌⊎◌, ◌∷◌, [], List, Option, Some, None, Result, Ok, Err, IsErrAnd, IfErr, if◌then◌else◌, ap, codes, inl, inr, refl, slice_get, subst, sym, unwrap_or}
 use Rattle.std.specs.Borrow.{Bor}
 use Rattle.std.specs.Str.{bytes_eq}
-use Rattle.std.proofs.lemmas.Bool.{false≢true}
+use Rattle.std.proofs.lemmas.Option.{none-some}
 use Rattle.clap.specs.Words.{App, Text}
 use Rattle.bag_text.specs.Text.{texts}
 use Rattle.commands.specs.CommandLine.{value_of}
 use Rattle.commands.specs.declared.use_fault.UseFault.{UseFault}
 use Rattle.commands.specs.declared.use_fault.UseFault.TheVariants.{Memory}
+use Rattle.commands.proofs.CommandLineLemmas.{same_some}
 use Rattle.store_words.specs.StoreLine.{AskNothing, Asks, Finds, HasValues, HaveValues, Names, name_text, subcommand_of}
 use Rattle.store_words.specs.declared.store_line.StoreLine.{StoreLine}
 use Rattle.store_words.specs.declared.store_line.StoreLine.TheVariants as lines
@@ -23,16 +24,10 @@ handed_on (Err x) fault P Q is (inr none) gives = inr (λ q. none (gives q))
 
 -- ---- values
 
-pub never_some : {X : Type 0} (x : X) → None ≡ Some x → ⊥
-never_some x e = let bad : false ≡ true = ap is_some e in false≢true bad
-
-one_value : (o : Option Text) (a b : Text) → o ≡ Some a → o ≡ Some b → a ≡ b
-one_value o a b is is_too = ap (λ p. unwrap_or p a) (sym is ∙ is_too)
-
 -- where the text that clap finds is no such value, none is found
 pub not_found : (command : App) (name : Text) (words : List Text) (word : Text) (P : Text → Type 0) → value_of command name words ≡ Some word → (P word → ⊥)
     → Finds command name words P → ⊥
-not_found command name words word P is bad found = bad (subst P (one_value _ found.0 word found.1 is) found.2)
+not_found command name words word P is bad found = bad (subst P (same_some _ found.0 word found.1 is) found.2)
 
 -- ---- the first word
 
@@ -59,11 +54,11 @@ own_name Serve = refl
 -- words name one subcommand
 one_name : (words : List Text) (a b : Subcommand) → Names words a → Names words b → a ≡ b
 one_name words a b is is_too =
-    let same : name_text a ≡ name_text b = one_value _ (name_text a) (name_text b) is is_too in
+    let same : name_text a ≡ name_text b = same_some _ (name_text a) (name_text b) is is_too in
     ap (λ o. unwrap_or o a) (sym (own_name a) ∙ ap of_name same ∙ own_name b)
 
 pub first_named : (words : List (Bor Text)) (word : Bor Text) (name : Text) → slice_get words 0 ≡ Some word → word.now ≡ name → slice_get (texts words) 0 ≡ Some name
-first_named [] word name first is = absurd (never_some word first)
+first_named [] word name first is = absurd (none-some word first)
 first_named (x ∷ words) word name first is = ap (λ o. Some (unwrap_or o word).now) first ∙ ap Some is
 
 -- ---- lines

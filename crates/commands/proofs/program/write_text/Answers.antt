@@ -1,5 +1,6 @@
 use Rattle.std.proofs.Common.{◌≡◌, ◌∙◌, ℕ, List, Bor, ap, drop, subst, sym}
-use Rattle.commands.proofs.WritingLemmas.{HasTaken, more_taken, no_more_taken, slice_from}
+use Rattle.std.proofs.lemmas.List.{take_rest}
+use Rattle.commands.proofs.WritingLemmas.{HasTaken, more_taken, no_more_taken}
 use Rattle.commands.proofs.program.write_text.Goals as goal
 use Rattle.commands.proofs.program.write_text.Goals.{in-Ok, in-Err+else-ne}
 
@@ -7,7 +8,7 @@ pub writes-preserved : goal.writes-preserved
 writes-preserved g c =
     elim c.match-write.branch [
       | in-Ok w ↦
-          let left : c.match-write.rest.now ≡ drop w.in-Ok.count c.writes.rest.now = ap (λ (rest : Bor (List ℕ)). rest.now) w.rest-is ∙ slice_from w.in-Ok.count c.writes.rest.now in
+          let left : c.match-write.rest.now ≡ drop w.in-Ok.count c.writes.rest.now = ap (λ (rest : Bor (List ℕ)). rest.now) w.rest-is ∙ take_rest c.writes.rest.now w.in-Ok.count in
           subst (λ (rest : List ℕ). HasTaken c.args.text.now rest (g.W.Write.contents c.args.out.now) (g.W.Write.contents c.write.new.self)) (sym left)
           (more_taken _ _ _ _ _ w.in-Ok.count c.writes.invariant w.in-Ok.ensures.bytes)
       | in-Err+else-ne w ↦

@@ -1,6 +1,6 @@
-use Rattle.std.proofs.Common.{◌+◌, ◌≡◌, ◌∙◌, ℕ, List, length, take, Result, Ok, Err, IfOk, sym, subst, arith, ap}
+use Rattle.std.proofs.Common.{◌+◌, ◌≡◌, ◌∙◌, ℕ, List, length, take, sym, subst, arith, ap}
 use Rattle.std.proofs.Math.Seq.{take-length}
-use Rattle.std.specs.declared.alloc.AllocError.{AllocError}
+use Rattle.std.proofs.lemmas.Result.{IfOk-weaker}
 use Rattle.clap.specs.Words.{AddsArg, AddsInTurn}
 use Rattle.clap.specs.Simple.{app_of_fields}
 use Rattle.clap.specs.declared.builder.arg.Arg.{Arg}
@@ -15,10 +15,6 @@ loop-argument-preserved c =
     subst (λ (args : List Arg). AreReadBy (rules_for (take (c.loop-argument.argument-index + 1) c.args.usage.now.arguments.now)) args) (sym c.in_ok-push.ensures.items)
     (rules_so_far c.args.usage.now.arguments.now c.loop-argument.argument-index _ c.loop-argument.args.items c.arg_of.result (omega arith) c.loop-argument.invariant c.arg_of.ensures)
 
-added : (r : Result Command AllocError) (P Q : Command → Type 0) → IfOk r P → ((command : Command) → P command → Q command) → IfOk r Q
-added (Ok command) P Q is then = then command is
-added (Err e) P Q is then = tt
-
 -- the help text and the name in usage change nothing that clap reads of a command
 pub returns : goal.returns
 returns c =
@@ -26,7 +22,7 @@ returns c =
     ap (λ (n : ℕ). take n c.args.usage.now.arguments.now) (let same : c.loop-argument.argument-index ≡ length c.args.usage.now.arguments.now = omega arith in same)
     ∙ take-length c.args.usage.now.arguments.now in
     let name = c.in_ok-bin_name.ensures.0 in
-    added c.args-2.result (AddsInTurn AddsArg c.in_ok-bin_name.field-0 c.loop-argument.args.items) (Takes c.args.usage.now.name.now (rules_for c.args.usage.now.arguments.now)) c.args-2.ensures (λ command chain. record {
+    IfOk-weaker c.args-2.result (AddsInTurn AddsArg c.in_ok-bin_name.field-0 c.loop-argument.args.items) (Takes c.args.usage.now.name.now (rules_for c.args.usage.now.arguments.now)) (λ command chain. record {
       start = c.in_ok-bin_name.field-0;
       args = c.loop-argument.args.items;
       app = ap app_of_fields name ∙ ap app_of_fields c.about.ensures ∙ c.new.ensures.app;
@@ -36,4 +32,4 @@ returns c =
       negates = ap (λ (f : Command-F Command). f.subcommand_negates_reqs) name ∙ ap (λ (f : Command-F Command). f.subcommand_negates_reqs) c.about.ensures ∙ c.new.ensures.negates;
       read = subst (λ arguments. AreReadBy (rules_for arguments) c.loop-argument.args.items) end c.loop-argument.invariant;
       added = chain;
-    })
+    }) c.args-2.ensures

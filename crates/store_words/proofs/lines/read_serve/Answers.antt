@@ -1,7 +1,8 @@
 use Rattle.std.proofs.Common.{◌∙◌, codes, inr, refl, sym}
+use Rattle.std.proofs.lemmas.Option.{none-some}
 use Rattle.bag_text.specs.Text.{texts}
 use Rattle.store_words.specs.StoreLine.{IsCount, IsDayText, IsPort, serve_command}
-use Rattle.store_words.proofs.LineLemmas.{handed_on, never_some, not_found}
+use Rattle.store_words.proofs.LineLemmas.{handed_on, not_found}
 use Rattle.store_words.proofs.lines.read_serve.Goals as goal
 
 pub returns-in_err-matches-clause-refused : goal.returns-in_err-matches-clause-refused
@@ -25,7 +26,7 @@ pub returns-in_default-read-clause-refused : goal.returns-in_default-read-clause
 unfolding serve_command
 returns-in_default-read-clause-refused c = inr (λ have.
     not_found serve_command (codes "DAY") (texts c.args.words.now) c.word_at-3.result.now (λ text. IsDayText text have.3)
-    (sym (c.word_at-3.ensures ∙ c.in_ok-matches.ensures.values (codes "DAY"))) (λ is. never_some have.3 (c.in_default-read.ensures.only have.3 is.0 is.1)) have.4.at_day)
+    (sym (c.word_at-3.ensures ∙ c.in_ok-matches.ensures.values (codes "DAY"))) (λ is. none-some have.3 (c.in_default-read.ensures.only have.3 is.0 is.1)) have.4.at_day)
 
 pub returns-clause-values : goal.returns-clause-values
 unfolding serve_command
