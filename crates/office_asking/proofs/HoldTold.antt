@@ -68,14 +68,11 @@ live_told h n deposit version =
         let one : 1 + i ≡ suc i = omega arith in
         reach_same x.1.target n deposit ∙ ap (λ o. option_map_or (λ (hold : Date × Hold). reaches hold.1.target n deposit) o false) (sym e) ∙ ap (λ k. covers h k n deposit) (sym one)
 
-same_pos : (m n : ℕ) → pos m ≡ pos n → m ≡ n
-same_pos m n e = cc
-
 -- the numbers of the live holds over a deposit that are read
 pub live_read : (h : History) (db : Database) → Pictures h db → (n : ℕ) (collection : List ℕ) (numbers : List ℕ) → map pos numbers ≡ rows.live_holds (pos n) collection (tables_of db)
     → (deposit : Deposit) → deposit.collection ≡ collection → numbers ≡ histories.live_holds h n deposit
 live_read h db pictured n collection numbers e deposit is =
-    map_back pos same_pos numbers (histories.live_holds h n deposit)
+    map_back pos same_count numbers (histories.live_holds h n deposit)
     (e ∙ in_picture h db pictured (rows.live_holds (pos n) collection) ∙ ap (λ c. rows.live_holds (pos n) c (picture this_version h)) (sym is) ∙ live_told h n deposit this_version)
 
 pub first_live : (h : History) (db : Database) → Pictures h db → (n : ℕ) (collection : List ℕ) (numbers : List ℕ) → map pos numbers ≡ rows.live_holds (pos n) collection (tables_of db)

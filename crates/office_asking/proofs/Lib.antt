@@ -1,4 +1,5 @@
 pub mod NumberedRows
+pub mod FileRows
 pub mod PolicyTold
 pub mod Readings
 pub mod DepositTold

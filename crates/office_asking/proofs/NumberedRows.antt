@@ -2,10 +2,11 @@
 use Rattle.std.proofs.Common.{◌≡◌, ℕ, zero, suc, ◌+◌, ◌==◌, ◌<◌, ◌≤◌, ℤ, pos, Bool, true, false, List, [], ◌∷◌, ◌++◌, length, map, Option, Some, None, Less, option_map, unwrap_or, slice_get, rules, refl, sym, ap, subst, ◌∙◌, arith, cond, if◌then◌else◌, true≢false}
 use Rattle.std.specs.Prelude.{find}
 use Rattle.std.specs.Cmp.{int_cmp_is}
-use Rattle.std.specs.List.{filter_map, AllByRecursion}
+use Rattle.std.specs.List.{filter_map, range_with_len, AllByRecursion}
 use Rattle.std.specs.Option.{option_or}
 use Rattle.std.specs.Ordering.{int_cmp, int_eq}
 use Rattle.std.proofs.lemmas.Bool.Decides.{Decides-int_eq, Decides-eqb}
+use Rattle.std.proofs.lemmas.Option.{slice_get_past}
 use Rattle.office_rows.specs.Rows.{last_number}
 use Rattle.office_history.specs.Lists.{item_numbered, numbers}
 use Rattle.office_history.proofs.Alike.{or_none}
@@ -48,13 +49,14 @@ eqb-sym m n = by (m == n) (n == m) refl refl
     by true false e f = absurd (true≢false (sym ((Decides-eqb n m).1 (sym ((Decides-eqb m n).0 e))) ∙ f))
     by false true e f = absurd (true≢false (sym ((Decides-eqb m n).1 (sym ((Decides-eqb n m).0 f))) ∙ e))
 
-none_past : {A : Type 0} (xs : List A) → slice_get xs (length xs) ≡ None
-none_past [] = refl
-none_past (x ∷ xs) = none_past xs
-
 -- no item has the number after the last
 pub none_next : {A : Type 0} (xs : List A) → item_numbered xs (1 + length xs) ≡ None
-none_next xs = let one : suc (length xs) ≡ 1 + length xs = omega arith in subst (λ k. item_numbered xs k ≡ None) one (none_past xs)
+none_next xs = let one : suc (length xs) ≡ 1 + length xs = omega arith in subst (λ k. item_numbered xs k ≡ None) one (slice_get_past xs (length xs) (omega arith))
+
+-- one more number behind those in a row
+pub range_last : (start len : ℕ) → range_with_len start (suc len) ≡ range_with_len start len ++ (start + len) ∷ []
+range_last start zero = let none : start ≡ start + 0 = omega arith in ap (λ k. k ∷ []) none
+range_last start (suc len) = let one : start + 1 + len ≡ start + suc len = omega arith in ap (λ ks. start ∷ ks) (range_last (start + 1) len ∙ ap (λ k. range_with_len (start + 1) len ++ k ∷ []) one)
 
 module _ {A R : Type 0} (tell : ℕ → A → R) where
   at_place : (xs : List A) (start i : ℕ) → slice_get (rows_from tell start xs) i ≡ option_map (tell (start + i)) (slice_get xs i)

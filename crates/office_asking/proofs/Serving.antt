@@ -1,8 +1,7 @@
 -- Refused and allowed requests inside a transaction.
-use Rattle.std.proofs.Common.{◌≡◌, List, [], ◌∷◌, ℕ, Option, Some, None, refl, sym, ap, subst, ◌∙◌, append-nil}
+use Rattle.std.proofs.Common.{◌≡◌, List, [], ℕ, Some, None, sym, ap, subst, ◌∙◌}
 use Rattle.jiff.specs.Types.{Date}
 use Rattle.sqlite.specs.Effect.{Database}
-use Rattle.office_core.specs.FirstOf.{first_some}
 use Rattle.office_core.specs.declared.answer.Answer.{Answer}
 use Rattle.office_core.specs.declared.answer.Answer.TheVariants.{Refused}
 use Rattle.office_core.specs.declared.refusal.Refusal.{Refusal}
@@ -12,18 +11,20 @@ use Rattle.office_history.specs.Pictures.{picture}
 use Rattle.office_tables.specs.Tables.{Becomes, tables_of}
 use Rattle.office_history.specs.Histories.{History, with_changes}
 use Rattle.office_history.specs.Refusals.{refusal}
+use Rattle.office_history.proofs.Accepted.{grown_by_none}
+pub use Rattle.office_history.proofs.PlainLemmas.{one_only as one_refusal}
 use Rattle.office_history.specs.Answers.{answer_unless, changes_unless, allowed_answer, allowed_change, change}
 use Rattle.office_asking.specs.Pictures.{Pictures}
 use Rattle.office_asking.specs.Serving.{IsServed}
 
 pub grown_none : (h : History) → with_changes h [] ≡ h
-grown_none h = λ i. record { max_deposits = h.max_deposits; max_holds = h.max_holds; changes = append-nil h.changes i }
+grown_none h = sym (grown_by_none h)
 
 module _ (h : History) (day : Date) (caller : List ℕ) (request : Request) (db : Database) where
   pub refused_serves : (why : Refusal) → Some why ≡ refusal h day caller request → Pictures h db → IsServed h day caller request (Refused why) db
   refused_serves why e pictured = record {
     answer = ap (λ o. answer_unless o (allowed_answer h day caller request)) e;
-    after = subst (λ (x : History). Pictures x db) (sym (grown_none h) ∙ ap (λ o. with_changes h (changes_unless o (allowed_change h day request))) e) pictured;
+    after = subst (λ (x : History). Pictures x db) (grown_by_none h ∙ ap (λ o. with_changes h (changes_unless o (allowed_change h day request))) e) pictured;
   }
 
   pub allowed_serves : (given : Answer) → None ≡ refusal h day caller request → given ≡ allowed_answer h day caller request → Pictures (with_changes h (allowed_change h day request)) db → IsServed h day caller request given db
@@ -34,13 +35,8 @@ module _ (h : History) (day : Date) (caller : List ℕ) (request : Request) (db 
 
   -- a request that changes nothing
   pub read_serves : (given : Answer) → None ≡ refusal h day caller request → given ≡ allowed_answer h day caller request → allowed_change h day request ≡ [] → Pictures h db → IsServed h day caller request given db
-  read_serves given e is none pictured = allowed_serves given e is (subst (λ (x : History). Pictures x db) (sym (grown_none h) ∙ ap (with_changes h) (sym none)) pictured)
+  read_serves given e is none pictured = allowed_serves given e is (subst (λ (x : History). Pictures x db) (grown_by_none h ∙ ap (with_changes h) (sym none)) pictured)
 
 -- what the tables became pictures a longer history, where these rows are that history's
 pub pictures_grown : (h next : History) (change : Tables → Tables) (mid new : Database) → change (picture this_version h) ≡ picture this_version next → Pictures h mid → Becomes new (change (tables_of mid)) → Pictures next new
 pictures_grown h next change mid new told pictured became = record { office = became.office; are = became.are ∙ ap change pictured.are ∙ told }
-
--- a row of one refusal
-pub one_refusal : (o : Option Refusal) → o ≡ first_some (o ∷ [])
-one_refusal None = refl
-one_refusal (Some why) = refl
