@@ -1,5 +1,5 @@
 -- Where a head ends, and what more bytes change.
-use Rattle.std.proofs.Common.{◌≡◌, ◌≢◌, ℕ, suc, ◌+◌, ◌-◌, ◌<◌, ◌≤◌, List, [], ◌∷◌, ◌++◌, length, take, drop, Option, Some, None, refl, sym, ap, ◌∙◌, arith, true, false, get_or, add-one, drop-cons, cond, Bool, nat_lt, length-append, length-drop, take_all, min, length-take-le, ◌==◌}
+use Rattle.std.proofs.Common.{◌≡◌, ◌≢◌, ℕ, suc, ◌+◌, ◌-◌, ◌<◌, ◌≤◌, List, [], ◌∷◌, ◌++◌, length, take, drop, Option, Some, None, refl, sym, ap, ◌∙◌, arith, true, false, get_or, add-one, drop-cons, cond, Bool, nat_lt, length-append, take_all, min, length-take-le, ◌==◌}
 use Rattle.std.proofs.lemmas.Grind.{common_steps}
 use Rattle.std.proofs.lemmas.List.{length-take, take-append-le, append-nil}
 use Rattle.std.proofs.Math.Seq.{take-append-add}
@@ -135,10 +135,6 @@ pub whole_head : (a b : Option (List ℕ)) (given : List ℕ) (place : HeadPlace
 whole_head None b given place c h not = tt
 whole_head (Some xs) None given place c h not = absurd c
 whole_head (Some xs) (Some ys) given place c h not = ap head_at c ∙ head_at_more given ys (λ e. not (sym h ∙ e)) ∙ h
-
--- the code's slices
-pub tail_is : (b : List ℕ) (at : ℕ) → take (length b - at) (drop at b) ≡ drop at b
-tail_is b at = take_all (length b - at) (drop at b) (simp length-drop (omega arith))
 
 min_cases : (n : ℕ) (b : List ℕ) → length b ≡ n → take (min n max_head) b ≡ take max_head b
 min_cases n b e = elim (cases_lt n max_head) [ inl h ↦ ap (λ k. take k b) (let m : min n max_head ≡ n = omega arith in m) ∙ take_all n b (omega arith) ∙ sym (take_all max_head b (omega arith)) | inr h ↦ ap (λ k. take k b) (let m : min n max_head ≡ max_head = omega arith in m) ]
