@@ -1,5 +1,5 @@
 -- The deposit of an accession, and the next number, by the rows.
-use Rattle.std.proofs.Common.{◌≡◌, ℕ, suc, ◌+◌, ℤ, pos, Bool, true, false, not, List, [], ◌∷◌, length, Option, Some, None, option_map, unwrap_or, refl, sym, ap, ◌∙◌, arith, cond}
+use Rattle.std.proofs.Common.{◌≡◌, ℕ, suc, ◌+◌, ℤ, pos, Bool, true, false, not, List, [], ◌∷◌, length, Option, Some, None, option_map, unwrap_or, refl, sym, ap, ◌∙◌, arith, cond, one-add}
 use Rattle.std.specs.Prelude.{bytes_eq, find, position, nat_lt}
 use Rattle.std.specs.List.{prefix_len}
 use Rattle.std.proofs.lemmas.Bool.Decides.{nat_tests}
@@ -35,13 +35,10 @@ position_next test x xs true e = ap (λ b. cond (nat_lt (cond (not b) (1 + prefi
     ∙ ap (λ b. cond b (Some 0) None) (some_below (length xs))
 position_next test x xs false e =
     ap (λ b. cond (nat_lt (cond (not b) (1 + prefix_len (λ y. not (test y)) xs) 0) (suc (length xs))) (Some (cond (not b) (1 + prefix_len (λ y. not (test y)) xs) 0)) None) e
-    ∙ ap (λ k. cond (nat_lt k (suc (length xs))) (Some (1 + prefix_len (λ y. not (test y)) xs)) None) (one (prefix_len (λ y. not (test y)) xs))
+    ∙ ap (λ k. cond (nat_lt k (suc (length xs))) (Some (1 + prefix_len (λ y. not (test y)) xs)) None) (one-add (prefix_len (λ y. not (test y)) xs))
     ∙ ap (λ b. cond b (Some (1 + prefix_len (λ y. not (test y)) xs)) None) (lt_next (prefix_len (λ y. not (test y)) xs) (length xs))
     ∙ by (nat_lt (prefix_len (λ y. not (test y)) xs) (length xs))
   where
-    one : (p : ℕ) → 1 + p ≡ suc p
-    one p = omega arith
-
     by : (b : Bool) → cond b (Some (1 + prefix_len (λ y. not (test y)) xs)) None ≡ option_map (λ p. 1 + p) (cond b (Some (prefix_len (λ y. not (test y)) xs)) None)
     by true = refl
     by false = refl

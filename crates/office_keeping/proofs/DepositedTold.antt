@@ -1,13 +1,14 @@
 -- The rows of an office after a deposit was made.
-use Rattle.std.proofs.Common.{◌≡◌, ℕ, zero, suc, ◌+◌, ◌<◌, ℤ, pos, Bool, true, false, List, [], ◌∷◌, ◌++◌, length, map, filter, Some, None, Less, slice_get, is_none, refl, sym, ap, subst, ◌∙◌, arith, cond, append-nil, append_assoc}
+use Rattle.std.proofs.Common.{◌≡◌, ℕ, zero, suc, ◌+◌, ◌<◌, ℤ, pos, Bool, true, false, List, [], ◌∷◌, ◌++◌, length, map, filter, Some, None, Less, slice_get, is_none, refl, sym, ap, subst, ◌∙◌, arith, cond, append-nil, append_assoc, add-one}
 use Rattle.std.specs.List.{flat_map, range_with_len, AllByRecursion}
 use Rattle.std.specs.Option.{option_map_or}
 use Rattle.std.specs.Ordering.{int_cmp}
-use Rattle.std.proofs.lemmas.List.{at_drop_more}
+use Rattle.std.proofs.lemmas.List.{at_drop_more, length_push}
 use Rattle.std.proofs.Common.{drop, get_or, Bor}
 use Rattle.bag_text.specs.TransferReading as pairs
 use Rattle.office_tables.specs.Tables.{IsOffice, Becomes, tables_of}
 use Rattle.std.proofs.lemmas.List.Elements.{filter-append}
+use Rattle.std.proofs.lemmas.List.Concat.{flat_map-append}
 use Rattle.jiff.specs.Types.{Date}
 use Rattle.sqlite.specs.Effect.{Database}
 use Rattle.bag_text.specs.TransferForm.{File}
@@ -18,11 +19,11 @@ use Rattle.office_history.specs.Histories.{History, Change, Deposited, Deposit, 
 use Rattle.office_history.specs.Pictures.{row_by_gone, deposit_row, deposit_rows, file_row, file_rows, picture}
 use Rattle.office_history.specs.Runs.{IsLegal}
 use Rattle.office_history.proofs.LegalReadings.{none_gone}
-use Rattle.office_history.proofs.ListLemmas.{slice_get_last}
+use Rattle.bag_text.proofs.ElementLemmas.{slice_get_last}
 use Rattle.office_asking.specs.Pictures.{Pictures}
 use Rattle.office_history.proofs.HistoryLemmas.{deposits_grown}
 use Rattle.office_keeping.specs.Depositing.{with_files}
-use Rattle.office_asking.proofs.NumberedRows.{rows_from, rows_append, below, none_next}
+use Rattle.office_asking.proofs.NumberedRows.{rows_from, rows_append, range_last, below, none_next}
 use Rattle.office_asking.proofs.DepositTold.{deposit_rows_are}
 use Rattle.office_asking.proofs.Unchanged.{same_classes, same_collections, same_gone, same_hold_rows, pictured_by}
 
@@ -31,18 +32,6 @@ files_added n [] t = λ i. record t { files = sym (append-nil t.files) i }
 files_added n (f ∷ files) t =
     files_added n files (record t { files = t.files ++ file_row n f ∷ [] })
     ∙ ap (λ (fs : List FileRow). record t { files = fs }) (append_assoc t.files (file_row n f ∷ []) (map (file_row n) files))
-
-range_last : (start len : ℕ) → range_with_len start (len + 1) ≡ range_with_len start len ++ (start + len) ∷ []
-range_last start zero = let none : start ≡ start + 0 = omega arith in ap (λ k. k ∷ []) none
-range_last start (suc len) =
-    let one : start + 1 + len ≡ start + suc len = omega arith in
-    let two : suc len + 1 ≡ suc (len + 1) = omega arith in
-    ap (range_with_len start) two
-    ∙ ap (λ ks. start ∷ ks) (range_last (start + 1) len ∙ ap (λ k. range_with_len (start + 1) len ++ k ∷ []) one)
-
-flat_append : {X A : Type 0} (f : X → List A) (xs ys : List X) → flat_map f (xs ++ ys) ≡ flat_map f xs ++ flat_map f ys
-flat_append f [] ys = refl
-flat_append f (x ∷ xs) ys = ap (λ zs. f x ++ zs) (flat_append f xs ys) ∙ sym (append_assoc (f x) (flat_map f xs) (flat_map f ys))
 
 front : {A : Type 0} (xs ys : List A) (i : ℕ) → i < length xs → slice_get (xs ++ ys) i ≡ slice_get xs i
 front [] ys i less = absurd (omega (arith, less))
@@ -61,10 +50,6 @@ same_gathered f g keeps (suc len) start same =
         ≡ flat_map g (cond b (start ∷ filter keeps (range_with_len (start + 1) len)) (filter keeps (range_with_len (start + 1) len)))
     by true first rest = λ i. first i ++ rest i
     by false first rest = rest
-
-length_more : {A : Type 0} (xs : List A) (x : A) → length (xs ++ x ∷ []) ≡ length xs + 1
-length_more [] x = refl
-length_more (y ∷ xs) x = let rest = length_more xs x in omega (arith, rest)
 
 module _ (h : History) (day : Date) (d : Deposit) (not_gone : destruction_day h (1 + length (deposits h)) ≡ None) where
   abbrev more : List Change
@@ -97,9 +82,9 @@ module _ (h : History) (day : Date) (d : Deposit) (not_gone : destruction_day h 
   files_told : file_rows h ++ map (file_row next) d.bag ≡ file_rows longer
   files_told =
       (λ i. old i ++ sym last i)
-      ∙ sym (flat_append (files_in (deposits h ++ (day, d) ∷ [])) (filter keeps (numbers (length (deposits h)))) (filter keeps (next ∷ [])))
+      ∙ sym (flat_map-append (files_in (deposits h ++ (day, d) ∷ [])) (filter keeps (numbers (length (deposits h)))) (filter keeps (next ∷ [])))
       ∙ ap (flat_map (files_in (deposits h ++ (day, d) ∷ []))) (sym (filter-append keeps (numbers (length (deposits h))) (next ∷ [])))
-      ∙ ap (λ ks. flat_map (files_in (deposits h ++ (day, d) ∷ [])) (filter keeps ks)) (sym (range_last 1 (length (deposits h))) ∙ ap (range_with_len 1) (sym (length_more (deposits h) (day, d))))
+      ∙ ap (λ ks. flat_map (files_in (deposits h ++ (day, d) ∷ [])) (filter keeps ks)) (sym (range_last 1 (length (deposits h))) ∙ ap (range_with_len 1) (sym (length_push (deposits h) (day, d) ∙ add-one (length (deposits h)))))
       ∙ (λ i. flat_map (files_in (sym (deposits_grown h more) i)) (filter (λ m. is_none (sym (same_gone h more (λ n. refl) m) i)) (numbers (length (sym (deposits_grown h more) i)))))
     where
       old : file_rows h ≡ flat_map (files_in (deposits h ++ (day, d) ∷ [])) (filter keeps (numbers (length (deposits h))))
@@ -109,7 +94,7 @@ module _ (h : History) (day : Date) (d : Deposit) (not_gone : destruction_day h 
           (ap (λ o. map (file_row (suc i)) (option_map_or (λ (f : Date × Deposit). f.1.bag) o [])) (sym (front (deposits h) ((day, d) ∷ []) i less))))
 
       there : item_numbered (deposits h ++ (day, d) ∷ []) next ≡ Some (day, d)
-      there = let one : suc (length (deposits h)) ≡ next = omega arith in subst (λ k. item_numbered (deposits h ++ (day, d) ∷ []) k ≡ Some (day, d)) one (slice_get_last (deposits h) (day, d))
+      there = let one : suc (length (deposits h)) ≡ next = omega arith in subst (λ k. item_numbered (deposits h ++ (day, d) ∷ []) k ≡ Some (day, d)) one (slice_get_last (deposits h) (day, d) [])
 
       last : flat_map (files_in (deposits h ++ (day, d) ∷ [])) (filter keeps (next ∷ [])) ≡ map (file_row next) d.bag
       last =

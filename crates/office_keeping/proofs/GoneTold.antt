@@ -3,7 +3,6 @@ use Rattle.std.proofs.Common.{◌≡◌, ℕ, ◌==◌, pos, Bool, true, false, 
 use Rattle.std.specs.List.{flat_map}
 use Rattle.std.specs.Option.{option_or, option_map_or}
 use Rattle.std.specs.Ordering.{int_eq}
-use Rattle.std.proofs.lemmas.List.Elements.{filter-append}
 use Rattle.jiff.specs.Types.{Date}
 use Rattle.jiff.specs.Words.{epoch_day}
 use Rattle.bag_text.specs.TransferForm.{File}
@@ -16,6 +15,7 @@ use Rattle.office_history.specs.Histories.{History, Change, Destroyed, Deposit, 
 use Rattle.office_history.specs.Stocks.{files_of}
 use Rattle.office_history.specs.Pictures.{row_by_gone, deposit_row, deposit_rows, file_row, file_rows, picture}
 use Rattle.office_history.proofs.Alike.{gone_grown, or_none}
+use Rattle.office_asking.proofs.FileRows.{file_rows_at, filter_gathered}
 use Rattle.office_asking.proofs.NumberedRows.{rows_from, rows_changed, itself, another, mark}
 use Rattle.office_asking.proofs.DepositTold.{deposit_rows_are}
 use Rattle.office_asking.proofs.Unchanged.{same_classes, same_collections, same_deposits, same_hold_rows, pictured_by}
@@ -52,9 +52,6 @@ module _ (h : History) (day : Date) (n : ℕ) (kept_before : destruction_day h n
   abbrev stays : FileRow → Bool
   stays f = not (is_file_of (pos n) f)
 
-  abbrev rows_at : ℕ → List FileRow
-  rows_at m = map (file_row m) (files_of h m)
-
   own_dropped : (m : ℕ) (files : List File) → int_eq (pos m) (pos n) ≡ true → filter stays (map (file_row m) files) ≡ []
   own_dropped m [] e = refl
   own_dropped m (f ∷ files) e = λ i. cond (not (e i)) (file_row m f ∷ filter stays (map (file_row m) files)) (own_dropped m files e i)
@@ -69,27 +66,23 @@ module _ (h : History) (day : Date) (n : ℕ) (kept_before : destruction_day h n
   abbrev kept_then : List ℕ → List ℕ
   kept_then ms = filter (λ k. is_none (destruction_day longer k)) ms
 
-  dropped : (ms : List ℕ) → filter stays (flat_map rows_at (filter (λ m. is_none (destruction_day h m)) ms)) ≡ flat_map rows_at (filter (λ m. is_none (destruction_day longer m)) ms)
+  dropped : (ms : List ℕ) → filter stays (flat_map (file_rows_at h) (filter (λ m. is_none (destruction_day h m)) ms)) ≡ flat_map (file_rows_at h) (filter (λ m. is_none (destruction_day longer m)) ms)
   dropped [] = refl
   dropped (m ∷ ms) = by (int_eq (pos m) (pos n)) refl (dropped ms)
     where
-      step : (b : Bool) → filter stays (flat_map rows_at (cond b (m ∷ (kept_first ms)) (kept_first ms))) ≡ cond b (filter stays (rows_at m)) [] ++ filter stays (flat_map rows_at (kept_first ms))
-      step true = filter-append stays (rows_at m) (flat_map rows_at (kept_first ms))
-      step false = refl
-
-      back : (b : Bool) → flat_map rows_at (cond b (m ∷ (kept_then ms)) (kept_then ms)) ≡ cond b (rows_at m) [] ++ flat_map rows_at (kept_then ms)
+      back : (b : Bool) → flat_map (file_rows_at h) (cond b (m ∷ (kept_then ms)) (kept_then ms)) ≡ cond b (file_rows_at h m) [] ++ flat_map (file_rows_at h) (kept_then ms)
       back true = refl
       back false = refl
 
-      by : (b : Bool) → int_eq (pos m) (pos n) ≡ b → filter stays (flat_map rows_at (kept_first ms)) ≡ flat_map rows_at (kept_then ms)
-          → filter stays (flat_map rows_at (cond (is_none (destruction_day h m)) (m ∷ (kept_first ms)) (kept_first ms))) ≡ flat_map rows_at (cond (is_none (destruction_day longer m)) (m ∷ (kept_then ms)) (kept_then ms))
+      by : (b : Bool) → int_eq (pos m) (pos n) ≡ b → filter stays (flat_map (file_rows_at h) (kept_first ms)) ≡ flat_map (file_rows_at h) (kept_then ms)
+          → filter stays (flat_map (file_rows_at h) (cond (is_none (destruction_day h m)) (m ∷ (kept_first ms)) (kept_first ms))) ≡ flat_map (file_rows_at h) (cond (is_none (destruction_day longer m)) (m ∷ (kept_then ms)) (kept_then ms))
       by true e rest =
-          step (is_none (destruction_day h m))
+          filter_gathered stays (file_rows_at h) (is_none (destruction_day h m)) m (kept_first ms)
           ∙ (λ i. cond (is_none ((this_one m e).0 i)) (own_dropped m (files_of h m) e i) [] ++ rest i)
-          ∙ (λ i. cond (is_none (sym (this_one m e).1 i)) (rows_at m) [] ++ flat_map rows_at (kept_then ms))
+          ∙ (λ i. cond (is_none (sym (this_one m e).1 i)) (file_rows_at h m) [] ++ flat_map (file_rows_at h) (kept_then ms))
           ∙ sym (back (is_none (destruction_day longer m)))
       by false e rest =
-          step (is_none (destruction_day h m))
+          filter_gathered stays (file_rows_at h) (is_none (destruction_day h m)) m (kept_first ms)
           ∙ (λ i. cond (is_none (sym (another_one m e) i)) (others_stay m (files_of h m) e i) [] ++ rest i)
           ∙ sym (back (is_none (destruction_day longer m)))
 

@@ -8,7 +8,7 @@ use Rattle.office_history.specs.Histories.{History, has_collection, has_class, y
 use Rattle.office_history.specs.Pictures.{years_back}
 use Rattle.office_history.specs.Refusals.{place_refusals, denial}
 use Rattle.office_core.specs.declared.action.Action.TheVariants as acts
-use Rattle.office_asking.proofs.Serving.{one_refusal}
+use Rattle.office_history.proofs.PlainLemmas.{one_only}
 
 pub class_there : (h : History) (class : List ℕ) (found : Option ℤ) → option_map years_back found ≡ years_of h class → is_some found ≡ has_class h class
 class_there h class None e = ap is_some e
@@ -22,7 +22,7 @@ module _ (h : History) (caller collection class : List ℕ) where
   no_class e f = λ i. first_some (answer_if (not (e i)) (NoSuch subjects.Collection) ∷ answer_if (not (f i)) (NoSuch subjects.Class) ∷ denial h caller acts.Deposit (Some collection) (Some class) ∷ [])
 
   pub both_there : true ≡ has_collection h collection → true ≡ has_class h class → (why : Option Refusal) → why ≡ denial h caller acts.Deposit (Some collection) (Some class) → why ≡ first_some (place_refusals h caller collection class)
-  both_there e f why is = one_refusal why ∙ (λ i. first_some (answer_if (not (e i)) (NoSuch subjects.Collection) ∷ answer_if (not (f i)) (NoSuch subjects.Class) ∷ is i ∷ []))
+  both_there e f why is = one_only why ∙ (λ i. first_some (answer_if (not (e i)) (NoSuch subjects.Collection) ∷ answer_if (not (f i)) (NoSuch subjects.Class) ∷ is i ∷ []))
 
 pub taken_some : (n : ℕ) (o : Option ℕ) → Some (pos n) ≡ option_map pos o → Some (Taken n) ≡ option_map Taken o
 taken_some n None e = absurd cc

@@ -5,7 +5,8 @@ use Rattle.sql_meaning.proofs.Results.{if_ok}
 use Rattle.office_core.specs.FirstOf.{first_some}
 use Rattle.office_history.specs.Refusals.{bad_bag, full_of_deposits}
 use Rattle.office_keeping.specs.Depositing.{refusals_before_the_bag}
-use Rattle.office_keeping.proofs.AskedFor.{first_stands, asked_later}
+use Rattle.office_history.proofs.PlainLemmas.{first_in_front}
+use Rattle.office_keeping.proofs.AskedFor.{asked_later}
 use Rattle.office_asking.proofs.InTurn.{clean_before, on_after}
 use Rattle.sql_meaning.proofs.Inside.{stays_then, goes_then}
 use Rattle.office_keeping.proofs.depositing.new_bag.Goals as goal
@@ -14,8 +15,8 @@ pub returns-in-Some-clause-asked : goal.returns-in-Some-clause-asked
 returns-in-Some-clause-asked g c clean h legal pictured =
     let a = c.args in
     let asked = c.in_ok-why.ensures.refusal clean h legal pictured in
-    let stands : Some c.in-Some.why ≡ first_some (refusals_before_the_bag h a.day a.caller.now a.collection.now a.class.now a.accession.now a.closed) = sym c.in-Some.is ∙ asked.1 in
-    (asked.0, first_stands (refusals_before_the_bag h a.day a.caller.now a.collection.now a.class.now a.accession.now a.closed) (bad_bag a.text.now ∷ full_of_deposits h ∷ []) c.in-Some.why stands)
+    let stands : first_some (refusals_before_the_bag h a.day a.caller.now a.collection.now a.class.now a.accession.now a.closed) ≡ Some c.in-Some.why = sym asked.1 ∙ c.in-Some.is in
+    (asked.0, sym (first_in_front (refusals_before_the_bag h a.day a.caller.now a.collection.now a.class.now a.accession.now a.closed) (bad_bag a.text.now ∷ full_of_deposits h ∷ []) c.in-Some.why stands))
 
 pub returns-clause-asked : goal.returns-clause-asked
 returns-clause-asked g c clean h legal pictured =

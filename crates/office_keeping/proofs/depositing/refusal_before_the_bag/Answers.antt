@@ -3,8 +3,7 @@ use Rattle.sqlite.specs.State.{HasCleanDisk}
 use Rattle.sqlite.specs.Held.{state}
 use Rattle.office_core.specs.FirstOf.{first_some}
 use Rattle.office_history.specs.Refusals.{place_refusals, taken_refusal, closed_ahead_refusal}
-use Rattle.office_asking.proofs.Serving.{one_refusal}
-use Rattle.office_keeping.proofs.AskedFor.{first_stands, first_later}
+use Rattle.office_history.proofs.PlainLemmas.{first_in_front, first_behind, one_only}
 use Rattle.office_asking.proofs.InTurn.{clean_before, goes_twice}
 use Rattle.sql_meaning.proofs.Inside.{stays_then}
 use Rattle.office_keeping.proofs.depositing.refusal_before_the_bag.Goals as goal
@@ -13,8 +12,8 @@ pub returns-in-Some-clause-refusal : goal.returns-in-Some-clause-refusal
 returns-in-Some-clause-refusal g c clean h legal pictured =
     let a = c.args in
     let asked = c.in_ok-why.ensures.refusal clean h legal pictured in
-    let stands : Some c.in-Some.why ≡ first_some (place_refusals h a.caller.now a.collection.now a.class.now) = sym c.in-Some.is ∙ asked.1 in
-    (asked.0, first_stands (place_refusals h a.caller.now a.collection.now a.class.now) (taken_refusal h a.accession.now ∷ closed_ahead_refusal a.day a.closed ∷ []) c.in-Some.why stands)
+    let stands : first_some (place_refusals h a.caller.now a.collection.now a.class.now) ≡ Some c.in-Some.why = sym asked.1 ∙ c.in-Some.is in
+    (asked.0, sym (first_in_front (place_refusals h a.caller.now a.collection.now a.class.now) (taken_refusal h a.accession.now ∷ closed_ahead_refusal a.day a.closed ∷ []) c.in-Some.why stands))
 
 pub returns-clause-refusal : goal.returns-clause-refusal
 returns-clause-refusal g c clean h legal pictured =
@@ -23,12 +22,12 @@ returns-clause-refusal g c clean h legal pictured =
     let early : HasCleanDisk mid = clean_before mid (state g.S.Store c.taken_refusal.new.tx.conn.now) c.taken_refusal.ensures.stays clean in
     let place = c.in_ok-why.ensures.refusal early h legal pictured in
     let asked = c.in_ok-why-2.ensures.taken clean h legal place.0 in
-    let free : None ≡ first_some (place_refusals h a.caller.now a.collection.now a.class.now) = search (rules, place.1) in
+    let free : first_some (place_refusals h a.caller.now a.collection.now a.class.now) ≡ None = search (rules, place.1) in
     let untaken : None ≡ taken_refusal h a.accession.now = search (rules, asked.1) in
     let ahead : c.closed_ahead.result ≡ closed_ahead_refusal a.day a.closed = c.closed_ahead.ensures in (
       asked.0,
-      one_refusal c.closed_ahead.result ∙ (λ i. first_some (untaken i ∷ ahead i ∷ []))
-          ∙ first_later (place_refusals h a.caller.now a.collection.now a.class.now) (taken_refusal h a.accession.now ∷ closed_ahead_refusal a.day a.closed ∷ []) free,
+      one_only c.closed_ahead.result ∙ (λ i. first_some (untaken i ∷ ahead i ∷ []))
+          ∙ sym (first_behind (place_refusals h a.caller.now a.collection.now a.class.now) (taken_refusal h a.accession.now ∷ closed_ahead_refusal a.day a.closed ∷ []) free),
     )
 
 pub returns-in_err-why-2-clause-stays : goal.returns-in_err-why-2-clause-stays
