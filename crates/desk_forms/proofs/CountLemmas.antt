@@ -2,7 +2,7 @@
 use Rattle.std.proofs.Common.{◌≡◌, ℕ, true, false, ◌⊎◌, List, [], ◌∷◌, length, map, filter, nat_eq, Contains, refl, sym, ap, ◌∙◌, subst, inl, inr, arith}
 use Rattle.std.specs.Cmp.Lexicographic.{pointwise, bytes_decides}
 use Rattle.std.proofs.lemmas.Bool.{cases_Bool, cond-true, cond-false}
-use Rattle.std.proofs.lemmas.List.{length-map}
+use Rattle.std.proofs.lemmas.List.{length-map, nil_from_length}
 use Rattle.std.proofs.lemmas.List.Elements.{Contains-append_right, Contains-append_cases, Contains-push_cases}
 use Rattle.std.proofs.lemmas.List.Sums.{length-filter}
 use Rattle.desk_forms.specs.Queries.{values_of, count_of, StandsOnce}
@@ -34,10 +34,6 @@ module _ {X : Type 0} where
   one_element x (a ∷ []) one h =
       elim (contained a [] x h) [ inl same ↦ ap (λ y. y ∷ []) same | inr none ↦ absurd (none_contained x none) ]
   one_element x (a ∷ b ∷ xs) one h = absurd (omega arith)
-
-  no_element : (xs : List X) → length xs ≡ 0 → xs ≡ []
-  no_element [] none = refl
-  no_element (a ∷ xs) none = absurd (omega arith)
 
 pub same_pair : (p : Pair) (key value : List ℕ) → p.0 ≡ key → p.1 ≡ value → ◌≡◌ {A = Pair} p (key, value)
 same_pair p key value k v = λ i. (k i, v i)
@@ -104,5 +100,5 @@ once_by_count key value pairs = (
 pub nowhere_by_count : (key : List ℕ) (pairs : List Pair) → (values_of key pairs ≡ [] → count_of key pairs ≡ 0) × (count_of key pairs ≡ 0 → values_of key pairs ≡ [])
 nowhere_by_count key pairs = (
   λ none. sym (length-values_of key pairs) ∙ ap length none,
-  λ none. no_element (values_of key pairs) (length-values_of key pairs ∙ none),
+  λ none. nil_from_length (values_of key pairs) (length-values_of key pairs ∙ none),
 )
