@@ -1,15 +1,14 @@
 //! The declaration of a bag, its file `bagit.txt`.
 
 ghost use Rattle.std.specs.Prelude.{◌≡◌, ◌<◌, ◌==◌, List, [], ◌∷◌, length, ℕ, Bool, Option, option_map, option_copied, codes, None, Some, Ok, Err, IfOk, IfErr, MatchResult};
-ghost use Rattle.std.specs.List.{position_or_len, list_all};
-ghost use Rattle.std.specs.Char.{is_ascii_digit};
+ghost use Rattle.std.specs.List.{position_or_len};
 ghost use Rattle.bag_text.specs.Declaration.{after_label, are_digits, is_version, Declares, declaration_fault};
 ghost use Rattle.bag_text.specs.declared.declaration.Version.{Version};
 ghost use Rattle.bag_text.specs.declared.declaration.DeclFault.{DeclFault};
 ghost use Rattle.bag_text.specs.DeclarationReading.{declaration_of, version_of, encoding_fault, two_lines_of};
 
 use crate::lines::split_line;
-use crate::text::{has_byte_order_mark, is_text, trim_blanks};
+use crate::text::{has_byte_order_mark, has_digits_alone, is_text, trim_blanks};
 
 /// The version of BagIt that a bag declares.
 #[derive(Clone, Copy, Debug, PartialEq, Eq)]
@@ -52,12 +51,6 @@ fn whole_len(value: &[u8]) -> usize
     ensures { result ≡ position_or_len (λ b. b == 46) value.now }
 {
     value.iter().position(|b| *b == b'.').unwrap_or(value.len())
-}
-
-fn has_digits_alone(text: &[u8]) -> bool
-    ensures { result ≡ list_all is_ascii_digit text.now }
-{
-    text.iter().all(|b| b.is_ascii_digit())
 }
 
 fn is_digits(text: &[u8]) -> bool

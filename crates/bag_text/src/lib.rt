@@ -30,6 +30,6 @@ pub use manifest::read_manifest;
 pub use path::{BagPath, MAX_PATH, PathFault};
 pub use set::{BagSet, read_bagset};
 pub use set_fault::SetFault;
-pub use text::as_text;
+pub use text::{as_text, has_digits_alone};
 pub use transfer::{MAX_CONTENT, MAX_FILES, MAX_FORM};
 pub use write::write_bagset;

@@ -2,6 +2,8 @@
 
 ghost use Rattle.std.specs.Prelude.{◌≡◌, if◌then◌else◌, Some, None, option_copied, List, [], ◌∷◌, length, ℕ};
 ghost use Rattle.bag_text.specs.Text.{is_blank, has_mark, skip_blanks, drop_last_blanks, trim_blanks};
+ghost use Rattle.std.specs.List.{list_all};
+ghost use Rattle.std.specs.Char.{is_ascii_digit};
 ghost use Rattle.std.specs.Str as utf8;
 
 /// Whether a byte is a space or a tab.
@@ -16,6 +18,13 @@ pub fn has_byte_order_mark(text: &[u8]) -> bool
     ensures { result ≡ has_mark text.now }
 {
     text.starts_with(b"\xEF\xBB\xBF")
+}
+
+/// Whether each byte is a digit, 0 to 9.
+pub fn has_digits_alone(text: &[u8]) -> bool
+    ensures { result ≡ list_all is_ascii_digit text.now }
+{
+    text.iter().all(|b| b.is_ascii_digit())
 }
 
 /// Whether the bytes are UTF-8.

@@ -1,8 +1,6 @@
 //! How many bytes follow a head.
 
 ghost use Rattle.std.specs.Prelude.{◌≡◌, ◌≤◌, true, length, None, Some, MatchResult, IfOk};
-ghost use Rattle.std.specs.List.{list_all};
-ghost use Rattle.std.specs.Char.{is_ascii_digit};
 ghost use Rattle.std.specs.Str.Parse.{digits_value};
 ghost use Rattle.desk_heads.specs.Bounds.{max_body};
 ghost use Rattle.desk_heads.specs.Heads.{is_length_text, length_refusal, body_length_of};
@@ -10,6 +8,7 @@ ghost use Rattle.desk_heads.specs.View.{occurrence_seen};
 
 use crate::field::Field;
 use crate::refusal::HeadRefusal;
+use bag_text::has_digits_alone;
 
 /// How many bytes a body has at most.
 pub const MAX_BODY: usize = 16_777_216;
@@ -17,16 +16,10 @@ pub const MAX_BODY: usize = 16_777_216;
 /// How many digits a content length has at most.
 const MAX_LENGTH_DIGITS: usize = 20;
 
-fn all_digits(bytes: &[u8]) -> bool
-    ensures { result ≡ list_all is_ascii_digit bytes.now }
-{
-    bytes.iter().all(|b| b.is_ascii_digit())
-}
-
 fn is_length_text(text: &[u8]) -> bool
     ensures { result ≡ is_length_text text.now }
 {
-    1 <= text.len() && text.len() <= MAX_LENGTH_DIGITS && all_digits(text)
+    1 <= text.len() && text.len() <= MAX_LENGTH_DIGITS && has_digits_alone(text)
 }
 
 /// The number that 1 to 20 digits write.

@@ -6,14 +6,10 @@ ghost use Rattle.std.specs.Char.{is_ascii_digit};
 ghost use Rattle.std.specs.Str.Parse.{digits_value};
 ghost use Rattle.desk_records.specs.RecordReading.{has_length_form, length_of};
 
+use bag_text::has_digits_alone;
+
 /// The most bytes of a request in a record.
 pub const MAX_REQUEST: usize = 16_800_000;
-
-fn all_digits(bytes: &[u8]) -> bool
-    ensures { result ≡ list_all is_ascii_digit bytes.now }
-{
-    bytes.iter().all(|b| b.is_ascii_digit())
-}
 
 /// The number that digits write.
 fn value(digits: &[u8]) -> usize
@@ -33,7 +29,7 @@ fn has_length_form(text: &[u8]) -> bool
 {
     match text {
         [b'0', _, ..] => false,
-        _ => !text.is_empty() && text.len() <= 8 && all_digits(text),
+        _ => !text.is_empty() && text.len() <= 8 && has_digits_alone(text),
     }
 }
 

@@ -1,15 +1,9 @@
 //! Numbers in paths.
 
 ghost use Rattle.std.specs.Prelude.{◌≡◌};
-ghost use Rattle.std.specs.List.{list_all};
-ghost use Rattle.std.specs.Char.{is_ascii_digit};
 ghost use Rattle.desk_routes.specs.PathReading.{is_number, number_of};
 
-fn all_digits(bytes: &[u8]) -> bool
-    ensures { result ≡ list_all is_ascii_digit bytes.now }
-{
-    bytes.iter().all(|b| b.is_ascii_digit())
-}
+use bag_text::has_digits_alone;
 
 fn is_number(text: &[u8]) -> bool
     ensures { result ≡ is_number text.now }
@@ -17,7 +11,7 @@ fn is_number(text: &[u8]) -> bool
     match text {
         [b'0'] => true,
         [b'0', ..] => false,
-        _ => !text.is_empty() && text.len() <= 7 && all_digits(text),
+        _ => !text.is_empty() && text.len() <= 7 && has_digits_alone(text),
     }
 }
 

@@ -3,7 +3,7 @@
 use crate::marks::text_of;
 use bag_text::{
     Algorithm, BagPath, BagSet, Checksum, Listing, MAX_CONTENT, MAX_FILES, MAX_PATH, Version,
-    as_text, read_bag_info, read_bagset, read_declaration, read_manifest, write_bagset,
+    as_text, has_digits_alone, read_bag_info, read_bagset, read_declaration, read_manifest, write_bagset,
 };
 use std::alloc::{AllocError, Global};
 use std::borrow::CowStr;
@@ -36,6 +36,7 @@ fn reads_a_small_bag(rt: HostRuntime) -> Result<(), Fail> {
     assert!(rt; bag.get("data/a") == Some(b"abc".as_slice()));
     assert!(rt; bag.get("data") == None);
     assert!(rt; bag.get("bagit.txt").and_then(as_text) == Some(DECLARATION));
+    assert!(rt; has_digits_alone(b"0199") && !has_digits_alone(b"1.0"));
     // And makes and writes it.
     assert!(rt; form_of(rt.alloc(), bag.files())?.as_str() == form.as_str());
     Ok(())
