@@ -6,7 +6,6 @@ use Rattle.std.specs.Ordering.{nat_cmp, int_eq, is_gt, is_lt}
 use Rattle.std.specs.declared.cmp.Ordering.{Ordering}
 use Rattle.std.specs.declared.cmp.Ordering.TheVariants.{Less, Equal, Greater}
 use Rattle.std.specs.Cmp.Lexicographic.{slice_cmp}
-use Rattle.std.proofs.lemmas.List.Elements.{filter-append}
 use Rattle.std.proofs.lemmas.Option.{slice_get_within}
 use Rattle.jiff.specs.Types.{Date}
 use Rattle.sqlite_keyed.specs.Lists.{sort_by, insert_sorted}
@@ -23,14 +22,12 @@ use Rattle.office_history.specs.Histories.{History, Deposit, deposits, deposit_n
 use Rattle.office_history.specs.Stocks.{files_of}
 use Rattle.office_history.specs.Pictures.{file_row, file_rows}
 use Rattle.office_history.proofs.Pictured.{different}
+use Rattle.office_asking.proofs.FileRows.{file_rows_at, filter_gathered}
 use Rattle.office_asking.proofs.NumberedRows.{alike}
 
 -- ---- which rows are a deposit's
 
 module _ (h : History) (n : ℕ) where
-  abbrev rows_of : ℕ → List FileRow
-  rows_of m = map (file_row m) (files_of h m)
-
   own : (files : List File) → filter (is_file_of (pos n)) (map (file_row n) files) ≡ map (file_row n) files
   own [] = refl
   own (f ∷ files) = λ i. cond (alike n n refl i) (file_row n f ∷ own files i) (own files i)
@@ -39,31 +36,27 @@ module _ (h : History) (n : ℕ) where
   foreign m [] e = refl
   foreign m (f ∷ files) e = λ i. cond (e i) (file_row m f ∷ filter (is_file_of (pos n)) (map (file_row m) files)) (foreign m files e i)
 
-  step : (b : Bool) (m : ℕ) (rest : List ℕ) → filter (is_file_of (pos n)) (flat_map rows_of (cond b (m ∷ rest) rest)) ≡ cond b (filter (is_file_of (pos n)) (rows_of m)) [] ++ filter (is_file_of (pos n)) (flat_map rows_of rest)
-  step true m rest = filter-append (is_file_of (pos n)) (rows_of m) (flat_map rows_of rest)
-  step false m rest = refl
-
   nothing : (b : Bool) (xs : List FileRow) → xs ≡ [] → cond b xs [] ≡ []
   nothing true xs e = e
   nothing false xs e = refl
 
-  behind : (keeps : ℕ → Bool) (len start : ℕ) → n < start → filter (is_file_of (pos n)) (flat_map rows_of (filter keeps (range_with_len start len))) ≡ []
+  behind : (keeps : ℕ → Bool) (len start : ℕ) → n < start → filter (is_file_of (pos n)) (flat_map (file_rows_at h) (filter keeps (range_with_len start len))) ≡ []
   behind keeps zero start low = refl
   behind keeps (suc len) start low =
-      step (keeps start) start (filter keeps (range_with_len (start + 1) len))
-      ∙ (λ i. nothing (keeps start) (filter (is_file_of (pos n)) (rows_of start)) (foreign start (files_of h start) (different start n (λ same. omega (arith, same, low)))) i ++ behind keeps len (start + 1) (omega (arith, low)) i)
+      filter_gathered (is_file_of (pos n)) (file_rows_at h) (keeps start) start (filter keeps (range_with_len (start + 1) len))
+      ∙ (λ i. nothing (keeps start) (filter (is_file_of (pos n)) (file_rows_at h start)) (foreign start (files_of h start) (different start n (λ same. omega (arith, same, low)))) i ++ behind keeps len (start + 1) (omega (arith, low)) i)
 
-  at : (keeps : ℕ → Bool) (len start i : ℕ) → start + i ≡ n → i < len → keeps n ≡ true → filter (is_file_of (pos n)) (flat_map rows_of (filter keeps (range_with_len start len))) ≡ rows_of n
+  at : (keeps : ℕ → Bool) (len start i : ℕ) → start + i ≡ n → i < len → keeps n ≡ true → filter (is_file_of (pos n)) (flat_map (file_rows_at h) (filter keeps (range_with_len start len))) ≡ file_rows_at h n
   at keeps zero start i e low kept = absurd (omega (arith, low))
   at keeps (suc len) start zero e low kept =
       let same : start ≡ n = omega (arith, e) in
-      step (keeps start) start (filter keeps (range_with_len (start + 1) len))
-      ∙ (λ j. cond (keeps (same j)) (filter (is_file_of (pos n)) (rows_of (same j))) [] ++ behind keeps len (start + 1) (omega (arith, same)) j)
+      filter_gathered (is_file_of (pos n)) (file_rows_at h) (keeps start) start (filter keeps (range_with_len (start + 1) len))
+      ∙ (λ j. cond (keeps (same j)) (filter (is_file_of (pos n)) (file_rows_at h (same j))) [] ++ behind keeps len (start + 1) (omega (arith, same)) j)
       ∙ (λ j. cond (kept j) (own (files_of h n) j) [] ++ [])
-      ∙ append-nil (rows_of n)
+      ∙ append-nil (file_rows_at h n)
   at keeps (suc len) start (suc i) e low kept =
-      step (keeps start) start (filter keeps (range_with_len (start + 1) len))
-      ∙ (λ j. nothing (keeps start) (filter (is_file_of (pos n)) (rows_of start)) (foreign start (files_of h start) (different start n (λ same. omega (arith, same, e)))) j ++ at keeps len (start + 1) i (omega (arith, e)) (omega (arith, low)) kept j)
+      filter_gathered (is_file_of (pos n)) (file_rows_at h) (keeps start) start (filter keeps (range_with_len (start + 1) len))
+      ∙ (λ j. nothing (keeps start) (filter (is_file_of (pos n)) (file_rows_at h start)) (foreign start (files_of h start) (different start n (λ same. omega (arith, same, e)))) j ++ at keeps len (start + 1) i (omega (arith, e)) (omega (arith, low)) kept j)
 
 -- the rows of a kept deposit are those of its bag
 pub files_at : (h : History) (n : ℕ) (found : Date × Deposit) → deposit_numbered h n ≡ Some found → destruction_day h n ≡ None → filter (is_file_of (pos n)) (file_rows h) ≡ map (file_row n) found.1.bag

@@ -1,6 +1,6 @@
 -- The rows of all deposits, one after another, and what is gathered of their numbers.
-use Rattle.std.proofs.Common.{◌≡◌, ℕ, zero, suc, ◌+◌, Bool, true, false, ◌&&◌, List, [], ◌∷◌, ◌++◌, length, filter, Option, Some, None, option_map, slice_get, refl, sym, ap, ◌∙◌, arith, cond, append-nil, if◌then◌else◌}
-use Rattle.std.specs.List.{filter_map, range_with_len, cons_option}
+use Rattle.std.proofs.Common.{◌≡◌, ℕ, suc, ◌+◌, Bool, true, false, ◌&&◌, List, [], ◌∷◌, ◌++◌, length, filter, Option, Some, None, option_map, slice_get, refl, sym, ap, ◌∙◌, arith, cond, append-nil, if◌then◌else◌}
+use Rattle.std.specs.List.{filter_map, cons_option}
 use Rattle.std.proofs.lemmas.List.Elements.{filter-append, filter_map-append}
 use Rattle.jiff.specs.Types.{Date}
 use Rattle.office_core.specs.declared.action.Action.TheVariants as acts
@@ -9,7 +9,7 @@ use Rattle.office_history.specs.Lists.{numbers}
 use Rattle.office_history.specs.Histories.{History, Deposit, deposits, deposit_numbered}
 use Rattle.office_history.specs.Pictures.{deposit_row, deposit_rows}
 use Rattle.office_history.proofs.Pictured.{told_at}
-use Rattle.office_asking.proofs.NumberedRows.{rows_from}
+use Rattle.office_asking.proofs.NumberedRows.{rows_from, range_last}
 use Rattle.office_asking.proofs.DepositTold.{deposit_rows_are}
 use Rattle.office_asking.proofs.DepositAsked.{there}
 
@@ -32,12 +32,8 @@ all_rows h rows is = ap length (is ∙ deposit_rows_are h) ∙ rows_count (depos
 
 -- ---- the numbers
 
-range_more : (len start : ℕ) → range_with_len start (suc len) ≡ range_with_len start len ++ (start + len) ∷ []
-range_more zero start = let none : start ≡ start + 0 = omega arith in ap (λ k. k ∷ []) none
-range_more (suc len) start = let one : start + 1 + len ≡ start + suc len = omega arith in ap (λ ks. start ∷ ks) (range_more len (start + 1) ∙ ap (λ k. range_with_len (start + 1) len ++ k ∷ []) one)
-
 one_more : (count : ℕ) → numbers (suc count) ≡ numbers count ++ suc count ∷ []
-one_more count = let one : 1 + count ≡ suc count = omega arith in range_more count 1 ∙ ap (λ k. numbers count ++ k ∷ []) one
+one_more count = let one : 1 + count ≡ suc count = omega arith in range_last 1 count ∙ ap (λ k. numbers count ++ k ∷ []) one
 
 module _ (test : ℕ → Bool) (count : ℕ) where
   passing : filter test (numbers (suc count)) ≡ filter test (numbers count) ++ cond (test (suc count)) (suc count ∷ []) []

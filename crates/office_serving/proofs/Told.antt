@@ -17,11 +17,12 @@ use Rattle.office_rows.specs.Rows.{DepositRow}
 use Rattle.office_history.specs.Histories.{History, Deposit, deposit_numbered, destruction_day}
 use Rattle.office_history.specs.Refusals.{of_deposit, kept_refusals, file_refusals, denial_at, gone_refusal, no_file, refusals, refusal}
 use Rattle.office_history.specs.Answers.{told_of, file_answer, allowed_answer, allowed_change}
+use Rattle.office_history.proofs.PlainLemmas.{one_only}
 use Rattle.office_asking.specs.Pictures.{Pictures}
 use Rattle.office_asking.specs.Serving.{IsServed}
 use Rattle.office_asking.specs.Deposits.{IsFoundRow}
 use Rattle.office_asking.proofs.DepositAsked.{still_kept}
-use Rattle.office_asking.proofs.Serving.{read_serves, refused_serves, one_refusal}
+use Rattle.office_asking.proofs.Serving.{read_serves, refused_serves}
 
 module _ {h : History} (caller : List ℕ) (action : Action) {n : ℕ} {row : DepositRow} (it : IsFoundRow h n (kept_refusals h caller action n) row) where
   -- where nothing is refused, the deposit was not destroyed
@@ -41,7 +42,7 @@ module _ {h : History} (caller : List ℕ) (action : Action) {n : ℕ} {row : De
 -- ---- a file of it
 
 first_of_three : (a b c : Option Refusal) → first_some (a ∷ b ∷ []) ≡ None → c ≡ first_some (a ∷ b ∷ c ∷ [])
-first_of_three None None c e = one_refusal c
+first_of_three None None c e = one_only c
 first_of_three None (Some why) c e = absurd cc
 first_of_three (Some other) b c e = absurd cc
 

@@ -10,7 +10,7 @@ ghost use Rattle.office_history.specs.Histories.{Deposit, deposit_numbered, dest
 ghost use Rattle.office_history.specs.Answers.{file_answer};
 ghost use Rattle.office_asking.specs.Serving.{Finds, Decides};
 
-use crate::texts::text_in;
+use bag_text::as_text;
 use office_asking::kept_deposit;
 use office_core::{Action, Answer, Day, Refusal, Sequence};
 use office_history::laws::sound_bags;
@@ -35,7 +35,7 @@ fn content_of<S: Alter>(
 {
     // A bag that is kept is a bag, so its paths are texts.
     sound_bags();
-    match text_in(path) {
+    match as_text(path) {
         Some(text) => file_of(tx, number, text),
         None => Ok(None),
     }

@@ -3,13 +3,13 @@
 
 mod audits;
 mod bags;
+mod counts;
 mod due_lists;
 mod files;
 mod hold_lists;
 pub mod laws;
 mod lists;
 mod records;
-mod texts;
 
 pub use audits::audit;
 pub use bags::download_bag;

@@ -11,7 +11,7 @@ ghost use Rattle.office_history.specs.Answers.{record_of};
 ghost use Rattle.office_asking.specs.Serving.{Finds, Decides};
 ghost use Rattle.office_serving.specs.Told.{IsRecordOf};
 
-use crate::texts::count_in;
+use crate::counts::count_in;
 use office_asking::{day_numbered, due_day, kept_deposit, text_of_kind};
 use office_core::{Action, Answer, Day, DepositRecord, Due};
 use office_tables::{DepositRow, TableFault};

@@ -22,7 +22,7 @@ returns-in-Some-clause-content g c clean h legal pictured =
     let old = state g.S.Store a.tx.now.conn.now in
     let new = state g.S.Store c.file_of.new.tx.conn.now in
     let text = c.in-Some.text in
-    let same = spelled (is_utf8 a.path.now) text.now a.path.now (ap option_copied (sym c.in-Some.is) ∙ c.text_in.ensures) in
+    let same = spelled (is_utf8 a.path.now) text.now a.path.now (ap option_copied (sym c.in-Some.is) ∙ c.as_text.ensures) in
     both c.file_of.result (λ content stands read. (
       pictured_still h old.now pictured new.now stands,
       λ found there kept. content_read h old.now pictured a.number found there kept text.now _ read ∙ ap (content_at found.1.bag) same,
@@ -31,7 +31,7 @@ returns-in-Some-clause-content g c clean h legal pictured =
 pub returns-in-None-clause-content : goal.returns-in-None-clause-content
 returns-in-None-clause-content g c clean h legal pictured =
     let a = c.args in
-    let bad = unspelled (is_utf8 a.path.now) a.path.now (ap option_copied (sym c.in-None.is) ∙ c.text_in.ensures) in
+    let bad = unspelled (is_utf8 a.path.now) a.path.now (ap option_copied (sym c.in-None.is) ∙ c.as_text.ensures) in
     (pictured, λ found there kept. no_file_there found.1.bag (c.sound_bags.ensures h legal a.number found there).bag.each a.path.now bad)
 
 pub returns-in-Some-clause-goes_on : goal.returns-in-Some-clause-goes_on

@@ -1,8 +1,7 @@
-//! What the texts and numbers of rows stand for. What stands for nothing is of a row that no accepted
-//! change writes, which is a fault of the store.
+//! What the numbers of rows stand for. What stands for nothing is of a row that no accepted change
+//! writes, which is a fault of the store.
 
-ghost use Rattle.std.specs.Prelude.{◌≡◌, if◌then◌else◌, Some, None, Err, IfErr, IfOk, option_copied, pos};
-ghost use Rattle.std.specs.Str.{is_utf8};
+ghost use Rattle.std.specs.Prelude.{◌≡◌, IfErr, IfOk, pos};
 ghost use Rattle.office_tables.specs.Faults.{IsFailure};
 ghost use Rattle.office_tables.specs.declared.fault.TableFault.TheVariants.{Store};
 
@@ -18,11 +17,4 @@ pub fn count_in(number: i64) -> Result<usize, TableFault>
         Ok(count) => Ok(count),
         Err(_) => Err(TableFault::Store),
     }
-}
-
-/// The text that bytes spell, where they are UTF-8.
-pub fn text_in(bytes: &[u8]) -> Option<&str>
-    ensures { option_copied result ≡ (if is_utf8 bytes.now then Some bytes.now else None) }
-{
-    str::from_utf8(bytes).ok()
 }
