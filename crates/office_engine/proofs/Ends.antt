@@ -18,9 +18,9 @@ use Rattle.office_core.specs.declared.request.Request.TheVariants.{Audit}
 use Rattle.office_history.specs.Histories.{History, with_changes}
 use Rattle.office_history.specs.Answers.{change}
 use Rattle.office_history.specs.Runs.{IsLegal, IsFailure, Item, IsItem, serve}
+use Rattle.office_history.proofs.Accepted.{grown_by_none}
 use Rattle.office_asking.specs.Pictures.{Pictures}
 use Rattle.office_asking.specs.Serving.{Decides, IsServed}
-use Rattle.office_asking.proofs.Serving.{grown_none}
 use Rattle.office_serving.specs.Audits.{IsAuditOf}
 use Rattle.office_engine.specs.Keeping.{Audits, CommitsTo, IsKeptBy, IsLeftOf, IsTurn, IsUnchanged, LeavesEither, StaysShut, after_item, is_accepted}
 use Rattle.office_engine.proofs.Accepted.{failure_audits, no_change}
@@ -151,7 +151,7 @@ module _ {S : Type 0} {g : Ghosts S} {first last : Held S} {item : Item} {decide
       none_changed none = no_change h item.0 item.1.now item.2 given served.answer none
 
       still : is_accepted given ≡ false → after_item item h ≡ h
-      still none = ap (with_changes h) (none_changed none) ∙ grown_none h
+      still none = ap (with_changes h) (none_changed none) ∙ sym (grown_by_none h)
 
     -- the change is committed
     turn_changed : IsTrue (is_accepted given) → Shows (state g last) (state g end) (state g last).now (state g last).now false → IsTurn (state g first) (state g end) item given

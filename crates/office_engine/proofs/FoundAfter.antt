@@ -7,7 +7,7 @@ use Rattle.office_core.specs.declared.refusal.Refusal.TheVariants.{Memory, Store
 use Rattle.office_history.specs.Histories.{History, Change}
 use Rattle.office_history.specs.Answers.{change}
 use Rattle.office_history.specs.Runs.{IsFailure, IsLater, Item, Step, Run}
-use Rattle.office_asking.proofs.Serving.{grown_none}
+use Rattle.office_history.proofs.Accepted.{grown_by_none}
 use Rattle.office_engine.specs.Keeping.{IsFoundAfter}
 
 -- an item before it
@@ -33,7 +33,7 @@ changes_or (c ∷ changes) = inr (λ e. absurd (let same = e in cc))
 -- it has what the answers tell of
 pub found_later : (h found : History) (items : List Item) (given : List Answer) → IsFoundAfter h items given found → (told : History) × Run h items given told × IsLater told found
 found_later h found items given after = elim after.is_found [
-  | inl same ↦ (after.told, after.run, ([], same ∙ sym (grown_none after.told)))
+  | inl same ↦ (after.told, after.run, ([], same ∙ grown_by_none after.told))
   | inr adds ↦ (after.told, after.run, (change after.told adds.item.0 adds.item.1.now adds.item.2, adds.added))
 ]
 

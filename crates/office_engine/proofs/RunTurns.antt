@@ -1,6 +1,6 @@
 -- Items of a run in turn.
-use Rattle.std.proofs.Common.{◌≡◌, ◌⊎◌, inl, inr, ◌≤◌, ◌<◌, refl, ℕ, zero, suc, ◌+◌, List, [], ◌∷◌, ◌++◌, take, length, get_or, Result, Ok, Err, OnErr, Bool, true, false, IsTrue, true≢false, subst, sym, ap, ◌∙◌, arith}
-use Rattle.std.proofs.lemmas.List.{take_more}
+use Rattle.std.proofs.Common.{◌≡◌, ◌⊎◌, inl, inr, ◌≤◌, ◌<◌, refl, ℕ, ◌+◌, List, [], ◌∷◌, ◌++◌, take, length, get_or, Result, Ok, Err, OnErr, Bool, true, false, IsTrue, true≢false, subst, sym, ap, ◌∙◌, arith}
+use Rattle.std.proofs.lemmas.List.{take_more, take_all}
 use Rattle.std.proofs.lemmas.List.Elements.{All-nil, All-cons}
 use Rattle.sqlite.specs.Tree.{Trees}
 use Rattle.sqlite.specs.Effect.{Database}
@@ -11,15 +11,9 @@ use Rattle.office_core.specs.declared.answer.Answer.{Answer}
 use Rattle.office_history.specs.Histories.{History, with_changes}
 use Rattle.office_history.specs.Answers.{answer, change}
 use Rattle.office_history.specs.Runs.{IsLegal, IsFailure, Item, Run}
-use Rattle.office_asking.proofs.Serving.{grown_none}
+use Rattle.office_history.proofs.Accepted.{grown_by_none}
 use Rattle.office_engine.specs.Keeping.{AllStayShut, CommitsRun, IsKeptBy, IsLeftOf, IsLeftOfEither, IsLeftOfRun, IsTurn, InTurn, LeavesRun, Runs, after_item}
 use Rattle.office_engine.proofs.FoundAfter.{changes_or, failure_or, found_more}
-
-take_all : (items : List Item) (index : ℕ) → length items ≤ index → take index items ≡ items
-take_all [] zero high = refl
-take_all [] (suc index) high = refl
-take_all (i ∷ items) zero high = absurd (omega (arith, high))
-take_all (i ∷ items) (suc index) high = ap (λ (xs : List Item). i ∷ xs) (take_all items index (omega (arith, high)))
 
 module _ {S : Type 0} (g : Ghosts S) where
   -- ---- the store between two items
@@ -38,7 +32,7 @@ module _ {S : Type 0} (g : Ghosts S) where
       subst (λ (xs : List Item). InTurn g old new xs (told ++ given ∷ [])) (sym longer) (turns_more old mid new (take index items) told item given turns turn)
 
   pub turns_end : (old new : Held S) (items : List Item) (index : ℕ) (told : List Answer) → length items ≤ index → InTurn g old new (take index items) told → InTurn g old new items told
-  turns_end old new items index told high turns = subst (λ (xs : List Item). InTurn g old new xs told) (take_all items index high) turns
+  turns_end old new items index told high turns = subst (λ (xs : List Item). InTurn g old new xs told) (take_all index items high) turns
 
   -- ---- what requests in turn are
 
@@ -120,7 +114,7 @@ module _ {S : Type 0} (g : Ghosts S) where
     left_answered : (IsFailure given → ⊥) → given ≡ answer h item.0 item.1.now item.2 → (state g mid).may_leave left → IsLeftOfEither h (after_item item h) left → IsLeftOfRun h (item ∷ items) (given ∷ told) left
     left_answered answered is may (inr made) = left_told is made
     left_answered answered is may (inl was) = elim (changes_or (change h item.0 item.1.now item.2)) [
-      | inl none ↦ left_told is (subst (λ (x : History). IsLeftOf x left) (sym (ap (with_changes h) none ∙ grown_none h)) was)
+      | inl none ↦ left_told is (subst (λ (x : History). IsLeftOf x left) (grown_by_none h ∙ sym (ap (with_changes h) none)) was)
       | inr some ↦ left_told is (turn.durable h legal keeps answered some left may)
     ]
 
