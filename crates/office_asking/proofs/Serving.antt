@@ -17,9 +17,6 @@ use Rattle.office_history.specs.Answers.{answer_unless, changes_unless, allowed_
 use Rattle.office_asking.specs.Pictures.{Pictures}
 use Rattle.office_asking.specs.Serving.{IsServed}
 
-pub grown_none : (h : History) → with_changes h [] ≡ h
-grown_none h = sym (grown_by_none h)
-
 module _ (h : History) (day : Date) (caller : List ℕ) (request : Request) (db : Database) where
   pub refused_serves : (why : Refusal) → Some why ≡ refusal h day caller request → Pictures h db → IsServed h day caller request (Refused why) db
   refused_serves why e pictured = record {

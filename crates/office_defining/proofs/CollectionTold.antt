@@ -7,8 +7,8 @@ use Rattle.office_rows.specs.Rows.{with_collection, with_new_collection, this_ve
 use Rattle.office_history.specs.Lists.{in_first_places}
 use Rattle.office_history.specs.Histories.{History, Change, DefinedCollection, with_changes, has_collection, collection_in}
 use Rattle.office_history.specs.Pictures.{collection_rows, picture}
+use Rattle.office_history.proofs.Accepted.{grown_by_none}
 use Rattle.office_asking.proofs.Unchanged.{same_classes, same_deposit_rows, same_file_rows, same_hold_rows, pictured_by}
-use Rattle.office_asking.proofs.Serving.{grown_none}
 use Rattle.office_asking.proofs.CollectionTold.{collection_there}
 use Rattle.office_defining.proofs.FirstPlaces.{first_places_last}
 
@@ -35,5 +35,5 @@ module _ (h : History) (day : Date) (name : List ℕ) where
     where
       by : (b : Bool) → has_collection h name ≡ b
           → (if b then picture this_version h else with_new_collection name (picture this_version h)) ≡ picture this_version (with_changes h (if b then [] else defined))
-      by true e = ap (picture this_version) (sym (grown_none h))
+      by true e = ap (picture this_version) (grown_by_none h)
       by false e = new_told e
