@@ -1,5 +1,5 @@
 -- What came of one connection, and of several in turn.
-use Rattle.std.proofs.Common.{◌≡◌, ℕ, List, [], ◌∷◌, ◌++◌, Bool, true, false, cond, ◌+◌, ◌<◌, ◌≤◌, Option, Some, None, IfSome, Result, Ok, Err, OnOk, is_ok, length, take, count_by, length-append, refl, sym, ap, subst, arith}
+use Rattle.std.proofs.Common.{◌≡◌, ℕ, List, [], ◌∷◌, ◌++◌, Bool, true, false, cond, ◌+◌, ◌<◌, ◌≤◌, Option, Some, None, IfSome, Result, Ok, Err, OnOk, is_ok, length, take, count_by, refl, sym, ap, subst, arith}
 use mir.Val.{bool_byte}
 use Rattle.jiff.specs.Types.{Date}
 use Rattle.sqlite.specs.Held.{Held, state}
@@ -34,9 +34,6 @@ told_count (Err _) last connections n tells so_far = let one : one_if (is_answer
 pub small : (b : Bool) → bool_byte b ≤ 1
 small true = omega arith
 small false = omega arith
-
-pub length_more : (connections : List Connection) (last : Connection) → length (connections ++ last ∷ []) ≡ length connections + 1
-length_more connections last = length-append connections (last ∷ [])
 
 -- ---- the bytes of a connection
 

@@ -1,6 +1,7 @@
 use mir.Val.{bool_byte}
 use Rattle.std.proofs.Common.{◌≡◌, ◌+◌, ◌∷◌, ◌++◌, [], ◌∙◌, ap, sym, arith}
-use Rattle.desk_listening.proofs.Connections.{is_run, length_more, one_more, small, told_count}
+use Rattle.std.proofs.lemmas.List.{length_push}
+use Rattle.desk_listening.proofs.Connections.{is_run, one_more, small, told_count}
 use Rattle.desk_listening.proofs.listening.serve_connections.Goals as goal
 
 pub loop-preserved : goal.loop-preserved
@@ -12,7 +13,7 @@ loop-preserved g c =
     record {
       came = (
         came.0 ++ one.0 ∷ [],
-        length_more came.0 one.0 ∙ ap (λ n. n + 1) came.1,
+        length_push came.0 one.0 ∙ ap (λ n. n + 1) came.1,
         counted ∙ ap (λ n. c.loop.answered + n) (sym (added ∙ ap bool_byte c.is_ok.ensures.value)),
         one_more g.S.Store c.args.day came.0 one.0 c.args.office.now c.loop.office c.serve_next-served.new.office came.3 one.1,
       );
