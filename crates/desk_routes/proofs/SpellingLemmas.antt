@@ -1,11 +1,10 @@
 -- A path that has a route is the spelling of that route.
-use Rattle.std.proofs.Common.{◌≡◌, ℕ, ◌==◌, List, [], ◌∷◌, ◌++◌, length, drop, take, Option, Some, None, Bool, true, false, cond, refl, sym, ap, ◌∙◌, subst, arith, nat_eq, codes}
-use Rattle.std.proofs.lemmas.Bool.Decides.{nat_tests}
+use Rattle.std.proofs.Common.{◌≡◌, ℕ, List, [], ◌∷◌, ◌++◌, length, drop, take, Option, Some, None, Bool, true, false, cond, refl, sym, ap, ◌∙◌, subst, arith, nat_eq, codes}
 use Rattle.std.specs.List.{starts_with}
 use Rattle.std.specs.Option.{option_or}
 use Rattle.std.specs.Cmp.Lexicographic.{bytes_decides}
 use Rattle.std.proofs.lemmas.List.{take-append-drop}
-use Rattle.desk_routes.specs.PathReading.{Parts, after, nothing_more, onto, cut, by_part, no_more, last_part, all_of, under_deposit, of_deposit, parts_of, class, collection, deposit, holds_of_deposit, bag, audit, hold, file, deposits, holds, due}
+use Rattle.desk_routes.specs.PathReading.{Parts, after, nothing_more, cut, by_part, no_more, last_part, all_of, under_deposit, of_deposit, parts_of, class, collection, deposit, holds_of_deposit, bag, audit, hold, file, deposits, holds, due}
 use Rattle.desk_routes.proofs.PathLemmas.{CutSays, cut-says}
 use Rattle.desk_routes.proofs.PartSpelling.{path_by_parts, has_slash, IsPart, AreParts, SpellsParts}
 
