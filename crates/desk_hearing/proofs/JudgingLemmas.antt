@@ -1,6 +1,6 @@
 -- What the steps of the code answer, as what is heard.
 use Rattle.std.proofs.Common.{◌≡◌, ◌≢◌, ℕ, inl, inr, List, [], Option, Some, None, Ok, Err, refl, sym, ap, ◌∙◌, subst}
-use Rattle.std.specs.Prelude.{Result, MatchResult, option_and_then}
+use Rattle.std.specs.Prelude.{Result, MatchResult, ok_or, option_and_then}
 use Rattle.desk_forms.specs.Queries.{pairs_of, AsksListing, DescribesDeposit}
 use Rattle.desk_forms.specs.Bodies.{SaysYears, SaysHold}
 use Rattle.desk_forms.specs.declared.body.BodyFault.{BodyFault}
@@ -15,7 +15,7 @@ use Rattle.desk_heads.specs.declared.refusal.HeadRefusal.{HeadRefusal}
 use Rattle.desk_heads.specs.declared.refusal.HeadRefusal.TheVariants as heads
 use Rattle.desk_routes.specs.Places.{PlaceValue, pattern_of}
 use Rattle.desk_routes.specs.PathReading.{place_of}
-use Rattle.desk_routes.specs.Table.{RouteValue, route_of, route_of_place, or_refused}
+use Rattle.desk_routes.specs.Table.{RouteValue, route_of, route_of_place}
 use Rattle.desk_routes.specs.Table as routes
 use Rattle.desk_routes.specs.Targets.{path_part, query_part}
 use Rattle.desk_routes.specs.declared.refusal.DeskRefusal.{DeskRefusal}
@@ -75,7 +75,7 @@ pub asked_route : (contents : HeadContents) (path : List ℕ) (found : Result Ro
 unfolding route_asked
 asked_route contents path found e f = ap (route_of contents.method) (sym e) ∙ f
 
-no_cut_route : (found : Option RouteValue) (refusal other : DeskRefusal) → other ≢ Truncated → or_refused found other ≡ Err refusal → refusal ≢ Truncated
+no_cut_route : (found : Option RouteValue) (refusal other : DeskRefusal) → other ≢ Truncated → ok_or found other ≡ Err refusal → refusal ≢ Truncated
 no_cut_route (Some route) refusal other uncut e = absurd (cc)
 no_cut_route None refusal other uncut e = λ t. uncut (cc)
 

@@ -1,6 +1,6 @@
 -- The table of the routes, read by method and place.
 use Rattle.std.proofs.Common.{◌≡◌, ◌⊎◌, inl, inr, ℕ, zero, suc, List, [], ◌∷◌, Option, Some, None, Ok, Err, Bool, true, false, cond, refl, sym, ap, ◌∙◌, subst, arith, codes}
-use Rattle.std.specs.Prelude.{bytes_eq, option_and_then, Contains, map}
+use Rattle.std.specs.Prelude.{bytes_eq, ok_or, option_and_then, Contains, map}
 use Rattle.std.specs.List.Sorted.{IsStrictlySortedBy}
 use Rattle.std.specs.Cmp.Lexicographic.{slice_cmp, bytes_decides}
 use Rattle.std.specs.Ordering.{nat_cmp}
@@ -13,7 +13,7 @@ use Rattle.desk_routes.specs.declared.refusal.DeskRefusal.TheVariants as refusal
 use Rattle.desk_routes.specs.Routes.{method_text, methods_of}
 use Rattle.desk_routes.specs.Places.{PlaceValue, class, collection, deposits, deposit, holds_of_deposit, bag, file, audit, holds, hold, due, Spells, pattern_of}
 use Rattle.desk_routes.specs.PathReading.{place_of}
-use Rattle.desk_routes.specs.Table.{RouteValue, define_class, define_collection, deposit_bag, list_deposits, record_of, dispose, holds_of, download_bag, download_file, audit_of, place_hold, release, due_list, row, Asks, Refuses, route_at, method_of, or_refused, route_of_place, route_of}
+use Rattle.desk_routes.specs.Table.{RouteValue, define_class, define_collection, deposit_bag, list_deposits, record_of, dispose, holds_of, download_bag, download_file, audit_of, place_hold, release, due_list, row, Asks, Refuses, route_at, method_of, route_of_place, route_of}
 use Rattle.desk_routes.proofs.ReadingLemmas.{spelling-read, reading-spelled}
 
 -- ---- rows
@@ -149,7 +149,7 @@ method-written text method e = by (bytes_eq text (codes "DELETE")) (bytes_eq tex
 
 -- ---- what a method and a path ask for
 
-refused-gives : (found : Option RouteValue) (refusal : DeskRefusal) (route : RouteValue) → or_refused found refusal ≡ Ok route → found ≡ Some route
+refused-gives : (found : Option RouteValue) (refusal : DeskRefusal) (route : RouteValue) → ok_or found refusal ≡ Ok route → found ≡ Some route
 refused-gives None refusal route e = absurd (let z = e in cc)
 refused-gives (Some r) refusal route e = let z = e in cc
 
@@ -163,7 +163,7 @@ pub found-asked : (method path : List ℕ) (route : RouteValue) → route_of met
 found-asked method path route e = by (place_of path) refl e
   where
     by_word : (place : PlaceValue) (word : Option Method) → place_of path ≡ Some place → method_of method ≡ word
-        → or_refused (option_and_then (λ m. route_at m place) word) (refusals.Method (pattern_of place)) ≡ Ok route → Asks method path route
+        → ok_or (option_and_then (λ m. route_at m place) word) (refusals.Method (pattern_of place)) ≡ Ok route → Asks method path route
     by_word place None is w q = absurd (let z = q in cc)
     by_word place (Some m) is w q =
         let r = row-only m place route (refused-gives (route_at m place) _ route q) in
@@ -173,7 +173,7 @@ found-asked method path route e = by (place_of path) refl e
     by None is q = absurd (let z = q in cc)
     by (Some place) is q = by_word place (method_of method) is refl q
 
-no_route : (found : Option RouteValue) (pattern : Pattern) → or_refused found (refusals.Method pattern) ≡ Err refusals.NoRoute → ⊥
+no_route : (found : Option RouteValue) (pattern : Pattern) → ok_or found (refusals.Method pattern) ≡ Err refusals.NoRoute → ⊥
 no_route None pattern e = let z = e in cc
 no_route (Some r) pattern e = let z = e in cc
 
@@ -188,7 +188,7 @@ named-nothing method path h = by (place_of path) refl
     by None is = refl
     by (Some place) is = absurd (h place (reading-spelled path place is))
 
-refused-none : (found : Option RouteValue) (was pattern : Pattern) → or_refused found (refusals.Method was) ≡ Err (refusals.Method pattern) → (found ≡ None) × (was ≡ pattern)
+refused-none : (found : Option RouteValue) (was pattern : Pattern) → ok_or found (refusals.Method was) ≡ Err (refusals.Method pattern) → (found ≡ None) × (was ≡ pattern)
 refused-none None was pattern e = (refl, let z = e in cc)
 refused-none (Some r) was pattern e = absurd (let z = e in cc)
 
@@ -215,10 +215,10 @@ pub refused-method : (method path : List ℕ) (pattern : Pattern) → Refuses me
 refused-method method path pattern (place, spells, same, never) =
     ap (route_of_place method) (spelling-read path place spells) ∙ by_word (method_of method) refl
   where
-    by_route : (m : Method) (found : Option RouteValue) → method_of method ≡ Some m → route_at m place ≡ found → or_refused found (refusals.Method (pattern_of place)) ≡ Err (refusals.Method pattern)
+    by_route : (m : Method) (found : Option RouteValue) → method_of method ≡ Some m → route_at m place ≡ found → ok_or found (refusals.Method (pattern_of place)) ≡ Err (refusals.Method pattern)
     by_route m None w is = ap (λ p. Err (refusals.Method p)) same
     by_route m (Some route) w is = absurd (never m (subst (λ p. Contains (methods_of p) m) same (route-allowed m place route is)) (method-written method m w))
 
-    by_word : (word : Option Method) → method_of method ≡ word → or_refused (option_and_then (λ m. route_at m place) word) (refusals.Method (pattern_of place)) ≡ Err (refusals.Method pattern)
+    by_word : (word : Option Method) → method_of method ≡ word → ok_or (option_and_then (λ m. route_at m place) word) (refusals.Method (pattern_of place)) ≡ Err (refusals.Method pattern)
     by_word None w = ap (λ p. Err (refusals.Method p)) same
     by_word (Some m) w = by_route m (route_at m place) w refl

@@ -1,6 +1,6 @@
 -- The table of the routes: which method on which path asks for what. RFC 9110, section 9, has the methods, and section 15.5.6
 -- has what is refused with the methods that are allowed; the table is Depot's own.
-use Rattle.std.specs.Prelude.{◌≡◌, ◌≢◌, ℕ, List, Contains, codes, bytes_eq, Option, Some, None, option_and_then, Result, Ok, Err, if◌then◌else◌}
+use Rattle.std.specs.Prelude.{◌≡◌, ◌≢◌, ℕ, List, Contains, codes, bytes_eq, Option, Some, None, option_and_then, Result, Err, ok_or, if◌then◌else◌}
 use Rattle.desk_routes.specs.declared.method.Method.{Method}
 use Rattle.desk_routes.specs.declared.method.Method.TheVariants.{Delete, Get, Post, Put}
 use Rattle.desk_routes.specs.declared.pattern.Pattern.{Pattern}
@@ -74,13 +74,9 @@ method_of text =
     else (if bytes_eq text (codes "POST") then Some Post
     else (if bytes_eq text (codes "PUT") then Some Put else None)))
 
-abbrev pub or_refused : Option RouteValue → DeskRefusal → Result RouteValue DeskRefusal
-or_refused (Some route) refusal = Ok route
-or_refused None refusal = Err refusal
-
 abbrev pub route_of_place : List ℕ → Option PlaceValue → Result RouteValue DeskRefusal
 route_of_place method None = Err refusals.NoRoute
-route_of_place method (Some place) = or_refused (option_and_then (λ m. route_at m place) (method_of method)) (refusals.Method (pattern_of place))
+route_of_place method (Some place) = ok_or (option_and_then (λ m. route_at m place) (method_of method)) (refusals.Method (pattern_of place))
 
 -- what a method and a path ask for, or why that is refused: the path names nothing, or its place doesn't take the method
 abbrev pub route_of : List ℕ → List ℕ → Result RouteValue DeskRefusal
