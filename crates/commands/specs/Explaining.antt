@@ -3,7 +3,7 @@ use Rattle.std.specs.Prelude.{◌≡◌, ◌⊎◌, ℕ, Bool, List, [], ◌∷�
 use Rattle.std.specs.List.{list_any}
 use Rattle.fault_words.specs.FaultWords.{policy_words, unlisted_words}
 use Rattle.office_core.specs.FaultTexts.{policy_fault_text}
-use Rattle.office_core.specs.Policies.{Contents, policy_of, role_of}
+use Rattle.office_core.specs.Policies.{PolicyValue, policy_of, role_of}
 use Rattle.office_core.specs.Rules.{Question, decision_of}
 use Rattle.office_core.specs.declared.policy_fault.PolicyFault.{PolicyFault}
 use Rattle.office_core.specs.declared.policy_fault.PolicyFault.TheVariants.{NotToml}
@@ -32,11 +32,11 @@ bad_policy_text fault = codes "policy " ++ policy_fault_text fault ++ 10 ∷ []
 -- ---- what standard error is told, a line with its end
 
 -- the policy lists a caller of this name
-abbrev pub is_listed : Contents → List ℕ → Bool
+abbrev pub is_listed : PolicyValue → List ℕ → Bool
 is_listed policy name = list_any (λ caller. bytes_eq caller.name name) policy.callers
 
 -- that the policy doesn't list the caller, where that is so
-abbrev pub unlisted_line : Contents → List ℕ → Option (List ℕ)
+abbrev pub unlisted_line : PolicyValue → List ℕ → Option (List ℕ)
 unlisted_line policy name = if is_listed policy name then None else Some (unlisted_words name ++ 10 ∷ [])
 
 -- the file's fault in words
@@ -46,7 +46,7 @@ bad_policy_reason fault = policy_words fault ++ 10 ∷ []
 -- ---- the file
 
 -- the bytes are the text of this policy
-pub record Spells (bytes : List ℕ) (policy : Contents) : Type 0 where
+pub record Spells (bytes : List ℕ) (policy : PolicyValue) : Type 0 where
   pub utf8 : IsUtf8 bytes
   pub read : policy_of bytes ≡ Ok policy
 
@@ -57,23 +57,23 @@ HasFault bytes fault = (¬ (IsUtf8 bytes) × (fault ≡ NotToml)) ⊎ (IsUtf8 by
 -- ---- which rule decides
 
 -- what the rules are asked: the role is the one that the policy gives the caller
-abbrev pub question_on : Contents → Asked → Question
+abbrev pub question_on : PolicyValue → Asked → Question
 question_on policy asked =
     record { role = role_of policy asked.caller.now; action = asked.action; collection = asked.collection; class = asked.class }
 
-abbrev pub decision_on : Contents → Asked → Option Decision
+abbrev pub decision_on : PolicyValue → Asked → Option Decision
 decision_on policy asked = decision_of policy.rules (question_on policy asked)
 
 -- the first rule that matches has this number, from 1, and allows
-abbrev pub IsAllowedBy : Contents → Asked → ℕ → Type 0
+abbrev pub IsAllowedBy : PolicyValue → Asked → ℕ → Type 0
 IsAllowedBy policy asked rule = decision_on policy asked ≡ Some (record { rule = rule; effect = Allow })
 
 -- or denies
-abbrev pub IsDeniedBy : Contents → Asked → ℕ → Type 0
+abbrev pub IsDeniedBy : PolicyValue → Asked → ℕ → Type 0
 IsDeniedBy policy asked rule = decision_on policy asked ≡ Some (record { rule = rule; effect = Deny })
 
 -- no rule matches
-abbrev pub IsUndecided : Contents → Asked → Type 0
+abbrev pub IsUndecided : PolicyValue → Asked → Type 0
 IsUndecided policy asked = decision_on policy asked ≡ None
 
 -- ---- what is said
@@ -94,7 +94,7 @@ SaysBadPolicy fault outcome = Prints outcome (bad_policy_text fault) (Some (bad_
 
 -- What is said of a file: the rule that decides, that none does, or the file's fault.
 pub data Explains (bytes : List ℕ) (asked : Asked) (outcome : Outcome) : Type 0 where
-  allowed : (policy : Contents) (rule : ℕ) → Spells bytes policy → IsAllowedBy policy asked rule → Prints outcome (allow_text rule) (unlisted_line policy asked.caller.now) Accepted → Explains bytes asked outcome
-  denied : (policy : Contents) (rule : ℕ) → Spells bytes policy → IsDeniedBy policy asked rule → Prints outcome (deny_text rule) (unlisted_line policy asked.caller.now) Refused → Explains bytes asked outcome
-  by_default : (policy : Contents) → Spells bytes policy → IsUndecided policy asked → Prints outcome default_text (unlisted_line policy asked.caller.now) Refused → Explains bytes asked outcome
+  allowed : (policy : PolicyValue) (rule : ℕ) → Spells bytes policy → IsAllowedBy policy asked rule → Prints outcome (allow_text rule) (unlisted_line policy asked.caller.now) Accepted → Explains bytes asked outcome
+  denied : (policy : PolicyValue) (rule : ℕ) → Spells bytes policy → IsDeniedBy policy asked rule → Prints outcome (deny_text rule) (unlisted_line policy asked.caller.now) Refused → Explains bytes asked outcome
+  by_default : (policy : PolicyValue) → Spells bytes policy → IsUndecided policy asked → Prints outcome default_text (unlisted_line policy asked.caller.now) Refused → Explains bytes asked outcome
   refused : (fault : PolicyFault) → HasFault bytes fault → SaysBadPolicy fault outcome → Explains bytes asked outcome

@@ -1,7 +1,7 @@
 //! What `explain` says of the bytes of a policy file.
 
 ghost use Rattle.std.specs.Prelude.{◌≡◌, ℕ, Option, Some, None, IfOk, IsErr, option_copied, option_map, string_bytes};
-ghost use Rattle.office_core.specs.Policies.{Contents, policy_of};
+ghost use Rattle.office_core.specs.Policies.{PolicyValue, policy_of};
 ghost use Rattle.office_core.specs.Rules.{decision_of, question_of};
 ghost use Rattle.office_core.specs.declared.policy_fault.PolicyFault.{PolicyFault};
 ghost use Rattle.office_core.specs.declared.policy_fault.PolicyFault.TheVariants.{Memory};
@@ -115,7 +115,7 @@ fn fault_outcome(alloc: Global, fault: PolicyFault) -> Result<Outcome, AllocErro
 
 /// What is said of the text of a policy file.
 fn text_outcome(alloc: Global, text: &str, asked: &Asked<'_>) -> Result<Outcome, AllocError>
-    ensures policy { (policy : Contents) → policy_of text.now ≡ Ok policy
+    ensures policy { (policy : PolicyValue) → policy_of text.now ≡ Ok policy
         → IfOk result (SaysDecision (unlisted_line policy asked.now.caller.now)
         (decision_of policy.rules (question_on policy asked.now))) }
     ensures fault { (fault : PolicyFault) → policy_of text.now ≡ Err fault
@@ -149,17 +149,17 @@ pub fn explain_outcome(
 
     // Where the first rule that matches allows, its number is said, from 1. Standard error is told
     // where the policy doesn't list the caller.
-    ensures allowed { (policy : Contents) (rule : ℕ)
+    ensures allowed { (policy : PolicyValue) (rule : ℕ)
         → Spells bytes.now policy → IsAllowedBy policy asked.now rule
         → IfOk result (λ outcome. Prints outcome (allow_text rule)
         (unlisted_line policy asked.now.caller.now) Accepted) }
     // And likewise where it denies.
-    ensures denied { (policy : Contents) (rule : ℕ)
+    ensures denied { (policy : PolicyValue) (rule : ℕ)
         → Spells bytes.now policy → IsDeniedBy policy asked.now rule
         → IfOk result (λ outcome. Prints outcome (deny_text rule)
         (unlisted_line policy asked.now.caller.now) Refused) }
     // Where no rule matches, it is denied by default.
-    ensures by_default { (policy : Contents)
+    ensures by_default { (policy : PolicyValue)
         → Spells bytes.now policy → IsUndecided policy asked.now
         → IfOk result (λ outcome. Prints outcome default_text
         (unlisted_line policy asked.now.caller.now) Refused) }
