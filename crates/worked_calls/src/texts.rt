@@ -3,7 +3,8 @@
 use crate::marks::text_of;
 use bag_text::{
     Algorithm, BagPath, BagSet, Checksum, Listing, MAX_CONTENT, MAX_FILES, MAX_PATH, Version,
-    as_text, has_digits_alone, read_bag_info, read_bagset, read_declaration, read_manifest, write_bagset,
+    as_text, has_digits_alone, read_bag_info, read_bagset, read_declaration, read_manifest,
+    write_bagset,
 };
 use std::alloc::{AllocError, Global};
 use std::borrow::CowStr;
