@@ -2,7 +2,6 @@
 
 use crate::devices::{Given, Torn, prints, ran, words_of};
 use crate::marks::{bytes_of, text_of};
-use bag_text::MAX_FORM;
 use commands::{Asked, Ending, Line, UseFault, explain_outcome, read_line, refuse_words, run};
 use office_core::{Action, Name};
 use std::alloc::Global;
@@ -188,7 +187,7 @@ fn files_are_read_whole(rt: HostRuntime) -> Result<(), Fail> {
     // A policy behind a comment that is longer than any form, and in a file that is named as standard
     // input is elsewhere.
     let policy = bytes_of(rt.alloc(), "{policy}")?;
-    let mut long = vec![in rt.alloc(); b'#'; MAX_FORM + 1]?;
+    let mut long = vec![in rt.alloc(); b'#'; 16_777_217]?;
     long.extend_from_slice(b"\n")?;
     long.extend_from_slice(policy.as_slice())?;
     fs::write(&rt, "-", long.as_slice())?;
