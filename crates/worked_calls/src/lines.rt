@@ -184,9 +184,10 @@ fn files_are_read_whole(rt: HostRuntime) -> Result<(), Fail> {
     )?;
     assert!(rt; is_so);
     fs::remove_file(&rt, "bag-a.bagset")?;
-    // A policy behind 1 MiB of comment, and in a file that is named as standard input is elsewhere.
+    // A policy behind a comment that is longer than any form, and in a file that is named as standard
+    // input is elsewhere.
     let policy = bytes_of(rt.alloc(), "{policy}")?;
-    let mut long = vec![in rt.alloc(); b'#'; 1_048_576]?;
+    let mut long = vec![in rt.alloc(); b'#'; 16_777_217]?;
     long.extend_from_slice(b"\n")?;
     long.extend_from_slice(policy.as_slice())?;
     fs::write(&rt, "-", long.as_slice())?;
