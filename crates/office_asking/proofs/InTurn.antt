@@ -1,10 +1,10 @@
 -- Two calls inside a transaction, one after the other.
 use Rattle.std.proofs.Common.{◌≡◌, refl, sym, subst, ◌∙◌, inl, arith}
 use Rattle.std.specs.Prelude.{Result, OnOk}
+use Rattle.std.proofs.lemmas.Result.{on_ok_weaker}
 use Rattle.sqlite.specs.State.{State, HasCleanDisk}
 use Rattle.sql_meaning.specs.Inside.{Stays, GoesOn}
 use Rattle.sql_meaning.proofs.Inside.{goes_then}
-use Rattle.sql_meaning.proofs.Results.{ok_then}
 use Rattle.office_tables.specs.Tables.{IsOffice}
 
 -- a disk that is clean after a call was clean before it
@@ -18,7 +18,7 @@ module _ (a b c : State) (stays : Stays b c) where
 
   -- what the second call says where it is Ok is said of both
   pub on_after : {E V : Type 0} {P Q : Type 0} (result : Result V E) → (GoesOn a b → P → Q) → (HasCleanDisk b → GoesOn a b) → (HasCleanDisk c → OnOk result P) → HasCleanDisk c → OnOk result Q
-  on_after result next first second clean = ok_then result (next (first (clean_before b c stays clean))) (second clean)
+  on_after result next first second clean = on_ok_weaker result (next (first (clean_before b c stays clean))) (second clean)
 
   -- no row changes
   pub same_twice : (HasCleanDisk b → IsOffice a.now → b.now ≡ a.now) → (HasCleanDisk c → IsOffice b.now → c.now ≡ b.now) → HasCleanDisk c → IsOffice a.now → c.now ≡ a.now

@@ -1,6 +1,6 @@
 -- Lists: longer lists, and what all items are.
 use Rattle.std.proofs.Common.{◌≡◌, ℕ, zero, suc, List, [], ◌∷◌, ◌++◌, Bool, false, not, cond, ◌+◌, ◌≤◌, length, position, nat_lt, arith, Option, Some, None, slice_get, refl, ap, subst, inl, inr, ◌⊎◌}
-use Rattle.std.specs.List.{AllByRecursion, position_or_len, prefix_len}
+use Rattle.std.specs.List.{AllByRecursion, filter_map, cons_option, position_or_len, prefix_len}
 use Rattle.std.proofs.lemmas.Bool.{cases_Bool}
 use Rattle.std.proofs.lemmas.Bool.Decides.{nat_tests}
 use Rattle.std.specs.Option.{option_or}
@@ -21,6 +21,21 @@ all_at P (y ∷ xs) (suc i) x a e = all_at P xs i x a.1 e
 pub all_numbered : {A : Type 0} (P : A → Type 0) (xs : List A) (n : ℕ) (x : A) → AllByRecursion P xs → item_numbered xs n ≡ Some x → P x
 all_numbered P xs zero x a e = absurd cc
 all_numbered P xs (suc place) x a e = all_at P xs place x a e
+
+-- each item is what any item is
+pub each : {A : Type 0} (P : A → Type 0) → ((item : A) → P item) → (items : List A) → AllByRecursion P items
+each P is [] = tt
+each P is (item ∷ items) = (is item, each P is items)
+
+-- what items say is so, where what each of them says is
+pub all_said : {A B : Type 0} (P : A → Type 0) (Q : B → Type 0) (says : A → Option B) → ((item : A) → P item → (b : B) → says item ≡ Some b → Q b)
+    → (items : List A) → AllByRecursion P items → AllByRecursion Q (filter_map says items)
+all_said P Q says so [] all = tt
+all_said {B = B} P Q says so (item ∷ items) all = by (says item) refl (all_said P Q says so items all.1)
+  where
+    by : (o : Option B) → says item ≡ o → AllByRecursion Q (filter_map says items) → AllByRecursion Q (cons_option o (filter_map says items))
+    by None e rest = rest
+    by (Some b) e rest = (so item all.0 b e, rest)
 
 or_front : {B : Type 0} (o p q : Option B) (b : B) → (p ≡ Some b → q ≡ Some b) → option_or o p ≡ Some b → option_or o q ≡ Some b
 or_front (Some c) p q b k e = e

@@ -1,7 +1,7 @@
 -- Each legal history: its limits hold, what is named is there, and its rows are in range.
 use Rattle.std.proofs.Common.{◌≡◌, ◌≤ℤ◌, ℕ, true, List, [], ◌∷◌, Option, Some, None, IsSome, is_some, refl, sym, ap, subst, ◌∙◌, arith}
 use Rattle.std.specs.Prelude.{bytes_eq}
-use Rattle.std.specs.List.{AllByRecursion, filter_map, list_any, cons_option}
+use Rattle.std.specs.List.{AllByRecursion, filter_map, list_any}
 use Rattle.std.specs.Option.{option_or}
 use Rattle.std.proofs.lemmas.List.Elements.{filter_map-append}
 use Rattle.std.proofs.lemmas.List.Folds.{list_any-append}
@@ -19,6 +19,7 @@ use Rattle.office_history.specs.Acceptance.{IsChange, IsDeposit, IsHold, IsThere
 use Rattle.office_history.specs.Runs.{IsLegal, IsWithin}
 use Rattle.office_rows.proofs.Order.{all_append, all_weaker}
 use Rattle.office_history.proofs.HistoryLemmas.{deposit_stays}
+use Rattle.office_history.proofs.ListLemmas.{all_said}
 use Rattle.office_history.proofs.Alike.{some_behind, last_said-append}
 use Rattle.office_history.proofs.Accepted.{IsAccepted, legal_by, deposits_by, holds_by}
 use Rattle.office_history.proofs.PlainLemmas.{within_grown}
@@ -65,14 +66,6 @@ first_ranged says P so (c ∷ cs) all b e = either P (says c) (first_said says c
 last_ranged : {B : Type 0} (says : Change → Option B) (P : B → Type 0) → Says says P → (cs : List Change) → AllByRecursion IsChange cs → (b : B) → last_said says cs ≡ Some b → P b
 last_ranged says P so [] all b e = absurd cc
 last_ranged says P so (c ∷ cs) all b e = either P (last_said says cs) (says c) (last_ranged says P so cs all.1) (so c all.0) b e
-
-all_ranged : {B : Type 0} (says : Change → Option B) (P : B → Type 0) → Says says P → (cs : List Change) → AllByRecursion IsChange cs → AllByRecursion P (filter_map says cs)
-all_ranged says P so [] all = tt
-all_ranged {B = B} says P so (c ∷ cs) all = by (says c) refl (all_ranged says P so cs all.1)
-  where
-    by : (o : Option B) → says c ≡ o → AllByRecursion P (filter_map says cs) → AllByRecursion P (cons_option o (filter_map says cs))
-    by None e rest = rest
-    by (Some b) e rest = (so c all.0 b e, rest)
 
 gone_day : (n : ℕ) → Says (destroyed_in n) IsDay
 gone_day n (Destroyed day m) ranged b e = subst IsDay (cond_some _ day b e).1 ranged
@@ -147,13 +140,13 @@ pub named_classes : (h : History) → IsLegal h → (name : List ℕ) (years : O
 named_classes h legal name = last_ranged (years_in name) (λ years. IsName name × IsYears years) (class_years name) h.changes (ranged_changes h legal)
 
 pub named_collections : (h : History) → IsLegal h → AllByRecursion IsName (filter_map collection_in h.changes)
-named_collections h legal = all_ranged collection_in IsName collection_name h.changes (ranged_changes h legal)
+named_collections h legal = all_said IsChange IsName collection_in collection_name h.changes (ranged_changes h legal)
 
 pub ranged_deposits : (h : History) → IsLegal h → AllByRecursion IsDeposited (deposits h)
-ranged_deposits h legal = all_ranged deposit_in IsDeposited deposited_so h.changes (ranged_changes h legal)
+ranged_deposits h legal = all_said IsChange IsDeposited deposit_in deposited_so h.changes (ranged_changes h legal)
 
 pub ranged_holds : (h : History) → IsLegal h → AllByRecursion IsPlaced (holds h)
-ranged_holds h legal = all_ranged hold_in IsPlaced placed_so h.changes (ranged_changes h legal)
+ranged_holds h legal = all_said IsChange IsPlaced hold_in placed_so h.changes (ranged_changes h legal)
 
 -- ---- what is named is there
 

@@ -1,6 +1,6 @@
 -- The rows of a legal history are in range.
 use Rattle.std.proofs.Common.{◌≡◌, ◌≤◌, ℕ, zero, suc, ◌+◌, ℤ, pos, Bool, true, false, List, [], ◌∷◌, length, map, filter, Option, Some, None, IfSome, IsSome, is_none, is_some, option_map, refl, sym, ap, subst, ◌∙◌, inl, inr, ◌⊎◌, arith, cond}
-use Rattle.std.specs.Prelude.{Contains, bytes_eq, neg_ℤ}
+use Rattle.std.specs.Prelude.{⊤, Contains, bytes_eq, neg_ℤ}
 use Rattle.std.specs.List.{AllByRecursion, filter_map, flat_map, list_any, range_with_len, cons_option}
 use Rattle.std.specs.Option.{option_map_or}
 use Rattle.std.proofs.lemmas.List.{length-map}
@@ -34,7 +34,7 @@ use Rattle.office_history.specs.Pictures.{effect_number, pattern_text, action_pa
 use Rattle.office_history.specs.RowRanges.{AreNumbered, IsPatternText, IsActionText, IsOneTarget, IsCallerRow, IsRuleRow, IsClassRow, IsDepositRow, IsFileRow, IsHoldRow, AreInRange}
 use Rattle.office_history.specs.Runs.{IsLegal}
 use Rattle.office_history.specs.Stocks.{files_of}
-use Rattle.office_history.proofs.ListLemmas.{all_numbered}
+use Rattle.office_history.proofs.ListLemmas.{all_numbered, all_said, each}
 use Rattle.office_rows.proofs.Order.{all_append}
 use Rattle.office_history.proofs.LegalLemmas.{Reads, Judges, HasSoundBag, sound_deposits}
 use Rattle.office_history.proofs.LegalReadings.{legal_policy}
@@ -48,12 +48,7 @@ use Rattle.office_history.proofs.RangeLemmas.{limits_hold, WasClosed, closed_dep
 
 -- of what is told of some items, each is so
 all_told : {A R : Type 0} (P : R → Type 0) (tell : A → Option R) → ((item : A) (row : R) → tell item ≡ Some row → P row) → (items : List A) → AllByRecursion P (filter_map tell items)
-all_told P tell so [] = tt
-all_told {R = R} P tell so (item ∷ items) = by (tell item) refl (all_told P tell so items)
-  where
-    by : (o : Option R) → tell item ≡ o → AllByRecursion P (filter_map tell items) → AllByRecursion P (cons_option o (filter_map tell items))
-    by None e rest = rest
-    by (Some row) e rest = (so item row e, rest)
+all_told {A = A} P tell so items = all_said (λ (_ : A). ⊤) P tell (λ item _. so item) items (each (λ (_ : A). ⊤) (λ _. tt) items)
 
 -- the items have the numbers from 1 on
 item_there : {A : Type 0} (xs : List A) (n : ℕ) → 1 ≤ n → n ≤ length xs → (x : A) × (item_numbered xs n ≡ Some x)

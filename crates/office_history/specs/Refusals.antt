@@ -160,10 +160,13 @@ file_refusals h caller n path d = denial_at h caller acts.Download d ∷ gone_re
 abbrev pub hold_refusals : History → List ℕ → ℕ → Deposit → List (Option Refusal)
 hold_refusals h caller n d = denial_at h caller acts.Hold d ∷ gone_refusal h n ∷ full_of_holds h ∷ []
 
+-- E1 and E2 of a hold of a collection
+abbrev pub collection_denials : History → List ℕ → List ℕ → List (Option Refusal)
+collection_denials h caller name = no_such_collection h name ∷ denial h caller acts.Hold (Some name) None ∷ []
+
 -- a hold of a collection: E1, E2 and E10
 abbrev pub collection_hold_refusals : History → List ℕ → List ℕ → List (Option Refusal)
-collection_hold_refusals h caller name =
-    no_such_collection h name ∷ denial h caller acts.Hold (Some name) None ∷ full_of_holds h ∷ []
+collection_hold_refusals h caller name = collection_denials h caller name ++ full_of_holds h ∷ []
 
 -- a release: E2 and E9
 abbrev pub release_refusals : History → List ℕ → ℕ → Hold → List (Option Refusal)

@@ -8,11 +8,11 @@ use Rattle.office_core.specs.declared.refusal.Refusal.TheVariants.{NoSuch}
 use Rattle.office_core.specs.declared.refusal.Subject.TheVariants as subjects
 use Rattle.office_rows.specs.Rows.{DepositRow}
 use Rattle.office_history.specs.Histories.{History, Deposit, has_collection, deposit_numbered, holds}
-use Rattle.office_history.specs.Refusals.{of_deposit, denial, denial_at, gone_refusal, full_of_holds, kept_refusals, hold_refusals}
+use Rattle.office_history.specs.Refusals.{of_deposit, denial, collection_denials, denial_at, gone_refusal, full_of_holds, kept_refusals, hold_refusals}
 use Rattle.office_asking.specs.Deposits.{IsAsked}
 use Rattle.office_asking.specs.Limits.{IsNumberAfter}
 use Rattle.office_asking.proofs.Serving.{one_refusal}
-use Rattle.office_holding.specs.Holds.{IsPlace, collection_denials}
+use Rattle.office_holding.specs.Holds.{IsPlace}
 
 -- the next number has a place where the office takes one more
 pub next_placed : (h : History) (place : Result ℕ Refusal) → IsNumberAfter (length (holds h)) h.max_holds place → IsPlace h (full_of_holds h ∷ []) place

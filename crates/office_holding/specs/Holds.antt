@@ -1,12 +1,10 @@
 -- What is found where a hold is to be placed, and what the tables are told of what it names.
-use Rattle.std.specs.Prelude.{◌≡◌, ℕ, ◌+◌, List, [], ◌∷◌, length, Option, Some, None, Result, Ok, Err}
+use Rattle.std.specs.Prelude.{◌≡◌, ℕ, ◌+◌, List, length, Option, Some, None, Result, Ok, Err}
 use Rattle.office_core.specs.FirstOf.{first_some}
-use Rattle.office_core.specs.declared.action.Action.TheVariants as acts
 use Rattle.office_core.specs.declared.refusal.Refusal.{Refusal}
 use Rattle.office_tables.specs.declared.holds.HoldTarget.{HoldTarget}
 use Rattle.office_tables.specs.declared.holds.HoldTarget.TheVariants.{Deposit, Collection}
 use Rattle.office_history.specs.Histories.{History, Target, OnDeposit, OnCollection, holds}
-use Rattle.office_history.specs.Refusals.{denial, no_such_collection}
 
 -- this is the number of the next hold
 abbrev pub IsNext : History → ℕ → Type 0
@@ -16,10 +14,6 @@ IsNext h number = number ≡ length (holds h) + 1
 abbrev pub IsPlace : History → List (Option Refusal) → Result ℕ Refusal → Type 0
 IsPlace h these (Ok number) = (None ≡ first_some these) × IsNext h number
 IsPlace h these (Err why) = Some why ≡ first_some these
-
--- E1 and E2 of a hold of a collection
-abbrev pub collection_denials : History → List ℕ → List ℕ → List (Option Refusal)
-collection_denials h caller name = no_such_collection h name ∷ denial h caller acts.Hold (Some name) None ∷ []
 
 -- what a hold is on, as the history says it
 abbrev pub target_of : HoldTarget → Target

@@ -6,9 +6,9 @@ ghost use Rattle.office_core.specs.declared.request.Request.TheVariants as reque
 ghost use Rattle.office_tables.specs.Faults.{IsFailure};
 ghost use Rattle.office_tables.specs.Calls.{CommitsNothing, Continues};
 ghost use Rattle.office_history.specs.Histories.{PlacedHold, deposit_numbered};
-ghost use Rattle.office_history.specs.Refusals.{collection_hold_refusals, full_of_holds, hold_refusals, of_deposit};
+ghost use Rattle.office_history.specs.Refusals.{collection_denials, collection_hold_refusals, full_of_holds, hold_refusals, of_deposit};
 ghost use Rattle.office_asking.specs.Serving.{Accepts, Decides, Finds};
-ghost use Rattle.office_holding.specs.Holds.{IsNext, IsPlace, collection_denials, target_of};
+ghost use Rattle.office_holding.specs.Holds.{IsNext, IsPlace, target_of};
 
 use office_asking::{denial, kept_deposit, number_after};
 use office_core::{Action, Answer, Day, Matter, Name, Refusal, Subject};

@@ -1,4 +1,5 @@
 use Rattle.std.proofs.Common.{rules, ◌≡◌, sym, ◌∙◌, Some, None, option_map}
+use Rattle.std.proofs.lemmas.Result.{IfOk-weaker}
 use Rattle.sqlite.specs.State.{HasCleanDisk}
 use Rattle.sqlite.specs.Held.{state}
 use Rattle.office_history.specs.Histories as histories
@@ -8,7 +9,7 @@ use Rattle.office_asking.proofs.Readings.{pictured_still}
 use Rattle.office_asking.proofs.DepositAsked.{deposit_read, none_there}
 use Rattle.office_asking.proofs.InTurn.{clean_before, goes_twice, same_twice}
 use Rattle.sql_meaning.proofs.Inside.{stays_then}
-use Rattle.sql_meaning.proofs.Results.{if_ok, on_ok}
+use Rattle.sql_meaning.proofs.Results.{on_ok}
 use Rattle.office_asking.proofs.deposits.kept_deposit.Goals as goal
 
 pub returns-in_default-clause-asked : goal.returns-in_default-clause-asked
@@ -34,7 +35,7 @@ returns-clause-asked g c clean h legal pictured =
     let collection : c.deref.result.now ≡ row.collection = search rules in
     let class : c.deref-2.result.now ≡ row.class = search rules in
     let said : c.in_ok-denied.denied ≡ denial h a.caller.now a.action (Some row.collection) (Some row.class) = denied.1 ∙ (λ i. denial h a.caller.now a.action (Some (collection i)) (Some (class i))) in
-    if_ok c.unless_refused.result (λ asked says. (denied.0, says h a.caller.now a.action a.number some said)) c.unless_refused.ensures.asked
+    IfOk-weaker c.unless_refused.result _ _ (λ asked says. (denied.0, says h a.caller.now a.action a.number some said)) c.unless_refused.ensures.asked
 
 pub returns-in_err-denied-clause-stays : goal.returns-in_err-denied-clause-stays
 returns-in_err-denied-clause-stays g c = stays_then (state g.S.Store c.args.tx.now.conn.now) (state g.S.Store c.deposit_row.new.tx.conn.now) (state g.S.Store c.denial.new.tx.conn.now) c.deposit_row.ensures.stays c.in_ok-deposit.ensures.goes_on c.denial.ensures.stays

@@ -1,7 +1,7 @@
 use Rattle.std.proofs.Common.{rules, ◌≡◌, true, false, ◌∙◌}
+use Rattle.std.proofs.lemmas.Result.{IfOk-weaker}
 use Rattle.sqlite.specs.State.{HasCleanDisk}
 use Rattle.sqlite.specs.Held.{state}
-use Rattle.sql_meaning.proofs.Results.{if_ok}
 use Rattle.office_asking.proofs.Readings.{pictured_still}
 use Rattle.office_asking.proofs.CollectionTold.{collection_told}
 use Rattle.office_holding.proofs.HoldPlaces.{not_there, is_there}
@@ -28,7 +28,7 @@ returns-clause-denied g c clean h legal pictured =
     let still = pictured_still h old.now pictured mid.now (c.in_ok-has_collection.ensures.same early pictured.office) in
     let some : true ≡ c.in_ok-has_collection.field-0 = search rules in
     let there = some ∙ c.in_ok-has_collection.ensures.found early pictured.office ∙ collection_told h old.now pictured a.collection.now in
-    if_ok c.denial.result (λ why p. (p.0, is_there h a.caller.now a.collection.now there why p.1)) (c.denial.ensures.denied clean h legal still)
+    IfOk-weaker c.denial.result _ _ (λ why p. (p.0, is_there h a.caller.now a.collection.now there why p.1)) (c.denial.ensures.denied clean h legal still)
 
 pub returns-clause-stays : goal.returns-clause-stays
 returns-clause-stays g c = stays_then (state g.S.Store c.args.tx.now.conn.now) (state g.S.Store c.has_collection.new.tx.conn.now) (state g.S.Store c.denial.new.tx.conn.now) c.has_collection.ensures.stays c.in_ok-has_collection.ensures.goes_on c.denial.ensures.stays

@@ -1,9 +1,9 @@
 use Rattle.std.proofs.Common.{rules, w32, w64, OnOk}
 use mir.Val.{SFits}
 use Rattle.std.proofs.lemmas.Int.{to_z-of_z}
+use Rattle.std.proofs.lemmas.Result.{on_ok_weaker}
 use Rattle.jiff.specs.Words.{epoch_day}
 use Rattle.sqlite.specs.Held.{state}
-use Rattle.sql_meaning.proofs.Results.{ok_then}
 use Rattle.office_rows.specs.Rows.{with_hold}
 use Rattle.office_tables.specs.Tables.{Becomes, tables_of}
 use Rattle.office_holding.proofs.PlacedTold.{placed, put_row}
@@ -18,4 +18,4 @@ returns-clause-placed g c clean h legal pictured next =
     let fits : SFits w64 c.number.result = search rules in
     let put : OnOk c.put_hold.result (Becomes new.now (with_hold (put_row a.number a.target a.matter.now (epoch_day a.day)) (tables_of old.now))) =
     rw (to_z-of_z w32 c.number.result small, to_z-of_z w64 c.number.result fits, c.number.ensures.value) at (c.put_hold.ensures.becomes clean pictured.office) in
-    ok_then c.put_hold.result (placed h legal a.day a.target a.matter.now a.number old.now new.now next pictured) put
+    on_ok_weaker c.put_hold.result (placed h legal a.day a.target a.matter.now a.number old.now new.now next pictured) put

@@ -1,9 +1,9 @@
 use Rattle.std.proofs.Common.{rules, ◌≡◌, ◌∙◌, sym, None}
+use Rattle.std.proofs.lemmas.Result.{IfOk-weaker}
 use Rattle.sqlite.specs.State.{HasCleanDisk}
 use Rattle.sqlite.specs.Held.{state}
-use Rattle.sql_meaning.proofs.Results.{if_ok}
 use Rattle.office_core.specs.FirstOf.{first_some}
-use Rattle.office_holding.specs.Holds.{collection_denials}
+use Rattle.office_history.specs.Refusals.{collection_denials}
 use Rattle.office_holding.proofs.HoldPlaces.{collection_denied, collection_placed}
 use Rattle.office_asking.proofs.InTurn.{clean_before, on_after}
 use Rattle.sql_meaning.proofs.Inside.{stays_then, goes_then}
@@ -22,7 +22,7 @@ returns-clause-found g c clean h legal pictured =
     let early : HasCleanDisk mid = clean_before mid (state g.S.Store c.next_hold.new.tx.conn.now) c.next_hold.ensures.stays clean in
     let asked = c.in_ok-why.ensures.denied early h legal pictured in
     let none : None ≡ first_some (collection_denials h a.caller.now a.collection.now) = search (rules, asked.1) in
-    if_ok c.next_hold.result (λ place p. (p.0, collection_placed h a.caller.now a.collection.now place none p.1)) (c.next_hold.ensures.next clean h legal asked.0)
+    IfOk-weaker c.next_hold.result _ _ (λ place p. (p.0, collection_placed h a.caller.now a.collection.now place none p.1)) (c.next_hold.ensures.next clean h legal asked.0)
 
 pub returns-clause-stays : goal.returns-clause-stays
 returns-clause-stays g c = stays_then (state g.S.Store c.args.tx.now.conn.now) (state g.S.Store c.collection_denial.new.tx.conn.now) (state g.S.Store c.next_hold.new.tx.conn.now) c.collection_denial.ensures.stays c.in_ok-why.ensures.goes_on c.next_hold.ensures.stays

@@ -1,7 +1,7 @@
 use Rattle.std.proofs.Common.{subst}
+use Rattle.std.proofs.lemmas.Result.{IfOk-weaker}
 use Rattle.sqlite.specs.State.{HasCleanDisk}
 use Rattle.sqlite.specs.Held.{state}
-use Rattle.sql_meaning.proofs.Results.{if_ok}
 use Rattle.office_core.specs.declared.action.Action.TheVariants as acts
 use Rattle.office_history.specs.Refusals.{kept_refusals}
 use Rattle.office_asking.specs.Deposits.{IsAsked}
@@ -17,7 +17,7 @@ returns-in-Ok-clause-found g c clean h legal pictured =
     let early : HasCleanDisk mid = clean_before mid (state g.S.Store c.next_hold.new.tx.conn.now) c.next_hold.ensures.stays clean in
     let asked = c.in_ok-kept_deposit.ensures.asked early h legal pictured in
     let kept = subst (IsAsked h a.number (kept_refusals h a.caller.now acts.Hold a.number)) c.in-Ok.is asked.1 in
-    if_ok c.next_hold.result (λ place p. (p.0, deposit_placed h a.caller.now a.number _ place kept p.1)) (c.next_hold.ensures.next clean h legal asked.0)
+    IfOk-weaker c.next_hold.result _ _ (λ place p. (p.0, deposit_placed h a.caller.now a.number _ place kept p.1)) (c.next_hold.ensures.next clean h legal asked.0)
 
 pub returns-clause-found : goal.returns-clause-found
 returns-clause-found g c clean h legal pictured =

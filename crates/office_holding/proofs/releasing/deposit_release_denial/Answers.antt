@@ -1,7 +1,7 @@
 use Rattle.std.proofs.Common.{rules, ◌≡◌, sym, ◌∙◌, Some, option_map}
+use Rattle.std.proofs.lemmas.Result.{IfOk-weaker}
 use Rattle.sqlite.specs.State.{HasCleanDisk}
 use Rattle.sqlite.specs.Held.{state}
-use Rattle.sql_meaning.proofs.Results.{if_ok}
 use Rattle.office_core.specs.declared.action.Action.TheVariants as acts
 use Rattle.office_history.specs.Histories.{deposit_numbered}
 use Rattle.office_history.specs.Pictures.{deposit_row}
@@ -25,7 +25,7 @@ returns-clause-denied g c clean h legal pictured =
     let some : Some row ≡ option_map (deposit_row h a.number) (deposit_numbered h a.number) = sym c.in-Some.is ∙ read in
     let collection : c.deref.result.now ≡ row.collection = search rules in
     let class : c.deref-2.result.now ≡ row.class = search rules in
-    if_ok c.denial.result (λ why p. (p.0, asked_of_deposit h a.caller.now a.number row some why (p.1 ∙ (λ i. denial h a.caller.now acts.Release (Some (collection i)) (Some (class i)))))) (c.denial.ensures.denied clean h legal still)
+    IfOk-weaker c.denial.result _ _ (λ why p. (p.0, asked_of_deposit h a.caller.now a.number row some why (p.1 ∙ (λ i. denial h a.caller.now acts.Release (Some (collection i)) (Some (class i)))))) (c.denial.ensures.denied clean h legal still)
 
 pub returns-clause-stays : goal.returns-clause-stays
 returns-clause-stays g c = stays_then (state g.S.Store c.args.tx.now.conn.now) (state g.S.Store c.deposit_row.new.tx.conn.now) (state g.S.Store c.denial.new.tx.conn.now) c.deposit_row.ensures.stays c.in_ok-deposit.ensures.goes_on c.denial.ensures.stays

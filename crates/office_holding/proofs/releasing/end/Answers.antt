@@ -1,9 +1,9 @@
 use Rattle.std.proofs.Common.{rules, w32, w64, pos, OnOk}
 use mir.Val.{SFits}
 use Rattle.std.proofs.lemmas.Int.{to_z-of_z}
+use Rattle.std.proofs.lemmas.Result.{on_ok_weaker}
 use Rattle.jiff.specs.Words.{epoch_day}
 use Rattle.sqlite.specs.Held.{state}
-use Rattle.sql_meaning.proofs.Results.{ok_then}
 use Rattle.office_rows.specs.Rows.{with_released}
 use Rattle.office_tables.specs.Tables.{Becomes, tables_of}
 use Rattle.office_holding.proofs.ReleasedTold.{released}
@@ -18,4 +18,4 @@ returns-clause-ended g c clean h legal pictured live =
     let fits : SFits w64 c.number.result = search rules in
     let put : OnOk c.end_hold.result (Becomes new.now (with_released (pos a.number) (epoch_day a.day) (tables_of old.now))) =
     rw (to_z-of_z w32 c.number.result small, to_z-of_z w64 c.number.result fits, c.number.ensures.value) at (c.end_hold.ensures.becomes clean pictured.office) in
-    ok_then c.end_hold.result (released h a.day a.number live old.now new.now pictured) put
+    on_ok_weaker c.end_hold.result (released h a.day a.number live old.now new.now pictured) put

@@ -1,4 +1,5 @@
 use Rattle.std.proofs.Common.{rules, ◌≡◌, sym, ◌∙◌, Some, None, option_map}
+use Rattle.std.proofs.lemmas.Result.{IfOk-weaker}
 use Rattle.sqlite.specs.State.{HasCleanDisk}
 use Rattle.sqlite.specs.Held.{state}
 use Rattle.office_tables.specs.ShownHolds as shown
@@ -9,7 +10,7 @@ use Rattle.office_asking.proofs.HoldTold.{hold_read}
 use Rattle.office_holding.proofs.HoldAsked.{no_hold, release_asked}
 use Rattle.office_asking.proofs.InTurn.{clean_before, goes_twice}
 use Rattle.sql_meaning.proofs.Inside.{stays_then}
-use Rattle.sql_meaning.proofs.Results.{if_ok, on_ok}
+use Rattle.sql_meaning.proofs.Results.{on_ok}
 use Rattle.office_holding.proofs.releasing.release_refusal.Goals as goal
 
 pub returns-in_default-clause-refused : goal.returns-in_default-clause-refused
@@ -35,7 +36,7 @@ returns-clause-refused g c clean h legal pictured =
     let target = c.in_ok-target.target in
     let deposit : shown.held_deposit target ≡ row.deposit = search rules in
     let collection : shown.held_collection target ≡ row.collection = search rules in
-    if_ok c.denied_or_released.result (λ why first. (denied.0, release_asked h a.number row some a.caller.now target c.in_ok-denied.denied why deposit collection denied.1 first)) c.denied_or_released.ensures.first
+    IfOk-weaker c.denied_or_released.result _ _ (λ why first. (denied.0, release_asked h a.number row some a.caller.now target c.in_ok-denied.denied why deposit collection denied.1 first)) c.denied_or_released.ensures.first
 
 pub returns-in_err-denied-clause-stays : goal.returns-in_err-denied-clause-stays
 returns-in_err-denied-clause-stays g c = stays_then (state g.S.Store c.args.tx.now.conn.now) (state g.S.Store c.hold_row.new.tx.conn.now) (state g.S.Store c.release_denial.new.tx.conn.now) c.hold_row.ensures.stays c.in_ok-hold.ensures.goes_on c.release_denial.ensures.stays

@@ -1,7 +1,7 @@
 use Rattle.std.proofs.Common.{rules, ◌≡◌, [], ◌∷◌, None, Some, sym, ◌∙◌}
+use Rattle.std.proofs.lemmas.Result.{IfOk-weaker}
 use Rattle.sqlite.specs.State.{HasCleanDisk}
 use Rattle.sqlite.specs.Held.{state}
-use Rattle.sql_meaning.proofs.Results.{if_ok}
 use Rattle.office_core.specs.FirstOf.{first_some}
 use Rattle.office_history.specs.Refusals.{bad_bag, full_of_deposits}
 use Rattle.office_keeping.specs.Depositing.{refusals_before_the_bag}
@@ -25,7 +25,7 @@ returns-clause-asked g c clean h legal pictured =
     let early : HasCleanDisk mid = clean_before mid (state g.S.Store c.numbered_bag.new.tx.conn.now) c.numbered_bag.ensures.stays clean in
     let first = c.in_ok-why.ensures.refusal early h legal pictured in
     let free : None ≡ first_some (refusals_before_the_bag h a.day a.caller.now a.collection.now a.class.now a.accession.now a.closed) = search (rules, first.1) in
-    if_ok c.numbered_bag.result (λ asked p. (p.0, asked_later h a.text.now (refusals_before_the_bag h a.day a.caller.now a.collection.now a.class.now a.accession.now a.closed) (bad_bag a.text.now ∷ full_of_deposits h ∷ []) asked free p.1))
+    IfOk-weaker c.numbered_bag.result _ _ (λ asked p. (p.0, asked_later h a.text.now (refusals_before_the_bag h a.day a.caller.now a.collection.now a.class.now a.accession.now a.closed) (bad_bag a.text.now ∷ full_of_deposits h ∷ []) asked free p.1))
     (c.numbered_bag.ensures.numbered clean h legal first.0)
 
 pub returns-clause-stays : goal.returns-clause-stays

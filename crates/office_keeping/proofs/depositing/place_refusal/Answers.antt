@@ -1,7 +1,7 @@
 use Rattle.std.proofs.Common.{rules, ◌≡◌, true, false, ◌∙◌, is_some}
+use Rattle.std.proofs.lemmas.Result.{IfOk-weaker}
 use Rattle.sqlite.specs.State.{HasCleanDisk}
 use Rattle.sqlite.specs.Held.{state}
-use Rattle.sql_meaning.proofs.Results.{if_ok}
 use Rattle.office_asking.proofs.Readings.{pictured_still}
 use Rattle.office_asking.proofs.DueTold.{years_read_back}
 use Rattle.office_asking.proofs.CollectionTold.{collection_told}
@@ -49,7 +49,7 @@ returns-clause-refusal g c clean h legal pictured =
     let some : true ≡ is_some c.in_ok-class_of.field-0 = search rules in
     let collection = there ∙ c.in_ok-has_collection.ensures.found clean1 pictured.office ∙ collection_told h old.now pictured a.collection.now in
     let class = some ∙ class_there h a.class.now c.in_ok-class_of.field-0 (years_read_back h s1.now p1 a.class.now c.in_ok-class_of.field-0 (c.in_ok-class_of.ensures.found clean2 p1.office)) in
-    if_ok c.denial.result (λ why p. (p.0, both_there h a.caller.now a.collection.now a.class.now collection class why p.1)) (c.denial.ensures.denied clean h legal p2)
+    IfOk-weaker c.denial.result _ _ (λ why p. (p.0, both_there h a.caller.now a.collection.now a.class.now collection class why p.1)) (c.denial.ensures.denied clean h legal p2)
 
 pub returns-in_err-class_of-clause-stays : goal.returns-in_err-class_of-clause-stays
 returns-in_err-class_of-clause-stays g c = stays_then (state g.S.Store c.args.tx.now.conn.now) (state g.S.Store c.has_collection.new.tx.conn.now) (state g.S.Store c.class_of.new.tx.conn.now) c.has_collection.ensures.stays c.in_ok-has_collection.ensures.goes_on c.class_of.ensures.stays

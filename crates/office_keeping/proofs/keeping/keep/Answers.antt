@@ -1,9 +1,9 @@
 use Rattle.std.proofs.Common.{rules, pos, subst, None, OnOk}
+use Rattle.std.proofs.lemmas.Result.{on_ok_weaker}
 use Rattle.office_keeping.specs.Depositing.{with_files}
 use Rattle.sqlite.specs.State.{HasCleanDisk}
 use Rattle.sqlite.specs.Held.{state}
 use Rattle.sql_meaning.proofs.Inside.{stays_then}
-use Rattle.sql_meaning.proofs.Results.{ok_then}
 use Rattle.office_rows.specs.Rows.{with_deposit}
 use Rattle.office_tables.specs.Tables.{Becomes, tables_of}
 use Rattle.office_history.specs.Histories.{Deposit}
@@ -21,7 +21,7 @@ returns-clause-goes_on g c clean =
     let mid = state g.S.Store c.put_deposit.new.tx.conn.now in
     let early : HasCleanDisk mid = clean_before mid (state g.S.Store c.add_files.new.tx.conn.now) c.add_files.ensures.stays clean in
     let p = c.in_ok-put_deposit.ensures.goes_on early in
-    ok_then c.add_files.result (λ s. record { was_open = p.was_open; is_open = s.is_open p.is_open; inside = λ i. s.inside (p.inside i) }) (c.add_files.ensures.goes_on clean)
+    on_ok_weaker c.add_files.result (λ s. record { was_open = p.was_open; is_open = s.is_open p.is_open; inside = λ i. s.inside (p.inside i) }) (c.add_files.ensures.goes_on clean)
 
 pub returns-clause-kept : goal.returns-clause-kept
 returns-clause-kept g c clean h legal pictured next =
@@ -33,7 +33,7 @@ returns-clause-kept g c clean h legal pictured next =
     let d : Deposit = record { collection = a.collection.now; class = a.class.now; accession = a.accession.now; closed = a.closed; bag = a.bag.now } in
     let put = c.in_ok-put_deposit.ensures.becomes early pictured.office in
     let added : Becomes mid.now (with_deposit (row_by_gone a.number None (a.day, d)) (tables_of old.now)) = search (rules, put) in
-    ok_then c.add_files.result (kept_deposit h legal a.day d a.number old.now mid.now new.now next pictured added)
+    on_ok_weaker c.add_files.result (kept_deposit h legal a.day d a.number old.now mid.now new.now next pictured added)
     (subst (λ fs. OnOk c.add_files.result (Becomes new.now (with_files (pos a.number) fs (tables_of mid.now)))) c.files.ensures.whole (c.add_files.ensures.becomes clean added.office))
 
 pub returns-in_err-row_count-clause-stays : goal.returns-in_err-row_count-clause-stays

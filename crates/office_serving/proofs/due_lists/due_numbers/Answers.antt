@@ -1,7 +1,7 @@
 use Rattle.std.proofs.Common.{◌∙◌}
+use Rattle.std.proofs.lemmas.Result.{IfOk-weaker}
 use Rattle.sqlite.specs.State.{HasCleanDisk}
 use Rattle.sqlite.specs.Held.{state}
-use Rattle.sql_meaning.proofs.Results.{if_ok}
 use Rattle.office_asking.proofs.Readings.{in_picture, pictured_still}
 use Rattle.sql_meaning.proofs.Inside.{stays_then}
 use Rattle.office_asking.proofs.InTurn.{clean_before, goes_twice, on_after}
@@ -19,7 +19,7 @@ returns-clause-due g c clean h legal pictured =
     let asked = c.in_ok-asker.ensures.asker clean1 h legal pictured in
     let still = pictured_still h s1.now asked.0 s2.now (c.in_ok-rows.ensures.same clean2 asked.0.office) in
     let rows_are = c.deref.ensures.value ∙ c.in_ok-rows.ensures.found clean2 asked.0.office ∙ in_picture h s1.now asked.0 (λ t. t.deposits) in
-    if_ok c.due_among.result (λ found says. (says.0, says.1 a.caller.now asked.1 rows_are)) (c.due_among.ensures.due clean h legal still)
+    IfOk-weaker c.due_among.result _ _ (λ found says. (says.0, says.1 a.caller.now asked.1 rows_are)) (c.due_among.ensures.due clean h legal still)
 
 pub returns-in_err-rows-clause-stays : goal.returns-in_err-rows-clause-stays
 returns-in_err-rows-clause-stays g c = stays_then (state g.S.Store c.args.tx.now.conn.now) (state g.S.Store c.read.new.tx.conn.now) (state g.S.Store c.deposit_rows.new.tx.conn.now) c.read.ensures.stays c.in_ok-asker.ensures.goes_on c.deposit_rows.ensures.stays

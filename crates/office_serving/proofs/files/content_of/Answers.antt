@@ -1,8 +1,8 @@
 use Rattle.std.proofs.Common.{Result, Ok, Err, OnOk, IfOk, ap, sym, ◌∙◌, option_copied}
 use Rattle.std.specs.Str.{is_utf8}
+use Rattle.std.proofs.lemmas.Result.{on_ok_weaker}
 use Rattle.sqlite.specs.Held.{state}
 use Rattle.sql_meaning.proofs.Inside.{stands_then}
-use Rattle.sql_meaning.proofs.Results.{ok_then}
 use Rattle.bag_text.specs.TransferForm.{content_at}
 use Rattle.office_asking.proofs.InTurn.{stays_still}
 use Rattle.office_asking.proofs.Readings.{pictured_still}
@@ -37,7 +37,7 @@ returns-in-None-clause-content g c clean h legal pictured =
 pub returns-in-Some-clause-goes_on : goal.returns-in-Some-clause-goes_on
 returns-in-Some-clause-goes_on g c clean =
     let old = state g.S.Store c.args.tx.now.conn.now in
-    ok_then c.file_of.result (stands_then old old (state g.S.Store c.file_of.new.tx.conn.now) (stands_still old)) (c.file_of.ensures.goes_on clean)
+    on_ok_weaker c.file_of.result (stands_then old old (state g.S.Store c.file_of.new.tx.conn.now) (stands_still old)) (c.file_of.ensures.goes_on clean)
 
 pub returns-in-None-clause-stays : goal.returns-in-None-clause-stays
 returns-in-None-clause-stays g c = stays_still (state g.S.Store c.args.tx.now.conn.now)

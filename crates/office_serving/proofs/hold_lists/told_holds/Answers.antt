@@ -1,8 +1,8 @@
 use Rattle.std.proofs.Common.{ap, ◌∙◌}
 use Rattle.std.specs.List.{filter_map}
+use Rattle.std.proofs.lemmas.Result.{IfOk-weaker}
 use Rattle.sqlite.specs.State.{HasCleanDisk}
 use Rattle.sqlite.specs.Held.{state}
-use Rattle.sql_meaning.proofs.Results.{if_ok}
 use Rattle.office_history.specs.Answers.{told_hold}
 use Rattle.office_asking.proofs.HoldTold.{live_read}
 use Rattle.office_asking.proofs.Readings.{pictured_still}
@@ -19,7 +19,7 @@ returns-clause-told g c clean h legal pictured =
     let early : HasCleanDisk mid = clean_before mid (state g.S.Store c.told_each.new.tx.conn.now) c.told_each.ensures.stays clean in
     let still = pictured_still h old.now pictured mid.now (c.in_ok-numbers.ensures.same early pictured.office) in
     let ks = c.in_ok-numbers.numbers.items in
-    if_ok c.told_each.result (λ told says. (
+    IfOk-weaker c.told_each.result _ _ (λ told says. (
       says.0,
       λ deposit is.
           says.1 ∙ ap (filter_map (told_hold h)) (c.deref.ensures.value ∙ live_read h old.now pictured a.number a.collection.now ks (c.in_ok-numbers.ensures.found early pictured.office) deposit is),

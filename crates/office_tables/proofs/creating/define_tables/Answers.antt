@@ -1,7 +1,7 @@
-use Rattle.sql_meaning.proofs.Results.{ok_then}
+use Rattle.std.proofs.lemmas.Result.{on_ok_weaker}
 use Rattle.office_tables.specs.Schema.{no_schema, office_schema}
 use Rattle.office_tables.proofs.CreateTexts.{builds_office}
 use Rattle.office_tables.proofs.creating.define_tables.Goals as goal
 
 pub returns-clause-made : goal.returns-clause-made
-returns-clause-made g c clean none = ok_then c.define.result (λ made. made no_schema office_schema builds_office (record { schema_is = none; empty = tt })) (c.define.ensures.made clean)
+returns-clause-made g c clean none = on_ok_weaker c.define.result (λ made. made no_schema office_schema builds_office (record { schema_is = none; empty = tt })) (c.define.ensures.made clean)

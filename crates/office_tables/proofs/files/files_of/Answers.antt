@@ -1,8 +1,8 @@
 use Rattle.std.proofs.Common.{◌≡◌, arith, pos, map, Some, sym, subst}
+use Rattle.std.proofs.lemmas.Result.{IfOk-weaker}
 use Rattle.sqlite.specs.Effect.{Database}
 use Rattle.sqlite.specs.State.{HasCleanDisk}
 use Rattle.sqlite.specs.Held.{state}
-use Rattle.sql_meaning.proofs.Results.{if_ok}
 use Rattle.office_rows.specs.Rows.{file_at}
 use Rattle.office_tables.specs.Tables.{IsOffice, tables_of}
 use Rattle.office_tables.specs.Deposits.{shown_path}
@@ -18,5 +18,5 @@ returns-clause-found g c clean office =
     let found = rw c.deref.ensures.value at (c.files_at.ensures.found clean (subst IsOffice (sym paths.0) office)) in
     let n = pos c.args.number in
     let rows = c.in_ok-rows.rows.items in
-    if_ok c.files_at.result (λ files h. gathers_files old.now office n rows files.items paths.1
+    IfOk-weaker c.files_at.result _ _ (λ files h. gathers_files old.now office n rows files.items paths.1
     (subst (λ (db : Database). map Some files.items ≡ map (λ row. file_at n (shown_path row) (tables_of db).files) rows) paths.0 h.1)) found
