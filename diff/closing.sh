@@ -7,9 +7,10 @@
 # Needs sha256sum and curl. Words: the program, `depot` of the repository if left out.
 set -eu
 top=$(dirname "$(readlink -f "$0")")/..
+. "$top/diff/waits.sh"
 program=${1:-$top/depot}
 folder=$(mktemp -d)
-trap 'rm -rf "$folder"' EXIT
+trap 'kill $(jobs -p) 2>/dev/null || true; rm -rf "$folder"' EXIT
 store=$folder/office.db
 day=2024-03-01
 target='/deposits?collection=maps&class=y0&closed=2024-02-29&accession='
@@ -90,13 +91,10 @@ is_kept 3
 status=0
 limited serve --port 0 --count 1 "$store" "$day" >"$folder/listening" 2>"$folder/err" &
 serving=$!
-while ! grep -q listening "$folder/listening"; do
-    kill -0 "$serving" 2>/dev/null || { echo "no office listens" >&2; exit 1; }
-    sleep 0.05
-done
-curl -sS -i -H 'Depot-Caller: anna' --data-binary "@$small" \
+await "$serving" "$folder/listening" listening
+curl -sS --max-time 60 -i -H 'Depot-Caller: anna' --data-binary "@$small" \
     "http://127.0.0.1:$(sed 's/listening //' "$folder/listening")${target}A-4" >"$folder/out"
-wait "$serving" || status=$?
+ended "$serving" || status=$?
 compare 'HTTP/1.1 201 Created; store Q4; 3' "$status"
 is_kept 4
 

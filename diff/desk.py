@@ -464,7 +464,7 @@ def rows():
 def run_program(policy):
     """Ends where the program doesn't answer each request as its row has it."""
     words = [DEPOT, "replay", "--policy", str(policy), ":memory:"]
-    done = subprocess.run(words, input=b"".join(request for request, _ in rows()), capture_output=True)
+    done = subprocess.run(words, input=b"".join(request for request, _ in rows()), capture_output=True, timeout=60)
     at = 0
     for place, (request, wanted) in enumerate(rows(), 1):
         if not done.stdout.startswith(wanted, at):

@@ -6,6 +6,7 @@
 # repository if left out.
 set -eu
 top=$(dirname "$(readlink -f "$0")")/..
+. "$top/diff/waits.sh"
 program=$(readlink -f "${1:-$top/depot}")
 room=$(mktemp -d)
 serving=
@@ -33,7 +34,7 @@ for block in re.findall(r"^```\n(.*?)^```$", part, re.M | re.S):
 SCRIPT
 }
 
-curl() { command curl -sS -w '\n%{http_code}' "$@"; }
+curl() { command curl -sS --max-time 60 -w '\n%{http_code}' "$@"; }
 
 # Sends what comes, ends its side, and prints what is answered.
 nc() {
@@ -50,10 +51,7 @@ while chunk := peer.recv(65536):
 "$program" policy office.db examples/policy.toml >/dev/null
 "$program" serve --port 0 --count 1000 office.db 2024-03-01 >said &
 serving=$!
-until grep -qs listening said; do
-    kill -0 "$serving" || exit 1
-    sleep 0.1
-done
+await "$serving" said listening
 port=$(sed 's/listening //' said)
 OFFICE=http://127.0.0.1:$port
 

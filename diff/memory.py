@@ -214,9 +214,9 @@ def ask(library, first, last):
     with tempfile.TemporaryDirectory() as room:
         kept, used = pathlib.Path(room, "kept"), pathlib.Path(room, "used")
         kept.mkdir()
-        subprocess.run([DEPOT, "policy", kept / "office.db", POLICY], check=True, capture_output=True)
+        subprocess.run([DEPOT, "policy", kept / "office.db", POLICY], check=True, capture_output=True, timeout=60)
         for text in (request("anna", "PUT /classes/y1", b'{"years":1}'), request("anna", "PUT /collections/maps"), request("anna", deposit % 1, bag)):
-            subprocess.run([DEPOT, "ask", kept / "office.db", day], input=text, check=True, capture_output=True)
+            subprocess.run([DEPOT, "ask", kept / "office.db", day], input=text, check=True, capture_output=True, timeout=60)
 
         def asks(number, text):
             return run(library, number, [DEPOT, "ask", used / "office.db", day], text)

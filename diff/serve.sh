@@ -8,6 +8,7 @@
 # many times it is killed. Takes some minutes.
 set -eu
 top=$(dirname "$(readlink -f "$0")")/..
+. "$top/diff/waits.sh"
 program=${1:-$top/depot}
 kills=${2:-200}
 folder=$(mktemp -d)
@@ -29,7 +30,7 @@ asks() {
     shift 4
     cases+=("$target")
     local said
-    said=$(curl -sS -H "Depot-Caller: $caller" -w '\n%{http_code} %header{allow}' "$@" "$office$target" 2>&1) || true
+    said=$(curl -sS --max-time 60 -H "Depot-Caller: $caller" -w '\n%{http_code} %header{allow}' "$@" "$office$target" 2>&1) || true
     if [ "${said% }" != "$body"$'\n'"$status" ]; then
         echo "$target by $caller: $status $body is wanted, and this came: $said" >&2
         exit 1
@@ -92,20 +93,12 @@ all() {
     asks anna 400 '{"error":"TwoCallers"}' /due -H 'depot-caller: carl'
 }
 
-# Waits until the process has said this word.
-await() {
-    while ! grep -qs "$2" "$folder/said"; do
-        kill -0 "$1" 2>/dev/null || { echo "a process that says '$2' is wanted, and it ended" >&2; exit 1; }
-        sleep 0.05
-    done
-}
-
 # Has so many connections served from a store.
 serve() {
     rm -f "$folder/said"
     "$program" serve --port 0 --count "$1" "$2" "$day" >"$folder/said" &
     serving=$!
-    await "$serving" listening
+    await "$serving" "$folder/said" listening
     office=http://127.0.0.1:$(sed 's/listening //' "$folder/said")
 }
 
@@ -214,7 +207,7 @@ print("reading", flush=True)
 time.sleep(600)
 SCRIPT
     reading=$!
-    await "$reading" reading
+    await "$reading" "$folder/said" reading
 }
 
 "$program" policy "$store" "$policy" >"$folder/installed"
@@ -226,7 +219,7 @@ serve "$count" "$store"
 sqlite3 "$store" 'SELECT count(*) FROM deposit' >"$folder/locked" 2>&1 && { echo "sqlite3 reads a store that is served" >&2; exit 1; }
 grep -q 'database is locked' "$folder/locked" || { cat "$folder/locked" >&2; exit 1; }
 all
-wait "$serving"
+ended "$serving"
 echo "curl: ${#cases[@]} requests answered as worked out"
 
 printf 'PUT /collections/maps HTTP/1.1\r\nDepot-Caller: anna\r\n\r\n' >"$folder/request"
@@ -246,14 +239,14 @@ held=$folder/held/office.db
 for begin in BEGIN 'SELECT 1'; do
     reads "$held" "$begin" 'SELECT version FROM office'
     refused_open "$held"
-    { kill "$reading" && wait "$reading"; } 2>/dev/null || true
+    { kill "$reading" && ended "$reading"; } 2>/dev/null || true
     put ask "$held" >"$folder/out"
     grep -q '{"collection":"maps"}' "$folder/out" || { echo "ask doesn't answer behind the reader" >&2; exit 1; }
 done
 serve 1 "$held"
 refused_open "$held"
 asks anna 200 '{"collection":"maps"}' /collections/maps -X PUT
-wait "$serving"
+ended "$serving"
 echo "open elsewhere: ${#commands[@]} commands refuse a store that SQLite reads, has read or depot serves, and leave it as it was"
 
 python3 "$top/diff/serve_client.py" "$program" "$folder" "$policy" "$kills"

@@ -9,6 +9,7 @@ import hashlib
 import json
 import os
 import random
+import select
 import shutil
 import signal
 import socket
@@ -20,6 +21,8 @@ import tomllib
 
 PROGRAM, FOLDER, POLICY, KILLS = sys.argv[1], sys.argv[2], sys.argv[3], int(sys.argv[4])
 DAY = "2024-03-01"
+# How many seconds a program may take to listen, and to end.
+PATIENCE = 60
 NOTHING_DUE = '{"day":"2024-03-01","deposits":[]}'
 
 # What decides an answer before all has come, how many bytes are sent behind it, and the answer.
@@ -54,6 +57,8 @@ class Office:
         words = [PROGRAM, "serve", "--port", "0", "--count", "1000000", store, DAY]
         self.process = subprocess.Popen(words, stdout=subprocess.PIPE, stderr=subprocess.DEVNULL)
         atexit.register(self.process.kill)
+        said, _, _ = select.select([self.process.stdout], [], [], PATIENCE)
+        assert said, f"an office that listens within {PATIENCE} seconds is wanted"
         line = self.process.stdout.readline().decode()
         assert line.startswith("listening "), line
         self.port = int(line.split()[1])
@@ -66,14 +71,14 @@ class Office:
 
     def kill(self):
         self.process.send_signal(signal.SIGKILL)
-        self.process.wait()
+        self.process.wait(PATIENCE)
         self.process.stdout.close()
 
 
 def made(name):
     """The path of a new office."""
     store = os.path.join(FOLDER, name)
-    subprocess.run([PROGRAM, "policy", store, POLICY], check=True, stdout=subprocess.DEVNULL)
+    subprocess.run([PROGRAM, "policy", store, POLICY], check=True, stdout=subprocess.DEVNULL, timeout=PATIENCE)
     return store
 
 
@@ -409,7 +414,7 @@ def counted(store):
     copy = os.path.join(folder, os.path.basename(store))
     counts = ", ".join(f"(SELECT count(*) FROM {rows})" for rows in COUNTED.values())
     text = f"PRAGMA integrity_check; SELECT {counts};"
-    said = subprocess.run(["sqlite3", "-batch", "-list", copy, text], capture_output=True, text=True)
+    said = subprocess.run(["sqlite3", "-batch", "-list", copy, text], capture_output=True, text=True, timeout=PATIENCE)
     lines = said.stdout.splitlines()
     assert lines[:1] == ["ok"] and len(lines) == 2, said
     return dict(zip(COUNTED, map(int, lines[1].split("|"))))

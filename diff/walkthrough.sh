@@ -1,23 +1,39 @@
 #!/usr/bin/env bash
 # Runs every command of README.md that stands behind `$ ` in a block of ```console, in the order of the
 # page and in one shell, in an empty folder with the examples, and compares what each prints, on both
-# outputs, with the lines below it. A command that ends with `&` has a second to print its lines.
+# outputs, with the lines below it. A command that ends with `&` has a minute to print its lines, and has to
+# be over a minute after the last command. Needs curl and python3.
 set -eu
 top=$(dirname "$(readlink -f "$0")")/..
 room=$(mktemp -d)
-trap 'kill $(jobs -p) 2>/dev/null || true; rm -rf "$room"' EXIT
+trap 'rm -rf "$room"' EXIT
 "$top/depot" check "$top/examples/bag-a.bagset" >/dev/null
 cp -a "$top/examples" "$room/examples"
 ln -s "$top/depot" "$room/depot"
 
 python3 - "$top/README.md" "$room" <<'SCRIPT'
+import os
 import re
+import signal
 import subprocess
 import sys
 from pathlib import Path
 
 page, room = Path(sys.argv[1]).read_text(encoding="utf-8"), sys.argv[2]
 MARK = "--- end of command ---"
+# How many seconds all commands together may take.
+PATIENCE = 600
+# Waits until a command in the background has printed so many lines, and prints them.
+BEGUN = """begun() {
+    local end=$((SECONDS + 60))
+    until [ "$(wc -l <"$1")" -ge "$2" ] || [ "$SECONDS" -ge "$end" ]; do sleep 0.05; done
+    cat "$1"
+}"""
+# Waits until no command runs in the background, and lists those that still do.
+OVER = """end=$((SECONDS + 60))
+while [ -n "$(jobs -r)" ] && [ "$SECONDS" -lt "$end" ]; do sleep 0.05; done
+jobs -r"""
+
 commands = []
 for block in re.findall(r"^ *```console\n(.*?)^ *```$", page, re.M | re.S):
     for line in block.splitlines():
@@ -29,19 +45,37 @@ for block in re.findall(r"^ *```console\n(.*?)^ *```$", page, re.M | re.S):
         else:
             commands[-1][1].append(line)
 
-shell = []
-for command, _ in commands:
-    shell.append(command + ("\nsleep 1" if command.endswith("&") else ""))
-    shell.append(f"echo '{MARK}'")
-done = subprocess.run(
-    ["bash"], input="\n".join(shell) + "\n", cwd=room, stdout=subprocess.PIPE, stderr=subprocess.STDOUT, text=True
+lines = [BEGUN]
+for number, (command, wanted) in enumerate(commands):
+    if command.endswith("&"):
+        # What it prints goes to a file, so that nothing waits for its end to read it.
+        said = f"{room}/said-{number}"
+        command = f"{{ {command}\n}} >{said} 2>&1\nbegun {said} {len(wanted)}"
+    lines += [command, f"echo '{MARK}'"]
+lines.append(OVER)
+
+shell = subprocess.Popen(
+    ["bash"], stdin=subprocess.PIPE, stdout=subprocess.PIPE, stderr=subprocess.STDOUT, cwd=room, text=True, start_new_session=True
 )
-printed = [part.strip("\n").replace("\r", "") for part in done.stdout.split(MARK + "\n")]
-if len(printed) != len(commands) + 1:
-    sys.exit(f"{len(commands)} commands are wanted, and the shell ended behind {len(printed) - 1}")
+try:
+    found, _ = shell.communicate("\n".join(lines) + "\n", timeout=PATIENCE)
+except subprocess.TimeoutExpired:
+    os.killpg(shell.pid, signal.SIGKILL)
+    ended = shell.communicate()[0].count(MARK)
+    sys.exit(f"$ {commands[ended][0]}\nhadn't ended {PATIENCE} seconds after the first command began")
+try:
+    os.killpg(shell.pid, signal.SIGKILL)
+except ProcessLookupError:
+    pass
+
+*printed, left = [part.strip("\n").replace("\r", "") for part in found.split(MARK + "\n")]
+if len(printed) != len(commands):
+    sys.exit(f"{len(commands)} commands are wanted, and the shell ended after {len(printed)}: {left}")
 for (command, wanted), found in zip(commands, printed):
-    lines = [line.strip() for line in found.splitlines()]
-    if [line for line in lines if line] != [line for line in wanted if line]:
+    said = [line.strip() for line in found.splitlines()]
+    if [line for line in said if line] != [line for line in wanted if line]:
         sys.exit(f"$ {command}\nprinted\n{found}\nand the page has\n" + "\n".join(wanted))
+if left:
+    sys.exit(f"a minute after the last command this went on: {left}")
 print(f"{len(commands)} commands of README.md print what the page says")
 SCRIPT
