@@ -1,11 +1,11 @@
 #!/usr/bin/env bash
 # Has the proved program `office_file` put 100 requests by each of 100 seeds to an office over
 # tables in memory and to the plain office, which has to give the same answers. Words: the first seed and the last, 1 and
-# 100 if left out. Proves and builds the program where it is missing, or older than a source.
+# 100 if left out. Proves and builds the program where it is missing, or its sources have changed.
 set -eu
 top=$(dirname "$(readlink -f "$0")")/..
 . "$top/diff/built.sh"
-built office_file write /dev/null/none
+built office_file draw 1 1
 first=${1:-1}
 last=${2:-100}
 accepted=0

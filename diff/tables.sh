@@ -3,11 +3,11 @@
 # `sqlite3` command finds there with what it has to be: each row with `rows.txt`, the texts of the
 # tables with `schema.sql`; and `sqlite3` makes its own tests of the file.
 # Needs sqlite3 (Debian: apt-get install sqlite3); proves and builds the program where it is missing,
-# or older than a source.
+# or its sources have changed.
 set -eu
 top=$(dirname "$(readlink -f "$0")")/..
 . "$top/diff/built.sh"
-built office_file write /dev/null/none
+built office_file draw 1 1
 folder=$(mktemp -d)
 trap 'rm -rf "$folder"' EXIT
 file=$folder/office.db
