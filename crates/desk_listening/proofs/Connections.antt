@@ -1,5 +1,5 @@
 -- What came of one connection, and of several in turn.
-use Rattle.std.proofs.Common.{◌≡◌, ℕ, List, [], ◌∷◌, ◌++◌, Bool, true, false, cond, ◌+◌, ◌<◌, ◌≤◌, Option, Some, None, IfSome, Result, Ok, Err, OnOk, is_ok, length, take, count_by, refl, sym, ap, subst, arith}
+use Rattle.std.proofs.Common.{◌≡◌, ℕ, List, [], ◌∷◌, ◌++◌, Bool, true, false, cond, ◌+◌, ◌<◌, ◌≤◌, Option, Some, None, IfOk, IfSome, Result, Ok, Err, OnErr, OnOk, ◌⊎◌, inl, inr, length, take, count_by, refl, sym, ◌∙◌, ap, subst, append-nil, arith}
 use mir.Val.{bool_byte}
 use Rattle.jiff.specs.Types.{Date}
 use Rattle.sqlite.specs.Held.{Held, state}
@@ -11,12 +11,22 @@ use Rattle.office_engine.specs.Keeping.{IsKeptBy, Runs, Serves}
 use Rattle.std.proofs.lemmas.List.Sums.{sum_by-append}
 use Rattle.std.proofs.lemmas.Option.{IfSome_then}
 use Rattle.std.specs.Io.KnownBytes.{Appends, Consumes, IsAtEnd}
+use Rattle.desk_devices.specs.declared.counted.Counted.{Counted}
 use Rattle.desk_routes.specs.declared.refusal.DeskRefusal.TheVariants.{Truncated}
+use Rattle.desk_answers.specs.Answers.{answer_text, refusal_text}
+use Rattle.desk_answers.specs.Bodies.{content_of, status_of}
+use Rattle.desk_answers.specs.DeskRefusals.{allow_line, desk_data, desk_status}
+use Rattle.desk_answers.specs.Responses.{Content, json, response_text}
+use Rattle.desk_answers.specs.declared.status.Status.{Status}
 use Rattle.desk_hearing.specs.Hearing.{Hears}
 use Rattle.http_desk.specs.declared.serving.DeskFault.{DeskFault}
 use Rattle.http_desk.specs.declared.serving.DeskFault.TheVariants.{Read, Write, Memory}
 use Rattle.http_desk.specs.Serving.{IsAnswered, ServesBytes}
 use Rattle.desk_listening.specs.Listening.{Connection, served, refused, lost, IsAfter, IsAfterAll, IsOf, IsRun, Tells, answers_of, is_answered, is_served, items_of}
+use Rattle.desk_listening.specs.Accepting.{Takes, TakesAll}
+use Rattle.desk_listening.specs.Peers.{Begins, IsWritten}
+use Rattle.desk_listening.specs.declared.draining.Drained.{Drained}
+use Rattle.desk_listening.specs.declared.listener.Listener.{Ghosts as Listeners}
 
 -- ---- how many were answered
 
@@ -26,14 +36,31 @@ one_if b = cond b 1 0
 count_more : (connections : List Connection) (last : Connection) → count_by is_answered (connections ++ last ∷ []) ≡ count_by is_answered connections + one_if (is_answered last)
 count_more connections last = let both = sum_by-append (λ x. one_if (is_answered x)) connections (last ∷ []) in omega (arith, both)
 
-pub told_count : {T : Type 0} (result : Result T DeskFault) (last : Connection) (connections : List Connection) (n : ℕ)
-    → Tells result last → count_by is_answered connections ≡ n → count_by is_answered (connections ++ last ∷ []) ≡ n + bool_byte (is_ok result)
-told_count (Ok _) last connections n tells so_far = let one : one_if (is_answered last) ≡ one_if true = ap one_if tells in omega (arith, count_more connections last, so_far, one)
-told_count (Err _) last connections n tells so_far = let one : one_if (is_answered last) ≡ one_if false = ap one_if tells.0 in omega (arith, count_more connections last, so_far, one)
+one_if_is : (b : Bool) → one_if b ≡ bool_byte b
+one_if_is true = refl
+one_if_is false = refl
+
+pub counted : (connections : List Connection) (last : Connection) (n : ℕ) (whole : Bool) → is_answered last ≡ whole → count_by is_answered connections ≡ n
+    → count_by is_answered (connections ++ last ∷ []) ≡ n + bool_byte whole
+counted connections last n whole is so_far =
+    let one : one_if (is_answered last) ≡ bool_byte whole = ap one_if is ∙ one_if_is whole in omega (arith, count_more connections last, so_far, one)
 
 pub small : (b : Bool) → bool_byte b ≤ 1
 small true = omega arith
 small false = omega arith
+
+-- ---- how a peer is left
+
+pub left_so : {E A C D : Type 0} (B : Drained → Type 0) (result : Result Drained E) → OnOk result A → IfOk result B → OnErr result C → OnErr result D → ((drained : Drained) × A × B drained) ⊎ (C × D)
+left_so B (Ok drained) shut dropped failed kept = inl (drained, shut, dropped)
+left_so B (Err e) shut dropped failed kept = inr (failed, kept)
+
+-- ---- one more connection is taken
+
+pub takes_more : {L P : Type 0} (l : Listeners L P) (Treats : P → Connection → P → Type 0) (connections : List Connection) (last : Connection) (old mid new : L)
+    → TakesAll l Treats connections old mid → Takes l Treats last mid new → TakesAll l Treats (connections ++ last ∷ []) old new
+takes_more l Treats [] last old mid new none it = (new, subst (λ (x : _). Takes l Treats last x new) none it, refl)
+takes_more l Treats (connection ∷ more) last old mid new all it = (all.0, all.1, takes_more l Treats more last all.0 mid new all.2 it)
 
 -- ---- the bytes of a connection
 
@@ -49,76 +76,112 @@ of_lost : (all : Option (List ℕ)) → IfSome all (λ input. IsOf input lost)
 of_lost None = tt
 of_lost (Some input) = tt
 
+-- ---- what is written
+
+-- each response begins with the version of HTTP
+started : (status : Status) (allow : List ℕ) (content : Content) → 0 < length (response_text status allow content)
+started status allow content = omega arith
+
+unbegun : (held : Option (List ℕ)) (text : List ℕ) → 0 < length text → Begins held held text
+unbegun None text some = (0, some, tt)
+unbegun (Some xs) text some = (0, some, sym (append-nil xs))
+
+-- a writer that wasn't called has written a beginning of each text: nothing
+uncalled : {W : Type 0} (contents : W → Option (List ℕ)) (writer writer' : Counted W) (text : List ℕ) → writer' ≡ writer → 0 < length text
+    → Begins (contents writer.device) (contents writer'.device) text
+uncalled contents writer writer' text same some = subst (λ (x : Counted _). Begins (contents writer.device) (contents x.device) text) (sym same) (unbegun (contents writer.device) text some)
+
+no_answer : {W : Type 0} (contents : W → Option (List ℕ)) (writer writer' : Counted W) (answer : Answer) → writer' ≡ writer
+    → Begins (contents writer.device) (contents writer'.device) (answer_text answer)
+no_answer contents writer writer' answer same = uncalled contents writer writer' (answer_text answer) same (started (status_of answer) [] (content_of answer))
+
+no_refusal : {W : Type 0} (contents : W → Option (List ℕ)) (writer writer' : Counted W) → writer' ≡ writer → IsWritten lost (contents writer.device) (contents writer'.device)
+no_refusal contents writer writer' same =
+    (Truncated, uncalled contents writer writer' (refusal_text Truncated) same (started (desk_status Truncated) (allow_line Truncated) (json (desk_data Truncated))))
+
 module _ {S : Type 0} (g : Ghosts S) (day : Date) where
   -- ---- one connection, of which this is told
 
-  abbrev pub CameOf : Held S → Held S → List ℕ → Bool → Bool → Type 0
-  CameOf old new bytes answered done =
-      (connection : Connection) × IsAfter g day connection old new × (is_answered connection ≡ answered) × (is_served connection ≡ done) × IsOf bytes connection
+  record Came (old new : Held S) (held holds : Option (List ℕ)) (bytes : List ℕ) (whole done : Bool) : Type 0 where
+    connection : Connection
+    after : IsAfter g day connection old new
+    whole_is : is_answered connection ≡ whole
+    done_is : is_served connection ≡ done
+    heard : IsOf bytes connection
+    written : IsWritten connection held holds
 
-  nothing : (old new : Held S) (bytes : List ℕ) → new ≡ old → CameOf old new bytes false false
-  nothing old new bytes same = (lost, same, refl, refl, tt)
+  nothing : (old new : Held S) (held holds : Option (List ℕ)) (bytes : List ℕ) → new ≡ old → IsWritten lost held holds → Came old new held holds bytes false false
+  nothing old new held holds bytes same written = record { connection = lost; after = same; whole_is = refl; done_is = refl; heard = tt; written = written }
 
-  by_office : (old new : Held S) (whole : Bool) (bytes : List ℕ) (answer : Answer) → ServesBytes day bytes (state g old) (state g new) answer → CameOf old new bytes whole true
-  by_office old new whole bytes answer it = (served bytes it.2.item answer whole, (it.0, it.1, it.2, refl), refl, refl, refl)
+  by_office : (old new : Held S) (held holds : Option (List ℕ)) (whole : Bool) (bytes : List ℕ) (answer : Answer) (it : ServesBytes day bytes (state g old) (state g new) answer)
+      → IsWritten (served bytes it.2.item answer whole) held holds → Came old new held holds bytes whole true
+  by_office old new held holds whole bytes answer it written =
+      record { connection = served bytes it.2.item answer whole; after = (it.0, it.1, it.2, refl); whole_is = refl; done_is = refl; heard = refl; written = written }
 
-  whole : (old new : Held S) (done : Bool) (bytes text : List ℕ) → IsAnswered g done day bytes old new text → CameOf old new bytes true done
-  whole old new true bytes text it = by_office old new true bytes it.0 it.1
-  whole old new false bytes text it = (refused bytes it.0, (it.1, it.2), refl, refl, refl)
+  whole : (old new : Held S) (held holds : Option (List ℕ)) (done : Bool) (bytes text : List ℕ) → IsAnswered g done day bytes old new text → Appends held holds text → Came old new held holds bytes true done
+  whole old new held holds true bytes text it appends = by_office old new held holds true bytes it.0 it.1 (subst (Appends held holds) it.2 appends)
+  whole old new held holds false bytes text it appends =
+      record { connection = refused bytes it.0; after = (it.1, it.2); whole_is = refl; done_is = refl; heard = refl; written = subst (Appends held holds) it.3 appends }
 
-  cut : (old new : Held S) (done : Bool) (bytes text : List ℕ) → IsAnswered g done day bytes old new text → CameOf old new bytes false done
-  cut old new true bytes text it = by_office old new false bytes it.0 it.1
-  cut old new false bytes text it = nothing old new bytes it.2
+  cut : (old new : Held S) (held holds : Option (List ℕ)) (done : Bool) (bytes text : List ℕ) → IsAnswered g done day bytes old new text → Begins held holds text → Came old new held holds bytes false done
+  cut old new held holds true bytes text it begins = by_office old new held holds false bytes it.0 it.1 (subst (Begins held holds) it.2 begins)
+  cut old new held holds false bytes text it begins = nothing old new held holds bytes it.2 (it.0, subst (Begins held holds) it.3 begins)
 
   -- ---- what is told of it
 
-  module _ (old new : Held S) (reader reader' writer writer' : Option (List ℕ)) (failed failed' unwritten : Type 0) where
-    abbrev pub Told : {T : Type 0} → Result T DeskFault → Type 0
-    Told result = (connection : Connection) × IsAfter g day connection old new × Tells result connection × IfSome reader (λ input. IsOf input connection)
+  module _ {W : Type 0} (contents : W → Option (List ℕ)) (old new : Held S) (reader reader' : Option (List ℕ)) (writer writer' : Counted W) (failed failed' : Type 0) where
+    pub record Told {T : Type 0} (result : Result T DeskFault) : Type 0 where
+      pub connection : Connection
+      pub after : IsAfter g day connection old new
+      pub tells : Tells result connection
+      pub heard : IfSome reader (λ input. IsOf input connection)
+      pub written : IsWritten connection (contents writer.device) (contents writer'.device)
 
     -- what was answered, and written of it, over some bytes
     abbrev pub Written : List ℕ → Type 0
-    Written bytes = (text : List ℕ) × (done : Bool) × IsAnswered g done day bytes old new text × Appends writer writer' text
+    Written bytes = (text : List ℕ) × (done : Bool) × IsAnswered g done day bytes old new text × Appends (contents writer.device) (contents writer'.device) text
 
     abbrev pub Begun : Bool → List ℕ → Type 0
-    Begun done bytes = (text : List ℕ) × (count : ℕ) × IsAnswered g done day bytes old new text × (count < length text) × Appends writer writer' (take count text)
+    Begun done bytes = (text : List ℕ) × (count : ℕ) × IsAnswered g done day bytes old new text × (count < length text) × Appends (contents writer.device) (contents writer'.device) (take count text)
 
     abbrev pub Unwritten : List ℕ → Type 0
     Unwritten bytes = (answer : Answer) × ServesBytes day bytes (state g old) (state g new) answer
 
     abbrev pub Answers : Type 0
-    Answers = (given text : List ℕ) × (done : Bool) × Consumes reader reader' given × IsAnswered g done day given old new text × Appends writer writer' text
+    Answers = (given text : List ℕ) × (done : Bool) × Consumes reader reader' given × IsAnswered g done day given old new text × Appends (contents writer.device) (contents writer'.device) text
         × (Hears given (Err Truncated) → IsAtEnd reader')
 
-    abbrev pub Reads : Type 0
-    Reads = (given : List ℕ) × Consumes reader reader' given × Hears given (Err Truncated) × failed × (new ≡ old) × unwritten
+    abbrev pub Fails : Type 0
+    Fails = (given : List ℕ) × Consumes reader reader' given × Hears given (Err Truncated) × failed × (new ≡ old) × (writer' ≡ writer)
 
-    abbrev pub Writes : Bool → Type 0
-    Writes done = (given text : List ℕ) × (count : ℕ) × Consumes reader reader' given × IsAnswered g done day given old new text × (count < length text)
-        × Appends writer writer' (take count text) × failed' × (Hears given (Err Truncated) → IsAtEnd reader')
+    abbrev pub Stops : Bool → Type 0
+    Stops done = (given text : List ℕ) × (count : ℕ) × Consumes reader reader' given × IsAnswered g done day given old new text × (count < length text)
+        × Appends (contents writer.device) (contents writer'.device) (take count text) × failed' × (Hears given (Err Truncated) → IsAtEnd reader')
 
     abbrev pub Wants : Type 0
-    Wants = (given : List ℕ) × (answer : Answer) × Consumes reader reader' given × ServesBytes day given (state g old) (state g new) answer × unwritten
+    Wants = (given : List ℕ) × (answer : Answer) × Consumes reader reader' given × ServesBytes day given (state g old) (state g new) answer × (writer' ≡ writer)
 
-    pub told : {T : Type 0} (result : Result T DeskFault) → OnOk result Answers → (result ≡ Err Read → Reads) → ((done : Bool) → result ≡ Err (Write done) → Writes done)
-        → (result ≡ Err (Memory true) → Wants) → (result ≡ Err (Memory false) → (new ≡ old) × unwritten)
+    pub told : {T : Type 0} (result : Result T DeskFault) → OnOk result Answers → (result ≡ Err Read → Fails) → ((done : Bool) → result ≡ Err (Write done) → Stops done)
+        → (result ≡ Err (Memory true) → Wants) → (result ≡ Err (Memory false) → (new ≡ old) × (writer' ≡ writer))
         → OnOk result (IfSome reader Written) → ((done : Bool) → result ≡ Err (Write done) → IfSome reader (Begun done)) → (result ≡ Err (Memory true) → IfSome reader Unwritten) → Told result
-    told (Ok _) answers reads writes wants none whole_written whole_begun whole_unwritten =
+    told (Ok _) answers fails stops wants none whole_written whole_begun whole_unwritten =
         let heard = known reader Written answers.0 (answers.1, answers.2, answers.4, answers.5) whole_written in
-        let it = whole old new heard.1.1 heard.0 heard.1.0 heard.1.2 in
-        (it.0, it.1, it.2, of_input reader heard.0 it.0 it.4 heard.2)
-    told (Err Read) answers reads writes wants none whole_written whole_begun whole_unwritten = (lost, (reads refl).4, (refl, refl), of_lost reader)
-    told (Err (Write done)) answers reads writes wants none whole_written whole_begun whole_unwritten =
-        let w = writes done refl in
-        let heard = known reader (Begun done) w.0 (w.1, w.2, w.4, w.5, w.6) (whole_begun done refl) in
-        let it = cut old new done heard.0 heard.1.0 heard.1.2 in
-        (it.0, it.1, (it.2, it.3), of_input reader heard.0 it.0 it.4 heard.2)
-    told (Err (Memory true)) answers reads writes wants none whole_written whole_begun whole_unwritten =
-        let w = wants refl in
-        let heard = known reader Unwritten w.0 (w.1, w.3) (whole_unwritten refl) in
-        let it = by_office old new false heard.0 heard.1.0 heard.1.1 in
-        (it.0, it.1, (it.2, it.3), of_input reader heard.0 it.0 it.4 heard.2)
-    told (Err (Memory false)) answers reads writes wants none whole_written whole_begun whole_unwritten = (lost, (none refl).0, (refl, refl), of_lost reader)
+        let it = whole old new _ _ heard.1.1 heard.0 heard.1.0 heard.1.2 heard.1.3 in
+        record { connection = it.connection; after = it.after; tells = it.whole_is; heard = of_input reader heard.0 it.connection it.heard heard.2; written = it.written }
+    told (Err Read) answers fails stops wants none whole_written whole_begun whole_unwritten =
+        record { connection = lost; after = (fails refl).4; tells = (refl, refl); heard = of_lost reader; written = no_refusal contents writer writer' (fails refl).5 }
+    told (Err (Write done)) answers fails stops wants none whole_written whole_begun whole_unwritten =
+        let at = stops done refl in
+        let heard = known reader (Begun done) at.0 (at.1, at.2, at.4, at.5, at.6) (whole_begun done refl) in
+        let it = cut old new _ _ done heard.0 heard.1.0 heard.1.2 (heard.1.1, heard.1.3, heard.1.4) in
+        record { connection = it.connection; after = it.after; tells = (it.whole_is, it.done_is); heard = of_input reader heard.0 it.connection it.heard heard.2; written = it.written }
+    told (Err (Memory true)) answers fails stops wants none whole_written whole_begun whole_unwritten =
+        let at = wants refl in
+        let heard = known reader Unwritten at.0 (at.1, at.3) (whole_unwritten refl) in
+        let it = by_office old new _ _ false heard.0 heard.1.0 heard.1.1 (no_answer contents writer writer' heard.1.0 at.4) in
+        record { connection = it.connection; after = it.after; tells = (it.whole_is, it.done_is); heard = of_input reader heard.0 it.connection it.heard heard.2; written = it.written }
+    told (Err (Memory false)) answers fails stops wants none whole_written whole_begun whole_unwritten =
+        record { connection = lost; after = (none refl).0; tells = (refl, refl); heard = of_lost reader; written = no_refusal contents writer writer' (none refl).1 }
 
   -- ---- one more
 

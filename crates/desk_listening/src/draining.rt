@@ -1,4 +1,4 @@
-//! What a peer still sends behind its answer, read and dropped.
+//! What a peer still sends after its answer, read and dropped.
 
 ghost use Rattle.std.specs.Prelude.{◌≡◌, ◌≢◌, ◌<◌, ◌≤◌, ℕ, List, length};
 ghost use Rattle.std.specs.Io.KnownBytes.{Consumes, IsAtEnd};
@@ -18,7 +18,7 @@ pub enum Drained {
     Failed,
 }
 
-/// Reads and drops what still comes, so many bytes at most. The reader isn't called again behind an
+/// Reads and drops what still comes, so many bytes at most. The reader isn't called again after an
 /// end or a failure.
 pub fn drain<R: Read>(reader: &mut Counted<R>, most: usize) -> Drained
     ensures given { (given : List ℕ) × Consumes (R.remaining reader.old.device) (R.remaining reader.new.device) given

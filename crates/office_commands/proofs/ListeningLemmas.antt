@@ -1,17 +1,19 @@
 -- What comes of connections, and the line that was printed before them.
-use Rattle.std.proofs.Common.{◌≡◌, ℕ, List, Option, Result, Ok, Err, OnOk, length}
-use Rattle.std.specs.Prelude.{count_by}
+use Rattle.std.proofs.Common.{◌≡◌, ◌+◌, ◌∙◌, ℕ, List, Option, Result, Ok, Err, OnOk}
 use Rattle.std.specs.Io.KnownBytes.{Appends}
 use Rattle.jiff.specs.Types.{Date}
 use Rattle.sqlite.specs.Held.{Held}
 use Rattle.sqlite.specs.Store.{Ghosts}
-use Rattle.desk_listening.specs.Listening.{Connection, IsAfterAll, IsRun, is_answered}
+use Rattle.desk_listening.specs.Accepting.{CountsAs}
+use Rattle.desk_listening.specs.Listening.{Connection, IsAfterAll, IsRun}
+use Rattle.desk_listening.specs.declared.accepting.Served.{Served}
 use Rattle.office_commands.specs.Listening.{Listens, SoMany, TellsPort, listening_text}
 
-pub listens : {S : Type 0} (g : Ghosts S) (day : Date) (count port answered : ℕ) (old new : Held S) (held holds : Option (List ℕ))
-    → ((connections : List Connection) × (length connections ≡ count) × (count_by is_answered connections ≡ answered) × IsAfterAll g day connections old new × IsRun g connections old new)
+pub listens : {S L : Type 0} (g : Ghosts S) (day : Date) (count port : ℕ) (old new : Held S) (held holds : Option (List ℕ)) (served : Served) (Taken : List Connection → L → Type 0) (Ends : L → Type 0)
+    → served.answered + served.failed ≡ count
+    → ((connections : List Connection) × (now : L) × CountsAs connections served × IsAfterAll g day connections old new × IsRun g connections old new × Taken connections now × Ends now)
     → Appends held holds (listening_text port) → SoMany count (λ connections. Listens g day port connections old new held holds)
-listens g day count port answered old new held holds it writes = (it.0, it.1, (it.3, it.4, writes))
+listens g day count port old new held holds served Taken Ends sum it writes = (it.0, it.2.0 ∙ sum, (it.3, it.4, writes))
 
 -- the line of the port alone
 pub tells_port : {S T E : Type 0} (g : Ghosts S) (r : Result T E) (day : Date) (count : ℕ) (old new : Held S) (held holds : Option (List ℕ))

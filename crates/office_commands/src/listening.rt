@@ -10,7 +10,7 @@ ghost use Rattle.office_commands.specs.declared.fault.StoreFault.TheVariants.{De
 
 use crate::fault::{Cause, CommandFault, StoreFault, failed_by};
 use crate::printing::print;
-use desk_listening::{Patience, serve_connections};
+use desk_listening::{Patience, Sockets, serve_connections};
 use http_desk::Counted;
 use office_core::Day;
 use office_engine::Office;
@@ -27,7 +27,7 @@ struct Desk {
     port: u16,
 }
 
-/// A port that can't be had.
+/// A port that can't be had, or that gives no further connection.
 fn unheard(error: Error) -> CommandFault
     ensures is { result ≡ Failed Device (Some (Listen error)) }
     ensures failure { IsFailure result }
@@ -90,8 +90,11 @@ fn serve_office<S: Alter, O: Write>(
 {
     say_listening(alloc, desk.port, out)?;
     let patience = Patience::default();
-    let _served = serve_connections(alloc, office, day, &desk.listener, count, &patience);
-    Ok(())
+    let mut sockets = Sockets::new(alloc, &desk.listener);
+    match serve_connections(alloc, office, day, &mut sockets, count, &patience) {
+        Ok(_) => Ok(()),
+        Err(failure) => Err(unheard(failure.error)),
+    }
 }
 
 /// Takes the port, and then serves so many connections there on that day. Where the port can't be had,

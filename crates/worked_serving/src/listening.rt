@@ -1,11 +1,12 @@
 //! What peers send to an office, and what they get, worked out by hand from `docs/HTTP.md`.
 
 use crate::peers::{Peer, Then, call_all, hear_all};
-use desk_listening::{Drained, Patience, drain, serve_connections};
+use desk_listening::{Drained, Patience, Sockets, drain, serve_connections};
 use http_desk::{Counted, FailAt, Portion};
 use office_core::Day;
 use office_engine::Office;
 use sqlite::Alter;
+use std::io::ErrorKind;
 use std::net::TcpListener;
 use std::test::Fail;
 use std::time::Duration;
@@ -99,10 +100,10 @@ struct Queue {
     count: u32,
     /// How many milliseconds a peer may take.
     talk: u64,
-    /// Whether the listener waits for a connection, or gives none.
-    waits: bool,
     answered: u32,
     failed: u32,
+    /// What ends the serving, where the listener doesn't wait for a connection.
+    stops: Option<ErrorKind>,
 }
 
 /// One peer, which is answered.
@@ -111,9 +112,9 @@ const ONE: Queue = Queue {
     peers: &[ASKS],
     count: 1,
     talk: 50,
-    waits: true,
     answered: 1,
     failed: 0,
+    stops: None,
 };
 
 /// Two peers, both of which are answered.
@@ -200,12 +201,10 @@ static QUEUES: [Queue; 15] = [
         ..ONE
     },
     Queue {
-        name: "a listener that gives none",
-        peers: &[],
+        name: "a listener that gives no more",
+        peers: &[ASKS],
         count: 3,
-        waits: false,
-        answered: 0,
-        failed: 3,
+        stops: Some(ErrorKind::WouldBlock),
         ..ONE
     },
 ];
@@ -216,8 +215,9 @@ pub fn take_peers<S: Alter>(rt: &HostRuntime, office: &mut Office<S>) -> Result<
     let day = Day::read("2024-03-01").ok_or("day")?;
     let listener = TcpListener::bind(rt, "127.0.0.1:0")?;
     let address = listener.local_addr()?;
+    let mut sockets = Sockets::new(rt.alloc(), &listener);
     for queue in &QUEUES {
-        listener.set_nonblocking(!queue.waits)?;
+        listener.set_nonblocking(queue.stops.is_some())?;
         let streams = call_all(rt, queue.peers, address)?;
         let patience = Patience {
             talk: Duration::from_millis(queue.talk),
@@ -225,8 +225,15 @@ pub fn take_peers<S: Alter>(rt: &HostRuntime, office: &mut Office<S>) -> Result<
             ..Patience::default()
         };
         let count = queue.count;
-        let served = serve_connections(rt.alloc(), office, day, &listener, count, &patience);
-        if served.answered != queue.answered || served.failed != queue.failed {
+        let served = serve_connections(rt.alloc(), office, day, &mut sockets, count, &patience);
+        let (served, stops) = match served {
+            Ok(served) => (served, None),
+            Err(failure) => (failure.served, Some(failure.error.kind())),
+        };
+        if served.answered != queue.answered
+            || served.failed != queue.failed
+            || stops != queue.stops
+        {
             return Err(Fail::new(queue.name));
         }
         if queue.talk != 0 {

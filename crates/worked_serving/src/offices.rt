@@ -1,5 +1,6 @@
 //! An office in two files, and what is done with it.
 
+use crate::accepts::take_accepts;
 use crate::day::take_day;
 use crate::files::{leave, open};
 use crate::listening::take_peers;
@@ -51,7 +52,10 @@ fn serve<S: Alter>(rt: &HostRuntime, office: &mut Office<S>, part: Part) -> Resu
         Part::Nothing => Ok(()),
         Part::Requests => take_day(rt.alloc(), office),
         Part::Records => take_records(rt.alloc(), office),
-        Part::Peers => take_peers(rt, office),
+        Part::Peers => {
+            take_peers(rt, office)?;
+            take_accepts(rt.alloc(), office)
+        }
     }
 }
 

@@ -1,10 +1,13 @@
 use Rattle.std.proofs.Common.{◌≡◌, ◌≤◌, List, length, count_by}
+use Rattle.desk_listening.specs.Accepting.{TakesAll}
 use Rattle.desk_listening.specs.Listening.{Connection, IsAfterAll, is_answered}
+use Rattle.desk_listening.specs.Peers.{Treats}
 use Rattle.desk_listening.proofs.listening.serve_connections.Given as goal
 
-abbrev pub invariant-loop : goal.invariant-loop
-invariant-loop g l = record {
-  came : (connections : List Connection) × (length connections ≡ l.counter) × (count_by is_answered connections ≡ l.answered)
-      × IsAfterAll g.S.Store l.day connections l.fn.office l.office;
-  few : l.answered ≤ l.counter;
+abbrev pub invariant-loop-taken : goal.invariant-loop-taken
+invariant-loop-taken g l = record {
+  came : (connections : List Connection) × (length connections ≡ l.taken) × (count_by is_answered connections ≡ l.answered)
+      × IsAfterAll g.S.Store l.day connections l.fn.office l.office
+      × TakesAll g.L.Listener (Treats g.P.Peer g.P.Reader.Read g.P.Writer.Write l.patience) connections l.fn.listener l.listener;
+  few : l.answered ≤ l.taken;
 }

@@ -1,8 +1,45 @@
-use Rattle.desk_listening.proofs.Connections.{told}
+use Rattle.std.proofs.Common.{Bool, Ok, Err, refl, sym, subst}
+use Rattle.desk_listening.specs.Peers.{Drops, IsLeft}
+use Rattle.desk_listening.proofs.Connections.{left_so, told}
 use Rattle.desk_listening.proofs.listening.serve_ends.Goals as goal
 
-pub returns : goal.returns
-returns g c =
-    let one = c.serve_one-served in
-    told g.S.Store c.args.day c.args.office.now one.new.office _ _ _ _ _ _ _ one.result one.ensures.answered one.ensures.read one.ensures.write one.ensures.memory_done one.ensures.memory
-    one.ensures.whole one.ensures.whole_write one.ensures.whole_memory_done
+pub returns-in-Ok : goal.returns-in-Ok
+returns-in-Ok g c =
+    let ends = c.args.ends.now in
+    let one = c.serve_one.new in
+    let at = c.in-Ok.ensures in
+    let it = told g.S.Store c.args.day g.P.Writer.Write.contents c.args.office.now one.office (g.P.Reader.Read.remaining ends.reader.device) (g.P.Reader.Read.remaining one.reader.device)
+    ends.writer one.writer _ _ (Ok c.in-Ok.field-0) at.answered at.read at.write at.memory_done at.memory at.whole at.whole_write at.whole_memory_done in
+    let left = c.hang_up-left.ensures in
+    let after = c.hang_up-left.new in (
+      it.connection,
+      it.after,
+      it.tells,
+      record {
+        heard = it.heard;
+        written = it.written;
+        left = subst (λ (whole : Bool). IsLeft g.P.Peer g.P.Reader.Read g.P.Writer.Write c.args.patience.now whole ends.reader after.reader c.args.peer.now after.peer) (sym it.tells) (record {
+          heard = one.reader;
+          given = at.answered.0;
+          came = at.answered.3;
+          left = left_so (Drops g.P.Reader.Read c.args.patience.now.rest_bytes one.reader after.reader) c.hang_up-left.result left.shut left.dropped left.failed left.kept;
+        });
+      },
+    )
+
+pub returns-in-Err : goal.returns-in-Err
+returns-in-Err g c =
+    let ends = c.args.ends.now in
+    let one = c.serve_one.new in
+    let at = c.in-Err.ensures in
+    let it = told g.S.Store c.args.day g.P.Writer.Write.contents c.args.office.now one.office (g.P.Reader.Read.remaining ends.reader.device) (g.P.Reader.Read.remaining one.reader.device)
+    ends.writer one.writer _ _ (Err c.in-Err.fault) at.answered at.read at.write at.memory_done at.memory at.whole at.whole_write at.whole_memory_done in (
+      it.connection,
+      it.after,
+      it.tells,
+      record {
+        heard = it.heard;
+        written = it.written;
+        left = subst (λ (whole : Bool). IsLeft g.P.Peer g.P.Reader.Read g.P.Writer.Write c.args.patience.now whole ends.reader one.reader c.args.peer.now c.args.peer.now) (sym it.tells.0) refl;
+      },
+    )
