@@ -1,7 +1,8 @@
 #!/usr/bin/env bash
 # Has `depot serve` answer curl, each route and each refusal but want of memory once. Puts each command to
 # databases that have commits in a log and are no office of this version, and to offices that another process has
-# open: each is refused, and leaves what is there as it was. And then `serve_client.py`, which sends
+# open: each is refused, and leaves what is there as it was. Serves with too few descriptors to accept a connection:
+# the command stops, and says why. And then `serve_client.py`, which sends
 # bytes that are cut, dribbled, stopped or too many, and kills the office 200 times, between requests
 # and in them, to compare what is there after each restart with what was answered.
 # Needs curl, python3 and sqlite3. Words: the program, `depot` of the repository if left out, and how
@@ -9,11 +10,13 @@
 set -eu
 top=$(dirname "$(readlink -f "$0")")/..
 . "$top/diff/waits.sh"
-program=${1:-$top/depot}
+bag=$top/examples/bag-a.bagset
+# (the built program itself, since the script `depot` needs more descriptors than it)
+[ $# -gt 0 ] || "$top/depot" check "$bag" >/dev/null
+program=${1:-$top/crates/depot/out/depot-program}
 kills=${2:-200}
 folder=$(mktemp -d)
 trap 'kill $(jobs -p) 2>/dev/null || true; rm -rf "$folder"' EXIT
-bag=$top/examples/bag-a.bagset
 policy=$top/examples/policy.toml
 day=2024-03-01
 store=$folder/office.db
@@ -210,6 +213,34 @@ SCRIPT
     await "$reading" "$folder/said" reading
 }
 
+# Serves a store with so few descriptors that it can be opened, the port taken, and no connection accepted: the
+# least number that does. That stops the command, once a connection comes or before.
+starved() {
+    local number status=0 lines
+    for number in {4..16}; do
+        rm -f "$folder/said"
+        (
+            ulimit -n "$number"
+            exec "$program" serve --port 0 --count 1000000 "$1" "$day"
+        ) >"$folder/said" 2>"$folder/err" &
+        serving=$!
+        await "$serving" "$folder/said" listening 2>/dev/null && break
+        ended "$serving" || true
+    done
+    office=http://127.0.0.1:$(sed 's/listening //' "$folder/said")
+    if curl -s --max-time 60 -H 'Depot-Caller: anna' "$office/due" >"$folder/out"; then
+        echo "with $number descriptors no connection is to be accepted, and one was answered: $(cat "$folder/out")" >&2
+        exit 1
+    fi
+    ended "$serving" || status=$?
+    mapfile -t lines <"$folder/err"
+    if [ "$status ${#lines[@]} ${lines[0]-}" != '3 2 device' ] || [[ ${lines[1]} != 'depot: '* ]]; then
+        echo "with $number descriptors 'device', a reason and 3 are wanted, and this came: '$(cat "$folder/err")' and $status" >&2
+        exit 1
+    fi
+    echo "$number descriptors: no connection is accepted, and serve stops with 3, device and: ${lines[1]#depot: }"
+}
+
 "$program" policy "$store" "$policy" >"$folder/installed"
 # Limits that are met soon, and a class whose years no request can write.
 sqlite3 "$store" "UPDATE office SET max_deposits = 5, max_holds = 2; INSERT INTO class VALUES ('odd', 300)"
@@ -219,7 +250,7 @@ serve "$count" "$store"
 sqlite3 "$store" 'SELECT count(*) FROM deposit' >"$folder/locked" 2>&1 && { echo "sqlite3 reads a store that is served" >&2; exit 1; }
 grep -q 'database is locked' "$folder/locked" || { cat "$folder/locked" >&2; exit 1; }
 all
-ended "$serving"
+ended "$serving" || { echo "serve is to end with 0 after its last connection, and ended with $?" >&2; exit 1; }
 echo "curl: ${#cases[@]} requests answered as worked out"
 
 printf 'PUT /collections/maps HTTP/1.1\r\nDepot-Caller: anna\r\n\r\n' >"$folder/request"
@@ -248,6 +279,14 @@ refused_open "$held"
 asks anna 200 '{"collection":"maps"}' /collections/maps -X PUT
 ended "$serving"
 echo "open elsewhere: ${#commands[@]} commands refuse a store that SQLite reads, has read or depot serves, and leave it as it was"
+
+few=$folder/few.db
+"$program" policy "$few" "$policy" >"$folder/installed"
+starved "$few"
+serve 2 "$few"
+asks anna 200 '{"collection":"maps"}' /collections/maps -X PUT
+asks anna 200 '{"deposits":[]}' /deposits
+ended "$serving" || { echo "serve is to end with 0 after its last connection, and ended with $?" >&2; exit 1; }
 
 python3 "$top/diff/serve_client.py" "$program" "$folder" "$policy" "$kills"
 echo "serve: ${#cases[@]} requests by curl, $refusals refused commands on databases with a log and stores that are open elsewhere, all kinds of peers and $kills kills: as docs/ says"
