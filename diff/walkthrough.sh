@@ -2,14 +2,14 @@
 # Runs every command of README.md that stands behind `$ ` in a block of ```console, in the order of the
 # page and in one shell, in an empty folder with the examples, and compares what each prints, on both
 # outputs, with the lines below it. A command that ends with `&` has a minute to print its lines, and has to
-# be over a minute after the last command. Needs curl and python3.
+# be over a minute after the last command. Needs curl, python3, and the kit for the first look, which takes some minutes.
 set -eu
 top=$(dirname "$(readlink -f "$0")")/..
 room=$(mktemp -d)
 trap 'rm -rf "$room"' EXIT
 "$top/depot" check "$top/examples/bag-a.bagset" >/dev/null
 cp -a "$top/examples" "$room/examples"
-ln -s "$top/depot" "$room/depot"
+ln -s "$top/depot" "$top/first-look" "$room"
 
 python3 - "$top/README.md" "$room" <<'SCRIPT'
 import os
@@ -22,7 +22,7 @@ from pathlib import Path
 page, room = Path(sys.argv[1]).read_text(encoding="utf-8"), sys.argv[2]
 MARK = "--- end of command ---"
 # How many seconds all commands together may take.
-PATIENCE = 600
+PATIENCE = 1800
 # Waits until a command in the background has printed so many lines, and prints them.
 BEGUN = """begun() {
     local end=$((SECONDS + 60))
