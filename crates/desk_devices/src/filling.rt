@@ -1,8 +1,8 @@
 //! Bytes that follow a head, read from a device.
 
-ghost use Rattle.std.specs.Prelude.{◌≡◌, ◌≢◌, ◌<◌, ◌≤◌, ◌++◌, ℕ, List, vec_len, Err, OnOk, OnErr};
+ghost use Rattle.std.specs.Prelude.{◌≡◌, ◌≢◌, ◌<◌, ◌≤◌, ◌++◌, ℕ, List, vec_len, Err, OnOk, OnErr, IsSome};
 ghost use Rattle.std.specs.Io.KnownBytes.{Consumes, IsAtEnd};
-ghost use Rattle.desk_devices.specs.Devices.{HasFailed};
+ghost use Rattle.desk_devices.specs.Devices.{HasFailed, device_of, failures_of, last_error_of};
 
 use crate::counted::Counted;
 use std::io::Read;
@@ -27,12 +27,13 @@ pub fn fill<R: Read>(
     want: usize,
 ) -> Result<(), FillFault>
     ensures given { result ≢ Err FillFault.Memory → (more : List ℕ) × (bytes.new.items ≡ bytes.old.items ++ more)
-        × Consumes (R.remaining reader.old.device) (R.remaining reader.new.device) more }
+        × Consumes (R.remaining (device_of reader.old)) (R.remaining (device_of reader.new)) more }
     ensures ok { OnOk result (want ≤ vec_len bytes.new) }
     ensures short { OnErr result (vec_len bytes.new < want) }
-    ensures end { result ≡ Err FillFault.Truncated → IsAtEnd (R.remaining reader.new.device) }
-    ensures calm { result ≢ Err FillFault.Read → reader.new.failures ≡ reader.old.failures }
-    ensures failed { result ≡ Err FillFault.Read → HasFailed reader.old.failures reader.new.failures }
+    ensures end { result ≡ Err FillFault.Truncated → IsAtEnd (R.remaining (device_of reader.new)) }
+    ensures calm { result ≢ Err FillFault.Read → failures_of reader.new ≡ failures_of reader.old }
+    ensures failed { result ≡ Err FillFault.Read → HasFailed (failures_of reader.old) (failures_of reader.new) }
+    ensures reason { result ≡ Err FillFault.Read → IsSome (last_error_of reader.new) }
 {
     let mut chunk = [0u8; 16384];
     'fills: while bytes.len() < want {

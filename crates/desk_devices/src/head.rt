@@ -1,8 +1,8 @@
 //! The head of a request, read from a device.
 
-ghost use Rattle.std.specs.Prelude.{◌≡◌, ◌≢◌, ◌<◌, ◌≤◌, ℕ, List, [], length, vec_len, Err, IfOk, OnOk, IfSome};
+ghost use Rattle.std.specs.Prelude.{◌≡◌, ◌≢◌, ◌<◌, ◌≤◌, ℕ, List, [], length, vec_len, Err, IfOk, OnOk, IfSome, IsSome};
 ghost use Rattle.std.specs.Io.KnownBytes.{Consumes};
-ghost use Rattle.desk_devices.specs.Devices.{HasFailed};
+ghost use Rattle.desk_devices.specs.Devices.{HasFailed, device_of, failures_of, last_error_of};
 ghost use Rattle.desk_devices.specs.Heads.{max_head};
 ghost use Rattle.desk_devices.specs.HeadReading.{EndRead, EndOf, HeadRead, HeadOf};
 
@@ -51,12 +51,13 @@ fn read_to_end_of_head<R: Read>(
 ) -> Result<usize, HeadFault>
     requires { bytes.old.items ≡ [] }
     ensures given { result ≢ Err HeadFault.Memory
-        → Consumes (R.remaining reader.old.device) (R.remaining reader.new.device) bytes.new.items }
-    ensures head { EndRead bytes.new.items result (R.remaining reader.new.device) }
-    ensures calm { result ≢ Err HeadFault.Read → reader.new.failures ≡ reader.old.failures }
-    ensures failed { result ≡ Err HeadFault.Read → HasFailed reader.old.failures reader.new.failures }
+        → Consumes (R.remaining (device_of reader.old)) (R.remaining (device_of reader.new)) bytes.new.items }
+    ensures head { EndRead bytes.new.items result (R.remaining (device_of reader.new)) }
+    ensures calm { result ≢ Err HeadFault.Read → failures_of reader.new ≡ failures_of reader.old }
+    ensures failed { result ≡ Err HeadFault.Read → HasFailed (failures_of reader.old) (failures_of reader.new) }
+    ensures reason { result ≡ Err HeadFault.Read → IsSome (last_error_of reader.new) }
     ensures within { IfOk result (λ n. (n ≤ length bytes.new.items) × (n ≤ max_head)) }
-    ensures whole { IfSome (R.remaining reader.old.device) (λ input. EndOf input result) }
+    ensures whole { IfSome (R.remaining (device_of reader.old)) (λ input. EndOf input result) }
 {
     let mut chunk = [0u8; 1024];
     'reads: loop {
@@ -77,12 +78,13 @@ fn read_to_end_of_head<R: Read>(
 /// another call could fail, and only `Read`, which says that no head had come, allows a failure.
 pub fn read_head<R: Read>(alloc: Global, reader: &mut Counted<R>) -> Result<RequestHead, HeadFault>
     ensures given { result ≢ Err HeadFault.Memory → (given : List ℕ)
-        × Consumes (R.remaining reader.old.device) (R.remaining reader.new.device) given
-        × HeadRead given result (R.remaining reader.new.device) }
-    ensures calm { result ≢ Err HeadFault.Read → reader.new.failures ≡ reader.old.failures }
-    ensures failed { result ≡ Err HeadFault.Read → HasFailed reader.old.failures reader.new.failures }
+        × Consumes (R.remaining (device_of reader.old)) (R.remaining (device_of reader.new)) given
+        × HeadRead given result (R.remaining (device_of reader.new)) }
+    ensures calm { result ≢ Err HeadFault.Read → failures_of reader.new ≡ failures_of reader.old }
+    ensures failed { result ≡ Err HeadFault.Read → HasFailed (failures_of reader.old) (failures_of reader.new) }
+    ensures reason { result ≡ Err HeadFault.Read → IsSome (last_error_of reader.new) }
     ensures within { IfOk result (λ head. (head.end ≤ vec_len head.bytes) × (head.end ≤ max_head)) }
-    ensures whole { IfSome (R.remaining reader.old.device) (λ input. HeadOf input result) }
+    ensures whole { IfSome (R.remaining (device_of reader.old)) (λ input. HeadOf input result) }
 {
     let mut bytes = Vec::new(alloc);
     let end = read_to_end_of_head(reader, &mut bytes)?;

@@ -1,8 +1,8 @@
 //! Bytes that are written whole.
 
-ghost use Rattle.std.specs.Prelude.{◌≡◌, ℕ, ◌<◌, length, take, OnOk, OnErr};
+ghost use Rattle.std.specs.Prelude.{◌≡◌, ℕ, ◌<◌, length, take, OnOk, OnErr, IsSome};
 ghost use Rattle.std.specs.Io.KnownBytes.{Appends};
-ghost use Rattle.desk_devices.specs.Devices.{HasFailed};
+ghost use Rattle.desk_devices.specs.Devices.{HasFailed, device_of, failures_of, last_error_of};
 
 use crate::counted::Counted;
 use std::io::Write;
@@ -14,11 +14,12 @@ pub struct WriteFailed;
 /// Writes all of the bytes. Where the writer fails, it isn't called again, and what has been
 /// written is a beginning of the bytes, not all of them.
 pub fn write_whole<W: Write>(writer: &mut Counted<W>, bytes: &[u8]) -> Result<(), WriteFailed>
-    ensures ok { OnOk result (Appends (W.contents writer.old.device) (W.contents writer.new.device) bytes.now) }
-    ensures calm { OnOk result (writer.new.failures ≡ writer.old.failures) }
+    ensures ok { OnOk result (Appends (W.contents (device_of writer.old)) (W.contents (device_of writer.new)) bytes.now) }
+    ensures calm { OnOk result (failures_of writer.new ≡ failures_of writer.old) }
     ensures beginning { OnErr result ((n : ℕ) × (n < length bytes.now)
-        × Appends (W.contents writer.old.device) (W.contents writer.new.device) (take n bytes.now)) }
-    ensures failed { OnErr result (HasFailed writer.old.failures writer.new.failures) }
+        × Appends (W.contents (device_of writer.old)) (W.contents (device_of writer.new)) (take n bytes.now)) }
+    ensures failed { OnErr result (HasFailed (failures_of writer.old) (failures_of writer.new)) }
+    ensures reason { OnErr result (IsSome (last_error_of writer.new)) }
 {
     let mut at = 0;
     'writes: while at < bytes.len() {

@@ -11,6 +11,7 @@ use Rattle.office_engine.specs.Keeping.{IsKeptBy, Runs, Serves}
 use Rattle.std.proofs.lemmas.List.Sums.{sum_by-append}
 use Rattle.std.proofs.lemmas.Option.{IfSome_then}
 use Rattle.std.specs.Io.KnownBytes.{Appends, Consumes, IsAtEnd}
+use Rattle.desk_devices.specs.Devices.{device_of}
 use Rattle.desk_devices.specs.declared.counted.Counted.{Counted}
 use Rattle.desk_routes.specs.declared.refusal.DeskRefusal.TheVariants.{Truncated}
 use Rattle.desk_answers.specs.Answers.{answer_text, refusal_text}
@@ -88,14 +89,14 @@ unbegun (Some xs) text some = (0, some, sym (append-nil xs))
 
 -- a writer that wasn't called has written a beginning of each text: nothing
 uncalled : {W : Type 0} (contents : W → Option (List ℕ)) (writer writer' : Counted W) (text : List ℕ) → writer' ≡ writer → 0 < length text
-    → Begins (contents writer.device) (contents writer'.device) text
-uncalled contents writer writer' text same some = subst (λ (x : Counted _). Begins (contents writer.device) (contents x.device) text) (sym same) (unbegun (contents writer.device) text some)
+    → Begins (contents (device_of writer)) (contents (device_of writer')) text
+uncalled contents writer writer' text same some = subst (λ (x : Counted _). Begins (contents (device_of writer)) (contents (device_of x)) text) (sym same) (unbegun (contents (device_of writer)) text some)
 
 no_answer : {W : Type 0} (contents : W → Option (List ℕ)) (writer writer' : Counted W) (answer : Answer) → writer' ≡ writer
-    → Begins (contents writer.device) (contents writer'.device) (answer_text answer)
+    → Begins (contents (device_of writer)) (contents (device_of writer')) (answer_text answer)
 no_answer contents writer writer' answer same = uncalled contents writer writer' (answer_text answer) same (started (status_of answer) [] (content_of answer))
 
-no_refusal : {W : Type 0} (contents : W → Option (List ℕ)) (writer writer' : Counted W) → writer' ≡ writer → IsWritten lost (contents writer.device) (contents writer'.device)
+no_refusal : {W : Type 0} (contents : W → Option (List ℕ)) (writer writer' : Counted W) → writer' ≡ writer → IsWritten lost (contents (device_of writer)) (contents (device_of writer'))
 no_refusal contents writer writer' same =
     (Truncated, uncalled contents writer writer' (refusal_text Truncated) same (started (desk_status Truncated) (allow_line Truncated) (json (desk_data Truncated))))
 
@@ -135,20 +136,20 @@ module _ {S : Type 0} (g : Ghosts S) (day : Date) where
       pub after : IsAfter g day connection old new
       pub tells : Tells result connection
       pub heard : IfSome reader (λ input. IsOf input connection)
-      pub written : IsWritten connection (contents writer.device) (contents writer'.device)
+      pub written : IsWritten connection (contents (device_of writer)) (contents (device_of writer'))
 
     -- what was answered, and written of it, over some bytes
     abbrev pub Written : List ℕ → Type 0
-    Written bytes = (text : List ℕ) × (done : Bool) × IsAnswered g done day bytes old new text × Appends (contents writer.device) (contents writer'.device) text
+    Written bytes = (text : List ℕ) × (done : Bool) × IsAnswered g done day bytes old new text × Appends (contents (device_of writer)) (contents (device_of writer')) text
 
     abbrev pub Begun : Bool → List ℕ → Type 0
-    Begun done bytes = (text : List ℕ) × (count : ℕ) × IsAnswered g done day bytes old new text × (count < length text) × Appends (contents writer.device) (contents writer'.device) (take count text)
+    Begun done bytes = (text : List ℕ) × (count : ℕ) × IsAnswered g done day bytes old new text × (count < length text) × Appends (contents (device_of writer)) (contents (device_of writer')) (take count text)
 
     abbrev pub Unwritten : List ℕ → Type 0
     Unwritten bytes = (answer : Answer) × ServesBytes day bytes (state g old) (state g new) answer
 
     abbrev pub Answers : Type 0
-    Answers = (given text : List ℕ) × (done : Bool) × Consumes reader reader' given × IsAnswered g done day given old new text × Appends (contents writer.device) (contents writer'.device) text
+    Answers = (given text : List ℕ) × (done : Bool) × Consumes reader reader' given × IsAnswered g done day given old new text × Appends (contents (device_of writer)) (contents (device_of writer')) text
         × (Hears given (Err Truncated) → IsAtEnd reader')
 
     abbrev pub Fails : Type 0
@@ -156,7 +157,7 @@ module _ {S : Type 0} (g : Ghosts S) (day : Date) where
 
     abbrev pub Stops : Bool → Type 0
     Stops done = (given text : List ℕ) × (count : ℕ) × Consumes reader reader' given × IsAnswered g done day given old new text × (count < length text)
-        × Appends (contents writer.device) (contents writer'.device) (take count text) × failed' × (Hears given (Err Truncated) → IsAtEnd reader')
+        × Appends (contents (device_of writer)) (contents (device_of writer')) (take count text) × failed' × (Hears given (Err Truncated) → IsAtEnd reader')
 
     abbrev pub Wants : Type 0
     Wants = (given : List ℕ) × (answer : Answer) × Consumes reader reader' given × ServesBytes day given (state g old) (state g new) answer × (writer' ≡ writer)

@@ -6,7 +6,7 @@ use Rattle.std.specs.declared.io.Read.{Ghosts as Reads}
 use Rattle.std.specs.declared.io.Write.{Ghosts as Writes}
 use Rattle.std.specs.declared.net.Shutdown.TheVariants as sides
 use Rattle.std.specs.declared.time.Duration.{Duration}
-use Rattle.desk_devices.specs.Devices.{one_more}
+use Rattle.desk_devices.specs.Devices.{device_of, failures_of, one_more}
 use Rattle.desk_devices.specs.declared.counted.Counted.{Counted}
 use Rattle.desk_routes.specs.declared.refusal.DeskRefusal.{DeskRefusal}
 use Rattle.desk_answers.specs.Answers.{answer_text, refusal_text}
@@ -41,21 +41,21 @@ leaving rest = Shut sides.Write ∷ ReadWait rest ∷ []
 
 -- both waits were set, and then the ends were asked for
 abbrev pub Opens : {P R W : Type 0} → Peers P R W → Duration → P → Result (Ends R W) Error → P → Type 0
-Opens {P} p wait old (Ok ends) new = (mid : P) × Works p.does (waits wait) old mid × p.opens mid (Ok (ends.reader.device, ends.writer.device)) new
+Opens {P} p wait old (Ok ends) new = (mid : P) × Works p.does (waits wait) old mid × p.opens mid (Ok ((device_of ends.reader), (device_of ends.writer))) new
 Opens {P} p wait old (Err error) new = Fails p.does (waits wait) old new ⊎ ((mid : P) × Works p.does (waits wait) old mid × p.opens mid (Err error) new)
 
 -- ---- what still comes
 
 -- why no more was read: the input was at its end, so many bytes had come, or a read failed
 abbrev pub Stops : {R : Type 0} → Reads R → ℕ → List ℕ → Counted R → Counted R → Drained → Type 0
-Stops r most bytes old new End = IsAtEnd (r.remaining new.device) × (new.failures ≡ old.failures)
-Stops r most bytes old new Enough = (length bytes ≡ most) × (new.failures ≡ old.failures)
-Stops r most bytes old new Failed = new.failures ≡ one_more old.failures
+Stops r most bytes old new End = IsAtEnd (r.remaining (device_of new)) × (failures_of new ≡ failures_of old)
+Stops r most bytes old new Enough = (length bytes ≡ most) × (failures_of new ≡ failures_of old)
+Stops r most bytes old new Failed = failures_of new ≡ one_more (failures_of old)
 
 -- it was read and dropped, so many bytes at most
 pub record Drops {R : Type 0} (r : Reads R) (most : ℕ) (old new : Counted R) (drained : Drained) : Type 0 where
   pub bytes : List ℕ
-  pub came : Consumes (r.remaining old.device) (r.remaining new.device) bytes
+  pub came : Consumes (r.remaining (device_of old)) (r.remaining (device_of new)) bytes
   pub few : length bytes ≤ most
   pub stops : Stops r most bytes old new drained
 
@@ -79,7 +79,7 @@ module _ {P R W : Type 0} (p : Peers P R W) (r : Reads R) (w : Writes W) (patien
   pub record Leaves (reader after : Counted R) (old new : P) : Type 0 where
     pub heard : Counted R
     pub given : List ℕ
-    pub came : Consumes (r.remaining reader.device) (r.remaining heard.device) given
+    pub came : Consumes (r.remaining (device_of reader)) (r.remaining (device_of heard)) given
     pub left : ((drained : Drained) × Works p.does (leaving patience.rest) old new × Drops r patience.rest_bytes heard after drained)
         ⊎ (Fails p.does (leaving patience.rest) old new × (after ≡ heard))
 
@@ -90,8 +90,8 @@ module _ {P R W : Type 0} (p : Peers P R W) (r : Reads R) (w : Writes W) (patien
 
   -- what came over these ends: where all that there was to read is known, it is what was heard
   pub record Talks (ends after : Ends R W) (connection : Connection) (old new : P) : Type 0 where
-    pub heard : IfSome (r.remaining ends.reader.device) (λ input. IsOf input connection)
-    pub written : IsWritten connection (w.contents ends.writer.device) (w.contents after.writer.device)
+    pub heard : IfSome (r.remaining (device_of ends.reader)) (λ input. IsOf input connection)
+    pub written : IsWritten connection (w.contents (device_of ends.writer)) (w.contents (device_of after.writer))
     pub left : IsLeft (is_answered connection) ends.reader after.reader old new
 
   -- without ends nothing comes

@@ -2,7 +2,7 @@
 
 ghost use Rattle.std.specs.Prelude.{◌≡◌, ◌≢◌, ◌<◌, ◌≤◌, ℕ, List, length};
 ghost use Rattle.std.specs.Io.KnownBytes.{Consumes, IsAtEnd};
-ghost use Rattle.desk_devices.specs.Devices.{one_more};
+ghost use Rattle.desk_devices.specs.Devices.{device_of, failures_of, one_more};
 
 use desk_devices::Counted;
 use std::io::Read;
@@ -21,11 +21,11 @@ pub enum Drained {
 /// Reads and drops what still comes, so many bytes at most. The reader isn't called again after an
 /// end or a failure.
 pub fn drain<R: Read>(reader: &mut Counted<R>, most: usize) -> Drained
-    ensures given { (given : List ℕ) × Consumes (R.remaining reader.old.device) (R.remaining reader.new.device) given
+    ensures given { (given : List ℕ) × Consumes (R.remaining (device_of reader.old)) (R.remaining (device_of reader.new)) given
         × (length given ≤ most) × (result ≡ Drained.Enough → length given ≡ most) }
-    ensures end { result ≡ Drained.End → IsAtEnd (R.remaining reader.new.device) }
-    ensures calm { result ≢ Drained.Failed → reader.new.failures ≡ reader.old.failures }
-    ensures failed { result ≡ Drained.Failed → reader.new.failures ≡ one_more reader.old.failures }
+    ensures end { result ≡ Drained.End → IsAtEnd (R.remaining (device_of reader.new)) }
+    ensures calm { result ≢ Drained.Failed → failures_of reader.new ≡ failures_of reader.old }
+    ensures failed { result ≡ Drained.Failed → failures_of reader.new ≡ one_more (failures_of reader.old) }
 {
     let mut chunk = [0u8; 8192];
     let mut dropped = 0;

@@ -1,7 +1,7 @@
 //! One record, answered.
 
 ghost use Rattle.std.specs.Prelude.{◌≡◌, ◌≢◌, Err};
-ghost use Rattle.desk_devices.specs.Devices.{HasFailed};
+ghost use Rattle.desk_devices.specs.Devices.{HasFailed, device_of, failures_of};
 ghost use Rattle.http_desk.specs.ReplaySteps.{AnswersNext};
 
 use crate::serving::{Unanswered, respond};
@@ -37,9 +37,9 @@ pub(crate) fn answer_next<S: Alter, W: Write>(
     bytes: &[u8],
 ) -> Result<(), Unwritten>
     ensures answered { AnswersNext S.Store office.old office.new (record { day = day; bytes = bytes.now })
-        (W.contents writer.old.device) (W.contents writer.new.device) result }
-    ensures failed { result ≡ Err Unwritten.Write → HasFailed writer.old.failures writer.new.failures }
-    ensures calm { result ≢ Err Unwritten.Write → writer.new.failures ≡ writer.old.failures }
+        (W.contents (device_of writer.old)) (W.contents (device_of writer.new)) result }
+    ensures failed { result ≡ Err Unwritten.Write → HasFailed (failures_of writer.old) (failures_of writer.new) }
+    ensures calm { result ≢ Err Unwritten.Write → failures_of writer.new ≡ failures_of writer.old }
 {
     let mut request = Counted::new(bytes);
     match respond(alloc, routes, office, day, &mut request) {

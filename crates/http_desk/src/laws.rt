@@ -17,7 +17,7 @@ pub use desk_answers::laws::{
 pub use desk_devices::laws::{longer_input as longer_head, shortest_front};
 pub use desk_forms::laws::{counted_keys, counted_queries, decoded_paths, one_body, one_query};
 pub use desk_heads::laws::{first_refusal, one_judgement, taken_heads};
-pub use desk_hearing::laws::{longer_input, one_hearing, spelled_requests};
+pub use desk_hearing::laws::{first_refusals, longer_input, one_hearing, spelled_requests};
 pub use desk_records::laws::{last_record, one_list, one_reading, wanted_bytes};
 pub use desk_routes::laws::{
     allowed_methods as methods_of_places, asked_routes, methods_in_order, one_place, one_split,

@@ -1,7 +1,7 @@
 //! Records of requests, replayed.
 
 ghost use Rattle.std.specs.Prelude.{◌≡◌, ◌≢◌, ◌≤◌, ◌<◌, ◌+◌, ℕ, List, length, Err, Ok, IfErr, OnOk, MatchResult};
-ghost use Rattle.desk_devices.specs.Devices.{HasFailed};
+ghost use Rattle.desk_devices.specs.Devices.{HasFailed, device_of, failures_of};
 ghost use Rattle.desk_records.specs.RecordLists.{max_records};
 ghost use Rattle.http_desk.specs.Replaying.{Replayed};
 ghost use Rattle.http_desk.specs.ReplaySteps.{FoundBehind, ReadsMore, fault_behind};
@@ -106,9 +106,9 @@ fn found_behind(count: u64, pending: &[u8]) -> Found<'_>
 /// Reads on, by one call of the reader, and adds what it gives. Whether it gave anything: it gives
 /// nothing at the end of the input.
 fn read_more<R: Read>(reader: &mut Counted<R>, pending: &mut Vec<u8>) -> Result<bool, ReplayStop>
-    ensures more { ReadsMore (R.remaining reader.old.device) (R.remaining reader.new.device) pending.old.items pending.new.items result }
-    ensures failed { result ≡ Err ReplayStop.Read → HasFailed reader.old.failures reader.new.failures }
-    ensures calm { result ≢ Err ReplayStop.Read → reader.new.failures ≡ reader.old.failures }
+    ensures more { ReadsMore (R.remaining (device_of reader.old)) (R.remaining (device_of reader.new)) pending.old.items pending.new.items result }
+    ensures failed { result ≡ Err ReplayStop.Read → HasFailed (failures_of reader.old) (failures_of reader.new) }
+    ensures calm { result ≢ Err ReplayStop.Read → failures_of reader.new ≡ failures_of reader.old }
 {
     let mut chunk = [0u8; 4096];
     match reader.read(&mut chunk) {
@@ -130,14 +130,14 @@ pub fn replay<S: Alter, R: Read, W: Write>(
     reader: &mut Counted<R>,
     writer: &mut Counted<W>,
 ) -> Result<u64, ReplayFault>
-    ensures replayed { Replayed S.Store office.old office.new (R.remaining reader.old.device) (R.remaining reader.new.device)
-        (W.contents writer.old.device) (W.contents writer.new.device) result }
-    ensures read { IfErr result (λ fault. fault.stop ≡ ReplayStop.Read → HasFailed reader.old.failures reader.new.failures) }
-    ensures written { IfErr result (λ fault. fault.stop ≡ ReplayStop.Write → HasFailed writer.old.failures writer.new.failures) }
-    ensures calm_reader { MatchResult result (λ _. reader.new.failures ≡ reader.old.failures)
-        (λ fault. fault.stop ≢ ReplayStop.Read → reader.new.failures ≡ reader.old.failures) }
-    ensures calm_writer { MatchResult result (λ _. writer.new.failures ≡ writer.old.failures)
-        (λ fault. fault.stop ≢ ReplayStop.Write → writer.new.failures ≡ writer.old.failures) }
+    ensures replayed { Replayed S.Store office.old office.new (R.remaining (device_of reader.old)) (R.remaining (device_of reader.new))
+        (W.contents (device_of writer.old)) (W.contents (device_of writer.new)) result }
+    ensures read { IfErr result (λ fault. fault.stop ≡ ReplayStop.Read → HasFailed (failures_of reader.old) (failures_of reader.new)) }
+    ensures written { IfErr result (λ fault. fault.stop ≡ ReplayStop.Write → HasFailed (failures_of writer.old) (failures_of writer.new)) }
+    ensures calm_reader { MatchResult result (λ _. failures_of reader.new ≡ failures_of reader.old)
+        (λ fault. fault.stop ≢ ReplayStop.Read → failures_of reader.new ≡ failures_of reader.old) }
+    ensures calm_writer { MatchResult result (λ _. failures_of writer.new ≡ failures_of writer.old)
+        (λ fault. fault.stop ≢ ReplayStop.Write → failures_of writer.new ≡ failures_of writer.old) }
 {
     let Ok(routes) = Routes::new(alloc) else {
         return Err(ReplayFault::between(ReplayStop::Memory, 0));

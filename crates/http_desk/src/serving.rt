@@ -4,7 +4,7 @@ ghost use Rattle.std.specs.Prelude.{◌≡◌, ◌≢◌, ◌<◌, ℕ, Bool, Li
 ghost use Rattle.std.specs.Io.KnownBytes.{Appends, Consumes, IsAtEnd};
 ghost use Rattle.sqlite.specs.Held.{state};
 ghost use Rattle.office_core.specs.declared.answer.Answer.{Answer};
-ghost use Rattle.desk_devices.specs.Devices.{HasFailed};
+ghost use Rattle.desk_devices.specs.Devices.{HasFailed, device_of, failures_of};
 ghost use Rattle.desk_answers.specs.Answers.{answer_text};
 ghost use Rattle.desk_hearing.specs.Hearing.{Hears};
 ghost use Rattle.http_desk.specs.Serving.{IsAnswered, IsServed, ServesBytes};
@@ -80,21 +80,21 @@ pub(crate) fn respond<S: Alter, R: Read>(
     reader: &mut Counted<R>,
 ) -> Result<Response, Unanswered>
     ensures answered { IfOk result (λ response. (given : List ℕ)
-        × Consumes (R.remaining reader.old.device) (R.remaining reader.new.device) given
+        × Consumes (R.remaining (device_of reader.old)) (R.remaining (device_of reader.new)) given
         × IsAnswered S.Store response.done day given office.old office.new response.bytes.items
-        × (Hears given (Err DeskRefusal.Truncated) → IsAtEnd (R.remaining reader.new.device))) }
+        × (Hears given (Err DeskRefusal.Truncated) → IsAtEnd (R.remaining (device_of reader.new)))) }
     ensures read { result ≡ Err Unanswered.Read → (given : List ℕ)
-        × Consumes (R.remaining reader.old.device) (R.remaining reader.new.device) given
-        × Hears given (Err DeskRefusal.Truncated) × HasFailed reader.old.failures reader.new.failures × (office.new ≡ office.old) }
+        × Consumes (R.remaining (device_of reader.old)) (R.remaining (device_of reader.new)) given
+        × Hears given (Err DeskRefusal.Truncated) × HasFailed (failures_of reader.old) (failures_of reader.new) × (office.new ≡ office.old) }
     ensures served { result ≡ Err (Unanswered.Memory true) → (given : List ℕ) × (answer : Answer)
-        × Consumes (R.remaining reader.old.device) (R.remaining reader.new.device) given
+        × Consumes (R.remaining (device_of reader.old)) (R.remaining (device_of reader.new)) given
         × ServesBytes day given (state S.Store office.old) (state S.Store office.new) answer }
     ensures not_served { result ≡ Err (Unanswered.Memory false) → office.new ≡ office.old }
-    ensures calm { result ≢ Err Unanswered.Read → reader.new.failures ≡ reader.old.failures }
+    ensures calm { result ≢ Err Unanswered.Read → failures_of reader.new ≡ failures_of reader.old }
     // Where all that the reader has is known, it is all that is heard.
-    ensures whole { IfSome (R.remaining reader.old.device) (λ input. IfOk result (λ response.
+    ensures whole { IfSome (R.remaining (device_of reader.old)) (λ input. IfOk result (λ response.
         IsAnswered S.Store response.done day input office.old office.new response.bytes.items)) }
-    ensures whole_served { result ≡ Err (Unanswered.Memory true) → IfSome (R.remaining reader.old.device) (λ input.
+    ensures whole_served { result ≡ Err (Unanswered.Memory true) → IfSome (R.remaining (device_of reader.old)) (λ input.
         (answer : Answer) × ServesBytes day input (state S.Store office.old) (state S.Store office.new) answer) }
 {
     match hear_request(alloc, routes, reader) {
@@ -124,38 +124,38 @@ pub fn serve_one<S: Alter, R: Read, W: Write>(
 ) -> Result<(), DeskFault>
     // The whole answer was written. What was given is cut short only at the end of the input.
     ensures answered { OnOk result ((given text : List ℕ) × (done : Bool)
-        × Consumes (R.remaining reader.old.device) (R.remaining reader.new.device) given
+        × Consumes (R.remaining (device_of reader.old)) (R.remaining (device_of reader.new)) given
         × IsAnswered S.Store done day given office.old office.new text
-        × Appends (W.contents writer.old.device) (W.contents writer.new.device) text
-        × (Hears given (Err DeskRefusal.Truncated) → IsAtEnd (R.remaining reader.new.device))) }
+        × Appends (W.contents (device_of writer.old)) (W.contents (device_of writer.new)) text
+        × (Hears given (Err DeskRefusal.Truncated) → IsAtEnd (R.remaining (device_of reader.new)))) }
     // The reader failed in this call, and what it gave is no whole request.
     ensures read { result ≡ Err DeskFault.Read → (given : List ℕ)
-        × Consumes (R.remaining reader.old.device) (R.remaining reader.new.device) given
-        × Hears given (Err DeskRefusal.Truncated) × HasFailed reader.old.failures reader.new.failures
+        × Consumes (R.remaining (device_of reader.old)) (R.remaining (device_of reader.new)) given
+        × Hears given (Err DeskRefusal.Truncated) × HasFailed (failures_of reader.old) (failures_of reader.new)
         × (office.new ≡ office.old) × (writer.new ≡ writer.old) }
     // The writer failed in this call, and has a beginning of the answer.
     ensures write { (done : Bool) → result ≡ Err (DeskFault.Write done) → (given text : List ℕ) × (count : ℕ)
-        × Consumes (R.remaining reader.old.device) (R.remaining reader.new.device) given
+        × Consumes (R.remaining (device_of reader.old)) (R.remaining (device_of reader.new)) given
         × IsAnswered S.Store done day given office.old office.new text × (count < length text)
-        × Appends (W.contents writer.old.device) (W.contents writer.new.device) (take count text)
-        × HasFailed writer.old.failures writer.new.failures
-        × (Hears given (Err DeskRefusal.Truncated) → IsAtEnd (R.remaining reader.new.device)) }
+        × Appends (W.contents (device_of writer.old)) (W.contents (device_of writer.new)) (take count text)
+        × HasFailed (failures_of writer.old) (failures_of writer.new)
+        × (Hears given (Err DeskRefusal.Truncated) → IsAtEnd (R.remaining (device_of reader.new))) }
     // Memory ran out behind the office's answer, or before the office was asked.
     ensures memory_done { result ≡ Err (DeskFault.Memory true) → (given : List ℕ) × (answer : Answer)
-        × Consumes (R.remaining reader.old.device) (R.remaining reader.new.device) given
+        × Consumes (R.remaining (device_of reader.old)) (R.remaining (device_of reader.new)) given
         × ServesBytes day given (state S.Store office.old) (state S.Store office.new) answer × (writer.new ≡ writer.old) }
     ensures memory { result ≡ Err (DeskFault.Memory false) → (office.new ≡ office.old) × (writer.new ≡ writer.old) }
     // Where all that the reader has is known, it is all that is answered.
-    ensures whole { OnOk result (IfSome (R.remaining reader.old.device) (λ input. (text : List ℕ) × (done : Bool)
+    ensures whole { OnOk result (IfSome (R.remaining (device_of reader.old)) (λ input. (text : List ℕ) × (done : Bool)
         × IsAnswered S.Store done day input office.old office.new text
-        × Appends (W.contents writer.old.device) (W.contents writer.new.device) text)) }
-    ensures whole_write { (done : Bool) → result ≡ Err (DeskFault.Write done) → IfSome (R.remaining reader.old.device) (λ input.
+        × Appends (W.contents (device_of writer.old)) (W.contents (device_of writer.new)) text)) }
+    ensures whole_write { (done : Bool) → result ≡ Err (DeskFault.Write done) → IfSome (R.remaining (device_of reader.old)) (λ input.
         (text : List ℕ) × (count : ℕ) × IsAnswered S.Store done day input office.old office.new text × (count < length text)
-        × Appends (W.contents writer.old.device) (W.contents writer.new.device) (take count text)) }
-    ensures whole_memory_done { result ≡ Err (DeskFault.Memory true) → IfSome (R.remaining reader.old.device) (λ input.
+        × Appends (W.contents (device_of writer.old)) (W.contents (device_of writer.new)) (take count text)) }
+    ensures whole_memory_done { result ≡ Err (DeskFault.Memory true) → IfSome (R.remaining (device_of reader.old)) (λ input.
         (answer : Answer) × ServesBytes day input (state S.Store office.old) (state S.Store office.new) answer) }
-    ensures calm_reader { result ≢ Err DeskFault.Read → reader.new.failures ≡ reader.old.failures }
-    ensures calm_writer { ((done : Bool) → result ≢ Err (DeskFault.Write done)) → writer.new.failures ≡ writer.old.failures }
+    ensures calm_reader { result ≢ Err DeskFault.Read → failures_of reader.new ≡ failures_of reader.old }
+    ensures calm_writer { ((done : Bool) → result ≢ Err (DeskFault.Write done)) → failures_of writer.new ≡ failures_of writer.old }
 {
     let Ok(routes) = Routes::new(alloc) else {
         return Err(DeskFault::Memory { done: false });

@@ -5,7 +5,7 @@ use desk_devices::{
     read_head, write_whole,
 };
 use std::alloc::Global;
-use std::io::{Read, Write};
+use std::io::{Error, ErrorKind, Read, Write};
 use std::test::*;
 
 static PLACES: [(&str, HeadPlace); 12] = [
@@ -84,8 +84,8 @@ fn read_at(
 ) -> Result<(usize, usize, u64), (HeadFault, u64)> {
     let mut reader = Counted::new(FailAt::new(input.as_bytes(), portion, calls));
     match read_head(alloc, &mut reader) {
-        Ok(head) => Ok((head.end, head.bytes.len(), reader.failures)),
-        Err(fault) => Err((fault, reader.failures)),
+        Ok(head) => Ok((head.end, head.bytes.len(), reader.failures())),
+        Err(fault) => Err((fault, reader.failures())),
     }
 }
 
@@ -121,7 +121,7 @@ fn fill_at(
     let mut bytes = Vec::from_slice(alloc, b"a\n")?;
     let mut reader = Counted::new(FailAt::new("body".as_bytes(), portion, calls));
     let result = fill(&mut reader, &mut bytes, want);
-    Ok((result, bytes, reader.failures))
+    Ok((result, bytes, reader.failures()))
 }
 
 #[test]
@@ -155,10 +155,15 @@ fn bytes_written_whole(rt: HostRuntime) -> Result<(), Fail> {
         let memory: Vec<u8> = Vec::new(rt.alloc());
         let mut writer = Counted::new(FailAt::new(memory, *portion, *calls));
         assert!(rt; write_whole(&mut writer, b"body") == *answer);
-        assert!(rt; writer.device.memory.as_slice() == text.as_bytes());
-        assert!(rt; writer.failures == *failures);
+        assert!(rt; writer.device().memory.as_slice() == text.as_bytes());
+        assert!(rt; writer.failures() == *failures);
     }
     Ok(())
+}
+
+/// The kind of an error, where there is one.
+fn kind_of(error: Option<Error>) -> Option<ErrorKind> {
+    Some(error?.kind())
 }
 
 #[test]
@@ -168,21 +173,25 @@ fn failed_calls_are_counted(rt: HostRuntime) -> Result<(), Fail> {
     assert!(rt; matches!(reader.read(&mut buffer), Ok(1)));
     assert!(rt; reader.read(&mut buffer).is_err());
     assert!(rt; reader.read(&mut buffer).is_err());
-    assert!(rt; reader.failures == 2);
+    assert!(rt; reader.failures() == 2);
+    assert!(rt; kind_of(reader.last_error()) == Some(ErrorKind::BrokenPipe));
+    assert!(rt; reader.into_device().memory == b"b".as_slice());
     let memory: Vec<u8> = Vec::new(rt.alloc());
     let mut writer = Counted::new(FailAt::new(memory, Portion::All, 2));
     assert!(rt; writer.flush().is_ok());
     assert!(rt; matches!(writer.write(b"ab"), Ok(2)));
     assert!(rt; writer.flush().is_err());
     assert!(rt; writer.write(b"c").is_err());
-    assert!(rt; writer.failures == 2);
-    assert!(rt; writer.device.memory.as_slice() == b"ab".as_slice());
+    assert!(rt; writer.failures() == 2);
+    assert!(rt; writer.device().memory.as_slice() == b"ab".as_slice());
     let mut full = [0u8; 1];
     let mut narrow = Counted::new(&mut full[..]);
     assert!(rt; matches!(narrow.write(b"ab"), Ok(1)));
     assert!(rt; matches!(narrow.write(b""), Ok(0)));
-    assert!(rt; narrow.failures == 0);
+    assert!(rt; narrow.failures() == 0);
+    assert!(rt; narrow.last_error().is_none());
     assert!(rt; matches!(narrow.write(b"b"), Ok(0)));
-    assert!(rt; narrow.failures == 1);
+    assert!(rt; narrow.failures() == 1);
+    assert!(rt; kind_of(narrow.last_error()) == Some(ErrorKind::WriteZero));
     Ok(())
 }

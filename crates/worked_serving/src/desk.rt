@@ -49,7 +49,7 @@ pub fn serve_request<S: Alter>(
     let mut reader = Counted::new(FailAt::new(request, devices.portion, devices.reads));
     let mut writer = Counted::new(FailAt::new(Vec::new(alloc), devices.portion, devices.writes));
     let ended = serve_one(alloc, office, day, &mut reader, &mut writer);
-    Ok((ended, writer.device.memory))
+    Ok((ended, writer.into_device().memory))
 }
 
 /// Fails where something else was written than was worked out.

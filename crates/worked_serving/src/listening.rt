@@ -321,7 +321,10 @@ pub fn drop_all() -> Result<(), Fail> {
     for row in &DROPS {
         let mut reader = Counted::new(FailAt::new(BODY, row.portion, row.calls));
         let end = drain(&mut reader, row.most);
-        if end != row.end || reader.device.memory != row.left || reader.failures != row.failures {
+        if end != row.end
+            || reader.device().memory != row.left
+            || reader.failures() != row.failures
+        {
             return Err("another end of what still comes".into());
         }
     }

@@ -167,7 +167,7 @@ fn replay_as<S: Alter>(
     let mut writer = Counted::new(FailAt::new(Vec::new(alloc), Portion::OneByte, calls.writes));
     let ended = replay(alloc, office, &mut reader, &mut writer);
     let wanted = answers.get(..length).ok_or("few answers")?;
-    compare(alloc, &writer.device.memory, wanted)?;
+    compare(alloc, &writer.device().memory, wanted)?;
     if ended != ends {
         return Err(Fail::new("a replay ended otherwise"));
     }

@@ -1,13 +1,14 @@
 use Rattle.std.proofs.Common.{◌≡◌, ◌-◌, length}
 use Rattle.std.specs.Io.KnownBytes.{Consumes}
+use Rattle.desk_devices.specs.Devices.{device_of, failures_of}
 use Rattle.desk_devices.specs.Heads.{max_head}
 use Rattle.desk_devices.proofs.head.read_to_end_of_head.Given as goal
 
 -- what came stands in bytes, and no call has failed
 abbrev pub invariant-reads : goal.invariant-reads
 invariant-reads g l = record {
-  given : Consumes (g.R.Read.remaining l.initial.reader.device) (g.R.Read.remaining l.reader.device) l.bytes.items;
-  failures : l.reader.failures ≡ l.initial.reader.failures;
+  given : Consumes (g.R.Read.remaining (device_of l.initial.reader)) (g.R.Read.remaining (device_of l.reader)) l.bytes.items;
+  failures : failures_of l.reader ≡ failures_of l.initial.reader;
 }
 
 abbrev pub decreases-reads : goal.decreases-reads

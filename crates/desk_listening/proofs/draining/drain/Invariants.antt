@@ -1,13 +1,14 @@
 use Rattle.std.proofs.Common.{◌≡◌, ◌-◌, ◌≤◌, ℕ, List, length}
 use Rattle.std.specs.Io.KnownBytes.{Consumes}
+use Rattle.desk_devices.specs.Devices.{device_of, failures_of}
 use Rattle.desk_listening.proofs.draining.drain.Given as goal
 
 -- what came is counted, and no call has failed
 abbrev pub invariant-drops : goal.invariant-drops
 invariant-drops g l = record {
-  given : (given : List ℕ) × Consumes (g.R.Read.remaining l.initial.reader.device) (g.R.Read.remaining l.reader.device) given × (length given ≡ l.dropped);
+  given : (given : List ℕ) × Consumes (g.R.Read.remaining (device_of l.initial.reader)) (g.R.Read.remaining (device_of l.reader)) given × (length given ≡ l.dropped);
   few : l.dropped ≤ l.most;
-  failures : l.reader.failures ≡ l.initial.reader.failures;
+  failures : failures_of l.reader ≡ failures_of l.initial.reader;
 }
 
 abbrev pub decreases-drops : goal.decreases-drops

@@ -1,4 +1,5 @@
 use Rattle.std.proofs.Common.{Bool, Ok, Err, refl, sym, subst}
+use Rattle.desk_devices.specs.Devices.{device_of}
 use Rattle.desk_listening.specs.Peers.{Drops, IsLeft}
 use Rattle.desk_listening.proofs.Connections.{left_so, told}
 use Rattle.desk_listening.proofs.listening.serve_ends.Goals as goal
@@ -8,7 +9,7 @@ returns-in-Ok g c =
     let ends = c.args.ends.now in
     let one = c.serve_one.new in
     let at = c.in-Ok.ensures in
-    let it = told g.S.Store c.args.day g.P.Writer.Write.contents c.args.office.now one.office (g.P.Reader.Read.remaining ends.reader.device) (g.P.Reader.Read.remaining one.reader.device)
+    let it = told g.S.Store c.args.day g.P.Writer.Write.contents c.args.office.now one.office (g.P.Reader.Read.remaining (device_of ends.reader)) (g.P.Reader.Read.remaining (device_of one.reader))
     ends.writer one.writer _ _ (Ok c.in-Ok.field-0) at.answered at.read at.write at.memory_done at.memory at.whole at.whole_write at.whole_memory_done in
     let left = c.hang_up-left.ensures in
     let after = c.hang_up-left.new in (
@@ -32,7 +33,7 @@ returns-in-Err g c =
     let ends = c.args.ends.now in
     let one = c.serve_one.new in
     let at = c.in-Err.ensures in
-    let it = told g.S.Store c.args.day g.P.Writer.Write.contents c.args.office.now one.office (g.P.Reader.Read.remaining ends.reader.device) (g.P.Reader.Read.remaining one.reader.device)
+    let it = told g.S.Store c.args.day g.P.Writer.Write.contents c.args.office.now one.office (g.P.Reader.Read.remaining (device_of ends.reader)) (g.P.Reader.Read.remaining (device_of one.reader))
     ends.writer one.writer _ _ (Err c.in-Err.fault) at.answered at.read at.write at.memory_done at.memory at.whole at.whole_write at.whole_memory_done in (
       it.connection,
       it.after,

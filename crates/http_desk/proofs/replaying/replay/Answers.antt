@@ -3,6 +3,7 @@ use Rattle.std.specs.Prelude.{Ok}
 use Rattle.std.proofs.lemmas.Grind.{common_steps}
 use Rattle.std.proofs.lemmas.List.{nil_from_length}
 use Rattle.std.proofs.KnownBytes.{Appends-nil, Consumes-nil}
+use Rattle.desk_devices.specs.Devices.{device_of}
 use Rattle.desk_records.specs.Records.{record_text, WantsMore, CanNotBegin}
 use Rattle.desk_records.specs.RecordLists.{max_records}
 use Rattle.desk_records.proofs.FoundLemmas.{wanted_short}
@@ -45,7 +46,7 @@ records-preserved-in-Whole g c =
 
 pub records-preserved : goal.records-preserved
 records-preserved g c =
-    let m = subst (λ v. ReadsMore (g.R.Read.remaining c.records.reader.device) (g.R.Read.remaining c.read_more.new.reader.device) c.records.pending.items c.read_more.new.pending.items (Ok v)) c.in-Ok-true.field-0-test c.in-Ok-true.ensures.more in
+    let m = subst (λ v. ReadsMore (g.R.Read.remaining (device_of c.records.reader)) (g.R.Read.remaining (device_of c.read_more.new.reader)) c.records.pending.items c.read_more.new.pending.items (Ok v)) c.in-Ok-true.field-0-test c.in-Ok-true.ensures.more in
     let wants = subst (λ l. WantsMore l) c.deref.ensures.value c.in-More.ensures in
     record {
       progress = read_on g.S.Store _ _ _ _ _ _ _ c.records.pending.items m.0 c.read_more.new.pending.items c.records.count c.records.invariant.progress m.1 m.2;
@@ -60,14 +61,14 @@ records-preserved g c =
 
 pub returns-in-Ok-false-clause-replayed : goal.returns-in-Ok-false-clause-replayed
 returns-in-Ok-false-clause-replayed g c =
-    let m = subst (λ v. ReadsMore (g.R.Read.remaining c.records.reader.device) (g.R.Read.remaining c.read_more.new.reader.device) c.records.pending.items c.read_more.new.pending.items (Ok v)) c.in-Ok-false.field-0-test c.in-Ok-false.ensures.more in
+    let m = subst (λ v. ReadsMore (g.R.Read.remaining (device_of c.records.reader)) (g.R.Read.remaining (device_of c.read_more.new.reader)) c.records.pending.items c.read_more.new.pending.items (Ok v)) c.in-Ok-false.field-0-test c.in-Ok-false.ensures.more in
     let wants = subst (λ l. WantsMore l) c.deref.ensures.value c.in-More.ensures in
     let none = nil_from_length c.records.pending.items (let e : length c.read_more.new.pending.items ≡ length c.records.pending.items = ap length m.2 in let z : length c.read_more.new.pending.items ≡ 0 = grind (arith, common_steps) in omega arith) in
     ended g.S.Store _ _ _ _ _ _ _ c.records.pending.items c.records.count c.records.invariant.progress wants none m.0 m.1
 
 pub returns-in-Ok-false-2-clause-replayed : goal.returns-in-Ok-false-2-clause-replayed
 returns-in-Ok-false-2-clause-replayed g c =
-    let m = subst (λ v. ReadsMore (g.R.Read.remaining c.records.reader.device) (g.R.Read.remaining c.read_more.new.reader.device) c.records.pending.items c.read_more.new.pending.items (Ok v)) c.in-Ok-false.field-0-test c.in-Ok-false.ensures.more in
+    let m = subst (λ v. ReadsMore (g.R.Read.remaining (device_of c.records.reader)) (g.R.Read.remaining (device_of c.read_more.new.reader)) c.records.pending.items c.read_more.new.pending.items (Ok v)) c.in-Ok-false.field-0-test c.in-Ok-false.ensures.more in
     let wants = subst (λ l. WantsMore l) c.deref.ensures.value c.in-More.ensures in
     let some : c.records.pending.items ≢ [] = λ none. (let z : length c.read_more.new.pending.items ≡ 0 = ap length (m.2 ∙ none) in absurd (grind (arith, common_steps))) in
     stopped_by g.S.Store _ _ _ _ _ _ c.bad_record.result _ c.bad_record.ensures (bad_at_end g.S.Store _ _ _ _ _ _ _ c.records.pending.items c.records.count c.records.invariant.progress wants some m.0 m.1)

@@ -1,14 +1,15 @@
 use Rattle.std.proofs.Common.{◌≡◌, ◌≤◌, ◌-◌, ◌*◌, ◌+◌, length}
+use Rattle.desk_devices.specs.Devices.{device_of, failures_of}
 use Rattle.desk_records.specs.RecordLists.{max_records}
 use Rattle.http_desk.proofs.ReplayLemmas.{Progress}
 use Rattle.http_desk.proofs.replaying.replay.Given as goal
 
 abbrev pub invariant-records : goal.invariant-records
 invariant-records g l = record {
-  progress : Progress g.S.Store l.fn.office l.office (g.R.Read.remaining l.fn.reader.device) (g.R.Read.remaining l.reader.device) (g.W.Write.contents l.fn.writer.device) (g.W.Write.contents l.writer.device) l.pending.items l.count;
+  progress : Progress g.S.Store l.fn.office l.office (g.R.Read.remaining (device_of l.fn.reader)) (g.R.Read.remaining (device_of l.reader)) (g.W.Write.contents (device_of l.fn.writer)) (g.W.Write.contents (device_of l.writer)) l.pending.items l.count;
   short : length l.pending.items ≤ 16804120;
-  reader_calm : l.reader.failures ≡ l.fn.reader.failures;
-  writer_calm : l.writer.failures ≡ l.fn.writer.failures;
+  reader_calm : failures_of l.reader ≡ failures_of l.fn.reader;
+  writer_calm : failures_of l.writer ≡ failures_of l.fn.writer;
 }
 
 abbrev pub decreases-records : goal.decreases-records
