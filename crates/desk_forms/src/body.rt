@@ -1,6 +1,6 @@
 //! What the bodies of routes say: JSON, read into values of the office.
 
-ghost use Rattle.std.specs.Prelude.{◌≡◌, ◌≢◌, ◌↔◌, ◌≤◌, ℕ, List, [], Option, IsOk, IfOk, IfErr, IfSome, option_map};
+ghost use Rattle.std.specs.Prelude.{◌≡◌, ◌≢◌, ◌↔◌, ◌≤◌, ℕ, List, [], Option, IsOk, IfOk, IfErr, IfSome, IsUtf8, option_map};
 ghost use Rattle.serde_json.specs.Data.{Data, number, string, unsigned};
 ghost use Rattle.serde_json.specs.View.{view, members_view};
 ghost use Rattle.office_core.specs.Names.{IsName, IsMatter};
@@ -59,11 +59,12 @@ pub fn check_no_body(body: &[u8]) -> Result<(), BodyFault>
     }
 }
 
-/// The value that a JSON text writes.
+/// The value that a JSON text writes. A body that is no UTF-8 is refused before anything is allocated.
 fn read_json(alloc: Global, body: &[u8]) -> Result<Value, BodyFault>
     ensures value { IfOk result (λ value. IsJsonOf body.now (view value)) }
     ensures refused { result ≡ Err BodyFault.BadBody → (value : Data)
         → ¬ IsJsonOf body.now value }
+    ensures text { ¬ IsUtf8 body.now → result ≡ Err BodyFault.BadBody }
 {
     let Ok(text) = str::from_utf8(body) else {
         return Err(BodyFault::BadBody);
@@ -113,11 +114,12 @@ fn only_member<'a>(value: &'a Value, key: &str) -> Option<&'a Value>
 }
 
 /// The years of a class, `{"years":n}`: a whole number from 0 to 200, or `null` for good.
-/// `BadBody` where the body says none, and `Memory` where there is no memory.
+/// `BadBody` where the body says none, and `Memory` where there is no memory for what is UTF-8.
 pub fn read_years(alloc: Global, body: &[u8]) -> Result<Years, BodyFault>
     ensures years { IfOk result (λ years. SaysYears body.now years) }
     ensures refused { result ≡ Err BodyFault.BadBody → (years : Option ℕ)
         → ¬ SaysYears body.now years }
+    ensures text { ¬ IsUtf8 body.now → result ≡ Err BodyFault.BadBody }
 {
     let value = read_json(alloc, body)?;
     match only_member(&value, "years").and_then(years_in) {
@@ -224,11 +226,12 @@ fn two_members(value: &Value) -> Option<(Member<'_>, Member<'_>)>
 
 /// What is held, and for which matter: `{"deposit":n,"matter":".."}`, with a whole number from 1 to
 /// 9,999,999, or `{"collection":"..","matter":".."}`. `BadBody` where the body says neither, and
-/// `Memory` where there is no memory.
+/// `Memory` where there is no memory for what is UTF-8.
 pub fn read_hold(alloc: Global, body: &[u8]) -> Result<HoldBody, BodyFault>
     ensures hold { IfOk result (λ hold. SaysHold body.now hold) }
     ensures refused { result ≡ Err BodyFault.BadBody → (hold : HoldBody)
         → ¬ SaysHold body.now hold }
+    ensures text { ¬ IsUtf8 body.now → result ≡ Err BodyFault.BadBody }
 {
     let value = read_json(alloc, body)?;
     match two_members(&value) {
