@@ -2,4 +2,5 @@ pub mod HearingLemmas
 pub mod JudgingLemmas
 pub mod OneHearing
 pub mod ReadingLemmas
+pub mod RefusalLemmas
 pub mod RequestLemmas

@@ -55,7 +55,7 @@ heard_at (places.Found n) input heard h = (n, refl, h)
 heard_at places.TooLarge input heard h = absurd (cc)
 heard_at places.Short input heard h = absurd (cc)
 
-route_asks : (contents : HeadContents) (route : RouteValue) → route_asked contents ≡ Ok route → Asks contents.method (path_part contents.target) route
+pub route_asks : (contents : HeadContents) (route : RouteValue) → route_asked contents ≡ Ok route → Asks contents.method (path_part contents.target) route
 unfolding route_asked
 route_asks contents route e = found-asked contents.method (path_part contents.target) route e
 

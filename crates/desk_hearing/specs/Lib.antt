@@ -5,3 +5,4 @@ pub mod Faults
 pub mod View
 pub mod Reading
 pub mod Requests
+pub mod Refused

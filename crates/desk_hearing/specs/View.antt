@@ -1,9 +1,10 @@
 -- How the code's values are seen, and what its steps answer: Depot's own, by the rules of `Hearing`.
-use Rattle.std.specs.Prelude.{◌≡◌, ℕ, List, [], Result, Ok, Err, ⊤}
+use Rattle.std.specs.Prelude.{◌≡◌, ℕ, List, [], Result, Ok, Err, ⊤, IsUtf8}
 use Rattle.desk_routes.specs.Table.{RouteValue}
+use Rattle.desk_routes.specs.Table as routes
 use Rattle.desk_routes.specs.declared.refusal.DeskRefusal.TheVariants.{BadQuery, BadBody}
 use Rattle.desk_hearing.specs.Asked.{Asked, asked_with}
-use Rattle.desk_hearing.specs.Asking.{of_class, of_deposit, of_hold, of_all, QueryAsks, BodyAsks}
+use Rattle.desk_hearing.specs.Asking.{of_class, of_deposit, of_hold, of_all, HasNoPair, QueryAsks, BodyAsks}
 use Rattle.desk_hearing.specs.Asking as asking
 use Rattle.desk_hearing.specs.Hearing.{Hearing, HearsRest, HearsFront}
 use Rattle.desk_hearing.specs.declared.ask.Ask.{Ask}
@@ -38,3 +39,18 @@ AnswersFront front (Ok announced) = (rest : List ℕ) (hearing : Hearing)
     → HearsRest announced.caller (question_seen announced.question) announced.body_length rest hearing → HearsFront front rest hearing
 AnswersFront front (Err (faults.Refused refusal)) = (rest : List ℕ) → HearsFront front rest (Err refusal)
 AnswersFront front (Err faults.Memory) = ⊤
+
+-- ---- what is refused however little memory there is
+
+-- a pair on a route that takes no keys
+abbrev pub IsRefusedQuery : RouteValue → List ℕ → Type 0
+IsRefusedQuery routes.deposit_bag query = ⊥
+IsRefusedQuery routes.list_deposits query = ⊥
+IsRefusedQuery route query = HasNoPair query → ⊥
+
+-- a body that is no text where JSON is asked for, or one where none is
+abbrev pub IsRefusedBody : asking.Question → List ℕ → Type 0
+IsRefusedBody (of_class name) body = IsUtf8 body → ⊥
+IsRefusedBody of_hold body = IsUtf8 body → ⊥
+IsRefusedBody (of_deposit collection class accession closed) body = ⊥
+IsRefusedBody (of_all known) body = body ≡ [] → ⊥

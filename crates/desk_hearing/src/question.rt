@@ -3,7 +3,7 @@
 ghost use Rattle.std.specs.Prelude.{◌≡◌, MatchResult, [], Err, Ok};
 ghost use Rattle.desk_routes.specs.Views.{route_view};
 ghost use Rattle.desk_hearing.specs.Asking.{HasNoPair};
-ghost use Rattle.desk_hearing.specs.View.{question_seen, AnswersQuery, AnswersBody};
+ghost use Rattle.desk_hearing.specs.View.{question_seen, AnswersQuery, AnswersBody, IsRefusedQuery, IsRefusedBody};
 
 use crate::ask::Ask;
 use crate::fault::JudgingFault;
@@ -37,19 +37,26 @@ fn without_query(query: &[u8], question: Question) -> Result<Question, JudgingFa
     Ok(question)
 }
 
-/// What the route asks with this query.
+/// What the route asks with this query. A pair on a route without keys is refused before anything is
+/// allocated.
 pub(crate) fn question_of(
     alloc: Global,
     route: Route<'_>,
     query: &[u8],
 ) -> Result<Question, JudgingFault>
-    ensures { AnswersQuery (route_view route.entry) query.now result }
+    ensures asked { AnswersQuery (route_view route.entry) query.now result }
+    ensures unread { IsRefusedQuery (route_view route.entry) query.now
+        → result ≡ Err (JudgingFault.Refused DeskRefusal.BadQuery) }
 {
     match route {
-        Route::DefineClass(name) => without_query(query, Question::Class(name.to_owned(alloc)?)),
+        Route::DefineClass(name) => {
+            check_no_query(query)?;
+            Ok(Question::Class(name.to_owned(alloc)?))
+        }
         Route::DefineCollection(name) => {
+            check_no_query(query)?;
             let name = name.to_owned(alloc)?;
-            without_query(query, Question::Whole(Ask::DefineCollection { name }))
+            Ok(Question::Whole(Ask::DefineCollection { name }))
         }
         Route::Deposit => Ok(Question::Deposit(read_deposit_query(alloc, query)?)),
         Route::List => {
@@ -66,8 +73,9 @@ pub(crate) fn question_of(
             without_query(query, Question::Whole(Ask::DownloadBag { deposit }))
         }
         Route::DownloadFile { deposit, path } => {
+            check_no_query(query)?;
             let path = decode_path(alloc, path)?;
-            without_query(query, Question::Whole(Ask::DownloadFile { deposit, path }))
+            Ok(Question::Whole(Ask::DownloadFile { deposit, path }))
         }
         Route::Audit(deposit) => without_query(query, Question::Whole(Ask::Audit { deposit })),
         Route::PlaceHold => without_query(query, Question::Hold),
@@ -78,7 +86,9 @@ pub(crate) fn question_of(
 
 /// What the body says of a hold.
 fn hold_of(alloc: Global, body: &[u8]) -> Result<Ask, JudgingFault>
-    ensures { AnswersBody (question_seen Question.Hold) body.now result }
+    ensures asked { AnswersBody (question_seen Question.Hold) body.now result }
+    ensures unread { IsRefusedBody (question_seen Question.Hold) body.now
+        → result ≡ Err (JudgingFault.Refused DeskRefusal.BadBody) }
 {
     match read_hold(alloc, body)? {
         HoldBody::Deposit { deposit, matter } => Ok(Ask::HoldDeposit { deposit, matter }),
@@ -89,9 +99,12 @@ fn hold_of(alloc: Global, body: &[u8]) -> Result<Ask, JudgingFault>
     }
 }
 
-/// What the question asks with this body.
+/// What the question asks with this body. A body that is no text where JSON is asked for, or is there
+/// where none is, is refused before anything is allocated.
 pub(crate) fn ask_of(alloc: Global, question: Question, body: &[u8]) -> Result<Ask, JudgingFault>
-    ensures { AnswersBody (question_seen question) body.now result }
+    ensures asked { AnswersBody (question_seen question) body.now result }
+    ensures unread { IsRefusedBody (question_seen question) body.now
+        → result ≡ Err (JudgingFault.Refused DeskRefusal.BadBody) }
 {
     match question {
         Question::Class(name) => Ok(Ask::DefineClass {

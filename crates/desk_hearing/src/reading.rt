@@ -1,8 +1,8 @@
 //! A request, heard from a reader.
 
-ghost use Rattle.std.specs.Prelude.{◌≡◌, ◌≢◌, ℕ, List, Err, IfSome};
+ghost use Rattle.std.specs.Prelude.{◌≡◌, ◌≢◌, ℕ, List, Err, IfSome, IsSome};
 ghost use Rattle.std.specs.Io.KnownBytes.{Consumes, IsAtEnd};
-ghost use Rattle.desk_devices.specs.Devices.{HasFailed};
+ghost use Rattle.desk_devices.specs.Devices.{HasFailed, device_of, failures_of, last_error_of};
 ghost use Rattle.desk_hearing.specs.Reading.{HeardOf, HeardOfAll};
 
 use crate::fault::HeardFault;
@@ -22,11 +22,12 @@ pub fn hear_request<R: Read>(
     reader: &mut Counted<R>,
 ) -> Result<Heard, HeardFault>
     ensures given { result ≢ Err HeardFault.Memory → (given : List ℕ)
-        × Consumes (R.remaining reader.old.device) (R.remaining reader.new.device) given × HeardOf given result }
-    ensures end { result ≡ Err (HeardFault.Refused DeskRefusal.Truncated) → IsAtEnd (R.remaining reader.new.device) }
-    ensures calm { result ≢ Err HeardFault.Read → reader.new.failures ≡ reader.old.failures }
-    ensures failed { result ≡ Err HeardFault.Read → HasFailed reader.old.failures reader.new.failures }
-    ensures whole { IfSome (R.remaining reader.old.device) (λ input. HeardOfAll input result) }
+        × Consumes (R.remaining (device_of reader.old)) (R.remaining (device_of reader.new)) given × HeardOf given result }
+    ensures end { result ≡ Err (HeardFault.Refused DeskRefusal.Truncated) → IsAtEnd (R.remaining (device_of reader.new)) }
+    ensures calm { result ≢ Err HeardFault.Read → failures_of reader.new ≡ failures_of reader.old }
+    ensures failed { result ≡ Err HeardFault.Read → HasFailed (failures_of reader.old) (failures_of reader.new) }
+    ensures reason { result ≡ Err HeardFault.Read → IsSome (last_error_of reader.new) }
+    ensures whole { IfSome (R.remaining (device_of reader.old)) (λ input. HeardOfAll input result) }
 {
     let head = read_head(alloc, reader)?;
     let end = head.end;
@@ -47,11 +48,12 @@ pub fn hear_request<R: Read>(
 /// Hears one request, as `hear_request`, with a table of the routes of its own.
 pub fn read_request<R: Read>(alloc: Global, reader: &mut Counted<R>) -> Result<Heard, HeardFault>
     ensures given { result ≢ Err HeardFault.Memory → (given : List ℕ)
-        × Consumes (R.remaining reader.old.device) (R.remaining reader.new.device) given × HeardOf given result }
-    ensures end { result ≡ Err (HeardFault.Refused DeskRefusal.Truncated) → IsAtEnd (R.remaining reader.new.device) }
-    ensures calm { result ≢ Err HeardFault.Read → reader.new.failures ≡ reader.old.failures }
-    ensures failed { result ≡ Err HeardFault.Read → HasFailed reader.old.failures reader.new.failures }
-    ensures whole { IfSome (R.remaining reader.old.device) (λ input. HeardOfAll input result) }
+        × Consumes (R.remaining (device_of reader.old)) (R.remaining (device_of reader.new)) given × HeardOf given result }
+    ensures end { result ≡ Err (HeardFault.Refused DeskRefusal.Truncated) → IsAtEnd (R.remaining (device_of reader.new)) }
+    ensures calm { result ≢ Err HeardFault.Read → failures_of reader.new ≡ failures_of reader.old }
+    ensures failed { result ≡ Err HeardFault.Read → HasFailed (failures_of reader.old) (failures_of reader.new) }
+    ensures reason { result ≡ Err HeardFault.Read → IsSome (last_error_of reader.new) }
+    ensures whole { IfSome (R.remaining (device_of reader.old)) (λ input. HeardOfAll input result) }
 {
     let routes = Routes::new(alloc)?;
     hear_request(alloc, &routes, reader)

@@ -26,17 +26,17 @@ returns-in_err-route-clause-answered c =
 pub returns-in_err-question-clause-uncut : goal.returns-in_err-question-clause-uncut
 returns-in_err-question-clause-uncut c =
     let p = err_from_is_err_and c.from_residual-in_err-question.result c.from_residual-in_err-question.ensures.1 in
-    rw (p.1, p.2) (λ e. query_uncut _ _ c.in_err-question.field-0.0 c.in_err-question.ensures (cc))
+    rw (p.1, p.2) (λ e. query_uncut _ _ c.in_err-question.field-0.0 c.in_err-question.ensures.asked (cc))
 
 pub returns-in_err-question-clause-answered : goal.returns-in_err-question-clause-answered
 returns-in_err-question-clause-answered c =
     let p = err_from_is_err_and c.from_residual-in_err-question.result c.from_residual-in_err-question.ensures.1 in
     rw (p.1, p.2) (query_refused c.args.front.now _ (contents_seen c.in_ok-head.head) (route_view c.in_ok-route.route) c.in_err-question.field-0.0 c.in_ok-head.ensures.judged
     (asked_route (contents_seen c.in_ok-head.head) _ _ c.split_target.ensures.path c.in_ok-route.ensures)
-    (c.as_bytes.ensures.value ∙ c.split_target.ensures.query) c.in_err-question.ensures)
+    (c.as_bytes.ensures.value ∙ c.split_target.ensures.query) c.in_err-question.ensures.asked)
 
 pub returns-clause-answered : goal.returns-clause-answered
 returns-clause-answered c =
     front_announced c.args.front.now _ (contents_seen c.in_ok-head.head) (route_view c.in_ok-route.route) _ c.in_ok-head.ensures.judged
     (asked_route (contents_seen c.in_ok-head.head) _ _ c.split_target.ensures.path c.in_ok-route.ensures)
-    (c.as_bytes.ensures.value ∙ c.split_target.ensures.query) c.in_ok-question.ensures c.in_ok-caller.ensures refl
+    (c.as_bytes.ensures.value ∙ c.split_target.ensures.query) c.in_ok-question.ensures.asked c.in_ok-caller.ensures refl

@@ -58,12 +58,12 @@ returns-in_err-ask-clause-given g c =
     let p = err_from_is_err_and c.from_residual-in_err-ask.result c.from_residual-in_err-ask.ensures.1 in
     rw (p.1, p.2) (ask_given c.in_err-ask.field-0.0 _ _ c.fill.new.bytes.items _ c.in_ok-head.head.end c.in_ok-announced.announced.body_length c.in_ok-announced.announced.caller (question_seen c.in_ok-announced.announced.question)
     (filled _ _ _ c.in_ok-head.head.bytes.items first.0 more.0 c.fill.new.bytes.items c.in_ok-head.head.end _ _ _ first.1 first.2.0 first.2.1 (subst (λ n. c.in_ok-head.head.end ≤ n) c.in_ok-head.head.bytes.ok.0 c.in_ok-head.ensures.within.0) announces more.1 more.2)
-    (subst (λ n. c.in_ok-head.head.end + c.in_ok-announced.announced.body_length ≤ n) c.fill.new.bytes.ok.0 c.in_ok-fill.ensures.ok) (part_is c.deref-2.result.now c.fill.new.bytes.items c.in_ok-head.head.end c.in_ok-announced.announced.body_length c.deref-2.ensures.value) c.in_err-ask.ensures)
+    (subst (λ n. c.in_ok-head.head.end + c.in_ok-announced.announced.body_length ≤ n) c.fill.new.bytes.ok.0 c.in_ok-fill.ensures.ok) (part_is c.deref-2.result.now c.fill.new.bytes.items c.in_ok-head.head.end c.in_ok-announced.announced.body_length c.deref-2.ensures.value) c.in_err-ask.ensures.asked)
 
 pub returns-in_err-ask-clause-end : goal.returns-in_err-ask-clause-end
 returns-in_err-ask-clause-end g c =
     let p = err_from_is_err_and c.from_residual-in_err-ask.result c.from_residual-in_err-ask.ensures.1 in
-    rw (p.1, p.2) (λ e. absurd (ask_uncut c.in_err-ask.field-0.0 _ _ c.in_err-ask.ensures e))
+    rw (p.1, p.2) (λ e. absurd (ask_uncut c.in_err-ask.field-0.0 _ _ c.in_err-ask.ensures.asked e))
 
 pub returns-in_err-ask-clause-whole : goal.returns-in_err-ask-clause-whole
 returns-in_err-ask-clause-whole g c = whole_of _ _ _ (returns-in_err-ask-clause-given g c) (returns-in_err-ask-clause-end g c)
@@ -75,7 +75,7 @@ returns-clause-given g c =
     let announces = subst (λ l. AnswersFront (take c.in_ok-head.head.end l) (Ok c.in_ok-announced.announced)) c.deref.ensures.value c.in_ok-announced.ensures.answered in
     heard_given _ _ c.fill.new.bytes.items _ c.truncate.new.self.items c.in_ok-head.head.end c.in_ok-announced.announced.body_length c.in_ok-announced.announced.caller (question_seen c.in_ok-announced.announced.question) c.in_ok-ask.ask
     (filled _ _ _ c.in_ok-head.head.bytes.items first.0 more.0 c.fill.new.bytes.items c.in_ok-head.head.end _ _ _ first.1 first.2.0 first.2.1 (subst (λ n. c.in_ok-head.head.end ≤ n) c.in_ok-head.head.bytes.ok.0 c.in_ok-head.ensures.within.0) announces more.1 more.2)
-    (subst (λ n. c.in_ok-head.head.end + c.in_ok-announced.announced.body_length ≤ n) c.fill.new.bytes.ok.0 c.in_ok-fill.ensures.ok) (part_is c.deref-2.result.now c.fill.new.bytes.items c.in_ok-head.head.end c.in_ok-announced.announced.body_length c.deref-2.ensures.value) c.truncate.ensures.items c.in_ok-ask.ensures
+    (subst (λ n. c.in_ok-head.head.end + c.in_ok-announced.announced.body_length ≤ n) c.fill.new.bytes.ok.0 c.in_ok-fill.ensures.ok) (part_is c.deref-2.result.now c.fill.new.bytes.items c.in_ok-head.head.end c.in_ok-announced.announced.body_length c.deref-2.ensures.value) c.truncate.ensures.items c.in_ok-ask.ensures.asked
 
 pub returns-clause-whole : goal.returns-clause-whole
 returns-clause-whole g c = whole_of _ _ _ (returns-clause-given g c) (λ e. absurd (cc))
