@@ -1,0 +1,2 @@
+mod RulePlaces
+mod TomlLines

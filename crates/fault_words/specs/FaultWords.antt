@@ -45,9 +45,9 @@ folder_words forms.TooManyFiles = codes "the folder has more files than the 2,00
 folder_words forms.PathClash = codes "a path of the folder is data, or names both a file and a folder (S8)"
 folder_words fault = codes "the files of the folder are no bag"
 
--- of an entry that has no place in a form
-abbrev pub odd_entry_words : List ℕ
-odd_entry_words = codes "an entry of the folder is neither a file nor a folder, such as a link, or has a name that is not UTF-8 (NAME)"
+-- of the entry with this path, that has no place in a form
+abbrev pub words_of_odd_entry : List ℕ → List ℕ
+words_of_odd_entry path = codes "the entry " ++ printed_text path ++ codes " of the folder is neither a file nor a folder, such as a link, or has a name that is not UTF-8 (NAME)"
 
 -- of files whose form is longer than any that is written
 abbrev pub too_large_words : List ℕ

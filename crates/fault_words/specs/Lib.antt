@@ -1,2 +1,4 @@
 pub mod FaultWords
 pub mod OtherFiles
+pub mod Places
+pub mod PolicyReasons

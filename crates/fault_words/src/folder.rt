@@ -1,9 +1,11 @@
 //! Why a folder is not packed, in words.
 
-ghost use Rattle.std.specs.Prelude.{◌≡◌};
-ghost use Rattle.fault_words.specs.FaultWords.{folder_words, odd_entry_words, too_large_words};
+ghost use Rattle.std.specs.Prelude.{◌≡◌, Some};
+ghost use Rattle.fault_words.specs.FaultWords.{folder_words, too_large_words, words_of_odd_entry};
 
+use crate::escaped::Escaped;
 use bag_text::SetFault;
+use std::fmt;
 
 /// What is said of the files of a folder, in the order of their paths. Where one file is at fault, its
 /// path stands in front.
@@ -28,11 +30,21 @@ pub fn folder_words(fault: SetFault) -> &'static str
     }
 }
 
-/// What is said of an entry that has no place in a form.
-pub fn odd_entry_words() -> &'static str
-    ensures { result.now ≡ odd_entry_words }
-{
-    "an entry of the folder is neither a file nor a folder, such as a link, or has a name that is not UTF-8 (NAME)"
+/// An entry of a folder that has no place in a form, by its path, to be printed as a sentence that
+/// says so.
+#[derive(Clone, Copy)]
+pub struct OddEntry<'a>(pub &'a str);
+
+impl<'a> fmt::Display for OddEntry<'a> {
+    ghost output = { λ entry. Some (words_of_odd_entry entry.0.now) };
+
+    fn fmt<W: fmt::Write>(&self, f: &mut fmt::Formatter<W>) -> fmt::Result {
+        let path = Escaped(self.0);
+        write!(
+            f,
+            "the entry {path} of the folder is neither a file nor a folder, such as a link, or has a name that is not UTF-8 (NAME)"
+        )
+    }
 }
 
 /// What is said of files whose form is longer than any that is written.

@@ -8,12 +8,17 @@ mod folder;
 mod form;
 mod in_words;
 mod other_file;
+mod place;
 mod policy;
+mod reason;
+mod rule_place;
 mod tag_files;
+mod toml_line;
 
 pub use escaped::Escaped;
-pub use folder::{folder_words, odd_entry_words, too_large_words};
+pub use folder::{OddEntry, folder_words, too_large_words};
 pub use form::{form_lines, hint_for, too_long_words};
 pub use in_words::InWords;
 pub use other_file::OtherFile;
 pub use policy::Unlisted;
+pub use reason::policy_reason;

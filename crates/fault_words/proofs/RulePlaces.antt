@@ -1,0 +1,23 @@
+-- The value of the rule with a number.
+use Rattle.std.proofs.Common.{◌≡◌, ◌∙◌, ℕ, suc, List, [], ◌∷◌, Option, map, option_and_then, option_map, slice_get, refl, sym, ap}
+use Rattle.std.specs.Prelude.{Some}
+use Rattle.std.proofs.lemmas.Option.{slice_get-map}
+use Rattle.toml.specs.Data.{Data}
+use Rattle.toml.specs.View.{items_of, items_view, view}
+use Rattle.toml.specs.declared.value.Value.{Value}
+use Rattle.office_core.specs.Policies.{elements}
+use Rattle.fault_words.specs.PolicyReasons.{numbered_key, value_at, value_key}
+
+elements-items_of : (values : List Data) → elements (items_of values) ≡ values
+elements-items_of [] = refl
+elements-items_of (value ∷ more) = ap (λ rest. value ∷ rest) (elements-items_of more)
+
+element_at : (place : ℕ) (values : List Value) → value_at (suc place) (elements (items_view values)) ≡ option_map view (slice_get values place)
+element_at place values = ap (λ found. slice_get found place) (elements-items_of (map view values)) ∙ slice_get-map view values place
+
+-- the key of the value that was found at the place of a number
+pub key_at : (number place : ℕ) (values : List Value) (found : Option Value) → number ≡ suc place → found ≡ slice_get values place
+    → option_and_then value_key (option_map view found) ≡ numbered_key number (Some (elements (items_view values)))
+key_at number place values found next is =
+    ap (option_and_then value_key) (ap (option_map view) is ∙ sym (element_at place values))
+    ∙ ap (λ (n : ℕ). numbered_key n (Some (elements (items_view values)))) (sym next)

@@ -1,0 +1,10 @@
+use Rattle.std.proofs.Common.{◌≡◌}
+use Rattle.toml.specs.View.{members_view}
+use Rattle.fault_words.specs.PolicyReasons.{unknown_rule_key}
+use Rattle.fault_words.proofs.rule_place.unknown_rule_key.Given as goal
+
+abbrev pub invariant-loop-key : goal.invariant-loop-key
+invariant-loop-key l =
+    (goal.iterator-loop-key).can_next l.key-iterator
+    × (goal.iterator-loop-key).is_finite l.key-iterator
+    × (unknown_rule_key (members_view l.key-iterator) ≡ unknown_rule_key (members_view l.rule.entries))

@@ -1,0 +1,6 @@
+use Rattle.std.proofs.Common.{◌≡◌, ◌++◌, take, drop}
+use Rattle.fault_words.specs.PolicyReasons.{first_lines}
+use Rattle.fault_words.proofs.toml_line.first_lines.Given as goal
+
+abbrev pub invariant-loop-place : goal.invariant-loop-place
+invariant-loop-place l = take l.place l.bytes ++ first_lines l.left (drop l.place l.bytes) ≡ first_lines l.count l.bytes

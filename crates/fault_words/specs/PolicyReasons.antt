@@ -1,0 +1,123 @@
+-- What standard error is told of a policy's file that is refused: the fault's sentence, and where in the file it stands.
+use Rattle.std.specs.Prelude.{◌≡◌, ℕ, zero, suc, Bool, true, false, not, List, [], ◌∷◌, ◌++◌, ◌==◌, Option, Some, None, codes, count_by, decimal, find, is_none, is_some, option_and_then, option_map, slice_get, take, if◌then◌else◌}
+use Rattle.std.specs.Option.{option_map_or}
+use Rattle.std.specs.Str.{is_utf8}
+use Rattle.std.specs.Str.Lossy.{utf8_valid_len}
+use Rattle.toml.specs.Data.{Data, Members, as_table}
+use Rattle.toml.specs.Parse.{parse_document}
+use Rattle.bag_check.specs.FaultTexts.{printed_text}
+use Rattle.office_core.specs.FirstOf.{first_some}
+use Rattle.office_core.specs.Policies.{action_at, caller_entries, caller_in, effect_at, entries, is_one_of, pattern_at, rule_keys, rule_values, top_keys}
+use Rattle.office_core.specs.declared.policy_fault.PolicyFault.{PolicyFault}
+use Rattle.office_core.specs.declared.policy_fault.PolicyFault.TheVariants.{NotToml, UnknownKey, BadCaller, BadRule}
+use Rattle.fault_words.specs.FaultWords.{policy_words}
+
+-- ---- a place, as it is said after the fault's sentence
+
+abbrev pub line_words : ℕ → List ℕ
+line_words number = codes ": line " ++ decimal number
+
+abbrev pub key_words : List ℕ → List ℕ
+key_words key = codes ": the key " ++ printed_text key
+
+abbrev pub caller_words : List ℕ → List ℕ
+caller_words name = codes ": the caller " ++ printed_text name
+
+-- ---- the line of a file that is no TOML
+
+-- the tree that the bytes spell in TOML; nothing where they are no UTF-8 or no TOML
+abbrev pub tree_in : List ℕ → Option Members
+tree_in bytes = if is_utf8 bytes then parse_document bytes else None
+
+abbrev pub is_toml : List ℕ → Bool
+is_toml bytes = is_some (tree_in bytes)
+
+-- the first so many lines, each with its end
+abbrev pub first_lines : ℕ → List ℕ → List ℕ
+first_lines count [] = []
+first_lines zero (byte ∷ more) = []
+first_lines (suc count) (byte ∷ more) = byte ∷ first_lines (if byte == 10 then count else suc count) more
+
+-- The lines before this one, counted from 1, are TOML, and with it they are none. That is as much as can be known of where a
+-- text goes wrong: a line may begin what only later ones end, such as an array.
+pub record BreaksToml (bytes : List ℕ) (line : ℕ) : Type 0 where
+  pub before : ℕ
+  pub follows : line ≡ suc before
+  pub is_good : is_toml (first_lines before bytes) ≡ true
+  pub is_broken : is_toml (first_lines line bytes) ≡ false
+
+-- the line in which the byte at this place stands, from 1
+abbrev pub line_at : ℕ → List ℕ → ℕ
+line_at place bytes = suc (count_by (λ byte. byte == 10) (take place bytes))
+
+-- the line of the first byte that is no UTF-8, or a line that breaks the TOML; nothing of a file that is TOML
+pub data IsLinePlace (bytes place : List ℕ) : Type 0 where
+  no_text : is_utf8 bytes ≡ false → place ≡ line_words (line_at (utf8_valid_len bytes) bytes) → IsLinePlace bytes place
+  no_toml : (line : ℕ) → is_utf8 bytes ≡ true → is_toml bytes ≡ false → BreaksToml bytes line → place ≡ line_words line → IsLinePlace bytes place
+  toml : is_toml bytes ≡ true → place ≡ [] → IsLinePlace bytes place
+
+-- ---- the key or the caller of a tree
+
+-- the first key at the top that is none of the three
+abbrev pub unknown_key : Members → Option (List ℕ)
+unknown_key tree = option_map (λ entry. entry.0) (find (λ entry. not (is_one_of top_keys entry.0)) (entries tree))
+
+-- the first caller that is no name, or whose role is none
+abbrev pub bad_caller : List (List ℕ × Data) → Option (List ℕ)
+bad_caller found = option_map (λ entry. entry.0) (find (λ entry. is_none (caller_in entry)) found)
+
+-- that caller, or the key `callers` where it is no table
+abbrev pub caller_place : Option (List (List ℕ × Data)) → List ℕ
+caller_place None = key_words (codes "callers")
+caller_place (Some found) = option_map_or caller_words (bad_caller found) []
+
+-- the first key of a rule that a rule may not have
+abbrev pub unknown_rule_key : Members → Option (List ℕ)
+unknown_rule_key rule = option_map (λ entry. entry.0) (find (λ entry. not (is_one_of rule_keys entry.0)) (entries rule))
+
+-- this key, where its value is missing or one that it may not have
+abbrev pub key_if : Bool → List ℕ → Option (List ℕ)
+key_if is_good key = if is_good then None else Some key
+
+-- the first of the five keys of a rule that is missing or has a value that it may not have
+abbrev pub bad_rule_key : Members → Option (List ℕ)
+bad_rule_key rule = first_some (
+    key_if (is_some (effect_at rule)) (codes "effect")
+    ∷ key_if (is_some (pattern_at (codes "role") rule)) (codes "role")
+    ∷ key_if (is_some (action_at rule)) (codes "action")
+    ∷ key_if (is_some (pattern_at (codes "collection") rule)) (codes "collection")
+    ∷ key_if (is_some (pattern_at (codes "class") rule)) (codes "class")
+    ∷ [])
+
+-- the key of a rule that is at fault; nothing where the rule is no table
+abbrev pub rule_key : Members → Option (List ℕ)
+rule_key rule = first_some (unknown_rule_key rule ∷ bad_rule_key rule ∷ [])
+
+abbrev pub value_key : Data → Option (List ℕ)
+value_key value = option_and_then rule_key (as_table value)
+
+-- the value of the rule with this number, from 1
+abbrev pub value_at : ℕ → List Data → Option Data
+value_at zero values = None
+value_at (suc place) values = slice_get values place
+
+abbrev pub numbered_key : ℕ → Option (List Data) → Option (List ℕ)
+numbered_key number None = None
+numbered_key number (Some values) = option_and_then value_key (value_at number values)
+
+abbrev pub place_in : PolicyFault → Members → List ℕ
+place_in UnknownKey tree = option_map_or key_words (unknown_key tree) []
+place_in BadCaller tree = caller_place (caller_entries tree)
+place_in (BadRule number) tree = option_map_or key_words (numbered_key number (rule_values tree)) []
+place_in fault tree = []
+
+-- ---- what is told
+
+-- where the fault stands, as far as it is known
+abbrev pub IsPlace : List ℕ → PolicyFault → List ℕ → Type 0
+IsPlace bytes NotToml place = IsLinePlace bytes place
+IsPlace bytes fault place = place ≡ option_map_or (place_in fault) (tree_in bytes) []
+
+-- the fault's sentence and the place, a line with its end
+abbrev pub IsPolicyReason : List ℕ → PolicyFault → List ℕ → Type 0
+IsPolicyReason bytes fault text = (place : List ℕ) × IsPlace bytes fault place × (text ≡ policy_words fault ++ place ++ 10 ∷ [])

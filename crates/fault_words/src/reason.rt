@@ -1,0 +1,131 @@
+//! What standard error is told of a policy's file that is refused.
+
+ghost use Rattle.std.specs.Prelude.{◌≡◌, ◌++◌, ◌∷◌, [], IfOk, Some, is_some, option_copied, string_bytes};
+ghost use Rattle.std.specs.Option.{option_map_or};
+ghost use Rattle.toml.specs.View.{table_view, view};
+ghost use Rattle.office_core.specs.Policies.{caller_in, entries, is_one_of, top_keys};
+ghost use Rattle.office_core.specs.declared.policy_fault.PolicyFault.TheVariants.{UnknownKey, BadCaller};
+ghost use Rattle.fault_words.specs.FaultWords.{policy_words};
+ghost use Rattle.fault_words.specs.Places.{place_words};
+ghost use Rattle.fault_words.specs.PolicyReasons.{IsPolicyReason, bad_caller, caller_place, place_in, tree_in, unknown_key};
+
+use crate::in_words::InWords;
+use crate::place::Place;
+use crate::rule_place::{rule_place, value_at};
+use crate::toml_line::{line_place, tree_in};
+use office_core::{Name, PolicyFault};
+use std::alloc::{AllocError, Global};
+use std::fmt::Write;
+use toml::{Table, Value};
+
+fn is_top_key(key: &str) -> bool
+    ensures { result ≡ is_one_of top_keys key.now }
+{
+    key == "version" || key == "callers" || key == "rule"
+}
+
+fn unknown_key(tree: &Table) -> Option<&str>
+    ensures { option_copied result ≡ unknown_key (table_view tree.now) }
+{
+    for (key, _value) in tree.iter() {
+        if !is_top_key(key.as_str()) {
+            return Some(key.as_str());
+        }
+    }
+    None
+}
+
+/// Whether a caller and its role are names.
+fn is_caller(name: &str, value: &Value) -> bool
+    ensures { result ≡ is_some (caller_in (name.now, view value.now)) }
+{
+    match value.as_str() {
+        Some(role) => Name::read(name).is_some() && Name::read(role).is_some(),
+        None => false,
+    }
+}
+
+fn bad_caller(callers: &Table) -> Option<&str>
+    ensures { option_copied result ≡ bad_caller (entries (table_view callers.now)) }
+{
+    for (name, value) in callers.iter() {
+        if !is_caller(name.as_str(), value) {
+            return Some(name.as_str());
+        }
+    }
+    None
+}
+
+fn unknown_key_place(tree: &Table) -> Place<'_>
+    ensures { place_words result ≡ place_in UnknownKey (table_view tree.now) }
+{
+    match unknown_key(tree) {
+        Some(key) => Place::Key(key),
+        None => Place::Nowhere,
+    }
+}
+
+fn bad_caller_place(callers: &Table) -> Place<'_>
+    ensures { place_words result ≡ caller_place (Some (entries (table_view callers.now))) }
+{
+    match bad_caller(callers) {
+        Some(name) => Place::Caller(name),
+        None => Place::Nowhere,
+    }
+}
+
+fn caller_place(tree: &Table) -> Place<'_>
+    ensures { place_words result ≡ place_in BadCaller (table_view tree.now) }
+{
+    match value_at(tree, "callers") {
+        Some(value) => match value.as_table() {
+            Some(callers) => bad_caller_place(callers),
+            None => Place::Key("callers"),
+        },
+        None => Place::Nowhere,
+    }
+}
+
+/// Where in the tree the fault stands.
+fn place_in(tree: &Table, fault: PolicyFault) -> Place<'_>
+    ensures { place_words result ≡ place_in fault (table_view tree.now) }
+{
+    match fault {
+        PolicyFault::UnknownKey => unknown_key_place(tree),
+        PolicyFault::BadCaller => caller_place(tree),
+        PolicyFault::BadRule(number) => rule_place(tree, number),
+        _ => Place::Nowhere,
+    }
+}
+
+/// The fault's sentence and the place.
+fn sentence_at(alloc: Global, fault: PolicyFault, place: Place<'_>) -> Result<String, AllocError>
+    ensures { IfOk result (λ text. string_bytes text ≡ policy_words fault ++ place_words place.entry ++ 10 ∷ []) }
+{
+    let words = InWords(&fault);
+    let mut text = format!(in alloc; "{words}")?;
+    write!(text, "{place}\n")?;
+    Ok(text)
+}
+
+/// What is told of a fault of the tree that the bytes spell.
+fn tree_reason(alloc: Global, bytes: &[u8], fault: PolicyFault) -> Result<String, AllocError>
+    ensures { IfOk result (λ text. string_bytes text ≡
+        policy_words fault ++ option_map_or (place_in fault) (tree_in bytes.now) [] ++ 10 ∷ []) }
+{
+    match tree_in(alloc, bytes)? {
+        Some(tree) => sentence_at(alloc, fault, place_in(&tree, fault)),
+        None => sentence_at(alloc, fault, Place::Nowhere),
+    }
+}
+
+/// The lines that standard error is told of a policy's file whose first fault this is: its sentence,
+/// and the line, the key or the caller, where one is known.
+pub fn policy_reason(alloc: Global, bytes: &[u8], fault: PolicyFault) -> Result<String, AllocError>
+    ensures { IfOk result (λ text. IsPolicyReason bytes.now fault (string_bytes text)) }
+{
+    match fault {
+        PolicyFault::NotToml => sentence_at(alloc, fault, line_place(alloc, bytes)?),
+        _ => tree_reason(alloc, bytes, fault),
+    }
+}

@@ -1,0 +1,166 @@
+//! The key of a rule that is at fault.
+
+ghost use Rattle.std.specs.Prelude.{◌≡◌, [], Some, is_some, option_copied, option_map};
+ghost use Rattle.std.specs.Option.{option_map_or};
+ghost use Rattle.toml.specs.Data.{get_member};
+ghost use Rattle.toml.specs.View.{array_view, table_view, view};
+ghost use Rattle.office_core.specs.Policies.{action_at, action_pattern_in, effect_at, effect_in, elements, is_one_of, pattern_at, pattern_in, rule_keys, text_at};
+ghost use Rattle.office_core.specs.declared.policy_fault.PolicyFault.TheVariants.{BadRule};
+ghost use Rattle.fault_words.specs.Places.{place_words};
+ghost use Rattle.fault_words.specs.PolicyReasons.{bad_rule_key, key_words, numbered_key, place_in, rule_key, unknown_rule_key, value_key};
+
+use crate::place::Place;
+use office_core::{Action, Name};
+use toml::value::Array;
+use toml::{Table, Value};
+
+/// The value of a key, where the table has it.
+pub fn value_at<'a>(table: &'a Table, key: &str) -> Option<&'a Value>
+    ensures { option_map (λ value. view value.now) result
+        ≡ get_member key.now (table_view table.now) }
+{
+    table.get(key)
+}
+
+fn text_at<'a>(table: &'a Table, key: &str) -> Option<&'a str>
+    ensures { option_copied result ≡ text_at key.now (table_view table.now) }
+{
+    match value_at(table, key) {
+        Some(value) => value.as_str(),
+        None => None,
+    }
+}
+
+fn is_effect(text: &str) -> bool
+    ensures { result ≡ is_some (effect_in text.now) }
+{
+    text == "allow" || text == "deny"
+}
+
+fn is_pattern(text: &str) -> bool
+    ensures { result ≡ is_some (pattern_in text.now) }
+{
+    text == "*" || Name::read(text).is_some()
+}
+
+fn is_action(text: &str) -> bool
+    ensures { result ≡ is_some (action_pattern_in text.now) }
+{
+    text == "*" || Action::read(text).is_some()
+}
+
+fn has_effect(rule: &Table) -> bool
+    ensures { result ≡ is_some (effect_at (table_view rule.now)) }
+{
+    match text_at(rule, "effect") {
+        Some(text) => is_effect(text),
+        None => false,
+    }
+}
+
+fn has_action(rule: &Table) -> bool
+    ensures { result ≡ is_some (action_at (table_view rule.now)) }
+{
+    match text_at(rule, "action") {
+        Some(text) => is_action(text),
+        None => false,
+    }
+}
+
+fn has_pattern(rule: &Table, key: &str) -> bool
+    ensures { result ≡ is_some (pattern_at key.now (table_view rule.now)) }
+{
+    match text_at(rule, key) {
+        Some(text) => is_pattern(text),
+        None => false,
+    }
+}
+
+fn is_rule_key(key: &str) -> bool
+    ensures { result ≡ is_one_of rule_keys key.now }
+{
+    key == "effect" || key == "role" || key == "action" || key == "collection" || key == "class"
+}
+
+fn unknown_rule_key(rule: &Table) -> Option<&str>
+    ensures { option_copied result ≡ unknown_rule_key (table_view rule.now) }
+{
+    for (key, _value) in rule.iter() {
+        if !is_rule_key(key.as_str()) {
+            return Some(key.as_str());
+        }
+    }
+    None
+}
+
+/// The first of the five keys that is missing or has a value that it may not have.
+fn bad_rule_key(rule: &Table) -> Option<&'static str>
+    ensures { option_copied result ≡ bad_rule_key (table_view rule.now) }
+{
+    if !has_effect(rule) {
+        Some("effect")
+    } else if !has_pattern(rule, "role") {
+        Some("role")
+    } else if !has_action(rule) {
+        Some("action")
+    } else if !has_pattern(rule, "collection") {
+        Some("collection")
+    } else if !has_pattern(rule, "class") {
+        Some("class")
+    } else {
+        None
+    }
+}
+
+fn rule_key(rule: &Table) -> Option<&str>
+    ensures { option_copied result ≡ rule_key (table_view rule.now) }
+{
+    match unknown_rule_key(rule) {
+        Some(key) => Some(key),
+        None => bad_rule_key(rule),
+    }
+}
+
+fn value_key(value: &Value) -> Option<&str>
+    ensures { option_copied result ≡ value_key (view value.now) }
+{
+    match value.as_table() {
+        Some(rule) => rule_key(rule),
+        None => None,
+    }
+}
+
+/// The key at fault of the rule with this number, from 1.
+fn numbered_key(values: &Array, number: usize) -> Option<&str>
+    ensures { option_copied result ≡ numbered_key number (Some (elements (array_view values.now))) }
+{
+    if number == 0 {
+        return None;
+    }
+    match values.get(number - 1) {
+        Some(value) => value_key(value),
+        None => None,
+    }
+}
+
+fn key_place(key: Option<&str>) -> Place<'_>
+    ensures { place_words result ≡ option_map_or key_words (option_copied key.entry) [] }
+{
+    match key {
+        Some(key) => Place::Key(key),
+        None => Place::Nowhere,
+    }
+}
+
+/// Where in the rule with this number, from 1, the fault stands.
+pub fn rule_place(tree: &Table, number: usize) -> Place<'_>
+    ensures { place_words result ≡ place_in (BadRule number) (table_view tree.now) }
+{
+    match value_at(tree, "rule") {
+        Some(value) => match value.as_array() {
+            Some(values) => key_place(numbered_key(values, number)),
+            None => Place::Nowhere,
+        },
+        None => Place::Nowhere,
+    }
+}
