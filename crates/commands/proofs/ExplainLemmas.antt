@@ -1,15 +1,18 @@
 -- What is said of a policy file is one thing.
-use Rattle.std.proofs.Common.{◌≡◌, ◌∙◌, ℕ, List, Option, Some, None, Result, Ok, Err, IfOk, IsUtf8, inl, inr, refl, sym, ap, subst}
+use Rattle.std.proofs.Common.{◌≡◌, ◌∙◌, ℕ, List, Option, Some, None, Result, Ok, Err, IfOk, inl, inr, refl, sym, string_bytes, subst}
 use Rattle.std.specs.declared.alloc.AllocError.{AllocError}
-use Rattle.office_core.specs.Policies.{PolicyValue, policy_of}
+use Rattle.office_core.specs.Policies.{PolicyValue}
 use Rattle.office_core.specs.declared.policy_fault.PolicyFault.{PolicyFault}
-use Rattle.office_core.specs.declared.policy_fault.PolicyFault.TheVariants.{NotToml}
 use Rattle.office_core.specs.declared.rule.Decision.{Decision}
 use Rattle.office_core.specs.declared.rule.Effect.{Effect}
 use Rattle.office_core.specs.declared.rule.Effect.TheVariants.{Allow, Deny}
-use Rattle.commands.specs.Explaining.{Explains, allowed, denied, by_default, refused, HasFault, SaysBadPolicy, SaysDecision, SaysRule, Spells, decision_on, unlisted_line}
-use Rattle.commands.specs.declared.asking.Asked.{Asked}
+use Rattle.commands.specs.Explaining.{Explains, allowed, denied, by_default, refused, HasFault, SaysBadPolicy, SaysDecision, SaysRule, Spells, bad_policy_text, decision_on, unlisted_line}
+use Rattle.commands.specs.declared.asked.Asked.{Asked}
+use Rattle.commands.specs.declared.ending.Ending.TheVariants.{Refused}
 use Rattle.commands.specs.declared.outcome.Outcome.{Outcome}
+use Rattle.commands.specs.declared.policy_file.RefusedPolicy.{RefusedPolicy}
+use Rattle.commands.specs.PolicyFiles.{IsRefused}
+use Rattle.commands.specs.Printing.{Prints}
 
 abbrev Answer : Type 0
 Answer = Result Outcome AllocError
@@ -30,31 +33,15 @@ by_decision : (bytes : List ℕ) (asked : Asked) (outcome : Outcome) (policy : P
 by_decision bytes asked outcome policy None spells by says = by_default policy spells by says
 by_decision bytes asked outcome policy (Some decision) spells by says = by_rule bytes asked outcome policy decision.rule decision.effect spells by says
 
-pub text_is_explained : (bytes text : List ℕ) (asked : Asked) (r : Answer) → text ≡ bytes → IsUtf8 bytes
-    → ((policy : PolicyValue) → policy_of text ≡ Ok policy → IfOk r (SaysOn policy asked (decision_on policy asked)))
-    → ((fault : PolicyFault) → policy_of text ≡ Err fault → IfOk r (SaysBadPolicy fault))
+pub policy_is_explained : (bytes : List ℕ) (asked : Asked) (policy : PolicyValue) (r : Answer) → Spells bytes policy → IfOk r (SaysOn policy asked (decision_on policy asked))
     → IfOk r (Explains bytes asked)
-text_is_explained bytes text asked (Err e) same utf8 policies faults = tt
-text_is_explained bytes text asked (Ok outcome) same utf8 policies faults = go (policy_of text) refl
-  where
-    go : (read : Result PolicyValue PolicyFault) → policy_of text ≡ read → Explains bytes asked outcome
-    go (Ok policy) is =
-        by_decision bytes asked outcome policy (decision_on policy asked) (record { utf8 = utf8; read = ap policy_of (sym same) ∙ is }) refl (policies policy is)
-    go (Err fault) is = refused fault (inr (utf8, ap policy_of (sym same) ∙ is)) (faults fault is)
+policy_is_explained bytes asked policy (Err e) of says = tt
+policy_is_explained bytes asked policy (Ok outcome) of says = by_decision bytes asked outcome policy (decision_on policy asked) of refl says
 
--- a text spells one policy
-pub said_of_policy : (text : List ℕ) (asked : Asked) (r : Answer) (found policy : PolicyValue) → policy_of text ≡ Ok found → IfOk r (SaysOn found asked (decision_on found asked))
-    → policy_of text ≡ Ok policy → IfOk r (SaysOn policy asked (decision_on policy asked))
-said_of_policy text asked r found policy is says read =
-    let first : Result PolicyValue PolicyFault = Ok found in
-    let same : first ≡ Ok policy = sym is ∙ read in
-    let one : found ≡ policy = cc in
-    subst (λ (p : PolicyValue). IfOk r (SaysOn p asked (decision_on p asked))) one says
-
-pub no_text_is_explained : (bytes : List ℕ) (asked : Asked) (r : Answer) → ¬ (IsUtf8 bytes) → IfOk r (SaysBadPolicy NotToml)
-    → IfOk r (Explains bytes asked)
-no_text_is_explained bytes asked (Err e) none prints = tt
-no_text_is_explained bytes asked (Ok outcome) none prints = refused NotToml (inl (none, refl)) prints
+pub refusal_is_explained : (bytes : List ℕ) (asked : Asked) (refusal : RefusedPolicy) (r : Answer) → IsRefused bytes refusal
+    → IfOk r (λ outcome. Prints outcome (bad_policy_text refusal.fault) (Some (string_bytes refusal.reason)) Refused) → IfOk r (Explains bytes asked)
+refusal_is_explained bytes asked refusal (Err e) is prints = tt
+refusal_is_explained bytes asked refusal (Ok outcome) is prints = refused refusal.fault is.fault (string_bytes refusal.reason, is.reason, prints)
 
 -- ---- only one thing is said
 
@@ -95,15 +82,15 @@ decision_is_said bytes asked (Err e) explains policy decision of is = tt
 decision_is_said bytes asked (Ok outcome) explains policy decision of is =
     subst (λ (d : Option Decision). SaysOn policy asked d outcome) is (says_decision bytes asked outcome policy of explains)
 
-says_fault : (bytes : List ℕ) (asked : Asked) (outcome : Outcome) (fault : PolicyFault) → HasFault bytes fault → Explains bytes asked outcome → SaysBadPolicy fault outcome
+says_fault : (bytes : List ℕ) (asked : Asked) (outcome : Outcome) (fault : PolicyFault) → HasFault bytes fault → Explains bytes asked outcome → SaysBadPolicy bytes fault outcome
 says_fault bytes asked outcome fault has (allowed found rule found_of by prints) = absurd (never_both bytes found fault found_of has)
 says_fault bytes asked outcome fault has (denied found rule found_of by prints) = absurd (never_both bytes found fault found_of has)
 says_fault bytes asked outcome fault has (by_default found found_of by prints) = absurd (never_both bytes found fault found_of has)
 says_fault bytes asked outcome fault has (refused other has_too prints) =
-    subst (λ (f : PolicyFault). SaysBadPolicy f outcome) (same_fault bytes other fault has_too has) prints
+    subst (λ (f : PolicyFault). SaysBadPolicy bytes f outcome) (same_fault bytes other fault has_too has) prints
 
 -- and so is the file's fault
 pub fault_is_said : (bytes : List ℕ) (asked : Asked) (r : Answer) → IfOk r (Explains bytes asked) → (fault : PolicyFault) → HasFault bytes fault
-    → IfOk r (SaysBadPolicy fault)
+    → IfOk r (SaysBadPolicy bytes fault)
 fault_is_said bytes asked (Err e) explains fault has = tt
 fault_is_said bytes asked (Ok outcome) explains fault has = says_fault bytes asked outcome fault has explains

@@ -1,9 +1,4 @@
-pub mod CommandBuildingLemmas
-pub mod CommandLineLemmas
 pub mod ExplainLemmas
-pub mod ExplainWordLemmas
-pub mod InputLemmas
-pub mod PlainWordLemmas
-pub mod RunLemmas
+pub mod KnownLemmas
 pub mod CheckLemmas
-pub mod WritingLemmas
+pub mod PolicyLemmas

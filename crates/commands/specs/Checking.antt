@@ -1,5 +1,6 @@
 -- What `check` prints of the bytes that it read, what it tells standard error, and how it ends.
-use Rattle.std.specs.Prelude.{ℕ, ◌+◌, ◌<◌, ◌≤◌, List, [], ◌∷◌, ◌++◌, Some, None, length, codes, decimal}
+use Rattle.std.specs.Prelude.{ℕ, ◌+◌, ◌<◌, ◌≤◌, List, [], ◌∷◌, ◌++◌, Option, Some, None, length, codes, decimal}
+use Rattle.std.specs.Io.KnownBytes.{Consumes}
 use Rattle.bag_text.specs.TransferForm.{File, IsFormOf, max_form}
 use Rattle.bag_text.specs.TransferFaults.{FaultIs}
 use Rattle.bag_text.specs.Declaration.{version_text}
@@ -18,6 +19,10 @@ use Rattle.commands.specs.Printing.{Prints}
 -- a longer form is told by one byte past the most that a form has
 abbrev pub bytes_to_read : ℕ
 bytes_to_read = max_form + 1
+
+-- these bytes are the first that a reader had left, and no more than are read
+abbrev pub AreFirstOf : Option (List ℕ) → Option (List ℕ) → List ℕ → Type 0
+AreFirstOf old new bytes = Consumes old new bytes × (length bytes ≤ bytes_to_read)
 
 -- ---- the texts, each a line with its end
 

@@ -1,7 +1,8 @@
 -- What `explain` prints of a policy file, what it tells standard error, and how it ends.
 use Rattle.std.specs.Prelude.{◌≡◌, ◌⊎◌, ℕ, Bool, List, [], ◌∷◌, ◌++◌, Option, Some, None, Ok, Err, IsUtf8, bytes_eq, codes, decimal, if◌then◌else◌}
 use Rattle.std.specs.List.{list_any}
-use Rattle.fault_words.specs.FaultWords.{policy_words, unlisted_words}
+use Rattle.fault_words.specs.FaultWords.{unlisted_words}
+use Rattle.fault_words.specs.PolicyReasons.{IsPolicyReason}
 use Rattle.office_core.specs.FaultTexts.{policy_fault_text}
 use Rattle.office_core.specs.Policies.{PolicyValue, policy_of, role_of}
 use Rattle.office_core.specs.Rules.{Question, decision_of}
@@ -11,7 +12,7 @@ use Rattle.office_core.specs.declared.rule.Decision.{Decision}
 use Rattle.office_core.specs.declared.rule.Effect.{Effect}
 use Rattle.office_core.specs.declared.rule.Effect.TheVariants.{Allow, Deny}
 use Rattle.commands.specs.Printing.{Prints}
-use Rattle.commands.specs.declared.asking.Asked.{Asked}
+use Rattle.commands.specs.declared.asked.Asked.{Asked}
 use Rattle.commands.specs.declared.ending.Ending.TheVariants.{Accepted, Refused}
 use Rattle.commands.specs.declared.outcome.Outcome.{Outcome}
 
@@ -29,7 +30,7 @@ default_text = codes "deny default" ++ 10 ∷ []
 abbrev pub bad_policy_text : PolicyFault → List ℕ
 bad_policy_text fault = codes "policy " ++ policy_fault_text fault ++ 10 ∷ []
 
--- ---- what standard error is told, a line with its end
+-- ---- what standard error is told of the caller, a line with its end
 
 -- the policy lists a caller of this name
 abbrev pub is_listed : PolicyValue → List ℕ → Bool
@@ -38,10 +39,6 @@ is_listed policy name = list_any (λ caller. bytes_eq caller.name name) policy.c
 -- that the policy doesn't list the caller, where that is so
 abbrev pub unlisted_line : PolicyValue → List ℕ → Option (List ℕ)
 unlisted_line policy name = if is_listed policy name then None else Some (unlisted_words name ++ 10 ∷ [])
-
--- the file's fault in words
-abbrev pub bad_policy_reason : PolicyFault → List ℕ
-bad_policy_reason fault = policy_words fault ++ 10 ∷ []
 
 -- ---- the file
 
@@ -88,13 +85,13 @@ abbrev pub SaysDecision : Option (List ℕ) → Option Decision → Outcome → 
 SaysDecision told None outcome = Prints outcome default_text told Refused
 SaysDecision told (Some decision) outcome = SaysRule told decision.rule decision.effect outcome
 
--- what is said of a file that is none
-abbrev pub SaysBadPolicy : PolicyFault → Outcome → Type 0
-SaysBadPolicy fault outcome = Prints outcome (bad_policy_text fault) (Some (bad_policy_reason fault)) Refused
+-- what is said of the bytes of a file that is none: their fault, with its reason
+abbrev pub SaysBadPolicy : List ℕ → PolicyFault → Outcome → Type 0
+SaysBadPolicy bytes fault outcome = (reason : List ℕ) × IsPolicyReason bytes fault reason × Prints outcome (bad_policy_text fault) (Some reason) Refused
 
 -- What is said of a file: the rule that decides, that none does, or the file's fault.
 pub data Explains (bytes : List ℕ) (asked : Asked) (outcome : Outcome) : Type 0 where
   allowed : (policy : PolicyValue) (rule : ℕ) → Spells bytes policy → IsAllowedBy policy asked rule → Prints outcome (allow_text rule) (unlisted_line policy asked.caller.now) Accepted → Explains bytes asked outcome
   denied : (policy : PolicyValue) (rule : ℕ) → Spells bytes policy → IsDeniedBy policy asked rule → Prints outcome (deny_text rule) (unlisted_line policy asked.caller.now) Refused → Explains bytes asked outcome
   by_default : (policy : PolicyValue) → Spells bytes policy → IsUndecided policy asked → Prints outcome default_text (unlisted_line policy asked.caller.now) Refused → Explains bytes asked outcome
-  refused : (fault : PolicyFault) → HasFault bytes fault → SaysBadPolicy fault outcome → Explains bytes asked outcome
+  refused : (fault : PolicyFault) → HasFault bytes fault → SaysBadPolicy bytes fault outcome → Explains bytes asked outcome

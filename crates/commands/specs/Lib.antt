@@ -1,8 +1,5 @@
-pub mod CommandLine
-pub mod CommandBuilding
-pub mod AskingReading
 pub mod Printing
 pub mod Explaining
+pub mod PolicyFiles
 pub mod Checking
-pub mod Running
 pub mod Failing

@@ -1,6 +1,6 @@
-//! What is said of the bytes of a transfer form.
+//! What `check` says of a transfer form.
 
-ghost use Rattle.std.specs.Prelude.{◌≡◌, ◌<◌, ◌≤◌, IfOk, IsErr, List, length, Some, string_bytes};
+ghost use Rattle.std.specs.Prelude.{◌≡◌, ◌<◌, ◌≤◌, ℕ, IfOk, IfSome, IsErr, List, length, Some, string_bytes, take};
 ghost use Rattle.bag_text.specs.TransferForm.{File, IsBag, IsFormOf, max_form, set_text};
 ghost use Rattle.bag_text.specs.TransferFaults.{FaultIs};
 ghost use Rattle.bag_text.specs.declared.declaration.Version.{Version};
@@ -8,17 +8,19 @@ ghost use Rattle.bag_text.specs.declared.set_fault.SetFault.{SetFault};
 ghost use Rattle.bag_check.specs.Validity.{Valid, report_of};
 ghost use Rattle.bag_check.specs.Faults.{Fault, FirstFault};
 ghost use Rattle.bag_check.specs.Answers.{report_seen, named_fault};
-ghost use Rattle.commands.specs.Checking.{Says, SaysInvalid, SaysOfBag, SaysTooLong, SaysUnreadable, SaysValid};
+ghost use Rattle.commands.specs.Checking.{AreFirstOf, Says, SaysInvalid, SaysOfBag, SaysTooLong, SaysUnreadable, SaysValid, bytes_to_read};
 ghost use Rattle.bag_check.specs.declared.fault.BagFault.TheVariants.{Memory};
 ghost use Rattle.bag_text.specs.declared.set_fault.SetFault.TheVariants as sets;
 
 use crate::ending::Ending;
 use crate::outcome::Outcome;
+use crate::trouble::Trouble;
 use bag_check::{BagFault, BagReport, check_bag};
 use bag_text::{BagSet, MAX_FORM, SetFault, read_bagset};
 use fault_words::{InWords, form_lines, hint_for, too_long_words};
 use std::alloc::{AllocError, Global};
 use std::fmt::Write;
+use std::io::Read;
 
 /// The line of a valid bag.
 fn valid_outcome(alloc: Global, report: BagReport) -> Result<Outcome, AllocError>
@@ -132,4 +134,17 @@ pub fn check_outcome(alloc: Global, bytes: &[u8]) -> Result<Outcome, AllocError>
         → IfOk result (SaysUnreadable bytes.now fault) }
 {
     bytes_outcome(alloc, bytes)
+}
+
+/// Judges the bag whose form the reader gives: reads 16,777,217 bytes at most, so that a longer form is
+/// told by one byte too many.
+pub fn judge<R: Read>(alloc: Global, form: &mut R) -> Result<Outcome, Trouble>
+    // What is said is so of the first bytes that the reader gives.
+    ensures says { IfOk result (λ outcome. (bytes : List ℕ)
+        × AreFirstOf (R.remaining form.old) (R.remaining form.new) bytes × Says bytes outcome) }
+    ensures given { IfSome (R.remaining form.old) (λ given.
+        IfOk result (Says (take bytes_to_read given))) }
+{
+    let bytes = streams::read_at_most(alloc, MAX_FORM + 1, form)?;
+    Ok(check_outcome(alloc, bytes.as_slice())?)
 }

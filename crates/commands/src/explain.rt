@@ -1,20 +1,23 @@
-//! What `explain` says of the bytes of a policy file.
+//! What `explain` says of a policy file.
 
-ghost use Rattle.std.specs.Prelude.{◌≡◌, ℕ, Option, Some, None, IfOk, IsErr, option_copied, option_map, string_bytes};
-ghost use Rattle.office_core.specs.Policies.{PolicyValue, policy_of};
-ghost use Rattle.office_core.specs.Rules.{decision_of, question_of};
+ghost use Rattle.std.specs.Prelude.{◌≡◌, ℕ, IfOk, IfSome, List, Some, option_copied, option_map, string_bytes};
+ghost use Rattle.office_core.specs.Policies.{PolicyValue};
+ghost use Rattle.office_core.specs.Rules.{decision_of};
 ghost use Rattle.office_core.specs.declared.policy_fault.PolicyFault.{PolicyFault};
-ghost use Rattle.office_core.specs.declared.policy_fault.PolicyFault.TheVariants.{Memory};
 ghost use Rattle.commands.specs.Printing.{Prints};
-ghost use Rattle.commands.specs.Explaining.{Explains, HasFault, IsAllowedBy, IsDeniedBy, IsUndecided, SaysBadPolicy, SaysDecision, Spells, allow_text, deny_text, default_text, is_listed, question_on, unlisted_line};
+ghost use Rattle.commands.specs.Explaining.{Explains, HasFault, IsAllowedBy, IsDeniedBy, IsUndecided, SaysBadPolicy, SaysDecision, Spells, allow_text, bad_policy_text, deny_text, default_text, is_listed, question_on, unlisted_line};
+ghost use Rattle.commands.specs.PolicyFiles.{IsAllOf, IsRead};
 ghost use Rattle.commands.specs.declared.ending.Ending.TheVariants.{Accepted, Refused};
 
-use crate::asking::Asked;
+use crate::asked::Asked;
 use crate::ending::Ending;
 use crate::outcome::Outcome;
-use fault_words::{InWords, Unlisted};
-use office_core::{Ask, Decision, Effect, Name, Policy, PolicyFault, decide, read_policy};
+use crate::policy_file::{RefusedPolicy, policy_in, read_policy_from};
+use crate::trouble::Trouble;
+use fault_words::Unlisted;
+use office_core::{Ask, Decision, Effect, Name, Policy, decide};
 use std::alloc::{AllocError, Global};
+use std::io::Read;
 
 /// The text of a name, where there is one.
 fn text_of<'a>(name: &Option<Name<'a>>) -> Option<&'a str>
@@ -97,33 +100,30 @@ fn policy_outcome(alloc: Global, policy: &Policy, asked: &Asked<'_>) -> Result<O
 }
 
 /// What is said of a file that is no policy.
-fn fault_outcome(alloc: Global, fault: PolicyFault) -> Result<Outcome, AllocError>
-    ensures memory { fault ≡ Memory → IsErr result }
-    ensures says { IfOk result (SaysBadPolicy fault) }
+fn refused_outcome(alloc: Global, refused: RefusedPolicy) -> Result<Outcome, AllocError>
+    ensures { IfOk result (λ outcome. Prints outcome (bad_policy_text refused.fault)
+        (Some (string_bytes refused.reason)) Refused) }
 {
-    if fault == PolicyFault::Memory {
-        return Err(AllocError);
-    }
+    let RefusedPolicy { fault, reason } = refused;
     let text = format!(in alloc; "policy {fault}\n")?;
-    let words = InWords(&fault);
     Ok(Outcome {
         text,
-        reason: Some(format!(in alloc; "{words}\n")?),
+        reason: Some(reason),
         ending: Ending::Refused,
     })
 }
 
-/// What is said of the text of a policy file.
-fn text_outcome(alloc: Global, text: &str, asked: &Asked<'_>) -> Result<Outcome, AllocError>
-    ensures policy { (policy : PolicyValue) → policy_of text.now ≡ Ok policy
-        → IfOk result (SaysDecision (unlisted_line policy asked.now.caller.now)
-        (decision_of policy.rules (question_on policy asked.now))) }
-    ensures fault { (fault : PolicyFault) → policy_of text.now ≡ Err fault
-        → IfOk result (SaysBadPolicy fault) }
+/// What is said of what was read.
+fn read_outcome(
+    alloc: Global,
+    read: Result<Policy, RefusedPolicy>,
+    asked: &Asked<'_>,
+) -> Result<Outcome, AllocError>
+    ensures { (bytes : List ℕ) → IsRead bytes read → IfOk result (Explains bytes asked.now) }
 {
-    match read_policy(alloc, text) {
+    match read {
         Ok(policy) => policy_outcome(alloc, &policy, asked),
-        Err(fault) => fault_outcome(alloc, fault),
+        Err(refused) => refused_outcome(alloc, refused),
     }
 }
 
@@ -131,10 +131,8 @@ fn text_outcome(alloc: Global, text: &str, asked: &Asked<'_>) -> Result<Outcome,
 fn bytes_outcome(alloc: Global, bytes: &[u8], asked: &Asked<'_>) -> Result<Outcome, AllocError>
     ensures { IfOk result (Explains bytes.now asked.now) }
 {
-    match str::from_utf8(bytes) {
-        Ok(text) => text_outcome(alloc, text, asked),
-        Err(_) => fault_outcome(alloc, PolicyFault::NotToml),
-    }
+    let read = policy_in(alloc, bytes)?;
+    read_outcome(alloc, read, asked)
 }
 
 /// Says which rule of the policy decides: the line that `explain` prints of the bytes of the policy
@@ -163,9 +161,27 @@ pub fn explain_outcome(
         → Spells bytes.now policy → IsUndecided policy asked.now
         → IfOk result (λ outcome. Prints outcome default_text
         (unlisted_line policy asked.now.caller.now) Refused) }
-    // A file that is no policy is refused with its first fault, and standard error is told it in words.
+    // A file that is no policy is refused with its first fault, and standard error is told it in words,
+    // with its place.
     ensures refused { (fault : PolicyFault) → HasFault bytes.now fault
-        → IfOk result (SaysBadPolicy fault) }
+        → IfOk result (SaysBadPolicy bytes.now fault) }
 {
     bytes_outcome(alloc, bytes, asked)
+}
+
+/// Reads all that the reader gives, to its end, and says which rule of the policy decides.
+pub fn explain_policy<R: Read>(
+    alloc: Global,
+    asked: &Asked<'_>,
+    policy: &mut R,
+) -> Result<Outcome, Trouble>
+    // What is said is so of all that the reader gives.
+    ensures says { IfOk result (λ outcome. (bytes : List ℕ)
+        × IsAllOf (R.remaining policy.old) (R.remaining policy.new) bytes
+        × Explains bytes asked.now outcome) }
+    ensures given { IfSome (R.remaining policy.old) (λ given.
+        IfOk result (Explains given asked.now)) }
+{
+    let read = read_policy_from(alloc, policy)?;
+    Ok(read_outcome(alloc, read, asked)?)
 }

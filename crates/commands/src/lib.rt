@@ -1,23 +1,20 @@
-//! The program's words, and its whole work over them, a reader and two writers.
+//! What is said of the bytes of a transfer form and of a policy, and how a run of the program ends.
 #![tactic(auto)]
 
-mod asking;
+mod asked;
 mod check;
 mod ending;
 mod explain;
-mod line;
+mod failure;
 mod outcome;
-mod program;
+mod policy_file;
 mod trouble;
-mod use_fault;
-mod words;
 
-pub use asking::Asked;
-pub use check::check_outcome;
+pub use asked::Asked;
+pub use check::{check_outcome, judge};
 pub use ending::Ending;
-pub use explain::explain_outcome;
-pub use line::{Line, read_line};
+pub use explain::{explain_outcome, explain_policy};
+pub use failure::Failure;
 pub use outcome::Outcome;
-pub use program::{Failure, fail, refuse, refuse_words, run, tell, tell_why, write_text};
-pub use use_fault::{UseFault, clap_fault, fault_of_use};
-pub use words::{Argument, Usage, matches_of, word_at};
+pub use policy_file::{RefusedPolicy, read_policy_from};
+pub use trouble::Trouble;

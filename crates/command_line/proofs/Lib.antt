@@ -1,0 +1,10 @@
+pub mod CommandBuildingLemmas
+pub mod LineLemmas
+pub mod OneLineLemmas
+pub mod OptionWordLemmas
+pub mod PlainLineLemmas
+pub mod PlainWordLemmas
+pub mod PositionalLemmas
+pub mod ReplayWordLemmas
+pub mod ServeWordLemmas
+pub mod WordWalkLemmas

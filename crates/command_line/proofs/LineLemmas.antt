@@ -1,0 +1,190 @@
+-- From what clap finds in the words to the line that they ask for.
+use Rattle.std.proofs.Common.{◌≡◌, ◌∙◌, ◌⊎◌, ◌∷◌, [], List, Option, Some, None, Result, Ok, Err, IfErr, IfOk, if◌then◌else◌, ap, ap₂, codes, false, inl, inr, refl, slice_get, subst, sym, true, unwrap_or}
+use Rattle.std.specs.Borrow.{Bor}
+use Rattle.std.specs.List.{list_any}
+use Rattle.std.specs.Str.{bytes_eq}
+use Rattle.std.proofs.Math.Path.{fun_ext}
+use Rattle.std.proofs.lemmas.Option.{none-some}
+use Rattle.clap.specs.Kinds.{HasKind, IsAmong}
+use Rattle.clap.specs.Words.{App, Text, fault_of, first_value, found_of, is_simple_and_free, kind_of}
+use Rattle.clap.specs.declared.error.Error.{Error}
+use Rattle.clap.specs.declared.error.kind.ErrorKind.TheVariants.{OutOfMemory}
+use Rattle.clap.specs.declared.parser.matches.ArgMatches.{ArgMatches}
+use Rattle.bag_text.specs.Text.{texts}
+use Rattle.command_line.specs.CommandBuilding.{IsLineOf, MakesNoLine, are_names, command_for, names_of, rules_for}
+use Rattle.command_line.specs.Lines.{AskNothing, Asks, Finds, HasValues, Names, command_of, command_of_subcommand, name_text, rules_of, subcommand_of, value_of, values_for}
+use Rattle.command_line.specs.Usage.{NamesNone, help_words, no_subcommand_text, uses_text, usage_for, usage_for_word}
+use Rattle.command_line.specs.declared.line.Line.{Line}
+use Rattle.command_line.specs.declared.subcommand.Subcommand.{Subcommand}
+use Rattle.command_line.specs.declared.subcommand.Subcommand.TheVariants.{Ask, Check, Explain, Pack, Policy, Replay, Serve, Unpack}
+use Rattle.command_line.specs.declared.use_fault.UseFault.{UseFault}
+use Rattle.command_line.specs.declared.use_fault.UseFault.TheVariants.{Memory}
+use Rattle.command_line.specs.declared.words.Usage.{Usage}
+
+-- ---- values
+
+-- two answers to one question
+pub same_some : {X : Type 0} (o : Option X) (x y : X) → o ≡ Some x → o ≡ Some y → x ≡ y
+same_some o x y is is_too = ap (λ p. unwrap_or p x) (sym is ∙ is_too)
+
+-- where the text that is found is no such value, none is found
+pub not_found : (values : Text → Option Text) (name word : Text) (P : Text → Type 0) → values name ≡ Some word → (P word → ⊥) → Finds values name P → ⊥
+not_found values name word P is bad found = bad (subst P (same_some _ found.0 word found.1 is) found.2)
+
+-- ---- the subcommands
+
+-- clap's function for simple commands speaks of each
+pub is_simple_command : (subcommand : Subcommand) → is_simple_and_free (command_of_subcommand subcommand) ≡ true
+unfolding command_of_subcommand
+is_simple_command Check = refl
+is_simple_command Pack = refl
+is_simple_command Unpack = refl
+is_simple_command Explain = refl
+is_simple_command Policy = refl
+is_simple_command Ask = refl
+is_simple_command Replay = refl
+is_simple_command Serve = refl
+
+-- and none takes two arguments of one name
+pub has_names : (subcommand : Subcommand) → are_names (names_of (rules_of subcommand)) ≡ true
+has_names Check = refl
+has_names Pack = refl
+has_names Unpack = refl
+has_names Explain = refl
+has_names Policy = refl
+has_names Ask = refl
+has_names Replay = refl
+has_names Serve = refl
+
+-- the subcommand of a name
+of_name : Text → Option Subcommand
+of_name name =
+    if bytes_eq name (codes "check") then Some Check
+    else if bytes_eq name (codes "pack") then Some Pack
+    else if bytes_eq name (codes "unpack") then Some Unpack
+    else if bytes_eq name (codes "explain") then Some Explain
+    else if bytes_eq name (codes "policy") then Some Policy
+    else if bytes_eq name (codes "ask") then Some Ask
+    else if bytes_eq name (codes "replay") then Some Replay
+    else if bytes_eq name (codes "serve") then Some Serve
+    else None
+
+own_name : (subcommand : Subcommand) → of_name (name_text subcommand) ≡ Some subcommand
+unfolding of_name
+own_name Check = refl
+own_name Pack = refl
+own_name Unpack = refl
+own_name Explain = refl
+own_name Policy = refl
+own_name Ask = refl
+own_name Replay = refl
+own_name Serve = refl
+
+-- words name one subcommand
+pub one_name : (words : List Text) (a b : Subcommand) → Names words a → Names words b → a ≡ b
+one_name words a b is is_too =
+    let same : name_text a ≡ name_text b = same_some _ (name_text a) (name_text b) is is_too in
+    ap (λ o. unwrap_or o a) (sym (own_name a) ∙ ap of_name same ∙ own_name b)
+
+-- ---- the first word
+
+pub first_text : (words : List (Bor Text)) (word : Bor Text) → slice_get words 0 ≡ Some word → slice_get (texts words) 0 ≡ Some word.now
+first_text [] word first = absurd (none-some word first)
+first_text (x ∷ words) word first = ap (λ o. Some (unwrap_or o word).now) first
+
+pub first_named : (words : List (Bor Text)) (word : Bor Text) (name : Text) → slice_get words 0 ≡ Some word → word.now ≡ name → slice_get (texts words) 0 ≡ Some name
+first_named words word name first is = first_text words word first ∙ ap Some is
+
+-- where it is the name of no subcommand the words name none
+pub names_none : (words : List (Bor Text)) (word : Bor Text) → slice_get words 0 ≡ Some word → ((subcommand : Subcommand) → word.now ≡ name_text subcommand → ⊥)
+    → NamesNone (texts words)
+names_none words word first other subcommand names = other subcommand (same_some _ word.now (name_text subcommand) (first_text words word first) names)
+
+pub no_word : (words : List (Bor Text)) → slice_get words 0 ≡ None → NamesNone (texts words)
+no_word [] none subcommand names = none-some (name_text subcommand) names
+no_word (x ∷ words) none subcommand names = none-some x (sym none)
+
+-- words that name no subcommand ask for nothing
+pub none_asked : (words : List Text) → NamesNone words → AskNothing words
+none_asked words none line asks = none (subcommand_of line) asks.first
+
+-- what is said of them
+pub no_word_usage : (words : List (Bor Text)) → slice_get words 0 ≡ None → uses_text ≡ usage_for (texts words)
+no_word_usage [] none = refl
+no_word_usage (x ∷ words) none = absurd (none-some x (sym none))
+
+pub first_usage : (words : List (Bor Text)) (word : Bor Text) → slice_get words 0 ≡ Some word → usage_for_word word.now ≡ usage_for (texts words)
+first_usage [] word first = absurd (none-some word first)
+first_usage (x ∷ words) word first = ap (λ o. usage_for_word (unwrap_or o word).now) (sym first)
+
+-- ---- lines
+
+-- what clap finds under each name is what it finds in the words
+abbrev pub AreFoundIn : Subcommand → List Text → ArgMatches → Type 0
+AreFoundIn subcommand words matches = (wanted : Text) → first_value (found_of matches) wanted ≡ values_for subcommand words wanted
+
+-- a line that the values make is asked for
+pub line_asked : (words : List Text) (subcommand : Subcommand) (matches : ArgMatches) (line : Line) → Names words subcommand
+    → fault_of (command_of_subcommand subcommand) words ≡ [] → AreFoundIn subcommand words matches → IsLineOf subcommand matches line → Asks words line
+line_asked words subcommand matches line named taken found is = record {
+  first = subst (Names words) (sym is.0) named;
+  taken = subst (λ (s : Subcommand). fault_of (command_of_subcommand s) words ≡ []) (sym is.0) taken;
+  values = subst (λ (s : Subcommand). HasValues (values_for s words) line) (sym is.0) (subst (λ (values : Text → Option Text). HasValues values line) (fun_ext found) is.1);
+}
+
+-- and the values make each line that is
+made_line : (words : List Text) (subcommand : Subcommand) (matches : ArgMatches) (line : Line) → Names words subcommand → AreFoundIn subcommand words matches → Asks words line
+    → IsLineOf subcommand matches line
+made_line words subcommand matches line named found asks =
+    let same : subcommand_of line ≡ subcommand = one_name words (subcommand_of line) subcommand asks.first named in (
+      same,
+      subst (λ (values : Text → Option Text). HasValues values line) (sym (fun_ext found)) (subst (λ (s : Subcommand). HasValues (values_for s words) line) same asks.values),
+    )
+
+pub nothing_made : (words : List Text) (subcommand : Subcommand) (matches : ArgMatches) → Names words subcommand → AreFoundIn subcommand words matches
+    → MakesNoLine subcommand matches → AskNothing words
+nothing_made words subcommand matches named found none line asks = none line (made_line words subcommand matches line named found asks)
+
+-- words that clap doesn't take ask for nothing
+pub not_taken : (words : List Text) (subcommand : Subcommand) → Names words subcommand → (fault_of (command_of_subcommand subcommand) words ≡ [] → ⊥) → AskNothing words
+not_taken words subcommand named fault line asks =
+    fault (subst (λ (s : Subcommand). fault_of (command_of_subcommand s) words ≡ []) (one_name words (subcommand_of line) subcommand asks.first named) asks.taken)
+
+-- ---- what a command that is built for the subcommand makes of the words
+
+-- it is the subcommand's command
+pub same_command : (subcommand : Subcommand) (usage : Usage) → usage.name.now ≡ name_text subcommand → rules_for usage.arguments.now ≡ rules_of subcommand
+    → command_for usage ≡ command_of_subcommand subcommand
+unfolding command_of_subcommand
+same_command subcommand usage name rules = ap₂ command_of name rules
+
+-- what it finds
+abbrev pub AreFoundBy : App → List Text → ArgMatches → Type 0
+AreFoundBy command words matches = (wanted : Text) → first_value (found_of matches) wanted ≡ value_of command wanted words
+
+pub lines_asked : (words : List Text) (subcommand : Subcommand) (command : App) (matches : ArgMatches) (read : Result Line UseFault) → command ≡ command_of_subcommand subcommand
+    → Names words subcommand → fault_of command words ≡ [] → AreFoundBy command words matches → IfOk read (IsLineOf subcommand matches) → IfOk read (Asks words)
+lines_asked words subcommand command matches (Ok line) same named taken found is =
+    line_asked words subcommand matches line named (subst (λ (c : App). fault_of c words ≡ []) same taken) (subst (λ (c : App). AreFoundBy c words matches) same found) is
+lines_asked words subcommand command matches (Err fault) same named taken found is = tt
+
+pub none_made : (words : List Text) (subcommand : Subcommand) (command : App) (matches : ArgMatches) (read : Result Line UseFault) → command ≡ command_of_subcommand subcommand
+    → Names words subcommand → AreFoundBy command words matches → IfErr read (λ fault. (fault ≡ Memory) ⊎ MakesNoLine subcommand matches)
+    → IfErr read (λ fault. (fault ≡ Memory) ⊎ AskNothing words)
+none_made words subcommand command matches (Ok line) same named found why = tt
+none_made words subcommand command matches (Err fault) same named found (inl memory) = inl memory
+none_made words subcommand command matches (Err fault) same named found (inr none) =
+    inr (nothing_made words subcommand matches named (subst (λ (c : App). AreFoundBy c words matches) same found) none)
+
+-- words that clap refuses ask for nothing, unless memory ran out
+pub refused_by_clap : (words : List Text) (subcommand : Subcommand) (command : App) (error : Error) (fault : UseFault) → command ≡ command_of_subcommand subcommand → Names words subcommand
+    → HasKind (fault_of command words) error → (kind_of error ≡ OutOfMemory → fault ≡ Memory) → (fault ≡ Memory) ⊎ AskNothing words
+refused_by_clap words subcommand command error fault same named (inl out) memory = inl (memory out)
+refused_by_clap words subcommand command error fault same named (inr among) memory =
+    inr (not_taken words subcommand named (subst (λ (c : App). fault_of c words ≡ [] → ⊥) same (λ none. subst (IsAmong (kind_of error)) none among)))
+
+-- ---- words that name no subcommand
+
+-- what is said of a word that doesn't ask for help
+pub named_usage : (word text : Text) → list_any (bytes_eq word) help_words ≡ false → text ≡ no_subcommand_text word → text ≡ usage_for_word word
+named_usage word text other is = is ∙ ap (λ help. if help then uses_text else no_subcommand_text word) (sym other)

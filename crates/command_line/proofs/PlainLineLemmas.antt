@@ -1,0 +1,125 @@
+-- Lines that are written in plain words.
+use Rattle.std.proofs.Common.{◌≡◌, ◌⊎◌, ◌∷◌, ◌∙◌, ◌^◌, ◌<◌, ◌==◌, [], ℕ, List, Some, None, Result, Ok, Err, IfErr, ap, arith, codes, decimal, false, inl, inr, refl, subst, sym, true, unwrap_or}
+use Rattle.std.specs.Str.Parse.{IsNumeral}
+use Rattle.std.proofs.lemmas.Bool.{false≢true}
+use Rattle.std.proofs.lemmas.Fmt.{decimal_is_IsNumeral}
+use Rattle.clap.specs.Words.{Text}
+use Rattle.jiff.specs.Types.{Date}
+use Rattle.office_core.specs.Actions.{action_text}
+use Rattle.office_core.specs.Days.{day_text}
+use Rattle.office_core.specs.declared.action.Action.{Action}
+use Rattle.office_core.specs.declared.action.Action.TheVariants.{Class, Collection, Deposit, List as Listing, Record, Holds, Download, Audit, Hold, Release, Dispose}
+use Rattle.command_line.specs.Lines.{AskNothing, Asks, IsPlainLine, IsPlainWord, Writes, command_of_subcommand, name_word, words_of}
+use Rattle.command_line.specs.declared.line.Line.{Line}
+use Rattle.command_line.specs.declared.line.Line.TheVariants as lines
+use Rattle.command_line.specs.declared.use_fault.UseFault.{UseFault}
+use Rattle.command_line.specs.declared.use_fault.UseFault.TheVariants.{Memory}
+use Rattle.command_line.proofs.PositionalLemmas.{ask_finds, check_finds, explain_finds, pack_finds, policy_finds, replay_finds, unpack_finds}
+use Rattle.command_line.proofs.ReplayWordLemmas.{replay_with_finds}
+use Rattle.command_line.proofs.ServeWordLemmas.{serve_finds}
+
+-- ---- words that are more than texts
+
+-- the digits of a number are a plain word
+numeral_is_plain : (ds : Text) → IsNumeral 10 ds → IsPlainWord ds
+numeral_is_plain [] is = absurd (omega (arith, is.0))
+numeral_is_plain (x ∷ ds) is = inr (λ dash.
+    let minus : x ≡ 45 = ap (λ o. unwrap_or o x) dash in
+    let digit = subst (λ (c : ℕ). IsNumeral 10 (c ∷ ds)) minus is in
+    omega (arith, digit.1.0))
+
+decimal_is_plain : (n : ℕ) → n < 2 ^ 64 → IsPlainWord (decimal n)
+decimal_is_plain n lt = numeral_is_plain (decimal n) (decimal_is_IsNumeral n lt).0
+
+writes : (n : ℕ) → n < 2 ^ 64 → Writes (decimal n) n
+writes n lt = decimal_is_IsNumeral n lt
+
+-- so is a day
+day_is_plain : (day : Date) → IsPlainWord (day_text day)
+day_is_plain day = inr (λ dash. let digit = ap (λ o. unwrap_or o 0) dash in omega (arith, digit))
+
+-- and an action
+starts_otherwise : (x : ℕ) (rest : Text) → (x == 45) ≡ false → IsPlainWord (x ∷ rest)
+starts_otherwise x rest other = inr (λ e. let same : x ≡ 45 = ap (λ o. unwrap_or o x) e in let hit : (x == 45) ≡ true = rw same refl in false≢true (sym other ∙ hit))
+
+action_is_plain : (action : Action) → IsPlainWord (action_text action)
+action_is_plain Class = starts_otherwise _ _ refl
+action_is_plain Collection = starts_otherwise _ _ refl
+action_is_plain Deposit = starts_otherwise _ _ refl
+action_is_plain Listing = starts_otherwise _ _ refl
+action_is_plain Record = starts_otherwise _ _ refl
+action_is_plain Holds = starts_otherwise _ _ refl
+action_is_plain Download = starts_otherwise _ _ refl
+action_is_plain Audit = starts_otherwise _ _ refl
+action_is_plain Hold = starts_otherwise _ _ refl
+action_is_plain Release = starts_otherwise _ _ refl
+action_is_plain Dispose = starts_otherwise _ _ refl
+
+-- ---- lines
+
+-- the words that are written for a line ask for it
+plain_line : (line : Line) → IsPlainLine line → Asks (words_of line) line
+unfolding command_of_subcommand
+plain_line (lines.Check file) plain =
+    let has = check_finds file.now plain in
+    record { first = refl; taken = has.taken; values = has.at (codes "FILE") }
+plain_line (lines.Pack folder file) plain =
+    let has = pack_finds folder.now file.now plain.0 plain.1 in
+    record { first = refl; taken = has.taken; values = (has.at (codes "DIR"), has.at (codes "FILE")) }
+plain_line (lines.Unpack file folder) plain =
+    let has = unpack_finds file.now folder.now plain.0 plain.1 in
+    record { first = refl; taken = has.taken; values = (has.at (codes "FILE"), has.at (codes "DIR")) }
+plain_line (lines.Explain asked) plain =
+    let has = explain_finds asked.policy.now asked.caller.now (action_text asked.action) (name_word asked.collection) (name_word asked.class)
+    plain.policy plain.caller (action_is_plain asked.action) plain.collection.0 plain.class.0 in
+    record {
+      first = refl;
+      taken = has.taken;
+      values = record {
+        policy = has.at (codes "POLICY");
+        caller = has.at (codes "CALLER");
+        action = has.at (codes "ACTION");
+        collection = (name_word asked.collection, has.at (codes "COLLECTION"), (plain.collection.1, refl));
+        class = (name_word asked.class, has.at (codes "CLASS"), (plain.class.1, refl));
+      };
+    }
+plain_line (lines.Policy store policy) plain =
+    let has = policy_finds store.now policy.now plain.0 plain.1 in
+    record { first = refl; taken = has.taken; values = (has.at (codes "STORE"), has.at (codes "POLICY")) }
+plain_line (lines.Ask store day) plain =
+    let has = ask_finds store.now (day_text day) plain.0 (day_is_plain day) in
+    record { first = refl; taken = has.taken; values = (has.at (codes "STORE"), (day_text day, has.at (codes "DAY"), (plain.1, refl))) }
+plain_line (lines.Replay None store) plain =
+    let has = replay_finds store.now plain in
+    record { first = refl; taken = has.taken; values = (has.at (codes "POLICY"), has.at (codes "STORE")) }
+plain_line (lines.Replay (Some policy) store) plain =
+    let has = replay_with_finds policy.now store.now plain.0 plain.1 in
+    record { first = refl; taken = has.taken; values = (has.at (codes "POLICY"), has.at (codes "STORE")) }
+plain_line (lines.Serve port count store day) plain =
+    let p = decimal_is_plain port (omega (arith, plain.0)) in
+    let n = decimal_is_plain count (omega (arith, plain.2)) in
+    let has = serve_finds (decimal port) (decimal count) store.now (day_text day) p n plain.3 (day_is_plain day) in
+    record {
+      first = refl;
+      taken = has.taken;
+      values = record {
+        at_port = (decimal port, has.at (codes "P"), (writes port (omega (arith, plain.0)), plain.0));
+        at_count = (decimal count, has.at (codes "N"), (writes count (omega (arith, plain.2)), plain.1, plain.2));
+        at_store = has.at (codes "STORE");
+        at_day = (day_text day, has.at (codes "DAY"), (plain.4, refl));
+      };
+    }
+
+-- words that ask for a line are refused for want of memory alone
+memory_alone : (words : List Text) (read : Result Line UseFault) (line : Line) → Asks words line → IfErr read (λ fault. (fault ≡ Memory) ⊎ AskNothing words)
+    → IfErr read (λ fault. fault ≡ Memory)
+memory_alone words (Ok l) line asks refused = tt
+memory_alone words (Err fault) line asks (inl memory) = memory
+memory_alone words (Err fault) line asks (inr none) = absurd (none line asks)
+
+-- a line that is written in plain words is read of them
+pub plain_is_read : (words : List Text) (read : Result Line UseFault) (line : Line) → IsPlainLine line → words ≡ words_of line
+    → IfErr read (λ fault. (fault ≡ Memory) ⊎ AskNothing words) → Asks words line × IfErr read (λ fault. fault ≡ Memory)
+plain_is_read words read line plain are refused =
+    let asks : Asks words line = subst (λ ws. Asks ws line) (sym are) (plain_line line plain) in
+    (asks, memory_alone words read line asks refused)

@@ -1,0 +1,186 @@
+//! The line that the values of a subcommand's words make.
+
+ghost use Rattle.std.specs.Prelude.{◌≡◌, ◌⊎◌, ℕ, IfErr, IfOk, List, MatchOption, Option};
+ghost use Rattle.command_line.specs.CommandBuilding.{HasNeeded, IsLineOf, MakesNoLine};
+ghost use Rattle.command_line.specs.Lines.{IsNameOrNone};
+ghost use Rattle.command_line.specs.declared.subcommand.Subcommand.TheVariants.{Ask, Check, Explain, Pack, Policy, Replay, Serve, Unpack};
+ghost use Rattle.command_line.specs.declared.use_fault.UseFault.TheVariants.{Memory};
+
+use crate::line::Line;
+use crate::number::{read_count, read_port};
+use crate::subcommand::Subcommand;
+use crate::use_fault::{UseFault, fault_of_use};
+use crate::words::word_at;
+use clap::ArgMatches;
+use commands::Asked;
+use office_core::{Action, Day, Name};
+use std::alloc::Global;
+
+const DAY: &str = "DAY is a date such as 2024-03-01, from 1900-01-01 to 9799-12-31\n";
+
+const PORT: &str = "P is the number of a port, 0 to 65535\n";
+
+const COUNT: &str = "N is a number of connections, 1 to 1000000\n";
+
+const ACTION: &str =
+    "ACTION is one of class, collection, deposit, list, record, holds, download, audit, hold, release, dispose\n";
+
+const COLLECTION: &str =
+    "COLLECTION is a name (1 to 40 characters of a to z, 0 to 9, -, _ and .), or - for none\n";
+
+const CLASS: &str =
+    "CLASS is a name (1 to 40 characters of a to z, 0 to 9, -, _ and .), or - for none\n";
+
+/// `check FILE`.
+fn check_line<'a>(matches: &ArgMatches<'a>) -> Line<'a>
+    requires { HasNeeded Check matches.now }
+    ensures { IsLineOf Check matches.now result }
+{
+    Line::Check {
+        file: word_at(matches, "FILE"),
+    }
+}
+
+/// `pack DIR FILE`.
+fn pack_line<'a>(matches: &ArgMatches<'a>) -> Line<'a>
+    requires { HasNeeded Pack matches.now }
+    ensures { IsLineOf Pack matches.now result }
+{
+    Line::Pack {
+        folder: word_at(matches, "DIR"),
+        file: word_at(matches, "FILE"),
+    }
+}
+
+/// `unpack FILE DIR`.
+fn unpack_line<'a>(matches: &ArgMatches<'a>) -> Line<'a>
+    requires { HasNeeded Unpack matches.now }
+    ensures { IsLineOf Unpack matches.now result }
+{
+    Line::Unpack {
+        file: word_at(matches, "FILE"),
+        folder: word_at(matches, "DIR"),
+    }
+}
+
+/// The name that the text is, or none where the text is `-`; nothing where it is neither.
+fn name_or_none<'a>(text: &'a str) -> Option<Option<Name<'a>>>
+    ensures { MatchOption result ((name : Option (List ℕ)) → IsNameOrNone text.entry.now name → ⊥)
+        (IsNameOrNone text.entry.now) }
+{
+    if text == "-" {
+        return Some(None);
+    }
+    match Name::read(text) {
+        Some(name) => Some(Some(name)),
+        None => None,
+    }
+}
+
+/// `explain POLICY CALLER ACTION COLLECTION CLASS`.
+fn explain_line<'a>(alloc: Global, matches: &ArgMatches<'a>) -> Result<Line<'a>, UseFault>
+    requires { HasNeeded Explain matches.now }
+    ensures line { IfOk result (IsLineOf Explain matches.now) }
+    ensures refused { IfErr result (λ fault.
+        (fault ≡ Memory) ⊎ MakesNoLine Explain matches.now) }
+{
+    let Some(action) = Action::read(word_at(matches, "ACTION")) else {
+        return Err(fault_of_use(alloc, ACTION));
+    };
+    let Some(collection) = name_or_none(word_at(matches, "COLLECTION")) else {
+        return Err(fault_of_use(alloc, COLLECTION));
+    };
+    let Some(class) = name_or_none(word_at(matches, "CLASS")) else {
+        return Err(fault_of_use(alloc, CLASS));
+    };
+    Ok(Line::Explain(Asked {
+        policy: word_at(matches, "POLICY"),
+        caller: word_at(matches, "CALLER"),
+        action,
+        collection,
+        class,
+    }))
+}
+
+/// `policy STORE POLICY`.
+fn policy_line<'a>(matches: &ArgMatches<'a>) -> Line<'a>
+    requires { HasNeeded Policy matches.now }
+    ensures { IsLineOf Policy matches.now result }
+{
+    Line::Policy {
+        store: word_at(matches, "STORE"),
+        policy: word_at(matches, "POLICY"),
+    }
+}
+
+/// `ask STORE DAY`.
+fn ask_line<'a>(alloc: Global, matches: &ArgMatches<'a>) -> Result<Line<'a>, UseFault>
+    requires { HasNeeded Ask matches.now }
+    ensures line { IfOk result (IsLineOf Ask matches.now) }
+    ensures refused { IfErr result (λ fault. (fault ≡ Memory) ⊎ MakesNoLine Ask matches.now) }
+{
+    let Some(day) = Day::read(word_at(matches, "DAY")) else {
+        return Err(fault_of_use(alloc, DAY));
+    };
+    Ok(Line::Ask {
+        store: word_at(matches, "STORE"),
+        day,
+    })
+}
+
+/// `replay [--policy POLICY] STORE`.
+fn replay_line<'a>(matches: &ArgMatches<'a>) -> Line<'a>
+    requires { HasNeeded Replay matches.now }
+    ensures { IsLineOf Replay matches.now result }
+{
+    Line::Replay {
+        policy: matches.get_str("POLICY"),
+        store: word_at(matches, "STORE"),
+    }
+}
+
+/// `serve --port P --count N STORE DAY`.
+fn serve_line<'a>(alloc: Global, matches: &ArgMatches<'a>) -> Result<Line<'a>, UseFault>
+    requires { HasNeeded Serve matches.now }
+    ensures line { IfOk result (IsLineOf Serve matches.now) }
+    ensures refused { IfErr result (λ fault. (fault ≡ Memory) ⊎ MakesNoLine Serve matches.now) }
+{
+    let Some(port) = read_port(word_at(matches, "P")) else {
+        return Err(fault_of_use(alloc, PORT));
+    };
+    let Some(count) = read_count(word_at(matches, "N")) else {
+        return Err(fault_of_use(alloc, COUNT));
+    };
+    let Some(day) = Day::read(word_at(matches, "DAY")) else {
+        return Err(fault_of_use(alloc, DAY));
+    };
+    Ok(Line::Serve {
+        port,
+        count,
+        store: word_at(matches, "STORE"),
+        day,
+    })
+}
+
+/// The line of the subcommand that the values make which `clap` found for it.
+pub fn line_of<'a>(
+    alloc: Global,
+    subcommand: Subcommand,
+    matches: &ArgMatches<'a>,
+) -> Result<Line<'a>, UseFault>
+    requires { HasNeeded subcommand matches.now }
+    ensures line { IfOk result (IsLineOf subcommand matches.now) }
+    ensures refused { IfErr result (λ fault.
+        (fault ≡ Memory) ⊎ MakesNoLine subcommand matches.now) }
+{
+    match subcommand {
+        Subcommand::Check => Ok(check_line(matches)),
+        Subcommand::Pack => Ok(pack_line(matches)),
+        Subcommand::Unpack => Ok(unpack_line(matches)),
+        Subcommand::Explain => explain_line(alloc, matches),
+        Subcommand::Policy => Ok(policy_line(matches)),
+        Subcommand::Ask => ask_line(alloc, matches),
+        Subcommand::Replay => Ok(replay_line(matches)),
+        Subcommand::Serve => serve_line(alloc, matches),
+    }
+}

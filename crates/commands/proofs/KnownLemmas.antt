@@ -1,0 +1,13 @@
+-- What holds of bytes that are known to be there.
+use Rattle.std.proofs.Common.{◌≡◌, ℕ, List, Option, Some, None, IfSome, subst}
+
+-- what holds of the bytes that were read holds of those that the reader gave, where they are known
+pub of_known : (known : Option (List ℕ)) (bytes : List ℕ) (part : List ℕ → List ℕ) (P : List ℕ → Type 0) → IfSome known (λ given. bytes ≡ part given) → P bytes
+    → IfSome known (λ given. P (part given))
+of_known None bytes part P read holds = tt
+of_known (Some given) bytes part P read holds = subst P read holds
+
+-- what follows from what holds of them
+pub known_so : (known : Option (List ℕ)) (P Q : List ℕ → Type 0) → ((bytes : List ℕ) → P bytes → Q bytes) → IfSome known P → IfSome known Q
+known_so None P Q follows holds = tt
+known_so (Some given) P Q follows holds = follows given holds
