@@ -2,3 +2,9 @@ pub mod OrderLemmas
 pub mod SizeLemmas
 pub mod LoadLemmas
 pub mod PackLemmas
+pub mod ReadingLemmas
+pub mod GrowingLemmas
+pub mod MakingLemmas
+pub mod ListingLemmas
+pub mod AgainLemmas
+pub mod UnpackLemmas

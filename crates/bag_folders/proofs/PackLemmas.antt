@@ -1,6 +1,6 @@
 -- What is told of a folder that is refused.
-use Rattle.std.proofs.Common.{◌≡◌, false, inl, inr, ℕ, List, [], ◌∷◌, length, replicate, map, refl, ◌∙◌}
-use Rattle.std.specs.Prelude.{Result, Ok, Err, IfErr, string_bytes}
+use Rattle.std.proofs.Common.{◌≡◌, inl, inr, ℕ, List, [], ◌∷◌, length, replicate, map, refl, ◌∙◌}
+use Rattle.std.specs.Prelude.{None, Result, Ok, Err, IfErr, string_bytes}
 use Rattle.std.proofs.Math.ListN.{length-replicate}
 use Rattle.bag_text.specs.TransferForm.{File, IsFormOf}
 use Rattle.bag_folders.specs.declared.failed.Failed.{Failed}
@@ -25,8 +25,8 @@ some_files (l ∷ ls) = (refl, length-replicate l.size 0, some_files ls)
 
 -- ---- what is refused
 
-pub plan_refused : (found : Found) (listed : List Listed) (fault : PackFault) → found.has_odd_entry ≡ false → AreInOrder found.files.items listed → AllFilesOf listed (λ files. HasNoForm files fault) → IsRefused found fault
-plan_refused found listed Name odd order none = absurd (none (map filled listed) (some_files listed))
+pub plan_refused : (found : Found) (listed : List Listed) (fault : PackFault) → found.odd ≡ None → AreInOrder found.files.items listed → AllFilesOf listed (λ files. HasNoForm files fault) → IsRefused found fault
+plan_refused found listed (Name path) odd order none = absurd (none (map filled listed) (some_files listed))
 plan_refused found listed (Set fault path) odd order none = (odd, (listed, order, none))
 plan_refused found listed Size odd order none = (odd, (listed, order, none))
 plan_refused found listed (Device trouble) odd order none = none (map filled listed) (some_files listed)
@@ -40,14 +40,14 @@ failed_may_be (failures.Device trouble) = tt
 failed_may_be failures.Memory = memory_may_be
 
 pub plan_may_be : (found : Found) (fault : PackFault) → IsRefused found fault → MayBeRefused fault
-plan_may_be found Name h = inl (found, h)
+plan_may_be found (Name path) h = inl (found, h)
 plan_may_be found (Set fault path) h = inl (found, h)
 plan_may_be found Size h = inl (found, h)
 plan_may_be found (Device trouble) h = tt
 plan_may_be found Memory h = inl (found, h)
 
 form_fault : (files : List File) (fault : PackFault) → HasNoForm files fault → MayBeRefused fault
-form_fault files Name h = absurd h
+form_fault files (Name path) h = absurd h
 form_fault files (Set fault path) h = inr (files, h)
 form_fault files Size h = inr (files, h)
 form_fault files (Device trouble) h = tt

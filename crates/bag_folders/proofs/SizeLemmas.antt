@@ -229,7 +229,7 @@ judged_fault X files TrailingBytes j out = (list_fault_law files TrailingBytes).
 -- the list's fault, as it is named, is why there is no form
 pub no_form : (files : List File) (fault : SetFault) (path : Option (List ℕ)) (named : PackFault) → (fault ≢ Memory → ListFault files fault)
     → path ≡ path_at_fault fault (paths_of files) → IsNamedAs fault path named → HasNoForm files named
-no_form files fault path packing.Name stands at is = absurd is
+no_form files fault path (packing.Name other) stands at is = absurd is
 no_form files fault path (packing.Set found own) stands at is =
     (subst (λ (f : SetFault). ListFault files f) (sym is.0) (stands is.1), is.2 ∙ at ∙ ap (λ (f : SetFault). path_at_fault f (paths_of files)) (sym is.0))
 no_form files fault path packing.Size stands at is = absurd is

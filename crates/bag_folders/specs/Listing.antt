@@ -1,22 +1,74 @@
--- How what was found under a folder grows.
-use Rattle.std.specs.Prelude.{◌≡◌, ℕ, true, List, [], ◌∷◌, ◌++◌, length, ◌==◌, if◌then◌else◌, String}
+-- What is found under a folder: the files among the entries that are listed in it and in each folder below it.
+use Rattle.std.specs.Prelude.{◌≡◌, ◌⊎◌, ℕ, List, [], ◌∷◌, ◌++◌, length, ◌==◌, if◌then◌else◌, Option, Some, None, Result, Ok, Err, String, codes, filter_map, flat_map, slice_get, string_bytes}
+use Rattle.std.specs.Fs.{dir_entry_name}
+use Rattle.std.specs.IoError.{error_kind}
+use Rattle.std.specs.Iterator.{Drains}
 use Rattle.std.specs.declared.alloc.Global.{Global}
+use Rattle.std.specs.declared.io.Error.{Error}
+use Rattle.std.specs.declared.fs.dir.DirEntry.{DirEntry}
+use Rattle.std.specs.declared.io.ErrorKind.TheVariants.{InvalidFilename}
+use Rattle.std.specs.List.{AllZip}
+use Rattle.bag_folders.specs.declared.failed.Failed.{Failed}
+use Rattle.bag_folders.specs.declared.failed.Failed.TheVariants.{Memory}
+use Rattle.bag_folders.specs.declared.listed.Entry.{Entry}
+use Rattle.bag_folders.specs.declared.listed.Found.{Found}
+use Rattle.bag_folders.specs.declared.listed.Kind.{Kind}
+use Rattle.bag_folders.specs.declared.listed.Kind.TheVariants.{File, Folder, Odd}
 use Rattle.bag_folders.specs.declared.listed.Listed.{Listed}
-use Rattle.bag_folders.specs.declared.listing.Walk.{Walk}
 
 -- the path of a name in a folder, of which either may be empty
 abbrev pub joined : List ℕ → List ℕ → List ℕ
 joined folder name = if length folder == 0 then name else if length name == 0 then folder else folder ++ 47 ∷ name
 
--- a folder that is still to be listed
-abbrev pub AddsFolder : Walk → Walk → String Global → Type 0
-AddsFolder old new path = (new.waiting.items ≡ old.waiting.items ++ path ∷ []) × (new.found ≡ old.found)
+-- ---- one folder
 
--- a file that was found, of this path and size
-abbrev pub AddsFile : Walk → Walk → Listed → Type 0
-AddsFile old new file =
-    (new.found.files.items ≡ old.found.files.items ++ file ∷ []) × (new.found.has_odd_entry ≡ old.found.has_odd_entry) × (new.waiting ≡ old.waiting)
+-- An entry is told of what the system gave for a name: the name; or that it isn't UTF-8, and then `?` stands for it.
+abbrev pub IsToldOf : {R A F D : Type 0} → List ℕ → Result (DirEntry R A F D) Error → Entry → Type 0
+IsToldOf folder (Ok name) entry = string_bytes entry.path ≡ joined folder (dir_entry_name name)
+IsToldOf folder (Err error) entry = (error_kind error ≡ InvalidFilename) × (entry.kind ≡ Odd) × (string_bytes entry.path ≡ joined folder (codes "?"))
 
--- an entry without a place in a form
-abbrev pub AddsOdd : Walk → Walk → Type 0
-AddsOdd old new = (new.found.has_odd_entry ≡ true) × (new.found.files ≡ old.found.files) × (new.waiting ≡ old.waiting)
+-- an entry is told of each name that the calls from here give, in this order
+abbrev pub AreToldOf : {S R A F D : Type 0} → (S → Option (Result (DirEntry R A F D) Error) → S → Type 0) → List ℕ → S → List Entry → Type 0
+AreToldOf {R = R} {A = A} {F = F} {D = D} steps folder names entries =
+    (given : List (Result (DirEntry R A F D) Error)) × Drains steps names given × AllZip (IsToldOf folder) given entries
+
+-- ---- a folder and all folders below it
+
+-- these entries are listed at this path where it is a folder's, and none where it isn't
+abbrev pub AreListedAt : (List ℕ → List Entry → Type 0) → List ℕ → Kind → List Entry → Type 0
+AreListedAt lists path Folder entries = lists path entries
+AreListedAt lists path kind entries = entries ≡ []
+
+-- the entries of the first folder, and those of each folder among them
+pub record AreListed (lists : List ℕ → List Entry → Type 0) (entries : List Entry) : Type 0 where
+  pub first : List Entry
+  pub below : List (List Entry)
+  pub whole : entries ≡ first ++ flat_map (λ listed. listed) below
+  pub are_first : lists [] first
+  pub are_below : AllZip (λ entry listed. AreListedAt lists (string_bytes entry.path) entry.kind listed) entries below
+
+-- one of the folders fails to be listed so, or memory runs out
+abbrev pub CanFail : (List ℕ → Failed → Type 0) → Failed → Type 0
+CanFail fails failed = (failed ≡ Memory) ⊎ ((folder : List ℕ) × fails folder failed)
+
+-- ---- what is found
+
+-- the file that an entry is
+abbrev pub file_of : String Global → Kind → Option Listed
+file_of path (File size) = Some (record { path = path; size = size })
+file_of path kind = None
+
+abbrev pub file_in : Entry → Option Listed
+file_in entry = file_of entry.path entry.kind
+
+-- the path of an entry that has no place in a form
+abbrev pub odd_of : String Global → Kind → Option (String Global)
+odd_of path Odd = Some path
+odd_of path kind = None
+
+abbrev pub odd_in : Entry → Option (String Global)
+odd_in entry = odd_of entry.path entry.kind
+
+-- the files among the entries, and the first that is odd
+abbrev pub IsFoundIn : List Entry → Found → Type 0
+IsFoundIn entries found = (found.files.items ≡ filter_map file_in entries) × (found.odd ≡ slice_get (filter_map odd_in entries) 0)

@@ -1,6 +1,6 @@
 -- What packing a folder comes to: its files in the order of their paths, and of these the form, or
 -- the first fault.
-use Rattle.std.specs.Prelude.{◌≡◌, ◌≢◌, ◌⊎◌, ℕ, ◌<◌, true, false, List, [], ◌∷◌, Option, Some, None, length, map, option_and_then, option_map, slice_get, string_bytes}
+use Rattle.std.specs.Prelude.{◌≡◌, ◌≢◌, ◌⊎◌, ℕ, ◌<◌, List, [], ◌∷◌, Option, Some, None, length, map, option_and_then, option_map, slice_get, string_bytes}
 use Rattle.std.specs.List.Sorted.{IsPermutation, IsSortedBy}
 use Rattle.bag_text.specs.Paths.{comes_before}
 use Rattle.bag_text.specs.TransferForm.{File, IsBag, IsFormOf, max_form, set_text}
@@ -62,13 +62,13 @@ abbrev pub AllFilesOf : List Listed → (List File → Type 0) → Type 0
 AllFilesOf listed P = (files : List File) → AreFilesOf listed files → P files
 
 -- why a folder in which this was found isn't packed, as far as the paths and sizes tell: an odd entry comes
--- first
+-- first, by its path
 abbrev pub IsRefused : Found → PackFault → Type 0
-IsRefused found Name = found.has_odd_entry ≡ true
+IsRefused found (Name path) = found.odd ≡ Some path
 IsRefused found Memory = Unit {0}
 IsRefused found (Device trouble) = ⊥
 IsRefused found fault =
-    (found.has_odd_entry ≡ false) × ((listed : List Listed) × AreInOrder found.files.items listed × AllFilesOf listed (λ files. HasNoForm files fault))
+    (found.odd ≡ None) × ((listed : List Listed) × AreInOrder found.files.items listed × AllFilesOf listed (λ files. HasNoForm files fault))
 
 -- ---- what is told of a folder, of which no contract says what it holds
 

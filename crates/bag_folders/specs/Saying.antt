@@ -3,7 +3,7 @@ use Rattle.std.specs.Prelude.{◌≡◌, ℕ, ◌++◌, ◌∷◌, [], true, fal
 use Rattle.bag_text.specs.FaultTexts.{set_fault_text}
 use Rattle.bag_text.specs.declared.set_fault.SetFault.{SetFault}
 use Rattle.bag_check.specs.FaultTexts.{printed_text}
-use Rattle.fault_words.specs.FaultWords.{folder_words, odd_entry_words, too_large_words, too_long_words}
+use Rattle.fault_words.specs.FaultWords.{folder_words, too_large_words, too_long_words, words_of_odd_entry}
 use Rattle.fault_words.specs.OtherFiles.{form_lines}
 use Rattle.bag_folders.specs.declared.failed.Failed.{Failed}
 use Rattle.bag_folders.specs.declared.failed.Failed.TheVariants as failures
@@ -58,7 +58,7 @@ SaysWhy text reason said = (string_bytes said.text ≡ text) × (option_map stri
 
 abbrev pub SaysOfPack : Result Packed PackFault → Said → Type 0
 SaysOfPack (Ok packed) said = SaysDone (packed_text packed) said
-SaysOfPack (Err packing.Name) said = SaysWhy (unpackable_text (codes "NAME")) (line_of odd_entry_words) said
+SaysOfPack (Err (packing.Name path)) said = SaysWhy (unpackable_text (codes "NAME")) (line_of (words_of_odd_entry (string_bytes path))) said
 SaysOfPack (Err (packing.Set fault path)) said =
     SaysWhy (unpackable_text (set_fault_text fault)) (files_reason fault (option_map string_bytes path)) said
 SaysOfPack (Err packing.Size) said = SaysWhy (unpackable_text (codes "SIZE")) (line_of too_large_words) said

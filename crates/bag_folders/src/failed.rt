@@ -5,7 +5,7 @@ ghost use Rattle.std.specs.IoError.{error_kind};
 ghost use Rattle.std.specs.declared.io.ErrorKind.TheVariants.{OutOfMemory};
 ghost use Rattle.bag_folders.specs.declared.failed.Failed.TheVariants.{Memory};
 
-use fault_words::Escaped;
+use fault_words::{Escaped, OtherFile};
 use std::alloc::{AllocError, AllocFailed, Global};
 use std::error::Error;
 use std::io::ErrorKind;
@@ -20,6 +20,8 @@ pub enum Tried {
     Look,
     /// A file's bytes were read.
     Read,
+    /// The bytes of a bag's form were read.
+    Form,
     /// A file or a folder was made.
     Make,
     /// Bytes were written to a file.
@@ -33,7 +35,7 @@ impl fmt::Display for Tried {
         match self {
             Tried::List => f.write_str("list"),
             Tried::Look => f.write_str("look at"),
-            Tried::Read => f.write_str("read"),
+            Tried::Read | Tried::Form => f.write_str("read"),
             Tried::Make => f.write_str("make"),
             Tried::Write => f.write_str("write"),
             Tried::Rename => f.write_str("rename"),
@@ -58,7 +60,14 @@ impl fmt::Display for Trouble {
             let path = Escaped(path.as_str());
             write!(f, " {path}")?;
         }
-        write!(f, ": {}", self.error)
+        // A folder is often named where its form is wanted.
+        match (tried, self.error.kind()) {
+            (Tried::Form, ErrorKind::IsADirectory) => {
+                let why = OtherFile::Folder;
+                write!(f, ": {why}")
+            }
+            _ => write!(f, ": {}", self.error),
+        }
     }
 }
 

@@ -1,5 +1,22 @@
 //! What is found under a folder.
 
+/// An entry of a folder: its path from the first folder on, and what it is.
+#[derive(Debug, Drop)]
+pub struct Entry {
+    pub path: String,
+    pub kind: Kind,
+}
+
+/// What an entry of a folder is.
+#[derive(Clone, Copy, Debug, PartialEq, Eq)]
+pub enum Kind {
+    /// A file, and how many bytes it has.
+    File(u64),
+    Folder,
+    /// Neither, or one whose name isn't UTF-8: it has no place in a form.
+    Odd,
+}
+
 /// A file that was found under a folder: its path from the folder on, and how many bytes it has.
 #[derive(Debug, Drop)]
 pub struct Listed {
@@ -12,6 +29,6 @@ pub struct Listed {
 pub struct Found {
     /// The files, in no order.
     pub files: Vec<Listed>,
-    /// Whether an entry is neither a file nor a folder, or has a name that isn't UTF-8.
-    pub has_odd_entry: bool,
+    /// The path of the first entry that has no place in a form.
+    pub odd: Option<String>,
 }

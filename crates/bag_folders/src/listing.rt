@@ -1,126 +1,102 @@
 //! Listing what is under a folder.
 
-ghost use Rattle.std.specs.Prelude.{◌≡◌, ◌++◌, ◌∷◌, IfOk, OnOk, string_bytes};
-ghost use Rattle.std.specs.Fs.{IsDir, IsFile, file_type, metadata_len};
-ghost use Rattle.bag_folders.specs.Listing.{AddsFile, AddsFolder, AddsOdd, joined};
+ghost use Rattle.std.specs.Prelude.{◌≡◌, ◌++◌, [], List, Some, IfErr, IfOk, OnOk, string_bytes};
+ghost use Rattle.std.specs.List.{cons_option};
+ghost use Rattle.std.specs.Option.{option_or};
+ghost use Rattle.bag_folders.specs.Listing.{AreListed, AreListedAt, CanFail, IsFoundIn, file_in, odd_in};
+ghost use Rattle.bag_folders.specs.declared.listed.Entry.{Entry};
 
-use crate::failed::{Failed, Tried, failed_at};
-use crate::listed::{Found, Listed};
+use crate::failed::Failed;
+use crate::folders::{Folders, FoldersUnder};
+use crate::listed::{Entry, Found, Kind, Listed};
 use std::alloc::{AllocError, Global};
-use std::fs::{DirEntry, Metadata};
-use std::io::ErrorKind;
 use std::rt::Files;
-use std::{fs, io};
 
-/// What is still to be listed, and what was found.
-#[derive(Drop)]
-struct Walk {
-    /// The folders whose names are still to be read, as paths from the first folder on.
-    waiting: Vec<String>,
-    found: Found,
-}
-
-/// The path of a file of a bag in the file system.
-pub fn path_under(alloc: Global, folder: &str, path: &str) -> Result<String, AllocError>
-    ensures { IfOk result (λ whole. string_bytes whole ≡ folder.now ++ 47 ∷ path.now) }
+/// The entries that an entry leads to: those of a folder.
+fn entries_at<F: Folders>(alloc: Global, folders: &F, entry: &Entry) -> Result<Vec<Entry>, Failed>
+    ensures listed { IfOk result (λ entries.
+        AreListedAt (F.lists folders.now) (string_bytes entry.now.path) entry.now.kind entries.items) }
+    ensures failed { IfErr result (CanFail (F.fails folders.now)) }
 {
-    format!(in alloc; "{folder}/{path}")
-}
-
-/// The path of a name in this folder. An empty text stands for no folder and for no name.
-fn path_in(alloc: Global, folder: &str, name: &str) -> Result<String, AllocError>
-    ensures { IfOk result (λ whole. string_bytes whole ≡ joined folder.now name.now) }
-{
-    if folder.is_empty() {
-        String::from_str(alloc, name)
-    } else if name.is_empty() {
-        String::from_str(alloc, folder)
-    } else {
-        path_under(alloc, folder, name)
+    match entry.kind {
+        Kind::Folder => folders.list(entry.path.as_str()),
+        Kind::File(_) | Kind::Odd => Ok(Vec::new(alloc)),
     }
 }
 
-/// Takes up an entry: a file, a folder that is still to be listed, or one without a place in a form.
-fn take_up(walk: &mut Walk, path: String, metadata: &Metadata) -> Result<(), AllocError>
-    ensures folder { OnOk result (IsDir (file_type metadata.now)
-        → AddsFolder walk.old walk.new path) }
-    ensures file { OnOk result (IsFile (file_type metadata.now)
-        → AddsFile walk.old walk.new (record { path = path; size = metadata_len metadata.now })) }
-    ensures odd { OnOk result (¬ (IsDir (file_type metadata.now)) → ¬ (IsFile (file_type metadata.now))
-        → AddsOdd walk.old walk.new) }
+/// All entries under the first folder: its own, and those of each folder among them.
+fn all_entries<F: Folders>(alloc: Global, folders: &F) -> Result<Vec<Entry>, Failed>
+    ensures listed { IfOk result (λ entries. AreListed (F.lists folders.now) entries.items) }
+    ensures failed { IfErr result (CanFail (F.fails folders.now)) }
 {
-    if metadata.is_dir() {
-        walk.waiting.push(path)?;
-    } else if metadata.is_file() {
-        let size = metadata.len();
-        walk.found.files.push(Listed { path, size })?;
-    } else {
-        walk.found.has_odd_entry = true;
+    let mut entries = folders.list("")?;
+    for next in 0..usize::MAX {
+        if next >= entries.len() {
+            return Ok(entries);
+        }
+        let mut more = entries_at(alloc, folders, &entries[next])?;
+        entries.append(&mut more)?;
     }
-    Ok(())
+    Ok(entries)
 }
 
-/// Takes up an entry of a folder, and follows no link.
-fn take_entry<R: Files>(
-    alloc: Global,
-    walk: &mut Walk,
-    folder: &str,
-    entry: &DirEntry<R, Global>,
-) -> Result<(), Failed> {
-    match entry.metadata() {
-        Ok(metadata) => {
-            let path = path_in(alloc, folder, entry.file_name())?;
-            take_up(walk, path, &metadata)?;
+/// Keeps the first path.
+fn keep_first(odd: &mut Option<String>, path: String)
+    ensures { odd.new ≡ option_or odd.old (Some path) }
+{
+    if odd.is_none() {
+        *odd = Some(path);
+    }
+}
+
+/// Takes up an entry: a file, or the first that has no place in a form.
+fn take_up(found: &mut Found, entry: Entry) -> Result<(), AllocError>
+    ensures files { OnOk result
+        (found.new.files.items ≡ found.old.files.items ++ cons_option (file_in entry) []) }
+    ensures odd { OnOk result (found.new.odd ≡ option_or found.old.odd (odd_in entry)) }
+{
+    let Entry { path, kind } = entry;
+    match kind {
+        Kind::File(size) => {
+            found.files.push(Listed { path, size })?;
             Ok(())
         }
-        Err(error) => Err(failed_at(alloc, Tried::Look, entry.path().as_str(), error)),
-    }
-}
-
-/// Takes up what is in a folder. A name that isn't UTF-8 has no place in a form.
-fn take_names<R: Files + AllocGlobal>(
-    rt: &R,
-    walk: &mut Walk,
-    root: &str,
-    folder: &str,
-) -> Result<(), Failed> {
-    let alloc = rt.alloc();
-    let path = path_in(alloc, root, folder)?;
-    let names = match fs::read_dir(&rt, path.as_str()) {
-        Ok(names) => names,
-        Err(error) => return Err(failed_at(alloc, Tried::List, path.as_str(), error)),
-    };
-    for entry in names {
-        match entry {
-            Ok(entry) => take_entry(alloc, walk, folder, &entry)?,
-            Err(error) => {
-                if error.kind() != ErrorKind::InvalidFilename {
-                    return Err(failed_at(alloc, Tried::List, path.as_str(), error));
-                }
-                walk.found.has_odd_entry = true;
-            }
+        Kind::Folder => Ok(()),
+        Kind::Odd => {
+            keep_first(&mut found.odd, path);
+            Ok(())
         }
     }
-    Ok(())
 }
 
-/// What is under a folder, its subfolders included.
-pub fn list_folder<R: Files + AllocGlobal>(rt: &R, root: &str) -> Result<Found, Failed> {
-    let alloc = rt.alloc();
-    let mut walk = Walk {
-        waiting: Vec::new(alloc),
-        found: Found {
-            files: Vec::new(alloc),
-            has_odd_entry: false,
-        },
+/// What is found in entries: the files, and the first entry that has no place in a form.
+fn found_in(alloc: Global, entries: Vec<Entry>) -> Result<Found, AllocError>
+    ensures { IfOk result (IsFoundIn entries.items) }
+{
+    let mut found = Found {
+        files: Vec::new(alloc),
+        odd: None,
     };
-    walk.waiting.push(String::new(alloc))?;
-    for _ in 0..u64::MAX {
-        let Some(folder) = walk.waiting.pop() else {
-            return Ok(walk.found);
-        };
-        take_names(rt, &mut walk, root, folder.as_str())?;
+    for entry in entries {
+        take_up(&mut found, entry)?;
     }
-    let error = io::Error::other("it has too many folders");
-    Err(failed_at(alloc, Tried::List, root, error))
+    Ok(found)
+}
+
+/// What is found under the first of the folders, its subfolders included.
+pub fn found_under<F: Folders>(alloc: Global, folders: &F) -> Result<Found, Failed>
+    // It is all that is listed there and in each folder below it.
+    ensures found { IfOk result (λ found. (entries : List Entry)
+        × AreListed (F.lists folders.now) entries × IsFoundIn entries found) }
+    // Where one of them can't be listed, nothing is found.
+    ensures failed { IfErr result (CanFail (F.fails folders.now)) }
+{
+    let entries = all_entries(alloc, folders)?;
+    Ok(found_in(alloc, entries)?)
+}
+
+/// What is found under a folder of the file system.
+pub(crate) fn list_folder<R: Files + AllocGlobal>(rt: &R, root: &str) -> Result<Found, Failed> {
+    let folders = FoldersUnder { rt, root };
+    found_under(rt.alloc(), &folders)
 }

@@ -1,17 +1,18 @@
 //! Reading the files that are to be packed.
 
-ghost use Rattle.std.specs.Prelude.{◌≡◌, IfOk, length, map};
+ghost use Rattle.std.specs.Prelude.{◌≡◌, ◌<◌, ◌-◌, ◌^◌, IfOk, IfSome, length, map};
 ghost use Rattle.bag_text.specs.TransferReading.{files_of};
 ghost use Rattle.bag_folders.specs.Packing.{AreFilesOf};
 ghost use Rattle.bag_folders.specs.Loading.{loaded_file};
 
 use crate::failed::{Failed, Tried, failed_at};
+use crate::folders::path_under;
 use crate::listed::Listed;
-use crate::listing::path_under;
 use std::alloc::{AllocError, Global};
 use std::io::Read;
 use std::rt::Files;
 use std::{fs, io};
+use streams::read_at_most;
 
 /// A file that was read: its path from the folder on, and its bytes.
 #[derive(Debug, Drop)]
@@ -20,21 +21,20 @@ pub struct Loaded<'a> {
     pub content: Vec<u8>,
 }
 
-/// Reads a file to its end, or one byte past this size.
-fn read_up_to<R: Files + AllocGlobal>(rt: &R, path: &str, size: u64) -> io::Result<Vec<u8>> {
-    let most = size.saturating_add(1);
-    let mut content = Vec::with_capacity(rt.alloc(), most as usize)?;
-    let mut file = fs::open(rt, path)?;
-    (&mut file).take(most).read_to_end(&mut content)?;
-    Ok(content)
-}
-
 /// The bytes of a file that has this size. Where it has another by now, it changed while it was packed.
-fn read_content<R: Files + AllocGlobal>(rt: &R, path: &str, size: u64) -> Result<Vec<u8>, Failed>
-    ensures { IfOk result (λ content. length content.items ≡ size) }
+fn content_of<F: Read>(
+    alloc: Global,
+    path: &str,
+    size: u64,
+    file: &mut F,
+) -> Result<Vec<u8>, Failed>
+    ensures size { IfOk result (λ content. length content.items ≡ size) }
+    // They are all that the file gives.
+    ensures given { size < 2 ^ 64 - 1 → IfOk result (λ content. IfSome (F.remaining file.old)
+        (λ given. content.items ≡ given)) }
 {
-    let alloc = rt.alloc();
-    match read_up_to(rt, path, size) {
+    // One byte more tells a file that has grown.
+    match read_at_most(alloc, size.saturating_add(1), file) {
         Ok(content) => {
             if content.len() as u64 != size {
                 let error = io::Error::other("it changed while it was packed");
@@ -43,6 +43,16 @@ fn read_content<R: Files + AllocGlobal>(rt: &R, path: &str, size: u64) -> Result
             Ok(content)
         }
         Err(error) => Err(failed_at(alloc, Tried::Read, path, error)),
+    }
+}
+
+/// The bytes of the file of this path, which has this size.
+fn read_content<R: Files + AllocGlobal>(rt: &R, path: &str, size: u64) -> Result<Vec<u8>, Failed>
+    ensures { IfOk result (λ content. length content.items ≡ size) }
+{
+    match fs::open(rt, path) {
+        Ok(mut file) => content_of(rt.alloc(), path, size, &mut file),
+        Err(error) => Err(failed_at(rt.alloc(), Tried::Read, path, error)),
     }
 }
 

@@ -11,9 +11,9 @@ use std::alloc::{AllocError, AllocFailed, Global};
 /// Why a folder isn't packed.
 #[derive(Debug, Drop, thiserror::Error)]
 pub enum PackFault {
-    /// An entry is neither a file nor a folder, or has a name that isn't UTF-8.
+    /// The entry of this path is neither a file nor a folder, or has a name that isn't UTF-8.
     #[error("NAME")]
-    Name,
+    Name(String),
     /// The files, in the order of their paths, are no bag. The path is that of the file at fault, where
     /// the fault is one file's.
     #[error("{fault}")]

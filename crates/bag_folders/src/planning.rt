@@ -1,6 +1,6 @@
 //! What is to be packed.
 
-ghost use Rattle.std.specs.Prelude.{◌≡◌, false, IfOk, IfErr};
+ghost use Rattle.std.specs.Prelude.{◌≡◌, None, IfOk, IfErr};
 ghost use Rattle.bag_text.specs.TransferForm.{IsBag};
 ghost use Rattle.bag_folders.specs.Packing.{AllFilesOf, AreInOrder, IsRefused};
 
@@ -15,16 +15,18 @@ use std::alloc::Global;
 pub fn plan(alloc: Global, found: Found) -> Result<Vec<Listed>, PackFault>
     // All entries are files, and these are they, in order.
     ensures order { IfOk result (λ files.
-        (found.has_odd_entry ≡ false) × AreInOrder found.files.items files.items) }
+        (found.odd ≡ None) × AreInOrder found.files.items files.items) }
     // Whatever bytes they have, they are a bag.
     ensures bag { IfOk result (λ files. AllFilesOf files.items IsBag) }
     // What is refused has the fault that is named.
     ensures refused { IfErr result (IsRefused found) }
 {
-    if found.has_odd_entry {
-        return Err(PackFault::Name);
+    let Found { files, odd } = found;
+    match odd {
+        Some(path) => return Err(PackFault::Name(path)),
+        None => {}
     }
-    let files = in_order(found.files);
+    let files = in_order(files);
     judge(alloc, files.as_slice())?;
     Ok(files)
 }

@@ -1,11 +1,16 @@
 //! Writing a file whole, or not at all.
 
+ghost use Rattle.std.specs.Prelude.{OnOk};
+ghost use Rattle.std.specs.Io.KnownBytes.{Appends};
+ghost use Rattle.streams.specs.Writing.{IsCutShort};
+
 use crate::failed::{Failed, Tried, failed_at};
 use std::alloc::{AllocError, Global};
 use std::fs::{OpenFile, OpenOptions};
 use std::io::{ErrorKind, Write};
 use std::rt::Files;
 use std::{fs, io};
+use streams::write_bytes;
 
 /// The most names that are tried for the file that is written first.
 const MOST_NAMES: u32 = 100;
@@ -38,9 +43,13 @@ fn check_place<R: Files + AllocGlobal>(rt: &R, file: &str) -> Result<(), Failed>
 }
 
 /// Writes all of the bytes, as far as the device.
-fn fill<F: Write + OpenFile + Drop>(file: F, bytes: &[u8]) -> io::Result<()> {
-    let mut file = file;
-    file.write_all(bytes)?;
+fn fill<F: Write + OpenFile>(file: &mut F, bytes: &[u8]) -> io::Result<()>
+    // What was written is the bytes, and nothing else.
+    ensures whole { OnOk result (Appends (F.contents file.old) (F.contents file.new) bytes.now) }
+    // Whatever comes of it, a beginning of them was.
+    ensures front { IsCutShort bytes.now (F.contents file.old) (F.contents file.new) }
+{
+    write_bytes(bytes, file)?;
     file.sync_all()
 }
 
@@ -53,7 +62,8 @@ fn fill_and_rename<R: Files + AllocGlobal>(
     file: &str,
     bytes: &[u8],
 ) -> Result<(), Failed> {
-    if let Err(error) = fill(opened, bytes) {
+    let mut opened = opened;
+    if let Err(error) = fill(&mut opened, bytes) {
         let _ = fs::remove_file(rt, beside);
         return Err(failed_at(rt.alloc(), Tried::Write, file, error));
     }
@@ -65,7 +75,7 @@ fn fill_and_rename<R: Files + AllocGlobal>(
 }
 
 /// Writes a file whole, or leaves what stands under its name as it was.
-pub fn put<R: Files + AllocGlobal>(rt: &R, file: &str, bytes: &[u8]) -> Result<(), Failed> {
+pub(crate) fn put<R: Files + AllocGlobal>(rt: &R, file: &str, bytes: &[u8]) -> Result<(), Failed> {
     check_place(rt, file)?;
     for number in 0..MOST_NAMES {
         let beside = name_beside(rt.alloc(), file, number)?;

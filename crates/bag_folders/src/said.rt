@@ -1,7 +1,8 @@
 //! What the program says of a folder that was packed, and of a form that was unpacked.
 
-ghost use Rattle.std.specs.Prelude.{◌≡◌, IfOk, IfErr, None, option_map, string_bytes};
-ghost use Rattle.bag_folders.specs.Saying.{SaysOfPack, SaysOfUnpack, SaysWhy, PackFails, UnpackFails, file_reason, files_reason, line_of, packed_text, unpacked_text};
+ghost use Rattle.std.specs.Prelude.{◌≡◌, IfOk, IfErr, None, codes, option_map, string_bytes};
+ghost use Rattle.bag_folders.specs.Saying.{SaysOfPack, SaysOfUnpack, SaysWhy, PackFails, UnpackFails, file_reason, files_reason, line_of, packed_text, unpackable_text, unpacked_text};
+ghost use Rattle.fault_words.specs.FaultWords.{words_of_odd_entry};
 
 use crate::failed::Failed;
 use crate::pack_fault::PackFault;
@@ -9,9 +10,7 @@ use crate::packing::Packed;
 use crate::unpack_fault::UnpackFault;
 use crate::unpacking::Unpacked;
 use bag_text::SetFault;
-use fault_words::{
-    Escaped, folder_words, form_lines, odd_entry_words, too_large_words, too_long_words,
-};
+use fault_words::{Escaped, OddEntry, folder_words, form_lines, too_large_words, too_long_words};
 use std::alloc::{AllocError, Global};
 use std::fmt::Write;
 
@@ -77,6 +76,19 @@ fn refusal_said(alloc: Global, line: &str, words: &str) -> Result<Said, AllocErr
     })
 }
 
+/// What is said of a folder with an entry that has no place in a form.
+fn odd_entry_said(alloc: Global, path: &str) -> Result<Said, AllocError>
+    ensures { IfOk result (SaysWhy (unpackable_text (codes "NAME"))
+        (line_of (words_of_odd_entry path.now))) }
+{
+    let entry = OddEntry(path);
+    Ok(Said {
+        text: String::from_str(alloc, "unpackable NAME\n")?,
+        reason: Some(format!(in alloc; "{entry}\n")?),
+        is_done: false,
+    })
+}
+
 /// What is said of a folder that was to be packed; or what failed, of which standard error is told.
 pub fn pack_said(alloc: Global, packing: Result<Packed, PackFault>) -> Result<Said, Failed>
     // What is said is so.
@@ -90,7 +102,7 @@ pub fn pack_said(alloc: Global, packing: Result<Packed, PackFault>) -> Result<Sa
             reason: None,
             is_done: true,
         }),
-        Err(PackFault::Name) => Ok(refusal_said(alloc, "unpackable NAME\n", odd_entry_words())?),
+        Err(PackFault::Name(path)) => Ok(odd_entry_said(alloc, path.as_str())?),
         Err(PackFault::Set { fault, path }) => Ok(Said {
             text: format!(in alloc; "unpackable {fault}\n")?,
             reason: Some(files_reason(alloc, fault, &path)?),

@@ -1,0 +1,65 @@
+-- What comes of a text that was read.
+use Rattle.std.proofs.Common.{◌≡◌, ℕ, List, Option, Some, None, IfSome, sym, subst}
+use Rattle.std.specs.Prelude.{Result, Ok, Err, IfErr, IfOk}
+use Rattle.bag_text.specs.TransferForm.{File, IsFormOf}
+use Rattle.bag_folders.specs.declared.failed.Failed.{Failed}
+use Rattle.bag_folders.specs.declared.failed.Failed.TheVariants as failures
+use Rattle.bag_folders.specs.declared.unpacking.Unpacked.{Unpacked}
+use Rattle.bag_folders.specs.declared.unpack_fault.UnpackFault.{UnpackFault}
+use Rattle.bag_folders.specs.declared.unpack_fault.UnpackFault.TheVariants.{Set, Size, Exists, Device, Memory}
+use Rattle.bag_folders.specs.Unpacking.{CanStop, IsMade, IsUnpacked, IsUnpackedFrom, IsUnreadable, MayBeUnreadable, judged_part, unpack_failed}
+
+pub failed_stops : (failed : Failed) → CanStop (unpack_failed failed)
+failed_stops (failures.Device trouble) = tt
+failed_stops failures.Memory = tt
+
+pub failed_from : (text : List ℕ) (failed : Failed) → IsUnpackedFrom text (Err (unpack_failed failed))
+failed_from text (failures.Device trouble) = tt
+failed_from text failures.Memory = tt
+
+made_of : (text : List ℕ) (files : List File) (result : Result Unpacked UnpackFault) → IsFormOf files text → IsMade files result → IsUnpackedFrom text result
+made_of text files (Ok unpacked) form made = (files, form, made)
+made_of text files (Err (Set fault other)) form made = absurd made
+made_of text files (Err Size) form made = absurd made
+made_of text files (Err Exists) form made = (files, form)
+made_of text files (Err (Device trouble)) form made = tt
+made_of text files (Err Memory) form made = tt
+
+unread_from : (text : List ℕ) (fault : UnpackFault) → IsUnreadable text fault → IsUnpackedFrom text (Err fault)
+unread_from text (Set fault other) h = h
+unread_from text Size h = h
+unread_from text Exists h = absurd h
+unread_from text (Device trouble) h = tt
+unread_from text Memory h = tt
+
+-- a bag that was read is made, and what is none is refused
+pub made_from : (text : List ℕ) (read : Result (List File) UnpackFault) (result : Result Unpacked UnpackFault) → IfOk read (λ bag. IsFormOf bag text) → IfErr read (IsUnreadable text)
+    → IfErr read (λ fault. result ≡ Err fault) → IfOk read (λ bag. IsMade bag result) → IsUnpackedFrom text result
+made_from text (Ok files) result form refused unread made = made_of text files result form made
+made_from text (Err fault) result form refused unread made = subst (λ (r : Result Unpacked UnpackFault). IsUnpackedFrom text r) (sym unread) (unread_from text fault refused)
+
+-- the text is what was judged of a file, where that is known
+pub judged_from : (known : Option (List ℕ)) (text : List ℕ) (result : Result Unpacked UnpackFault) → IfSome known (λ given. text ≡ judged_part given) → IsUnpackedFrom text result
+    → IfSome known (λ given. IsUnpackedFrom (judged_part given) result)
+judged_from None text result read from = tt
+judged_from (Some given) text result read from = subst (λ (t : List ℕ). IsUnpackedFrom t result) read from
+
+pub failed_judged : (known : Option (List ℕ)) (failed : Failed) → IfSome known (λ given. IsUnpackedFrom (judged_part given) (Err (unpack_failed failed)))
+failed_judged None failed = tt
+failed_judged (Some given) failed = failed_from (judged_part given) failed
+
+-- and else it is some text
+pub some_unpacked : (text : List ℕ) (result : Result Unpacked UnpackFault) → IsUnpackedFrom text result → IfOk result IsUnpacked
+some_unpacked text (Ok unpacked) from = (from.0, text, from.1, from.2)
+some_unpacked text (Err fault) from = tt
+
+some_refused : (text : List ℕ) (fault : UnpackFault) → IsUnpackedFrom text (Err fault) → MayBeUnreadable fault
+some_refused text (Set fault other) from = (text, from)
+some_refused text Size from = (text, from)
+some_refused text Exists from = tt
+some_refused text (Device trouble) from = tt
+some_refused text Memory from = (text, tt)
+
+pub some_unreadable : (text : List ℕ) (result : Result Unpacked UnpackFault) → IsUnpackedFrom text result → IfErr result MayBeUnreadable
+some_unreadable text (Ok unpacked) from = tt
+some_unreadable text (Err fault) from = some_refused text fault from

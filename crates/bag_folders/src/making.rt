@@ -1,0 +1,194 @@
+//! The folders and files of a bag are made.
+
+ghost use Rattle.std.specs.Prelude.{◌≡◌, ◌++◌, [], Err, IfErr, IfOk, OnOk, bytes_eq, filter_map, map, option_copied};
+ghost use Rattle.std.specs.List.{cons_option, list_any};
+ghost use Rattle.bag_check.specs.Contents.{declaration_path, is_payload};
+ghost use Rattle.bag_text.specs.TransferReading.{files_of};
+ghost use Rattle.bag_folders.specs.Packing.{paths_of};
+ghost use Rattle.bag_folders.specs.Unpacking.{CanStop, IsMade, folder_of, folders_of, needs_data};
+
+use crate::failed::{Failed, Tried, failed_at};
+use crate::folders::path_under;
+use crate::unpack_fault::UnpackFault;
+use crate::unpacking::Unpacked;
+use bag_text::BagSet;
+use std::alloc::{AllocError, Global};
+use std::fs;
+use std::fs::OpenOptions;
+use std::io::ErrorKind;
+use std::rt::Files;
+use streams::write_bytes;
+
+/// Whether a path is one of the payload.
+fn is_payload(path: &str) -> bool
+    ensures { result ≡ is_payload path.now }
+{
+    path.as_bytes().starts_with(b"data/")
+}
+
+/// Whether a bag's declaration is among these files.
+fn has_declaration(files: &[(&str, &[u8])]) -> bool
+    ensures { result ≡ list_any (λ file. bytes_eq file.0.now declaration_path) files.now }
+{
+    files.iter().any(|file| file.0 == "bagit.txt")
+}
+
+/// Whether a payload file is among these.
+fn has_payload(files: &[(&str, &[u8])]) -> bool
+    ensures { result ≡ list_any (λ file. is_payload file.0.now) files.now }
+{
+    files.iter().any(|file| is_payload(file.0))
+}
+
+/// Whether these are the files of a bag without a payload. It has a folder `data` all the same (RFC 8493,
+/// 2.1), which no path needs: other programs refuse a bag that has none.
+fn needs_data(files: &[(&str, &[u8])]) -> bool
+    ensures { result ≡ needs_data (paths_of (files_of files.now)) }
+{
+    has_declaration(files) && !has_payload(files)
+}
+
+/// The folder in which a file stands, where it stands in one.
+fn folder_of<'a>(path: &'a str) -> Option<&'a str>
+    ensures { option_copied result ≡ folder_of path.now }
+{
+    match path.rsplit_once('/') {
+        Some((folder, _)) => Some(folder),
+        None => None,
+    }
+}
+
+/// Adds the folder in which a file stands, where it stands in one.
+fn add_folder<'a>(folders: &mut Vec<&'a str>, path: &'a str) -> Result<(), AllocError>
+    ensures { OnOk result (map (λ folder. folder.now) folders.new.items
+        ≡ map (λ folder. folder.now) folders.old.items ++ cons_option (folder_of path.entry.now) []) }
+{
+    let Some(folder) = folder_of(path) else {
+        return Ok(());
+    };
+    folders.push(folder)?;
+    Ok(())
+}
+
+/// The folders in which the files stand.
+fn needed_folders<'a>(
+    alloc: Global,
+    files: &[(&'a str, &'a [u8])],
+) -> Result<Vec<&'a str>, AllocError>
+    ensures { IfOk result (λ folders. map (λ folder. folder.now) folders.items
+        ≡ filter_map (λ file. folder_of file.0.now) files.now) }
+{
+    let mut folders: Vec<&'a str> = Vec::with_capacity(alloc, files.len())?;
+    for file in files {
+        add_folder(&mut folders, file.0)?;
+    }
+    Ok(folders)
+}
+
+/// The folders that are made for these files, as paths from the first folder on.
+pub fn folders_of<'a>(
+    alloc: Global,
+    files: &[(&'a str, &'a [u8])],
+) -> Result<Vec<&'a str>, AllocError>
+    // They are those in which the files stand, and `data` where the bag has no payload.
+    ensures { IfOk result (λ folders.
+        map (λ folder. folder.now) folders.items ≡ folders_of (paths_of (files_of files.now))) }
+{
+    let mut folders = needed_folders(alloc, files)?;
+    if needs_data(files) {
+        folders.push("data")?;
+        return Ok(folders);
+    }
+    Ok(folders)
+}
+
+/// Makes the folder, where nothing stands under its name.
+fn make_folder<R: Files + AllocGlobal>(rt: &R, folder: &str) -> Result<(), UnpackFault>
+    ensures { IfErr result CanStop }
+{
+    match fs::create_dir(rt, folder) {
+        Ok(()) => Ok(()),
+        Err(error) => {
+            if error.kind() == ErrorKind::AlreadyExists {
+                return Err(UnpackFault::Exists);
+            }
+            Err(failed_at(rt.alloc(), Tried::Make, folder, error).into())
+        }
+    }
+}
+
+/// Makes these folders under the first, and those above them.
+fn make_folders<R: Files + AllocGlobal>(
+    rt: &R,
+    first: &str,
+    folders: &[&str],
+) -> Result<(), Failed> {
+    for folder in folders {
+        let path = path_under(rt.alloc(), first, folder)?;
+        if let Err(error) = fs::create_dir_all(rt, path.as_str()) {
+            return Err(failed_at(rt.alloc(), Tried::Make, path.as_str(), error));
+        }
+    }
+    Ok(())
+}
+
+/// Makes a file where none stands, and writes the bytes to it.
+fn make_file<R: Files + AllocGlobal>(rt: &R, path: &str, content: &[u8]) -> Result<(), Failed> {
+    let opened = OpenOptions::new()
+        .write(true)
+        .create_new(true)
+        .open(rt, path);
+    let mut file = match opened {
+        Ok(file) => file,
+        Err(error) => return Err(failed_at(rt.alloc(), Tried::Make, path, error)),
+    };
+    match write_bytes(content, &mut file) {
+        Ok(()) => Ok(()),
+        Err(error) => Err(failed_at(rt.alloc(), Tried::Write, path, error)),
+    }
+}
+
+/// Makes the files of a bag under the folder, whose folders stand.
+fn make_files<R: Files + AllocGlobal>(
+    rt: &R,
+    folder: &str,
+    files: &[(&str, &[u8])],
+) -> Result<(), Failed> {
+    for file in files {
+        let path = path_under(rt.alloc(), folder, file.0)?;
+        make_file(rt, path.as_str(), file.1)?;
+    }
+    Ok(())
+}
+
+/// Makes the folder, and in it the folders and files of a bag.
+fn make_all<R: Files + AllocGlobal>(
+    rt: &R,
+    folder: &str,
+    files: &[(&str, &[u8])],
+) -> Result<Unpacked, UnpackFault>
+    ensures { IsMade (files_of files.now) result }
+{
+    make_folder(rt, folder)?;
+    let folders = folders_of(rt.alloc(), files)?;
+    make_folders(rt, folder, folders.as_slice())?;
+    make_files(rt, folder, files)?;
+    Ok(Unpacked { files: files.len() })
+}
+
+/// Makes the folder of the bag that was read, where one was.
+pub fn make_bag<R: Files + AllocGlobal>(
+    rt: &R,
+    folder: &str,
+    read: Result<BagSet<'_>, UnpackFault>,
+) -> Result<Unpacked, UnpackFault>
+    // Where none was, that is said, whatever stands under the folder's name.
+    ensures unread { IfErr read.entry (λ fault. result ≡ Err fault) }
+    // Else the files are counted, or something stands there or fails.
+    ensures made { IfOk read.entry (λ bag. IsMade bag result) }
+{
+    match read {
+        Ok(bag) => make_all(rt, folder, bag.files()),
+        Err(fault) => Err(fault),
+    }
+}
