@@ -1,5 +1,5 @@
 -- An office that is found in files, and copied into them.
-use Rattle.std.proofs.Common.{◌≡◌, ◌≢◌, ◌∙◌, List, [], ◌∷◌, Result, Ok, Err, IfOk, IsErr, IsTrue, true, false, refl, sym, ap, subst}
+use Rattle.std.proofs.Common.{◌≡◌, ◌≢◌, ◌∙◌, List, [], ◌∷◌, Bool, Result, Ok, Err, IfErr, IfOk, IsErr, IsTrue, true, false, refl, sym, ap, subst}
 use Rattle.std.proofs.Math.Logic.{∥∥₁_map}
 use Rattle.sqlite.specs.Recovery.{Image}
 use Rattle.sqlite.specs.Schema.{Schema}
@@ -8,9 +8,12 @@ use Rattle.sqlite.specs.Tree.{Trees}
 use Rattle.sqlite.specs.Effect.{Database}
 use Rattle.sqlite.specs.State.{State, HasCleanDisk, Opens, IsLive}
 use Rattle.sqlite.specs.Start.{FindsIn}
-use Rattle.sqlite.specs.Files.{HoldsDatabase}
+use Rattle.sqlite_disk.specs.declared.Disk.{Ghosts as Disks}
+use Rattle.sqlite.specs.Files.{AreFoundIn, HoldsDatabase, file_state}
+use Rattle.sqlite.specs.Held.{Held}
+use Rattle.sqlite.specs.declared.FileStore.{FileStore}
 use Rattle.office_rows.specs.Rows.{this_version}
-use Rattle.office_tables.specs.Opening.{IsLeft}
+use Rattle.office_tables.specs.Opening.{IsLeft, has_office}
 use Rattle.office_tables.specs.Schema.{no_schema, office_schema}
 use Rattle.office_history.specs.Histories.{History}
 use Rattle.office_history.specs.Pictures.{picture}
@@ -19,6 +22,9 @@ use Rattle.office_recovery.proofs.FoundAgain.{becomes_again}
 use Rattle.office_recovery.proofs.Settled.{left_from}
 use Rattle.office_engine.specs.Keeping.{IsKeptBy, IsLeftOf, IsReached}
 use Rattle.office_engine.proofs.Kept.{rows_left}
+use Rattle.office_commands.specs.Stores.{IsOpenedFrom}
+use Rattle.office_commands.specs.Texts.{found_nothing}
+use Rattle.office_commands.specs.declared.fault.CommandFault.{CommandFault}
 
 -- what is left with the rows of a history is left of the history
 left_of : (h : History) (left : Trees) → IsLeft (picture this_version h) left → IsLeftOf h left
@@ -69,3 +75,35 @@ pub taken_as_held : {A E : Type 0} (r : Result A E) (shown : A → State) (image
 taken_as_held (Err e) shown image s cleans goes_on opened found = tt
 taken_as_held (Ok o) shown image s cleans goes_on opened found = λ clean h holds.
     let was = cleans clean in goes_on clean h (found_of image s (opened was).0 (opened was).1 (found was) h holds)
+
+-- an office that is made, where one may be made
+pub opened_as_made : {D E : Type 0} (g : Disks D) (r : Result (Held (FileStore D g)) E) (image : Image) (s : State) (makes : Bool) → (makes ≡ false → ⊥)
+    → IfOk r (λ o. HasCleanDisk (file_state o) → HasCleanDisk s) → (s.now.schema ≢ no_schema → IsErr r)
+    → (HasCleanDisk s → Opens s × IsLive s) → (HasCleanDisk s → FindsIn image s) → IfOk r (IsOpenedFrom g image makes)
+opened_as_made g (Err e) image s makes may cleans empty opened found = tt
+opened_as_made {E = E} g (Ok o) image s makes may cleans empty opened found = record {
+  found = made_where_none {E = E} (Ok o) file_state image s cleans empty opened found;
+  was_there = λ no. absurd (may no);
+}
+
+-- one that is taken was there
+pub opened_as_taken : {D E : Type 0} (g : Disks D) (r : Result (Held (FileStore D g)) E) (image : Image) (s : State) (makes : Bool)
+    → IfOk r (λ o. HasCleanDisk (file_state o) → HasCleanDisk s) → IfOk r (λ o. HasCleanDisk (file_state o) → (h : History) → IsLeftOf h s.now.trees → IsKeptBy h (file_state o))
+    → IfOk r (λ o. HasCleanDisk (file_state o) → IsTrue (has_office s.now.schema))
+    → (HasCleanDisk s → Opens s × IsLive s) → (HasCleanDisk s → FindsIn image s) → IfOk r (IsOpenedFrom g image makes)
+opened_as_taken g (Err e) image s makes cleans goes_on there opened found = tt
+opened_as_taken {E = E} g (Ok o) image s makes cleans goes_on there opened found = record {
+  found = taken_as_held {E = E} (Ok o) file_state image s cleans goes_on opened found;
+  was_there = λ no clean.
+      let was = cleans clean in
+      let same : s.now.trees ≡ s.committed.trees = ap (λ (d : Database). d.trees) (opened was).0.clean in
+      (s.now, record { holds = λ db held. same ∙ (found was).holds db held; reads = subst (AreFoundIn image) (sym same) (found was).reads }, there clean);
+}
+
+pub may_make : (makes : Bool) → makes ≡ true → makes ≡ false → ⊥
+may_make makes is isnt = let never : true ≡ false = sym is ∙ isnt in cc
+
+-- something was found
+pub found_something : {T : Type 0} (r : Result T CommandFault) (makes : Bool) → IfErr r (λ fault. found_nothing fault ≡ false) → IfErr r (λ fault. found_nothing fault ≡ true → makes ≡ false)
+found_something (Ok x) makes isnt = tt
+found_something (Err fault) makes isnt = λ is. let never : false ≡ true = sym isnt ∙ is in absurd (cc)

@@ -1,10 +1,8 @@
-pub mod PolicyLemmas
-pub mod PrintingLemmas
-pub mod AnsweringLemmas
 pub mod AskingLemmas
-pub mod TaskLemmas
+pub mod DeedLemmas
 pub mod FileLemmas
-pub mod ReplayingLemmas
 pub mod ListeningLemmas
-pub mod CarryingLemmas
-pub mod CommandLemmas
+pub mod PrintingLemmas
+pub mod ReplayingLemmas
+pub mod StoreLemmas
+pub mod WorkLemmas

@@ -1,22 +1,42 @@
--- What comes of connections, and the line that was printed before them.
-use Rattle.std.proofs.Common.{◌≡◌, ◌+◌, ◌∙◌, ℕ, List, Option, Result, Ok, Err, OnOk}
+-- What comes of connections, and the line that is printed before them.
+use Rattle.std.proofs.Common.{◌≡◌, ◌+◌, ◌<◌, ◌∙◌, ℕ, List, [], Option, Result, Err, inl, inr, length, ◌≤◌, refl, sym, subst}
 use Rattle.std.specs.Io.KnownBytes.{Appends}
+use Rattle.streams.specs.Writing.{IsCutShort}
 use Rattle.jiff.specs.Types.{Date}
 use Rattle.sqlite.specs.Held.{Held}
 use Rattle.sqlite.specs.Store.{Ghosts}
 use Rattle.desk_listening.specs.Accepting.{CountsAs}
-use Rattle.desk_listening.specs.Listening.{Connection, IsAfterAll, IsRun}
+use Rattle.desk_listening.specs.Listening.{Connection, IsAfterAll}
 use Rattle.desk_listening.specs.declared.accepting.Served.{Served}
-use Rattle.office_commands.specs.Listening.{Listens, SoMany, TellsPort, listening_text}
+use Rattle.office_commands.specs.Deeds.{AreDone, Deed, deeds_of_connections}
+use Rattle.office_commands.specs.Tasks.{AreServedFor, IsPortFor, Listens, listening_text}
+use Rattle.office_commands.specs.Texts.{IsFailure}
+use Rattle.office_commands.specs.declared.fault.CommandFault.{CommandFault}
+use Rattle.office_commands.proofs.DeedLemmas.{connections_are_done}
+use Rattle.office_commands.proofs.PrintingLemmas.{appends_nothing}
 
-pub listens : {S L : Type 0} (g : Ghosts S) (day : Date) (count port : ℕ) (old new : Held S) (held holds : Option (List ℕ)) (served : Served) (Taken : List Connection → L → Type 0) (Ends : L → Type 0)
-    → served.answered + served.failed ≡ count
-    → ((connections : List Connection) × (now : L) × CountsAs connections served × IsAfterAll g day connections old new × IsRun g connections old new × Taken connections now × Ends now)
-    → Appends held holds (listening_text port) → SoMany count (λ connections. Listens g day port connections old new held holds)
-listens g day count port old new held holds served Taken Ends sum it writes = (it.0, it.2.0 ∙ sum, (it.3, it.4, writes))
+module _ {S : Type 0} (g : Ghosts S) (day : Date) (old new : Held S) where
+  pub served_all : (count : ℕ) (served : Served) (connections : List Connection) → served.answered + served.failed ≡ count → CountsAs connections served → IsAfterAll g day connections old new
+      → (served : List Connection) × (length served ≡ count) × AreDone g (deeds_of_connections day served) old new
+  served_all count served connections sum counts after = (connections, counts.0 ∙ sum, connections_are_done g day connections old new after)
 
--- the line of the port alone
-pub tells_port : {S T E : Type 0} (g : Ghosts S) (r : Result T E) (day : Date) (count : ℕ) (old new : Held S) (held holds : Option (List ℕ))
-    → OnOk r ((port : ℕ) × SoMany count (λ connections. Listens g day port connections old new held holds)) → OnOk r (TellsPort held holds)
-tells_port g (Ok x) day count old new held holds listens = (listens.0, listens.1.2.2)
-tells_port g (Err e) day count old new held holds listens = tt
+  pub served_fewer : (count : ℕ) (served : Served) (connections : List Connection) → served.answered + served.failed < count → CountsAs connections served → IsAfterAll g day connections old new
+      → (served : List Connection) × (length served < count) × AreDone g (deeds_of_connections day served) old new
+  served_fewer count served connections fewer counts after =
+      (connections, subst (λ (n : ℕ). n < count) (sym counts.0) fewer, connections_are_done g day connections old new after)
+
+  -- the line is printed, and then so many are served
+  pub listens : {T : Type 0} (r : Result T CommandFault) (told count : ℕ) (held holds : Option (List ℕ)) → Appends held holds (listening_text told)
+      → ((served : List Connection) × AreServedFor r count served × AreDone g (deeds_of_connections day served) old new)
+      → (deeds : List Deed) × Listens day told count r deeds held holds × AreDone g deeds old new
+  listens r told count held holds said it = (deeds_of_connections day it.0, inr (it.0, it.1, refl, said), it.2)
+
+-- it can't be printed
+pub listens_to_none : {S : Type 0} (T : Type 0) (g : Ghosts S) (day : Date) (office : Held S) (fault : CommandFault) (told count : ℕ) (held holds : Option (List ℕ)) → IsFailure fault
+    → IsCutShort (listening_text told) held holds → (deeds : List Deed) × Listens {T = T} day told count (Err fault) deeds held holds × AreDone g deeds office office
+listens_to_none T g day office fault told count held holds fails cut = ([], inl (fails, refl, cut), refl)
+
+-- the port can't be had
+pub unheard : {S : Type 0} (T : Type 0) (g : Ghosts S) (day : Date) (office : Held S) (fault : CommandFault) (port count : ℕ) (held : Option (List ℕ)) → IsFailure fault → port ≤ 65_535
+    → (told : ℕ) × (deeds : List Deed) × IsPortFor port told × Listens {T = T} day told count (Err fault) deeds held held × AreDone g deeds office office
+unheard T g day office fault port count held fails fits = (port, [], (fits, λ other. refl), inl (fails, refl, (0, appends_nothing held held refl)), refl)

@@ -3,7 +3,13 @@ use Rattle.std.proofs.Common.{◌≡◌, ◌∙◌, ℕ, List, Option, Some, Non
 use Rattle.std.proofs.lemmas.List.{append-nil}
 use Rattle.std.proofs.Math.Seq.{take-length}
 use Rattle.std.specs.Io.KnownBytes.{Appends, Keeps}
-use Rattle.commands.proofs.WritingLemmas.{appends_kept}
+
+-- what was written stays
+pub appends_kept : (old mid new : Option (List ℕ)) (a : List ℕ) → Appends old mid a → Keeps mid new → Appends old new a
+appends_kept None mid new a first kept = tt
+appends_kept (Some xs) None new a first kept = absurd first
+appends_kept (Some xs) (Some ys) None a first kept = absurd kept
+appends_kept (Some xs) (Some ys) (Some zs) a first kept = kept ∙ first
 
 -- what was written, and then handed on
 pub written_all : {T E : Type 0} (r : Result T E) (text bytes : List ℕ) (old mid new : Option (List ℕ)) → bytes ≡ text → Appends old mid bytes → Keeps mid new → OnOk r (Appends old new text)

@@ -1,108 +1,117 @@
--- What a replay over a store that keeps a history writes are the answers of a run from that history.
-use Rattle.std.proofs.Common.{◌≡◌, ℕ, List, Option, Some, None, Result, Ok, Err, OnOk, IfErr, [], ◌∷◌, Bor, inl, inr, option_copied, refl, sym, subst, arith}
-use Rattle.std.specs.Io.KnownBytes.{IsAtEnd, Keeps}
-use Rattle.sqlite.specs.Held.{Held, state}
-use Rattle.sqlite.specs.State.{HasCleanDisk, Survives}
+-- What a replay reads, has answered and prints, however it ends.
+use Rattle.std.proofs.Common.{◌≡◌, ◌⊎◌, ◌∙◌, ◌+◌, ℕ, List, [], Option, Result, Ok, Err, IfErr, inl, inr, length, take, refl, sym, ap, subst}
+use Rattle.std.proofs.lemmas.List.{append-nil}
+use Rattle.std.proofs.Math.Seq.{take-length}
+use Rattle.std.specs.Io.KnownBytes.{Appends, Consumes, IsAtEnd, Keeps}
+use Rattle.sqlite.specs.Held.{Held}
 use Rattle.sqlite.specs.Store.{Ghosts}
-use Rattle.office_core.specs.Policies.{PolicyValue}
-use Rattle.office_history.specs.Histories.{History}
-use Rattle.office_history.specs.Runs.{IsLegal}
-use Rattle.office_engine.specs.Keeping.{CommitsTo, Installs, IsKeptBy, IsReached, after_policy}
 use Rattle.desk_records.specs.RecordLists.{RequestRecord, answer_texts}
-use Rattle.http_desk.specs.Replaying.{AnswersEach, HasAnswered, Stopped}
+use Rattle.http_desk.specs.Replaying.{HasAnswered, HasDone, IsBegun, Stopped}
 use Rattle.http_desk.specs.declared.replaying.ReplayFault.{ReplayFault}
 use Rattle.http_desk.specs.declared.replaying.ReplayStop.{ReplayStop}
 use Rattle.http_desk.specs.declared.replaying.ReplayStop.TheVariants as stops
-use Rattle.http_desk.proofs.RunLemmas.{runs_each}
-use Rattle.office_commands.specs.Answering.{ReplaysFrom, StopsFrom, after_install}
-use Rattle.office_commands.specs.Tasks.{Stops}
-use Rattle.office_commands.specs.Working.{EndsReplay, InstallsFirst, Replays, ReplaysUnder, StopsUnder}
-use Rattle.office_commands.specs.Texts.{replay_failure}
-use Rattle.office_commands.specs.declared.fault.Cause.TheVariants.{Output}
+use Rattle.office_commands.specs.Deeds.{AreDone, Deed, deeds_of_records}
+use Rattle.office_commands.specs.Tasks.{AreAsked, PrintsAllOrBut, Replays}
+use Rattle.office_commands.specs.Texts.{IsFailure, replay_failure}
+use Rattle.office_commands.specs.Traffic.{Traffic}
 use Rattle.office_commands.specs.declared.fault.CommandFault.{CommandFault}
 use Rattle.office_commands.specs.declared.fault.CommandFault.TheVariants.{BadRecord, Failed, Policy}
-use Rattle.office_commands.specs.declared.fault.StoreFault.TheVariants.{Device}
-use Rattle.office_commands.specs.declared.task.Task.TheVariants.{Replay}
-use Rattle.http_desk.proofs.RunLemmas.{clean_at}
-use Rattle.commands.proofs.WritingLemmas.{appends_kept}
+use Rattle.office_commands.proofs.PrintingLemmas.{appends_kept}
+use Rattle.office_commands.proofs.DeedLemmas.{as_many, records_are_done}
 
--- ---- the history
+-- the records are read, and their answers are so many deeds
+abbrev pub Comes : {S T : Type 0} → Ghosts S → Held S → Held S → Result T CommandFault → Traffic → Traffic → Type 0
+Comes g first last r was now = (deeds : List Deed) × Replays r deeds was now × AreDone g deeds first last
 
--- a disk that is honest behind records was so before the policy that came first
-pub clean_before : {S : Type 0} (g : Ghosts S) (policy : Option PolicyValue) (first mid last : Held S) (items : List RequestRecord) (texts : List (List ℕ)) → InstallsFirst g policy first mid
-    → AnswersEach g mid items texts last → HasCleanDisk (state g last) → HasCleanDisk (state g first)
-clean_before g None first mid last items texts installs each clean = subst (λ (s : Held _). HasCleanDisk (state g s)) installs (clean_at g mid last items texts each clean)
-clean_before g (Some policy) first mid last items texts installs each clean = installs.0 (clean_at g mid last items texts each clean)
+abbrev nothing : List ℕ
+nothing = []
 
-first_history : {S : Type 0} (g : Ghosts S) (policy : Option PolicyValue) (first mid : Held S) → InstallsFirst g policy first mid → HasCleanDisk (state g mid) → (h : History) → IsLegal h → IsKeptBy h (state g first)
-    → IsReached (after_install policy h) (state g mid)
-first_history g None first mid installs clean h legal keeps = record { legal = legal; kept = subst (λ (s : Held _). IsKeptBy h (state g s)) (sym installs) keeps }
-first_history g (Some policy) first mid installs clean h legal keeps = installs.1 clean h legal keeps
+-- memory ran out after the last answer, or before it was printed
+so_many : (fault : ReplayFault) (items : List RequestRecord) (texts : List (List ℕ)) → length texts ≡ length items → fault.done ≡ length items → (fault.done ≡ fault.answered) ⊎ (fault.done ≡ fault.answered + 1)
+    → ((fault.answered ≡ length texts) × (nothing ≡ nothing)) ⊎ ((fault.answered + 1 ≡ length texts) × ((nothing ≡ nothing) ⊎ IsBegun texts nothing))
+so_many fault items texts many done (inl same) = inl (sym same ∙ (done ∙ sym many), refl)
+so_many fault items texts many done (inr more) = inr (sym more ∙ (done ∙ sym many), inl refl)
 
-pub replays_from : {S : Type 0} (g : Ghosts S) (policy : Option PolicyValue) (first last : Held S) (was_left left held holds : Option (List ℕ)) → ReplaysUnder g policy first last was_left left held holds
-    → HasCleanDisk (state g last) → (h : History) → IsLegal h → IsKeptBy h (state g first)
-    → (next : History) × ReplaysFrom (after_install policy h) next was_left left held holds × IsReached next (state g last)
-replays_from g policy first last was_left left held holds does clean h legal keeps =
-    let mid = does.0 in
-    let items = does.2.0 in
-    let has = does.2.1 in
-    let at = first_history g policy first mid does.1 (clean_at g mid last items has.texts has.answers clean) h legal keeps in
-    let run = runs_each g mid last items has.texts has.answers clean (after_install policy h) at.legal at.kept in
-    (run.2, (has.given, items, has.texts, run.0, run.1, has.reads, does.2.2, has.records, run.3, run.4, has.writes), run.5)
+module _ {S : Type 0} (g : Ghosts S) (first last : Held S) (was_left left held holds : Option (List ℕ)) where
+  abbrev pub was : Traffic
+  was = record { input = was_left; output = held }
 
-pub stops_from : {S : Type 0} (g : Ghosts S) (policy : Option PolicyValue) (index : ℕ) (first last : Held S) (was_left left held holds : Option (List ℕ)) → StopsUnder g policy index first last was_left left held holds
-    → HasCleanDisk (state g last) → (h : History) → IsLegal h → IsKeptBy h (state g first)
-    → (next : History) × StopsFrom (after_install policy h) index next was_left left held holds × IsReached next (state g last)
-stops_from g policy index first last was_left left held holds stops clean h legal keeps =
-    let mid = stops.0 in
-    let items = stops.2.0 in
-    let has = stops.2.2 in
-    let at = first_history g policy first mid stops.1 (clean_at g mid last items has.texts has.answers clean) h legal keeps in
-    let run = runs_each g mid last items has.texts has.answers clean (after_install policy h) at.legal at.kept in
-    (run.2, (has.given, stops.2.1, items, has.texts, run.0, run.1, has.reads, has.records, stops.2.3, stops.2.4, run.3, run.4, has.writes), run.5)
+  abbrev pub now : Traffic
+  now = record { input = left; output = holds }
 
--- ---- how it ends
+  answered : (items : List RequestRecord) (rest : List ℕ) (has : HasAnswered g first last was_left left held holds items rest) → AreAsked items has.texts rest (deeds_of_records items has.texts) was now
+  answered items rest has = record {
+    gives = subst (Consumes was_left left) has.records.text has.reads;
+    each = has.records.each;
+    few = has.records.few;
+    as_many = as_many g items has.texts first last has.answers;
+    done = refl;
+  }
 
--- the answers are written, and then the output hands them on or fails to
-pub ended : {S T : Type 0} (g : Ghosts S) (first last : Held S) (was_left left held mid holds : Option (List ℕ)) (r : Result T CommandFault) (items : List RequestRecord)
-    → IfErr r (λ e. e ≡ Failed Device (Some Output)) → HasAnswered g first last was_left left held mid items [] → IsAtEnd left → Keeps mid holds → EndsReplay g first last was_left left held holds r
-ended {S = S} {T = T} g first last was_left left held mid holds r items faults has at_end kept = go r faults
-  where
-    handed : Replays g first last was_left left held holds
-    handed =
-        (items, record { given = has.given; texts = has.texts; reads = has.reads; records = has.records; answers = has.answers; writes = appends_kept held mid holds (answer_texts has.texts) has.writes kept }, at_end)
+  -- all records' answers are printed
+  all_printed : (texts : List (List ℕ)) → Appends held holds (answer_texts texts) → PrintsAllOrBut texts was now
+  all_printed texts writes =
+      (length texts, [], subst (Appends held holds) (sym (append-nil (answer_texts (take (length texts) texts)) ∙ ap answer_texts (take-length texts))) writes, inl (refl, refl))
 
-    go : (r : Result T CommandFault) → IfErr r (λ e. e ≡ Failed Device (Some Output)) → EndsReplay g first last was_left left held holds r
-    go (Ok x) faults = handed
-    go (Err e) faults = subst (λ (f : CommandFault). EndsReplay {S = S} {T = T} g first last was_left left held holds (Err f)) (sym faults) (inr handed)
+  -- the answers are written, and then the output hands them on or fails to
+  pub ended : {T : Type 0} (r : Result T CommandFault) (mid : Option (List ℕ)) (items : List RequestRecord) → IfErr r IsFailure
+      → HasAnswered g first last was_left left held mid items [] → IsAtEnd left → Keeps mid holds → Comes g first last r was now
+  ended {T} r mid items fails has at_end kept = go r fails
+    where
+      handed : HasAnswered g first last was_left left held holds items []
+      handed = record { given = has.given; texts = has.texts; reads = has.reads; records = has.records; answers = has.answers; writes = appends_kept held mid holds (answer_texts has.texts) has.writes kept }
 
--- the replay stopped
-pub stopped : {S : Type 0} (T : Type 0) (g : Ghosts S) (first last : Held S) (was_left left held holds : Option (List ℕ)) (fault : ReplayFault) (named : CommandFault) → named ≡ replay_failure fault.stop
-    → Stopped g first last was_left left held holds fault fault.stop → EndsReplay {S = S} {T = T} g first last was_left left held holds (Err named)
-stopped {S = S} T g first last was_left left held holds fault named is stop =
-    subst (λ (f : CommandFault). EndsReplay {S = S} {T = T} g first last was_left left held holds (Err f)) (sym is) (go fault.stop refl stop)
-  where
-    go : (at : ReplayStop) → at ≡ fault.stop → Stopped g first last was_left left held holds fault at → EndsReplay {S = S} {T = T} g first last was_left left held holds (Err (replay_failure at))
-    go (stops.BadRecord index) same it = (it.0, it.1, it.2, it.3, it.4)
-    go stops.Read same it = inl (fault, subst (λ (a : ReplayStop). Stopped g first last was_left left held holds fault a) same it)
-    go stops.Write same it = inl (fault, subst (λ (a : ReplayStop). Stopped g first last was_left left held holds fault a) same it)
-    go stops.Memory same it = inl (fault, subst (λ (a : ReplayStop). Stopped g first last was_left left held holds fault a) same it)
+      deeds : List Deed
+      deeds = deeds_of_records items has.texts
 
--- ---- a policy that comes first
+      done : AreDone g deeds first last
+      done = records_are_done g items has.texts first last has.answers
 
-pub installed_first : {S T E : Type 0} (g : Ghosts S) (r : Result T E) (first last : Held S) (policy : PolicyValue) → (HasCleanDisk (state g last) → OnOk r (Installs (state g first) (state g last) policy))
-    → Survives (state g first) (state g last) (CommitsTo (state g first) (after_policy policy)) → OnOk r (InstallsFirst g (Some policy) first last)
-installed_first g (Ok x) first last policy installs survives = ((λ clean. omega (arith, clean, survives.clean)), installs)
-installed_first g (Err e) first last policy installs survives = tt
+      go : (r : Result T CommandFault) → IfErr r IsFailure → Comes g first last r was now
+      go (Ok x) fails = (deeds, (items, has.texts, answered items [] handed, at_end, handed.writes), done)
+      go (Err (Failed fault cause)) fails = (deeds, (items, has.texts, [], answered items [] handed, all_printed has.texts handed.writes), done)
+      go (Err (BadRecord index)) fails = absurd fails
+      go (Err (Policy refused)) fails = absurd fails
 
-pub replayed_under : {S T : Type 0} (g : Ghosts S) (r : Result T CommandFault) (policy : Option PolicyValue) (first mid last : Held S) (was_left left held holds : Option (List ℕ)) → InstallsFirst g policy first mid
-    → EndsReplay g mid last was_left left held holds r → OnOk r (ReplaysUnder g policy first last was_left left held holds)
-replayed_under g (Ok x) policy first mid last was_left left held holds installs ends = (mid, installs, ends)
-replayed_under g (Err e) policy first mid last was_left left held holds installs ends = tt
+  -- the replay stopped
+  pub stopped : (T : Type 0) (fault : ReplayFault) (named : CommandFault) → named ≡ replay_failure fault.stop
+      → Stopped g first last was_left left held holds fault fault.stop → Comes {T = T} g first last (Err named) was now
+  stopped T fault named is stop = subst (λ (f : CommandFault). Comes {T = T} g first last (Err f) was now) (sym is) (go fault.stop stop)
+    where
+      part_asked : (items : List RequestRecord) (texts : List (List ℕ)) (part : List ℕ) (has : HasDone g first last was_left left held holds items texts fault.answered part)
+          → AreAsked items texts has.rest (deeds_of_records items texts) was now
+      part_asked items texts part has = record {
+        gives = has.reads;
+        each = has.each;
+        few = has.few;
+        as_many = as_many g items texts first last has.answers;
+        done = refl;
+      }
 
-pub stopped_under : {S T : Type 0} (g : Ghosts S) (r : Result T CommandFault) (policy : Option (Bor PolicyValue)) (first mid last : Held S) (was_left left held holds : Option (List ℕ))
-    → InstallsFirst g (option_copied policy) first mid → EndsReplay g mid last was_left left held holds r → IfErr r (λ fault. Stops g (Replay policy) fault first last was_left left held holds)
-stopped_under g (Ok x) policy first mid last was_left left held holds installs ends = tt
-stopped_under g (Err (BadRecord index)) policy first mid last was_left left held holds installs ends = (mid, installs, ends)
-stopped_under g (Err (Failed fault cause)) policy first mid last was_left left held holds installs ends = tt
-stopped_under g (Err (Policy fault)) policy first mid last was_left left held holds installs ends = absurd ends
+      go : (at : ReplayStop) → Stopped g first last was_left left held holds fault at → Comes {T = T} g first last (Err (replay_failure at)) was now
+      go (stops.BadRecord index) it =
+          let items = it.0 in
+          let has = it.2 in
+          (deeds_of_records items has.texts, (items, has.texts, it.1, answered items it.1 has, it.3, has.records.ends, it.4, has.writes), records_are_done g items has.texts first last has.answers)
+      go stops.Read it =
+          let items = it.0 in
+          let has = it.2 in
+          (deeds_of_records items has.texts, (items, has.texts, it.1, answered items it.1 has, all_printed has.texts has.writes), records_are_done g items has.texts first last has.answers)
+      go stops.Write it =
+          let items = it.0 in
+          let texts = it.1 in
+          let has = it.3 in
+          let many = as_many g items texts first last has.answers in (
+            deeds_of_records items texts,
+            (items, texts, has.rest, part_asked items texts it.2 has, (fault.answered, it.2, has.writes, inr (sym it.6 ∙ (it.5 ∙ sym many), inr it.4))),
+            records_are_done g items texts first last has.answers,
+          )
+      go stops.Memory it =
+          let items = it.0 in
+          let texts = it.1 in
+          let has = it.2 in
+          let many = as_many g items texts first last has.answers in (
+            deeds_of_records items texts,
+            (items, texts, has.rest, part_asked items texts [] has, (fault.answered, [], has.writes, so_many fault items texts many it.3 it.4)),
+            records_are_done g items texts first last has.answers,
+          )

@@ -1,8 +1,7 @@
 pub mod Texts
-pub mod Policies
-pub mod Working
-pub mod Answering
-pub mod Listening
+pub mod Traffic
+pub mod Deeds
 pub mod Tasks
 pub mod Stores
-pub mod Commands
+pub mod Policies
+pub mod Works

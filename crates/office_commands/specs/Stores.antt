@@ -1,117 +1,115 @@
--- What the program does with an office that it makes in memory, or opens in a file and closes again.
-use Rattle.std.specs.Prelude.{ℕ, List, Option}
-use Rattle.jiff.specs.Types.{Date}
+-- An office that is made in memory, or opened in a file and closed again, and what is done with it.
+use Rattle.std.specs.Prelude.{◌≡◌, ◌≢◌, ◌⊎◌, ℕ, List, Bool, IsTrue, Result, Ok, Err, false, true, codes}
 use Rattle.sqlite_disk.specs.declared.Disk as disk
 use Rattle.sqlite_disk.specs.declared.Files.{Files}
 use Rattle.sqlite_wal.specs.Reads.{AreClean}
 use Rattle.sqlite.specs.Recovery.{Image}
 use Rattle.sqlite.specs.Closing.{IsCopied}
-use Rattle.sqlite.specs.Files.{file_state, image_of, over_files}
+use Rattle.sqlite.specs.Effect.{Database}
+use Rattle.sqlite.specs.Files.{AreFoundIn, HoldsDatabase, file_state, image_of, over_files}
 use Rattle.sqlite.specs.Held.{Held, state}
 use Rattle.sqlite.specs.State.{HasCleanDisk}
 use Rattle.sqlite.specs.Steps.{over_memory}
+use Rattle.sqlite.specs.Tree.{Trees}
 use Rattle.sqlite.specs.declared.FileStore.{FileStore}
 use Rattle.sqlite.specs.declared.MemStore.{MemStore}
+use Rattle.office_rows.specs.Rows.{max_limit}
+use Rattle.office_tables.specs.Opening.{has_office}
 use Rattle.office_history.specs.Histories.{History}
-use Rattle.office_history.specs.Runs.{IsLegal}
+use Rattle.office_history.specs.Runs.{IsLegal, new_history}
 use Rattle.office_recovery.specs.Found.{HoldsWhere}
 use Rattle.office_engine.specs.Keeping.{IsKeptBy, IsLeftOf, IsReached}
-use Rattle.office_commands.specs.Answering.{StopsFrom, after_install, made_office}
-use Rattle.office_commands.specs.Listening.{ListensSomewhere, RunsBy, SoMany}
-use Rattle.office_commands.specs.Tasks.{Does, DoesFrom, IsStoppedBy}
-use Rattle.office_commands.specs.Working.{StopsUnder}
+use Rattle.office_commands.specs.Deeds.{AreDone, Deed, LeadOn}
+use Rattle.office_commands.specs.Tasks.{Does, HasFailed, makes_office}
+use Rattle.office_commands.specs.Texts.{IsFailure, found_nothing}
+use Rattle.office_commands.specs.Traffic.{Traffic}
 use Rattle.office_commands.specs.declared.fault.CommandFault.{CommandFault}
 use Rattle.office_commands.specs.declared.task.Task.{Task}
 
 -- ---- in memory
 
--- this is done with an office that was just made in memory, and its history leads to this
-pub record IsDoneInMemory (Work : Held MemStore → Held MemStore → Type 0) (Leads : History → History → Type 0) : Type 0 where
-  -- the office before and after it
+-- the history of an office that was just made
+abbrev pub made_office : History
+made_office = new_history max_limit max_limit
+
+-- the deeds are done with an office that was just made in memory, and its history leads on by them
+pub record InMemory (deeds : List Deed) : Type 0 where
   pub old : Held MemStore
   pub new : Held MemStore
   pub made : IsKeptBy made_office (state over_memory old)
-  pub does : Work old new
+  pub done : AreDone over_memory deeds old new
   pub next : History
-  pub leads : Leads made_office next
+  pub leads : LeadOn deeds made_office next
   pub reached : IsReached next (state over_memory new)
 
 -- ---- in a file
 
--- this history leads to one that the files hold
-abbrev pub LeadsInto : (History → History → Type 0) → History → Image → Type 0
-LeadsInto Leads h image = (next : History) × Leads h next × IsLegal next × HoldsWhere (IsLeftOf next) image
+-- files that hold this show this database
+pub record Show (image : Image) (shown : Database) : Type 0 where
+  pub holds : (db : Trees) → HoldsDatabase image db → shown.trees ≡ db
+  pub reads : AreFoundIn image shown.trees
 
--- This is done with an open office, and it is closed into these files. On an honest disk all of it is copied, and whichever legal history
--- was kept leads to one that the files hold.
-pub record IsDoneAndClosed {D : Type 0} (g : disk.Ghosts D) (old : Held (FileStore D g)) (files : Files D) (Work : Held (FileStore D g) → Held (FileStore D g) → Type 0)
-    (Leads : History → History → Type 0) : Type 0 where
-  -- the office after it
+-- An office was opened from files that held this at first. On an honest disk it keeps the history that they held; and unless it might be made,
+-- they showed a database with the table of an office.
+pub record IsOpenedFrom {D : Type 0} (g : disk.Ghosts D) (first : Image) (makes : Bool) (office : Held (FileStore D g)) : Type 0 where
+  pub found : HasCleanDisk (file_state office) → (h : History) → HoldsWhere (IsLeftOf h) first → IsKeptBy h (file_state office)
+  pub was_there : makes ≡ false → HasCleanDisk (file_state office) → (shown : Database) × Show first shown × IsTrue (has_office shown.schema)
+
+-- the history leads by the deeds to one that the files hold
+abbrev pub LeadsInto : List Deed → History → Image → Type 0
+LeadsInto deeds h image = (next : History) × LeadOn deeds h next × IsLegal next × HoldsWhere (IsLeftOf next) image
+
+-- The deeds are done with an open office, and it is closed into these files. On an honest disk all of it is copied, and whichever legal history
+-- it kept leads by the deeds to one that the files hold.
+pub record AreDoneAndClosed {D : Type 0} (g : disk.Ghosts D) (deeds : List Deed) (old : Held (FileStore D g)) (files : Files D) : Type 0 where
   pub new : Held (FileStore D g)
-  pub does : Work old new
+  pub done : AreDone over_files deeds old new
   pub was_clean : AreClean g files.log files.db → HasCleanDisk (file_state old)
   pub copied : AreClean g files.log files.db → IsCopied new files
-  pub leads : AreClean g files.log files.db → (h : History) → IsLegal h → IsKeptBy h (file_state old) → LeadsInto Leads h (image_of g files)
+  pub leads : AreClean g files.log files.db → (h : History) → IsLegal h → IsKeptBy h (file_state old) → LeadsInto deeds h (image_of g files)
 
--- An office is opened from files that held this at first, this is done with it, and it is closed.
-pub record IsDoneInFile {D : Type 0} (g : disk.Ghosts D) (first : Image) (Work : Held (FileStore D g) → Held (FileStore D g) → Type 0) (Leads : History → History → Type 0) : Type 0 where
-  -- the office as it was opened, and the files that it was closed into
+-- The same, of an office that was opened from files that held this at first: where they held a legal history, they hold one that it leads to.
+pub record InFile {D : Type 0} (g : disk.Ghosts D) (first : Image) (makes : Bool) (deeds : List Deed) : Type 0 where
   pub old : Held (FileStore D g)
+  pub opened : IsOpenedFrom g first makes old
   pub files : Files D
-  -- on an honest disk it is the office that the files held
-  pub found : HasCleanDisk (file_state old) → (h : History) → HoldsWhere (IsLeftOf h) first → IsKeptBy h (file_state old)
-  pub done : IsDoneAndClosed g old files Work Leads
-  -- on an honest disk, where the files held a legal history, they now hold one that it leads to
-  pub goes_on : AreClean g files.log files.db → (h : History) → IsLegal h → HoldsWhere (IsLeftOf h) first → LeadsInto Leads h (image_of g files)
+  pub closed : AreDoneAndClosed g deeds old files
+  pub goes_on : AreClean g files.log files.db → (h : History) → IsLegal h → HoldsWhere (IsLeftOf h) first → LeadsInto deeds h (image_of g files)
 
--- ---- tasks
+-- ---- a task
 
--- a task is done with a new office in memory
-abbrev pub DoesInMemory : Task → Option (List ℕ) → Option (List ℕ) → Option (List ℕ) → Option (List ℕ) → Type 0
-DoesInMemory task was_left left held holds =
-    IsDoneInMemory (λ old new. Does over_memory task old new was_left left held holds) (λ h next. DoesFrom task h next was_left left held holds)
+-- The store could not be opened, and nothing is read or written. A task with which an office is made is never refused because nothing is there.
+abbrev pub IsUnopened : {T : Type 0} → Task → Result T CommandFault → Traffic → Traffic → Type 0
+IsUnopened task (Ok _) was now = ⊥
+IsUnopened task (Err fault) was now = IsFailure fault × (found_nothing fault ≡ true → makes_office task ≡ false) × (now ≡ was)
 
--- or it is stopped: by a failure, or at a bad record
-abbrev pub StopsInMemory : Task → CommandFault → Option (List ℕ) → Option (List ℕ) → Option (List ℕ) → Option (List ℕ) → Type 0
-StopsInMemory task fault was_left left held holds =
-    IsStoppedBy task fault (λ policy index. IsDoneInMemory (λ old new. StopsUnder over_memory policy index old new was_left left held holds)
-    (λ h next. StopsFrom (after_install policy h) index next was_left left held holds))
+-- the task is done so with an open office, but the store could not be closed, which is what is told, however the task ended
+pub record IsUnclosed {D T : Type 0} (g : disk.Ghosts D) (old : Held (FileStore D g)) (task : Task) (result : Result T CommandFault) (was now : Traffic) : Type 0 where
+  pub failed : HasFailed result
+  pub did : Result T CommandFault
+  pub deeds : List Deed
+  pub does : Does task did deeds was now
+  pub new : Held (FileStore D g)
+  pub done : AreDone over_files deeds old new
 
--- a task is done with an open office, and it is closed into these files
-abbrev pub DoesAndCloses : {D : Type 0} (g : disk.Ghosts D) → Held (FileStore D g) → Files D → Task → Option (List ℕ) → Option (List ℕ) → Option (List ℕ) → Option (List ℕ) → Type 0
-DoesAndCloses g old files task was_left left held holds =
-    IsDoneAndClosed g old files (λ old new. Does over_files task old new was_left left held holds) (λ h next. DoesFrom task h next was_left left held holds)
+-- the task is done with a new office in memory
+abbrev pub RunsInMemory : {T : Type 0} → Task → Result T CommandFault → Traffic → Traffic → Type 0
+RunsInMemory task result was now = IsUnopened task result was now ⊎ ((deeds : List Deed) × Does task result deeds was now × InMemory deeds)
 
--- or it is stopped: by a failure, or at a bad record, and then it is closed too
-abbrev pub StopsAndCloses : {D : Type 0} (g : disk.Ghosts D) → Held (FileStore D g) → Task → CommandFault → Option (List ℕ) → Option (List ℕ) → Option (List ℕ) → Option (List ℕ) → Type 0
-StopsAndCloses {D} g old task fault was_left left held holds =
-    IsStoppedBy task fault (λ policy index. (files : Files D) × IsDoneAndClosed g old files (λ old new. StopsUnder over_files policy index old new was_left left held holds)
-    (λ h next. StopsFrom (after_install policy h) index next was_left left held holds))
+-- the task is done with an open office, and it is closed
+abbrev pub RunsAndCloses : {D T : Type 0} → (g : disk.Ghosts D) → Held (FileStore D g) → Task → Result T CommandFault → Traffic → Traffic → Type 0
+RunsAndCloses {D} g old task result was now =
+    ((deeds : List Deed) × (files : Files D) × Does task result deeds was now × AreDoneAndClosed g deeds old files)
+    ⊎ IsUnclosed g old task result was now
 
--- a task is done with the office in a file
-abbrev pub DoesInFile : {D : Type 0} → disk.Ghosts D → Image → Task → Option (List ℕ) → Option (List ℕ) → Option (List ℕ) → Option (List ℕ) → Type 0
-DoesInFile g first task was_left left held holds =
-    IsDoneInFile g first (λ old new. Does over_files task old new was_left left held holds) (λ h next. DoesFrom task h next was_left left held holds)
+-- the task is done with the office in a file
+abbrev pub RunsInFile : {D T : Type 0} → disk.Ghosts D → Image → Task → Result T CommandFault → Traffic → Traffic → Type 0
+RunsInFile {D} g first task result was now =
+    IsUnopened task result was now
+    ⊎ (((deeds : List Deed) × Does task result deeds was now × InFile g first (makes_office task) deeds)
+    ⊎ ((old : Held (FileStore D g)) × IsOpenedFrom g first (makes_office task) old × IsUnclosed g old task result was now))
 
--- or it is stopped: by a failure, or at a bad record
-abbrev pub StopsInFile : {D : Type 0} → disk.Ghosts D → Image → Task → CommandFault → Option (List ℕ) → Option (List ℕ) → Option (List ℕ) → Option (List ℕ) → Type 0
-StopsInFile g first task fault was_left left held holds =
-    IsStoppedBy task fault (λ policy index. IsDoneInFile g first (λ old new. StopsUnder over_files policy index old new was_left left held holds)
-    (λ h next. StopsFrom (after_install policy h) index next was_left left held holds))
-
--- ---- connections
-
--- so many connections are served with a new office in memory, behind the line of some port, and it is their run that its history leads by
-abbrev pub ServesInMemory : Date → ℕ → Option (List ℕ) → Option (List ℕ) → Type 0
-ServesInMemory day count held holds =
-    SoMany count (λ connections. IsDoneInMemory (λ old new. ListensSomewhere over_memory day connections old new held holds) (RunsBy connections))
-
--- with an open office, that is closed into these files
-abbrev pub ServesAndCloses : {D : Type 0} (g : disk.Ghosts D) → Held (FileStore D g) → Files D → Date → ℕ → Option (List ℕ) → Option (List ℕ) → Type 0
-ServesAndCloses g old files day count held holds =
-    SoMany count (λ connections. IsDoneAndClosed g old files (λ old new. ListensSomewhere over_files day connections old new held holds) (RunsBy connections))
-
--- with the office in a file
-abbrev pub ServesInFile : {D : Type 0} → disk.Ghosts D → Image → Date → ℕ → Option (List ℕ) → Option (List ℕ) → Type 0
-ServesInFile g first day count held holds =
-    SoMany count (λ connections. IsDoneInFile g first (λ old new. ListensSomewhere over_files day connections old new held holds) (RunsBy connections))
+-- over `:memory:` the one, and else the other
+abbrev pub RunsOn : {D T : Type 0} → disk.Ghosts D → Image → List ℕ → Task → Result T CommandFault → Traffic → Traffic → Type 0
+RunsOn g first store task result was now =
+    (store ≡ codes ":memory:" → RunsInMemory task result was now) × (store ≢ codes ":memory:" → RunsInFile g first task result was now)

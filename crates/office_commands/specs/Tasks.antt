@@ -1,17 +1,22 @@
--- What a task does with an office, over any store, and said of its history.
-use Rattle.std.specs.Prelude.{◌≡◌, ℕ, Bool, true, false, List, Option, None, Some, option_copied, ⊤}
-use Rattle.std.specs.Io.KnownBytes.{Keeps}
-use Rattle.sqlite.specs.Held.{Held}
-use Rattle.sqlite.specs.Store.{Ghosts}
+-- What is to be done with an open office, and what the input gives and the output gets as it is done. `was` is the traffic before
+-- and `now` the traffic after.
+use Rattle.std.specs.Prelude.{◌≡◌, ◌≢◌, ◌⊎◌, ◌<◌, ◌≤◌, ◌+◌, ◌∷◌, ◌++◌, [], ℕ, Bool, true, false, List, Option, None, Some, Result, Ok, Err, IfErr, codes, decimal, length, take}
+use Rattle.std.specs.Io.KnownBytes.{Appends, IsAtEnd}
+use denote.Ref.{Bor}
+use Rattle.jiff.specs.Types.{Date}
 use Rattle.office_core.specs.Policies.{PolicyValue}
-use Rattle.office_history.specs.Histories.{History}
-use Rattle.office_engine.specs.Keeping.{after_policy}
-use Rattle.office_commands.specs.Working.{Asks, InstallsFirst, ReplaysUnder, StopsUnder}
-use Rattle.office_commands.specs.Answering.{AsksFrom, ReplaysFrom, after_install}
+use Rattle.desk_listening.specs.Listening.{Connection}
+use Rattle.desk_records.specs.Records.{BeginsWithNone}
+use Rattle.desk_records.specs.RecordLists.{AreRecords, RequestRecord, answer_texts, max_records, request_texts}
+use Rattle.http_desk.specs.Replaying.{IsBegun, IsNoRecord}
+use Rattle.streams.specs.Writing.{IsCutShort}
+use Rattle.office_commands.specs.Deeds.{Deed, answers, deeds_of_connections, deeds_of_records, fails, installs}
+use Rattle.office_commands.specs.Texts.{IsFailure}
+use Rattle.office_commands.specs.Traffic.{Begins, Gives, Prints, Traffic}
 use Rattle.office_commands.specs.declared.fault.CommandFault.{CommandFault}
-use Rattle.office_commands.specs.declared.fault.CommandFault.TheVariants.{Policy, BadRecord, Failed}
+use Rattle.office_commands.specs.declared.fault.CommandFault.TheVariants.{BadRecord, Failed, Policy}
 use Rattle.office_commands.specs.declared.task.Task.{Task}
-use Rattle.office_commands.specs.declared.task.Task.TheVariants.{Install, Ask, Replay}
+use Rattle.office_commands.specs.declared.task.Task.TheVariants.{Ask, Install, Replay, Serve}
 
 -- whether the office is made where there is none: only where a policy comes with the task
 abbrev pub makes_office : Task → Bool
@@ -19,27 +24,113 @@ makes_office (Install policy) = true
 makes_office (Ask day) = false
 makes_office (Replay None) = false
 makes_office (Replay (Some policy)) = true
+makes_office (Serve day port count) = false
 
--- the task is done with the office that a store keeps
-abbrev pub Does : {S : Type 0} → Ghosts S → Task → Held S → Held S → Option (List ℕ) → Option (List ℕ) → Option (List ℕ) → Option (List ℕ) → Type 0
-Does g (Install policy) old new was_left left held holds = InstallsFirst g (Some policy.now) old new × Keeps held holds
-Does g (Ask day) old new was_left left held holds = Asks g day old new was_left left held holds
-Does g (Replay policy) old new was_left left held holds = ReplaysUnder g (option_copied policy) old new was_left left held holds
+-- whether it reads the input
+abbrev pub reads : Task → Bool
+reads (Install policy) = false
+reads (Ask day) = true
+reads (Replay policy) = true
+reads (Serve day port count) = false
 
--- the task is done with an office that has this history, and leads to the next
-abbrev pub DoesFrom : Task → History → History → Option (List ℕ) → Option (List ℕ) → Option (List ℕ) → Option (List ℕ) → Type 0
-DoesFrom (Install policy) h next was_left left held holds = (next ≡ after_policy policy.now h) × Keeps held holds
-DoesFrom (Ask day) h next was_left left held holds = AsksFrom h day next was_left left held holds
-DoesFrom (Replay policy) h next was_left left held holds = ReplaysFrom (after_install (option_copied policy) h) next was_left left held holds
+-- the store, memory or a device failed
+abbrev pub HasFailed : {T : Type 0} → Result T CommandFault → Type 0
+HasFailed (Ok _) = ⊥
+HasFailed (Err fault) = IsFailure fault
 
--- a task is stopped by a failure; or, a replay alone, by a bad record, of which this is so
-abbrev pub IsStoppedBy : Task → CommandFault → (Option PolicyValue → ℕ → Type 0) → Type 0
-IsStoppedBy task (Failed fault cause) AtRecord = ⊤
-IsStoppedBy (Replay policy) (BadRecord index) AtRecord = AtRecord (option_copied policy) index
-IsStoppedBy (Install policy) (BadRecord index) AtRecord = ⊥
-IsStoppedBy (Ask day) (BadRecord index) AtRecord = ⊥
-IsStoppedBy task (Policy fault) AtRecord = ⊥
+-- ---- an install
 
--- the replay that is stopped at a bad record has answered those before it
-abbrev pub Stops : {S : Type 0} → Ghosts S → Task → CommandFault → Held S → Held S → Option (List ℕ) → Option (List ℕ) → Option (List ℕ) → Option (List ℕ) → Type 0
-Stops g task fault old new was_left left held holds = IsStoppedBy task fault (λ policy index. StopsUnder g policy index old new was_left left held holds)
+abbrev pub install_of : {T : Type 0} → Result T CommandFault → PolicyValue → Deed
+install_of (Ok _) policy = installs policy
+install_of (Err _) policy = fails policy
+
+-- ---- one request
+
+-- all that the input had, where that is known, and else what it gave
+abbrev pub whole_of : Option (List ℕ) → List ℕ → List ℕ
+whole_of None given = given
+whole_of (Some input) given = input
+
+-- the bytes that the input gives, and no fewer than it had, are answered with this text
+abbrev pub IsAsked : Date → List ℕ → List Deed → Traffic → Traffic → Type 0
+IsAsked day text deeds was now = (given : List ℕ) × Gives given was now × (deeds ≡ answers day (whole_of was.input given) text ∷ [])
+
+-- The text is written. Where that fails, nothing was done or written, or a beginning of the text was written.
+abbrev pub Asks : {T : Type 0} → Date → Result T CommandFault → List Deed → Traffic → Traffic → Type 0
+Asks day (Ok _) deeds was now = (text : List ℕ) × IsAsked day text deeds was now × Prints text was now
+Asks day (Err (Failed fault cause)) deeds was now =
+    ((deeds ≡ []) × Prints [] was now) ⊎ ((text : List ℕ) × IsAsked day text deeds was now × Begins text was now)
+Asks day (Err (BadRecord index)) deeds was now = ⊥
+Asks day (Err (Policy refused)) deeds was now = ⊥
+
+-- ---- records of requests
+
+-- What the input gives begins with these records, `rest` follows them, and each is answered with its text.
+pub record AreAsked (items : List RequestRecord) (texts : List (List ℕ)) (rest : List ℕ) (deeds : List Deed) (was now : Traffic) : Type 0 where
+  pub gives : Gives (request_texts items ++ rest) was now
+  pub each : AreRecords items
+  pub few : length items ≤ max_records
+  pub as_many : length texts ≡ length items
+  pub done : deeds ≡ deeds_of_records items texts
+
+-- The records of the answers are written; or all but the last one, of which there may be a beginning.
+abbrev pub PrintsAllOrBut : List (List ℕ) → Traffic → Traffic → Type 0
+PrintsAllOrBut texts was now =
+    (answered : ℕ) × (part : List ℕ) × Prints (answer_texts (take answered texts) ++ part) was now
+    × (((answered ≡ length texts) × (part ≡ [])) ⊎ ((answered + 1 ≡ length texts) × ((part ≡ []) ⊎ IsBegun texts part)))
+
+-- All that the input gives are records, to its end; or what follows them is none, and its number, from 1, is told. The records of the answers
+-- are written. Where a device or memory fails, that was so up to some record.
+abbrev pub Replays : {T : Type 0} → Result T CommandFault → List Deed → Traffic → Traffic → Type 0
+Replays (Ok _) deeds was now =
+    (items : List RequestRecord) × (texts : List (List ℕ)) × AreAsked items texts [] deeds was now
+    × IsAtEnd now.input × Prints (answer_texts texts) was now
+Replays (Err (BadRecord index)) deeds was now =
+    (items : List RequestRecord) × (texts : List (List ℕ)) × (rest : List ℕ) × AreAsked items texts rest deeds was now
+    × IsNoRecord now.input (length items) rest × (length items < max_records → BeginsWithNone rest)
+    × (index ≡ length items + 1) × Prints (answer_texts texts) was now
+Replays (Err (Failed fault cause)) deeds was now =
+    (items : List RequestRecord) × (texts : List (List ℕ)) × (rest : List ℕ) × AreAsked items texts rest deeds was now
+    × PrintsAllOrBut texts was now
+Replays (Err (Policy refused)) deeds was now = ⊥
+
+-- the policy is installed first, where there is one; where that fails, nothing is read or written
+abbrev pub ReplaysAfter : {T : Type 0} → Option (Bor PolicyValue) → Result T CommandFault → List Deed → Traffic → Traffic → Type 0
+ReplaysAfter None result deeds was now = Replays result deeds was now
+ReplaysAfter (Some policy) result deeds was now =
+    ((more : List Deed) × (deeds ≡ installs policy.now ∷ more) × Replays result more was now)
+    ⊎ (HasFailed result × (deeds ≡ fails policy.now ∷ []) × (now ≡ was))
+
+-- ---- connections
+
+-- the line of the port
+abbrev pub listening_text : ℕ → List ℕ
+listening_text port = codes "listening " ++ (decimal port ++ 10 ∷ [])
+
+-- the port that is told is the one that was asked for, and any where that is 0
+abbrev pub IsPortFor : ℕ → ℕ → Type 0
+IsPortFor port told = (told ≤ 65_535) × (port ≢ 0 → told ≡ port)
+
+-- so many connections were served, or, where that fails, fewer
+abbrev pub AreServedFor : {T : Type 0} → Result T CommandFault → ℕ → List Connection → Type 0
+AreServedFor (Ok _) count served = length served ≡ count
+AreServedFor (Err _) count served = length served < count
+
+-- The port is told, and then so many connections are served on that day, one after the other. Where that fails, a beginning of the line
+-- was written and no connection served; or it was written, and fewer were.
+abbrev pub Listens : {T : Type 0} → Date → ℕ → ℕ → Result T CommandFault → List Deed → Option (List ℕ) → Option (List ℕ) → Type 0
+Listens day told count result deeds held holds =
+    (HasFailed result × (deeds ≡ []) × IsCutShort (listening_text told) held holds)
+    ⊎ ((served : List Connection) × AreServedFor result count served × (deeds ≡ deeds_of_connections day served)
+    × Appends held holds (listening_text told))
+
+-- ---- a task
+
+-- these deeds are done for the task as it ends so, with this traffic
+abbrev pub Does : {T : Type 0} → Task → Result T CommandFault → List Deed → Traffic → Traffic → Type 0
+Does (Install policy) result deeds was now = IfErr result IsFailure × (deeds ≡ install_of result policy.now ∷ []) × (now ≡ was)
+Does (Ask day) result deeds was now = Asks day result deeds was now
+Does (Replay policy) result deeds was now = ReplaysAfter policy result deeds was now
+Does (Serve day port count) result deeds was now =
+    (now.input ≡ was.input) × IfErr result IsFailure
+    × ((told : ℕ) × IsPortFor port told × Listens day told count result deeds was.output now.output)

@@ -1,9 +1,9 @@
 -- What the commands on a store print, and how the program ends.
-use Rattle.std.specs.Prelude.{◌++◌, ◌∷◌, [], ℕ, List, ⊤, codes, decimal}
-use Rattle.commands.specs.Explaining.{bad_policy_reason, bad_policy_text}
+use Rattle.std.specs.Prelude.{◌++◌, ◌∷◌, [], ℕ, List, ⊤, codes, decimal, string_bytes}
+use Rattle.commands.specs.Explaining.{bad_policy_text}
 use Rattle.commands.specs.declared.ending.Ending.{Ending}
 use Rattle.commands.specs.declared.ending.Ending.TheVariants as endings
-use Rattle.std.specs.Prelude.{None, Some}
+use Rattle.std.specs.Prelude.{Bool, None, Option, Some, false, true}
 use Rattle.std.specs.declared.io.ErrorKind.{ErrorKind}
 use Rattle.std.specs.declared.io.ErrorKind.TheVariants.{OutOfMemory}
 use Rattle.sqlite.specs.declared.error.Error.{Error}
@@ -15,7 +15,8 @@ use Rattle.http_desk.specs.declared.serving.DeskFault.{DeskFault}
 use Rattle.http_desk.specs.declared.serving.DeskFault.TheVariants as desk
 use Rattle.http_desk.specs.declared.replaying.ReplayStop.{ReplayStop}
 use Rattle.http_desk.specs.declared.replaying.ReplayStop.TheVariants as stops
-use Rattle.office_commands.specs.declared.fault.Cause.TheVariants.{Input, Output}
+use Rattle.office_commands.specs.declared.fault.Cause.{Cause}
+use Rattle.office_commands.specs.declared.fault.Cause.TheVariants.{Input, Missing, Output}
 use Rattle.office_commands.specs.declared.fault.CommandFault.{CommandFault}
 use Rattle.office_commands.specs.declared.fault.CommandFault.TheVariants.{Policy, BadRecord, Failed}
 use Rattle.office_commands.specs.declared.fault.StoreFault.{StoreFault}
@@ -35,7 +36,7 @@ bad_record_text index = codes "record " ++ decimal index ++ 10 ∷ []
 
 -- what standard error is told: a line, and of a policy that is refused also why
 abbrev pub fault_text : CommandFault → List ℕ
-fault_text (Policy fault) = bad_policy_text fault ++ bad_policy_reason fault
+fault_text (Policy refused) = bad_policy_text refused.fault ++ string_bytes refused.reason
 fault_text (BadRecord index) = bad_record_text index
 fault_text (Failed fault cause) = message_of fault
 
@@ -53,13 +54,19 @@ IsFailure (Policy fault) = ⊥
 IsFailure (BadRecord index) = ⊥
 IsFailure (Failed fault cause) = ⊤
 
+-- nothing was found where the store is to be
+abbrev pub is_of_nothing : Option Cause → Bool
+is_of_nothing None = false
+is_of_nothing (Some Missing) = true
+is_of_nothing (Some _) = false
+
+abbrev pub found_nothing : CommandFault → Bool
+found_nothing (Policy refused) = false
+found_nothing (BadRecord index) = false
+found_nothing (Failed fault cause) = is_of_nothing cause
+
 abbrev pub fails : StoreFault → CommandFault
 fails fault = Failed fault None
-
--- a file that can't be read
-abbrev pub file_failure : ErrorKind → StoreFault
-file_failure OutOfMemory = Memory
-file_failure _ = Device
 
 -- the host's files that can't be asked where the store is
 abbrev pub search_failure : ErrorKind → StoreFault

@@ -1,16 +1,13 @@
 //! Why a command on a store doesn't come to its end, and what standard error is told of it.
 
-ghost use Rattle.std.specs.Prelude.{◌≡◌, ◌++◌, IfOk, None, Some, string_bytes};
-ghost use Rattle.commands.specs.Explaining.{bad_policy_reason, bad_policy_text};
-ghost use Rattle.office_commands.specs.Texts.{IsFailure, ending_of, fault_text, message_of};
+ghost use Rattle.std.specs.Prelude.{◌≡◌, ◌++◌, IfOk, None, Some, false, string_bytes};
+ghost use Rattle.commands.specs.Explaining.{bad_policy_text};
+ghost use Rattle.office_commands.specs.Texts.{IsFailure, ending_of, fault_text, found_nothing, is_of_nothing, message_of};
 ghost use Rattle.office_commands.specs.declared.fault.CommandFault.TheVariants.{Failed};
 
-use commands::Ending;
-use fault_words::InWords;
-use office_core::PolicyFault;
+use commands::{Ending, RefusedPolicy};
 use std::alloc::{AllocError, Global};
-use std::fmt::{self, Write};
-use std::io;
+use std::{fmt, io};
 
 /// A failure of a store, or of what the program stands on.
 #[derive(Clone, Copy, Debug, PartialEq, Eq)]
@@ -65,6 +62,8 @@ pub enum Cause {
     Input,
     /// Standard output could not be written.
     Output,
+    /// The store was opened before.
+    Taken,
 }
 
 impl fmt::Display for Cause {
@@ -79,15 +78,16 @@ impl fmt::Display for Cause {
             Cause::Empty => write!(f, "the file is empty"),
             Cause::Input => write!(f, "it can't be read"),
             Cause::Output => write!(f, "it can't be written"),
+            Cause::Taken => write!(f, "it was opened before"),
         }
     }
 }
 
 /// Why a command on a store doesn't come to its end.
-#[derive(Clone, Copy, Debug)]
+#[derive(Debug, Drop)]
 pub enum CommandFault {
     /// The policy that is to be installed before a replay is refused.
-    Policy(PolicyFault),
+    Policy(RefusedPolicy),
     /// The record with this number, from 1, is none. Those before it are answered.
     BadRecord {
         index: u64,
@@ -103,6 +103,7 @@ pub enum CommandFault {
 /// A failure, and what it came from.
 pub(crate) fn failed_by(fault: StoreFault, cause: Cause) -> CommandFault
     ensures is { result ≡ Failed fault (Some cause) }
+    ensures nothing { found_nothing result ≡ is_of_nothing (Some cause) }
     ensures failure { IsFailure result }
 {
     CommandFault::Failed {
@@ -112,12 +113,13 @@ pub(crate) fn failed_by(fault: StoreFault, cause: Cause) -> CommandFault
 }
 
 /// The line of a policy that is refused, and the sentence that says why.
-fn refused_lines(alloc: Global, fault: &PolicyFault) -> Result<String, AllocError>
-    ensures { IfOk result (λ text. string_bytes text ≡ bad_policy_text fault.now ++ bad_policy_reason fault.now) }
+fn refused_lines(alloc: Global, refused: &RefusedPolicy) -> Result<String, AllocError>
+    ensures { IfOk result (λ text. string_bytes text
+        ≡ bad_policy_text refused.now.fault ++ string_bytes refused.now.reason) }
 {
-    let words = InWords(fault);
+    let fault = refused.fault;
     let mut lines = format!(in alloc; "policy {fault}\n")?;
-    write!(lines, "{words}\n")?;
+    lines.push_str(refused.reason.as_str())?;
     Ok(lines)
 }
 
@@ -125,6 +127,7 @@ impl CommandFault {
     /// A failure of which no more is known.
     pub(crate) fn without_cause(fault: StoreFault) -> CommandFault
         ensures is { result ≡ Failed fault None }
+        ensures nothing { found_nothing result ≡ false }
         ensures failure { IsFailure result }
     {
         CommandFault::Failed { fault, cause: None }
@@ -135,7 +138,7 @@ impl CommandFault {
         ensures { IfOk result (λ text. string_bytes text ≡ fault_text self.now) }
     {
         match self {
-            CommandFault::Policy(fault) => refused_lines(alloc, fault),
+            CommandFault::Policy(refused) => refused_lines(alloc, refused),
             CommandFault::BadRecord { index } => format!(in alloc; "record {index}\n"),
             CommandFault::Failed { fault, .. } => String::from_str(alloc, fault.message()),
         }

@@ -2,15 +2,20 @@
 //! records, and serves connections.
 #![tactic(auto)]
 
+mod done;
 mod fault;
+mod laws;
 mod listening;
 mod policy_file;
 mod printing;
 mod running;
 mod stores;
 mod task;
+mod work;
 mod working;
 
+pub use done::Done;
 pub use fault::{Cause, CommandFault, StoreFault};
-pub use running::{PolicyOutcome, ask_command, policy_command, replay_command, serve_command};
-pub use working::{ask_office, install_policy, replay_office};
+pub use laws::{answers_are_runs, deeds_lead_on};
+pub use running::perform;
+pub use work::Work;

@@ -1,13 +1,19 @@
 //! The desk behind a listening socket.
 
-ghost use Rattle.std.specs.Prelude.{◌≡◌, ℕ, IfErr, IfOk, OnOk, Some, string_bytes};
+ghost use Rattle.std.specs.Prelude.{◌≡◌, ℕ, IfErr, IfOk, List, OnOk, Some, string_bytes};
 ghost use Rattle.std.specs.Io.KnownBytes.{Appends};
-ghost use Rattle.office_commands.specs.Listening.{Listens, SoMany, listening_text};
+ghost use Rattle.streams.specs.Writing.{IsCutShort};
+ghost use Rattle.desk_listening.specs.Listening.{Connection};
+ghost use Rattle.desk_devices.specs.Devices.{device_of};
+ghost use Rattle.office_commands.specs.Deeds.{AreDone, Deed, deeds_of_connections};
+ghost use Rattle.office_commands.specs.Tasks.{AreServedFor, IsPortFor, Listens, listening_text};
 ghost use Rattle.office_commands.specs.Texts.{IsFailure};
+ghost use Rattle.office_commands.specs.Works.{IsQuiet};
 ghost use Rattle.office_commands.specs.declared.fault.Cause.TheVariants.{Listen};
 ghost use Rattle.office_commands.specs.declared.fault.CommandFault.TheVariants.{Failed};
 ghost use Rattle.office_commands.specs.declared.fault.StoreFault.TheVariants.{Device};
 
+use crate::done::Done;
 use crate::fault::{Cause, CommandFault, StoreFault, failed_by};
 use crate::printing::print;
 use desk_listening::{Patience, Sockets, serve_connections};
@@ -20,7 +26,7 @@ use std::io::{Error, Write};
 use std::net::{Ipv4Addr, TcpListener};
 use std::rt::HostRuntime;
 
-/// A listening socket and its port.
+/// A listening socket, and the port that is told.
 #[derive(Drop)]
 struct Desk {
     listener: TcpListener,
@@ -35,8 +41,17 @@ fn unheard(error: Error) -> CommandFault
     failed_by(StoreFault::Device, Cause::Listen(error))
 }
 
+/// The port that is told: the one that was asked for, or, where that is 0, the one that the machine
+/// picked.
+fn port_told(asked: u16, picked: u16) -> u16
+    ensures { IsPortFor asked result }
+{
+    if asked == 0 { picked } else { asked }
+}
+
 /// The desk at that port of 127.0.0.1. With the port 0 the machine picks one.
 fn desk_at(rt: &HostRuntime, port: u16) -> Result<Desk, CommandFault>
+    ensures port { IfOk result (λ desk. IsPortFor port desk.port) }
     ensures failure { IfErr result IsFailure }
 {
     let listener = match TcpListener::bind(rt, (Ipv4Addr::LOCALHOST, port)) {
@@ -45,7 +60,7 @@ fn desk_at(rt: &HostRuntime, port: u16) -> Result<Desk, CommandFault>
     };
     match listener.local_addr() {
         Ok(address) => Ok(Desk {
-            port: address.port(),
+            port: port_told(port, address.port()),
             listener,
         }),
         Err(error) => Err(unheard(error)),
@@ -64,8 +79,9 @@ fn say_listening<O: Write>(
     alloc: Global,
     port: u16,
     out: &mut Counted<O>,
-) -> Result<(), CommandFault>
-    ensures said { OnOk result (Appends (O.contents out.old.device) (O.contents out.new.device) (listening_text port)) }
+) -> Result<Done, CommandFault>
+    ensures said { OnOk result (Appends (O.contents (device_of out.old)) (O.contents (device_of out.new)) (listening_text port)) }
+    ensures front { IsCutShort (listening_text port) (O.contents (device_of out.old)) (O.contents (device_of out.new)) }
     ensures failure { IfErr result IsFailure }
 {
     match listening_line(alloc, port) {
@@ -74,8 +90,28 @@ fn say_listening<O: Write>(
     }
 }
 
+/// Serves so many connections on that day, one after the other.
+fn serve_sockets<S: Alter>(
+    alloc: Global,
+    office: &mut Office<S>,
+    day: Day,
+    desk: &Desk,
+    count: u32,
+) -> Result<Done, CommandFault>
+    ensures serves { (served : List Connection) × AreServedFor result count served
+        × AreDone S.Store (deeds_of_connections day served) office.old office.new }
+    ensures quiet { IfOk result IsQuiet }
+    ensures failure { IfErr result IsFailure }
+{
+    let patience = Patience::default();
+    let mut sockets = Sockets::new(alloc, &desk.listener);
+    match serve_connections(alloc, office, day, &mut sockets, count, &patience) {
+        Ok(_) => Ok(Done::quiet()),
+        Err(failure) => Err(unheard(failure.error)),
+    }
+}
+
 /// Says where the desk listens, and serves so many connections on that day, one after the other.
-#[tactic(auto, using(crate::proofs::ListeningLemmas::listens))]
 fn serve_office<S: Alter, O: Write>(
     alloc: Global,
     office: &mut Office<S>,
@@ -83,17 +119,15 @@ fn serve_office<S: Alter, O: Write>(
     desk: &Desk,
     count: u32,
     out: &mut Counted<O>,
-) -> Result<(), CommandFault>
-    ensures served { OnOk result (SoMany count (λ connections. Listens S.Store day desk.now.port connections
-        office.old office.new (O.contents out.old.device) (O.contents out.new.device))) }
+) -> Result<Done, CommandFault>
+    ensures serves { (deeds : List Deed) × Listens day desk.now.port count result deeds
+        (O.contents (device_of out.old)) (O.contents (device_of out.new)) × AreDone S.Store deeds office.old office.new }
+    ensures quiet { IfOk result IsQuiet }
     ensures failure { IfErr result IsFailure }
 {
-    say_listening(alloc, desk.port, out)?;
-    let patience = Patience::default();
-    let mut sockets = Sockets::new(alloc, &desk.listener);
-    match serve_connections(alloc, office, day, &mut sockets, count, &patience) {
-        Ok(_) => Ok(()),
-        Err(failure) => Err(unheard(failure.error)),
+    match say_listening(alloc, desk.port, out) {
+        Ok(_) => serve_sockets(alloc, office, day, desk, count),
+        Err(fault) => Err(fault),
     }
 }
 
@@ -106,11 +140,14 @@ pub fn serve_at<S: Alter, O: Write>(
     port: u16,
     count: u32,
     out: &mut Counted<O>,
-) -> Result<(), CommandFault>
-    ensures served { OnOk result ((taken : ℕ) × SoMany count (λ connections. Listens S.Store day taken connections
-        office.old office.new (O.contents out.old.device) (O.contents out.new.device))) }
+) -> Result<Done, CommandFault>
+    ensures serves { (told : ℕ) × (deeds : List Deed) × IsPortFor port told × Listens day told count result deeds
+        (O.contents (device_of out.old)) (O.contents (device_of out.new)) × AreDone S.Store deeds office.old office.new }
+    ensures quiet { IfOk result IsQuiet }
     ensures failure { IfErr result IsFailure }
 {
-    let desk = desk_at(rt, port)?;
-    serve_office(rt.alloc(), office, day, &desk, count, out)
+    match desk_at(rt, port) {
+        Ok(desk) => serve_office(rt.alloc(), office, day, &desk, count, out),
+        Err(fault) => Err(fault),
+    }
 }

@@ -1,38 +1,42 @@
-//! What is printed on standard output, and why a policy is refused.
+//! What is printed on standard output.
 
 ghost use Rattle.std.specs.Prelude.{◌≡◌, IfErr, IfOk, OnOk, Some, string_bytes};
 ghost use Rattle.std.specs.Io.KnownBytes.{Appends, Keeps};
-ghost use Rattle.commands.specs.Explaining.{bad_policy_reason, bad_policy_text};
-ghost use Rattle.commands.specs.Failing.{IsCutShort};
+ghost use Rattle.commands.specs.Explaining.{bad_policy_text};
+ghost use Rattle.streams.specs.Writing.{IsCutShort};
+ghost use Rattle.desk_devices.specs.Devices.{device_of};
 ghost use Rattle.office_commands.specs.Policies.{installed_text};
 ghost use Rattle.office_commands.specs.Texts.{IsFailure};
+ghost use Rattle.office_commands.specs.Works.{IsQuiet};
 ghost use Rattle.office_commands.specs.declared.fault.Cause.TheVariants.{Output};
 ghost use Rattle.office_commands.specs.declared.fault.CommandFault.TheVariants.{Failed};
 ghost use Rattle.office_commands.specs.declared.fault.StoreFault.TheVariants.{Device};
 
+use crate::done::Done;
 use crate::fault::{Cause, CommandFault, StoreFault, failed_by};
 use desk_devices::{Counted, write_whole};
-use fault_words::InWords;
 use office_core::{Policy, PolicyFault};
 use std::alloc::{AllocError, Global};
 use std::io::Write;
 
 /// Hands on what was written.
-pub fn flush<W: Write>(out: &mut Counted<W>) -> Result<(), CommandFault>
-    ensures kept { Keeps (W.contents out.old.device) (W.contents out.new.device) }
+pub fn flush<O: Write>(out: &mut Counted<O>) -> Result<Done, CommandFault>
+    ensures kept { Keeps (O.contents (device_of out.old)) (O.contents (device_of out.new)) }
     ensures fault { IfErr result (λ fault. fault ≡ Failed Device (Some Output)) }
+    ensures quiet { IfOk result IsQuiet }
     ensures failure { IfErr result IsFailure }
 {
     match out.flush() {
-        Ok(()) => Ok(()),
+        Ok(()) => Ok(Done::quiet()),
         Err(_) => Err(failed_by(StoreFault::Device, Cause::Output)),
     }
 }
 
 /// Prints a text, which ends with a line's end. Where that fails, a beginning of it is written.
-pub fn print<W: Write>(text: &str, out: &mut Counted<W>) -> Result<(), CommandFault>
-    ensures whole { OnOk result (Appends (W.contents out.old.device) (W.contents out.new.device) text.now) }
-    ensures front { IsCutShort text.now (W.contents out.old.device) (W.contents out.new.device) }
+pub fn print<O: Write>(text: &str, out: &mut Counted<O>) -> Result<Done, CommandFault>
+    ensures whole { OnOk result (Appends (O.contents (device_of out.old)) (O.contents (device_of out.new)) text.now) }
+    ensures front { IsCutShort text.now (O.contents (device_of out.old)) (O.contents (device_of out.new)) }
+    ensures quiet { IfOk result IsQuiet }
     ensures failure { IfErr result IsFailure }
 {
     match write_whole(out, text.as_bytes()) {
@@ -55,12 +59,4 @@ pub fn refused_line(alloc: Global, fault: PolicyFault) -> Result<String, AllocEr
     ensures { IfOk result (λ text. string_bytes text ≡ bad_policy_text fault) }
 {
     format!(in alloc; "policy {fault}\n")
-}
-
-/// The sentence that says why a policy is refused.
-pub fn reason_line(alloc: Global, fault: PolicyFault) -> Result<String, AllocError>
-    ensures { IfOk result (λ text. string_bytes text ≡ bad_policy_reason fault) }
-{
-    let words = InWords(&fault);
-    format!(in alloc; "{words}\n")
 }

@@ -1,6 +1,6 @@
 //! The stores: an office in memory, or in a file.
 
-ghost use Rattle.std.specs.Prelude.{◌≡◌, ◌≢◌, false, IfErr, IfOk, IsErr, OnOk, Some, codes};
+ghost use Rattle.std.specs.Prelude.{◌≡◌, ◌≢◌, false, IfErr, IfOk, IsErr, IsTrue, Some, codes, true};
 ghost use Rattle.std.specs.IoError.{error_kind};
 ghost use Rattle.sqlite.specs.Closing.{IsCopied};
 ghost use Rattle.sqlite.specs.Files.{IsOpened, file_state};
@@ -9,27 +9,28 @@ ghost use Rattle.sqlite.specs.State.{HasCleanDisk};
 ghost use Rattle.sqlite.specs.WalFiles.{image_at};
 ghost use Rattle.sqlite_wal.specs.Reads.{AreClean};
 ghost use Rattle.office_rows.specs.Rows.{max_limit};
+ghost use Rattle.office_tables.specs.Opening.{has_office};
 ghost use Rattle.office_tables.specs.Schema.{no_schema};
 ghost use Rattle.office_history.specs.Histories.{History};
-ghost use Rattle.office_recovery.specs.Found.{HoldsWhere};
 ghost use Rattle.office_engine.specs.Keeping.{IsKeptBy, IsLeftOf};
-ghost use Rattle.office_commands.specs.Listening.{TellsPort};
-ghost use Rattle.office_commands.specs.Stores.{DoesAndCloses, DoesInFile, DoesInMemory, ServesAndCloses, ServesInFile, ServesInMemory, StopsAndCloses, StopsInFile, StopsInMemory};
-ghost use Rattle.office_commands.specs.Texts.{IsFailure, search_failure, store_failure};
+ghost use Rattle.office_commands.specs.Stores.{IsOpenedFrom, RunsAndCloses, RunsInFile, RunsInMemory, RunsOn};
+ghost use Rattle.office_commands.specs.Tasks.{reads};
+ghost use Rattle.office_commands.specs.Texts.{IsFailure, found_nothing, is_of_nothing, search_failure, store_failure};
+ghost use Rattle.office_commands.specs.Traffic.{traffic_of};
+ghost use Rattle.office_commands.specs.Works.{IsQuiet};
 ghost use Rattle.office_commands.specs.declared.fault.Cause.TheVariants.{Search};
 ghost use Rattle.office_commands.specs.declared.fault.CommandFault.TheVariants.{Failed};
 
+use crate::done::Done;
 use crate::fault::{Cause, CommandFault, StoreFault, failed_by};
-use crate::listening::serve_at;
-use crate::task::{Task, perform};
+use crate::task::{Task, do_task};
 use crate::working::table_failure;
 use http_desk::Counted;
-use office_core::{Day, Limits};
+use office_core::Limits;
 use office_engine::Office;
 use office_rows::MAX_LIMIT;
 use sqlite::{Connection, Error, ErrorCode, FileFrom, FileStore, Files, Start};
 use sqlite_disk::Disk;
-use std::alloc::Global;
 use std::fs::{self, OpenOptions};
 use std::io::{self, ErrorKind, Read, Write};
 use std::rt::HostRuntime;
@@ -43,23 +44,21 @@ fn limits() -> Limits
 
 /// Does the task with a new office in memory.
 fn in_memory<R: Read, O: Write>(
-    alloc: Global,
+    rt: &HostRuntime,
     task: &Task<'_>,
     input: &mut Counted<R>,
     out: &mut Counted<O>,
-) -> Result<(), CommandFault>
-    ensures done { OnOk result (DoesInMemory task.now
-        (R.remaining input.old.device) (R.remaining input.new.device)
-        (O.contents out.old.device) (O.contents out.new.device)) }
-    ensures stopped { IfErr result (λ fault. StopsInMemory task.now fault
-        (R.remaining input.old.device) (R.remaining input.new.device)
-        (O.contents out.old.device) (O.contents out.new.device)) }
+) -> Result<Done, CommandFault>
+    ensures runs { RunsInMemory task.now result
+        (traffic_of R.Read O.Write input.old out.old) (traffic_of R.Read O.Write input.new out.new) }
+    ensures left { reads task.now ≡ false → input.new ≡ input.old }
+    ensures quiet { IfOk result IsQuiet }
 {
-    let Ok(conn) = Connection::open_in_memory(alloc) else {
+    let Ok(conn) = Connection::open_in_memory(rt.alloc()) else {
         return Err(CommandFault::without_cause(StoreFault::Memory));
     };
     match Office::create(conn, limits()) {
-        Ok(mut office) => perform(alloc, &mut office, task, input, out),
+        Ok(mut office) => do_task(rt, &mut office, task, input, out),
         Err((_, fault)) => Err(table_failure(fault)),
     }
 }
@@ -88,6 +87,7 @@ fn store_fault(error: Error) -> StoreFault
 /// Whether there is no file at the path. An empty one is no office, and stays empty.
 fn is_missing(rt: &HostRuntime, store: &str) -> Result<bool, CommandFault>
     ensures failure { IfErr result IsFailure }
+    ensures not_missing { IfErr result (λ fault. found_nothing fault ≡ false) }
 {
     match fs::metadata(rt, store) {
         Ok(found) if found.is_file() && found.len() == 0 => {
@@ -99,13 +99,28 @@ fn is_missing(rt: &HostRuntime, store: &str) -> Result<bool, CommandFault>
     }
 }
 
-/// What kept the store from being opened: the host's files, where they refuse it.
-fn opening_cause(rt: &HostRuntime, store: &str, error: Error) -> Cause {
+/// What kept the store from being opened: the host's files, where they refuse it. Where the store is to
+/// be made they are asked for a new file, which is taken away again.
+fn opening_cause(rt: &HostRuntime, store: &str, is_new: bool, error: Error) -> Cause
+    ensures { is_of_nothing (Some result) ≡ false }
+{
     if !matches!(error, Error::SqliteFailure(ErrorCode::CannotOpen)) {
         return Cause::Open(error);
     }
-    match OpenOptions::new().read(true).write(true).open(rt, store) {
-        Ok(_) => Cause::Open(error),
+    let mut options = OpenOptions::new();
+    match options
+        .read(true)
+        .write(true)
+        .create_new(is_new)
+        .open(rt, store)
+    {
+        Ok(_) => {
+            if is_new {
+                let _ = fs::remove_file(rt, store);
+            }
+            Cause::Open(error)
+        }
+        Err(refused) if refused.kind() == ErrorKind::AlreadyExists => Cause::Open(error),
         Err(refused) => Cause::Refused(refused),
     }
 }
@@ -115,16 +130,21 @@ fn open_store<S: Start>(
     rt: &HostRuntime,
     start: S,
     store: &str,
+    is_new: bool,
 ) -> Result<Connection<FileStore<FileFrom<S>>>, CommandFault>
     ensures fresh { IfOk result (λ conn. (file_state conn).in_transaction ≡ false) }
     ensures opened { IfOk result (λ conn. HasCleanDisk (file_state conn) → IsOpened conn) }
     ensures found { IfOk result (λ conn. HasCleanDisk (file_state conn)
         → FindsIn (image_at S.Start) (file_state conn)) }
     ensures failure { IfErr result IsFailure }
+    ensures not_missing { IfErr result (λ fault. found_nothing fault ≡ false) }
 {
     match Connection::open_from(rt, store, false, start) {
         Ok(conn) => Ok(conn),
-        Err((error, _)) => Err(failed_by(store_fault(error), opening_cause(rt, store, error))),
+        Err((error, _)) => {
+            let cause = opening_cause(rt, store, is_new, error);
+            Err(failed_by(store_fault(error), cause))
+        }
     }
 }
 
@@ -136,6 +156,7 @@ fn make_office<D: Disk + Drop>(
     ensures clean { IfOk result (λ office. HasCleanDisk (file_state office) → HasCleanDisk (file_state conn)) }
     ensures not_empty { (file_state conn).now.schema ≢ no_schema → IsErr result }
     ensures failure { IfErr result IsFailure }
+    ensures not_missing { IfErr result (λ fault. found_nothing fault ≡ false) }
 {
     match Office::create(conn, limits()) {
         Ok(office) => Ok(office),
@@ -151,7 +172,10 @@ fn take_office<D: Disk + Drop>(
     ensures clean { IfOk result (λ office. HasCleanDisk (file_state office) → HasCleanDisk (file_state conn)) }
     ensures goes_on { IfOk result (λ office. HasCleanDisk (file_state office)
         → (h : History) → IsLeftOf h (file_state conn).now.trees → IsKeptBy h (file_state office)) }
+    ensures was_there { IfOk result (λ office. HasCleanDisk (file_state office)
+        → IsTrue (has_office (file_state conn).now.schema)) }
     ensures failure { IfErr result IsFailure }
+    ensures not_missing { IfErr result (λ fault. found_nothing fault ≡ false) }
 {
     match Office::adopt(conn) {
         Ok(office) => Ok(office),
@@ -166,21 +190,17 @@ fn open_office<S: Start>(
     store: &str,
     makes: bool,
 ) -> Result<Office<FileStore<FileFrom<S>>>, CommandFault>
-    // Where the files hold an office, it is that office.
-    ensures found { IfOk result (λ office. HasCleanDisk (file_state office)
-        → (h : History) → HoldsWhere (IsLeftOf h) (image_at S.Start) → IsKeptBy h (file_state office)) }
+    ensures opened { IfOk result (IsOpenedFrom ⟦<FileFrom<S> as Disk>⟧ (image_at S.Start) makes) }
     ensures failure { IfErr result IsFailure }
+    ensures missing { IfErr result (λ fault. found_nothing fault ≡ true → makes ≡ false) }
 {
-    let is_new = is_missing(rt, store)?;
-    if is_new && !makes {
+    if !is_missing(rt, store)? {
+        return take_office(open_store(rt, start, store, false)?);
+    }
+    if !makes {
         return Err(failed_by(StoreFault::NotAnOffice, Cause::Missing));
     }
-    let conn = open_store(rt, start, store)?;
-    if is_new {
-        make_office(conn)
-    } else {
-        take_office(conn)
-    }
+    make_office(open_store(rt, start, store, true)?)
 }
 
 /// Copies the log into the file of the store, and hands both back.
@@ -197,26 +217,25 @@ fn close_office<D: Disk + Drop>(office: Office<FileStore<D>>) -> Result<Files<D>
     }
 }
 
-/// Does the task with an open office, and closes it: the files. Where the close fails, that is the
-/// fault, whatever the task came to.
+/// Does the task with an open office, and closes it. Where the close fails, that is the fault, however
+/// the task ended.
 fn on_files<D: Disk + Drop, R: Read, O: Write>(
-    alloc: Global,
+    rt: &HostRuntime,
     mut office: Office<FileStore<D>>,
     task: &Task<'_>,
     input: &mut Counted<R>,
     out: &mut Counted<O>,
-) -> Result<Files<D>, CommandFault>
-    ensures done { IfOk result (λ files. DoesAndCloses D.Disk office files task.now
-        (R.remaining input.old.device) (R.remaining input.new.device)
-        (O.contents out.old.device) (O.contents out.new.device)) }
-    ensures stopped { IfErr result (λ fault. StopsAndCloses D.Disk office task.now fault
-        (R.remaining input.old.device) (R.remaining input.new.device)
-        (O.contents out.old.device) (O.contents out.new.device)) }
+) -> Result<Done, CommandFault>
+    ensures runs { RunsAndCloses D.Disk office task.now result
+        (traffic_of R.Read O.Write input.old out.old) (traffic_of R.Read O.Write input.new out.new) }
+    ensures left { reads task.now ≡ false → input.new ≡ input.old }
+    ensures quiet { IfOk result IsQuiet }
 {
-    let done = perform(alloc, &mut office, task, input, out);
-    let files = close_office(office)?;
-    done?;
-    Ok(files)
+    let done = do_task(rt, &mut office, task, input, out);
+    match close_office(office) {
+        Ok(_) => done,
+        Err(fault) => Err(fault),
+    }
 }
 
 /// Does the task with the office in the file of the store.
@@ -227,131 +246,37 @@ fn in_file<S: Start, R: Read, O: Write>(
     task: &Task<'_>,
     input: &mut Counted<R>,
     out: &mut Counted<O>,
-) -> Result<(), CommandFault>
-    ensures done { OnOk result (DoesInFile ⟦<FileFrom<S> as Disk>⟧ (image_at S.Start) task.now
-        (R.remaining input.old.device) (R.remaining input.new.device)
-        (O.contents out.old.device) (O.contents out.new.device)) }
-    ensures stopped { IfErr result (λ fault. StopsInFile ⟦<FileFrom<S> as Disk>⟧ (image_at S.Start) task.now fault
-        (R.remaining input.old.device) (R.remaining input.new.device)
-        (O.contents out.old.device) (O.contents out.new.device)) }
+) -> Result<Done, CommandFault>
+    ensures runs { RunsInFile ⟦<FileFrom<S> as Disk>⟧ (image_at S.Start) task.now result
+        (traffic_of R.Read O.Write input.old out.old) (traffic_of R.Read O.Write input.new out.new) }
+    ensures left { reads task.now ≡ false → input.new ≡ input.old }
+    ensures quiet { IfOk result IsQuiet }
 {
-    let office = open_office(rt, start, store, task.makes_office())?;
-    on_files(rt.alloc(), office, task, input, out)?;
-    Ok(())
+    match open_office(rt, start, store, task.makes_office()) {
+        Ok(office) => on_files(rt, office, task, input, out),
+        Err(fault) => Err(fault),
+    }
 }
 
 /// Does the task with the office of the store; `:memory:` is a new one in memory.
 pub fn in_store<S: Start, R: Read, O: Write>(
     rt: &HostRuntime,
-    start: S,
+    start: &mut Option<S>,
     store: &str,
     task: &Task<'_>,
     input: &mut Counted<R>,
     out: &mut Counted<O>,
-) -> Result<(), CommandFault>
-    ensures memory { store.now ≡ codes ":memory:" → OnOk result (DoesInMemory task.now
-        (R.remaining input.old.device) (R.remaining input.new.device)
-        (O.contents out.old.device) (O.contents out.new.device)) }
-    ensures memory_stopped { store.now ≡ codes ":memory:" → IfErr result (λ fault. StopsInMemory task.now fault
-        (R.remaining input.old.device) (R.remaining input.new.device)
-        (O.contents out.old.device) (O.contents out.new.device)) }
-    ensures file { store.now ≢ codes ":memory:"
-        → OnOk result (DoesInFile ⟦<FileFrom<S> as Disk>⟧ (image_at S.Start) task.now
-        (R.remaining input.old.device) (R.remaining input.new.device)
-        (O.contents out.old.device) (O.contents out.new.device)) }
-    ensures file_stopped { store.now ≢ codes ":memory:"
-        → IfErr result (λ fault. StopsInFile ⟦<FileFrom<S> as Disk>⟧ (image_at S.Start) task.now fault
-        (R.remaining input.old.device) (R.remaining input.new.device)
-        (O.contents out.old.device) (O.contents out.new.device)) }
+) -> Result<Done, CommandFault>
+    ensures runs { RunsOn ⟦<FileFrom<S> as Disk>⟧ (image_at S.Start) store.now task.now result
+        (traffic_of R.Read O.Write input.old out.old) (traffic_of R.Read O.Write input.new out.new) }
+    ensures left { reads task.now ≡ false → input.new ≡ input.old }
+    ensures quiet { IfOk result IsQuiet }
 {
     if store == ":memory:" {
-        return in_memory(rt.alloc(), task, input, out);
+        return in_memory(rt, task, input, out);
     }
-    in_file(rt, start, store, task, input, out)
-}
-
-/// Serves connections with a new office in memory.
-fn serve_in_memory<O: Write>(
-    rt: &HostRuntime,
-    day: Day,
-    port: u16,
-    count: u32,
-    out: &mut Counted<O>,
-) -> Result<(), CommandFault>
-    ensures told { OnOk result (TellsPort (O.contents out.old.device) (O.contents out.new.device)) }
-    ensures served { OnOk result (ServesInMemory day count (O.contents out.old.device) (O.contents out.new.device)) }
-    ensures failure { IfErr result IsFailure }
-{
-    let Ok(conn) = Connection::open_in_memory(rt.alloc()) else {
-        return Err(CommandFault::without_cause(StoreFault::Memory));
-    };
-    match Office::create(conn, limits()) {
-        Ok(mut office) => serve_at(rt, &mut office, day, port, count, out),
-        Err((_, fault)) => Err(table_failure(fault)),
+    match start.take() {
+        Some(start) => in_file(rt, start, store, task, input, out),
+        None => Err(failed_by(StoreFault::Store, Cause::Taken)),
     }
-}
-
-/// Serves connections with an open office, and closes it: the files. Where the close fails, that is
-/// the fault.
-fn serve_on_files<D: Disk + Drop, O: Write>(
-    rt: &HostRuntime,
-    mut office: Office<FileStore<D>>,
-    day: Day,
-    port: u16,
-    count: u32,
-    out: &mut Counted<O>,
-) -> Result<Files<D>, CommandFault>
-    ensures told { IfOk result (λ _. TellsPort (O.contents out.old.device) (O.contents out.new.device)) }
-    ensures served { IfOk result (λ files. ServesAndCloses D.Disk office files day count
-        (O.contents out.old.device) (O.contents out.new.device)) }
-    ensures failure { IfErr result IsFailure }
-{
-    let served = serve_at(rt, &mut office, day, port, count, out);
-    let files = close_office(office)?;
-    served?;
-    Ok(files)
-}
-
-/// Serves connections with the office in the file of the store.
-fn serve_in_file<S: Start, O: Write>(
-    rt: &HostRuntime,
-    start: S,
-    store: &str,
-    day: Day,
-    port: u16,
-    count: u32,
-    out: &mut Counted<O>,
-) -> Result<(), CommandFault>
-    ensures told { OnOk result (TellsPort (O.contents out.old.device) (O.contents out.new.device)) }
-    ensures served { OnOk result (ServesInFile ⟦<FileFrom<S> as Disk>⟧ (image_at S.Start) day count
-        (O.contents out.old.device) (O.contents out.new.device)) }
-    ensures failure { IfErr result IsFailure }
-{
-    let office = open_office(rt, start, store, false)?;
-    serve_on_files(rt, office, day, port, count, out)?;
-    Ok(())
-}
-
-/// Opens the store, takes the port and serves connections there; `:memory:` is a new office in memory.
-pub fn serve_store<S: Start, O: Write>(
-    rt: &HostRuntime,
-    start: S,
-    store: &str,
-    day: Day,
-    port: u16,
-    count: u32,
-    out: &mut Counted<O>,
-) -> Result<(), CommandFault>
-    ensures told { OnOk result (TellsPort (O.contents out.old.device) (O.contents out.new.device)) }
-    ensures memory { store.now ≡ codes ":memory:" → OnOk result (ServesInMemory day count
-        (O.contents out.old.device) (O.contents out.new.device)) }
-    ensures file { store.now ≢ codes ":memory:"
-        → OnOk result (ServesInFile ⟦<FileFrom<S> as Disk>⟧ (image_at S.Start) day count
-        (O.contents out.old.device) (O.contents out.new.device)) }
-    ensures failure { IfErr result IsFailure }
-{
-    if store == ":memory:" {
-        return serve_in_memory(rt, day, port, count, out);
-    }
-    serve_in_file(rt, start, store, day, port, count, out)
 }

@@ -1,14 +1,13 @@
 //! What is done with an open office, over any store.
 
-ghost use Rattle.std.specs.Prelude.{◌≡◌, IfErr, OnErr, OnOk, option_copied};
-ghost use Rattle.sqlite.specs.Held.{state};
-ghost use Rattle.sqlite.specs.State.{HasCleanDisk, Survives};
-ghost use Rattle.office_engine.specs.Keeping.{CommitsTo, InstallLasts, Installs, IsUnchanged, LeavesEither, after_policy};
-ghost use Rattle.office_commands.specs.Tasks.{Stops};
-ghost use Rattle.office_commands.specs.Texts.{IsFailure, desk_failure, replay_failure, table_failure};
-ghost use Rattle.office_commands.specs.Working.{Asks, AsksInPart, EndsReplay, InstallsFirst, ReplaysUnder};
-ghost use Rattle.office_commands.specs.declared.task.Task.TheVariants.{Replay};
+ghost use Rattle.std.specs.Prelude.{◌≡◌, ◌∷◌, [], IfErr, IfOk, List, false};
+ghost use Rattle.office_commands.specs.Deeds.{AreDone, Deed};
+ghost use Rattle.office_commands.specs.Tasks.{Asks, Replays, ReplaysAfter, install_of};
+ghost use Rattle.office_commands.specs.Texts.{IsFailure, desk_failure, found_nothing, replay_failure, table_failure};
+ghost use Rattle.office_commands.specs.Traffic.{traffic_of};
+ghost use Rattle.office_commands.specs.Works.{IsQuiet};
 
+use crate::done::Done;
 use crate::fault::{Cause, CommandFault, StoreFault, failed_by};
 use crate::printing::flush;
 use http_desk::{Counted, DeskFault, ReplayStop, replay, serve_one};
@@ -22,6 +21,7 @@ use std::io::{Read, Write};
 /// What a fault of the tables comes to.
 pub fn table_failure(fault: TableFault) -> CommandFault
     ensures is { result ≡ table_failure fault }
+    ensures nothing { found_nothing result ≡ false }
     ensures failure { IsFailure result }
 {
     CommandFault::without_cause(match fault {
@@ -49,42 +49,29 @@ pub fn install_policy<S: Alter>(
     alloc: Global,
     office: &mut Office<S>,
     policy: &Policy,
-) -> Result<(), CommandFault>
-    ensures installed { HasCleanDisk (state S.Store office.new)
-        → OnOk result (Installs (state S.Store office.old) (state S.Store office.new) policy.now) }
-    ensures kept { HasCleanDisk (state S.Store office.new)
-        → OnErr result (IsUnchanged (state S.Store office.old) (state S.Store office.new)) }
-    ensures survives { Survives (state S.Store office.old) (state S.Store office.new)
-        (CommitsTo (state S.Store office.old) (after_policy policy.now)) }
-    ensures durable { HasCleanDisk (state S.Store office.new)
-        → OnOk result (InstallLasts (state S.Store office.old) (state S.Store office.new) policy.now) }
-    ensures leaves { HasCleanDisk (state S.Store office.new)
-        → LeavesEither (state S.Store office.old) (state S.Store office.new) (after_policy policy.now) }
+) -> Result<Done, CommandFault>
+    ensures done { AreDone S.Store (install_of result policy.now ∷ []) office.old office.new }
+    ensures quiet { IfOk result IsQuiet }
     ensures failure { IfErr result IsFailure }
 {
     match office.install(alloc, policy) {
-        Ok(()) => Ok(()),
+        Ok(()) => Ok(Done::quiet()),
         Err(fault) => Err(table_failure(fault)),
     }
 }
 
 /// Answers the one request that the input gives, on that day.
-pub fn ask_office<S: Alter, R: Read, W: Write>(
+pub fn ask_office<S: Alter, R: Read, O: Write>(
     alloc: Global,
     office: &mut Office<S>,
     day: Day,
     input: &mut Counted<R>,
-    out: &mut Counted<W>,
-) -> Result<(), CommandFault>
-    // The text that answers what the input gave is written behind what the output held.
-    ensures answered { OnOk result (Asks S.Store day office.old office.new
-        (R.remaining input.old.device) (R.remaining input.new.device)
-        (W.contents out.old.device) (W.contents out.new.device)) }
-    // Where that fails, nothing was done or written, or a beginning of such a text is written.
-    ensures failed { OnErr result (AsksInPart S.Store day office.old office.new
-        (R.remaining input.old.device) (R.remaining input.new.device)
-        (W.contents out.old.device) (W.contents out.new.device)) }
-    ensures failure { IfErr result IsFailure }
+    out: &mut Counted<O>,
+) -> Result<Done, CommandFault>
+    ensures asks { (deeds : List Deed) × Asks day result deeds
+        (traffic_of R.Read O.Write input.old out.old) (traffic_of R.Read O.Write input.new out.new)
+        × AreDone S.Store deeds office.old office.new }
+    ensures quiet { IfOk result IsQuiet }
 {
     match serve_one(alloc, office, day, input, out) {
         Ok(()) => flush(out),
@@ -105,15 +92,16 @@ fn replay_failure(stop: ReplayStop) -> CommandFault
 }
 
 /// Answers the records that the input gives, one after the other, to its end.
-pub fn replay_office<S: Alter, R: Read, W: Write>(
+fn replay_office<S: Alter, R: Read, O: Write>(
     alloc: Global,
     office: &mut Office<S>,
     input: &mut Counted<R>,
-    out: &mut Counted<W>,
-) -> Result<(), CommandFault>
-    ensures { EndsReplay S.Store office.old office.new
-        (R.remaining input.old.device) (R.remaining input.new.device)
-        (W.contents out.old.device) (W.contents out.new.device) result }
+    out: &mut Counted<O>,
+) -> Result<Done, CommandFault>
+    ensures replays { (deeds : List Deed) × Replays result deeds
+        (traffic_of R.Read O.Write input.old out.old) (traffic_of R.Read O.Write input.new out.new)
+        × AreDone S.Store deeds office.old office.new }
+    ensures quiet { IfOk result IsQuiet }
 {
     match replay(alloc, office, input, out) {
         Ok(_) => flush(out),
@@ -121,38 +109,24 @@ pub fn replay_office<S: Alter, R: Read, W: Write>(
     }
 }
 
-/// Installs the policy, where there is one.
-#[tactic(auto, using(crate::proofs::ReplayingLemmas::installed_first))]
-fn install_first<S: Alter>(
-    alloc: Global,
-    office: &mut Office<S>,
-    policy: Option<&Policy>,
-) -> Result<(), CommandFault>
-    ensures installed { OnOk result (InstallsFirst S.Store (option_copied policy.entry) office.old office.new) }
-    ensures failure { IfErr result IsFailure }
-{
-    match policy {
-        Some(policy) => install_policy(alloc, office, policy),
-        None => Ok(()),
-    }
-}
-
 /// Installs the policy, where there is one, and then answers the records.
-pub fn replay_under<S: Alter, R: Read, W: Write>(
+pub fn replay_after<S: Alter, R: Read, O: Write>(
     alloc: Global,
     office: &mut Office<S>,
     policy: Option<&Policy>,
     input: &mut Counted<R>,
-    out: &mut Counted<W>,
-) -> Result<(), CommandFault>
-    ensures replayed { OnOk result (ReplaysUnder S.Store (option_copied policy.entry) office.old office.new
-        (R.remaining input.old.device) (R.remaining input.new.device)
-        (W.contents out.old.device) (W.contents out.new.device)) }
-    // It is stopped by a failure, or at a bad record, and then those before it are answered.
-    ensures stopped { IfErr result (λ fault. Stops S.Store (Replay policy.entry) fault office.old office.new
-        (R.remaining input.old.device) (R.remaining input.new.device)
-        (W.contents out.old.device) (W.contents out.new.device)) }
+    out: &mut Counted<O>,
+) -> Result<Done, CommandFault>
+    ensures replays { (deeds : List Deed) × ReplaysAfter policy.entry result deeds
+        (traffic_of R.Read O.Write input.old out.old) (traffic_of R.Read O.Write input.new out.new)
+        × AreDone S.Store deeds office.old office.new }
+    ensures quiet { IfOk result IsQuiet }
 {
-    install_first(alloc, office, policy)?;
-    replay_office(alloc, office, input, out)
+    let Some(policy) = policy else {
+        return replay_office(alloc, office, input, out);
+    };
+    match install_policy(alloc, office, policy) {
+        Ok(_) => replay_office(alloc, office, input, out),
+        Err(fault) => Err(fault),
+    }
 }

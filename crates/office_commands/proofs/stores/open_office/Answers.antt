@@ -1,14 +1,17 @@
 use Rattle.sqlite.specs.Files.{file_state}
 use Rattle.sqlite.specs.WalFiles.{image_at}
-use Rattle.office_commands.proofs.FileLemmas.{made_where_none, taken_as_held}
+use Rattle.office_commands.proofs.FileLemmas.{found_something, may_make, opened_as_made, opened_as_taken}
 use Rattle.office_commands.proofs.stores.open_office.Goals as goal
 
-pub returns-then-is_new-2-clause-found : goal.returns-then-is_new-2-clause-found
-returns-then-is_new-2-clause-found g c =
-    made_where_none c.make_office.result (λ office. file_state office) (image_at g.S.Start) (file_state c.in_ok-conn.conn) c.make_office.ensures.clean
-    c.make_office.ensures.not_empty c.in_ok-conn.ensures.opened c.in_ok-conn.ensures.found
+pub returns-then-not-branch-clause-opened : goal.returns-then-not-branch-clause-opened
+returns-then-not-branch-clause-opened g c =
+    opened_as_taken _ c.take_office.result (image_at g.S.Start) (file_state c.in_ok-open_store.field-0) c.args.makes c.take_office.ensures.clean
+    c.take_office.ensures.goes_on c.take_office.ensures.was_there c.in_ok-open_store.ensures.opened c.in_ok-open_store.ensures.found
 
-pub returns-else-is_new-2-clause-found : goal.returns-else-is_new-2-clause-found
-returns-else-is_new-2-clause-found g c =
-    taken_as_held c.take_office.result (λ office. file_state office) (image_at g.S.Start) (file_state c.in_ok-conn.conn) c.take_office.ensures.clean
-    c.take_office.ensures.goes_on c.in_ok-conn.ensures.opened c.in_ok-conn.ensures.found
+pub returns-clause-opened : goal.returns-clause-opened
+returns-clause-opened g c =
+    opened_as_made _ c.make_office.result (image_at g.S.Start) (file_state c.in_ok-open_store-2.field-0) c.args.makes (may_make c.args.makes c.if-not-makes.false) c.make_office.ensures.clean
+    c.make_office.ensures.not_empty c.in_ok-open_store-2.ensures.opened c.in_ok-open_store-2.ensures.found
+
+pub returns-clause-missing : goal.returns-clause-missing
+returns-clause-missing g c = found_something c.make_office.result c.args.makes c.make_office.ensures.not_missing

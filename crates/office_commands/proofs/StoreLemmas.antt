@@ -1,0 +1,80 @@
+-- What is done with an office over a store is done on the store: in memory, or in a file.
+use Rattle.std.proofs.Common.{◌≡◌, ℕ, List, Bool, Result, Err, inl, inr, subst, ap₂, refl}
+use Rattle.sqlite_disk.specs.declared.Disk.{Ghosts as Disks}
+use Rattle.sqlite_disk.specs.declared.Files.{Files}
+use Rattle.sqlite_wal.specs.Reads.{AreClean}
+use Rattle.sqlite.specs.Recovery.{Image}
+use Rattle.sqlite.specs.Closing.{IsCopied}
+use Rattle.sqlite.specs.Files.{file_state, image_of, over_files}
+use Rattle.sqlite.specs.Held.{Held, state}
+use Rattle.sqlite.specs.State.{HasCleanDisk}
+use Rattle.sqlite.specs.Steps.{over_memory}
+use Rattle.sqlite.specs.declared.FileStore.{FileStore}
+use Rattle.sqlite.specs.declared.MemStore.{MemStore}
+use Rattle.sqlite.proofs.Callers.{memory_is_clean}
+use Rattle.office_rows.specs.Rows.{max_limit}
+use Rattle.office_history.specs.Histories.{History}
+use Rattle.office_history.specs.Runs.{IsLegal, new, new_history}
+use Rattle.office_engine.specs.Keeping.{IsKeptBy}
+use Rattle.office_commands.specs.Deeds.{AreDone, Deed}
+use Rattle.office_commands.specs.Stores.{AreDoneAndClosed, IsOpenedFrom, RunsAndCloses, RunsInFile, RunsInMemory, made_office}
+use Rattle.office_commands.specs.Tasks.{Does, makes_office}
+use Rattle.office_commands.specs.Texts.{IsFailure}
+use Rattle.office_commands.specs.Traffic.{Traffic}
+use Rattle.office_commands.specs.declared.fault.CommandFault.{CommandFault}
+use Rattle.office_commands.specs.declared.task.Task.{Task}
+use Rattle.office_commands.proofs.DeedLemmas.{deeds_clean, deeds_lead}
+use Rattle.office_commands.proofs.FileLemmas.{held_of}
+
+made_is_legal : IsLegal made_office
+made_is_legal = new max_limit max_limit refl refl
+
+-- with an office that was just made in memory, whose disk is always clean
+pub runs_in_memory : {T : Type 0} (r : Result T CommandFault) (task : Task) (a b : ℕ) (first last : Held MemStore) (was now : Traffic) → (a ≡ max_limit) × (b ≡ max_limit)
+    → (HasCleanDisk (state over_memory first) → IsKeptBy (new_history a b) (state over_memory first))
+    → ((deeds : List Deed) × Does task r deeds was now × AreDone over_memory deeds first last) → RunsInMemory task r was now
+runs_in_memory r task a b first last was now limits made it =
+    let kept : IsKeptBy made_office (state over_memory first) = subst (λ (h : History). IsKeptBy h (state over_memory first)) (ap₂ new_history limits.0 limits.1) (made (memory_is_clean first)) in
+    let leads = deeds_lead over_memory it.0 first last it.2 (memory_is_clean last) made_office made_is_legal kept in
+    inr (it.0, it.1, record { old = first; new = last; made = kept; done = it.2; next = leads.0; leads = leads.1; reached = leads.2 })
+
+-- with an open office, which is closed into these files
+done_and_closed : {D : Type 0} (g : Disks D) (deeds : List Deed) (first last : Held (FileStore D g)) (files : Files D) → (AreClean g files.log files.db → IsCopied last files)
+    → AreDone over_files deeds first last → AreDoneAndClosed g deeds first files
+done_and_closed g deeds first last files copied done = record {
+  new = last;
+  done = done;
+  was_clean = λ clean. deeds_clean over_files deeds first last done (copied clean).was_clean;
+  copied = copied;
+  leads = λ clean h legal keeps.
+      let it = copied clean in
+      let at = deeds_lead over_files deeds first last done it.was_clean h legal keeps in
+      (at.0, at.1, at.2.legal, held_of (image_of g files) (file_state last) it.was_open it.seen.both at.0 at.2);
+}
+
+pub runs_and_closes : {D T : Type 0} (g : Disks D) (r : Result T CommandFault) (task : Task) (first last : Held (FileStore D g)) (files : Files D) (was now : Traffic)
+    → (AreClean g files.log files.db → IsCopied last files) → ((deeds : List Deed) × Does task r deeds was now × AreDone over_files deeds first last) → RunsAndCloses g first task r was now
+runs_and_closes g r task first last files was now copied it = inl (it.0, files, it.1, done_and_closed g it.0 first last files copied it.2)
+
+-- or it can't be closed
+pub runs_unclosed : {D T : Type 0} (g : Disks D) (r : Result T CommandFault) (fault : CommandFault) (task : Task) (first last : Held (FileStore D g)) (was now : Traffic)
+    → IsFailure fault → ((deeds : List Deed) × Does task r deeds was now × AreDone over_files deeds first last) → RunsAndCloses {T = T} g first task (Err fault) was now
+runs_unclosed g r fault task first last was now fails it = inr (record { failed = fails; did = r; deeds = it.0; does = it.1; new = last; done = it.2 })
+
+-- the office was opened from files
+pub runs_in_file : {D T : Type 0} (g : Disks D) (first : Image) (r : Result T CommandFault) (task : Task) (makes : Bool) (old : Held (FileStore D g)) (was now : Traffic)
+    → makes ≡ makes_office task → IsOpenedFrom g first makes old → RunsAndCloses g old task r was now → RunsInFile g first task r was now
+runs_in_file g first r task makes old was now same opened (inl it) =
+    let from = subst (λ (m : Bool). IsOpenedFrom g first m old) same opened in
+    inr (inl (
+      it.0,
+      it.2,
+      record {
+        old = old;
+        opened = from;
+        files = it.1;
+        closed = it.3;
+        goes_on = λ clean h legal holds. it.3.leads clean h legal (from.found (it.3.was_clean clean) h holds);
+      },
+    ))
+runs_in_file g first r task makes old was now same opened (inr it) = inr (inr (old, subst (λ (m : Bool). IsOpenedFrom g first m old) same opened, it))

@@ -1,0 +1,94 @@
+-- What a command on a store comes to.
+use Rattle.std.proofs.Common.{◌≡◌, ℕ, List, [], ◌∷◌, Option, Some, Result, Ok, Err, IfErr, IfOk, OnOk, Bor, inl, inr, refl, sym, subst}
+use Rattle.std.specs.Prelude.{option_map, string_bytes}
+use Rattle.std.specs.Io.KnownBytes.{Appends}
+use Rattle.jiff.specs.Types.{Date}
+use Rattle.sqlite_disk.specs.declared.Disk.{Ghosts as Disks}
+use Rattle.sqlite.specs.Held.{Held}
+use Rattle.sqlite.specs.Recovery.{Image}
+use Rattle.sqlite.specs.Store.{Ghosts}
+use Rattle.office_core.specs.Policies.{PolicyValue}
+use Rattle.commands.specs.Explaining.{bad_policy_text}
+use Rattle.streams.specs.Writing.{IsCutShort}
+use Rattle.commands.specs.declared.ending.Ending.TheVariants.{Refused}
+use Rattle.office_commands.specs.Deeds.{AreDone, Deed, fails, installs}
+use Rattle.commands.specs.PolicyFiles.{IsRead}
+use Rattle.office_commands.specs.Policies.{installed_text}
+use Rattle.office_commands.specs.Tasks.{Does, IsPortFor, Listens, Replays, ReplaysAfter, install_of}
+use Rattle.office_commands.specs.Texts.{IsFailure}
+use Rattle.office_commands.specs.Traffic.{Traffic}
+use Rattle.office_commands.specs.Works.{Comes, ComesOfPolicy, IsQuiet, SaysInstalled, SaysRefused, read_policy, refused_policy}
+use Rattle.office_commands.specs.declared.done.Done.{Done}
+use Rattle.office_commands.specs.declared.fault.CommandFault.{CommandFault}
+use Rattle.commands.specs.declared.policy_file.RefusedPolicy.{RefusedPolicy}
+use Rattle.office_commands.specs.declared.task.Task.{Task}
+use Rattle.office_commands.specs.declared.task.Task.TheVariants.{Install, Serve}
+use Rattle.office_commands.specs.declared.work.Work.{Work}
+
+-- ---- a policy that comes first
+
+pub after_install : {S T : Type 0} (g : Ghosts S) (installed : Result T CommandFault) (x : T) (r : Result T CommandFault) (given : Option (Bor PolicyValue)) (policy : Bor PolicyValue) (old mid new : Held S)
+    (was now : Traffic) → given ≡ Some policy → installed ≡ Ok x → AreDone g (install_of installed policy.now ∷ []) old mid → ((deeds : List Deed) × Replays r deeds was now × AreDone g deeds mid new)
+    → (deeds : List Deed) × ReplaysAfter given r deeds was now × AreDone g deeds old new
+after_install {T = T} g installed x r given policy old mid new was now same is first rest =
+    let it : AreDone g (installs policy.now ∷ []) old mid = subst (λ (i : Result T CommandFault). AreDone g (install_of i policy.now ∷ []) old mid) is first in (
+      installs policy.now ∷ rest.0,
+      subst (λ (p : Option (Bor PolicyValue)). ReplaysAfter p r (installs policy.now ∷ rest.0) was now) (sym same) (inl (rest.0, refl, rest.1)),
+      (it.0, it.1, subst (λ (s : Held _). AreDone g rest.0 s new) it.2 rest.2),
+    )
+
+pub not_installed : {S T : Type 0} (g : Ghosts S) (installed : Result T CommandFault) (fault : CommandFault) (given : Option (Bor PolicyValue)) (policy : Bor PolicyValue) (old new : Held S) (was : Traffic)
+    → given ≡ Some policy → installed ≡ Err fault → IsFailure fault → AreDone g (install_of installed policy.now ∷ []) old new
+    → (deeds : List Deed) × ReplaysAfter {T = T} given (Err fault) deeds was was × AreDone g deeds old new
+not_installed {T = T} g installed fault given policy old new was same is failed done =
+    let it : AreDone g (fails policy.now ∷ []) old new = subst (λ (i : Result T CommandFault). AreDone g (install_of i policy.now ∷ []) old new) is done in
+    (fails policy.now ∷ [], subst (λ (p : Option (Bor PolicyValue)). ReplaysAfter {T = T} p (Err fault) (fails policy.now ∷ []) was was) (sym same) (inr (failed, refl, refl)), it)
+
+-- ---- what is read of a policy's file
+
+pub goes_on : {unread : Type 0} {IsRefused : RefusedPolicy → Type 0} {GoesOn : Bor PolicyValue → Type 0} (read : Result PolicyValue RefusedPolicy) (policy : Bor PolicyValue) → read ≡ Ok policy.now
+    → ((bytes : List ℕ) × IsRead bytes read) → GoesOn policy → ComesOfPolicy unread IsRefused GoesOn
+goes_on read policy is it on = read_policy it.0 policy (subst (IsRead it.0) is it.1) on
+
+pub is_refused : {unread : Type 0} {IsRefused : RefusedPolicy → Type 0} {GoesOn : Bor PolicyValue → Type 0} (read : Result PolicyValue RefusedPolicy) (refused : RefusedPolicy) → read ≡ Err refused
+    → ((bytes : List ℕ) × IsRead bytes read) → IsRefused refused → ComesOfPolicy unread IsRefused GoesOn
+is_refused read refused is it refuses = refused_policy it.0 refused (subst (IsRead it.0) is it.1) refuses
+
+-- ---- what is said of it
+
+pub says_refused : (r : Result Done CommandFault) (refused : RefusedPolicy) (was now : Traffic) → OnOk r (Appends was.output now.output (bad_policy_text refused.fault))
+    → IsCutShort (bad_policy_text refused.fault) was.output now.output → IfOk r (λ done. option_map string_bytes done.reason ≡ Some (string_bytes refused.reason)) → IfOk r (λ done. done.ending ≡ Refused)
+    → IfErr r IsFailure → SaysRefused refused r was now
+says_refused (Ok done) refused was now printed front reason ending failed = (reason, ending, printed)
+says_refused (Err fault) refused was now printed front reason ending failed = (failed, front)
+
+pub says_installed : (ran : Result Done CommandFault) (x : Done) (r : Result Done CommandFault) (policy : PolicyValue) (was now : Traffic) → ran ≡ Ok x → OnOk r (Appends was.output now.output (installed_text policy))
+    → IsCutShort (installed_text policy) was.output now.output → IfOk r IsQuiet → IfErr r IsFailure → SaysInstalled policy ran r was now
+says_installed ran x r policy was now is said front quiet failed = subst (λ (i : Result Done CommandFault). SaysInstalled policy i r was now) (sym is) (go r said front quiet failed)
+  where
+    go : (r : Result Done CommandFault) → OnOk r (Appends was.output now.output (installed_text policy)) → IsCutShort (installed_text policy) was.output now.output → IfOk r IsQuiet → IfErr r IsFailure
+        → SaysInstalled policy (Ok x) r was now
+    go (Ok done) said front quiet failed = (quiet, said)
+    go (Err fault) said front quiet failed = (failed, front)
+
+pub says_nothing : (ran : Result Done CommandFault) (fault : CommandFault) (policy : PolicyValue) (was : Traffic) → ran ≡ Err fault → SaysInstalled policy ran (Err fault) was was
+says_nothing ran fault policy was is = subst (λ (i : Result Done CommandFault). SaysInstalled policy i (Err fault) was was) (sym is) (refl, refl)
+
+-- ---- what a task does
+
+pub does_install : {S T : Type 0} (g : Ghosts S) (task : Task) (policy : Bor PolicyValue) (r : Result T CommandFault) (old new : Held S) (was : Traffic) → task ≡ Install policy → IfErr r IsFailure
+    → AreDone g (install_of r policy.now ∷ []) old new → (deeds : List Deed) × Does task r deeds was was × AreDone g deeds old new
+does_install g task policy r old new was is failed done =
+    subst (λ (t : Task). (deeds : List Deed) × Does t r deeds was was × AreDone g deeds old new) (sym is) (install_of r policy.now ∷ [], (failed, refl, refl), done)
+
+pub does_serve : {S T : Type 0} (g : Ghosts S) (task : Task) (day : Date) (port count : ℕ) (r : Result T CommandFault) (old new : Held S) (was now : Traffic) → task ≡ Serve day port count → now.input ≡ was.input
+    → IfErr r IsFailure → ((told : ℕ) × (deeds : List Deed) × IsPortFor port told × Listens day told count r deeds was.output now.output × AreDone g deeds old new)
+    → (deeds : List Deed) × Does task r deeds was now × AreDone g deeds old new
+does_serve g task day port count r old new was now is same failed it =
+    subst (λ (t : Task). (deeds : List Deed) × Does t r deeds was now × AreDone g deeds old new) (sym is) (it.1, (same, failed, (it.0, it.2, it.3)), it.4)
+
+-- ---- what a work comes to
+
+pub comes_as : {D : Type 0} (g : Disks D) (first : Image) (store : List ℕ) (work other : Work) (alone : Type 0) (result : Result Done CommandFault) (was now : Traffic) → work ≡ other
+    → Comes g first store other alone result was now → Comes g first store work alone result was now
+comes_as g first store work other alone result was now same it = subst (λ (w : Work). Comes g first store w alone result was now) (sym same) it

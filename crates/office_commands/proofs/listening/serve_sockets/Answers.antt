@@ -1,0 +1,12 @@
+use Rattle.office_commands.proofs.ListeningLemmas.{served_all, served_fewer}
+use Rattle.office_commands.proofs.listening.serve_sockets.Goals as goal
+
+pub returns-in-Ok-clause-serves : goal.returns-in-Ok-clause-serves
+returns-in-Ok-clause-serves g c =
+    let it = c.in-Ok.ensures.served in
+    served_all g.S.Store c.args.day c.args.office.now c.serve_connections.new.office c.args.count c.in-Ok.field-0 it.0 c.in-Ok.ensures.sum it.2 it.3
+
+pub returns-in-Err-clause-serves : goal.returns-in-Err-clause-serves
+returns-in-Err-clause-serves g c =
+    let it = c.in-Err.ensures.served in
+    served_fewer g.S.Store c.args.day c.args.office.now c.serve_connections.new.office c.args.count c.in-Err.failure.served it.0 c.in-Err.ensures.fewer it.2 it.3

@@ -1,0 +1,25 @@
+//! How a command that came to its end ends.
+
+ghost use Rattle.office_commands.specs.Works.{IsQuiet};
+
+use commands::Ending;
+
+/// How a command that came to its end ends, and what standard error is to be told: why the answer is no,
+/// where it is, in lines with their ends.
+#[derive(Debug, Drop)]
+pub struct Done {
+    pub reason: Option<String>,
+    pub ending: Ending,
+}
+
+impl Done {
+    /// It ends well, and there is nothing to tell.
+    pub(crate) fn quiet() -> Done
+        ensures { IsQuiet result }
+    {
+        Done {
+            reason: None,
+            ending: Ending::Accepted,
+        }
+    }
+}

@@ -1,0 +1,30 @@
+//! Laws of what is done with an office.
+
+ghost use Rattle.std.specs.Prelude.{◌≡◌, ℕ, List, length};
+ghost use Rattle.sqlite.specs.Held.{Held, state};
+ghost use Rattle.sqlite.specs.State.{HasCleanDisk};
+ghost use Rattle.office_core.specs.declared.answer.Answer.{Answer};
+ghost use Rattle.office_history.specs.Histories.{History};
+ghost use Rattle.office_history.specs.Runs.{IsLegal, Item, Run};
+ghost use Rattle.office_engine.specs.Keeping.{IsKeptBy, IsReached};
+ghost use Rattle.desk_records.specs.RecordLists.{RequestRecord};
+ghost use Rattle.http_desk.specs.ReplayRuns.{IsRunOf};
+ghost use Rattle.office_commands.specs.Deeds.{AreDone, Deed, LeadOn, deeds_of_records};
+
+use sqlite::Alter;
+
+/// What is done with an office over any store leads the history that is kept on to one that is kept: on an
+/// honest disk, whichever legal history it was.
+pub fn deeds_lead_on<S: Alter>()
+    ensures { (deeds : List Deed) (old new : Held S) → AreDone S.Store deeds old new
+        → HasCleanDisk (state S.Store new) → (h : History) → IsLegal h → IsKeptBy h (state S.Store old)
+        → (next : History) × LeadOn deeds h next × IsReached next (state S.Store new) }
+{}
+
+/// Where records are answered, their texts are those of a run of the office that asks what is heard of
+/// them, and of the desk's refusals.
+pub fn answers_are_runs()
+    ensures { (items : List RequestRecord) (texts : List (List ℕ)) (h next : History)
+        → length texts ≡ length items → LeadOn (deeds_of_records items texts) h next
+        → (run : List Item) × (answers : List Answer) × IsRunOf items texts run answers × Run h run answers next }
+{}
