@@ -2,9 +2,9 @@
 //! office of such bags in a file: from the command line.
 #![tactic(auto)]
 
-use commands::{Ending, refuse_words};
+use commands::Ending;
 use desk_devices::Counted;
-use program::run;
+use program::{Streams, refuse_words, run};
 use sqlite::Unknown;
 use std::io;
 use std::process::ExitCode;
@@ -22,16 +22,12 @@ fn run_on_process(rt: &HostRuntime) -> io::Result<Ending> {
     for word in words.iter() {
         texts.push(word.as_str())?;
     }
-    let mut input = Counted::new(rt.stdin());
-    let mut out = Counted::new(rt.stdout());
-    Ok(run(
-        rt,
-        Unknown,
-        texts.as_slice(),
-        &mut input,
-        &mut out,
-        &mut rt.stderr(),
-    ))
+    let mut streams = Streams {
+        input: Counted::new(rt.stdin()),
+        output: Counted::new(rt.stdout()),
+        error: rt.stderr(),
+    };
+    Ok(run(rt, &mut Some(Unknown), texts.as_slice(), &mut streams))
 }
 
 fn main(rt: HostRuntime) -> ExitCode {

@@ -1,3 +1,4 @@
-pub mod Folders
-pub mod Stopping
+pub mod Streams
+pub mod Telling
+pub mod Answering
 pub mod Running

@@ -1,80 +1,103 @@
--- What a run of the program on words that name a subcommand on folders or a store does, and how it ends.
-use Rattle.std.specs.Prelude.{◌≡◌, ◌⊎◌, ⊤, ℕ, List, None, Option}
-use Rattle.clap.specs.Words.{Text}
+-- What a run does for each subcommand, what it tells standard error, and how it ends. `was` is what is seen of the three streams before the run and
+-- `now` after it; `OnStore` says what comes of a command on a store, and `alone` that no store was opened.
+use Rattle.std.specs.Prelude.{◌≡◌, ◌⊎◌, ℕ, Bool, true, false, List, Result, Ok, Err, codes, option_map, string_bytes}
+use Rattle.std.specs.Str.{bytes_eq}
 use Rattle.sqlite.specs.Recovery.{Image}
 use Rattle.sqlite_disk.specs.declared.Disk.{Ghosts}
-use Rattle.commands.specs.Failing.{IsToldWhy, message_of}
 use Rattle.commands.specs.declared.ending.Ending.{Ending}
-use Rattle.commands.specs.declared.ending.Ending.TheVariants as endings
-use Rattle.commands.specs.declared.program.Failure.TheVariants as failures
-use Rattle.office_commands.specs.Commands.{AsksOn, InstallsOn, ReplaysOn, ServesOn, StopsOn}
-use Rattle.office_commands.specs.Listening.{TellsPort}
-use Rattle.office_commands.specs.Policies.{ComesOfPolicy}
-use Rattle.office_commands.specs.Texts.{IsFailure}
+use Rattle.command_line.specs.Lines.{Asks}
+use Rattle.command_line.specs.declared.line.Line.{Line}
+use Rattle.command_line.specs.declared.line.Line.TheVariants.{Check, Explain, Pack, Unpack, Policy, Ask, Replay, Serve}
+use Rattle.office_commands.specs.Traffic.{Traffic}
+use Rattle.office_commands.specs.Works.{Comes as ComesOnStore}
+use Rattle.office_commands.specs.declared.done.Done.{Done}
 use Rattle.office_commands.specs.declared.fault.CommandFault.{CommandFault}
-use Rattle.store_words.specs.StoreLine.{Asks}
-use Rattle.store_words.specs.declared.store_line.StoreLine.{StoreLine}
-use Rattle.store_words.specs.declared.store_line.StoreLine.TheVariants.{Pack, Unpack, Policy, Ask, Replay, Serve}
-use Rattle.program.specs.Folders.{Packs, Unpacks}
-use Rattle.program.specs.Stopping.{IsToldOf, Tells}
+use Rattle.office_commands.specs.declared.work.Work.{Work}
+use Rattle.office_commands.specs.declared.work.Work.TheVariants as works
+use Rattle.program.specs.Answering.{Answers, IsExplained, IsJudged, IsPackSaid, IsUnpackSaid}
+use Rattle.program.specs.Streams.{Seen, Stream, traffic}
+use Rattle.program.specs.Telling.{TellsMemory, TellsOf, TellsWhy}
 use Rattle.program.specs.declared.stopped.Stopped.{Stopped}
-use Rattle.program.specs.declared.stopped.Stopped.TheVariants.{Folder, Output, Store}
+use Rattle.program.specs.declared.stopped.Stopped.TheVariants.{Folder, Output, Store, Unread}
 
--- what is done on a store is this, it ends well, and there is no reason to tell
-abbrev pub IsStored : Option (List ℕ) → Ending → Type 0 → Type 0
-IsStored reason ending done = done × (ending ≡ endings.Accepted) × (reason ≡ None)
+-- ---- what is done
 
--- What the line asks for is done: what is read of the input, what is written behind what the output held, what standard error is to be told, and
--- how the program is to end. A store that is a file is opened from files that held this at first.
-abbrev pub IsDone : {D : Type 0} → Ghosts D → Image → StoreLine → Option (List ℕ) → Option (List ℕ) → Option (List ℕ) → Option (List ℕ) → Option (List ℕ) → Ending → Type 0
-IsDone g first (Pack folder file) was_left left held holds reason ending = Packs held holds reason ending
-IsDone g first (Unpack file folder) was_left left held holds reason ending = Unpacks held holds reason ending
-IsDone g first (Policy store policy) was_left left held holds reason ending = ComesOfPolicy (InstallsOn g first store.now) held holds reason ending
-IsDone g first (Ask store day) was_left left held holds reason ending = IsStored reason ending (AsksOn g first store.now day was_left left held holds)
-IsDone g first (Replay policy store) was_left left held holds reason ending = IsStored reason ending (ReplaysOn g first store.now policy was_left left held holds)
-IsDone g first (Serve port count store day) was_left left held holds reason ending = IsStored reason ending (TellsPort held holds × ServesOn g first store.now day count held holds)
+-- what comes of the work on the store of this name, with this traffic before and after
+abbrev pub CommandOn : Type 1
+CommandOn = List ℕ → Work → Result Done CommandFault → Traffic → Traffic → Type 0
 
--- the input is left as it was, where the line asks neither for a request nor for records of requests
-abbrev pub LeavesInput : StoreLine → Option (List ℕ) → Option (List ℕ) → Type 0
-LeavesInput (Pack folder file) was_left left = left ≡ was_left
-LeavesInput (Unpack file folder) was_left left = left ≡ was_left
-LeavesInput (Policy store policy) was_left left = left ≡ was_left
-LeavesInput (Ask store day) was_left left = ⊤
-LeavesInput (Replay policy store) was_left left = ⊤
-LeavesInput (Serve port count store day) was_left left = left ≡ was_left
+-- where its files held this at first
+abbrev pub on_store : {D : Type 0} → Ghosts D → Image → Type 0 → CommandOn
+on_store g first alone = λ store work. ComesOnStore g first store work alone
 
--- a folder, a file, memory or standard output failed
-abbrev pub StopsFolders : Stopped → Type 0
-StopsFolders (Folder failed) = ⊤
-StopsFolders (Output error) = ⊤
-StopsFolders (Store fault) = ⊥
+-- a command on a store ended so
+abbrev pub IsOfStore : (Result Done CommandFault → Type 0) → Result Done Stopped → Type 0
+IsOfStore Comes (Ok done) = Comes (Ok done)
+IsOfStore Comes (Err (Store fault)) = Comes (Err fault)
+IsOfStore Comes (Err (Unread trouble)) = ⊥
+IsOfStore Comes (Err (Folder failed)) = ⊥
+IsOfStore Comes (Err (Output error)) = ⊥
 
--- a command on a store was stopped by a fault of which this is so
-abbrev pub StopsStore : (CommandFault → Type 0) → Stopped → Type 0
-StopsStore IsFault (Folder failed) = ⊥
-StopsStore IsFault (Output error) = ⊥
-StopsStore IsFault (Store fault) = IsFault fault
+abbrev pub DoesOnStore : {R O E : Type 0} → CommandOn → List ℕ → Work → Result Done Stopped → Seen R O E → Seen R O E → Type 0
+DoesOnStore OnStore store work result was now = IsOfStore (λ came. OnStore store work came (traffic was) (traffic now)) result
 
--- What can stop what the line asks for: a replay alone is stopped by a bad record or a policy that is refused, and then what was done and
--- written before it is known.
-abbrev pub CanStop : {D : Type 0} → Ghosts D → Image → StoreLine → Stopped → Option (List ℕ) → Option (List ℕ) → Option (List ℕ) → Option (List ℕ) → Type 0
-CanStop g first (Pack folder file) stopped was_left left held holds = StopsFolders stopped
-CanStop g first (Unpack file folder) stopped was_left left held holds = StopsFolders stopped
-CanStop g first (Policy store policy) stopped was_left left held holds = StopsStore IsFailure stopped
-CanStop g first (Ask store day) stopped was_left left held holds = StopsStore IsFailure stopped
-CanStop g first (Replay policy store) stopped was_left left held holds = StopsStore (λ fault. StopsOn g first store.now policy fault was_left left held holds) stopped
-CanStop g first (Serve port count store day) stopped was_left left held holds = StopsStore IsFailure stopped
+-- What the line asks for is done.
+abbrev pub Does : {R O E : Type 0} → CommandOn → Line → Result Done Stopped → Seen R O E → Seen R O E → Type 0
+Does OnStore (Check file) result was now = Answers (IsJudged file.now was.input now.input) result was.output now.output
+Does OnStore (Explain asked) result was now = Answers (IsExplained asked) result was.output now.output
+Does OnStore (Pack folder file) result was now = Answers IsPackSaid result was.output now.output
+Does OnStore (Unpack file folder) result was now = Answers IsUnpackSaid result was.output now.output
+Does OnStore (Policy store policy) result was now = DoesOnStore OnStore store.now (works.Policy policy) result was now
+Does OnStore (Ask store day) result was now = DoesOnStore OnStore store.now (works.Ask day) result was now
+Does OnStore (Replay policy store) result was now = DoesOnStore OnStore store.now (works.Replay policy) result was now
+Does OnStore (Serve port count store day) result was now = DoesOnStore OnStore store.now (works.Serve day port count) result was now
 
--- What the line asks for is done, and standard error is told why the answer is no, where that is so, and nothing else; or it comes to no end, of what
--- can stop it, and standard error is told why. The input is left as it was, where the line doesn't ask for it.
-abbrev pub Comes : {D : Type 0} → Ghosts D → Image → StoreLine → Option (List ℕ) → Option (List ℕ) → Option (List ℕ) → Option (List ℕ) → Option (List ℕ) → Option (List ℕ) → Type 0 → Ending → Type 0
-Comes g first line was_left left held holds told tells quiet ending =
-    LeavesInput line was_left left
-    × (((reason : Option (List ℕ)) × (end : Ending) × IsDone g first line was_left left held holds reason end × IsToldWhy reason end told tells quiet ending)
-    ⊎ ((stopped : Stopped) × CanStop g first line stopped was_left left held holds × IsToldOf stopped told tells ending))
+-- ---- what is left alone
+
+-- the input is read for a check of `-`, for a request and for records of requests alone
+abbrev pub reads_input : Line → Bool
+reads_input (Check file) = bytes_eq file.now (codes "-")
+reads_input (Explain asked) = false
+reads_input (Pack folder file) = false
+reads_input (Unpack file folder) = false
+reads_input (Policy store policy) = false
+reads_input (Ask store day) = true
+reads_input (Replay policy store) = true
+reads_input (Serve port count store day) = false
+
+abbrev pub is_on_store : Line → Bool
+is_on_store (Check file) = false
+is_on_store (Explain asked) = false
+is_on_store (Pack folder file) = false
+is_on_store (Unpack file folder) = false
+is_on_store (Policy store policy) = true
+is_on_store (Ask store day) = true
+is_on_store (Replay policy store) = true
+is_on_store (Serve port count store day) = true
+
+-- ---- a run
+
+-- standard error is told why the answer is what it is, where there is a reason; or why the run fails
+abbrev pub IsTold : {E : Type 0} → Result Done Stopped → Stream E → Stream E → Ending → Type 0
+IsTold (Ok done) was now ending = TellsWhy (option_map string_bytes done.reason) done.ending was now ending
+IsTold (Err stopped) was now ending = TellsOf stopped was now ending
+
+-- What the line asks for is done with this result, of which standard error is told.
+pub record Comes {R O E : Type 0} (OnStore : CommandOn) (alone : Type 0) (line : Line) (was now : Seen R O E) (ending : Ending) : Type 0 where
+  pub result : Result Done Stopped
+  pub does : Does OnStore line result was now
+  pub told : IsTold result was.error now.error ending
+  pub input : reads_input line ≡ false → now.input ≡ was.input
+  pub store : is_on_store line ≡ false → alone
+
+-- There was no memory to read the words.
+pub record IsUnread {R O E : Type 0} (alone : Type 0) (was now : Seen R O E) (ending : Ending) : Type 0 where
+  pub told : TellsMemory was.error now.error ending
+  pub input : now.input ≡ was.input
+  pub output : now.output ≡ was.output
+  pub store : alone
 
 -- the words ask for a line, and it comes to this; or there was no memory to read them
-abbrev pub ComesOfWords : {D : Type 0} → Ghosts D → Image → List Text → Option (List ℕ) → Option (List ℕ) → Option (List ℕ) → Option (List ℕ) → Option (List ℕ) → Option (List ℕ) → Type 0 → Ending → Type 0
-ComesOfWords g first words was_left left held holds told tells quiet ending =
-    ((line : StoreLine) × Asks words line × Comes g first line was_left left held holds told tells quiet ending)
-    ⊎ Tells (message_of failures.Memory) endings.Failed told tells ending
+abbrev pub ComesOfWords : {R O E : Type 0} → CommandOn → Type 0 → List (List ℕ) → Seen R O E → Seen R O E → Ending → Type 0
+ComesOfWords OnStore alone words was now ending =
+    ((line : Line) × Asks words line × Comes OnStore alone line was now ending) ⊎ IsUnread alone was now ending

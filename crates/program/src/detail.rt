@@ -1,161 +1,151 @@
 //! What was tried, on what and why it failed, for a person who reads standard error.
 
 use crate::stopped::Stopped;
-use bag_folders::{Failed, Trouble};
-use fault_words::Escaped;
+use crate::tried::Tried;
+use bag_folders::Failed;
+use command_line::Line;
+use commands::Trouble;
+use fault_words::{Escaped, OtherFile};
 use office_commands::{Cause, CommandFault, StoreFault};
+use std::io::ErrorKind;
 use std::{fmt, io};
-use store_words::StoreLine;
 
-/// Why a command came to no end.
+/// Why a run fails.
 #[derive(Clone, Copy)]
 pub(crate) enum Detail<'a> {
-    /// A file or a folder failed.
-    Trouble(&'a Trouble),
-    /// The record with this number is none.
+    /// What was tried can't be done, and why, where that is known.
+    Cannot(Tried<'a>, Option<Why>),
+    /// A folder, or a file in it.
+    Folder(&'a bag_folders::Trouble),
+    /// The record with this number is malformed.
     Record(u64),
-    /// This port of 127.0.0.1 can't be had.
-    Port(u16, io::Error),
-    Told(Told<'a>),
+    /// What is so of the file of this name.
+    File(&'a str, &'static str),
+    Text(&'static str),
 }
 
-/// A text round a name, and what the layer below says of it.
+/// Why something can't be done.
 #[derive(Clone, Copy)]
-pub(crate) struct Told<'a> {
-    before: &'static str,
-    name: &'a str,
-    behind: &'static str,
-    why: Option<Why>,
-}
-
-/// What the layer below says.
-#[derive(Clone, Copy)]
-enum Why {
+pub(crate) enum Why {
     Device(io::Error),
+    /// A folder stands where a form is wanted.
+    Folder,
     Store(Cause),
 }
 
+/// The errors of the calls of the two streams that failed last.
+#[derive(Clone, Copy)]
+pub(crate) struct LastErrors {
+    pub input: Option<io::Error>,
+    pub output: Option<io::Error>,
+}
+
+const OUT_OF_MEMORY: Detail<'static> = Detail::Text("out of memory");
+
 /// The names of the store and of the policy, empty where the line has none.
-fn names_in<'a>(line: &StoreLine<'a>) -> (&'a str, &'a str) {
-    match *line {
-        StoreLine::Pack { folder, .. } | StoreLine::Unpack { folder, .. } => (folder, ""),
-        StoreLine::Policy { store, policy } => (store, policy),
-        StoreLine::Replay { policy, store } => (store, policy.unwrap_or("")),
-        StoreLine::Ask { store, .. } | StoreLine::Serve { store, .. } => (store, ""),
+fn names_in<'a>(line: &Line<'a>) -> (&'a str, &'a str) {
+    match line {
+        Line::Policy { store, policy } => (store, policy),
+        Line::Replay { policy, store } => (store, policy.unwrap_or("")),
+        Line::Ask { store, .. } | Line::Serve { store, .. } => (store, ""),
+        _ => ("", ""),
     }
 }
 
 /// The port to listen on, 0 where the line has none.
-fn port_in(line: &StoreLine<'_>) -> u16 {
-    match *line {
-        StoreLine::Serve { port, .. } => port,
+fn port_in(line: &Line<'_>) -> u16 {
+    match line {
+        Line::Serve { port, .. } => *port,
         _ => 0,
     }
 }
 
-/// A text alone.
-fn text(text: &'static str) -> Told<'static> {
-    Told {
-        before: text,
-        name: "",
-        behind: "",
-        why: None,
+/// What was tried can't be done, for this error of a device, where one is known.
+fn cannot(tried: Tried<'_>, error: Option<io::Error>) -> Detail<'_> {
+    match error {
+        Some(error) => Detail::Cannot(tried, Some(Why::Device(error))),
+        None => Detail::Cannot(tried, None),
     }
 }
 
-/// A name, and what is said of it.
-fn said_of<'a>(name: &'a str, behind: &'static str) -> Told<'a> {
-    Told {
-        before: "",
-        name,
-        behind,
-        why: None,
+/// What the line has the program read failed so.
+fn unread_detail<'a>(line: &Line<'a>, error: io::Error) -> Detail<'a> {
+    match line {
+        Line::Check { file: "-" } => cannot(Tried::Input, Some(error)),
+        Line::Check { file } if error.kind() == ErrorKind::IsADirectory => {
+            Detail::Cannot(Tried::Read(file), Some(Why::Folder))
+        }
+        Line::Check { file } => cannot(Tried::Read(file), Some(error)),
+        Line::Explain(asked) => cannot(Tried::Read(asked.policy), Some(error)),
+        _ => Detail::Text("a file can't be read"),
     }
 }
 
-/// What was tried on this, and why it failed.
-fn failed_on<'a>(before: &'static str, name: &'a str, why: Why) -> Told<'a> {
-    Told {
-        before,
-        name,
-        behind: "",
-        why: Some(why),
-    }
-}
-
-fn cause_told<'a>(store: &'a str, policy: &'a str, cause: Cause) -> Told<'a> {
-    let why = Why::Store(cause);
-    match cause {
-        Cause::Policy(_) => failed_on("cannot read ", policy, why),
-        Cause::Search(_) => failed_on("cannot look at ", store, why),
-        Cause::Refused(_) | Cause::Open(_) => failed_on("cannot open ", store, why),
-        Cause::Close(_) => failed_on("cannot close ", store, why),
-        Cause::Listen(_) => failed_on("cannot listen on ", "127.0.0.1", why),
-        Cause::Missing => said_of(store, " is not there"),
-        Cause::Empty => said_of(store, " is an empty file, and no office"),
-        Cause::Input => text("standard input failed"),
-        Cause::Output => text("standard output failed"),
-    }
-}
-
-fn fault_told<'a>(store: &'a str, fault: StoreFault) -> Told<'a> {
-    match fault {
-        StoreFault::NotAnOffice => said_of(store, " is another database, and no office"),
-        StoreFault::OtherVersion => said_of(store, " is an office of another version"),
-        StoreFault::Memory => text("out of memory"),
-        StoreFault::Store => said_of(store, " failed"),
-        StoreFault::Device => text("standard input or output failed"),
-    }
-}
-
-fn command_detail<'a>(line: &StoreLine<'a>, fault: &CommandFault) -> Detail<'a> {
+fn cause_detail<'a>(line: &Line<'a>, cause: Cause, errors: LastErrors) -> Detail<'a> {
     let (store, policy) = names_in(line);
-    match *fault {
-        CommandFault::Policy(_) => Detail::Told(said_of(policy, " is no policy")),
-        CommandFault::BadRecord { index } => Detail::Record(index),
-        CommandFault::Failed {
-            cause: Some(Cause::Listen(error)),
-            ..
-        } => Detail::Port(port_in(line), error),
+    let why = Some(Why::Store(cause));
+    match cause {
+        Cause::Policy(_) => Detail::Cannot(Tried::Read(policy), why),
+        Cause::Search(_) => Detail::Cannot(Tried::Look(store), why),
+        Cause::Refused(_) | Cause::Open(_) => Detail::Cannot(Tried::Open(store), why),
+        Cause::Close(_) => Detail::Cannot(Tried::Close(store), why),
+        Cause::Listen(_) => Detail::Cannot(Tried::Listen(port_in(line)), why),
+        Cause::Missing => Detail::File(store, "is not there"),
+        Cause::Empty => Detail::File(store, "is an empty file, and no office"),
+        Cause::Input => cannot(Tried::Input, errors.input),
+        Cause::Output => cannot(Tried::Output, errors.output),
+        Cause::Taken => Detail::File(store, "was opened before"),
+    }
+}
+
+fn fault_detail<'a>(store: &'a str, fault: StoreFault) -> Detail<'a> {
+    match fault {
+        StoreFault::NotAnOffice => Detail::File(store, "is another database, and no office"),
+        StoreFault::OtherVersion => Detail::File(store, "is an office of another version"),
+        StoreFault::Memory => OUT_OF_MEMORY,
+        StoreFault::Store => Detail::File(store, "failed"),
+        StoreFault::Device => Detail::Text("standard input or output failed"),
+    }
+}
+
+fn command_detail<'a>(line: &Line<'a>, fault: &CommandFault, errors: LastErrors) -> Detail<'a> {
+    let (store, policy) = names_in(line);
+    match fault {
+        CommandFault::Policy(_) => Detail::File(policy, "is no policy"),
+        CommandFault::BadRecord { index } => Detail::Record(*index),
         CommandFault::Failed {
             cause: Some(cause),
             ..
-        } => Detail::Told(cause_told(store, policy, cause)),
-        CommandFault::Failed { fault, cause: None } => Detail::Told(fault_told(store, fault)),
+        } => cause_detail(line, *cause, errors),
+        CommandFault::Failed { fault, cause: None } => fault_detail(store, *fault),
     }
 }
 
-/// Why what the line asks for came to no end.
-pub(crate) fn detail_of<'a>(line: &StoreLine<'a>, stopped: &'a Stopped) -> Detail<'a> {
+/// Why what the line asks for fails.
+pub(crate) fn detail_of<'a>(
+    line: &Line<'a>,
+    stopped: &'a Stopped,
+    errors: LastErrors,
+) -> Detail<'a> {
     match stopped {
-        Stopped::Folder(Failed::Device(trouble)) => Detail::Trouble(trouble),
-        Stopped::Folder(Failed::Memory) => Detail::Told(text("out of memory")),
-        Stopped::Output(error) => Detail::Told(failed_on(
-            "cannot write standard output",
-            "",
-            Why::Device(*error),
-        )),
-        Stopped::Store(fault) => command_detail(line, fault),
+        Stopped::Unread(Trouble::Device(error)) => unread_detail(line, *error),
+        Stopped::Unread(Trouble::Memory) => OUT_OF_MEMORY,
+        Stopped::Folder(Failed::Device(trouble)) => Detail::Folder(trouble),
+        Stopped::Folder(Failed::Memory) => OUT_OF_MEMORY,
+        Stopped::Output(error) => cannot(Tried::Output, Some(*error)),
+        Stopped::Store(fault) => command_detail(line, fault, errors),
     }
 }
 
 impl fmt::Display for Why {
     fn fmt<W: fmt::Write>(&self, f: &mut fmt::Formatter<W>) -> fmt::Result {
         match self {
-            Why::Device(error) => write!(f, ": {error}"),
-            Why::Store(cause) => write!(f, ": {cause}"),
-        }
-    }
-}
-
-impl fmt::Display for Told<'_> {
-    fn fmt<W: fmt::Write>(&self, f: &mut fmt::Formatter<W>) -> fmt::Result {
-        let (before, behind) = (self.before, self.behind);
-        let name = Escaped(self.name);
-        write!(f, "{before}{name}{behind}")?;
-        match &self.why {
-            Some(why) => write!(f, "{why}"),
-            None => Ok(()),
+            Why::Device(error) => write!(f, "{error}"),
+            Why::Folder => {
+                let folder = OtherFile::Folder;
+                write!(f, "{folder}")
+            }
+            Why::Store(cause) => write!(f, "{cause}"),
         }
     }
 }
@@ -163,10 +153,15 @@ impl fmt::Display for Told<'_> {
 impl fmt::Display for Detail<'_> {
     fn fmt<W: fmt::Write>(&self, f: &mut fmt::Formatter<W>) -> fmt::Result {
         match self {
-            Detail::Trouble(trouble) => write!(f, "{trouble}"),
-            Detail::Record(index) => write!(f, "record {index} of the input is none"),
-            Detail::Port(port, error) => { write!(f, "cannot listen on 127.0.0.1:{port}: {error}") }
-            Detail::Told(told) => write!(f, "{told}"),
+            Detail::Cannot(tried, Some(why)) => write!(f, "cannot {tried}: {why}"),
+            Detail::Cannot(tried, None) => write!(f, "cannot {tried}"),
+            Detail::Folder(trouble) => write!(f, "{trouble}"),
+            Detail::Record(index) => write!(f, "record {index} of the input is malformed"),
+            Detail::File(name, text) => {
+                let name = Escaped(name);
+                write!(f, "{name} {text}")
+            }
+            Detail::Text(text) => f.write_str(text),
         }
     }
 }

@@ -1,15 +1,12 @@
-//! `pack` and `unpack`: what they do, and what they print.
+//! `pack` and `unpack`: what is said of them.
 
-ghost use Rattle.std.specs.Prelude.{◌≡◌, IfErr, IfOk, if◌then◌else◌, option_map, string_bytes};
+ghost use Rattle.std.specs.Prelude.{◌≡◌, IfErr, IfOk, if◌then◌else◌};
 ghost use Rattle.commands.specs.declared.ending.Ending.TheVariants.{Accepted, Refused};
-ghost use Rattle.program.specs.Folders.{IsPrinted, Packs, Unpacks};
-ghost use Rattle.program.specs.Running.{StopsFolders};
+ghost use Rattle.program.specs.Answering.{IsOutcomeOf, IsPackSaid, IsUnanswered, IsUnpackSaid};
 
-use crate::done::Done;
 use crate::stopped::Stopped;
 use bag_folders::{Said, pack, pack_said, unpack, unpack_said};
-use commands::{Ending, write_text};
-use std::io::Write;
+use commands::{Ending, Outcome};
 use std::rt::Files;
 
 /// How the program is to end, by whether the work was done.
@@ -23,56 +20,48 @@ fn ending_by(is_done: bool) -> Ending
     }
 }
 
-/// Prints what is said, and says how the program is to end and why.
-fn print<O: Write>(said: Said, out: &mut O) -> Result<Done, Stopped>
-    ensures done { IfOk result (λ done. IsPrinted said (O.contents out.old) (O.contents out.new)
-        (option_map string_bytes done.reason) done.ending) }
-    ensures stopped { IfErr result StopsFolders }
+/// What is to be printed and told of what was said.
+fn outcome_of(said: Said) -> Outcome
+    ensures { IsOutcomeOf said result }
 {
     let Said {
         text,
         reason,
         is_done,
     } = said;
-    match write_text(text.as_str(), out) {
-        Ok(()) => Ok(Done {
-            reason,
-            ending: ending_by(is_done),
-        }),
-        Err(error) => Err(Stopped::Output(error)),
+    Outcome {
+        text,
+        reason,
+        ending: ending_by(is_done),
     }
 }
 
 /// `pack DIR FILE`: the folder's files become a transfer form in the file.
-pub fn pack_folder<F: Files + AllocGlobal, O: Write>(
+pub fn pack_folder<F: Files + AllocGlobal>(
     rt: &F,
     folder: &str,
     file: &str,
-    out: &mut O,
-) -> Result<Done, Stopped>
-    ensures done { IfOk result (λ done. Packs (O.contents out.old) (O.contents out.new)
-        (option_map string_bytes done.reason) done.ending) }
-    ensures stopped { IfErr result StopsFolders }
+) -> Result<Outcome, Stopped>
+    ensures said { IfOk result IsPackSaid }
+    ensures stopped { IfErr result IsUnanswered }
 {
     match pack_said(rt.alloc(), pack(rt, folder, file)) {
-        Ok(said) => print(said, out),
+        Ok(said) => Ok(outcome_of(said)),
         Err(failed) => Err(Stopped::Folder(failed)),
     }
 }
 
 /// `unpack FILE DIR`: the files of the transfer form become a folder.
-pub fn unpack_form<F: Files + AllocGlobal, O: Write>(
+pub fn unpack_form<F: Files + AllocGlobal>(
     rt: &F,
     file: &str,
     folder: &str,
-    out: &mut O,
-) -> Result<Done, Stopped>
-    ensures done { IfOk result (λ done. Unpacks (O.contents out.old) (O.contents out.new)
-        (option_map string_bytes done.reason) done.ending) }
-    ensures stopped { IfErr result StopsFolders }
+) -> Result<Outcome, Stopped>
+    ensures said { IfOk result IsUnpackSaid }
+    ensures stopped { IfErr result IsUnanswered }
 {
     match unpack_said(rt.alloc(), unpack(rt, file, folder)) {
-        Ok(said) => print(said, out),
+        Ok(said) => Ok(outcome_of(said)),
         Err(failed) => Err(Stopped::Folder(failed)),
     }
 }

@@ -1,12 +1,17 @@
-//! The program's whole work, over the runtime, words, a reader and two writers.
+//! The program's whole work, over the runtime, words and the three standard streams.
 #![tactic(auto)]
 
-mod acting;
+mod answering;
 mod detail;
-mod done;
 mod folders;
+mod performing;
 mod reporting;
 mod running;
+mod standard;
 mod stopped;
+mod telling;
+mod tried;
 
 pub use running::run;
+pub use standard::Streams;
+pub use telling::refuse_words;

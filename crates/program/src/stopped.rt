@@ -1,23 +1,34 @@
-//! Why a command on folders or a store doesn't come to its end.
+//! Why a run fails.
 
 ghost use Rattle.std.specs.Prelude.{◌≡◌, IfOk, string_bytes};
-ghost use Rattle.program.specs.Stopping.{ending_told, line_told};
+ghost use Rattle.program.specs.Telling.{ending_told, line_told};
+ghost use Rattle.program.specs.declared.stopped.Stopped.TheVariants.{Unread};
 
 use bag_folders::Failed;
-use commands::{Ending, Failure};
+use commands::{Ending, Failure, Trouble};
 use office_commands::CommandFault;
 use std::alloc::{AllocError, Global};
 use std::io;
 
-/// Why a command on folders or a store doesn't come to its end.
+/// Why a run fails, or is refused as it goes on.
 #[derive(Drop)]
 pub enum Stopped {
-    /// A folder or a file, or memory.
+    /// A form or a policy could not be read, or there was no memory to judge it.
+    Unread(Trouble),
+    /// A folder or a file could not be packed or unpacked.
     Folder(Failed),
     /// Standard output.
     Output(io::Error),
     /// The store, its policy, its records, or what they stand on.
     Store(CommandFault),
+}
+
+impl From<Trouble> for Stopped {
+    ghost from_gives = { λ trouble stopped. stopped ≡ Unread trouble };
+
+    fn from(trouble: Trouble) -> Stopped {
+        Stopped::Unread(trouble)
+    }
 }
 
 impl Stopped {
@@ -26,6 +37,8 @@ impl Stopped {
         ensures { IfOk result (λ text. string_bytes text ≡ line_told self.now) }
     {
         let line = match self {
+            Stopped::Unread(Trouble::Device(_)) => Failure::Device.message(),
+            Stopped::Unread(Trouble::Memory) => Failure::Memory.message(),
             Stopped::Folder(Failed::Device(_)) => Failure::Device.message(),
             Stopped::Folder(Failed::Memory) => Failure::Memory.message(),
             Stopped::Output(error) => Failure::from(*error).message(),
@@ -39,7 +52,7 @@ impl Stopped {
         ensures { result ≡ ending_told self.now }
     {
         match self {
-            Stopped::Folder(_) | Stopped::Output(_) => Ending::Failed,
+            Stopped::Unread(_) | Stopped::Folder(_) | Stopped::Output(_) => Ending::Failed,
             Stopped::Store(fault) => fault.ending(),
         }
     }
