@@ -1,12 +1,12 @@
-//! Runs of the commands, from inputs and to outputs that may fail.
+//! Readers that may fail, and what a row says of an outcome.
 
 use crate::marks::bytes_of;
-use commands::{Ending, run};
+use commands::{Ending, Outcome};
 use std::alloc::{AllocError, Global};
 use std::io;
-use std::io::{Error, ErrorKind, Read, Write};
+use std::io::{Error, ErrorKind, Read};
 
-/// A reader of these bytes, which may fail behind them.
+/// A reader of these bytes, which may fail after them.
 #[derive(Drop)]
 pub struct Given<'a> {
     pub rest: &'a [u8],
@@ -22,68 +22,23 @@ impl<'a> Read for Given<'a> {
     }
 }
 
-/// A writer that fails at once, or takes all bytes and fails as it is flushed.
-#[derive(Drop)]
-pub struct Torn {
-    pub takes: bool,
-}
-
-impl Write for Torn {
-    fn write(&mut self, buf: &[u8]) -> io::Result<usize> {
-        if self.takes {
-            Ok(buf.len())
-        } else {
-            Err(Error::from(ErrorKind::BrokenPipe))
-        }
-    }
-
-    fn flush(&mut self) -> io::Result<()> {
-        if self.takes {
-            Err(Error::from(ErrorKind::BrokenPipe))
-        } else {
-            Ok(())
-        }
+/// What standard error is told of an outcome: nothing where there is no reason.
+pub fn told(outcome: &Outcome) -> &str {
+    match &outcome.reason {
+        Some(reason) => reason.as_str(),
+        None => "",
     }
 }
 
-/// What a run on these words prints on standard output and on standard error, and how it ends.
-pub fn ran(rt: &HostRuntime, words: &[&str], mut input: Given<'_>) -> (Vec<u8>, Vec<u8>, Ending) {
-    let mut out = Vec::new(rt.alloc());
-    let mut err = Vec::new(rt.alloc());
-    let ending = run(rt, words, &mut input, &mut out, &mut err);
-    (out, err, ending)
-}
-
-/// The words between the bars of a text; none of an empty one.
-pub fn words_of(alloc: Global, text: &str) -> Result<Vec<&str>, AllocError> {
-    let mut words = Vec::new(alloc);
-    if !text.is_empty() {
-        for word in text.split('|') {
-            words.push(word)?;
-        }
-    }
-    Ok(words)
-}
-
-/// Whether a run on these words prints what a row says: a line, and what standard error is told. A
-/// row may leave out the latter where a bag is refused, and has none where nothing is told.
-pub fn prints(
-    rt: &HostRuntime,
-    words: &[&str],
-    given: &[u8],
-    row: &str,
-) -> Result<bool, AllocError> {
+/// Whether an outcome is what a row says: a line, and what standard error is told. A row may leave out
+/// the latter where a bag is refused, and has none where nothing is told.
+pub fn is_said(alloc: Global, outcome: &Outcome, row: &str) -> Result<bool, AllocError> {
     let (line, reason) = row.split_once(" => ").unwrap_or((row, ""));
-    let input = Given {
-        rest: given,
-        fails: false,
-    };
-    let (out, err, ending) = ran(rt, words, input);
     let is_refused = line.starts_with("invalid ") || line.starts_with("unreadable ");
     let is_told = if reason.is_empty() && is_refused {
-        !err.is_empty()
+        !told(outcome).is_empty()
     } else {
-        err.as_slice() == bytes_of(rt.alloc(), reason)?.as_slice()
+        told(outcome).as_bytes() == bytes_of(alloc, reason)?.as_slice()
     };
     let is_accepted = line.starts_with("valid ") || line.starts_with("allow ");
     let wanted = if is_accepted {
@@ -91,6 +46,6 @@ pub fn prints(
     } else {
         Ending::Refused
     };
-    let is_line = out.as_slice() == bytes_of(rt.alloc(), line)?.as_slice();
-    Ok(is_line && is_told && ending == wanted)
+    let is_line = outcome.text.as_bytes() == bytes_of(alloc, line)?.as_slice();
+    Ok(is_line && is_told && outcome.ending == wanted)
 }

@@ -120,9 +120,10 @@ fn names_and_sizes_are_those_that_are_found(rt: HostRuntime) -> Result<(), Fail>
     begin(&rt, "found")?;
     lay(&rt, "found/found", BAG_FILES)?;
     let failing = Failing::new(&rt, Fault::Name);
-    let Err(PackFault::Name) = pack_with(&failing, "found/found", "found/found.bagset") else {
+    let Err(PackFault::Name(path)) = pack_with(&failing, "found/found", "found/found.bagset") else {
         return Err(Fail::new("a name that isn't UTF-8"));
     };
+    assert!(rt; path.as_str() == "?");
     let failing = Failing::new(&rt, Fault::Size);
     let Err(PackFault::Device(trouble)) = pack_with(&failing, "found/found", "found/found.bagset")
     else {

@@ -223,7 +223,13 @@ fn follows_no_link(rt: HostRuntime) -> Result<(), Fail> {
     fs::create_dir(&rt, "links/linked/folder")?;
     for target in &TARGETS {
         symlink(&rt, *target, "links/linked/folder/link")?;
-        packs_as(&rt, "links/linked", form, "unpackable NAME\n", " (NAME)")?;
+        packs_as(
+            &rt,
+            "links/linked",
+            form,
+            "unpackable NAME\n",
+            "the entry folder/link of the folder is neither a file nor a folder, such as a link, or has a name that is not UTF-8 (NAME)\n",
+        )?;
         fs::remove_file(&rt, "links/linked/folder/link")?;
     }
     assert!(rt; !fs::exists(&rt, form)?);
@@ -284,5 +290,38 @@ fn tells_what_failed(rt: HostRuntime) -> Result<(), Fail> {
     };
     let text = format!(in rt.alloc(); "{trouble}")?;
     assert!(rt; text.as_str() == "cannot read no.bagset: No such file or directory (os error 2)");
+    begin(&rt, "no-form")?;
+    let Err(UnpackFault::Device(trouble)) = unpack_here(&rt, "no-form", "no folder") else {
+        return Err(Fail::new("a folder for a form"));
+    };
+    let text = format!(in rt.alloc(); "{trouble}")?;
+    assert!(rt;
+        text.as_str()
+            == "cannot read no-form: this is a folder; a bag's transfer form is wanted, which depot pack makes of it"
+    );
+    fs::remove_dir_all(&rt, "no-form")?;
+    Ok(())
+}
+
+/// Files of which none is payload, and whether a folder `data` is made for them.
+static NO_PAYLOAD: [(&str, bool); 3] = [
+    ("bagit.txt=, manifest-sha256.txt=", true),
+    ("manifest-sha256.txt=, x/bagit.txt=", false),
+    ("", false),
+];
+
+#[test]
+fn a_bag_without_a_payload_has_its_folder(rt: HostRuntime) -> Result<(), Fail> {
+    for (files, is_made) in &NO_PAYLOAD {
+        begin(&rt, "no-payload")?;
+        lay(&rt, "no-payload/bag", files)?;
+        let form = "no-payload/form";
+        pack_here(&rt, "no-payload/bag", form)?;
+        unpack_here(&rt, form, "no-payload/copy")?;
+        assert!(rt; fs::exists(&rt, "no-payload/copy/data")? == *is_made);
+        pack_here(&rt, "no-payload/copy", "no-payload/again")?;
+        compare(&rt, "no-payload/again", fs::read(&rt, form)?.as_slice())?;
+        fs::remove_dir_all(&rt, "no-payload")?;
+    }
     Ok(())
 }

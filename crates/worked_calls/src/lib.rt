@@ -7,6 +7,8 @@ mod bags;
 #[cfg(test)]
 mod codes;
 #[cfg(test)]
+mod command_lines;
+#[cfg(test)]
 mod devices;
 #[cfg(test)]
 mod failing;
@@ -19,13 +21,17 @@ mod folders;
 #[cfg(test)]
 mod limits;
 #[cfg(test)]
-mod lines;
-#[cfg(test)]
 mod marks;
 #[cfg(test)]
 mod policies;
 #[cfg(test)]
 mod questions;
+#[cfg(test)]
+mod readers;
+#[cfg(test)]
+mod rows;
+#[cfg(test)]
+mod streams;
 #[cfg(test)]
 mod texts;
 #[cfg(test)]

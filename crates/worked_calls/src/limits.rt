@@ -1,8 +1,8 @@
 //! What is said of a bag that is cut or changed at each of its bytes, and of bags at the limits.
 
-use crate::devices::{Given, Torn, ran};
+use crate::devices::{is_said, told};
 use crate::marks::bytes_of;
-use commands::{Ending, check_outcome, run};
+use commands::{Ending, check_outcome, judge};
 use std::alloc::{AllocError, Global};
 use std::fs;
 use std::test::*;
@@ -119,14 +119,9 @@ fn two_thousand_files_and_one_more(rt: HostRuntime) -> Result<(), Fail> {
         form.extend_from_slice(rest.as_bytes())?;
         assert!(rt; says(&rt, form.as_slice(), line)?, "{line}");
     }
-    let input = Given {
-        rest: form.as_slice(),
-        fails: false,
-    };
-    let (_, err, _) = ran(&rt, ["check", "-"].as_slice(), input);
+    let outcome = check_outcome(rt.alloc(), form.as_slice())?;
     assert!(rt;
-        err.as_slice()
-            == b"the form has more files than the 2,000 that a bag may have (S6)\n".as_slice()
+        told(&outcome) == "the form has more files than the 2,000 that a bag may have (S6)\n"
     );
     let form = empty_files(rt.alloc(), 1998)?;
     let line = "valid 1.0 files 1998 bytes 0 manifests 1\n";
@@ -173,36 +168,13 @@ fn reads_up_to_the_limit(rt: HostRuntime) -> Result<(), Fail> {
         assert!(rt; form.len() == *length);
         fs::write(&rt, "longest.bagset", form.as_slice())?;
         // From a stream, and from a file.
-        for (file, given) in [("-", form.as_slice()), ("longest.bagset", b"".as_slice())] {
-            let input = Given {
-                rest: given,
-                fails: false,
-            };
-            let (out, err, ending) = ran(&rt, ["check", file].as_slice(), input);
-            assert!(rt; out.as_slice() == line.as_bytes(), "{file}: {line}");
-            assert!(rt; err.as_slice() == reason.as_bytes(), "{file}: {line}");
-            assert!(rt; ending == Ending::Refused, "{file}: {line}");
-        }
+        let row = format!(in rt.alloc(); "{line} => {reason}")?;
+        let outcome = judge(rt.alloc(), &mut form.as_slice())?;
+        assert!(rt; is_said(rt.alloc(), &outcome, row.as_str())?, "{line}");
+        let outcome = judge(rt.alloc(), &mut fs::open(&rt, "longest.bagset")?)?;
+        assert!(rt; is_said(rt.alloc(), &outcome, row.as_str())?, "{line}");
         form.extend_from_slice(b"\n")?;
     }
     fs::remove_file(&rt, "longest.bagset")?;
-    // And where it can't be said.
-    let mut err = Vec::new(rt.alloc());
-    let mut input = Given {
-        rest: form.as_slice(),
-        fails: false,
-    };
-    let mut out = Torn { takes: false };
-    let ending = run(
-        &rt,
-        ["check", "-"].as_slice(),
-        &mut input,
-        &mut out,
-        &mut err,
-    );
-    assert!(rt;
-        err.as_slice() == b"device\ndepot: cannot write standard output: broken pipe\n".as_slice()
-    );
-    assert!(rt; ending == Ending::Failed);
     Ok(())
 }

@@ -1,89 +1,111 @@
 //! The calls of `office_core` and `office_rows`: days, limits, names, policies, decisions and verdicts.
 
 use crate::marks::text_of;
+use crate::rows::holds;
 use fault_words::InWords;
 use office_core::{
-    Accession, Action, Ask, Day, Decision, Due, Effect, Facts, Limits, Matter, Name, Policy,
-    Verdict, Years, decide, denial_verdict, due, first_match, read_policy, verdict,
+    Accession, Action, Ask, Day, Decision, Due, Effect, Facts, Limits, Matter, Name, Policy, Text,
+    TextKind, Verdict, Years, decide, denial_verdict, due, first_match, read_policy, verdict,
 };
 use office_rows::{MAX_LIMIT, is_limit};
 use std::alloc::{AllocError, Global};
-use std::fmt::Write;
 use std::test::*;
 
 const RULE: &str =
     "[[rule]]\neffect = \"allow\"\nrole = \"*\"\naction = \"audit\"\ncollection = \"*\"\nclass = \"*\"\n";
 
-/// Days, and the number of each.
-static DAYS: [(&str, i32); 6] = [
-    ("1900-01-01", -25_567),
-    ("1970-01-01", 0),
-    ("2000-02-29", 11_016),
-    ("2024-02-29", 19_782),
-    ("9796-02-29", 2_858_447),
-    ("9799-12-31", 2_859_848),
+/// Texts and numbers, and whether the text is the day of that number. Else neither is a day's.
+static DAYS: [(&str, i32, bool); 17] = [
+    ("1900-01-01", -25_567, true),
+    ("1970-01-01", 0, true),
+    ("2000-02-29", 11_016, true),
+    ("2024-02-29", 19_782, true),
+    ("9796-02-29", 2_858_447, true),
+    ("9799-12-31", 2_859_848, true),
+    ("1899-12-31", -25_568, false),
+    ("9800-01-01", 2_859_849, false),
+    ("1900-02-29", -25_568, false),
+    ("2025-02-29", -25_568, false),
+    ("2025-2-28", -25_568, false),
+    ("2024-02-29 ", -25_568, false),
+    ("2024-13-01", -25_568, false),
+    ("+2024-2-29", -25_568, false),
+    ("20240229", -25_568, false),
+    ("2024-02-30", -25_568, false),
+    ("", -25_568, false),
 ];
 
-/// Texts that are no days.
-static NO_DAYS: [&str; 11] = [
-    "1899-12-31",
-    "9800-01-01",
-    "1900-02-29",
-    "2025-02-29",
-    "2025-2-28",
-    "2024-02-29 ",
-    "2024-13-01",
-    "+2024-2-29",
-    "20240229",
-    "2024-02-30",
-    "",
-];
+/// Whether the text is the day of that number, or neither is a day's.
+fn is_numbered(text: &str, number: i32, is_day: bool) -> bool {
+    let read = Day::read(text);
+    match read {
+        Some(day) => is_day && day.number() == number && Day::new(number) == read,
+        None => !is_day && Day::new(number).is_none(),
+    }
+}
+
+/// A day as it is written once it is read, or no text.
+fn day_again(alloc: Global, text: &str) -> Result<String, AllocError> {
+    match Day::read(text) {
+        Some(day) => day.to_string(alloc),
+        None => Ok(String::new(alloc)),
+    }
+}
 
 #[test]
-fn days(rt: HostRuntime) -> Result<(), Fail> {
-    for (text, number) in &DAYS {
-        let day = Day::read(text).ok_or(*text)?;
-        assert!(rt; day.number() == *number, "{text}");
-        assert!(rt; Day::new(*number) == Some(day), "{text}");
-        assert!(rt; day.to_string(rt.alloc())?.as_str() == *text);
+fn days(rt: HostRuntime) -> Result<(), AllocError> {
+    for (text, number, is_day) in &DAYS {
+        holds(&rt, is_numbered(text, *number, *is_day), text);
+        let again = day_again(rt.alloc(), text)?;
+        holds(&rt, !*is_day || again.as_str() == *text, text);
     }
-    for text in &NO_DAYS {
-        assert!(rt; Day::read(text).is_none(), "{text}");
-    }
-    assert!(rt; Day::new(-25_568).is_none());
-    assert!(rt; Day::new(2_859_849).is_none());
     Ok(())
 }
 
-fn due_of(closing: &str, years: u8) -> Option<(i16, i8, i8)> {
-    match due(Day::read(closing)?, Years::new(years)?) {
-        Due::On(date) => Some((date.year(), date.month(), date.day())),
-        Due::Never => None,
+/// A date: its year, its month and its day.
+type Parts = (i16, i8, i8);
+
+/// From which day a deposit is due, if ever, that was closed on that day and is kept for so many years,
+/// or permanently. None where that is no day, or no class may have those years.
+fn due_of(closing: &str, years: Option<u8>) -> Option<Option<Parts>> {
+    let years = match years {
+        Some(count) => Years::new(count)?,
+        None => Years::permanent(),
+    };
+    match due(Day::read(closing)?, years) {
+        Due::On(date) => Some(Some((date.year(), date.month(), date.day()))),
+        Due::Never => Some(None),
     }
 }
 
-/// The day of closing, the years of the class, and the day from which a deposit is due.
-static DUES: [(&str, u8, (i16, i8, i8)); 4] = [
-    ("2024-02-29", 1, (2025, 2, 28)),
-    ("2024-02-29", 4, (2028, 2, 29)),
-    ("2024-03-01", 1, (2025, 3, 1)),
-    ("9799-12-31", 200, (9999, 12, 31)),
+/// What is told for a day of closing and the years of a class.
+static DUES: [(&str, Option<u8>, Option<Option<Parts>>); 6] = [
+    ("2024-02-29", Some(1), Some(Some((2025, 2, 28)))),
+    ("2024-02-29", Some(4), Some(Some((2028, 2, 29)))),
+    ("2024-03-01", Some(1), Some(Some((2025, 3, 1)))),
+    ("9799-12-31", Some(200), Some(Some((9999, 12, 31)))),
+    ("2024-02-29", None, Some(None)),
+    ("2024-02-29", Some(201), None),
 ];
 
 #[test]
-fn due_days_and_limits(rt: HostRuntime) -> Result<(), Fail> {
+fn due_days(rt: HostRuntime) {
     for (closing, years, date) in &DUES {
-        assert!(rt; due_of(closing, *years) == Some(*date), "{closing}");
+        holds(&rt, due_of(closing, *years) == *date, closing);
     }
-    let day = Day::read("2024-02-29").ok_or("day")?;
-    assert!(rt; due(day, Years::permanent()) == Due::Never);
-    assert!(rt; Years::new(201).is_none());
-    assert!(rt; Limits::new(1, 1_000_000).is_some());
-    assert!(rt; Limits::new(0, 1).is_none());
-    assert!(rt; Limits::new(1, 1_000_001).is_none());
+}
+
+/// Numbers of deposits and of holds, and whether an office may have that many.
+static LIMITS: [(u32, u32, bool); 3] = [(1, 1_000_000, true), (0, 1, false), (1, 1_000_001, false)];
+
+#[test]
+fn limits(rt: HostRuntime) {
+    for (deposits, held, is_so) in &LIMITS {
+        let limits = Limits::new(*deposits, *held);
+        assert!(rt; limits.is_some() == *is_so, "{deposits} {held}");
+    }
     assert!(rt; is_limit(i64::from(MAX_LIMIT)));
     assert!(rt; !is_limit(-1));
-    Ok(())
 }
 
 /// Texts, and whether each is a name, an accession and a matter.
@@ -106,42 +128,115 @@ static TEXTS: [(&str, bool, bool, bool); 11] = [
     ("a\u{007f}", false, false, false),
 ];
 
+/// Whether the text was read, and is the same where it is owned and lent again; or it is no such text.
+fn is_kept<K: TextKind>(
+    alloc: Global,
+    read: Option<Text<'_, K>>,
+    text: &str,
+    is_wanted: bool,
+) -> Result<bool, AllocError> {
+    match read {
+        Some(read) => Ok(is_wanted && read.to_owned(alloc)?.lend().as_str() == text),
+        None => Ok(!is_wanted),
+    }
+}
+
 #[test]
-fn names(rt: HostRuntime) -> Result<(), Fail> {
+fn names(rt: HostRuntime) -> Result<(), AllocError> {
     for (text, is_name, is_accession, is_matter) in &TEXTS {
-        let name = Name::read(text);
-        assert!(rt; name.is_some() == *is_name, "{text}");
-        if let Some(name) = name {
-            assert!(rt; name.to_owned(rt.alloc())?.lend().as_str() == *text);
-        }
-        let accession = Accession::read(text);
-        assert!(rt; accession.is_some() == *is_accession, "{text}");
-        if let Some(accession) = accession {
-            assert!(rt; accession.to_owned(rt.alloc())?.lend().as_str() == *text);
-        }
-        let matter = Matter::read(text);
-        assert!(rt; matter.is_some() == *is_matter, "{text}");
-        if let Some(matter) = matter {
-            assert!(rt; matter.to_owned(rt.alloc())?.lend().as_str() == *text);
-        }
+        let is_kept_name = is_kept(rt.alloc(), Name::read(text), text, *is_name)?;
+        holds(&rt, is_kept_name, text);
+        let is_kept_accession = is_kept(rt.alloc(), Accession::read(text), text, *is_accession)?;
+        holds(&rt, is_kept_accession, text);
+        let is_kept_matter = is_kept(rt.alloc(), Matter::read(text), text, *is_matter)?;
+        holds(&rt, is_kept_matter, text);
     }
     Ok(())
 }
 
-fn decision_of(
-    policy: &Policy,
-    caller: &str,
+/// Who asks for what, and what a policy decides of it.
+struct Case {
+    caller: &'static str,
+    role: &'static str,
     action: Action,
-    collection: &str,
-    class: &str,
-) -> Option<Decision> {
+    collection: Option<&'static str>,
+    class: &'static str,
+    /// The place of the rule that decides, from 0, and what it decides.
+    first: Option<usize>,
+    decision: Option<Decision>,
+}
+
+static CASES: [Case; 5] = [
+    Case {
+        caller: "anna",
+        role: "archivist",
+        action: Action::Dispose,
+        collection: Some("tax"),
+        class: "y1",
+        first: Some(0),
+        decision: Some(Decision {
+            rule: 1,
+            effect: Effect::Deny,
+        }),
+    },
+    Case {
+        caller: "anna",
+        role: "archivist",
+        action: Action::Dispose,
+        collection: Some("maps"),
+        class: "y1",
+        first: Some(1),
+        decision: Some(Decision {
+            rule: 2,
+            effect: Effect::Allow,
+        }),
+    },
+    Case {
+        caller: "anna",
+        role: "archivist",
+        action: Action::Class,
+        collection: None,
+        class: "y1",
+        first: Some(1),
+        decision: Some(Decision {
+            rule: 2,
+            effect: Effect::Allow,
+        }),
+    },
+    Case {
+        caller: "carl",
+        role: "clerk",
+        action: Action::List,
+        collection: Some("maps"),
+        class: "y10",
+        first: Some(2),
+        decision: Some(Decision {
+            rule: 3,
+            effect: Effect::Allow,
+        }),
+    },
+    Case {
+        caller: "eve",
+        role: "stranger",
+        action: Action::List,
+        collection: Some("maps"),
+        class: "y10",
+        first: None,
+        decision: None,
+    },
+];
+
+/// Whether the policy gives that role and decides so.
+fn is_decided(policy: &Policy, case: &Case) -> bool {
     let ask = Ask {
-        role: policy.role_of(caller),
-        action,
-        collection: Some(collection),
-        class: Some(class),
+        role: policy.role_of(case.caller),
+        action: case.action,
+        collection: case.collection,
+        class: Some(case.class),
     };
-    decide(policy.rules(), &ask)
+    ask.role == case.role
+        && first_match(policy.rules(), &ask) == case.first
+        && decide(policy.rules(), &ask) == case.decision
 }
 
 #[test]
@@ -149,107 +244,181 @@ fn decisions(rt: HostRuntime) -> Result<(), Fail> {
     let text = text_of(rt.alloc(), "{policy}")?;
     let policy = read_policy(rt.alloc(), &text)?;
     assert!(rt; policy.callers().len() == 2);
-    assert!(rt; policy.role_of("carl") == "clerk");
-    assert!(rt; policy.role_of("eve") == "stranger");
-    assert!(rt;
-        decision_of(&policy, "anna", Action::Dispose, "tax", "y1")
-            == Some(Decision {
-                rule: 1,
-                effect: Effect::Deny
-            })
-    );
-    assert!(rt;
-        decision_of(&policy, "anna", Action::Dispose, "maps", "y1")
-            == Some(Decision {
-                rule: 2,
-                effect: Effect::Allow
-            })
-    );
-    assert!(rt; decision_of(&policy, "eve", Action::List, "maps", "y10") == None);
-    let define = Ask {
-        role: "archivist",
-        action: Action::Class,
-        collection: None,
-        class: Some("y1"),
-    };
-    assert!(rt; first_match(policy.rules(), &define) == Some(1));
+    for case in &CASES {
+        holds(&rt, is_decided(&policy, case), case.caller);
+    }
     Ok(())
 }
 
-/// The fault of a text as a policy, with its sentence, or nothing.
-fn fault_of(alloc: Global, text: &str) -> Result<String, AllocError> {
+/// The fault of a text as a policy, with its sentence, or how many callers and rules it has.
+fn said_of(alloc: Global, text: &str) -> Result<String, AllocError> {
     match read_policy(alloc, text) {
-        Ok(_) => Ok(String::new(alloc)),
+        Ok(policy) => {
+            let callers = policy.callers().len();
+            let rules = policy.rules().len();
+            format!(in alloc; "{callers} callers, {rules} rules")
+        }
         Err(fault) => {
-            let mut said = fault.to_string(alloc)?;
-            said.push_str(": ")?;
-            said.push_str(&InWords(&fault).to_string(alloc)?)?;
-            Ok(said)
+            let words = InWords(&fault);
+            format!(in alloc; "{fault}: {words}")
         }
     }
 }
 
+/// A policy with so many callers.
+fn callers_text(alloc: Global, callers: u32) -> Result<String, AllocError> {
+    let mut text = String::from_str(alloc, "version = 1\n[callers]\n")?;
+    for number in 0..callers {
+        text.push_str(&format!(in alloc; "c{number} = \"clerk\"\n")?)?;
+    }
+    Ok(text)
+}
+
+/// A policy with so many callers and rules.
+fn policy_text(alloc: Global, callers: u32, rules: usize) -> Result<String, AllocError> {
+    let mut text = callers_text(alloc, callers)?;
+    text.push_str(&RULE.repeat(alloc, rules)?)?;
+    Ok(text)
+}
+
 /// What is said of too many rules or callers.
-static TOO_MANY: &str = "Y6: the policy has more than 200 rules or more than 1,000 callers (Y6)";
+const TOO_MANY: &str = "Y6: the policy has more than 200 rules or more than 1,000 callers (Y6)";
+
+/// Numbers of callers and of rules, and what is said of a policy with so many.
+static NUMBERS: [(u32, usize, &str); 4] = [
+    (0, 200, "0 callers, 200 rules"),
+    (0, 201, TOO_MANY),
+    (1000, 0, "1000 callers, 0 rules"),
+    (1001, 0, TOO_MANY),
+];
 
 #[test]
-fn numbers_of_rules_and_callers(rt: HostRuntime) -> Result<(), Fail> {
-    let mut rules = String::from_str(rt.alloc(), "version = 1\n")?;
-    rules.push_str(&RULE.repeat(rt.alloc(), 200)?)?;
-    assert!(rt; read_policy(rt.alloc(), &rules)?.rules().len() == 200);
-    rules.push_str(RULE)?;
-    assert!(rt; fault_of(rt.alloc(), &rules)?.as_str() == TOO_MANY);
-    let mut callers = String::from_str(rt.alloc(), "version = 1\n[callers]\n")?;
-    for number in 0..1000 {
-        write!(callers, "c{number} = \"clerk\"\n")?;
+fn numbers_of_rules_and_callers(rt: HostRuntime) -> Result<(), AllocError> {
+    for (callers, rules, wanted) in &NUMBERS {
+        let text = policy_text(rt.alloc(), *callers, *rules)?;
+        let said = said_of(rt.alloc(), &text)?;
+        holds(&rt, said.as_str() == *wanted, &said);
     }
-    assert!(rt; read_policy(rt.alloc(), &callers)?.callers().len() == 1000);
-    callers.push_str("one-more = \"clerk\"\n")?;
-    assert!(rt; fault_of(rt.alloc(), &callers)?.as_str() == TOO_MANY);
     Ok(())
 }
 
-#[test]
-fn verdicts(rt: HostRuntime) -> Result<(), Fail> {
-    let date = Day::read("2025-02-28").ok_or("day")?;
-    let before = Day::read("2025-02-27").ok_or("day")?;
-    let ready = Facts {
+/// What is known of a request: the action, whether a rule allows it, the day of the deposit's
+/// destruction, the least hold, and the day from which it is due, if ever. Then the day of the request,
+/// and the verdict, as `Debug` shows it.
+struct Known {
+    action: Action,
+    is_allowed: bool,
+    gone: &'static str,
+    hold: Option<u32>,
+    due: &'static str,
+    day: &'static str,
+    verdict: &'static str,
+}
+
+static KNOWN: [Known; 7] = [
+    Known {
         action: Action::Dispose,
-        decision: Some(Decision {
-            rule: 2,
-            effect: Effect::Allow,
-        }),
-        gone: None,
+        is_allowed: true,
+        gone: "",
         hold: None,
-        due: Due::On(date.date()),
-    };
-    assert!(rt; verdict(&ready, date) == Verdict::Allow);
-    assert!(rt; verdict(&ready, before) == Verdict::NotDue(date.date()));
-    let held = Facts {
+        due: "2025-02-28",
+        day: "2025-02-28",
+        verdict: "Allow",
+    },
+    Known {
+        action: Action::Dispose,
+        is_allowed: true,
+        gone: "",
+        hold: None,
+        due: "2025-02-28",
+        day: "2025-02-27",
+        verdict: "NotDue(2025-02-28)",
+    },
+    Known {
+        action: Action::Dispose,
+        is_allowed: true,
+        gone: "",
         hold: Some(2),
-        ..ready
-    };
-    assert!(rt; verdict(&held, before) == Verdict::Held(2));
-    let gone = Facts {
-        gone: Some(before),
-        ..held
-    };
-    assert!(rt; verdict(&gone, before) == Verdict::Gone(before));
-    let denied = Facts {
-        decision: None,
-        ..gone
-    };
-    assert!(rt; verdict(&denied, before) == Verdict::DeniedByDefault);
-    assert!(rt; denial_verdict(None) == Some(Verdict::DeniedByDefault));
-    let permanent = Facts {
-        due: Due::Never,
-        ..ready
-    };
-    assert!(rt; verdict(&permanent, date) == Verdict::Permanent);
-    let audit = Facts {
+        due: "2025-02-28",
+        day: "2025-02-27",
+        verdict: "Held(2)",
+    },
+    Known {
+        action: Action::Dispose,
+        is_allowed: true,
+        gone: "2025-02-27",
+        hold: Some(2),
+        due: "2025-02-28",
+        day: "2025-02-27",
+        verdict: "Gone(Day { date: 2025-02-27 })",
+    },
+    Known {
+        action: Action::Dispose,
+        is_allowed: false,
+        gone: "2025-02-27",
+        hold: Some(2),
+        due: "2025-02-28",
+        day: "2025-02-27",
+        verdict: "DeniedByDefault",
+    },
+    Known {
+        action: Action::Dispose,
+        is_allowed: true,
+        gone: "",
+        hold: None,
+        due: "",
+        day: "2025-02-28",
+        verdict: "Permanent",
+    },
+    Known {
         action: Action::Audit,
-        ..held
+        is_allowed: true,
+        gone: "",
+        hold: Some(2),
+        due: "2025-02-28",
+        day: "2025-02-27",
+        verdict: "Allow",
+    },
+];
+
+/// The day from which a deposit is due, or never.
+fn due_from(day: &str) -> Due {
+    match Day::read(day) {
+        Some(day) => Due::On(day.date()),
+        None => Due::Never,
+    }
+}
+
+/// The verdict on what is known, where its day is one.
+fn verdict_on(known: &Known) -> Option<Verdict> {
+    let allows = Decision {
+        rule: 2,
+        effect: Effect::Allow,
     };
-    assert!(rt; verdict(&audit, before) == Verdict::Allow);
+    let facts = Facts {
+        action: known.action,
+        decision: if known.is_allowed { Some(allows) } else { None },
+        gone: Day::read(known.gone),
+        hold: known.hold,
+        due: due_from(known.due),
+    };
+    Some(verdict(&facts, Day::read(known.day)?))
+}
+
+/// The verdict in words, or no text.
+fn verdict_words(alloc: Global, known: &Known) -> Result<String, AllocError> {
+    match verdict_on(known) {
+        Some(verdict) => format!(in alloc; "{verdict:?}"),
+        None => Ok(String::new(alloc)),
+    }
+}
+
+#[test]
+fn verdicts(rt: HostRuntime) -> Result<(), AllocError> {
+    for known in &KNOWN {
+        let said = verdict_words(rt.alloc(), known)?;
+        holds(&rt, said.as_str() == known.verdict, known.verdict);
+    }
+    assert!(rt; denial_verdict(None) == Some(Verdict::DeniedByDefault));
     Ok(())
 }

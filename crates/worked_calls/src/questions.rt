@@ -1,8 +1,9 @@
 //! Questions to small policies, and texts that are none, with what `explain` says of each.
 
-use crate::devices::{prints, words_of};
+use crate::devices::is_said;
 use crate::marks::{bytes_of, text_of};
-use std::fs;
+use commands::{Asked, explain_policy};
+use office_core::{Action, Name};
 use std::test::*;
 
 /// A policy; the caller, the action, the collection and the class; the line that is printed; and
@@ -26,18 +27,37 @@ version = 1\nrule = [{effect="deny",role="*",action="*",collection="*",class="*"
 {strangers} => bert|download|-|- => allow rule 2\n
 # The least policy, and texts that are none.
 version = 1\n => anna|list|maps|y1 => deny default\n => the caller anna{stranger}
-version = 1 # {ff}\n => anna|list|maps|y1 => policy Y1\n => the policy is no text in TOML (Y1)\n
-version = \n => anna|list|maps|y1 => policy Y1\n => the policy is no text in TOML (Y1)\n
-version = 1\n[callers]\nanna = "clerk"\n"anna" = "clerk"\n => anna|list|maps|y1 => policy Y1\n => the policy is no text in TOML (Y1)\n
+version = 1 # {ff}\n => anna|list|maps|y1 => policy Y1\n => the policy is no text in TOML (Y1): line 1\n
+version = \n => anna|list|maps|y1 => policy Y1\n => the policy is no text in TOML (Y1): line 1\n
+version = 1\n[callers]\nanna = "clerk"\n"anna" = "clerk"\n => anna|list|maps|y1 => policy Y1\n => the policy is no text in TOML (Y1): line 4\n
 version = 3\n => anna|list|maps|y1 => policy Y2\n => the policy has no version, or one that is not the whole number 1 (Y2)\n
  => anna|list|maps|y1 => policy Y2\n => the policy has no version, or one that is not the whole number 1 (Y2)\n
-version = 1\nnote = 1\nrule = 1\n => anna|list|maps|y1 => policy Y3\n => the policy has a key at the top other than version, callers and rule (Y3)\n
-version = 1\n[callers]\nanna = "Clerk"\n => anna|list|maps|y1 => policy Y4\n => the callers of the policy are no table, or a caller or a role is no name (Y4)\n
-version = 1\ncallers = []\n => anna|list|maps|y1 => policy Y4\n => the callers of the policy are no table, or a caller or a role is no name (Y4)\n
+version = 1\nnote = 1\nrule = 1\n => anna|list|maps|y1 => policy Y3\n => the policy has a key at the top other than version, callers and rule (Y3): the key note\n
+version = 1\n[callers]\nanna = "Clerk"\n => anna|list|maps|y1 => policy Y4\n => the callers of the policy are no table, or a caller or a role is no name (Y4): the caller anna\n
+version = 1\ncallers = []\n => anna|list|maps|y1 => policy Y4\n => the callers of the policy are no table, or a caller or a role is no name (Y4): the key callers\n
 version = 1\nrule = {}\n => anna|list|maps|y1 => policy Y5 0\n => the rules of the policy are no array: each begins with the line [[rule]] (Y5)\n
-version = 1\nrule = [1]\n => anna|list|maps|y1 => policy Y5 1\n => rule 1{no-rule}
-version = 1\n[[rule]]\neffect = "allow"\nrole = "*"\naction = "audit"\ncollection = "*"\nclass = "*"\n[[rule]]\neffect = "permit"\nrole = "*"\naction = "audit"\ncollection = "*"\nclass = "*"\n => anna|list|maps|y1 => policy Y5 2\n => rule 2{no-rule}
+version = 1\nrule = [1]\n => anna|list|maps|y1 => policy Y5 1\n => rule 1{no-rule}\n
+version = 1\n[[rule]]\neffect = "allow"\nrole = "*"\naction = "audit"\ncollection = "*"\nclass = "*"\n[[rule]]\neffect = "permit"\nrole = "*"\naction = "audit"\ncollection = "*"\nclass = "*"\n => anna|list|maps|y1 => policy Y5 2\n => rule 2{no-rule}: the key effect\n
 "#;
+
+/// The name that a word of a row is, or none where the word is `-`.
+fn name_in<'a>(word: &'a str) -> Option<Name<'a>> {
+    if word == "-" { None } else { Name::read(word) }
+}
+
+/// What a row asks: the caller, the action, the collection and the class, with bars between.
+fn question_in<'a>(text: &'a str) -> Option<Asked<'a>> {
+    let (caller, rest) = text.split_once('|')?;
+    let (action, rest) = rest.split_once('|')?;
+    let (collection, class) = rest.split_once('|')?;
+    Some(Asked {
+        policy: "policy.toml",
+        caller,
+        action: Action::read(action)?,
+        collection: name_in(collection),
+        class: name_in(class),
+    })
+}
 
 #[test]
 fn explains_what_was_worked_out(rt: HostRuntime) -> Result<(), Fail> {
@@ -46,16 +66,14 @@ fn explains_what_was_worked_out(rt: HostRuntime) -> Result<(), Fail> {
         if let Some((policy, rest)) = line.split_once(" => ") {
             let (asked, row) = rest.split_once(" => ").ok_or(line)?;
             let policy = bytes_of(rt.alloc(), policy)?;
-            fs::write(&rt, "policy.toml", policy.as_slice())?;
-            let asked = format!(in rt.alloc(); "explain|policy.toml|{asked}")?;
-            let asked = text_of(rt.alloc(), &asked)?;
-            let words = words_of(rt.alloc(), asked.as_str())?;
-            let is_so = prints(&rt, words.as_slice(), b"", row)?;
+            let asked = text_of(rt.alloc(), asked)?;
+            let asked = question_in(asked.as_str()).ok_or(line)?;
+            let outcome = explain_policy(rt.alloc(), &asked, &mut policy.as_slice())?;
+            let is_so = is_said(rt.alloc(), &outcome, row)?;
             assert!(rt; is_so, "{line}");
             rows = rows.saturating_add(1);
         }
     }
     assert!(rt; rows == 24, "{rows} rows");
-    fs::remove_file(&rt, "policy.toml")?;
     Ok(())
 }

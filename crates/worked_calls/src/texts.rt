@@ -1,23 +1,21 @@
 //! The calls of `bag_text`: texts that are read and written, and the faults at each limit.
 
 use crate::marks::text_of;
+use crate::rows::holds;
 use bag_text::{
-    Algorithm, BagPath, BagSet, Checksum, Listing, MAX_CONTENT, MAX_FILES, MAX_PATH, Version,
-    as_text, has_digits_alone, read_bag_info, read_bagset, read_declaration, read_manifest,
-    write_bagset,
+    Algorithm, BagInfo, BagPath, BagSet, Checksum, Listing, MAX_CONTENT, MAX_FILES, MAX_PATH,
+    Manifest, Version, as_text, has_digits_alone, read_bag_info, read_bagset, read_declaration,
+    read_manifest, write_bagset,
 };
 use std::alloc::{AllocError, Global};
 use std::borrow::CowStr;
+use std::process::Abort;
 use std::test::*;
 
 const DECLARATION: &str = "BagIt-Version: 1.0\nTag-File-Character-Encoding: UTF-8\n";
 
-const MANIFEST: &str = "ba7816bf8f01cfea414140de5dae2223b00361a396177a9cb410ff61f20015ad  data/a\n";
-
-static ABC: [u8; 32] = [
-    0xba, 0x78, 0x16, 0xbf, 0x8f, 0x01, 0xcf, 0xea, 0x41, 0x41, 0x40, 0xde, 0x5d, 0xae, 0x22, 0x23,
-    0xb0, 0x03, 0x61, 0xa3, 0x96, 0x17, 0x7a, 0x9c, 0xb4, 0x10, 0xff, 0x61, 0xf2, 0x00, 0x15, 0xad,
-];
+static MANIFEST: &[u8] =
+    b"ba7816bf8f01cfea414140de5dae2223b00361a396177a9cb410ff61f20015ad  data/a\n";
 
 /// The form of a bag of these files, or their fault.
 fn form_of(alloc: Global, files: &[(&str, &[u8])]) -> Result<String, Fail> {
@@ -27,41 +25,76 @@ fn form_of(alloc: Global, files: &[(&str, &[u8])]) -> Result<String, Fail> {
     }
 }
 
+/// A path of bag A, and what its file has, where it has one.
+static CONTENTS: [(&str, Option<&[u8]>); 3] = [
+    (
+        "bagit.txt",
+        Some(b"BagIt-Version: 1.0\nTag-File-Character-Encoding: UTF-8\n"),
+    ),
+    ("data/a", Some(b"abc")),
+    ("data", None),
+];
+
+/// Fails the test, where the bag has other files.
+fn compare_contents(rt: &impl Abort, bag: &BagSet<'_>) {
+    for (path, content) in &CONTENTS {
+        holds(rt, bag.get(path) == *content, path);
+    }
+    holds(rt, bag.files().len() == 3, "files");
+}
+
 #[test]
 fn reads_a_small_bag(rt: HostRuntime) -> Result<(), Fail> {
     let form = text_of(rt.alloc(), r"BAGSET 1\n{bag}")?;
     assert!(rt; form.len() == 210);
     let bag = read_bagset(rt.alloc(), form.as_bytes())?;
-    assert!(rt; bag.files().len() == 3);
-    assert!(rt; bag.get("bagit.txt") == Some(DECLARATION.as_bytes()));
-    assert!(rt; bag.get("data/a") == Some(b"abc".as_slice()));
-    assert!(rt; bag.get("data") == None);
-    assert!(rt; as_text(DECLARATION.as_bytes()) == Some(DECLARATION));
-    assert!(rt; has_digits_alone(b"0199"));
-    assert!(rt; !has_digits_alone(b"1.0"));
+    compare_contents(&rt, &bag);
     // And makes and writes it.
     assert!(rt; form_of(rt.alloc(), bag.files())?.as_str() == form.as_str());
     Ok(())
 }
 
+/// Bytes, and whether they are digits alone.
+static DIGITS: [(&[u8], bool); 2] = [(b"0199", true), (b"1.0", false)];
+
 #[test]
-fn reads_tag_files(rt: HostRuntime) -> Result<(), Fail> {
+fn reads_a_declaration(rt: HostRuntime) {
     assert!(rt; read_declaration(DECLARATION.as_bytes()) == Ok(Version::V1_0));
-    let listed = read_manifest(
-        rt.alloc(),
-        MANIFEST.as_bytes(),
-        Version::V1_0,
-        Algorithm::Sha256,
-    )?;
-    let listing = Listing {
-        checksum: Checksum::Sha256(ABC),
-        line: 1,
-    };
-    assert!(rt; listed.entries.len() == 1);
-    assert!(rt; listed.get("data/a") == Some(listing));
-    assert!(rt; listed.get("data/b") == None);
-    assert!(rt; listed.lists("data/a"));
-    assert!(rt; !listed.lists("data/b"));
+    assert!(rt; as_text(DECLARATION.as_bytes()) == Some(DECLARATION));
+    for (bytes, is_so) in &DIGITS {
+        assert!(rt; has_digits_alone(bytes) == *is_so);
+    }
+}
+
+/// Paths, and where a manifest lists each, if it does.
+static LISTED: [(&str, Option<Listing>); 2] = [
+    (
+        "data/a",
+        Some(Listing {
+            checksum: Checksum::Sha256([
+                0xba, 0x78, 0x16, 0xbf, 0x8f, 0x01, 0xcf, 0xea, 0x41, 0x41, 0x40, 0xde, 0x5d, 0xae,
+                0x22, 0x23, 0xb0, 0x03, 0x61, 0xa3, 0x96, 0x17, 0x7a, 0x9c, 0xb4, 0x10, 0xff, 0x61,
+                0xf2, 0x00, 0x15, 0xad,
+            ]),
+            line: 1,
+        }),
+    ),
+    ("data/b", None),
+];
+
+/// Fails the test, where other paths are listed.
+fn compare_listed(rt: &impl Abort, listed: &Manifest<'_>) {
+    for (path, listing) in &LISTED {
+        holds(rt, listed.get(path) == *listing, path);
+        holds(rt, listed.lists(path) == listing.is_some(), path);
+    }
+    holds(rt, listed.entries.len() == 1, "entries");
+}
+
+#[test]
+fn reads_a_manifest(rt: HostRuntime) -> Result<(), Fail> {
+    let listed = read_manifest(rt.alloc(), MANIFEST, Version::V1_0, Algorithm::Sha256)?;
+    compare_listed(&rt, &listed);
     Ok(())
 }
 
@@ -82,64 +115,119 @@ static LISTS: [(&[(&str, &[u8])], &str); 7] = [
     ),
 ];
 
+/// Whether this is said of these files.
+fn has_form(alloc: Global, files: &[(&str, &[u8])], want: &str) -> Result<bool, Fail> {
+    Ok(form_of(alloc, files)?.as_str() == want)
+}
+
 #[test]
 fn lists_of_files(rt: HostRuntime) -> Result<(), Fail> {
     for (files, want) in &LISTS {
-        assert!(rt; form_of(rt.alloc(), files)?.as_str() == *want, "{want}");
+        holds(&rt, has_form(rt.alloc(), files, want)?, want);
     }
     Ok(())
+}
+
+/// What is said of a file with one byte too many.
+fn said_of_content(alloc: Global) -> Result<String, Fail> {
+    let content = vec![in alloc; 0; MAX_CONTENT + 1]?;
+    form_of(alloc, &[("", content.as_slice())])
+}
+
+/// What is said of a path with one byte too many.
+fn said_of_long_path(alloc: Global) -> Result<String, Fail> {
+    let path = "a".repeat(alloc, MAX_PATH + 1)?;
+    form_of(alloc, &[(path.as_str(), b"")])
 }
 
 #[test]
 fn names_what_is_too_long_in_a_list(rt: HostRuntime) -> Result<(), Fail> {
-    let content = vec![in rt.alloc(); 0; MAX_CONTENT + 1]?;
-    let path = "a".repeat(rt.alloc(), MAX_PATH + 1)?;
-    for (content, want) in [(content.as_slice(), "S2 0"), (b"".as_slice(), "S5 0")] {
-        let said = form_of(rt.alloc(), &[(path.as_str(), content)])?;
-        assert!(rt; said.as_str() == want);
-    }
+    assert!(rt; said_of_content(rt.alloc())?.as_str() == "S2 0");
+    assert!(rt; said_of_long_path(rt.alloc())?.as_str() == "S5 0");
     Ok(())
+}
+
+/// Names of four digits, a line each.
+fn numbers(alloc: Global, count: usize) -> Result<String, AllocError> {
+    let mut names = String::new(alloc);
+    for number in 0..count {
+        names.push_str(&format!(in alloc; "{number:04}\n")?)?;
+    }
+    Ok(names)
+}
+
+/// Empty files with these names.
+fn empty_files(alloc: Global, names: &str) -> Result<Vec<(&str, &[u8])>, AllocError> {
+    let mut files: Vec<(&str, &[u8])> = Vec::new(alloc);
+    for name in names.lines() {
+        files.push((name, b"".as_slice()))?;
+    }
+    Ok(files)
+}
+
+/// The form of a bag of so many empty files, or their fault.
+fn form_of_many(alloc: Global, count: usize) -> Result<String, Fail> {
+    let names = numbers(alloc, count)?;
+    let files = empty_files(alloc, &names)?;
+    form_of(alloc, &files)
 }
 
 #[test]
 fn takes_two_thousand_files(rt: HostRuntime) -> Result<(), Fail> {
-    let mut paths = Vec::new(rt.alloc());
-    for number in 0..2001 {
-        paths.push(format!(in rt.alloc(); "{number:04}")?)?;
-    }
-    let mut files: Vec<(&str, &[u8])> = Vec::new(rt.alloc());
-    for path in paths.iter() {
-        files.push((path.as_str(), b"".as_slice()))?;
-    }
-    assert!(rt; form_of(rt.alloc(), &files)?.as_str() == "S6");
-    files.truncate(MAX_FILES);
-    assert!(rt; BagSet::of(rt.alloc(), &files).is_ok());
+    assert!(rt; form_of_many(rt.alloc(), MAX_FILES + 1)?.as_str() == "S6");
+    assert!(rt; form_of_many(rt.alloc(), MAX_FILES)?.starts_with("BAGSET 1\n"));
     Ok(())
 }
 
 /// A text of three labels with their values.
-const INFO: &str =
-    "Source-Organization \t:  An archive: the old one \r\n\r\nExternal-Description: one\n \t two: 2\n  \t\n\tthree\rPayload-Oxum:3.1";
+static INFO: &[u8] =
+    b"Source-Organization \t:  An archive: the old one \r\n\r\nExternal-Description: one\n \t two: 2\n  \t\n\tthree\rPayload-Oxum:3.1";
+
+/// Each label and value, and whether the value stands in the text as it is.
+static PAIRS: [(&str, &str, bool); 3] = [
+    ("Source-Organization", "An archive: the old one ", true),
+    ("External-Description", "one\ntwo: 2\nthree", false),
+    ("Payload-Oxum", "3.1", true),
+];
+
+/// Whether the label and the value at this place are those of the row.
+fn is_row(info: &BagInfo<'_>, at: usize, row: &(&str, &str, bool)) -> bool {
+    match info.pairs.get(at) {
+        Some((label, value)) => {
+            let is_lent = matches!(value, CowStr::Borrowed(_));
+            *label == row.0 && value.as_str() == row.1 && is_lent == row.2
+        }
+        None => false,
+    }
+}
+
+/// Fails the test, where there are other labels and values.
+fn compare_pairs(rt: &impl Abort, info: &BagInfo<'_>) {
+    for (at, row) in PAIRS.iter().enumerate() {
+        holds(rt, is_row(info, at, row), row.0);
+    }
+    holds(rt, info.pairs.len() == PAIRS.len(), "pairs");
+}
 
 #[test]
 fn labels_and_values(rt: HostRuntime) -> Result<(), Fail> {
-    let info = read_bag_info(rt.alloc(), INFO.as_bytes())?;
-    // Each label and value, and whether the value stands in the text as it is.
-    let wanted = [
-        ("Source-Organization", "An archive: the old one ", true),
-        ("External-Description", "one\ntwo: 2\nthree", false),
-        ("Payload-Oxum", "3.1", true),
-    ];
-    assert!(rt; info.pairs.len() == wanted.len());
-    for (pair, row) in info.pairs.iter().zip(wanted.iter()) {
-        assert!(rt; pair.0 == row.0);
-        assert!(rt; pair.1.as_str() == row.1);
-        assert!(rt; matches!(pair.1, CowStr::Borrowed(_)) == row.2);
+    let info = read_bag_info(rt.alloc(), INFO)?;
+    compare_pairs(&rt, &info);
+    Ok(())
+}
+
+/// The fault of a text as labels with their values, or nothing.
+fn fault_of_info(alloc: Global, text: &[u8]) -> Result<String, AllocError> {
+    match read_bag_info(alloc, text) {
+        Ok(_) => Ok(String::new(alloc)),
+        Err(fault) => fault.to_string(alloc),
     }
-    let Err(fault) = read_bag_info(rt.alloc(), b"A: b\r\n\t\nc\n: d\n") else {
-        return Err(Fail::new("a line without a colon"));
-    };
-    assert!(rt; fault.to_string(rt.alloc())?.as_str() == "I3 3");
+}
+
+#[test]
+fn no_label(rt: HostRuntime) -> Result<(), AllocError> {
+    let fault = fault_of_info(rt.alloc(), b"A: b\r\n\t\nc\n: d\n")?;
+    assert!(rt; fault.as_str() == "I3 3");
     Ok(())
 }
 
@@ -164,33 +252,43 @@ static PATHS: [(&str, &str); 17] = [
     ("a\0b", "P5"),
 ];
 
-/// The fault of a text as a path, or nothing.
-fn fault_of_path(alloc: Global, text: &str) -> Result<String, AllocError> {
+/// The fault of a text as a path, or the path as it was read.
+fn said_of_path(alloc: Global, text: &str) -> Result<String, AllocError> {
     match BagPath::read(text) {
-        Ok(_) => Ok(String::new(alloc)),
+        Ok(path) => String::from_str(alloc, path.as_str()),
         Err(fault) => fault.to_string(alloc),
     }
 }
 
-#[test]
-fn paths(rt: HostRuntime) -> Result<(), Fail> {
-    for (text, want) in &PATHS {
-        assert!(rt;
-            fault_of_path(rt.alloc(), text)?.as_str() == *want,
-            "{text}"
-        );
-    }
-    assert!(rt; BagPath::read("data/a b/..c")?.as_str() == "data/a b/..c");
-    Ok(())
+/// Whether the text has that fault as a path, or is one where none is named.
+fn is_path(alloc: Global, text: &str, fault: &str) -> Result<bool, AllocError> {
+    let wanted = if fault.is_empty() { text } else { fault };
+    Ok(said_of_path(alloc, text)?.as_str() == wanted)
 }
 
 #[test]
-fn paths_have_at_most_1024_bytes(rt: HostRuntime) -> Result<(), Fail> {
-    let mut path = "\u{e9}".repeat(rt.alloc(), 512)?;
-    assert!(rt; fault_of_path(rt.alloc(), &path)?.is_empty());
-    path.push_str("a")?;
-    assert!(rt; fault_of_path(rt.alloc(), &path)?.as_str() == "P2");
-    path.push_str("/../\0")?;
-    assert!(rt; fault_of_path(rt.alloc(), &path)?.as_str() == "P2");
+fn paths(rt: HostRuntime) -> Result<(), AllocError> {
+    for (text, fault) in &PATHS {
+        holds(&rt, is_path(rt.alloc(), text, fault)?, text);
+    }
+    Ok(())
+}
+
+/// What stands after 1,024 bytes of a path, and the fault then.
+static ENDS: [(&str, &str); 3] = [("", ""), ("a", "P2"), ("a/../\0", "P2")];
+
+/// A path of 1,024 bytes, and its end.
+fn long_path(alloc: Global, end: &str) -> Result<String, AllocError> {
+    let mut path = "\u{e9}".repeat(alloc, 512)?;
+    path.push_str(end)?;
+    Ok(path)
+}
+
+#[test]
+fn paths_have_at_most_1024_bytes(rt: HostRuntime) -> Result<(), AllocError> {
+    for (end, fault) in &ENDS {
+        let path = long_path(rt.alloc(), end)?;
+        holds(&rt, is_path(rt.alloc(), &path, fault)?, end);
+    }
     Ok(())
 }

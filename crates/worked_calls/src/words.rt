@@ -1,11 +1,14 @@
 //! The sentences that no run of `check` or `explain` tells, and files that are no form.
 
+use crate::marks::{bytes_of, text_of};
 use bag_check::BagFault;
 use bag_text::{InfoFault, LineFault, SetFault};
 use fault_words::{
-    InWords, OtherFile, folder_words, form_lines, hint_for, odd_entry_words, too_large_words,
+    InWords, OddEntry, OtherFile, folder_words, form_lines, hint_for, policy_reason,
+    too_large_words,
 };
-use office_core::PolicyFault;
+use office_core::{PolicyFault, read_policy};
+use std::alloc::{AllocError, Global};
 use std::test::*;
 
 /// What is said of the files of a folder: of one file at fault its path stands in front.
@@ -15,7 +18,6 @@ is no good path: it is not UTF-8, has more than 1,024 bytes or a NUL, or has a s
 the folder has more files than the 2,000 that a bag may have (S6)
 a path of the folder is data, or names both a file and a folder (S8)
 the files of the folder are no bag
-an entry of the folder is neither a file nor a folder, such as a link, or has a name that is not UTF-8 (NAME)
 the form of the folder is longer than 16,777,216 bytes, the most that is written (SIZE)";
 
 #[test]
@@ -27,7 +29,6 @@ fn folders_in_words(rt: HostRuntime) {
         folder_words(SetFault::TooManyFiles),
         folder_words(SetFault::PathClash),
         folder_words(SetFault::Truncated),
-        odd_entry_words(),
         too_large_words(),
     ];
     let mut lines = 0usize;
@@ -35,7 +36,7 @@ fn folders_in_words(rt: HostRuntime) {
         assert!(rt; line == *said, "{said}");
         lines = lines.saturating_add(1);
     }
-    assert!(rt; lines == 8);
+    assert!(rt; lines == 7);
 }
 
 #[test]
@@ -103,6 +104,68 @@ fn files_by_their_beginnings(rt: HostRuntime) -> Result<(), Fail> {
     assert!(rt;
         folder.as_str()
             == "this is a folder; a bag's transfer form is wanted, which depot pack makes of it"
+    );
+    Ok(())
+}
+
+/// Policies that are refused, and what standard error is told of each, with marks: the line, the key
+/// and the caller are worked out by hand.
+static REFUSED_POLICIES: &str = r#"
+version = 1\n# {ff}\n => the policy is no text in TOML (Y1): line 2\n
+version = 1\n[callers]\nanna = "clerk\ncarl = "clerk"\n => the policy is no text in TOML (Y1): line 3\n
+version = 1\n\n[callers]\nanna = "clerk"\nanna = "clerk"\ncarl = "clerk"\n => the policy is no text in TOML (Y1): line 5\n
+version = 1\nrule = [\n]\n\n[callers\n => the policy is no text in TOML (Y1): line 5\n
+version = 1\nrule = [\n1,\n2,\n3,\n => the policy is no text in TOML (Y1): line 2\n
+= => the policy is no text in TOML (Y1): line 1\n
+version = 2\n => the policy has no version, or one that is not the whole number 1 (Y2)\n
+version = 1\n"to do" = 1\nzone = 1\n => the policy has a key at the top other than version, callers and rule (Y3): the key to%20do\n
+version = 1\n[callers]\ncarl = "clerk"\nAnna = "clerk"\n => the callers of the policy are no table, or a caller or a role is no name (Y4): the caller Anna\n
+version = 1\n[callers]\nanna = "clerk"\ncarl = 1\neve = 2\n => the callers of the policy are no table, or a caller or a role is no name (Y4): the caller carl\n
+version = 1\ncallers = []\n => the callers of the policy are no table, or a caller or a role is no name (Y4): the key callers\n
+version = 1\nrule = 1\n => the rules of the policy are no array: each begins with the line [[rule]] (Y5)\n
+version = 1\nrule = [1]\n => rule 1{no-rule}\n
+version = 1\nrule = [{effect="allow",role="*",action="list",collection="*",class="*",note="x",at=1}]\n => rule 1{no-rule}: the key at\n
+version = 1\nrule = [{effect="allow",role="*",action="list",collection="*",class="*"},{effect="allow",role="*",action="lists",collection="*",class=1}]\n => rule 2{no-rule}: the key action\n
+version = 1\nrule = [{effect="allow",role="*",action="list",collection="*"}]\n => rule 1{no-rule}: the key class\n
+"#;
+
+/// What is told of the bytes of a policy's file: nothing where they are one.
+fn reason_of(alloc: Global, bytes: &[u8]) -> Result<String, AllocError> {
+    let fault = match str::from_utf8(bytes) {
+        Ok(text) => match read_policy(alloc, text) {
+            Ok(_) => return Ok(String::new(alloc)),
+            Err(fault) => fault,
+        },
+        Err(_) => PolicyFault::NotToml,
+    };
+    policy_reason(alloc, bytes, fault)
+}
+
+#[test]
+fn places_in_policies(rt: HostRuntime) -> Result<(), Fail> {
+    let alloc = rt.alloc();
+    let mut rows = 0usize;
+    for line in REFUSED_POLICIES.lines() {
+        if let Some((policy, reason)) = line.split_once(" => ") {
+            let policy = bytes_of(alloc, policy)?;
+            let said = reason_of(alloc, policy.as_slice())?;
+            assert!(rt; said.as_str() == text_of(alloc, reason)?.as_str(), "{line}");
+            rows = rows.saturating_add(1);
+        }
+    }
+    assert!(rt; rows == 16, "{rows} rows");
+    // A fault that the bytes don't have has no place.
+    let said = policy_reason(alloc, b"version = 1\n", PolicyFault::NotToml)?;
+    assert!(rt; said.as_str() == "the policy is no text in TOML (Y1)\n");
+    Ok(())
+}
+
+#[test]
+fn an_odd_entry_by_its_path(rt: HostRuntime) -> Result<(), Fail> {
+    let said = OddEntry("a b/link").to_string(rt.alloc())?;
+    assert!(rt;
+        said.as_str()
+            == "the entry a%20b/link of the folder is neither a file nor a folder, such as a link, or has a name that is not UTF-8 (NAME)"
     );
     Ok(())
 }

@@ -22,7 +22,7 @@ static FILES: [(&str, &str); 10] = [
     ("t/policy", "version = 1\n"),
 ];
 
-static RUNS: [&str; 21] = [
+static RUNS: [&str; 22] = [
     // A folder becomes a form, and a folder again.
     "pack,t/bag,t/bag.bagset||Accepted|packed 3 files 210 bytes\n|",
     "check,t/bag.bagset||Accepted|valid 1.0 files 1 bytes 3 manifests 1\n|",
@@ -31,7 +31,7 @@ static RUNS: [&str; 21] = [
     "unpack,t/bag.bagset,t/copy||Refused|exists\n|",
     // Refusals in words.
     "unpack,t/bag/data/a,t/none||Refused|unreadable S1\n|~S1~",
-    "pack,t/linked,t/form||Refused|unpackable NAME\n|an entry of the folder is neither a file nor a folder, such as a link, or has a name that is not UTF-8 (NAME)\n",
+    "pack,t/linked,t/form||Refused|unpackable NAME\n|the entry b of the folder is neither a file nor a folder, such as a link, or has a name that is not UTF-8 (NAME)\n",
     "pack,t/large,t/form||Refused|unpackable S2 1\n|a%20b has more than 16,777,216 bytes, the most that a file of a bag may have (S2)\n",
     "pack,t/clash,t/form||Refused|unpackable S8\n|a path of the folder is data, or names both a file and a folder (S8)\n",
     "pack,t/whole,t/form||Refused|unpackable SIZE\n|the form of the folder is longer than 16,777,216 bytes, the most that is written (SIZE)\n",
@@ -40,11 +40,12 @@ static RUNS: [&str; 21] = [
     "check,t/zip||Refused|unreadable S1\n|~zip~",
     "check,-|BAGSET 1\nEND\n|Refused|invalid B1\n|the bag has no bagit.txt (B1)\n",
     "explain,t/policy,eve,list,-,-||Refused|deny default\n|the caller eve is not in the policy, and has the role stranger\n",
-    "explain,t/zip,eve,list,-,-||Refused|policy Y1\n|the policy is no text in TOML (Y1)\n",
+    "explain,t/zip,eve,list,-,-||Refused|policy Y1\n|the policy is no text in TOML (Y1): line 1\n",
     // What can't be read.
     "pack,t/no such folder,t/form||Failed||device\ndepot: cannot list t/no%20such%20folder~none~",
     "check,t/none||Failed||~unread~t/none~none~",
     "check,t||Failed||~unread~t: this is a folder; a bag's transfer form is wanted, which depot pack makes of it\n",
+    "unpack,t,t/copy||Failed||~unread~t: this is a folder; a bag's transfer form is wanted, which depot pack makes of it\n",
     "explain,t/a policy,eve,list,-,-||Failed||~unread~t/a%20policy~none~",
     "explain,t,eve,list,-,-||Failed||~unread~t: Is a directory (os error 21)\n",
 ];

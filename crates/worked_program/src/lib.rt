@@ -2,11 +2,23 @@
 #![tactic(auto)]
 
 #[cfg(test)]
+mod bags;
+#[cfg(test)]
+mod codes;
+#[cfg(test)]
+mod failures;
+#[cfg(test)]
 mod folders;
+#[cfg(test)]
+mod marks;
 #[cfg(test)]
 mod offices;
 #[cfg(test)]
 mod output;
+#[cfg(test)]
+mod questions;
+#[cfg(test)]
+mod rows;
 #[cfg(test)]
 mod runs;
 #[cfg(test)]

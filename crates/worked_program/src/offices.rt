@@ -1,23 +1,36 @@
 //! An office in a file from its first day on, and offices in memory.
 
-use crate::runs::{begin, run_all, run_one};
+use crate::output::Taking;
+use crate::runs::{Given, begin, run_all, run_one, run_with};
 use std::fs;
 use std::net::{Ipv4Addr, TcpListener};
 use std::test::Fail;
 
-/// A policy, and a text that is none.
-static FILES: [(&str, &str); 2] = [
+/// A policy, and texts that are none.
+static FILES: [(&str, &str); 4] = [
     ("o/policy.toml", "~policy~"),
     ("o/other.toml", "version = 3\n"),
+    ("o/torn.toml", "version = 1\n\n[callers\n"),
+    (
+        "o/caller.toml",
+        "version = 1\n\n[callers]\nanna = \"clerk\"\nEve = \"clerk\"\n",
+    ),
 ];
 
 /// Runs that make no office.
-static NOTHING_MADE: [&str; 10] = [
+static NOTHING_MADE: [&str; 16] = [
     "ask,o/office.db,2024-03-02|~maps~|Failed||~no office~o/office.db is not there\n",
     "replay,o/office.db|~records~|Failed||~no office~o/office.db is not there\n",
     "serve,--port,0,--count,1,o/office.db,2024-03-02||Failed||~no office~o/office.db is not there\n",
     "policy,o/office.db,o/other.toml||Refused|policy Y2\n|~Y2~",
     "replay,--policy,o/other.toml,o/office.db|~records~|Refused||policy Y2\n~Y2~depot: o/other.toml is no policy\n",
+    // The line and the caller of a policy that is refused are named.
+    "policy,o/office.db,o/torn.toml||Refused|policy Y1\n|~Y1~: line 3\n",
+    "replay,--policy,o/torn.toml,o/office.db|~records~|Refused||policy Y1\n~Y1~: line 3\ndepot: o/torn.toml is no policy\n",
+    "explain,o/torn.toml,anna,list,-,-||Refused|policy Y1\n|~Y1~: line 3\n",
+    "policy,o/office.db,o/caller.toml||Refused|policy Y4\n|~Y4~: the caller Eve\n",
+    "replay,--policy,o/caller.toml,o/office.db|~records~|Refused||policy Y4\n~Y4~: the caller Eve\ndepot: o/caller.toml is no policy\n",
+    "explain,o/caller.toml,anna,list,-,-||Refused|policy Y4\n|~Y4~: the caller Eve\n",
     "policy,o/office.db,o/none.toml||Failed||~unread~o/none.toml~none~",
     "replay,--policy,o/none.toml,o/office.db|~records~|Failed||~unread~o/none.toml~none~",
     "policy,o/none/office.db,o/policy.toml||Failed||~unopened~o/none/office.db~none~",
@@ -31,7 +44,7 @@ static MADE: [&str; 7] = [
     "replay,o/office.db|~records~|Accepted|~answers~|",
     "ask,o/office.db,2024-03-02|~maps~|Accepted|~maps made~|",
     // What comes before a record that is none is answered.
-    "replay,o/office.db|~torn records~|Refused|~one answer~|record 2\ndepot: record 2 of the input is none\n",
+    "replay,o/office.db|~torn records~|Refused|~one answer~|record 2\ndepot: record 2 of the input is malformed\n",
     // A policy that is refused leaves the one that stands.
     "policy,o/office.db,o/other.toml||Refused|policy Y2\n|~Y2~",
     "replay,--policy,o/other.toml,o/office.db|~records~|Refused||policy Y2\n~Y2~depot: o/other.toml is no policy\n",
@@ -40,11 +53,11 @@ static MADE: [&str; 7] = [
 
 /// A request whose last byte does not come, as the input fails.
 static INPUT_FAILS: &str =
-    "ask,o/office.db,2024-03-01|~maps~|Failed||device\ndepot: standard input failed\n";
+    "ask,o/office.db,2024-03-01|~maps~|Failed||device\ndepot: cannot read standard input: broken pipe\n";
 
 /// Records, where standard output takes nothing.
 static OUTPUT_FAILS: &str =
-    "replay,--policy,o/policy.toml,o/office.db|~days~|Failed||device\ndepot: standard output failed\n";
+    "replay,--policy,o/policy.toml,o/office.db|~days~|Failed||device\ndepot: cannot write standard output: write zero\n";
 
 /// The office goes on, others are made, and one is served.
 static GOES_ON: [&str; 15] = [
@@ -53,14 +66,14 @@ static GOES_ON: [&str; 15] = [
     // may be destroyed.
     "replay,o/office.db|~due~|Accepted|ANS 125\n~ok~35~close~{\"day\":\"2024-03-05\",\"deposits\":[1]}\n|",
     "policy,o/office.db,o/policy.toml||Accepted|~installed~|",
-    // An office that a replay makes, behind its policy.
+    // An office that a replay makes, after its policy.
     "replay,--policy,o/policy.toml,o/replayed.db|~records~|Accepted|~answers~|",
     "ask,o/replayed.db,2024-03-02|~maps~|Accepted|~maps made~|",
     // A new office in memory each time.
     "ask,:memory:,2024-03-01|~maps~|Accepted|~denied~|",
     "policy,:memory:,o/policy.toml||Accepted|~installed~|",
     "replay,:memory:|~one record~\n|Accepted|~one answer~|",
-    "replay,:memory:|~torn records~|Refused|~one answer~|record 2\ndepot: record 2 of the input is none\n",
+    "replay,:memory:|~torn records~|Refused|~one answer~|record 2\ndepot: record 2 of the input is malformed\n",
     "replay,--policy,o/policy.toml,:memory:|~records~|Accepted|~answers~|",
     "replay,--policy=o/other.toml,--,:memory:|~records~|Refused||policy Y2\n~Y2~depot: o/other.toml is no policy\n",
     "serve,--port,0,--count,1,:memory:,2024-03-01|~maps~|Accepted|~denied~#|",
@@ -70,7 +83,7 @@ static GOES_ON: [&str; 15] = [
     "ask,o/served.db,2024-03-02|GET /deposits/1/bag~anna~|Accepted|HTTP/1.1 200 OK\r\nContent-Type: application/octet-stream\r\nContent-Length: 210~close~~bag~|",
 ];
 
-/// A request whose bytes are all there, where the input fails behind them.
+/// A request whose bytes are all there, where the input fails after them.
 static INPUT_ENDS: &str = "ask,o/replayed.db,2024-03-01|~asks~|Accepted|~no such~|";
 
 /// Serves on a port that another listener has.
@@ -80,7 +93,7 @@ fn run_at_taken_port(rt: &HostRuntime) -> Result<(), Fail> {
     let text = format!(in rt.alloc();
         "serve,--port,{port},--count,1,o/served.db,2024-03-01||Failed||device\ndepot: cannot listen on 127.0.0.1:{port}: Address already in use (os error 98)\n"
     )?;
-    run_one(rt, text.as_str(), u64::MAX, usize::MAX)
+    run_one(rt, text.as_str())
 }
 
 #[test]
@@ -90,10 +103,15 @@ fn offices_in_files_and_in_memory(rt: HostRuntime) -> Result<(), Fail> {
     assert!(rt; !fs::exists(&rt, "o/office.db")?);
     assert!(rt; !fs::exists(&rt, "o/none")?);
     run_all(&rt, &MADE)?;
-    run_one(&rt, INPUT_FAILS, 53, usize::MAX)?;
-    run_one(&rt, OUTPUT_FAILS, u64::MAX, 0)?;
+    let given = Given::new(b"");
+    run_with(&rt, INPUT_FAILS, &Given { gives: 53, ..given })?;
+    let mute = Given {
+        output: Taking::Nothing,
+        ..given
+    };
+    run_with(&rt, OUTPUT_FAILS, &mute)?;
     run_all(&rt, &GOES_ON)?;
-    run_one(&rt, INPUT_ENDS, 52, usize::MAX)?;
+    run_with(&rt, INPUT_ENDS, &Given { gives: 52, ..given })?;
     run_at_taken_port(&rt)?;
     fs::remove_dir_all(&rt, "o")?;
     Ok(())

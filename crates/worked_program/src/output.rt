@@ -1,9 +1,62 @@
-//! What the program prints, and the peers that connect once it listens.
+//! What the program prints and tells, and the peers that connect once it listens.
+
+ghost use Rattle.std.specs.Io.{WritesAtMost};
 
 use std::io;
-use std::io::{Read, Write};
+use std::io::{Error, ErrorKind, Read, Write};
 use std::net::{Ipv4Addr, Shutdown, TcpStream};
 use std::time::Duration;
+
+/// What becomes of the bytes that a stream is to take.
+#[derive(Clone, Copy, Debug, PartialEq, Eq)]
+pub enum Taking {
+    /// It takes them.
+    All,
+    /// It takes none of a call.
+    Nothing,
+    /// A call that writes fails.
+    Fails,
+    /// It takes them, and fails as it is flushed.
+    Unflushed,
+}
+
+impl Taking {
+    /// Adds to what was said what is taken of these bytes.
+    fn write(self, said: &mut Vec<u8>, buf: &[u8]) -> io::Result<usize>
+        ensures { WritesAtMost result buf.now }
+    {
+        match self {
+            Taking::All | Taking::Unflushed => said.write(buf),
+            Taking::Nothing => Ok(0),
+            Taking::Fails => Err(Error::from(ErrorKind::BrokenPipe)),
+        }
+    }
+
+    fn flush(self) -> io::Result<()> {
+        match self {
+            Taking::Unflushed => Err(Error::from(ErrorKind::BrokenPipe)),
+            _ => Ok(()),
+        }
+    }
+}
+
+/// Standard error of a run.
+#[derive(Drop)]
+pub struct Told {
+    /// What it is told.
+    pub said: Vec<u8>,
+    pub taking: Taking,
+}
+
+impl Write for Told {
+    fn write(&mut self, buf: &[u8]) -> io::Result<usize> {
+        self.taking.write(&mut self.said, buf)
+    }
+
+    fn flush(&mut self) -> io::Result<()> {
+        self.taking.flush()
+    }
+}
 
 /// Standard output of a run. Once it holds the line that says where the program listens, and is
 /// flushed, that line is taken out, and peers connect, each of which sends its request.
@@ -12,8 +65,7 @@ pub struct Output<'a> {
     pub rt: &'a HostRuntime,
     /// What is printed.
     pub said: Vec<u8>,
-    /// How many bytes of a call it takes.
-    pub takes: usize,
+    pub taking: Taking,
     /// What the peers send, with `#` between them.
     pub peers: &'a str,
     /// Their ends of the connections.
@@ -40,7 +92,7 @@ impl Output<'_> {
         Ok(())
     }
 
-    /// Adds to what is printed what each peer got, and `#` behind it.
+    /// Adds to what is printed what each peer got, and `#` after it.
     pub fn hear(&mut self) -> io::Result<()> {
         for stream in self.streams.iter_mut() {
             stream.read_to_end(&mut self.said)?;
@@ -52,10 +104,11 @@ impl Output<'_> {
 
 impl Write for Output<'_> {
     fn write(&mut self, buf: &[u8]) -> io::Result<usize> {
-        self.said.write(&buf[..buf.len().min(self.takes)])
+        self.taking.write(&mut self.said, buf)
     }
 
     fn flush(&mut self) -> io::Result<()> {
+        self.taking.flush()?;
         let Some(port) = self.port() else {
             return Ok(());
         };

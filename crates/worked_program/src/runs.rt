@@ -1,49 +1,112 @@
 //! A run of the program, and what it is to come to.
 
-use crate::output::Output;
+use crate::output::{Output, Taking, Told};
 use crate::texts::meant;
+use commands::Ending;
 use desk_devices::{Counted, FailAt, Portion};
-use program::run;
+use program::{Streams, run};
 use sqlite::Unknown;
+use std::alloc::Global;
 use std::fs;
 use std::test::Fail;
 
-/// Runs the program on these words, and says how it ends, what is printed and what standard error is
-/// told, with `|` between these. The input gives so many bytes, one a call, before it fails, and
-/// standard output takes so many of a call.
-fn came_of(
-    rt: &HostRuntime,
-    words: &[&str],
-    input: &str,
-    gives: u64,
-    takes: usize,
-) -> Result<String, Fail> {
-    let alloc = rt.alloc();
-    let mut given = Counted::new(FailAt::new(input.as_bytes(), Portion::OneByte, gives));
-    let mut out = Counted::new(Output {
-        rt,
-        said: Vec::new(alloc),
-        takes,
-        peers: input,
-        streams: Vec::new(alloc),
-    });
-    let mut told = Vec::new(alloc);
-    let ending = run(rt, Unknown, words, &mut given, &mut out, &mut told);
-    out.device.hear()?;
-    let said = String::from_utf8_lossy(alloc, &out.device.said)?;
-    let told = String::from_utf8_lossy(alloc, &told)?;
-    Ok(format!(in alloc; "{ending:?}|{said}|{told}")?)
+/// What a run is given beside its words.
+#[derive(Clone, Copy)]
+pub struct Given<'a> {
+    pub input: &'a [u8],
+    /// How many bytes the input gives, one a call, before it fails.
+    pub gives: u64,
+    /// What the peers send, with `#` between them.
+    pub peers: &'a str,
+    pub output: Taking,
+    pub error: Taking,
 }
 
-/// Runs the program once, and fails where it comes to something else. The text of a run says its words,
-/// each with `,` behind it or none behind the last, its input, how it ends, what is printed and what
-/// standard error is told, with `|` between these. Where it ends at `..`, more may follow.
-pub fn run_one(rt: &HostRuntime, text: &str, gives: u64, takes: usize) -> Result<(), Fail> {
+impl<'a> Given<'a> {
+    /// An input of these bytes, and streams of which nothing fails.
+    pub fn new(input: &'a [u8]) -> Given<'a> {
+        Given {
+            input,
+            gives: u64::MAX,
+            peers: "",
+            output: Taking::All,
+            error: Taking::All,
+        }
+    }
+
+    /// The input. A long one gives all its bytes at a call.
+    fn input(&self) -> FailAt<&'a [u8]> {
+        let portion = if self.input.len() > 65_536 {
+            Portion::All
+        } else {
+            Portion::OneByte
+        };
+        FailAt::new(self.input, portion, self.gives)
+    }
+}
+
+/// What a run comes to.
+#[derive(Drop)]
+pub struct Came {
+    /// What is printed, and what each peer got, with `#` after it.
+    pub said: Vec<u8>,
+    /// What standard error is told.
+    pub told: Vec<u8>,
+    pub ending: Ending,
+}
+
+impl Came {
+    /// How it ends, what is printed and what standard error is told, with `|` between these.
+    fn text(&self, alloc: Global) -> Result<String, Fail> {
+        let ending = self.ending;
+        let said = String::from_utf8_lossy(alloc, &self.said)?;
+        let told = String::from_utf8_lossy(alloc, &self.told)?;
+        Ok(format!(in alloc; "{ending:?}|{said}|{told}")?)
+    }
+}
+
+/// Runs the program on these words.
+pub fn came_of(rt: &HostRuntime, words: &[&str], given: &Given<'_>) -> Result<Came, Fail> {
+    let alloc = rt.alloc();
+    let mut streams = Streams {
+        input: Counted::new(given.input()),
+        output: Counted::new(Output {
+            rt,
+            said: Vec::new(alloc),
+            taking: given.output,
+            peers: given.peers,
+            streams: Vec::new(alloc),
+        }),
+        error: Told {
+            said: Vec::new(alloc),
+            taking: given.error,
+        },
+    };
+    let ending = run(rt, &mut Some(Unknown), words, &mut streams);
+    let mut output = streams.output.into_device();
+    output.hear()?;
+    Ok(Came {
+        said: output.said,
+        told: streams.error.said,
+        ending,
+    })
+}
+
+/// Runs the program once, with this beside the input and the peers, which are the same text, and fails
+/// where it comes to something else. The text of a run says its words, each with `,` after it or none
+/// after the last, its input, how it ends, what is printed and what standard error is told, with `|`
+/// between these. Where it ends at `..`, more may follow.
+pub fn run_with(rt: &HostRuntime, text: &str, given: &Given<'_>) -> Result<(), Fail> {
     let text = meant(rt.alloc(), text)?;
     let (words, rest) = text.split_once('|').ok_or("no words")?;
     let (input, expected) = rest.split_once('|').ok_or("no input")?;
     let words: Vec<&str> = words.split_terminator(',').collect(rt.alloc())?;
-    let came = came_of(rt, words.as_slice(), input, gives, takes)?;
+    let given = Given {
+        input: input.as_bytes(),
+        peers: input,
+        ..*given
+    };
+    let came = came_of(rt, words.as_slice(), &given)?.text(rt.alloc())?;
     let is_as = match expected.strip_suffix("..") {
         Some(beginning) => came.starts_with(beginning),
         None => came.as_str() == expected,
@@ -54,10 +117,15 @@ pub fn run_one(rt: &HostRuntime, text: &str, gives: u64, takes: usize) -> Result
     Err(Fail::new(came))
 }
 
+/// Runs the program once, where nothing fails.
+pub fn run_one(rt: &HostRuntime, text: &str) -> Result<(), Fail> {
+    run_with(rt, text, &Given::new(b""))
+}
+
 /// Runs these one after the other.
 pub fn run_all(rt: &HostRuntime, texts: &[&str]) -> Result<(), Fail> {
     for text in texts {
-        run_one(rt, text, u64::MAX, usize::MAX)?;
+        run_one(rt, text)?;
     }
     Ok(())
 }

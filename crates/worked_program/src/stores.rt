@@ -178,7 +178,7 @@ fn content(alloc: Global, store: &Store, office: &[u8]) -> Result<Vec<u8>, Alloc
 fn refuse(rt: &HostRuntime, path: &str, told: &str) -> Result<(), Fail> {
     for command in &COMMANDS {
         let text = format!(in rt.alloc(); "{command}{told}")?.replace(rt.alloc(), "STORE", path)?;
-        run_one(rt, text.as_str(), u64::MAX, usize::MAX)?;
+        run_one(rt, text.as_str())?;
     }
     Ok(())
 }

@@ -2,8 +2,8 @@
 
 use std::alloc::{AllocError, Global};
 
-/// Each text behind its name. It may have names that come behind its own.
-static MEANINGS: [(&str, &str); 43] = [
+/// Each text after its name. It may have names that come after its own.
+static MEANINGS: [(&str, &str); 46] = [
     // Two days of an office: classes, collections, three deposits, what a clerk sees of them, what is
     // due, and a class of which the years are cut.
     (
@@ -81,6 +81,10 @@ static MEANINGS: [(&str, &str); 43] = [
     ("~installed~", "installed 3 rules 2 callers\n"),
     // What standard error is told.
     (
+        "~uses~",
+        "Usage: depot check FILE\n       depot pack DIR FILE\n       depot unpack FILE DIR\n       depot explain POLICY CALLER ACTION COLLECTION CLASS\n       depot policy STORE POLICY\n       depot ask STORE DAY\n       depot replay [--policy POLICY] STORE\n       depot serve --port P --count N STORE DAY\n\nDepot checks and keeps BagIt bags, serves them by a policy, and destroys them when due.\ndepot COMMAND --help says what each command takes.\n",
+    ),
+    (
         "~missing~",
         "error: the following required arguments were not provided:\n  ",
     ),
@@ -97,6 +101,11 @@ static MEANINGS: [(&str, &str); 43] = [
     (
         "~S1~",
         "this is no transfer form: it does not begin with the line BAGSET 1 (S1)\n",
+    ),
+    ("~Y1~", "the policy is no text in TOML (Y1)"),
+    (
+        "~Y4~",
+        "the callers of the policy are no table, or a caller or a role is no name (Y4)",
     ),
     (
         "~Y2~",

@@ -1,9 +1,25 @@
 //! Words that are no use of the program.
 
 /// Runs on them.
-pub static FAULTS: [&str; 25] = [
-    "judge||Misused||Usage: depot check FILE\n       depot pack DIR FILE\n..",
-    "||Misused||Usage: depot check FILE\n..",
+pub static FAULTS: [&str; 39] = [
+    // No subcommand is named, or none that there is; or it is asked for help.
+    "||Misused||~uses~",
+    "judge||Misused||depot has no subcommand judge\n~uses~",
+    "Check,-||Misused||depot has no subcommand Check\n~uses~",
+    "check -,a||Misused||depot has no subcommand check%20-\n~uses~",
+    "help||Misused||~uses~",
+    "--help||Misused||~uses~",
+    "-h,check||Misused||~uses~",
+    "check||Misused||~missing~<FILE>\n\nUsage: depot check <FILE>\n..",
+    "check,a,b||Misused||error: unexpected argument 'b' found\n\nUsage: depot check <FILE>\n..",
+    "check,--help||Misused||Says whether a bag is valid, or its first fault.\n\nUsage: depot check <FILE>\n\nArguments:\n  <FILE>  the transfer form of the bag, or - for standard input..",
+    // The words come first: where they are no use, it is no matter that no policy is there.
+    "explain,no such file,anna,list,tax||Misused||~missing~<CLASS>\n..",
+    "explain,no such file,anna,destroy,tax,y1||Misused||ACTION is one of class, collection,..",
+    "explain,no such file,anna,*,tax,y1||Misused||ACTION is one of class, collection,..",
+    "explain,no such file,anna,list,TAX,y1||Misused||COLLECTION is a name..",
+    "explain,no such file,anna,list,tax,Y1||Misused||CLASS is a name..",
+    "explain,p,-x,list,tax,y1||Misused||error: unexpected argument '-x' found\n..",
     "pack,a||Misused||~missing~<FILE>\n\nUsage: depot pack <DIR> <FILE>\n..",
     "pack,a,b,c||Misused||error: unexpected argument 'c' found\n..",
     "unpack||Misused||~missing~<FILE>\n  <DIR>\n..",

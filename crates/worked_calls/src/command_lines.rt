@@ -1,0 +1,188 @@
+//! The words of the command line.
+
+use crate::marks::text_of;
+use command_line::{Line, MAX_COUNT, UseFault, read_line};
+use std::alloc::{AllocError, Global};
+use std::test::*;
+
+/// The words between the bars of a text; none of an empty one.
+fn words_of(alloc: Global, text: &str) -> Result<Vec<&str>, AllocError> {
+    let mut words = Vec::new(alloc);
+    if !text.is_empty() {
+        for word in text.split('|') {
+            words.push(word)?;
+        }
+    }
+    Ok(words)
+}
+
+/// What the words say, between bars: the subcommand and its values, or that they are no use.
+fn said_of(alloc: Global, words: &[&str]) -> Result<String, AllocError> {
+    match read_line(alloc, words) {
+        Ok(Line::Check { file }) => format!(in alloc; "check|{file}"),
+        Ok(Line::Pack { folder, file }) => format!(in alloc; "pack|{folder}|{file}"),
+        Ok(Line::Unpack { file, folder }) => format!(in alloc; "unpack|{file}|{folder}"),
+        Ok(Line::Explain(asked)) => {
+            let policy = asked.policy;
+            let caller = asked.caller;
+            let action = asked.action.as_str();
+            let collection = asked.collection.map_or("-", |name| name.as_str());
+            let class = asked.class.map_or("-", |name| name.as_str());
+            format!(in alloc; "explain|{policy}|{caller}|{action}|{collection}|{class}")
+        }
+        Ok(Line::Policy { store, policy }) => format!(in alloc; "policy|{store}|{policy}"),
+        Ok(Line::Ask { store, .. }) => format!(in alloc; "ask|{store}"),
+        Ok(Line::Replay { policy, store }) => {
+            let policy = policy.unwrap_or("no policy");
+            format!(in alloc; "replay|{policy}|{store}")
+        }
+        Ok(
+            Line::Serve {
+                port,
+                count,
+                store,
+                ..
+            },
+        ) => format!(in alloc; "serve|{port}|{count}|{store}"),
+        Err(UseFault::Use(text)) => Ok(String::from_str(
+            alloc,
+            if text.ends_with('\n') {
+                "no use"
+            } else {
+                "no line"
+            },
+        )?),
+        Err(UseFault::Memory) => Err(AllocError),
+    }
+}
+
+/// Words, and what they say. A line that is no row says what the rows below it are about.
+static WORDS: &str = r"
+check|- => check|-
+check|a.bagset => check|a.bagset
+check| => check|
+check|--|-x => check|-x
+check|-x => no use
+check|--help => no use
+check|a|b => no use
+check => no use
+# Two words in their places.
+pack|bag|bag.bagset => pack|bag|bag.bagset
+pack|--|-bag|-x => pack|-bag|-x
+pack|bag => no use
+pack|a|b|c => no use
+unpack|bag.bagset|bag => unpack|bag.bagset|bag
+unpack => no use
+policy|office.db|p.toml => policy|office.db|p.toml
+policy|office.db => no use
+# A caller is any text, and - is no option.
+explain|p.toml|anna|list|tax|- => explain|p.toml|anna|list|tax|-
+explain|-||hold|-|y-1_0.a => explain|-||hold|-|y-1_0.a
+explain|p|--|-x|class|-a|- => explain|p|-x|class|-a|-
+explain|p|anna|list|tax|y1 => explain|p|anna|list|tax|y1
+# One word less, and one more.
+explain => no use
+explain|p|anna|list|tax => no use
+explain|p|anna|list|tax|y1|y2 => no use
+# An action that is none, * too.
+explain|p|anna|destroy|tax|y1 => no use
+explain|p|anna|*|tax|y1 => no use
+# A collection and a class that are no names.
+explain|p|anna|list|Tax|y1 => no use
+explain|p|anna|list|tax| => no use
+# A word that clap takes for an option, and words of use.
+explain|p|-x|list|tax|y1 => no use
+explain|--help => no use
+# A day of the office, and no other text.
+ask|office.db|2024-02-29 => ask|office.db
+ask|:memory:|1900-01-01 => ask|:memory:
+ask|office.db|2025-02-29 => no use
+ask|office.db|1899-12-31 => no use
+ask|office.db|2024-3-1 => no use
+ask|office.db => no use
+# A policy may be left out, and stands before or after the store.
+replay|office.db => replay|no policy|office.db
+replay|--policy|p.toml|office.db => replay|p.toml|office.db
+replay|office.db|--policy=p.toml => replay|p.toml|office.db
+replay|--policy|p.toml => no use
+replay|--policy|p|--policy|q|office.db => no use
+# A port and a number of connections.
+serve|--port|8080|--count|1|office.db|2024-03-01 => serve|8080|1|office.db
+serve|office.db|--count|1000000|2024-03-01|--port|65535 => serve|65535|1000000|office.db
+serve|--port|000|--count|007|office.db|2024-03-01 => serve|0|7|office.db
+serve|--port|65536|--count|1|office.db|2024-03-01 => no use
+serve|--port|+1|--count|1|office.db|2024-03-01 => no use
+serve|--port||--count|1|office.db|2024-03-01 => no use
+serve|--port|0|--count|0|office.db|2024-03-01 => no use
+serve|--port|0|--count|1000001|office.db|2024-03-01 => no use
+serve|--port|0|--count|4294967297|office.db|2024-03-01 => no use
+serve|--port|0|--count|1|office.db|today => no use
+serve|--count|1|office.db|2024-03-01 => no use
+serve|--port|0|office.db|2024-03-01 => no use
+# Words that name no subcommand.
+Check|- => no use
+ => no use
+";
+
+#[test]
+fn words(rt: HostRuntime) -> Result<(), Fail> {
+    let mut rows = 0usize;
+    for row in WORDS.lines() {
+        if let Some((text, wanted)) = row.split_once(" => ") {
+            let words = words_of(rt.alloc(), text)?;
+            let said = said_of(rt.alloc(), words.as_slice())?;
+            assert!(rt; said.as_str() == wanted, "{row}");
+            rows = rows.saturating_add(1);
+        }
+    }
+    assert!(rt; rows == 54);
+    assert!(rt; MAX_COUNT == 1_000_000);
+    Ok(())
+}
+
+/// Words, and what is said of them, or how that begins where it is no whole line. `{uses}` stands for
+/// the program's usage.
+static FAULTS: &str = r"
+ => {uses}
+help => {uses}
+--help => {uses}
+-h|check => {uses}
+judge|a => depot has no subcommand judge\n{uses}
+Check => depot has no subcommand Check\n{uses}
+--version => depot has no subcommand --version\n{uses}
+a %é => depot has no subcommand a%20%25%C3%A9\n{uses}
+check|--help => Says whether a bag is valid, or its first fault.\n\nUsage: depot check <FILE>\n\nArguments:\n  <FILE>  the transfer form of the bag, or - for standard input
+check|a|b => error: unexpected argument 'b' found\n\nUsage: depot check <FILE>
+explain|p|anna|destroy|tax|y1 => ACTION is one of class, collection,
+explain|p|anna|list|TAX|y1 => COLLECTION is a name
+explain|p|anna|list|tax|Y1 => CLASS is a name
+ask|office.db|today => DAY is a date such as 2024-03-01, from 1900-01-01 to 9799-12-31\n
+serve|--port|x|--count|1|office.db|2024-03-01 => P is the number of a port, 0 to 65535\n
+serve|--port|0|--count|x|office.db|2024-03-01 => N is a number of connections, 1 to 1000000\n
+";
+
+#[test]
+fn faults_of_use(rt: HostRuntime) -> Result<(), Fail> {
+    let mut rows = 0usize;
+    for row in FAULTS.lines() {
+        if let Some((text, said)) = row.split_once(" => ") {
+            let line = text_of(rt.alloc(), text)?;
+            let words = words_of(rt.alloc(), line.as_str())?;
+            let wanted = text_of(rt.alloc(), said)?;
+            let fault = read_line(rt.alloc(), words.as_slice())
+                .err()
+                .ok_or("a fault")?;
+            let fault = fault.to_string(rt.alloc())?;
+            assert!(rt; fault.as_str().starts_with(wanted.as_str()), "{row}");
+            assert!(rt;
+                !wanted.ends_with('\n') || fault.len() == wanted.len(),
+                "{row}"
+            );
+            rows = rows.saturating_add(1);
+        }
+    }
+    assert!(rt; rows == 16);
+    let memory = UseFault::Memory.to_string(rt.alloc())?;
+    assert!(rt; memory.as_str() == "memory");
+    Ok(())
+}

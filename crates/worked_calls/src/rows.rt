@@ -1,0 +1,8 @@
+//! Rows of tables.
+
+use std::process::Abort;
+
+/// Fails the test by the name of a row that doesn't hold.
+pub fn holds(rt: &impl Abort, is_so: bool, row: &str) {
+    assert!(*rt; is_so, "{row}");
+}

@@ -1,0 +1,128 @@
+//! What `check` says of small bags from standard input, and of texts that are no form; and of bags at
+//! the limits, from a stream and from a file.
+
+use crate::codes::{DECLARATIONS, ENTRIES, INFOS, MANIFESTS, PAYLOADS};
+use crate::marks::bytes_of;
+use crate::output::Taking;
+use crate::rows::prints;
+use crate::runs::{Given, came_of};
+use commands::Ending;
+use std::alloc::Global;
+use std::fs;
+use std::test::*;
+
+#[test]
+fn small_bags_are_judged(rt: HostRuntime) -> Result<(), Fail> {
+    for (table, wanted) in [
+        (DECLARATIONS, 34),
+        (MANIFESTS, 33),
+        (PAYLOADS, 22),
+        (INFOS, 37),
+        (ENTRIES, 30),
+    ] {
+        let mut rows = 0usize;
+        for line in table.lines() {
+            if let Some((form, row)) = line.split_once(" => ") {
+                let bytes = bytes_of(rt.alloc(), form)?;
+                let is_so = prints(&rt, ["check", "-"].as_slice(), bytes.as_slice(), row)?;
+                assert!(rt; is_so, "{line}");
+                rows = rows.saturating_add(1);
+            }
+        }
+        assert!(rt; rows == wanted, "{rows} rows");
+    }
+    Ok(())
+}
+
+/// A form that lacks its `END`, of so many empty files with names of four digits.
+fn many_files(alloc: Global, count: u32) -> Result<Vec<u8>, Fail> {
+    let mut form = Vec::new(alloc);
+    form.extend_from_slice(b"BAGSET 1\n")?;
+    for number in 0..count {
+        let entry = format!(in alloc; "FILE 4 0\n{number:04}\n")?;
+        form.extend_from_slice(entry.as_bytes())?;
+    }
+    Ok(form)
+}
+
+#[test]
+fn two_thousand_files_and_one_more(rt: HostRuntime) -> Result<(), Fail> {
+    let mut form = many_files(rt.alloc(), 2000)?;
+    form.extend_from_slice(b"FILE 4 0\n2000\nEND\n")?;
+    let is_so = prints(
+        &rt,
+        ["check", "-"].as_slice(),
+        form.as_slice(),
+        r"unreadable S6\n => the form has more files than the 2,000 that a bag may have (S6)\n",
+    )?;
+    assert!(rt; is_so);
+    Ok(())
+}
+
+/// A form of 16,777,216 bytes, the most that are read: a declaration and one payload file.
+fn longest_form(alloc: Global) -> Result<Vec<u8>, Fail> {
+    let front = bytes_of(alloc, r"BAGSET 1\n{declared}FILE 6 16777106\ndata/a")?;
+    let content = vec![in alloc; b'x'; 16_777_106]?;
+    let mut form = Vec::with_capacity(alloc, 16_777_217)?;
+    form.extend_from_slice(front.as_slice())?;
+    form.extend_from_slice(content.as_slice())?;
+    form.extend_from_slice(b"\nEND\n")?;
+    Ok(form)
+}
+
+/// The longest form and one byte more: how many bytes are read, the line that is printed, and what
+/// standard error is told.
+static LENGTHS: [(usize, &str); 2] = [
+    (
+        16_777_216,
+        r"invalid B5\n => the bag has neither manifest-sha256.txt nor manifest-sha512.txt (B5)\n",
+    ),
+    (
+        16_777_217,
+        r"unreadable SIZE\n => the form is longer than 16,777,216 bytes, the most that is judged (SIZE)\n",
+    ),
+];
+
+#[test]
+fn a_file_is_judged(rt: HostRuntime) -> Result<(), Fail> {
+    let form = bytes_of(rt.alloc(), r"BAGSET 1\n{bag}")?;
+    fs::write(&rt, "bag-a.bagset", form.as_slice())?;
+    let is_so = prints(
+        &rt,
+        ["check", "bag-a.bagset"].as_slice(),
+        b"",
+        r"valid 1.0 files 1 bytes 3 manifests 1\n",
+    )?;
+    assert!(rt; is_so);
+    fs::remove_file(&rt, "bag-a.bagset")?;
+    Ok(())
+}
+
+#[test]
+fn reads_up_to_the_limit(rt: HostRuntime) -> Result<(), Fail> {
+    let mut form = longest_form(rt.alloc())?;
+    for (length, row) in &LENGTHS {
+        assert!(rt; form.len() == *length);
+        fs::write(&rt, "longest.bagset", form.as_slice())?;
+        // From a stream, and from a file.
+        for (file, given) in [("-", form.as_slice()), ("longest.bagset", b"".as_slice())] {
+            let is_so = prints(&rt, ["check", file].as_slice(), given, row)?;
+            assert!(rt; is_so, "{file}: {row}");
+        }
+        form.extend_from_slice(b"\n")?;
+    }
+    fs::remove_file(&rt, "longest.bagset")?;
+    // And where it can't be said.
+    let given = Given {
+        output: Taking::Fails,
+        ..Given::new(form.as_slice())
+    };
+    let came = came_of(&rt, ["check", "-"].as_slice(), &given)?;
+    assert!(rt; came.said.is_empty());
+    assert!(rt;
+        came.told.as_slice()
+            == b"device\ndepot: cannot write standard output: broken pipe\n".as_slice()
+    );
+    assert!(rt; came.ending == Ending::Failed);
+    Ok(())
+}

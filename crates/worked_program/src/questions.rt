@@ -1,0 +1,81 @@
+//! Questions to small policies, and texts that are none, with what `explain` says of each.
+
+use crate::marks::{bytes_of, text_of};
+use crate::rows::{prints, words_of};
+use std::fs;
+use std::test::*;
+
+/// A policy; the caller, the action, the collection and the class; the line that is printed; and
+/// what standard error is told, where it is told a thing. All with marks. A line that is no row says
+/// what the rows below it are about.
+static QUESTIONS: &str = r#"
+version = 1\nrule = [{effect="deny",role="*",action="*",collection="*",class="*"}]\n => eve|list|maps|y10 => deny rule 1\n => the caller eve{stranger}
+{policy} => anna|dispose|tax|y1 => deny rule 1\n
+{policy} => anna|dispose|maps|y1 => allow rule 2\n
+{policy} => eve|list|maps|y10 => deny default\n => the caller eve{stranger}
+{policy} => carl|list|maps|y10 => allow rule 3\n
+# A name never matches what is absent, and * does.
+{policy} => anna|dispose|-|y1 => allow rule 2\n
+{policy} => anna|class|-|y1 => allow rule 2\n
+{policy} => carl|list|maps|- => deny default\n
+# Callers that are no names, and one that is no word of a policy.
+{policy} => |list|maps|y10 => deny default\n => the caller {stranger}
+{policy} => Anna é\n"|list|maps|y10 => deny default\n => the caller Anna%20%C3%A9%0A"{stranger}
+{strangers} => -|download|maps|y10 => allow rule 2\n => the caller -{stranger}
+# The word - is none, and not the collection of that name.
+{strangers} => bert|download|-|- => allow rule 2\n
+# The least policy, and texts that are none.
+version = 1\n => anna|list|maps|y1 => deny default\n => the caller anna{stranger}
+version = 1 # {ff}\n => anna|list|maps|y1 => policy Y1\n => the policy is no text in TOML (Y1): line 1\n
+version = \n => anna|list|maps|y1 => policy Y1\n => the policy is no text in TOML (Y1): line 1\n
+version = 1\n[callers]\nanna = "clerk"\n"anna" = "clerk"\n => anna|list|maps|y1 => policy Y1\n => the policy is no text in TOML (Y1): line 4\n
+version = 3\n => anna|list|maps|y1 => policy Y2\n => the policy has no version, or one that is not the whole number 1 (Y2)\n
+ => anna|list|maps|y1 => policy Y2\n => the policy has no version, or one that is not the whole number 1 (Y2)\n
+version = 1\nnote = 1\nrule = 1\n => anna|list|maps|y1 => policy Y3\n => the policy has a key at the top other than version, callers and rule (Y3): the key note\n
+version = 1\n[callers]\nanna = "Clerk"\n => anna|list|maps|y1 => policy Y4\n => the callers of the policy are no table, or a caller or a role is no name (Y4): the caller anna\n
+version = 1\ncallers = []\n => anna|list|maps|y1 => policy Y4\n => the callers of the policy are no table, or a caller or a role is no name (Y4): the key callers\n
+version = 1\nrule = {}\n => anna|list|maps|y1 => policy Y5 0\n => the rules of the policy are no array: each begins with the line [[rule]] (Y5)\n
+version = 1\nrule = [1]\n => anna|list|maps|y1 => policy Y5 1\n => rule 1{no-rule}\n
+version = 1\n[[rule]]\neffect = "allow"\nrole = "*"\naction = "audit"\ncollection = "*"\nclass = "*"\n[[rule]]\neffect = "permit"\nrole = "*"\naction = "audit"\ncollection = "*"\nclass = "*"\n => anna|list|maps|y1 => policy Y5 2\n => rule 2{no-rule}: the key effect\n
+"#;
+
+#[test]
+fn explains_what_was_worked_out(rt: HostRuntime) -> Result<(), Fail> {
+    let mut rows = 0usize;
+    for line in QUESTIONS.lines() {
+        if let Some((policy, rest)) = line.split_once(" => ") {
+            let (asked, row) = rest.split_once(" => ").ok_or(line)?;
+            let policy = bytes_of(rt.alloc(), policy)?;
+            fs::write(&rt, "policy.toml", policy.as_slice())?;
+            let asked = format!(in rt.alloc(); "explain|policy.toml|{asked}")?;
+            let asked = text_of(rt.alloc(), &asked)?;
+            let words = words_of(rt.alloc(), asked.as_str())?;
+            let is_so = prints(&rt, words.as_slice(), b"", row)?;
+            assert!(rt; is_so, "{line}");
+            rows = rows.saturating_add(1);
+        }
+    }
+    assert!(rt; rows == 24, "{rows} rows");
+    fs::remove_file(&rt, "policy.toml")?;
+    Ok(())
+}
+
+#[test]
+fn a_policy_is_read_whole(rt: HostRuntime) -> Result<(), Fail> {
+    // A policy after a comment that is longer than any form, and in a file that is named as standard
+    // input is elsewhere.
+    let policy = bytes_of(rt.alloc(), "{policy}")?;
+    let mut long = vec![in rt.alloc(); b'#'; 16_777_217]?;
+    long.extend_from_slice(b"\n")?;
+    long.extend_from_slice(policy.as_slice())?;
+    fs::write(&rt, "-", long.as_slice())?;
+    let is_so = prints(
+        &rt,
+        ["explain", "-", "carl", "list", "tax", "y10"].as_slice(),
+        b"",
+        r"allow rule 3\n",
+    )?;
+    assert!(rt; is_so);
+    fs::remove_file(&rt, "-")?;
+    Ok(())
+}
