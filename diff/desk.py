@@ -1,12 +1,12 @@
 #!/usr/bin/env python3
-"""The run of `depot` that the gate repeats: records of requests on a new office, and the records of the
+"""The replay that the gate repeats (by `office_file`): records of requests on a new office, and the records of the
 answers, worked out from `docs/HTTP.md`. Each row of the tables below is a request and its answer: every
 refusal of the desk beside what is heard at its limit, where more than one stands the later ones stand
 too; then a session with every kind of answer and every refusal of the office that a caller can bring about.
 
-`desk.py` says whether `crates/depot/stdin` and `stdout` have these rows; `desk.py write` writes them. Then
-the built program answers the requests, to the byte as the rows have it. DEPOT names another program than
-the one in `crates/depot/out` (`./depot check examples/bag-a.bagset` builds it); where neither is there, the
+`desk.py` says whether `stdin` and `stdout` of `crates/office_file` have these rows, `stdout` after the lines of its
+cases; `desk.py write` writes them. Then the built program answers the requests, to the byte as the rows have
+it. DEPOT names another program than the one in `crates/depot/out` (`./depot check examples/bag-a.bagset` builds it); where neither is there, the
 last line says that the program wasn't asked.
 """
 import os
@@ -15,8 +15,8 @@ import subprocess
 import sys
 
 TOP = pathlib.Path(__file__).resolve().parent.parent
-CRATE = TOP / "crates/depot"
-DEPOT = os.environ.get("DEPOT", str(CRATE / "out/depot-program"))
+CRATE = TOP / "crates/office_file"
+DEPOT = os.environ.get("DEPOT", str(TOP / "crates/depot/out/depot-program"))
 DAY = "2024-03-01"
 STATUS = {200: "OK", 201: "Created", 400: "Bad Request", 403: "Forbidden", 404: "Not Found", 405: "Method Not Allowed",
           409: "Conflict", 410: "Gone", 413: "Content Too Large", 422: "Unprocessable Content"}
@@ -475,10 +475,16 @@ def run_program(policy):
         sys.exit(f"the program ended with {done.returncode}, {done.stderr!r} and {len(done.stdout) - at} bytes behind its answers")
 
 
+def lines_of_cases():
+    """The lines that `office_file` prints of its cases, before the records of answers."""
+    lines, _, _ = (CRATE / "stdout").read_bytes().partition(b"ANS ")
+    return lines
+
+
 def main():
     files = {
         CRATE / "stdin": b"".join(asked for asked, _ in rows()),
-        CRATE / "stdout": b"".join(given for _, given in rows()),
+        CRATE / "stdout": lines_of_cases() + b"".join(given for _, given in rows()),
         CRATE / "data/policy.toml": POLICY.encode(),
     }
     if sys.argv[1:] == ["write"]:
@@ -497,7 +503,7 @@ def main():
         sys.exit(f"{DEPOT} isn't there")
     else:
         said = "but the program isn't built, and wasn't asked"
-    print(f"{sum(1 for _ in rows())} requests and their answers, as crates/depot has them, {said}")
+    print(f"{sum(1 for _ in rows())} requests and their answers, as crates/office_file has them, {said}")
 
 
 if __name__ == "__main__":

@@ -6,7 +6,7 @@ use bag_text::{
     Algorithm, BagSet, InfoFault, LineFault, SetFault, Version, read_bag_info, read_bagset,
     read_manifest, write_bagset,
 };
-use commands::{Line, UseFault, read_line};
+use command_line::{Line, UseFault, read_line};
 use std::alloc::Global;
 use worked_bags::BAG;
 
@@ -18,7 +18,7 @@ pub fn read_check(alloc: Global) -> Outcome {
     match read_line(alloc, ["check", "-"].as_slice()) {
         Ok(Line::Check { file }) => Outcome::expected_if(file == "-"),
         Err(UseFault::Memory) => Outcome::Memory,
-        Ok(Line::Explain(_)) | Err(UseFault::Use(_)) => Outcome::Wrong,
+        Ok(_) | Err(UseFault::Use(_)) => Outcome::Wrong,
     }
 }
 
@@ -28,7 +28,7 @@ pub fn read_explain(alloc: Global) -> Outcome {
     match read_line(alloc, words.as_slice()) {
         Ok(Line::Explain(asked)) => Outcome::expected_if(asked.caller == "anna"),
         Err(UseFault::Memory) => Outcome::Memory,
-        Ok(Line::Check { .. }) | Err(UseFault::Use(_)) => Outcome::Wrong,
+        Ok(_) | Err(UseFault::Use(_)) => Outcome::Wrong,
     }
 }
 

@@ -45,15 +45,27 @@ fn said_group(said: &[u8]) -> Option<Group> {
     Group::read(str::from_utf8(said).unwrap_or("").trim())
 }
 
-/// Reads what is wanted, and prints how each case comes out. Whether all groups were wanted.
+/// Prints how each case of the one group that standard input names comes out, or of all where it names none.
+/// Whether all were wanted.
 pub fn answer(rt: &HostRuntime) -> io::Result<bool> {
     let mut room = [0_u8; 16];
     let length = rt.stdin().read(&mut room)?;
     let only = said_group(room.get(..length).unwrap_or(&[]));
+    answer_group(rt, only)?;
+    Ok(only.is_none())
+}
+
+/// Prints how each case comes out.
+pub fn answer_all(rt: &HostRuntime) -> io::Result<()> {
+    answer_group(rt, None)
+}
+
+/// Prints how each case of the group comes out, or of all groups where there is none.
+fn answer_group(rt: &HostRuntime, only: Option<Group>) -> io::Result<()> {
     for group in &GROUPS {
         if only.is_none() || only == Some(*group) {
             group.run(rt)?;
         }
     }
-    Ok(only.is_none())
+    Ok(())
 }

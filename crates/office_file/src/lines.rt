@@ -1,23 +1,29 @@
 //! Cases of the program: what it prints and how it ends.
 
 use crate::outcome::Outcome;
-use commands::{Ending, run};
+use commands::Ending;
+use desk_devices::Counted;
+use program::{Streams, run};
+use sqlite::Unknown;
 use std::alloc::AllocError;
 use std::fs;
-use std::rt::Files;
 use worked_bags::{WorkedBag, WorkedQuestion};
 
 /// What a run on these words and this standard input prints and how it ends, with room for the lines
 /// taken first.
-fn run_words<R: Files + AllocGlobal>(
-    rt: &R,
+fn run_words(
+    rt: &HostRuntime,
     words: &[&str],
-    mut input: &[u8],
+    input: &[u8],
 ) -> Result<(Vec<u8>, Vec<u8>, Ending), AllocError> {
-    let mut out = Vec::with_capacity(rt.alloc(), 4096)?;
-    let mut err = Vec::with_capacity(rt.alloc(), 4096)?;
-    let ending = run(rt, words, &mut input, &mut out, &mut err);
-    Ok((out, err, ending))
+    let mut streams = Streams {
+        input: Counted::new(input),
+        output: Counted::new(Vec::with_capacity(rt.alloc(), 4096)?),
+        error: Vec::with_capacity(rt.alloc(), 4096)?,
+    };
+    let ending = run(rt, &mut Some(Unknown), words, &mut streams);
+    let Streams { output, error, .. } = streams;
+    Ok((output.into_device(), error, ending))
 }
 
 /// The line that was worked out with its reason and its ending, or want of memory with nothing on
@@ -42,14 +48,14 @@ fn outcome(
 }
 
 /// Judges a bag from standard input.
-pub fn judge<R: Files + AllocGlobal>(rt: &R, worked: WorkedBag) -> Outcome {
+pub fn judge(rt: &HostRuntime, worked: WorkedBag) -> Outcome {
     let (form, line, reason, ending) = worked;
     let found = run_words(rt, ["check", "-"].as_slice(), form);
     outcome(found, line, reason, ending)
 }
 
 /// Asks a policy file, written for this, which rule decides.
-pub fn explain<R: Files + AllocGlobal>(rt: &R, worked: WorkedQuestion) -> Outcome {
+pub fn explain(rt: &HostRuntime, worked: WorkedQuestion) -> Outcome {
     if fs::write(rt, "policy.toml", worked.policy).is_err() {
         return Outcome::Memory;
     }

@@ -14,6 +14,7 @@ mod lines;
 mod office;
 mod offices;
 mod outcome;
+mod replaying;
 mod requests;
 mod tables;
 mod texts;
@@ -30,7 +31,7 @@ use std::time::{Duration, Instant};
 use timed::Call;
 
 const USAGE: &str =
-    "words: none, hear, read-all, write FILE, make FILE, draw COUNT SEED, or FILE and COUNT behind one of deposits, read, live, last, ask-deposits, ask-records, ask-disposals, ask-bags, ask-lists and ask-due";
+    "words: none, all POLICY, hear, read-all, write FILE, make FILE, draw COUNT SEED, or FILE and COUNT behind one of deposits, read, live, last, ask-deposits, ask-records, ask-disposals, ask-bags, ask-lists and ask-due";
 
 /// What the words ask for.
 #[derive(Clone, Copy)]
@@ -171,6 +172,11 @@ fn run(rt: &HostRuntime, words: &[String]) -> Result<()> {
     if let [_, word] = words {
         return input::measure(rt, Input::read(word).context(USAGE)?);
     }
+    if let [_, word, policy] = words {
+        if word.as_str() == "all" {
+            return run_all(rt, policy);
+        }
+    }
     if let [_, word, count, seed] = words {
         if word.as_str() == "draw" {
             let count = count.parse::<u32>().context("COUNT")?;
@@ -187,6 +193,13 @@ fn run_cases(rt: &HostRuntime) -> Result<()> {
         draw(rt, 100, 7)?;
     }
     Ok(())
+}
+
+/// Runs the cases and draws requests, and then has the program replay the records of standard input.
+fn run_all(rt: &HostRuntime, policy: &str) -> Result<()> {
+    cases::answer_all(rt)?;
+    draw(rt, 100, 7)?;
+    replaying::replay(rt, policy)
 }
 
 /// Whether there is a word behind the program's name. Takes no memory.
