@@ -1,8 +1,8 @@
 #!/usr/bin/env bash
 # What commands say, and what they leave, where the system refuses them something. A folder or a file that the user
 # may not write, a mount that can only be read, a second name of the office's file: `store Q4`, with the system's
-# reason on the next line where an office was there, and the office is as it was. A limit on the size of files: the program is killed, and what
-# was answered is there. As root, `setpriv` stands for a user without rights; a mount needs root, or a user
+# reason on the next line, and what was there is as it was. A limit on the size of files: the program is killed, and
+# what was answered is there. As root, `setpriv` stands for a user without rights; a mount needs root, or a user
 # namespace, and is left out, with a word, where the machine gives none.
 # Words: the program, the built one of the repository if left out.
 set -eu
@@ -89,18 +89,6 @@ refused() {
     cases=$((cases + 1))
 }
 
-# The same where an office is to be made, but for the reason.
-unmade() {
-    local what=$1 status=0
-    shift
-    "$@" <"$folder/request" >"$folder/out" 2>"$folder/err" || status=$?
-    if [ -s "$folder/out" ] || [ "$status $(head -n 1 "$folder/err")" != '3 store Q4' ]; then
-        echo "$what: 'store Q4' and 3 are wanted, and this came: '$(cat "$folder/out" "$folder/err")' and $status" >&2
-        exit 1
-    fi
-    cases=$((cases + 1))
-}
-
 # What is done, the status that is wanted, and the command.
 ends() {
     local what=$1 wanted=$2 status=0
@@ -144,10 +132,10 @@ request PUT /collections/maps /dev/null >"$folder/request"
 # No rights: on a folder where an office is to be made, and on an office's file.
 mkdir "$folder/closed"
 chmod 555 "$folder/closed"
-unmade "an office is made where the user may not write" as_nobody policy "$folder/closed/new.db" "$policy"
-unmade "a replay makes one there" as_nobody replay --policy "$policy" "$folder/closed/new.db"
+refused "an office is made where the user may not write" 'Permission denied' as_nobody policy "$folder/closed/new.db" "$policy"
+refused "a replay makes one there" 'Permission denied' as_nobody replay --policy "$policy" "$folder/closed/new.db"
 compare "nothing was made" '' "$(names "$folder/closed")"
-unmade "an office is made where no folder is" run policy "$folder/none/new.db" "$policy"
+refused "an office is made where no folder is" 'No such file or directory' run policy "$folder/none/new.db" "$policy"
 made others
 chmod 444 "$folder/others/office.db"
 cp "$folder/others/office.db" "$folder/before"
@@ -159,7 +147,7 @@ answers "$folder/others/office.db"
 # A mount that can only be read.
 made mounted
 if where_it_is_read true 2>"$folder/err"; then
-    unmade "an office is made on a mount that is only read" on_a_mount policy "$folder/mounted/new.db" "$policy"
+    refused "an office is made on a mount that is only read" 'Read-only file system' on_a_mount policy "$folder/mounted/new.db" "$policy"
     refused "an office is asked there" 'Read-only file system' on_a_mount ask "$folder/mounted/office.db" "$day"
     mounts=
 else
