@@ -9,9 +9,12 @@ use std::alloc::AllocError;
 use std::fs;
 use worked_bags::{WorkedBag, WorkedQuestion};
 
-/// What a run on these words and this standard input prints and how it ends, with room for the lines
-/// taken first.
-fn run_words(
+/// The file of the policy that is asked.
+const ASKED: &str = "asked.toml";
+
+/// What a run on these words and this standard input prints, what it says on standard error, and how it
+/// ends, with room for the lines taken first.
+pub fn run_words(
     rt: &HostRuntime,
     words: &[&str],
     input: &[u8],
@@ -56,18 +59,18 @@ pub fn judge(rt: &HostRuntime, worked: WorkedBag) -> Outcome {
 
 /// Asks a policy file, written for this, which rule decides.
 pub fn explain(rt: &HostRuntime, worked: WorkedQuestion) -> Outcome {
-    if fs::write(rt, "policy.toml", worked.policy).is_err() {
+    if fs::write(rt, ASKED, worked.policy).is_err() {
         return Outcome::Memory;
     }
     let words = [
         "explain",
-        "policy.toml",
+        ASKED,
         worked.caller,
         worked.action,
         worked.collection,
         worked.class,
     ];
     let found = run_words(rt, words.as_slice(), b"");
-    let _ = fs::remove_file(rt, "policy.toml");
+    let _ = fs::remove_file(rt, ASKED);
     outcome(found, worked.line, worked.reason, worked.ending)
 }

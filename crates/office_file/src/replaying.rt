@@ -1,21 +1,20 @@
 //! The records of standard input, replayed by the program in a new office.
 
+use crate::lines::run_words;
 use anyhow::{Result, bail};
 use commands::Ending;
-use desk_devices::Counted;
-use program::{Streams, run};
-use sqlite::Unknown;
+use std::io::{Read, Write};
 
 /// Has the program replay the records of standard input under the policy in the file, in a new office in
 /// memory.
 pub fn replay(rt: &HostRuntime, policy: &str) -> Result<()> {
-    let mut streams = Streams {
-        input: Counted::new(rt.stdin()),
-        output: Counted::new(rt.stdout()),
-        error: rt.stderr(),
-    };
+    let mut records = Vec::new(rt.alloc());
+    rt.stdin().read_to_end(&mut records)?;
     let words = ["replay", "--policy", policy, ":memory:"];
-    match run(rt, &mut Some(Unknown), &words, &mut streams) {
+    let (answers, told, ending) = run_words(rt, words.as_slice(), records.as_slice())?;
+    rt.stdout().write_all(answers.as_slice())?;
+    rt.stderr().write_all(told.as_slice())?;
+    match ending {
         Ending::Accepted => Ok(()),
         _ => bail!("the replay doesn't come to its end"),
     }
