@@ -33,3 +33,19 @@ abbrev pub the_rows : RowsOf (RouteOf Pattern)
 the_rows =
     router_row (class []) ∷ router_row (collection []) ∷ router_row (audit []) ∷ router_row (bag []) ∷ router_row (file [] []) ∷ router_row (holds_of_deposit []) ∷ router_row (deposit [])
     ∷ router_row deposits ∷ router_row due ∷ router_row (hold []) ∷ router_row holds ∷ []
+
+-- ---- for private clauses: the router as it is filled, each time in its own order
+
+-- with the paths of what is defined
+abbrev pub definition_rows : RowsOf (RouteOf Pattern)
+definition_rows = router_row (class []) ∷ router_row (collection []) ∷ []
+
+-- with the paths of all deposits and of one besides
+abbrev pub rows_with_deposits : RowsOf (RouteOf Pattern)
+rows_with_deposits = router_row (class []) ∷ router_row (collection []) ∷ router_row (deposit []) ∷ router_row deposits ∷ []
+
+-- with the paths below a deposit besides
+abbrev pub rows_with_parts_of_deposit : RowsOf (RouteOf Pattern)
+rows_with_parts_of_deposit =
+    router_row (class []) ∷ router_row (collection []) ∷ router_row (audit []) ∷ router_row (bag []) ∷ router_row (file [] []) ∷ router_row (holds_of_deposit []) ∷ router_row (deposit [])
+    ∷ router_row deposits ∷ []

@@ -1,8 +1,8 @@
 //! The table of the routes.
 
-ghost use Rattle.std.specs.Prelude.{◌≡◌, IfOk, MatchResult, Ok, Err, option_map};
+ghost use Rattle.std.specs.Prelude.{◌≡◌, [], IfOk, OnOk, MatchResult, Ok, Err, option_map};
 ghost use Rattle.desk_routes.specs.PathReading.{place_of};
-ghost use Rattle.desk_routes.specs.Rows.{the_rows};
+ghost use Rattle.desk_routes.specs.Rows.{definition_rows, rows_with_deposits, rows_with_parts_of_deposit, the_rows};
 ghost use Rattle.desk_routes.specs.Table.{route_of};
 ghost use Rattle.desk_routes.specs.Views.{place_view, route_view};
 
@@ -14,25 +14,70 @@ use matchit::{InsertError, Router};
 use std::alloc::{AllocError, Global};
 use std::marker::Model;
 
-fn pattern_router(alloc: Global) -> Result<Router<Pattern>, InsertError>
-    ensures { IfOk result (λ router. router ≡ the_rows) }
+/// Adds the paths of what is defined: of a class, and of a collection.
+fn insert_definitions(router: &mut Router<Pattern>) -> Result<(), InsertError>
+    requires { router.now ≡ [] }
+    ensures { OnOk result (router.new ≡ definition_rows) }
 {
-    let mut router = Router::new(alloc);
     router.insert("/classes/{name}", Pattern::Class)?;
     router.insert("/collections/{name}", Pattern::Collection)?;
+    Ok(())
+}
+
+/// Adds the paths of all deposits, and of one.
+fn insert_deposits(router: &mut Router<Pattern>) -> Result<(), InsertError>
+    requires { router.now ≡ definition_rows }
+    ensures { OnOk result (router.new ≡ rows_with_deposits) }
+{
     router.insert("/deposits", Pattern::Deposits)?;
     router.insert("/deposits/{number}", Pattern::Deposit)?;
+    Ok(())
+}
+
+/// Adds the paths below a deposit: of its holds, its bag, a file of it, and its audit.
+fn insert_parts_of_deposit(router: &mut Router<Pattern>) -> Result<(), InsertError>
+    requires { router.now ≡ rows_with_deposits }
+    ensures { OnOk result (router.new ≡ rows_with_parts_of_deposit) }
+{
     router.insert("/deposits/{number}/holds", Pattern::HoldsOfDeposit)?;
     router.insert("/deposits/{number}/bag", Pattern::Bag)?;
     router.insert("/deposits/{number}/files/{*path}", Pattern::File)?;
     router.insert("/deposits/{number}/audit", Pattern::Audit)?;
+    Ok(())
+}
+
+/// Adds the paths of all holds, of one, and of what is due.
+fn insert_holds_and_due(router: &mut Router<Pattern>) -> Result<(), InsertError>
+    requires { router.now ≡ rows_with_parts_of_deposit }
+    ensures { OnOk result (router.new ≡ the_rows) }
+{
     router.insert("/holds", Pattern::Holds)?;
     router.insert("/holds/{number}", Pattern::Hold)?;
     router.insert("/due", Pattern::Due)?;
+    Ok(())
+}
+
+/// Adds each path with its pattern.
+fn insert_patterns(router: &mut Router<Pattern>) -> Result<(), InsertError>
+    requires { router.now ≡ [] }
+    ensures { OnOk result (router.new ≡ the_rows) }
+{
+    insert_definitions(router)?;
+    insert_deposits(router)?;
+    insert_parts_of_deposit(router)?;
+    insert_holds_and_due(router)
+}
+
+/// The router of all paths.
+fn pattern_router(alloc: Global) -> Result<Router<Pattern>, InsertError>
+    ensures { IfOk result (λ router. router ≡ the_rows) }
+{
+    let mut router = Router::new(alloc);
+    insert_patterns(&mut router)?;
     Ok(router)
 }
 
-/// The table of the routes. There is one such table, so contracts see nothing of it.
+/// The table of the routes. There is one such table, and contracts see its rows.
 #[derive(Drop)]
 pub struct Routes {
     router: Router<Pattern>,
@@ -40,18 +85,23 @@ pub struct Routes {
 
 impl Model for Routes {
     ghost use Rattle.std.specs.Prelude.{◌≡◌};
+    ghost use Rattle.matchit.specs.Router.{RouteOf};
+    ghost use Rattle.matchit.specs.Rows.{RowsOf};
     ghost use Rattle.desk_routes.specs.Rows.{the_rows};
+    ghost use Rattle.desk_routes.specs.declared.pattern.Pattern.{Pattern};
 
-    ghost Value = { Unit {0} };
+    ghost Value = { RowsOf (RouteOf Pattern) };
 
-    ghost view = { λ _. tt };
+    ghost view = { λ routes. routes.router };
 
     ghost invariant = { λ routes. routes.router ≡ the_rows };
 }
 
 impl Routes {
     /// The table. Fails where memory runs out.
-    pub fn new(alloc: Global) -> Result<Routes, AllocError> {
+    pub fn new(alloc: Global) -> Result<Routes, AllocError>
+        ensures { IfOk result (λ routes. routes ≡ the_rows) }
+    {
         match pattern_router(alloc) {
             Ok(router) => Ok(Routes { router }),
             Err(_) => Err(AllocError),
