@@ -3,3 +3,4 @@ pub mod Walk
 mod Values
 pub mod Readings
 pub mod LawLemmas
+mod MemberLemmas

@@ -2,6 +2,7 @@ pub mod Statuses
 pub mod Responses
 pub mod Objects
 pub mod Rows
+pub mod Members
 pub mod Refusals
 pub mod DeskRefusals
 pub mod Bodies

@@ -44,19 +44,19 @@ fn content_of<'a>(alloc: Global, answer: &'a Answer) -> Result<Content<'a>, Allo
         Answer::Bag { bytes } | Answer::File { bytes } => {
             return Ok(Content::Octets(bytes.as_slice()));
         }
-        Answer::Class { name, years } => bodies::class(alloc, name.as_str(), *years)?,
-        Answer::Collection { name } => bodies::collection(alloc, name.as_str())?,
-        Answer::Deposited { deposit } => bodies::deposit(alloc, *deposit)?,
-        Answer::List { deposits } => bodies::list(alloc, deposits.as_slice())?,
-        Answer::Record(record) => record_data(alloc, record)?,
-        Answer::Holds { holds } => bodies::holds(alloc, holds.as_slice())?,
-        Answer::Audit { deposit, report } => bodies::audit(alloc, *deposit, report)?,
-        Answer::HoldPlaced { hold } => bodies::hold(alloc, *hold)?,
-        Answer::HoldReleased { hold, day } => bodies::release(alloc, *hold, *day)?,
-        Answer::Destroyed { deposit, day } => bodies::disposal(alloc, *deposit, *day)?,
-        Answer::DueList { day, deposits } => bodies::due_list(alloc, *day, deposits.as_slice())?,
-        Answer::Refused(refusal) => refusal_value(alloc, refusal)?,
-    };
+        Answer::Class { name, years } => bodies::class(alloc, name.as_str(), *years),
+        Answer::Collection { name } => bodies::collection(alloc, name.as_str()),
+        Answer::Deposited { deposit } => bodies::deposit(alloc, *deposit),
+        Answer::List { deposits } => bodies::list(alloc, deposits.as_slice()),
+        Answer::Record(record) => record_data(alloc, record),
+        Answer::Holds { holds } => bodies::holds(alloc, holds.as_slice()),
+        Answer::Audit { deposit, report } => bodies::audit(alloc, *deposit, report),
+        Answer::HoldPlaced { hold } => bodies::hold(alloc, *hold),
+        Answer::HoldReleased { hold, day } => bodies::release(alloc, *hold, *day),
+        Answer::Destroyed { deposit, day } => bodies::disposal(alloc, *deposit, *day),
+        Answer::DueList { day, deposits } => bodies::due_list(alloc, *day, deposits.as_slice()),
+        Answer::Refused(refusal) => refusal_value(alloc, refusal),
+    }?;
     Ok(Content::Json(value))
 }
 

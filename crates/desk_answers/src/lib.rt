@@ -8,6 +8,7 @@ mod content;
 mod head;
 pub mod laws;
 mod methods;
+mod object;
 mod refusals;
 mod rows;
 mod status;

@@ -6,10 +6,10 @@ ghost use Rattle.serde_json.specs.View.{view};
 ghost use Rattle.desk_answers.specs.Objects.{whole};
 ghost use Rattle.desk_answers.specs.Refusals.{refusal_status, subject_text, name_data, no_such_data, denied_data, day_data, taken_data, bad_bag_data, held_data, not_due_data, refusal_data};
 
-use crate::rows::{day_text, due_text};
+use crate::object::{MemberValue, object};
 use crate::status::Status;
 use office_core::{Day, Due, Refusal, Subject};
-use serde_json::{Value, json};
+use serde_json::Value;
 use std::alloc::{AllocError, Global};
 
 /// The status of a refusal of the office.
@@ -46,58 +46,88 @@ fn subject_text(subject: Subject) -> &'static str
 pub(crate) fn name_value(alloc: Global, name: &str) -> Result<Value, AllocError>
     ensures { IfOk result (λ value. view value ≡ name_data name.now) }
 {
-    json!(in alloc; {"error": name})
+    object(alloc, &[("error", MemberValue::Text(name))])
 }
 
 fn no_such_value(alloc: Global, subject: Subject) -> Result<Value, AllocError>
     ensures { IfOk result (λ value. view value ≡ no_such_data subject) }
 {
-    json!(in alloc; {"error": "NoSuch", "what": subject_text(subject)})
+    let members = [
+        ("error", MemberValue::Text("NoSuch")),
+        ("what", MemberValue::Text(subject_text(subject))),
+    ];
+    object(alloc, &members)
 }
 
 fn denied_by_rule_value(alloc: Global, rule: usize) -> Result<Value, AllocError>
     ensures { IfOk result (λ value. view value ≡ denied_data (whole rule)) }
 {
-    json!(in alloc; {"error": "Denied", "rule": rule})
+    let members = [
+        ("error", MemberValue::Text("Denied")),
+        ("rule", MemberValue::Number(rule as u64)),
+    ];
+    object(alloc, &members)
 }
 
 fn denied_by_default_value(alloc: Global) -> Result<Value, AllocError>
     ensures { IfOk result (λ value. view value ≡ denied_data (string (codes "default"))) }
 {
-    json!(in alloc; {"error": "Denied", "rule": "default"})
+    let members = [
+        ("error", MemberValue::Text("Denied")),
+        ("rule", MemberValue::Text("default")),
+    ];
+    object(alloc, &members)
 }
 
 /// The name of a refusal with the day of what stands in the way.
 fn day_value(alloc: Global, name: &str, day: Day) -> Result<Value, AllocError>
     ensures { IfOk result (λ value. view value ≡ day_data name.now day) }
 {
-    let day = day_text(alloc, day)?;
-    json!(in alloc; {"day": day, "error": name})
+    let members = [
+        ("day", MemberValue::Day(day)),
+        ("error", MemberValue::Text(name)),
+    ];
+    object(alloc, &members)
 }
 
 fn taken_value(alloc: Global, deposit: u32) -> Result<Value, AllocError>
     ensures { IfOk result (λ value. view value ≡ taken_data deposit) }
 {
-    json!(in alloc; {"deposit": deposit, "error": "Taken"})
+    let members = [
+        ("deposit", MemberValue::Number(deposit as u64)),
+        ("error", MemberValue::Text("Taken")),
+    ];
+    object(alloc, &members)
 }
 
 fn bad_bag_value(alloc: Global, fault: &str) -> Result<Value, AllocError>
     ensures { IfOk result (λ value. view value ≡ bad_bag_data fault.now) }
 {
-    json!(in alloc; {"error": "BadBag", "fault": fault})
+    let members = [
+        ("error", MemberValue::Text("BadBag")),
+        ("fault", MemberValue::Text(fault)),
+    ];
+    object(alloc, &members)
 }
 
 fn held_value(alloc: Global, hold: u32) -> Result<Value, AllocError>
     ensures { IfOk result (λ value. view value ≡ held_data hold) }
 {
-    json!(in alloc; {"error": "Held", "hold": hold})
+    let members = [
+        ("error", MemberValue::Text("Held")),
+        ("hold", MemberValue::Number(hold as u64)),
+    ];
+    object(alloc, &members)
 }
 
 fn not_due_value(alloc: Global, due: Due) -> Result<Value, AllocError>
     ensures { IfOk result (λ value. view value ≡ not_due_data due) }
 {
-    let due = due_text(alloc, due)?;
-    json!(in alloc; {"due": due, "error": "NotDue"})
+    let members = [
+        ("due", MemberValue::Due(due)),
+        ("error", MemberValue::Text("NotDue")),
+    ];
+    object(alloc, &members)
 }
 
 /// What is said of a refusal of the office.

@@ -1,30 +1,13 @@
 //! What answers say of one deposit, and of one hold.
 
-ghost use Rattle.std.specs.Prelude.{◌≡◌, IfOk, map, string_bytes};
-ghost use Rattle.office_core.specs.Days.{day_text};
+ghost use Rattle.std.specs.Prelude.{◌≡◌, IfOk, map};
 ghost use Rattle.serde_json.specs.View.{view};
-ghost use Rattle.desk_answers.specs.Rows.{due_text, scope_text, record_data, live_hold_data};
+ghost use Rattle.desk_answers.specs.Rows.{scope_text, record_data, live_hold_data};
 
-use office_core::{Day, DepositRecord, Due, LiveHold, Scope};
-use serde_json::{Value, json};
+use crate::object::{MemberValue, object};
+use office_core::{DepositRecord, LiveHold, Scope};
+use serde_json::Value;
 use std::alloc::{AllocError, Global};
-
-/// A day as it is written.
-pub(crate) fn day_text(alloc: Global, day: Day) -> Result<String, AllocError>
-    ensures { IfOk result (λ text. string_bytes text ≡ day_text day) }
-{
-    format!(in alloc; "{day}")
-}
-
-/// The day from which a deposit may be destroyed, or that there is none.
-pub(crate) fn due_text(alloc: Global, due: Due) -> Result<String, AllocError>
-    ensures { IfOk result (λ text. string_bytes text ≡ due_text due) }
-{
-    match due {
-        Due::On(date) => format!(in alloc; "{date}"),
-        Due::Never => String::from_str(alloc, "permanent"),
-    }
-}
 
 /// What a hold names.
 fn scope_text(scope: Scope) -> &'static str
@@ -40,33 +23,31 @@ fn scope_text(scope: Scope) -> &'static str
 pub(crate) fn record_data(alloc: Global, row: &DepositRecord) -> Result<Value, AllocError>
     ensures { IfOk result (λ value. view value ≡ record_data row.now) }
 {
-    let closed = day_text(alloc, row.closed)?;
-    let deposited = day_text(alloc, row.deposited)?;
-    let due = due_text(alloc, row.due)?;
-    json!(in alloc; {
-        "accession": row.accession.as_str(),
-        "bytes": row.bytes,
-        "class": row.class.as_str(),
-        "closed": closed,
-        "collection": row.collection.as_str(),
-        "deposit": row.number,
-        "deposited": deposited,
-        "due": due,
-        "files": row.files
-    })
+    let members = [
+        ("accession", MemberValue::Text(row.accession.as_str())),
+        ("bytes", MemberValue::Number(row.bytes as u64)),
+        ("class", MemberValue::Text(row.class.as_str())),
+        ("closed", MemberValue::Day(row.closed)),
+        ("collection", MemberValue::Text(row.collection.as_str())),
+        ("deposit", MemberValue::Number(row.number as u64)),
+        ("deposited", MemberValue::Day(row.deposited)),
+        ("due", MemberValue::Due(row.due)),
+        ("files", MemberValue::Number(row.files as u64)),
+    ];
+    object(alloc, &members)
 }
 
 /// What is told of a live hold.
 fn live_hold_data(alloc: Global, hold: &LiveHold) -> Result<Value, AllocError>
     ensures { IfOk result (λ value. view value ≡ live_hold_data hold.now) }
 {
-    let placed = day_text(alloc, hold.placed)?;
-    json!(in alloc; {
-        "hold": hold.number,
-        "matter": hold.matter.as_str(),
-        "on": scope_text(hold.on),
-        "placed": placed
-    })
+    let members = [
+        ("hold", MemberValue::Number(hold.number as u64)),
+        ("matter", MemberValue::Text(hold.matter.as_str())),
+        ("on", MemberValue::Text(scope_text(hold.on))),
+        ("placed", MemberValue::Day(hold.placed)),
+    ];
+    object(alloc, &members)
 }
 
 /// What is told of each deposit, in their order.

@@ -1,7 +1,7 @@
 use Rattle.std.proofs.Common.{◌≡◌, map, take}
 use Rattle.serde_json.specs.View.{view}
 use Rattle.desk_answers.specs.Objects.{whole}
-use Rattle.desk_answers.proofs.bodies.numbers.Given as goal
+use Rattle.desk_answers.proofs.object.numbers.Given as goal
 
 abbrev pub invariant-loop-number : goal.invariant-loop-number
 invariant-loop-number l = map view l.values.items ≡ map whole (take l.number-index l.numbers)
