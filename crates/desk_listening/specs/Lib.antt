@@ -1,3 +1,4 @@
 pub mod Accepting
 pub mod Listening
 pub mod Peers
+pub mod Sockets

@@ -1,6 +1,7 @@
 //! The sockets of the system, as listeners and peers of the desk.
 
-ghost use Rattle.std.specs.Prelude.{⊤};
+ghost use Rattle.std.specs.Prelude.{◌≡◌, ⊤};
+ghost use Rattle.desk_listening.specs.Sockets.{socket_of};
 
 use crate::listener::Listener;
 use crate::peer::Peer;
@@ -20,7 +21,9 @@ pub struct Sockets<'a> {
 
 impl<'a> Sockets<'a> {
     /// The connections that come to the socket.
-    pub fn new(alloc: Global, listener: &'a TcpListener) -> Sockets<'a> {
+    pub fn new(alloc: Global, listener: &'a TcpListener) -> Sockets<'a>
+        ensures { socket_of result ≡ listener.now }
+    {
         Sockets { alloc, listener }
     }
 }
