@@ -1,5 +1,6 @@
 -- An ask answers all that the input has; one that fails has done nothing, or has answered and written a beginning of the answer.
 use Rattle.std.proofs.Common.{◌≡◌, ◌<◌, ℕ, List, [], Bool, true, false, Option, Some, None, Result, Ok, Err, IfErr, IfSome, ◌⊎◌, ◌∷◌, inl, inr, length, take, refl, sym, ap, subst}
+use Rattle.std.proofs.KnownBytes.{Appends-kept}
 use Rattle.std.proofs.Math.Seq.{take-length}
 use Rattle.std.specs.Io.KnownBytes.{Appends, Consumes, Keeps}
 use Rattle.jiff.specs.Types.{Date}
@@ -15,7 +16,7 @@ use Rattle.office_commands.specs.Tasks.{Asks, whole_of}
 use Rattle.office_commands.specs.Texts.{IsFailure}
 use Rattle.office_commands.specs.declared.fault.CommandFault.{CommandFault}
 use Rattle.office_commands.specs.declared.fault.CommandFault.TheVariants.{BadRecord, Failed, Policy}
-use Rattle.office_commands.proofs.PrintingLemmas.{appends_kept, appends_nothing}
+use Rattle.office_commands.proofs.PrintingLemmas.{appends_nothing}
 
 -- the bytes that the input gives, and no fewer than it had, are answered with this text
 abbrev pub IsHeard : {S : Type 0} → Ghosts S → Date → Held S → Held S → Option (List ℕ) → Option (List ℕ) → List ℕ → Type 0
@@ -48,11 +49,11 @@ module _ {S : Type 0} (g : Ghosts S) (day : Date) (old new : Held S) (was_left l
   pub handed_on : {T : Type 0} (r : Result T CommandFault) (held mid holds : Option (List ℕ)) → IfErr r IsFailure → Whole g day old new was_left left held mid → Keeps mid holds → Comes r held holds
   handed_on (Ok x) held mid holds fails it kept =
       let asked = it.1 in
-      (answers day (whole_of was_left asked.0) it.0 ∷ [], (it.0, (asked.0, asked.2, refl), appends_kept held mid holds it.0 it.2 kept), (new, (asked.1, asked.3), refl))
+      (answers day (whole_of was_left asked.0) it.0 ∷ [], (it.0, (asked.0, asked.2, refl), Appends-kept held mid holds it.0 it.2 kept), (new, (asked.1, asked.3), refl))
   handed_on (Err (Failed fault cause)) held mid holds fails it kept =
       let asked = it.1 in (
         answers day (whole_of was_left asked.0) it.0 ∷ [],
-        inr (it.0, (asked.0, asked.2, refl), (length it.0, subst (Appends held holds) (sym (take-length it.0)) (appends_kept held mid holds it.0 it.2 kept))),
+        inr (it.0, (asked.0, asked.2, refl), (length it.0, subst (Appends held holds) (sym (take-length it.0)) (Appends-kept held mid holds it.0 it.2 kept))),
         (new, (asked.1, asked.3), refl),
       )
   handed_on (Err (BadRecord index)) held mid holds fails it kept = absurd fails

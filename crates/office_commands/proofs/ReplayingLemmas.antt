@@ -1,5 +1,6 @@
 -- What a replay reads, has answered and prints, however it ends.
 use Rattle.std.proofs.Common.{◌≡◌, ◌⊎◌, ◌∙◌, ◌+◌, ℕ, List, [], Option, Result, Ok, Err, IfErr, inl, inr, length, take, refl, sym, ap, subst}
+use Rattle.std.proofs.KnownBytes.{Appends-kept}
 use Rattle.std.proofs.lemmas.List.{append-nil}
 use Rattle.std.proofs.Math.Seq.{take-length}
 use Rattle.std.specs.Io.KnownBytes.{Appends, Consumes, IsAtEnd, Keeps}
@@ -16,7 +17,6 @@ use Rattle.office_commands.specs.Texts.{IsFailure, replay_failure}
 use Rattle.office_commands.specs.Traffic.{Traffic}
 use Rattle.office_commands.specs.declared.fault.CommandFault.{CommandFault}
 use Rattle.office_commands.specs.declared.fault.CommandFault.TheVariants.{BadRecord, Failed, Policy}
-use Rattle.office_commands.proofs.PrintingLemmas.{appends_kept}
 use Rattle.office_commands.proofs.DeedLemmas.{as_many, records_are_done}
 
 -- the records are read, and their answers are so many deeds
@@ -59,7 +59,7 @@ module _ {S : Type 0} (g : Ghosts S) (first last : Held S) (was_left left held h
   ended {T} r mid items fails has at_end kept = go r fails
     where
       handed : HasAnswered g first last was_left left held holds items []
-      handed = record { given = has.given; texts = has.texts; reads = has.reads; records = has.records; answers = has.answers; writes = appends_kept held mid holds (answer_texts has.texts) has.writes kept }
+      handed = record { given = has.given; texts = has.texts; reads = has.reads; records = has.records; answers = has.answers; writes = Appends-kept held mid holds (answer_texts has.texts) has.writes kept }
 
       deeds : List Deed
       deeds = deeds_of_records items has.texts

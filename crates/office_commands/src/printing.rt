@@ -14,10 +14,11 @@ ghost use Rattle.office_commands.specs.declared.fault.StoreFault.TheVariants.{De
 
 use crate::done::Done;
 use crate::fault::{Cause, CommandFault, StoreFault, failed_by};
-use desk_devices::{Counted, write_whole};
+use desk_devices::Counted;
 use office_core::{Policy, PolicyFault};
 use std::alloc::{AllocError, Global};
 use std::io::Write;
+use streams::write_text;
 
 /// Hands on what was written.
 pub fn flush<O: Write>(out: &mut Counted<O>) -> Result<Done, CommandFault>
@@ -39,8 +40,8 @@ pub fn print<O: Write>(text: &str, out: &mut Counted<O>) -> Result<Done, Command
     ensures quiet { IfOk result IsQuiet }
     ensures failure { IfErr result IsFailure }
 {
-    match write_whole(out, text.as_bytes()) {
-        Ok(()) => flush(out),
+    match write_text(text, out) {
+        Ok(()) => Ok(Done::quiet()),
         Err(_) => Err(failed_by(StoreFault::Device, Cause::Output)),
     }
 }

@@ -5,6 +5,7 @@ ghost use Rattle.std.specs.IoError.{error_kind};
 ghost use Rattle.sqlite.specs.Closing.{IsCopied};
 ghost use Rattle.sqlite.specs.Files.{IsOpened, file_state};
 ghost use Rattle.sqlite.specs.Start.{FindsIn};
+ghost use Rattle.sqlite.specs.Held.{state};
 ghost use Rattle.sqlite.specs.State.{HasCleanDisk};
 ghost use Rattle.sqlite.specs.WalFiles.{image_at};
 ghost use Rattle.sqlite_wal.specs.Reads.{AreClean};
@@ -29,7 +30,7 @@ use http_desk::Counted;
 use office_core::Limits;
 use office_engine::Office;
 use office_rows::MAX_LIMIT;
-use sqlite::{Connection, Error, ErrorCode, FileFrom, FileStore, Files, Start};
+use sqlite::{Alter, Connection, Error, ErrorCode, FileFrom, FileStore, Files, Start};
 use sqlite_disk::Disk;
 use std::fs::{self, OpenOptions};
 use std::io::{self, ErrorKind, Read, Write};
@@ -149,12 +150,10 @@ fn open_store<S: Start>(
 }
 
 /// Makes an office in a file that was just made.
-fn make_office<D: Disk + Drop>(
-    conn: Connection<FileStore<D>>,
-) -> Result<Office<FileStore<D>>, CommandFault>
-    requires outside { (file_state conn).in_transaction ≡ false }
-    ensures clean { IfOk result (λ office. HasCleanDisk (file_state office) → HasCleanDisk (file_state conn)) }
-    ensures not_empty { (file_state conn).now.schema ≢ no_schema → IsErr result }
+fn make_office<S: Alter + Drop>(conn: Connection<S>) -> Result<Office<S>, CommandFault>
+    requires outside { (state S.Store conn).in_transaction ≡ false }
+    ensures clean { IfOk result (λ office. HasCleanDisk (state S.Store office) → HasCleanDisk (state S.Store conn)) }
+    ensures not_empty { (state S.Store conn).now.schema ≢ no_schema → IsErr result }
     ensures failure { IfErr result IsFailure }
     ensures not_missing { IfErr result (λ fault. found_nothing fault ≡ false) }
 {
@@ -165,15 +164,13 @@ fn make_office<D: Disk + Drop>(
 }
 
 /// Takes the office that the connection shows.
-fn take_office<D: Disk + Drop>(
-    conn: Connection<FileStore<D>>,
-) -> Result<Office<FileStore<D>>, CommandFault>
-    requires outside { (file_state conn).in_transaction ≡ false }
-    ensures clean { IfOk result (λ office. HasCleanDisk (file_state office) → HasCleanDisk (file_state conn)) }
-    ensures goes_on { IfOk result (λ office. HasCleanDisk (file_state office)
-        → (h : History) → IsLeftOf h (file_state conn).now.trees → IsKeptBy h (file_state office)) }
-    ensures was_there { IfOk result (λ office. HasCleanDisk (file_state office)
-        → IsTrue (has_office (file_state conn).now.schema)) }
+fn take_office<S: Alter + Drop>(conn: Connection<S>) -> Result<Office<S>, CommandFault>
+    requires outside { (state S.Store conn).in_transaction ≡ false }
+    ensures clean { IfOk result (λ office. HasCleanDisk (state S.Store office) → HasCleanDisk (state S.Store conn)) }
+    ensures goes_on { IfOk result (λ office. HasCleanDisk (state S.Store office)
+        → (h : History) → IsLeftOf h (state S.Store conn).now.trees → IsKeptBy h (state S.Store office)) }
+    ensures was_there { IfOk result (λ office. HasCleanDisk (state S.Store office)
+        → IsTrue (has_office (state S.Store conn).now.schema)) }
     ensures failure { IfErr result IsFailure }
     ensures not_missing { IfErr result (λ fault. found_nothing fault ≡ false) }
 {
