@@ -76,25 +76,25 @@ tails_alike x xs ys same f =
     let right = sum_by-cons f x ys in
     omega arith
 
+-- what counts the first of these, and none of those, tells them apart
+one_alone : (f : Outline → ℕ) (x : Outline) (xs zs : List Outline) → f x ≡ 1 → sum_by f zs ≡ 0 → sum_by f (x ∷ xs) ≡ sum_by f zs → ⊥
+one_alone f x xs zs one none same =
+    let sum = sum_by-cons f x xs in
+    omega arith
+
 not_before : (x y : Outline) (xs ys : List Outline) → AllByRecursion (λ z. before z y ≡ false) ys → Alike (x ∷ xs) (y ∷ ys) → before x y ≡ true → ⊥
 not_before x y xs ys least same e =
     let f : Outline → ℕ = λ z. cond (before z y) 1 0 in
-    let one : f x ≡ 1 = ap (λ (b : Bool). cond b 1 0) e in
-    let none : sum_by f (y ∷ ys) ≡ 0 =
-    no_sum f (y ∷ ys) (ap (λ (b : Bool). cond b 1 0) (not_itself y.0), all_weaker (λ z. before z y ≡ false) (λ z. f z ≡ 0) ys (λ z h. ap (λ (b : Bool). cond b 1 0) h) least) in
-    let sum = sum_by-cons f x xs in
-    let whole = same f in
-    omega arith
+    one_alone f x xs (y ∷ ys) (ap (λ (b : Bool). cond b 1 0) e)
+    (no_sum f (y ∷ ys) (ap (λ (b : Bool). cond b 1 0) (not_itself y.0), all_weaker (λ z. before z y ≡ false) (λ z. f z ≡ 0) ys (λ z h. ap (λ (b : Bool). cond b 1 0) h) least))
+    (same f)
 
 not_after : (x y : Outline) (xs ys : List Outline) → AllByRecursion (λ z. before x z ≡ true) xs → Alike (x ∷ xs) (y ∷ ys) → before y x ≡ true → ⊥
 not_after x y xs ys first same e =
     let f : Outline → ℕ = λ z. cond (before z x) 1 0 in
-    let one : f y ≡ 1 = ap (λ (b : Bool). cond b 1 0) e in
-    let none : sum_by f (x ∷ xs) ≡ 0 =
-    no_sum f (x ∷ xs) (ap (λ (b : Bool). cond b 1 0) (not_itself x.0), all_weaker (λ z. before x z ≡ true) (λ z. f z ≡ 0) xs (λ z h. ap (λ (b : Bool). cond b 1 0) (one_way x.0 z.0 h)) first) in
-    let sum = sum_by-cons f y ys in
-    let whole = same f in
-    omega arith
+    one_alone f y ys (x ∷ xs) (ap (λ (b : Bool). cond b 1 0) e)
+    (no_sum f (x ∷ xs) (ap (λ (b : Bool). cond b 1 0) (not_itself x.0), all_weaker (λ z. before x z ≡ true) (λ z. f z ≡ 0) xs (λ z h. ap (λ (b : Bool). cond b 1 0) (one_way x.0 z.0 h)) first))
+    (sym (same f))
 
 -- one that passes no test is counted
 is_counted : (test : Outline → Bool) (z : Outline) (zs : List Outline) → test z ≡ false → sum_by (λ (w : Outline). cond (test w) 0 1) (z ∷ zs) ≡ 0 → ⊥
