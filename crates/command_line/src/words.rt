@@ -5,7 +5,7 @@ ghost use Rattle.std.specs.List.{All};
 ghost use Rattle.clap.specs.Words.{FailsBy, Text, fault_of, first_value, found_of, is_simple_and_free};
 ghost use Rattle.bag_text.specs.Text.{texts};
 ghost use Rattle.command_line.specs.Lines.{value_of};
-ghost use Rattle.command_line.specs.CommandBuilding.{IsReadBy, Takes, are_names, command_for, names_of, needed_names, rule_for, rules_for};
+ghost use Rattle.command_line.specs.CommandBuilding.{AreReadBy, IsReadBy, Takes, are_names, command_for, names_of, needed_names, rule_for, rules_for};
 
 use clap::{Arg, ArgAction, ArgMatches, Command, Error};
 use std::alloc::{AllocError, Global};
@@ -46,14 +46,22 @@ fn arg_of<'a>(alloc: Global, argument: &Argument<'a>) -> Arg<'a>
     }
 }
 
+/// The arguments as `clap` has them.
+fn args_of<'a>(alloc: Global, arguments: &[Argument<'a>]) -> Result<Vec<Arg<'a>>, AllocError>
+    ensures { IfOk result (λ args. AreReadBy (rules_for arguments.now) args.items) }
+{
+    let mut args = Vec::new(alloc);
+    for argument in arguments {
+        args.push(arg_of(alloc, argument))?;
+    }
+    Ok(args)
+}
+
 /// The command that reads the words of the subcommand.
 fn command_of<'a>(alloc: Global, usage: &Usage<'a>) -> Result<Command<'a>, AllocError>
     ensures { IfOk result (Takes usage.now.name.now (rules_for usage.now.arguments.now)) }
 {
-    let mut args = Vec::new(alloc);
-    for argument in usage.arguments {
-        args.push(arg_of(alloc, argument))?;
-    }
+    let args = args_of(alloc, usage.arguments)?;
     let name = usage.name;
     let call = format!(in alloc; "depot {name}")?;
     Command::new(alloc, name)

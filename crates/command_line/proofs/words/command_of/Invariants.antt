@@ -1,6 +1,0 @@
-use Rattle.std.proofs.Common.{take}
-use Rattle.command_line.specs.CommandBuilding.{AreReadBy, rules_for}
-use Rattle.command_line.proofs.words.command_of.Given as goal
-
-abbrev pub invariant-loop-argument : goal.invariant-loop-argument
-invariant-loop-argument l = AreReadBy (rules_for (take l.argument-index l.fn.usage.arguments.now)) l.args.items
