@@ -2,11 +2,15 @@
 #![tactic(auto)]
 
 mod forms;
+mod many;
+mod marks;
 mod policies;
 
 use commands::Ending;
 pub use forms::BAG;
 use forms::{LISTED_TWICE, OXUM, PERCENT_0_97, STRANGE_NAME, TAGGED, UNLISTED, WRONG_CHECKSUM};
+pub use many::many_files;
+pub use marks::{bytes_of, text_of};
 use policies::ONE_RULE;
 pub use policies::POLICY;
 

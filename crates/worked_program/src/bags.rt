@@ -2,7 +2,6 @@
 //! the limits, from a stream and from a file.
 
 use crate::codes::{DECLARATIONS, ENTRIES, INFOS, MANIFESTS, PAYLOADS};
-use crate::marks::bytes_of;
 use crate::output::Taking;
 use crate::rows::prints;
 use crate::runs::{Given, came_of};
@@ -10,6 +9,7 @@ use commands::Ending;
 use std::alloc::Global;
 use std::fs;
 use std::test::*;
+use worked_bags::{bytes_of, many_files};
 
 #[test]
 fn small_bags_are_judged(rt: HostRuntime) -> Result<(), Fail> {
@@ -32,17 +32,6 @@ fn small_bags_are_judged(rt: HostRuntime) -> Result<(), Fail> {
         assert!(rt; rows == wanted, "{rows} rows");
     }
     Ok(())
-}
-
-/// A form that lacks its `END`, of so many empty files with names of four digits.
-fn many_files(alloc: Global, count: u32) -> Result<Vec<u8>, Fail> {
-    let mut form = Vec::new(alloc);
-    form.extend_from_slice(b"BAGSET 1\n")?;
-    for number in 0..count {
-        let entry = format!(in alloc; "FILE 4 0\n{number:04}\n")?;
-        form.extend_from_slice(entry.as_bytes())?;
-    }
-    Ok(form)
 }
 
 #[test]

@@ -10,8 +10,6 @@ mod failures;
 #[cfg(test)]
 mod folders;
 #[cfg(test)]
-mod marks;
-#[cfg(test)]
 mod offices;
 #[cfg(test)]
 mod output;

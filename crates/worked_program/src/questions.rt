@@ -1,9 +1,9 @@
 //! Questions to small policies, and texts that are none, with what `explain` says of each.
 
-use crate::marks::{bytes_of, text_of};
 use crate::rows::{prints, words_of};
 use std::fs;
 use std::test::*;
+use worked_bags::{bytes_of, text_of};
 
 /// A policy; the caller, the action, the collection and the class; the line that is printed; and
 /// what standard error is told, where it is told a thing. All with marks. A line that is no row says

@@ -1,10 +1,10 @@
 //! Rows that say what `check` and `explain` print.
 
-use crate::marks::bytes_of;
 use crate::runs::{Given, came_of};
 use commands::Ending;
 use std::alloc::{AllocError, Global};
 use std::test::Fail;
+use worked_bags::bytes_of;
 
 /// The words between the bars of a text.
 pub fn words_of(alloc: Global, text: &str) -> Result<Vec<&str>, AllocError> {

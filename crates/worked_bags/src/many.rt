@@ -1,0 +1,14 @@
+//! Forms of many files.
+
+use std::alloc::{AllocError, Global};
+
+/// A form that lacks its `END`, of so many empty files with names of four digits.
+pub fn many_files(alloc: Global, count: u32) -> Result<Vec<u8>, AllocError> {
+    let mut form = Vec::new(alloc);
+    form.extend_from_slice(b"BAGSET 1\n")?;
+    for number in 0..count {
+        let entry = format!(in alloc; "FILE 4 0\n{number:04}\n")?;
+        form.extend_from_slice(entry.as_bytes())?;
+    }
+    Ok(form)
+}
