@@ -1,38 +1,11 @@
 //! What is said of small bags, and why.
 
-use crate::codes::{DECLARATIONS, ENTRIES, INFOS, MANIFESTS, PAYLOADS};
-use crate::devices::is_said;
-use crate::marks::bytes_of;
 use crate::rows::holds;
 use bag_check::{PayloadCounts, check_bag, count_payload, digest_matches};
 use bag_text::{BagSet, Checksum, read_bagset};
-use commands::judge;
 use std::alloc::{AllocError, Global};
 use std::test::*;
-
-#[test]
-fn small_bags_are_judged(rt: HostRuntime) -> Result<(), Fail> {
-    for (table, wanted) in [
-        (DECLARATIONS, 34),
-        (MANIFESTS, 33),
-        (PAYLOADS, 22),
-        (INFOS, 37),
-        (ENTRIES, 30),
-    ] {
-        let mut rows = 0usize;
-        for line in table.lines() {
-            if let Some((form, row)) = line.split_once(" => ") {
-                let bytes = bytes_of(rt.alloc(), form)?;
-                let outcome = judge(rt.alloc(), &mut bytes.as_slice())?;
-                let is_so = is_said(rt.alloc(), &outcome, row)?;
-                assert!(rt; is_so, "{line}");
-                rows = rows.saturating_add(1);
-            }
-        }
-        assert!(rt; rows == wanted, "{rows} rows");
-    }
-    Ok(())
-}
+use worked_bags::bytes_of;
 
 /// What is found in a bag, or its fault.
 fn report_of(alloc: Global, bag: &BagSet<'_>) -> Result<String, AllocError> {

@@ -1,9 +1,11 @@
 //! The words of the command line.
 
-use crate::marks::text_of;
+use crate::rows::holds;
 use command_line::{Line, MAX_COUNT, UseFault, read_line};
+use commands::Asked;
 use std::alloc::{AllocError, Global};
 use std::test::*;
+use worked_bags::text_of;
 
 /// The words between the bars of a text; none of an empty one.
 fn words_of(alloc: Global, text: &str) -> Result<Vec<&str>, AllocError> {
@@ -16,42 +18,54 @@ fn words_of(alloc: Global, text: &str) -> Result<Vec<&str>, AllocError> {
     Ok(words)
 }
 
-/// What the words say, between bars: the subcommand and its values, or that they are no use.
-fn said_of(alloc: Global, words: &[&str]) -> Result<String, AllocError> {
-    match read_line(alloc, words) {
-        Ok(Line::Check { file }) => format!(in alloc; "check|{file}"),
-        Ok(Line::Pack { folder, file }) => format!(in alloc; "pack|{folder}|{file}"),
-        Ok(Line::Unpack { file, folder }) => format!(in alloc; "unpack|{file}|{folder}"),
-        Ok(Line::Explain(asked)) => {
-            let policy = asked.policy;
-            let caller = asked.caller;
-            let action = asked.action.as_str();
-            let collection = asked.collection.map_or("-", |name| name.as_str());
-            let class = asked.class.map_or("-", |name| name.as_str());
-            format!(in alloc; "explain|{policy}|{caller}|{action}|{collection}|{class}")
-        }
-        Ok(Line::Policy { store, policy }) => format!(in alloc; "policy|{store}|{policy}"),
-        Ok(Line::Ask { store, .. }) => format!(in alloc; "ask|{store}"),
-        Ok(Line::Replay { policy, store }) => {
+/// What is asked of a policy, between bars.
+fn asked_text(alloc: Global, asked: Asked<'_>) -> Result<String, AllocError> {
+    let policy = asked.policy;
+    let caller = asked.caller;
+    let action = asked.action.as_str();
+    let collection = asked.collection.map_or("-", |name| name.as_str());
+    let class = asked.class.map_or("-", |name| name.as_str());
+    format!(in alloc; "explain|{policy}|{caller}|{action}|{collection}|{class}")
+}
+
+/// A line on a store, between bars.
+fn store_text(alloc: Global, line: Line<'_>) -> Result<String, AllocError> {
+    match line {
+        Line::Policy { store, policy } => format!(in alloc; "policy|{store}|{policy}"),
+        Line::Ask { store, .. } => format!(in alloc; "ask|{store}"),
+        Line::Replay { policy, store } => {
             let policy = policy.unwrap_or("no policy");
             format!(in alloc; "replay|{policy}|{store}")
         }
-        Ok(
-            Line::Serve {
-                port,
-                count,
-                store,
-                ..
-            },
-        ) => format!(in alloc; "serve|{port}|{count}|{store}"),
-        Err(UseFault::Use(text)) => Ok(String::from_str(
-            alloc,
-            if text.ends_with('\n') {
-                "no use"
-            } else {
-                "no line"
-            },
-        )?),
+        Line::Serve {
+            port,
+            count,
+            store,
+            ..
+        } => format!(in alloc; "serve|{port}|{count}|{store}"),
+        _ => String::from_str(alloc, "no line"),
+    }
+}
+
+/// A line, between bars.
+fn line_text(alloc: Global, line: Line<'_>) -> Result<String, AllocError> {
+    match line {
+        Line::Check { file } => format!(in alloc; "check|{file}"),
+        Line::Pack { folder, file } => format!(in alloc; "pack|{folder}|{file}"),
+        Line::Unpack { file, folder } => format!(in alloc; "unpack|{file}|{folder}"),
+        Line::Explain(asked) => asked_text(alloc, asked),
+        line => store_text(alloc, line),
+    }
+}
+
+/// What the words say, between bars: the subcommand and its values, or that they are no use.
+fn said_of(alloc: Global, words: &[&str]) -> Result<String, AllocError> {
+    match read_line(alloc, words) {
+        Ok(line) => line_text(alloc, line),
+        Err(UseFault::Use(text)) => {
+            let is_line = text.ends_with('\n');
+            String::from_str(alloc, if is_line { "no use" } else { "no line" })
+        }
         Err(UseFault::Memory) => Err(AllocError),
     }
 }
@@ -124,14 +138,18 @@ Check|- => no use
  => no use
 ";
 
+/// Whether the words between the bars say this.
+fn say(alloc: Global, text: &str, wanted: &str) -> Result<bool, AllocError> {
+    let words = words_of(alloc, text)?;
+    Ok(said_of(alloc, words.as_slice())?.as_str() == wanted)
+}
+
 #[test]
-fn words(rt: HostRuntime) -> Result<(), Fail> {
+fn words(rt: HostRuntime) -> Result<(), AllocError> {
     let mut rows = 0usize;
     for row in WORDS.lines() {
         if let Some((text, wanted)) = row.split_once(" => ") {
-            let words = words_of(rt.alloc(), text)?;
-            let said = said_of(rt.alloc(), words.as_slice())?;
-            assert!(rt; said.as_str() == wanted, "{row}");
+            holds(&rt, say(rt.alloc(), text, wanted)?, row);
             rows = rows.saturating_add(1);
         }
     }
@@ -161,28 +179,37 @@ serve|--port|x|--count|1|office.db|2024-03-01 => P is the number of a port, 0 to
 serve|--port|0|--count|x|office.db|2024-03-01 => N is a number of connections, 1 to 1000000\n
 ";
 
+/// What is said of words that ask for nothing.
+fn fault_of(alloc: Global, text: &str) -> Result<String, Fail> {
+    let line = text_of(alloc, text)?;
+    let words = words_of(alloc, line.as_str())?;
+    let fault = read_line(alloc, words.as_slice()).err().ok_or("a fault")?;
+    Ok(fault.to_string(alloc)?)
+}
+
+/// Whether what is said is the text with these marks, or begins with it where it is no whole line.
+fn is_said(alloc: Global, said: &str, wanted: &str) -> Result<bool, AllocError> {
+    let wanted = text_of(alloc, wanted)?;
+    let is_whole = !wanted.ends_with('\n') || said.len() == wanted.len();
+    Ok(is_whole && said.starts_with(wanted.as_str()))
+}
+
+/// Whether this is said of words that ask for nothing.
+fn is_fault(alloc: Global, text: &str, wanted: &str) -> Result<bool, Fail> {
+    let said = fault_of(alloc, text)?;
+    Ok(is_said(alloc, said.as_str(), wanted)?)
+}
+
 #[test]
 fn faults_of_use(rt: HostRuntime) -> Result<(), Fail> {
     let mut rows = 0usize;
     for row in FAULTS.lines() {
-        if let Some((text, said)) = row.split_once(" => ") {
-            let line = text_of(rt.alloc(), text)?;
-            let words = words_of(rt.alloc(), line.as_str())?;
-            let wanted = text_of(rt.alloc(), said)?;
-            let fault = read_line(rt.alloc(), words.as_slice())
-                .err()
-                .ok_or("a fault")?;
-            let fault = fault.to_string(rt.alloc())?;
-            assert!(rt; fault.as_str().starts_with(wanted.as_str()), "{row}");
-            assert!(rt;
-                !wanted.ends_with('\n') || fault.len() == wanted.len(),
-                "{row}"
-            );
+        if let Some((text, wanted)) = row.split_once(" => ") {
+            holds(&rt, is_fault(rt.alloc(), text, wanted)?, row);
             rows = rows.saturating_add(1);
         }
     }
     assert!(rt; rows == 16);
-    let memory = UseFault::Memory.to_string(rt.alloc())?;
-    assert!(rt; memory.as_str() == "memory");
+    assert!(rt; UseFault::Memory.to_string(rt.alloc())?.as_str() == "memory");
     Ok(())
 }

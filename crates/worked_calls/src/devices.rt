@@ -1,8 +1,6 @@
-//! Readers that may fail, and what a row says of an outcome.
+//! Readers that may fail, and what is told of an outcome.
 
-use crate::marks::bytes_of;
-use commands::{Ending, Outcome};
-use std::alloc::{AllocError, Global};
+use commands::Outcome;
 use std::io;
 use std::io::{Error, ErrorKind, Read};
 
@@ -28,24 +26,4 @@ pub fn told(outcome: &Outcome) -> &str {
         Some(reason) => reason.as_str(),
         None => "",
     }
-}
-
-/// Whether an outcome is what a row says: a line, and what standard error is told. A row may leave out
-/// the latter where a bag is refused, and has none where nothing is told.
-pub fn is_said(alloc: Global, outcome: &Outcome, row: &str) -> Result<bool, AllocError> {
-    let (line, reason) = row.split_once(" => ").unwrap_or((row, ""));
-    let is_refused = line.starts_with("invalid ") || line.starts_with("unreadable ");
-    let is_told = if reason.is_empty() && is_refused {
-        !told(outcome).is_empty()
-    } else {
-        told(outcome).as_bytes() == bytes_of(alloc, reason)?.as_slice()
-    };
-    let is_accepted = line.starts_with("valid ") || line.starts_with("allow ");
-    let wanted = if is_accepted {
-        Ending::Accepted
-    } else {
-        Ending::Refused
-    };
-    let is_line = outcome.text.as_bytes() == bytes_of(alloc, line)?.as_slice();
-    Ok(is_line && is_told && outcome.ending == wanted)
 }

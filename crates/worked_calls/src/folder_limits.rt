@@ -1,6 +1,6 @@
 //! Folders and forms at their limits.
 
-use crate::folders::{begin, lay, pack_here, packs_as, unpacks_as};
+use crate::folders::{begin, begin_with, finish, lay, pack_here, packs_as, unpacks_as};
 use std::fs::File;
 use std::test::*;
 use std::{fs, io};
@@ -41,99 +41,135 @@ static SIZES: [(u64, &str, &str); 5] = [
     ),
 ];
 
-#[test]
-fn packs_up_to_the_limit(rt: HostRuntime) -> Result<(), Fail> {
-    begin(&rt, "sizes")?;
-    lay(&rt, "sizes/large", "a=")?;
-    for (size, line, reason) in &SIZES {
-        make_sparse(&rt, "sizes/large/b", *size)?;
-        packs_as(&rt, "sizes/large", "sizes/large.bagset", line, reason)?;
-    }
-    // Its place is that in the order of paths, and it comes before names that clash.
-    fs::write(&rt, "sizes/large/a0", b"")?;
-    fs::write(&rt, "sizes/large/data", b"")?;
+/// Packs the folder with a file `b` of so many bytes.
+fn pack_sized(rt: &HostRuntime, size: u64, line: &str, reason: &str) -> Result<(), Fail> {
+    make_sparse(rt, "sizes/large/b", size)?;
+    packs_as(rt, "sizes/large", "sizes/large.bagset", line, reason)
+}
+
+/// Packs a file too long beside others. Its place is that in the order of paths, and it comes before
+/// names that clash.
+fn pack_beside_others(rt: &HostRuntime) -> Result<(), Fail> {
+    fs::write(rt, "sizes/large/a0", b"")?;
+    fs::write(rt, "sizes/large/data", b"")?;
     packs_as(
-        &rt,
+        rt,
         "sizes/large",
         "sizes/large.bagset",
         "unpackable S2 2\n",
         "",
-    )?;
-    fs::remove_dir_all(&rt, "sizes")?;
-    Ok(())
+    )
+}
+
+#[test]
+fn packs_up_to_the_limit(rt: HostRuntime) -> Result<(), Fail> {
+    begin_with(&rt, "sizes", "sizes/large", "a=")?;
+    for (size, line, reason) in &SIZES {
+        pack_sized(&rt, *size, line, reason)?;
+    }
+    pack_beside_others(&rt)?;
+    finish(&rt, "sizes")
+}
+
+/// A form as long as one may be.
+const LONGEST: &str = "whole-forms/whole.bagset";
+
+/// Whether the form of a folder with a file of so many bytes is as long as one may be.
+fn packs_longest(rt: &HostRuntime) -> Result<bool, Fail> {
+    begin_with(rt, "whole-forms", "whole-forms/whole", "")?;
+    make_sparse(rt, "whole-forms/whole/b", 16_777_185)?;
+    Ok(pack_here(rt, "whole-forms/whole", LONGEST)?.bytes == 16_777_216)
+}
+
+/// Whether nothing is made of that form with one byte more, whatever it is.
+fn refuses_one_more(rt: &HostRuntime) -> Result<bool, Fail> {
+    add_a_line_feed(rt, LONGEST)?;
+    unpacks_as(rt, LONGEST, "whole-forms/too-long", "unreadable SIZE\n", "")?;
+    Ok(!fs::exists(rt, "whole-forms/too-long")?)
 }
 
 #[test]
 fn unpacks_up_to_the_limit(rt: HostRuntime) -> Result<(), Fail> {
-    begin(&rt, "whole-forms")?;
-    lay(&rt, "whole-forms/whole", "")?;
-    make_sparse(&rt, "whole-forms/whole/b", 16_777_185)?;
-    assert!(rt;
-        pack_here(&rt, "whole-forms/whole", "whole-forms/whole.bagset")?.bytes == 16_777_216
-    );
-    let form = "whole-forms/whole.bagset";
+    assert!(rt; packs_longest(&rt)?);
     unpacks_as(
         &rt,
-        form,
+        LONGEST,
         "whole-forms/whole-again",
         "unpacked 1 files\n",
         "",
     )?;
-    // One byte more, whatever it is.
-    add_a_line_feed(&rt, form)?;
-    unpacks_as(&rt, form, "whole-forms/too-long", "unreadable SIZE\n", "")?;
-    assert!(rt; !fs::exists(&rt, "whole-forms/too-long")?);
-    fs::remove_dir_all(&rt, "whole-forms")?;
+    assert!(rt; refuses_one_more(&rt)?);
+    finish(&rt, "whole-forms")
+}
+
+/// Makes so many empty files, with numbers for names.
+fn make_files(rt: &HostRuntime, count: u32) -> Result<(), Fail> {
+    for number in 0..count {
+        let path = format!(in rt.alloc(); "many-files/many/{number}")?;
+        fs::write(rt, path, b"")?;
+    }
     Ok(())
+}
+
+/// Packs the files: how many there are.
+fn pack_files(rt: &HostRuntime) -> Result<usize, Fail> {
+    Ok(pack_here(rt, "many-files/many", "many-files/many.bagset")?.files)
+}
+
+/// Packs the files with one more of so many bytes, whose place is the 2,001st in the order of paths.
+fn pack_one_more(rt: &HostRuntime, size: u64, line: &str, reason: &str) -> Result<(), Fail> {
+    make_sparse(rt, "many-files/many/a", size)?;
+    packs_as(
+        rt,
+        "many-files/many",
+        "many-files/many.bagset",
+        line,
+        reason,
+    )
 }
 
 #[test]
 fn packs_no_more_than_2000_files(rt: HostRuntime) -> Result<(), Fail> {
-    begin(&rt, "many-files")?;
-    fs::create_dir(&rt, "many-files/many")?;
-    for number in 0..2000 {
-        let path = format!(in rt.alloc(); "many-files/many/{number}")?;
-        fs::write(&rt, path, b"")?;
-    }
-    assert!(rt; pack_here(&rt, "many-files/many", "many-files/many.bagset")?.files == 2000);
-    let form = "many-files/many.bagset";
-    fs::write(&rt, "many-files/many/a", b"")?;
-    packs_as(&rt, "many-files/many", form, "unpackable S6\n", "")?;
-    // A file too long at the 2,001st place, in the order of paths.
-    make_sparse(&rt, "many-files/many/a", 16_777_217)?;
-    packs_as(
-        &rt,
-        "many-files/many",
-        form,
-        "unpackable S2 2000\n",
-        "a has more than ",
-    )?;
+    begin_with(&rt, "many-files", "many-files/many", "")?;
+    make_files(&rt, 2000)?;
+    assert!(rt; pack_files(&rt)? == 2000);
+    pack_one_more(&rt, 0, "unpackable S6\n", "")?;
+    pack_one_more(&rt, 16_777_217, "unpackable S2 2000\n", "a has more than ")?;
     make_sparse(&rt, "many-files/many/b", 16_777_217)?;
-    fs::write(&rt, "many-files/many/a", b"")?;
-    packs_as(&rt, "many-files/many", form, "unpackable S6\n", "")?;
-    fs::remove_dir_all(&rt, "many-files")?;
-    Ok(())
+    pack_one_more(&rt, 0, "unpackable S6\n", "")?;
+    finish(&rt, "many-files")
+}
+
+/// Makes an empty file with a path of 1,024 bytes, and this behind them: four names of 204 bytes and
+/// slashes are 820 bytes, and with a name of 204 more 1,024.
+fn lay_deep(rt: &HostRuntime, end: &str) -> Result<(), Fail> {
+    let name = "d".repeat(rt.alloc(), 204)?;
+    let files = format!(in rt.alloc(); "{name}/{name}/{name}/{name}/{name}{end}=")?;
+    lay(rt, "long-paths/deep", files.as_str())
+}
+
+/// How many files are packed, where each path may stand in a form.
+fn pack_deep(rt: &HostRuntime) -> Result<usize, Fail> {
+    lay_deep(rt, "")?;
+    Ok(pack_here(rt, "long-paths/deep", "long-paths/deep.bagset")?.files)
+}
+
+/// Packs a path with one byte more.
+fn refuse_deeper(rt: &HostRuntime) -> Result<(), Fail> {
+    lay_deep(rt, "d")?;
+    packs_as(
+        rt,
+        "long-paths/deep",
+        "long-paths/deep.bagset",
+        "unpackable S5 1\n",
+        "d is no good path: ",
+    )
 }
 
 #[test]
 fn packs_no_path_of_more_than_1024_bytes(rt: HostRuntime) -> Result<(), Fail> {
     begin(&rt, "long-paths")?;
-    // Four names of 204 bytes and slashes are 820 bytes, and with a name of 204 more 1,024.
-    let name = "d".repeat(rt.alloc(), 204)?;
-    let folder = format!(in rt.alloc(); "long-paths/deep/{name}/{name}/{name}/{name}")?;
-    fs::create_dir_all(&rt, folder.as_str())?;
-    let path = format!(in rt.alloc(); "{folder}/{name}")?;
-    fs::write(&rt, path.as_str(), b"")?;
-    assert!(rt; pack_here(&rt, "long-paths/deep", "long-paths/deep.bagset")?.files == 1);
-    let path = format!(in rt.alloc(); "{folder}/{name}d")?;
-    fs::write(&rt, path.as_str(), b"")?;
-    packs_as(
-        &rt,
-        "long-paths/deep",
-        "long-paths/deep.bagset",
-        "unpackable S5 1\n",
-        "d is no good path: ",
-    )?;
-    fs::remove_dir_all(&rt, "long-paths")?;
-    Ok(())
+    assert!(rt; pack_deep(&rt)? == 1);
+    refuse_deeper(&rt)?;
+    finish(&rt, "long-paths")
 }

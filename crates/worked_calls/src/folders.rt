@@ -1,12 +1,14 @@
 //! What comes of packing and unpacking small folders and forms, each in a folder of its test's own.
 
-use crate::marks::{bytes_of, text_of};
+use crate::rows::holds;
 use bag_folders::{
     PackFault, Packed, Said, UnpackFault, Unpacked, pack, pack_said, unpack, unpack_said,
 };
+use std::alloc::AllocError;
 use std::os::unix::fs::symlink;
 use std::test::*;
 use std::{fs, io};
+use worked_bags::{bytes_of, text_of};
 
 /// Packs over the files of the host.
 pub fn pack_here(rt: &HostRuntime, folder: &str, file: &str) -> Result<Packed, PackFault> {
@@ -26,13 +28,25 @@ fn reason_of(said: &Said) -> &str {
     }
 }
 
-/// Fails where another line is said, or another reason: all of it, or what stands in it, where that is
-/// no whole line.
+/// Whether this is told: all of the reason, or what it stands in, where it is no whole line.
+fn is_told(told: &str, reason: &str) -> bool {
+    told == reason || (!reason.ends_with('\n') && told.contains(reason))
+}
+
+/// Whether work with this line was done.
+fn is_done(line: &str) -> bool {
+    line.starts_with("packed ") || line.starts_with("unpacked ")
+}
+
+/// Whether this line is said, and this reason: all of it, or what stands in it, where that is no whole
+/// line.
+fn is_said(said: &Said, line: &str, reason: &str) -> bool {
+    said.text.as_str() == line && is_told(reason_of(said), reason) && said.is_done == is_done(line)
+}
+
+/// Fails where another line is said, or another reason.
 fn agree(said: Said, line: &str, reason: &str) -> Result<(), Fail> {
-    let told = reason_of(&said);
-    let is_told = told == reason || (!reason.ends_with('\n') && told.contains(reason));
-    let is_done = line.starts_with("packed ") || line.starts_with("unpacked ");
-    if said.text.as_str() == line && is_told && said.is_done == is_done {
+    if is_said(&said, line, reason) {
         return Ok(());
     }
     Err(Fail::new(said.text))
@@ -84,23 +98,38 @@ pub fn begin(rt: &HostRuntime, folder: &str) -> io::Result<()> {
     fs::create_dir(rt, folder)
 }
 
-/// Makes a folder with files: `path=content`, with marks, and a comma and a blank between them.
+/// Makes a file with the folders above it. Its path and its content are texts with marks.
+fn lay_file(rt: &HostRuntime, folder: &str, path: &str, content: &str) -> Result<(), Fail> {
+    let path = text_of(rt.alloc(), path)?;
+    let whole = format!(in rt.alloc(); "{folder}/{path}")?;
+    if let Some((above, _)) = whole.as_str().rsplit_once('/') {
+        fs::create_dir_all(rt, above)?;
+    }
+    let bytes = bytes_of(rt.alloc(), content)?;
+    fs::write(rt, whole.as_str(), bytes.as_slice())?;
+    Ok(())
+}
+
+/// Makes a folder with files: `path=content`, with a comma and a blank between them.
 pub fn lay(rt: &HostRuntime, folder: &str, files: &str) -> Result<(), Fail> {
     fs::create_dir_all(rt, folder)?;
     for file in files.split(", ") {
         if let Some((path, content)) = file.split_once('=') {
-            let path = text_of(rt.alloc(), path)?;
-            let whole = format!(in rt.alloc(); "{folder}/{path}")?;
-            if let Some((above, _)) = whole.as_str().rsplit_once('/') {
-                fs::create_dir_all(rt, above)?;
-            }
-            fs::write(
-                rt,
-                whole.as_str(),
-                bytes_of(rt.alloc(), content)?.as_slice(),
-            )?;
+            lay_file(rt, folder, path, content)?;
         }
     }
+    Ok(())
+}
+
+/// Makes the folder of a test anew, and in it a folder with these files.
+pub fn begin_with(rt: &HostRuntime, test: &str, folder: &str, files: &str) -> Result<(), Fail> {
+    begin(rt, test)?;
+    lay(rt, folder, files)
+}
+
+/// Removes a folder, with which a test ends.
+pub fn finish(rt: &HostRuntime, folder: &str) -> Result<(), Fail> {
+    fs::remove_dir_all(rt, folder)?;
     Ok(())
 }
 
@@ -114,32 +143,42 @@ pub fn is_bag(rt: &HostRuntime, file: &str) -> Result<bool, Fail> {
     Ok(fs::read(rt, file)?.as_slice() == form.as_slice())
 }
 
+/// Where the form of bag A is written, the folder that is made of it, and that folder's form.
+const FORM: &str = "bag-and-back/bag-a.bagset";
+
+const COPY: &str = "bag-and-back/copy";
+
+const AGAIN: &str = "bag-and-back/copy.bagset";
+
+/// Whether the folder is packed to the form of bag A.
+fn packs_bag(rt: &HostRuntime, folder: &str, file: &str) -> Result<bool, Fail> {
+    packs_as(rt, folder, file, "packed 3 files 210 bytes\n", "")?;
+    is_bag(rt, file)
+}
+
+/// Whether what stands there isn't touched as a form is unpacked.
+fn keeps_what_stands(rt: &HostRuntime) -> Result<bool, Fail> {
+    unpacks_as(rt, FORM, COPY, "exists\n", "")?;
+    unpacks_as(rt, FORM, AGAIN, "exists\n", "")?;
+    is_bag(rt, AGAIN)
+}
+
+/// Whether the calls tell how much they packed and unpacked.
+fn tells_how_much(rt: &HostRuntime) -> Result<bool, Fail> {
+    let packed = pack_here(rt, COPY, AGAIN)?;
+    let unpacked = unpack_here(rt, AGAIN, "bag-and-back/other")?;
+    Ok(packed.bytes == 210 && unpacked.files == 3)
+}
+
 #[test]
 fn packs_and_unpacks_a_bag(rt: HostRuntime) -> Result<(), Fail> {
-    begin(&rt, "bag-and-back")?;
-    lay(&rt, "bag-and-back/bag-a", BAG_FILES)?;
-    let form = "bag-and-back/bag-a.bagset";
-    let copy = "bag-and-back/copy";
-    let again = "bag-and-back/copy.bagset";
-    packs_as(
-        &rt,
-        "bag-and-back/bag-a",
-        form,
-        "packed 3 files 210 bytes\n",
-        "",
-    )?;
-    assert!(rt; is_bag(&rt, form)?);
-    unpacks_as(&rt, form, copy, "unpacked 3 files\n", "")?;
-    packs_as(&rt, copy, again, "packed 3 files 210 bytes\n", "")?;
-    assert!(rt; is_bag(&rt, again)?);
-    // What stands there isn't touched.
-    unpacks_as(&rt, form, copy, "exists\n", "")?;
-    unpacks_as(&rt, form, again, "exists\n", "")?;
-    assert!(rt; is_bag(&rt, again)?);
-    assert!(rt; pack_here(&rt, copy, again)?.bytes == 210);
-    assert!(rt; unpack_here(&rt, again, "bag-and-back/other")?.files == 3);
-    fs::remove_dir_all(&rt, "bag-and-back")?;
-    Ok(())
+    begin_with(&rt, "bag-and-back", "bag-and-back/bag-a", BAG_FILES)?;
+    assert!(rt; packs_bag(&rt, "bag-and-back/bag-a", FORM)?);
+    unpacks_as(&rt, FORM, COPY, "unpacked 3 files\n", "")?;
+    assert!(rt; packs_bag(&rt, COPY, AGAIN)?);
+    assert!(rt; keeps_what_stands(&rt)?);
+    assert!(rt; tells_how_much(&rt)?);
+    finish(&rt, "bag-and-back")
 }
 
 /// A folder's files, its form and the line that is printed, with marks.
@@ -153,19 +192,31 @@ a b=x, a%0Ab=, l\nf\r=y\n, é=, .hidden=h, d/.e/f= => BAGSET 1\nFILE 7 1\n.hidde
 ..a=, .../b= => BAGSET 1\nFILE 5 0\n.../b\nFILE 3 0\n..a\nEND\n => packed 2 files 41 bytes\n
 ";
 
+/// Fails where the form gives another form, once it is unpacked and packed again.
+fn pack_again(rt: &HostRuntime, form: &[u8]) -> Result<(), Fail> {
+    // A folder may be named with a slash behind it.
+    unpack_here(rt, "folders/worked.bagset", "folders/unpacked")?;
+    pack_here(rt, "folders/unpacked/", "folders/again.bagset")?;
+    compare(rt, "folders/again.bagset", form)?;
+    finish(rt, "folders/unpacked")
+}
+
 /// Packs these files, and what the form gives once more.
 fn pack_row(rt: &HostRuntime, files: &str, form: &[u8], line: &str) -> Result<(), Fail> {
     lay(rt, "folders/worked", files)?;
     fs::create_dir_all(rt, "folders/worked/empty/.folder")?;
     packs_as(rt, "folders/worked", "folders/worked.bagset", line, "")?;
     compare(rt, "folders/worked.bagset", form)?;
-    // A folder may be named with a slash behind it.
-    unpack_here(rt, "folders/worked.bagset", "folders/unpacked")?;
-    pack_here(rt, "folders/unpacked/", "folders/again.bagset")?;
-    compare(rt, "folders/again.bagset", form)?;
-    fs::remove_dir_all(rt, "folders/worked")?;
-    fs::remove_dir_all(rt, "folders/unpacked")?;
-    Ok(())
+    pack_again(rt, form)?;
+    finish(rt, "folders/worked")
+}
+
+/// Packs the files of a row, whose rest is the form and the line.
+fn pack_marked(rt: &HostRuntime, files: &str, rest: &str) -> Result<(), Fail> {
+    let (form, line) = rest.split_once(" => ").ok_or(rest)?;
+    let form = bytes_of(rt.alloc(), form)?;
+    let line = text_of(rt.alloc(), line)?;
+    pack_row(rt, files, form.as_slice(), line.as_str())
 }
 
 #[test]
@@ -174,67 +225,63 @@ fn packs_what_was_worked_out(rt: HostRuntime) -> Result<(), Fail> {
     let mut rows = 0usize;
     for row in FOLDERS.lines() {
         if let Some((files, rest)) = row.split_once(" => ") {
-            let (form, line) = rest.split_once(" => ").ok_or(row)?;
-            let form = bytes_of(rt.alloc(), form)?;
-            let line = text_of(rt.alloc(), line)?;
-            pack_row(&rt, files, form.as_slice(), line.as_str())?;
+            pack_marked(&rt, files, rest)?;
             rows = rows.saturating_add(1);
         }
     }
     assert!(rt; rows == 4);
-    fs::remove_dir_all(&rt, "folders")?;
-    Ok(())
+    finish(&rt, "folders")
 }
+
+/// What is said as a folder is packed to a form that stands in it. The second time that form is one of
+/// the files.
+static INSIDE: [&str; 2] = ["packed 1 files 25 bytes\n", "packed 2 files 65 bytes\n"];
 
 #[test]
 fn the_form_may_stand_in_the_folder(rt: HostRuntime) -> Result<(), Fail> {
-    begin(&rt, "form-inside")?;
-    lay(&rt, "form-inside/inside", "a=1")?;
-    let form = "form-inside/inside/form";
-    packs_as(
-        &rt,
-        "form-inside/inside",
-        form,
-        "packed 1 files 25 bytes\n",
-        "",
-    )?;
-    // Now it is one of the files.
-    packs_as(
-        &rt,
-        "form-inside/inside",
-        form,
-        "packed 2 files 65 bytes\n",
-        "",
-    )?;
-    fs::remove_dir_all(&rt, "form-inside")?;
-    Ok(())
+    let folder = "form-inside/inside";
+    begin_with(&rt, "form-inside", folder, "a=1")?;
+    for line in &INSIDE {
+        packs_as(&rt, folder, "form-inside/inside/form", line, "")?;
+    }
+    finish(&rt, "form-inside")
 }
 
 /// What a link is to point at.
 static TARGETS: [&str; 3] = ["data", "..", "nowhere"];
 
+/// Where no form is written of a folder with a link.
+const NOT_LINKED: &str = "links/linked.bagset";
+
+/// Packs a folder with a file `data`, which clashes, and which comes behind a name.
+fn refuse_clash(rt: &HostRuntime) -> Result<(), Fail> {
+    begin_with(rt, "links", "links/linked", "data=")?;
+    packs_as(rt, "links/linked", NOT_LINKED, "unpackable S8\n", " (S8)")
+}
+
+/// Packs the folder with a link in it that points at this.
+fn refuse_link(rt: &HostRuntime, target: &str) -> Result<(), Fail> {
+    symlink(rt, target, "links/linked/folder/link")?;
+    packs_as(
+        rt,
+        "links/linked",
+        NOT_LINKED,
+        "unpackable NAME\n",
+        "the entry folder/link of the folder is neither a file nor a folder, such as a link, or has a name that is not UTF-8 (NAME)\n",
+    )?;
+    fs::remove_file(rt, "links/linked/folder/link")?;
+    Ok(())
+}
+
 #[test]
 fn follows_no_link(rt: HostRuntime) -> Result<(), Fail> {
-    begin(&rt, "links")?;
-    // A file `data` clashes, which comes behind a name.
-    lay(&rt, "links/linked", "data=")?;
-    let form = "links/linked.bagset";
-    packs_as(&rt, "links/linked", form, "unpackable S8\n", " (S8)")?;
+    refuse_clash(&rt)?;
     fs::create_dir(&rt, "links/linked/folder")?;
     for target in &TARGETS {
-        symlink(&rt, *target, "links/linked/folder/link")?;
-        packs_as(
-            &rt,
-            "links/linked",
-            form,
-            "unpackable NAME\n",
-            "the entry folder/link of the folder is neither a file nor a folder, such as a link, or has a name that is not UTF-8 (NAME)\n",
-        )?;
-        fs::remove_file(&rt, "links/linked/folder/link")?;
+        refuse_link(&rt, target)?;
     }
-    assert!(rt; !fs::exists(&rt, form)?);
-    fs::remove_dir_all(&rt, "links")?;
-    Ok(())
+    assert!(rt; !fs::exists(&rt, NOT_LINKED)?);
+    finish(&rt, "links")
 }
 
 /// Texts that are no form, the line that says so, and why, with marks.
@@ -258,49 +305,83 @@ fn unpack_row(rt: &HostRuntime, line: &str, reason: &str) -> Result<(), Fail> {
     unpacks_as(rt, form, form, line, reason)
 }
 
+/// Writes a text with marks to the file that is unpacked.
+fn write_marked(rt: &HostRuntime, text: &str) -> Result<(), Fail> {
+    let bytes = bytes_of(rt.alloc(), text)?;
+    fs::write(rt, "no-forms/none.bagset", bytes.as_slice())?;
+    Ok(())
+}
+
+/// Unpacks the text of a row, whose rest is the line and the reason.
+fn unpack_marked(rt: &HostRuntime, text: &str, rest: &str) -> Result<(), Fail> {
+    let (line, reason) = rest.split_once(" => ").ok_or(rest)?;
+    write_marked(rt, text)?;
+    let line = text_of(rt.alloc(), line)?;
+    let reason = text_of(rt.alloc(), reason)?;
+    unpack_row(rt, line.as_str(), reason.as_str())
+}
+
 #[test]
 fn refuses_what_is_no_form(rt: HostRuntime) -> Result<(), Fail> {
     begin(&rt, "no-forms")?;
     let mut rows = 0usize;
     for row in NO_FORMS.lines() {
         if let Some((text, rest)) = row.split_once(" => ") {
-            let (line, reason) = rest.split_once(" => ").ok_or(row)?;
-            let line = text_of(rt.alloc(), line)?;
-            let reason = text_of(rt.alloc(), reason)?;
-            let text = bytes_of(rt.alloc(), text)?;
-            fs::write(&rt, "no-forms/none.bagset", text.as_slice())?;
-            unpack_row(&rt, line.as_str(), reason.as_str())?;
+            unpack_marked(&rt, text, rest)?;
             rows = rows.saturating_add(1);
         }
     }
     assert!(rt; rows == 6);
-    fs::remove_dir_all(&rt, "no-forms")?;
+    finish(&rt, "no-forms")
+}
+
+/// What is told of the device that fails as the folder is packed, or no text.
+fn pack_trouble(rt: &HostRuntime, folder: &str) -> Result<String, AllocError> {
+    match pack_here(rt, folder, "no.bagset") {
+        Err(PackFault::Device(trouble)) => format!(in rt.alloc(); "{trouble}"),
+        _ => Ok(String::new(rt.alloc())),
+    }
+}
+
+/// What is told of the device that fails as the form is unpacked, or no text.
+fn unpack_trouble(rt: &HostRuntime, file: &str) -> Result<String, AllocError> {
+    match unpack_here(rt, file, "no folder") {
+        Err(UnpackFault::Device(trouble)) => format!(in rt.alloc(); "{trouble}"),
+        _ => Ok(String::new(rt.alloc())),
+    }
+}
+
+/// What is no file, and what is told where it is to be unpacked.
+static NO_FILES: [(&str, &str); 2] = [
+    (
+        "no.bagset",
+        "cannot read no.bagset: No such file or directory (os error 2)",
+    ),
+    (
+        "no-form",
+        "cannot read no-form: this is a folder; a bag's transfer form is wanted, which depot pack makes of it",
+    ),
+];
+
+#[test]
+fn tells_what_failed(rt: HostRuntime) -> Result<(), Fail> {
+    let told = pack_trouble(&rt, "no folder")?;
+    holds(
+        &rt,
+        told.as_str() == "cannot list no%20folder: No such file or directory (os error 2)",
+        &told,
+    );
     Ok(())
 }
 
 #[test]
-fn tells_what_failed(rt: HostRuntime) -> Result<(), Fail> {
-    let Err(PackFault::Device(trouble)) = pack_here(&rt, "no folder", "no.bagset") else {
-        return Err(Fail::new("a folder that isn't there"));
-    };
-    let text = format!(in rt.alloc(); "{trouble}")?;
-    assert!(rt; text.as_str() == "cannot list no%20folder: No such file or directory (os error 2)");
-    let Err(UnpackFault::Device(trouble)) = unpack_here(&rt, "no.bagset", "no folder") else {
-        return Err(Fail::new("a file that isn't there"));
-    };
-    let text = format!(in rt.alloc(); "{trouble}")?;
-    assert!(rt; text.as_str() == "cannot read no.bagset: No such file or directory (os error 2)");
+fn tells_what_is_no_file(rt: HostRuntime) -> Result<(), Fail> {
     begin(&rt, "no-form")?;
-    let Err(UnpackFault::Device(trouble)) = unpack_here(&rt, "no-form", "no folder") else {
-        return Err(Fail::new("a folder for a form"));
-    };
-    let text = format!(in rt.alloc(); "{trouble}")?;
-    assert!(rt;
-        text.as_str()
-            == "cannot read no-form: this is a folder; a bag's transfer form is wanted, which depot pack makes of it"
-    );
-    fs::remove_dir_all(&rt, "no-form")?;
-    Ok(())
+    for (file, wanted) in &NO_FILES {
+        let told = unpack_trouble(&rt, file)?;
+        holds(&rt, told.as_str() == *wanted, file);
+    }
+    finish(&rt, "no-form")
 }
 
 /// Files of which none is payload, and whether a folder `data` is made for them.
@@ -310,18 +391,26 @@ static NO_PAYLOAD: [(&str, bool); 3] = [
     ("", false),
 ];
 
+/// Whether the copy that is made of these files by their form has a folder `data`.
+fn has_data(rt: &HostRuntime, files: &str) -> Result<bool, Fail> {
+    begin_with(rt, "no-payload", "no-payload/bag", files)?;
+    pack_here(rt, "no-payload/bag", "no-payload/form")?;
+    unpack_here(rt, "no-payload/form", "no-payload/copy")?;
+    Ok(fs::exists(rt, "no-payload/copy/data")?)
+}
+
+/// Fails where the copy has another form.
+fn compare_copy(rt: &HostRuntime) -> Result<(), Fail> {
+    pack_here(rt, "no-payload/copy", "no-payload/again")?;
+    let form = fs::read(rt, "no-payload/form")?;
+    compare(rt, "no-payload/again", form.as_slice())
+}
+
 #[test]
 fn a_bag_without_a_payload_has_its_folder(rt: HostRuntime) -> Result<(), Fail> {
     for (files, is_made) in &NO_PAYLOAD {
-        begin(&rt, "no-payload")?;
-        lay(&rt, "no-payload/bag", files)?;
-        let form = "no-payload/form";
-        pack_here(&rt, "no-payload/bag", form)?;
-        unpack_here(&rt, form, "no-payload/copy")?;
-        assert!(rt; fs::exists(&rt, "no-payload/copy/data")? == *is_made);
-        pack_here(&rt, "no-payload/copy", "no-payload/again")?;
-        compare(&rt, "no-payload/again", fs::read(&rt, form)?.as_slice())?;
-        fs::remove_dir_all(&rt, "no-payload")?;
+        holds(&rt, has_data(&rt, files)? == *is_made, files);
+        compare_copy(&rt)?;
     }
-    Ok(())
+    finish(&rt, "no-payload")
 }

@@ -5,8 +5,6 @@
 #[cfg(test)]
 mod bags;
 #[cfg(test)]
-mod codes;
-#[cfg(test)]
 mod command_lines;
 #[cfg(test)]
 mod devices;
@@ -21,18 +19,14 @@ mod folders;
 #[cfg(test)]
 mod limits;
 #[cfg(test)]
-mod marks;
-#[cfg(test)]
 mod policies;
-#[cfg(test)]
-mod questions;
 #[cfg(test)]
 mod readers;
 #[cfg(test)]
 mod rows;
 #[cfg(test)]
-mod streams;
-#[cfg(test)]
 mod texts;
+#[cfg(test)]
+mod whole_streams;
 #[cfg(test)]
 mod words;

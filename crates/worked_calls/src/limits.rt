@@ -1,11 +1,11 @@
 //! What is said of a bag that is cut or changed at each of its bytes, and of bags at the limits.
 
-use crate::devices::{is_said, told};
-use crate::marks::bytes_of;
-use commands::{Ending, check_outcome, judge};
+use crate::devices::told;
+use crate::rows::holds;
+use commands::{Ending, check_outcome};
 use std::alloc::{AllocError, Global};
-use std::fs;
 use std::test::*;
+use worked_bags::{bytes_of, many_files, text_of};
 
 /// Whether this is the line, with the end that comes with it.
 fn says(rt: &HostRuntime, bytes: &[u8], line: &str) -> Result<bool, AllocError> {
@@ -18,29 +18,65 @@ fn says(rt: &HostRuntime, bytes: &[u8], line: &str) -> Result<bool, AllocError> 
     Ok(outcome.text.as_str() == line && outcome.ending == wanted)
 }
 
+/// Whether a form with the bytes up to there is said to end too early.
+fn ends_early(rt: &HostRuntime, form: &[u8], length: usize) -> Result<bool, Fail> {
+    let cut = form.get(..length).ok_or("longer")?;
+    Ok(says(rt, cut, "unreadable S3\n")?)
+}
+
+/// Up to which length the form, cut there, is said to end too early: its own at most.
+fn first_length(rt: &HostRuntime, form: &[u8]) -> Result<usize, Fail> {
+    for length in 0..form.len() {
+        if !ends_early(rt, form, length)? {
+            return Ok(length);
+        }
+    }
+    Ok(form.len())
+}
+
+/// Changes the byte at that place, or changes it back.
+fn change(form: &mut Vec<u8>, at: usize) {
+    if let Some(byte) = form.get_mut(at) {
+        *byte ^= 1;
+    }
+}
+
+/// Whether a form is refused, and not as a valid bag.
+fn is_refused(rt: &HostRuntime, form: &[u8]) -> Result<bool, AllocError> {
+    let outcome = check_outcome(rt.alloc(), form)?;
+    Ok(outcome.ending == Ending::Refused && !outcome.text.starts_with("valid"))
+}
+
+/// Up to which place the form is refused where its byte there is changed: its length at most. Each byte is
+/// changed back.
+fn first_place(rt: &HostRuntime, form: &mut Vec<u8>) -> Result<usize, AllocError> {
+    for at in 0..form.len() {
+        change(form, at);
+        let is_so = is_refused(rt, form.as_slice())?;
+        change(form, at);
+        if !is_so {
+            return Ok(at);
+        }
+    }
+    Ok(form.len())
+}
+
 #[test]
 fn a_form_that_is_cut_or_changed(rt: HostRuntime) -> Result<(), Fail> {
     let mut form = bytes_of(rt.alloc(), r"BAGSET 1\n{bag}")?;
     assert!(rt; form.len() == 210);
-    for length in 0..form.len() {
-        let cut = form.get(..length).ok_or("longer")?;
-        assert!(rt; says(&rt, cut, "unreadable S3\n")?, "{length}");
-    }
-    for at in 0..form.len() {
-        if let Some(byte) = form.get_mut(at) {
-            *byte ^= 1;
-        }
-        let outcome = check_outcome(rt.alloc(), form.as_slice())?;
-        assert!(rt; outcome.ending == Ending::Refused, "byte {at}");
-        assert!(rt; !outcome.text.starts_with("valid"), "byte {at}");
-        if let Some(byte) = form.get_mut(at) {
-            *byte ^= 1;
-        }
-    }
+    let length = first_length(&rt, form.as_slice())?;
+    assert!(rt; length == 210, "{length}");
+    let at = first_place(&rt, &mut form)?;
+    assert!(rt; at == 210, "byte {at}");
     let line = "valid 1.0 files 1 bytes 3 manifests 1\n";
     assert!(rt; says(&rt, form.as_slice(), line)?);
     Ok(())
 }
+
+/// The manifest of bag A.
+static MANIFEST: &str =
+    "ba7816bf8f01cfea414140de5dae2223b00361a396177a9cb410ff61f20015ad  data/a\n";
 
 /// How many bytes are left of the manifest of bag A, at least and at most, and what is said then.
 static CUT: [(usize, usize, &str); 9] = [
@@ -55,52 +91,52 @@ static CUT: [(usize, usize, &str); 9] = [
     (72, 73, "valid 1.0 files 1 bytes 3 manifests 1\n"),
 ];
 
+/// The form of bag A with that manifest.
+fn form_with(alloc: Global, manifest: &str) -> Result<String, AllocError> {
+    let front = text_of(alloc, r"BAGSET 1\n{declared}{payload}FILE 19 ")?;
+    let length = manifest.len();
+    format!(in alloc; "{front}{length}\nmanifest-sha256.txt{manifest}\nEND\n")
+}
+
+/// Whether this line is said where so many bytes are left of the manifest.
+fn says_of_cut(rt: &HostRuntime, length: usize, line: &str) -> Result<bool, Fail> {
+    let manifest = MANIFEST.get(..length).ok_or("longer than the manifest")?;
+    let form = form_with(rt.alloc(), manifest)?;
+    Ok(says(rt, form.as_bytes(), line)?)
+}
+
 #[test]
 fn manifests_that_are_cut(rt: HostRuntime) -> Result<(), Fail> {
-    let front = bytes_of(rt.alloc(), r"BAGSET 1\n{declared}{payload}FILE 19 ")?;
-    let whole = bytes_of(rt.alloc(), r"{abc}  data/a\n")?;
     for (least, most, line) in &CUT {
         for length in *least..most.saturating_add(1) {
-            let mut form = front.clone()?;
-            let header = format!(in rt.alloc(); "{length}\nmanifest-sha256.txt")?;
-            form.extend_from_slice(header.as_bytes())?;
-            form.extend_from_slice(whole.get(..length).ok_or("longer than the manifest")?)?;
-            form.extend_from_slice(b"\nEND\n")?;
-            assert!(rt; says(&rt, form.as_slice(), line)?, "{length}");
+            assert!(rt; says_of_cut(&rt, length, line)?, "{length}");
         }
     }
     Ok(())
 }
 
-/// A form that lacks its `END`, of so many empty files with names of four digits.
-fn many_files(alloc: Global, count: u32) -> Result<Vec<u8>, Fail> {
-    let mut form = Vec::new(alloc);
-    form.extend_from_slice(b"BAGSET 1\n")?;
+/// Numbers of four digits, a line each, with that before each.
+fn numbered(alloc: Global, before: &str, count: u32) -> Result<String, AllocError> {
+    let mut text = String::new(alloc);
     for number in 0..count {
-        let entry = format!(in alloc; "FILE 4 0\n{number:04}\n")?;
-        form.extend_from_slice(entry.as_bytes())?;
+        text.push_str(&format!(in alloc; "{before}{number:04}\n")?)?;
     }
-    Ok(form)
+    Ok(text)
+}
+
+/// A manifest that lists so many empty payload files.
+fn listed(alloc: Global, count: u32) -> Result<String, AllocError> {
+    let before = text_of(alloc, "{nothing}  data/")?;
+    numbered(alloc, &before, count)
 }
 
 /// The form of a bag with so many empty payload files, with names of four digits, all listed.
-fn empty_files(alloc: Global, count: u32) -> Result<Vec<u8>, Fail> {
-    let nothing = bytes_of(alloc, "{nothing}  data/")?;
-    let mut form = bytes_of(alloc, r"BAGSET 1\n{declared}")?;
-    let mut manifest = Vec::new(alloc);
-    for number in 0..count {
-        let entry = format!(in alloc; "FILE 9 0\ndata/{number:04}\n")?;
-        form.extend_from_slice(entry.as_bytes())?;
-        manifest.extend_from_slice(nothing.as_slice())?;
-        let end = format!(in alloc; "{number:04}\n")?;
-        manifest.extend_from_slice(end.as_bytes())?;
-    }
+fn empty_files(alloc: Global, count: u32) -> Result<String, AllocError> {
+    let front = text_of(alloc, r"BAGSET 1\n{declared}")?;
+    let files = numbered(alloc, "FILE 9 0\ndata/", count)?;
+    let manifest = listed(alloc, count)?;
     let length = manifest.len();
-    let header = format!(in alloc; "FILE 19 {length}\nmanifest-sha256.txt")?;
-    form.extend_from_slice(header.as_bytes())?;
-    form.extend_from_slice(manifest.as_slice())?;
-    form.extend_from_slice(b"\nEND\n")?;
-    Ok(form)
+    format!(in alloc; "{front}{files}FILE 19 {length}\nmanifest-sha256.txt{manifest}\nEND\n")
 }
 
 /// What stands behind two thousand files, and the line that is printed.
@@ -111,70 +147,55 @@ static BEHIND: [(&str, &str); 4] = [
     ("FILE 4 0\n2000\nEND\n", "unreadable S6\n"),
 ];
 
-#[test]
-fn two_thousand_files_and_one_more(rt: HostRuntime) -> Result<(), Fail> {
+/// Whether this line is said where that stands behind two thousand files.
+fn says_behind(rt: &HostRuntime, rest: &str, line: &str) -> Result<bool, AllocError> {
     let mut form = many_files(rt.alloc(), 2000)?;
-    for (rest, line) in &BEHIND {
-        form.truncate(28_009);
-        form.extend_from_slice(rest.as_bytes())?;
-        assert!(rt; says(&rt, form.as_slice(), line)?, "{line}");
-    }
+    form.extend_from_slice(rest.as_bytes())?;
+    says(rt, form.as_slice(), line)
+}
+
+/// Whether this is told of one file more.
+fn tells_of_one_more(rt: &HostRuntime, reason: &str) -> Result<bool, AllocError> {
+    let mut form = many_files(rt.alloc(), 2001)?;
+    form.extend_from_slice(b"END\n")?;
     let outcome = check_outcome(rt.alloc(), form.as_slice())?;
-    assert!(rt;
-        told(&outcome) == "the form has more files than the 2,000 that a bag may have (S6)\n"
-    );
-    let form = empty_files(rt.alloc(), 1998)?;
-    let line = "valid 1.0 files 1998 bytes 0 manifests 1\n";
-    assert!(rt; says(&rt, form.as_slice(), line)?);
-    let form = empty_files(rt.alloc(), 1999)?;
-    assert!(rt; says(&rt, form.as_slice(), "unreadable S6\n")?);
-    // A path of 1,024 bytes.
+    Ok(told(&outcome) == reason)
+}
+
+/// Numbers of empty payload files, and the line that is printed of a bag that lists so many.
+static COUNTS: [(u32, &str); 2] = [
+    (1998, "valid 1.0 files 1998 bytes 0 manifests 1\n"),
+    (1999, "unreadable S6\n"),
+];
+
+/// Whether this line is said of a bag of so many empty payload files.
+fn says_of_empty(rt: &HostRuntime, count: u32, line: &str) -> Result<bool, AllocError> {
+    let form = empty_files(rt.alloc(), count)?;
+    says(rt, form.as_bytes(), line)
+}
+
+/// Whether a path of 1,024 bytes is read.
+fn reads_longest_path(rt: &HostRuntime) -> Result<bool, AllocError> {
     let path = "a".repeat(rt.alloc(), 1024)?;
     let form = format!(in rt.alloc(); "BAGSET 1\nFILE 1024 0\n{path}\nEND\n")?;
-    assert!(rt; says(&rt, form.as_bytes(), "invalid B1\n")?);
+    says(rt, form.as_bytes(), "invalid B1\n")
+}
+
+#[test]
+fn two_thousand_files_and_one_more(rt: HostRuntime) -> Result<(), Fail> {
+    for (rest, line) in &BEHIND {
+        holds(&rt, says_behind(&rt, rest, line)?, rest);
+    }
+    let reason = "the form has more files than the 2,000 that a bag may have (S6)\n";
+    assert!(rt; tells_of_one_more(&rt, reason)?);
     Ok(())
 }
 
-/// A form of 16,777,216 bytes, the most that are read: a declaration and one payload file.
-fn longest_form(alloc: Global) -> Result<Vec<u8>, Fail> {
-    let front = bytes_of(alloc, r"BAGSET 1\n{declared}FILE 6 16777106\ndata/a")?;
-    let content = vec![in alloc; b'x'; 16_777_106]?;
-    let mut form = Vec::with_capacity(alloc, 16_777_217)?;
-    form.extend_from_slice(front.as_slice())?;
-    form.extend_from_slice(content.as_slice())?;
-    form.extend_from_slice(b"\nEND\n")?;
-    Ok(form)
-}
-
-/// The longest form and one byte more: how many bytes are read, the line that is printed, and what
-/// standard error is told.
-static LENGTHS: [(usize, &str, &str); 2] = [
-    (
-        16_777_216,
-        "invalid B5\n",
-        "the bag has neither manifest-sha256.txt nor manifest-sha512.txt (B5)\n",
-    ),
-    (
-        16_777_217,
-        "unreadable SIZE\n",
-        "the form is longer than 16,777,216 bytes, the most that is judged (SIZE)\n",
-    ),
-];
-
 #[test]
-fn reads_up_to_the_limit(rt: HostRuntime) -> Result<(), Fail> {
-    let mut form = longest_form(rt.alloc())?;
-    for (length, line, reason) in &LENGTHS {
-        assert!(rt; form.len() == *length);
-        fs::write(&rt, "longest.bagset", form.as_slice())?;
-        // From a stream, and from a file.
-        let row = format!(in rt.alloc(); "{line} => {reason}")?;
-        let outcome = judge(rt.alloc(), &mut form.as_slice())?;
-        assert!(rt; is_said(rt.alloc(), &outcome, row.as_str())?, "{line}");
-        let outcome = judge(rt.alloc(), &mut fs::open(&rt, "longest.bagset")?)?;
-        assert!(rt; is_said(rt.alloc(), &outcome, row.as_str())?, "{line}");
-        form.extend_from_slice(b"\n")?;
+fn bags_at_their_limits(rt: HostRuntime) -> Result<(), Fail> {
+    for (count, line) in &COUNTS {
+        holds(&rt, says_of_empty(&rt, *count, line)?, line);
     }
-    fs::remove_file(&rt, "longest.bagset")?;
+    assert!(rt; reads_longest_path(&rt)?);
     Ok(())
 }

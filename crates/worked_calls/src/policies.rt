@@ -1,6 +1,5 @@
 //! The calls of `office_core` and `office_rows`: days, limits, names, policies, decisions and verdicts.
 
-use crate::marks::text_of;
 use crate::rows::holds;
 use fault_words::InWords;
 use office_core::{
@@ -10,6 +9,7 @@ use office_core::{
 use office_rows::{MAX_LIMIT, is_limit};
 use std::alloc::{AllocError, Global};
 use std::test::*;
+use worked_bags::text_of;
 
 const RULE: &str =
     "[[rule]]\neffect = \"allow\"\nrole = \"*\"\naction = \"audit\"\ncollection = \"*\"\nclass = \"*\"\n";
@@ -141,15 +141,20 @@ fn is_kept<K: TextKind>(
     }
 }
 
+/// Whether the text is that name, accession and matter that the row says.
+fn is_read(alloc: Global, row: &(&str, bool, bool, bool)) -> Result<bool, AllocError> {
+    let (text, is_name, is_accession, is_matter) = *row;
+    Ok(
+        is_kept(alloc, Name::read(text), text, is_name)?
+            && is_kept(alloc, Accession::read(text), text, is_accession)?
+            && is_kept(alloc, Matter::read(text), text, is_matter)?,
+    )
+}
+
 #[test]
 fn names(rt: HostRuntime) -> Result<(), AllocError> {
-    for (text, is_name, is_accession, is_matter) in &TEXTS {
-        let is_kept_name = is_kept(rt.alloc(), Name::read(text), text, *is_name)?;
-        holds(&rt, is_kept_name, text);
-        let is_kept_accession = is_kept(rt.alloc(), Accession::read(text), text, *is_accession)?;
-        holds(&rt, is_kept_accession, text);
-        let is_kept_matter = is_kept(rt.alloc(), Matter::read(text), text, *is_matter)?;
-        holds(&rt, is_kept_matter, text);
+    for row in &TEXTS {
+        holds(&rt, is_read(rt.alloc(), row)?, row.0);
     }
     Ok(())
 }

@@ -1,31 +1,49 @@
 //! Forms and policies that come from readers: whole, longer than a form, refused, and cut by a reader
 //! that fails.
 
-use crate::devices::Given;
-use crate::marks::bytes_of;
-use commands::{Asked, Ending, Trouble, explain_outcome, explain_policy, judge, read_policy_from};
+use crate::devices::{Given, told};
+use commands::{
+    Asked, Ending, Outcome, Trouble, explain_outcome, explain_policy, judge, read_policy_from,
+};
 use office_core::{Action, Name, PolicyFault};
-use std::alloc::Global;
+use std::alloc::{AllocError, Global};
 use std::fs;
 use std::io::ErrorKind;
 use std::test::*;
+use worked_bags::bytes_of;
+
+/// Whether work is done with this line, and for no reason.
+fn is_done(outcome: &Outcome, line: &str) -> bool {
+    outcome.text.as_str() == line && outcome.reason.is_none() && outcome.ending == Ending::Accepted
+}
+
+/// Whether work is refused with this line.
+fn is_refused(outcome: &Outcome, line: &str) -> bool {
+    outcome.text.as_str() == line && outcome.ending == Ending::Refused
+}
+
+/// Whether a form is read to its end, and its bag is valid.
+fn is_read_whole(alloc: Global) -> Result<bool, Fail> {
+    let form = bytes_of(alloc, r"BAGSET 1\n{bag}")?;
+    let mut rest = form.as_slice();
+    let outcome = judge(alloc, &mut rest)?;
+    Ok(is_done(&outcome, "valid 1.0 files 1 bytes 3 manifests 1\n") && rest.is_empty())
+}
+
+/// How many bytes are left of a form that is four bytes too long, where that is said of it.
+fn left_of_long(alloc: Global) -> Result<Option<usize>, Fail> {
+    let long = vec![in alloc; 0; 16_777_220]?;
+    let mut rest = long.as_slice();
+    let outcome = judge(alloc, &mut rest)?;
+    let is_so = is_refused(&outcome, "unreadable SIZE\n");
+    Ok(if is_so { Some(rest.len()) } else { None })
+}
 
 #[test]
 fn forms_from_readers(rt: HostRuntime) -> Result<(), Fail> {
-    let form = bytes_of(rt.alloc(), r"BAGSET 1\n{bag}")?;
-    let mut rest = form.as_slice();
-    let outcome = judge(rt.alloc(), &mut rest)?;
-    assert!(rt; outcome.text.as_str() == "valid 1.0 files 1 bytes 3 manifests 1\n");
-    assert!(rt; outcome.reason.is_none());
-    assert!(rt; outcome.ending == Ending::Accepted);
-    assert!(rt; rest.is_empty());
+    assert!(rt; is_read_whole(rt.alloc())?);
     // A byte more than a form has is read, and no more.
-    let long = vec![in rt.alloc(); 0; 16_777_220]?;
-    let mut rest = long.as_slice();
-    let outcome = judge(rt.alloc(), &mut rest)?;
-    assert!(rt; outcome.text.as_str() == "unreadable SIZE\n");
-    assert!(rt; outcome.ending == Ending::Refused);
-    assert!(rt; rest.len() == 3);
+    assert!(rt; left_of_long(rt.alloc())? == Some(3));
     Ok(())
 }
 
@@ -40,73 +58,121 @@ fn question<'a>() -> Asked<'a> {
     }
 }
 
+/// A policy after a comment of so many bytes.
+fn long_policy(alloc: Global, length: usize) -> Result<Vec<u8>, AllocError> {
+    let mut long = vec![in alloc; b'#'; length]?;
+    let policy = bytes_of(alloc, r"\n{policy}")?;
+    long.extend_from_slice(policy.as_slice())?;
+    Ok(long)
+}
+
+/// Whether a policy after a comment of so many bytes is read to its end, and decides.
+fn decides_after(alloc: Global, length: usize) -> Result<bool, Fail> {
+    let long = long_policy(alloc, length)?;
+    let mut rest = long.as_slice();
+    let outcome = explain_policy(alloc, &question(), &mut rest)?;
+    Ok(is_done(&outcome, "allow rule 3\n") && rest.is_empty())
+}
+
 #[test]
 fn policies_from_readers(rt: HostRuntime) -> Result<(), Fail> {
-    // A policy after a comment that is longer than any form.
-    let mut long = vec![in rt.alloc(); b'#'; 16_777_217]?;
-    long.extend_from_slice(bytes_of(rt.alloc(), r"\n{policy}")?.as_slice())?;
-    let mut rest = long.as_slice();
-    let outcome = explain_policy(rt.alloc(), &question(), &mut rest)?;
-    assert!(rt; outcome.text.as_str() == "allow rule 3\n");
-    assert!(rt; outcome.reason.is_none());
-    assert!(rt; outcome.ending == Ending::Accepted);
-    assert!(rt; rest.is_empty());
+    // The comment is longer than any form.
+    assert!(rt; decides_after(rt.alloc(), 16_777_217)?);
     Ok(())
+}
+
+/// A policy that is refused, and why.
+static NOTED: &[u8] = b"version = 1\nnote = 1\n";
+
+static UNKNOWN_KEY: &str =
+    "the policy has a key at the top other than version, callers and rule (Y3): the key note\n";
+
+/// Whether the policy is refused with its fault and why.
+fn is_refused_policy(alloc: Global) -> Result<bool, Fail> {
+    let mut rest = NOTED;
+    match read_policy_from(alloc, &mut rest)? {
+        Ok(_) => Ok(false),
+        Err(refused) => Ok(
+            refused.fault == PolicyFault::UnknownKey && refused.reason.as_str() == UNKNOWN_KEY,
+        ),
+    }
+}
+
+/// Whether a question to that policy is refused, and why.
+fn is_refused_question(alloc: Global) -> Result<bool, Fail> {
+    let mut rest = NOTED;
+    let outcome = explain_policy(alloc, &question(), &mut rest)?;
+    Ok(is_refused(&outcome, "policy Y3\n") && told(&outcome) == UNKNOWN_KEY)
 }
 
 #[test]
 fn refused_policies_from_readers(rt: HostRuntime) -> Result<(), Fail> {
-    let said =
-        "the policy has a key at the top other than version, callers and rule (Y3): the key note\n";
-    let policy = b"version = 1\nnote = 1\n";
-    match read_policy_from(rt.alloc(), &mut policy.as_slice())? {
-        Ok(_) => assert!(rt; false, "read"),
-        Err(refused) => {
-            assert!(rt; refused.fault == PolicyFault::UnknownKey);
-            assert!(rt; refused.reason.as_str() == said);
-        }
+    assert!(rt; is_refused_policy(rt.alloc())?);
+    assert!(rt; is_refused_question(rt.alloc())?);
+    Ok(())
+}
+
+/// How the form in a file is judged.
+fn ending_of(rt: &HostRuntime, path: &str) -> Result<Ending, Fail> {
+    let mut file = fs::open(rt, path)?;
+    Ok(judge(rt.alloc(), &mut file)?.ending)
+}
+
+/// How many rules the policy in a file has, or none where it is refused.
+fn rules_in(rt: &HostRuntime, path: &str) -> Result<Option<usize>, Fail> {
+    let mut file = fs::open(rt, path)?;
+    match read_policy_from(rt.alloc(), &mut file)? {
+        Ok(policy) => Ok(Some(policy.rules().len())),
+        Err(_) => Ok(None),
     }
-    let outcome = explain_policy(rt.alloc(), &question(), &mut policy.as_slice())?;
-    assert!(rt; outcome.text.as_str() == "policy Y3\n");
-    assert!(rt; outcome.ending == Ending::Refused);
-    let reason = outcome.reason.ok_or("a reason")?;
-    assert!(rt; reason.as_str() == said);
+}
+
+/// Writes bag A's form to a file.
+fn write_form(rt: &HostRuntime, path: &str) -> Result<(), Fail> {
+    let form = bytes_of(rt.alloc(), r"BAGSET 1\n{bag}")?;
+    fs::write(rt, path, form.as_slice())?;
+    Ok(())
+}
+
+/// Writes a policy after a comment to a file. The comment has more bytes than a reader gives at once.
+fn write_policy(rt: &HostRuntime, path: &str) -> Result<(), Fail> {
+    let long = long_policy(rt.alloc(), 70_000)?;
+    fs::write(rt, path, long.as_slice())?;
     Ok(())
 }
 
 #[test]
 fn files_are_read_whole(rt: HostRuntime) -> Result<(), Fail> {
-    let form = bytes_of(rt.alloc(), r"BAGSET 1\n{bag}")?;
-    fs::write(&rt, "bag-a.bagset", form.as_slice())?;
-    let outcome = judge(rt.alloc(), &mut fs::open(&rt, "bag-a.bagset")?)?;
-    assert!(rt; outcome.ending == Ending::Accepted);
+    write_form(&rt, "bag-a.bagset")?;
+    assert!(rt; ending_of(&rt, "bag-a.bagset")? == Ending::Accepted);
     fs::remove_file(&rt, "bag-a.bagset")?;
-    // A policy after a comment of more bytes than a reader gives at once.
-    let mut long = vec![in rt.alloc(); b'#'; 70_000]?;
-    long.extend_from_slice(bytes_of(rt.alloc(), r"\n{policy}")?.as_slice())?;
-    fs::write(&rt, "long.toml", long.as_slice())?;
-    match read_policy_from(rt.alloc(), &mut fs::open(&rt, "long.toml")?)? {
-        Ok(policy) => assert!(rt; policy.rules().len() == 3),
-        Err(_) => assert!(rt; false, "refused"),
-    }
-    fs::remove_file(&rt, "long.toml")?;
     Ok(())
 }
 
 #[test]
-fn a_decision_by_its_call(rt: HostRuntime) -> Result<(), Fail> {
-    let asked = Asked {
+fn policies_are_read_whole(rt: HostRuntime) -> Result<(), Fail> {
+    write_policy(&rt, "long.toml")?;
+    assert!(rt; rules_in(&rt, "long.toml")? == Some(3));
+    fs::remove_file(&rt, "long.toml")?;
+    Ok(())
+}
+
+/// What `bert` asks.
+fn question_of_a_stranger<'a>() -> Asked<'a> {
+    Asked {
         policy: "p.toml",
         caller: "bert",
         action: Action::Download,
         collection: None,
         class: Name::read("y1"),
-    };
+    }
+}
+
+#[test]
+fn a_decision_by_its_call(rt: HostRuntime) -> Result<(), Fail> {
     let policy = bytes_of(rt.alloc(), "{strangers}")?;
-    let outcome = explain_outcome(rt.alloc(), policy.as_slice(), &asked)?;
-    assert!(rt; outcome.text.as_str() == "allow rule 2\n");
-    assert!(rt; outcome.reason.is_none());
-    assert!(rt; outcome.ending == Ending::Accepted);
+    let outcome = explain_outcome(rt.alloc(), policy.as_slice(), &question_of_a_stranger())?;
+    assert!(rt; is_done(&outcome, "allow rule 2\n"));
     Ok(())
 }
 

@@ -1,6 +1,5 @@
 //! The calls of `bag_text`: texts that are read and written, and the faults at each limit.
 
-use crate::marks::text_of;
 use crate::rows::holds;
 use bag_text::{
     Algorithm, BagInfo, BagPath, BagSet, Checksum, Listing, MAX_CONTENT, MAX_FILES, MAX_PATH,
@@ -11,6 +10,7 @@ use std::alloc::{AllocError, Global};
 use std::borrow::CowStr;
 use std::process::Abort;
 use std::test::*;
+use worked_bags::text_of;
 
 const DECLARATION: &str = "BagIt-Version: 1.0\nTag-File-Character-Encoding: UTF-8\n";
 

@@ -1,6 +1,6 @@
 //! The sentences that no run of `check` or `explain` tells, and files that are no form.
 
-use crate::marks::{bytes_of, text_of};
+use crate::rows::holds;
 use bag_check::BagFault;
 use bag_text::{InfoFault, LineFault, SetFault};
 use fault_words::{
@@ -10,6 +10,7 @@ use fault_words::{
 use office_core::{PolicyFault, read_policy};
 use std::alloc::{AllocError, Global};
 use std::test::*;
+use worked_bags::{bytes_of, text_of};
 
 /// What is said of the files of a folder: of one file at fault its path stands in front.
 static FOLDERS: &str = "has more than 16,777,216 bytes, the most that a file of a bag may have (S2)
@@ -39,28 +40,30 @@ fn folders_in_words(rt: HostRuntime) {
     assert!(rt; lines == 7);
 }
 
+/// Whether this is told of the fault of a bag.
+fn tells(alloc: Global, fault: BagFault<'_>, wanted: &str) -> Result<bool, AllocError> {
+    Ok(InWords(&fault).to_string(alloc)?.as_str() == wanted)
+}
+
 #[test]
-fn want_of_memory_in_words(rt: HostRuntime) -> Result<(), Fail> {
-    let alloc = rt.alloc();
-    let form = InWords(&SetFault::Memory).to_string(alloc)?;
+fn want_of_memory_in_words(rt: HostRuntime) -> Result<(), AllocError> {
+    let manifest = BagFault::ManifestText {
+        manifest: "manifest-sha256.txt",
+        fault: LineFault::Memory,
+    };
+    assert!(rt; tells(rt.alloc(), manifest, "memory ran out (B6 L7)")?);
+    let info = BagFault::InfoText(InfoFault::Memory);
+    assert!(rt; tells(rt.alloc(), info, "memory ran out (B13 I6)")?);
+    assert!(rt; tells(rt.alloc(), BagFault::Memory, "memory ran out (B18)")?);
+    Ok(())
+}
+
+#[test]
+fn want_of_memory_in_other_words(rt: HostRuntime) -> Result<(), AllocError> {
+    let form = InWords(&SetFault::Memory).to_string(rt.alloc())?;
     assert!(rt; form.as_str() == "memory ran out (S9)");
-    let policy = InWords(&PolicyFault::Memory).to_string(alloc)?;
+    let policy = InWords(&PolicyFault::Memory).to_string(rt.alloc())?;
     assert!(rt; policy.as_str() == "memory ran out (Y7)");
-    let faults = [
-        BagFault::ManifestText {
-            manifest: "manifest-sha256.txt",
-            fault: LineFault::Memory,
-        },
-        BagFault::InfoText(InfoFault::Memory),
-        BagFault::Memory,
-    ];
-    let mut said = String::new(alloc);
-    for fault in faults.iter() {
-        said.push_str(&InWords(fault).to_string(alloc)?)?;
-    }
-    assert!(rt;
-        said.as_str() == "memory ran out (B6 L7)memory ran out (B13 I6)memory ran out (B18)"
-    );
     Ok(())
 }
 
@@ -76,30 +79,55 @@ static BEGINNINGS: [(&[u8], Option<OtherFile>); 9] = [
     (b"", None),
 ];
 
+/// Whether a file that begins so is that one. A hint is given of bytes that begin otherwise than a form,
+/// and of no others.
+fn is_other(bytes: &[u8], other: Option<OtherFile>) -> bool {
+    OtherFile::of(bytes) == other
+        && hint_for(SetFault::BadOpening, bytes) == other
+        && hint_for(SetFault::TrailingBytes, bytes) == None
+}
+
+/// Places in a tar file, from one to the other, and whether the bytes between them are told as a tar
+/// file's.
+static TAR_PARTS: [(usize, usize, Option<OtherFile>); 4] = [
+    (0, 512, Some(OtherFile::Tar)),
+    (0, 262, Some(OtherFile::Tar)),
+    (0, 261, None),
+    (1, 512, None),
+];
+
 #[test]
 fn files_by_their_beginnings(rt: HostRuntime) -> Result<(), Fail> {
     for (bytes, other) in &BEGINNINGS {
-        assert!(rt; OtherFile::of(*bytes) == *other);
-        // A hint is given of bytes that begin otherwise, and of no others.
-        assert!(rt; hint_for(SetFault::BadOpening, *bytes) == *other);
-        assert!(rt; hint_for(SetFault::TrailingBytes, *bytes) == None);
+        assert!(rt; is_other(*bytes, *other));
     }
     let mut bytes = [0; 512];
     bytes[257..262].copy_from_slice(b"ustar");
-    assert!(rt; OtherFile::of(bytes.as_slice()) == Some(OtherFile::Tar));
-    assert!(rt; OtherFile::of(&bytes[..262]) == Some(OtherFile::Tar));
-    assert!(rt; OtherFile::of(&bytes[..261]) == None);
-    assert!(rt; OtherFile::of(&bytes[1..]) == None);
-    let lines = form_lines(rt.alloc(), SetFault::BadOpening, Some(OtherFile::Tar))?;
-    assert!(rt;
-        lines.as_str()
-            == "this is no transfer form: it does not begin with the line BAGSET 1 (S1)\nthis looks like a tar file; a bag's transfer form is wanted, which depot pack makes of a folder\n"
-    );
-    let lines = form_lines(rt.alloc(), SetFault::BadOpening, None)?;
-    assert!(rt;
-        lines.as_str()
-            == "this is no transfer form: it does not begin with the line BAGSET 1 (S1)\n"
-    );
+    for (from, to, other) in &TAR_PARTS {
+        let part = bytes.get(*from..*to).ok_or("longer")?;
+        assert!(rt; OtherFile::of(part) == *other);
+    }
+    Ok(())
+}
+
+/// What a file may be taken for that begins otherwise than a form, and what is told then.
+static OPENINGS: [(Option<OtherFile>, &str); 2] = [
+    (
+        Some(OtherFile::Tar),
+        "this is no transfer form: it does not begin with the line BAGSET 1 (S1)\nthis looks like a tar file; a bag's transfer form is wanted, which depot pack makes of a folder\n",
+    ),
+    (
+        None,
+        "this is no transfer form: it does not begin with the line BAGSET 1 (S1)\n",
+    ),
+];
+
+#[test]
+fn files_in_words(rt: HostRuntime) -> Result<(), AllocError> {
+    for (other, wanted) in &OPENINGS {
+        let lines = form_lines(rt.alloc(), SetFault::BadOpening, *other)?;
+        holds(&rt, lines.as_str() == *wanted, wanted);
+    }
     let folder = OtherFile::Folder.to_string(rt.alloc())?;
     assert!(rt;
         folder.as_str()
@@ -141,21 +169,30 @@ fn reason_of(alloc: Global, bytes: &[u8]) -> Result<String, AllocError> {
     policy_reason(alloc, bytes, fault)
 }
 
+/// Whether this is told of a policy's file, both with marks.
+fn is_told(alloc: Global, policy: &str, reason: &str) -> Result<bool, AllocError> {
+    let policy = bytes_of(alloc, policy)?;
+    let said = reason_of(alloc, policy.as_slice())?;
+    Ok(said.as_str() == text_of(alloc, reason)?.as_str())
+}
+
 #[test]
-fn places_in_policies(rt: HostRuntime) -> Result<(), Fail> {
-    let alloc = rt.alloc();
+fn places_in_policies(rt: HostRuntime) -> Result<(), AllocError> {
     let mut rows = 0usize;
-    for line in REFUSED_POLICIES.lines() {
-        if let Some((policy, reason)) = line.split_once(" => ") {
-            let policy = bytes_of(alloc, policy)?;
-            let said = reason_of(alloc, policy.as_slice())?;
-            assert!(rt; said.as_str() == text_of(alloc, reason)?.as_str(), "{line}");
+    for row in REFUSED_POLICIES.lines() {
+        if let Some((policy, reason)) = row.split_once(" => ") {
+            holds(&rt, is_told(rt.alloc(), policy, reason)?, row);
             rows = rows.saturating_add(1);
         }
     }
     assert!(rt; rows == 16, "{rows} rows");
-    // A fault that the bytes don't have has no place.
-    let said = policy_reason(alloc, b"version = 1\n", PolicyFault::NotToml)?;
+    Ok(())
+}
+
+#[test]
+fn a_fault_without_a_place(rt: HostRuntime) -> Result<(), AllocError> {
+    // The bytes don't have it.
+    let said = policy_reason(rt.alloc(), b"version = 1\n", PolicyFault::NotToml)?;
     assert!(rt; said.as_str() == "the policy is no text in TOML (Y1)\n");
     Ok(())
 }

@@ -1,5 +1,6 @@
 //! Reading and writing whole, from a reader and to a writer that are interrupted.
 
+use std::alloc::Global;
 use std::io;
 use std::io::{Error, ErrorKind, Read, Write};
 use std::test::*;
@@ -53,12 +54,27 @@ impl Write for Slow<'_> {
     }
 }
 
+/// Whether the reader gives these bytes, where no more are asked for.
+fn gives(alloc: Global, most: u64, reader: &mut Slow<'_>, bytes: &[u8]) -> Result<bool, Fail> {
+    Ok(read_at_most(alloc, most, reader)?.as_slice() == bytes)
+}
+
+/// Whether the reader gives these bytes to its end.
+fn gives_all(alloc: Global, reader: &mut Slow<'_>, bytes: &[u8]) -> Result<bool, Fail> {
+    Ok(read_whole(alloc, reader)?.as_slice() == bytes)
+}
+
 #[test]
 fn reads_and_writes_whole(rt: HostRuntime) -> Result<(), Fail> {
     let mut reader = Slow::new(&rt, b"abcde");
-    assert!(rt; read_at_most(rt.alloc(), 2, &mut reader)?.as_slice() == b"ab".as_slice());
-    assert!(rt; read_whole(rt.alloc(), &mut reader)?.as_slice() == b"cde".as_slice());
-    assert!(rt; read_at_most(rt.alloc(), 2, &mut reader)?.is_empty());
+    assert!(rt; gives(rt.alloc(), 2, &mut reader, b"ab")?);
+    assert!(rt; gives_all(rt.alloc(), &mut reader, b"cde")?);
+    assert!(rt; gives(rt.alloc(), 2, &mut reader, b"")?);
+    Ok(())
+}
+
+#[test]
+fn writes_whole(rt: HostRuntime) -> Result<(), Fail> {
     let mut writer = Slow::new(&rt, b"");
     write_text("ab", &mut writer)?;
     write_bytes(b"cde", &mut writer)?;
