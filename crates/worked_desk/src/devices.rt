@@ -53,6 +53,16 @@ fn letters_without_a_head(rt: HostRuntime) -> Result<(), Fail> {
     Ok(())
 }
 
+/// Where the head ends that is read of the bytes.
+fn read_place(alloc: Global, bytes: &[u8]) -> HeadPlace {
+    let mut reader = Counted::new(FailAt::new(bytes, Portion::All, 100));
+    match read_head(alloc, &mut reader) {
+        Ok(head) => HeadPlace::Found(head.end),
+        Err(HeadFault::TooLarge) => HeadPlace::TooLarge,
+        Err(_) => HeadPlace::Short,
+    }
+}
+
 #[test]
 fn heads_of_8192_bytes(rt: HostRuntime) -> Result<(), Fail> {
     for (letters, place) in [
@@ -63,13 +73,7 @@ fn heads_of_8192_bytes(rt: HostRuntime) -> Result<(), Fail> {
     ] {
         let bytes = long_head(rt.alloc(), letters)?;
         assert_eq!(rt; place_of_head(&bytes), place, "of {letters}");
-        let mut reader = Counted::new(FailAt::new(bytes.as_slice(), Portion::All, 100));
-        let found = match read_head(rt.alloc(), &mut reader) {
-            Ok(head) => HeadPlace::Found(head.end),
-            Err(HeadFault::TooLarge) => HeadPlace::TooLarge,
-            Err(_) => HeadPlace::Short,
-        };
-        assert_eq!(rt; found, place, "read of {letters}");
+        assert_eq!(rt; read_place(rt.alloc(), &bytes), place, "read of {letters}");
     }
     Ok(())
 }
@@ -167,7 +171,7 @@ fn kind_of(error: Option<Error>) -> Option<ErrorKind> {
 }
 
 #[test]
-fn failed_calls_are_counted(rt: HostRuntime) -> Result<(), Fail> {
+fn failed_reads_are_counted(rt: HostRuntime) {
     let mut reader = Counted::new(FailAt::new("ab".as_bytes(), Portion::OneByte, 1));
     let mut buffer = [0u8; 4];
     assert!(rt; matches!(reader.read(&mut buffer), Ok(1)));
@@ -176,6 +180,10 @@ fn failed_calls_are_counted(rt: HostRuntime) -> Result<(), Fail> {
     assert!(rt; reader.failures() == 2);
     assert!(rt; kind_of(reader.last_error()) == Some(ErrorKind::BrokenPipe));
     assert!(rt; reader.into_device().memory == b"b".as_slice());
+}
+
+#[test]
+fn failed_writes_are_counted(rt: HostRuntime) {
     let memory: Vec<u8> = Vec::new(rt.alloc());
     let mut writer = Counted::new(FailAt::new(memory, Portion::All, 2));
     assert!(rt; writer.flush().is_ok());
@@ -184,6 +192,10 @@ fn failed_calls_are_counted(rt: HostRuntime) -> Result<(), Fail> {
     assert!(rt; writer.write(b"c").is_err());
     assert!(rt; writer.failures() == 2);
     assert!(rt; writer.device().memory.as_slice() == b"ab".as_slice());
+}
+
+#[test]
+fn a_write_that_takes_nothing_is_counted(rt: HostRuntime) {
     let mut full = [0u8; 1];
     let mut narrow = Counted::new(&mut full[..]);
     assert!(rt; matches!(narrow.write(b"ab"), Ok(1)));
@@ -193,5 +205,4 @@ fn failed_calls_are_counted(rt: HostRuntime) -> Result<(), Fail> {
     assert!(rt; matches!(narrow.write(b"b"), Ok(0)));
     assert!(rt; narrow.failures() == 1);
     assert!(rt; kind_of(narrow.last_error()) == Some(ErrorKind::WriteZero));
-    Ok(())
 }

@@ -40,8 +40,10 @@ fn deposits(heard: &Heard) -> bool {
 
 #[test]
 fn hears_a_deposit(rt: HostRuntime) -> Result<(), Fail> {
-    assert!(rt; deposits(&heard(rt.alloc(), DEPOSIT, Portion::All)?));
-    assert!(rt; deposits(&heard(rt.alloc(), DEPOSIT, Portion::OneByte)?));
+    for portion in [Portion::All, Portion::OneByte] {
+        let heard = heard(rt.alloc(), DEPOSIT, portion)?;
+        assert!(rt; deposits(&heard));
+    }
     Ok(())
 }
 

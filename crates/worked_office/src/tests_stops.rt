@@ -59,24 +59,41 @@ fn lines_of(alloc: Global, answers: &Result<Vec<Answer>, AllocError>) -> Option<
     Some(text)
 }
 
-/// Stops in a run of a hold of deposit 1's collection and a release of the first hold, which its
-/// answers tell. Then the files show the office after both.
-fn stop_in_two<D: Disk + Drop>(alloc: Global, files: Files<D>) -> Option<String> {
+/// The office that is found in the files, with a hold of deposit 1.
+fn find_holding_office<D: Disk + Drop>(
+    alloc: Global,
+    files: Files<D>,
+) -> Option<Office<FileStore<D>>> {
     let day = Day::read("2024-03-02")?;
     let hold = Asked::HoldDeposit(1).request()?;
     let mut office = find_office(alloc, files)?;
     let _placed = office.step(alloc, day, "anna", &hold);
+    Some(office)
+}
+
+/// Stops in a run of a hold of deposit 1's collection and a release of the first hold. What the files
+/// have then, and the answers in words.
+fn stop_in_holds<D: Disk + Drop>(
+    alloc: Global,
+    office: Office<FileStore<D>>,
+) -> Option<(Files<D>, String)> {
+    let day = Day::read("2024-03-02")?;
     let items = [
         (day, "anna", Asked::HoldCollection("maps").request()?),
         (day, "anna", Asked::Release(1).request()?),
     ];
     let stopped = stop_in_run(alloc, office, &items);
     let files = stopped.files.close();
-    let lines = lines_of(alloc, &stopped.answers)?;
-    let mut office = find_office(alloc, files)?;
+    Some((files, lines_of(alloc, &stopped.answers)?))
+}
+
+/// Stops in a run, whose answers tell both its requests. Then the files show the office after both.
+fn stop_in_two<D: Disk + Drop>(alloc: Global, files: Files<D>) -> Option<String> {
+    let (files, lines) = stop_in_holds(alloc, find_holding_office(alloc, files)?)?;
     if lines.as_str() != TOLD_OF_THE_RUN {
         return Some(lines);
     }
+    let mut office = find_office(alloc, files)?;
     put(alloc, &mut office, Way::Steps, AFTER_THE_RUN)
 }
 

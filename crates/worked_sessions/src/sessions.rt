@@ -4,8 +4,8 @@ use crate::asking::Asked;
 use crate::offices::AnyOffice;
 use crate::session_fault::SessionFault;
 use crate::wording::words;
-use office_core::{Day, read_policy};
-use std::alloc::Global;
+use office_core::{Answer, Day, Request, read_policy};
+use std::alloc::{AllocError, Global};
 
 /// Two callers and three rules. `anna` may do all but destroy what is of the collection `tax`;
 /// `carl` may list what is of the class `y10`.
@@ -38,6 +38,14 @@ pub static OPENING: [Row; 4] = [
     ),
 ];
 
+/// The day and the request that a row asks.
+fn read_row(day: &str, asked: Asked) -> Result<(Day, Request<'static>), SessionFault> {
+    match (Day::read(day), asked.request()) {
+        (Some(day), Some(request)) => Ok((day, request)),
+        _ => Err(SessionFault::AsksNothing),
+    }
+}
+
 /// What the office answers that caller on that day, in words.
 pub fn answer_in_words<O: AnyOffice>(
     alloc: Global,
@@ -46,10 +54,22 @@ pub fn answer_in_words<O: AnyOffice>(
     caller: &str,
     asked: Asked,
 ) -> Result<String, SessionFault> {
-    let day = Day::read(day).ok_or(SessionFault::AsksNothing)?;
-    let request = asked.request().ok_or(SessionFault::AsksNothing)?;
+    let (day, request) = read_row(day, asked)?;
     let answer = office.step(alloc, day, caller, &request);
     Ok(words(alloc, &answer)?)
+}
+
+/// A row that is answered otherwise than it tells, or none.
+fn told_otherwise(
+    alloc: Global,
+    at: usize,
+    answer: &str,
+    told: &str,
+) -> Result<Option<String>, AllocError> {
+    if answer == told {
+        return Ok(None);
+    }
+    Ok(Some(format!(in alloc; "row {at} answers {answer}")?))
 }
 
 /// The first of the rows that is answered otherwise, with its answer, or none: they are put to the
@@ -61,8 +81,36 @@ pub fn differs<O: AnyOffice>(
 ) -> Result<Option<String>, SessionFault> {
     for (at, (day, caller, asked, told)) in rows.iter().enumerate() {
         let answer = answer_in_words(alloc, office, day, caller, *asked)?;
-        if answer.as_str() != *told {
-            return Ok(Some(format!(in alloc; "row {at} answers {answer}")?));
+        if let Some(other) = told_otherwise(alloc, at, answer.as_str(), told)? {
+            return Ok(Some(other));
+        }
+    }
+    Ok(None)
+}
+
+/// What the rows ask, as a run takes it.
+fn items_of(
+    alloc: Global,
+    rows: &[Row],
+) -> Result<Vec<(Day, &'static str, Request<'static>)>, SessionFault> {
+    let mut items = Vec::new(alloc);
+    for (day, caller, asked, _) in rows {
+        let (day, request) = read_row(day, *asked)?;
+        items.push((day, *caller, request))?;
+    }
+    Ok(items)
+}
+
+/// The first of the rows that these answers don't tell, or none.
+fn first_other(
+    alloc: Global,
+    answers: &[Answer],
+    rows: &[Row],
+) -> Result<Option<String>, AllocError> {
+    for (at, (answer, row)) in answers.iter().zip(rows.iter()).enumerate() {
+        let answer = words(alloc, answer)?;
+        if let Some(other) = told_otherwise(alloc, at, answer.as_str(), row.3)? {
+            return Ok(Some(other));
         }
     }
     Ok(None)
@@ -74,26 +122,12 @@ pub fn differs_in_run<O: AnyOffice>(
     office: &mut O,
     rows: &[Row],
 ) -> Result<Option<String>, SessionFault> {
-    let mut items = Vec::new(alloc);
-    for (day, caller, asked, _) in rows {
-        let day = Day::read(day).ok_or(SessionFault::AsksNothing)?;
-        items.push((
-            day,
-            *caller,
-            asked.request().ok_or(SessionFault::AsksNothing)?,
-        ))?;
-    }
+    let items = items_of(alloc, rows)?;
     let answers = office.run(alloc, items.as_slice())?;
     if answers.len() != rows.len() {
         return Ok(Some(format!(in alloc; "another number of answers")?));
     }
-    for (at, (answer, row)) in answers.iter().zip(rows.iter()).enumerate() {
-        let answer = words(alloc, answer)?;
-        if answer.as_str() != row.3 {
-            return Ok(Some(format!(in alloc; "row {at} answers {answer}")?));
-        }
-    }
-    Ok(None)
+    Ok(first_other(alloc, answers.as_slice(), rows)?)
 }
 
 /// Gives the office the policy, the classes `y1` and `y10` and the collections `tax` and `maps`. As

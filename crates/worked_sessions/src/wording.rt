@@ -118,33 +118,38 @@ fn bytes_words(alloc: Global, word: &str, bytes: &[u8]) -> Result<String, AllocE
     }
 }
 
-/// What a list says.
-fn list_words(alloc: Global, answer: &Answer) -> Result<String, AllocError> {
-    let mut text = format!(in alloc; "")?;
-    match answer {
-        Answer::List { deposits } => {
-            text.push_str("list:")?;
-            for record in deposits.as_slice() {
-                let number = record.number;
-                let one = format!(in alloc; " {number}")?;
-                text.push_str(one.as_str())?;
-            }
-        }
-        Answer::Holds { holds } => {
-            text.push_str("holds:")?;
-            for hold in holds.as_slice() {
-                let one = hold_words(alloc, hold)?;
-                text.push_str(one.as_str())?;
-            }
-        }
-        Answer::DueList { day, deposits } => {
-            let numbers = numbers_words(alloc, deposits.as_slice())?;
-            let list = format!(in alloc; "due on {day}:{numbers}")?;
-            text.push_str(list.as_str())?;
-        }
-        _ => text.push_str("another answer")?,
+/// What a list of deposits says.
+fn deposits_words(alloc: Global, deposits: &[DepositRecord]) -> Result<String, AllocError> {
+    let mut text = String::from_str(alloc, "list:")?;
+    for record in deposits {
+        let number = record.number;
+        let one = format!(in alloc; " {number}")?;
+        text.push_str(one.as_str())?;
     }
     Ok(text)
+}
+
+/// What a list of holds says.
+fn holds_words(alloc: Global, holds: &[LiveHold]) -> Result<String, AllocError> {
+    let mut text = String::from_str(alloc, "holds:")?;
+    for hold in holds {
+        let one = hold_words(alloc, hold)?;
+        text.push_str(one.as_str())?;
+    }
+    Ok(text)
+}
+
+/// What a list says.
+fn list_words(alloc: Global, answer: &Answer) -> Result<String, AllocError> {
+    match answer {
+        Answer::List { deposits } => deposits_words(alloc, deposits.as_slice()),
+        Answer::Holds { holds } => holds_words(alloc, holds.as_slice()),
+        Answer::DueList { day, deposits } => {
+            let numbers = numbers_words(alloc, deposits.as_slice())?;
+            format!(in alloc; "due on {day}:{numbers}")
+        }
+        _ => String::from_str(alloc, "another answer"),
+    }
 }
 
 /// An answer in words.

@@ -8,6 +8,60 @@ use office_tables::{
 use sqlite::{Alter, Transaction};
 use std::alloc::{AllocError, Global};
 
+/// Puts a policy: its callers and its rules.
+fn change_policy<S: Alter>(
+    alloc: Global,
+    tx: &mut Transaction<'_, S>,
+    words: &[&str],
+) -> Result<(), TableFault> {
+    let callers = callers_of(alloc, word(words, 1))?;
+    let rules = rules_of(alloc, word(words, 2))?;
+    put_policy(tx, &callers, &rules)
+}
+
+/// A deposit that is put.
+fn deposit_of<'a>(words: &[&'a str]) -> NewDeposit<'a> {
+    NewDeposit {
+        number: number(words, 1),
+        accession: word(words, 2),
+        collection: word(words, 3),
+        class: word(words, 4),
+        closed: 10,
+        deposited: 11,
+        files: 2,
+        bytes: 300,
+    }
+}
+
+/// Puts a hold, or ends one.
+fn change_hold<S: Alter>(tx: &mut Transaction<'_, S>, words: &[&str]) -> Result<(), TableFault> {
+    let hold = number(words, 1);
+    match word(words, 0) {
+        "hold on deposit" => {
+            let target = HoldTarget::Deposit(number(words, 2));
+            put_hold(tx, hold, target, word(words, 3), 100)
+        }
+        "hold on collection" => {
+            let target = HoldTarget::Collection(word(words, 2));
+            put_hold(tx, hold, target, word(words, 3), 100)
+        }
+        "end hold" => end_hold(tx, hold, i64::from(number(words, 2))),
+        _ => Err(TableFault::Memory),
+    }
+}
+
+/// Changes a deposit or its files, or a hold.
+fn change_deposit<S: Alter>(tx: &mut Transaction<'_, S>, words: &[&str]) -> Result<(), TableFault> {
+    let deposit = number(words, 1);
+    match word(words, 0) {
+        "deposit" => put_deposit(tx, deposit_of(words)),
+        "gone" => mark_gone(tx, deposit, i64::from(number(words, 2))),
+        "file" => put_file(tx, deposit, word(words, 2), word(words, 3).as_bytes()),
+        "drop files" => drop_files(tx, deposit),
+        _ => change_hold(tx, words),
+    }
+}
+
 /// Makes the change: deposits and holds are named by their numbers. A deposit has two files and 300
 /// bytes, was closed on day 10 and deposited on day 11; a hold is of day 100. Fails with `Memory` where
 /// there is no such change.
@@ -17,49 +71,28 @@ pub fn make<S: Alter>(
     change: &str,
 ) -> Result<(), TableFault> {
     let words: Vec<&str> = change.split('|').collect(alloc)?;
-    let name = word(&words, 1);
-    let of = number(&words, 1);
-    let second = word(&words, 2);
-    let third = word(&words, 3);
     match word(&words, 0) {
-        "policy" => put_policy(tx, &callers_of(alloc, name)?, &rules_of(alloc, second)?),
-        "class" => put_class(tx, name, second.parse().unwrap_or(0)),
-        "collection" => put_collection(tx, name),
-        "deposit" => {
-            let deposit = NewDeposit {
-                number: of,
-                accession: second,
-                collection: third,
-                class: word(&words, 4),
-                closed: 10,
-                deposited: 11,
-                files: 2,
-                bytes: 300,
-            };
-            put_deposit(tx, deposit)
-        }
-        "gone" => mark_gone(tx, of, i64::from(number(&words, 2))),
-        "file" => put_file(tx, of, second, third.as_bytes()),
-        "drop files" => drop_files(tx, of),
-        "hold on deposit" => {
-            let target = HoldTarget::Deposit(number(&words, 2));
-            put_hold(tx, of, target, third, 100)
-        }
-        "hold on collection" => put_hold(tx, of, HoldTarget::Collection(second), third, 100),
-        "end hold" => end_hold(tx, of, i64::from(number(&words, 2))),
-        _ => Err(TableFault::Memory),
+        "policy" => change_policy(alloc, tx, &words),
+        "class" => put_class(tx, word(&words, 1), word(&words, 2).parse().unwrap_or(0)),
+        "collection" => put_collection(tx, word(&words, 1)),
+        _ => change_deposit(tx, &words),
     }
 }
 
-/// Callers, parted by `,`: each has a name and a role.
+/// A caller: a name and a role.
+fn caller_of(alloc: Global, caller: &str) -> Result<CallerRow, AllocError> {
+    let (name, role) = caller.split_once(' ').unwrap_or((caller, ""));
+    Ok(CallerRow {
+        name: String::from_str(alloc, name)?,
+        role: String::from_str(alloc, role)?,
+    })
+}
+
+/// Callers, parted by `,`.
 fn callers_of(alloc: Global, callers: &str) -> Result<Vec<CallerRow>, AllocError> {
     let mut rows = Vec::new(alloc);
     for caller in callers.split(',') {
-        let (name, role) = caller.split_once(' ').unwrap_or((caller, ""));
-        rows.push(CallerRow {
-            name: String::from_str(alloc, name)?,
-            role: String::from_str(alloc, role)?,
-        })?;
+        rows.push(caller_of(alloc, caller)?)?;
     }
     Ok(rows)
 }

@@ -1,7 +1,7 @@
 //! The smallest and the largest contents, odd paths, and many files.
 
 use crate::parts::Part;
-use office_tables::{TableFault, file_of, files_of, put_file};
+use office_tables::{FileRow, TableFault, file_of, files_of, put_file};
 use sqlite::{Alter, Connection};
 use std::alloc::{AllocError, Global};
 
@@ -141,8 +141,9 @@ fn put_one<S: Alter>(
     if !conn.is_autocommit() {
         return Err(TableFault::Memory);
     }
+    let content = content(alloc, path)?;
     let mut tx = conn.transaction();
-    put_file(&mut tx, 1, path, &content(alloc, path)?)?;
+    put_file(&mut tx, 1, path, &content)?;
     Ok(tx.commit()?)
 }
 
@@ -179,6 +180,22 @@ fn finds<S: Alter>(
     }
 }
 
+/// Whether the row is the file at this path, with its content.
+fn is_file(alloc: Global, row: &FileRow, path: &str) -> Result<bool, AllocError> {
+    let wanted = content(alloc, path)?;
+    Ok(row.path.as_str() == path && row.content.as_slice() == wanted.as_slice())
+}
+
+/// Whether the rows are the files at just these paths, in this order, with their contents.
+fn are_files(alloc: Global, rows: &[FileRow], paths: &[String]) -> Result<bool, AllocError> {
+    for (row, path) in rows.iter().zip(paths.iter()) {
+        if !is_file(alloc, row, path.as_str())? {
+            return Ok(false);
+        }
+    }
+    Ok(rows.len() == paths.len())
+}
+
 /// Whether the files of deposit 1 are listed with just these paths, in this order, and their contents.
 fn lists<S: Alter>(
     alloc: Global,
@@ -190,13 +207,7 @@ fn lists<S: Alter>(
     }
     let mut tx = conn.transaction();
     let found = files_of(alloc, &mut tx, 1)?;
-    for (row, path) in found.iter().zip(paths.iter()) {
-        let wanted = content(alloc, path)?;
-        if row.path.as_str() != path.as_str() || row.content.as_slice() != wanted.as_slice() {
-            return Ok(false);
-        }
-    }
-    Ok(found.len() == paths.len())
+    Ok(are_files(alloc, found.as_slice(), paths)?)
 }
 
 /// Finds the files of this name, each and as they are listed in the order of their paths: how many they
