@@ -234,8 +234,9 @@ starved() {
     fi
     ended "$serving" || status=$?
     mapfile -t lines <"$folder/err"
-    if [ "$status ${#lines[@]} ${lines[0]-}" != '3 2 device' ] || [[ ${lines[1]} != 'depot: '* ]]; then
-        echo "with $number descriptors 'device', a reason and 3 are wanted, and this came: '$(cat "$folder/err")' and $status" >&2
+    reason='depot: cannot accept a connection: Too many open files (os error 24)'
+    if [ "$status ${#lines[@]} ${lines[0]-}" != '3 2 device' ] || [ "${lines[1]}" != "$reason" ]; then
+        echo "with $number descriptors 'device', '$reason' and 3 are wanted, and this came: '$(cat "$folder/err")' and $status" >&2
         exit 1
     fi
     echo "$number descriptors: no connection is accepted, and serve stops with 3, device and: ${lines[1]#depot: }"

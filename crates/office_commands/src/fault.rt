@@ -54,6 +54,8 @@ pub enum Cause {
     Close(sqlite::Error),
     /// The address of the desk could not be had.
     Listen(io::Error),
+    /// A connection could not be accepted.
+    Accept(io::Error),
     /// There is no file.
     Missing,
     /// The file is empty.
@@ -72,7 +74,8 @@ impl fmt::Display for Cause {
             Cause::Policy(error)
             | Cause::Search(error)
             | Cause::Refused(error)
-            | Cause::Listen(error) => write!(f, "{error}"),
+            | Cause::Listen(error)
+            | Cause::Accept(error) => write!(f, "{error}"),
             Cause::Open(error) | Cause::Close(error) => write!(f, "{error}"),
             Cause::Missing => write!(f, "there is no file"),
             Cause::Empty => write!(f, "the file is empty"),

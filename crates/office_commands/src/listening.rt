@@ -9,7 +9,7 @@ ghost use Rattle.office_commands.specs.Deeds.{AreDone, Deed, deeds_of_connection
 ghost use Rattle.office_commands.specs.Tasks.{AreServedFor, IsPortFor, Listens, listening_text};
 ghost use Rattle.office_commands.specs.Texts.{IsFailure};
 ghost use Rattle.office_commands.specs.Works.{IsQuiet};
-ghost use Rattle.office_commands.specs.declared.fault.Cause.TheVariants.{Listen};
+ghost use Rattle.office_commands.specs.declared.fault.Cause.TheVariants.{Accept, Listen};
 ghost use Rattle.office_commands.specs.declared.fault.CommandFault.TheVariants.{Failed};
 ghost use Rattle.office_commands.specs.declared.fault.StoreFault.TheVariants.{Device};
 
@@ -33,12 +33,20 @@ struct Desk {
     port: u16,
 }
 
-/// A port that can't be had, or that gives no further connection.
+/// A port that can't be had.
 fn unheard(error: Error) -> CommandFault
     ensures is { result ≡ Failed Device (Some (Listen error)) }
     ensures failure { IsFailure result }
 {
     failed_by(StoreFault::Device, Cause::Listen(error))
+}
+
+/// A connection that can't be accepted.
+fn unaccepted(error: Error) -> CommandFault
+    ensures is { result ≡ Failed Device (Some (Accept error)) }
+    ensures failure { IsFailure result }
+{
+    failed_by(StoreFault::Device, Cause::Accept(error))
 }
 
 /// The port that is told: the one that was asked for, or, where that is 0, the one that the machine
@@ -107,7 +115,7 @@ fn serve_sockets<S: Alter>(
     let mut sockets = Sockets::new(alloc, &desk.listener);
     match serve_connections(alloc, office, day, &mut sockets, count, &patience) {
         Ok(_) => Ok(Done::quiet()),
-        Err(failure) => Err(unheard(failure.error)),
+        Err(failure) => Err(unaccepted(failure.error)),
     }
 }
 

@@ -71,6 +71,7 @@ tried_text (tried.Look store) = codes "look at " ++ printed_text store.now
 tried_text (tried.Open store) = codes "open " ++ printed_text store.now
 tried_text (tried.Close store) = codes "close " ++ printed_text store.now
 tried_text (tried.Listen port) = codes "listen on 127.0.0.1:" ++ decimal port
+tried_text tried.Accept = codes "accept a connection"
 tried_text tried.Input = codes "read standard input"
 tried_text tried.Output = codes "write standard output"
 

@@ -90,6 +90,7 @@ fn cause_detail<'a>(line: &Line<'a>, cause: Cause, errors: LastErrors) -> Detail
         Cause::Refused(_) | Cause::Open(_) => Detail::Cannot(Tried::Open(store), why),
         Cause::Close(_) => Detail::Cannot(Tried::Close(store), why),
         Cause::Listen(_) => Detail::Cannot(Tried::Listen(port_in(line)), why),
+        Cause::Accept(_) => Detail::Cannot(Tried::Accept, why),
         Cause::Missing => Detail::File(store, "is not there"),
         Cause::Empty => Detail::File(store, "is an empty file, and no office"),
         Cause::Input => cannot(Tried::Input, errors.input),

@@ -19,6 +19,8 @@ pub(crate) enum Tried<'a> {
     Close(&'a str),
     /// This port of 127.0.0.1 was to be had.
     Listen(u16),
+    /// The next connection was to be accepted.
+    Accept,
     Input,
     Output,
 }
@@ -45,6 +47,7 @@ impl fmt::Display for Tried<'_> {
                 write!(f, "close {store}")
             }
             Tried::Listen(port) => write!(f, "listen on 127.0.0.1:{port}"),
+            Tried::Accept => f.write_str("accept a connection"),
             Tried::Input => f.write_str("read standard input"),
             Tried::Output => f.write_str("write standard output"),
         }
