@@ -15,7 +15,7 @@ use Rattle.office_commands.specs.Deeds.{AreDone, Deed, fails, installs}
 use Rattle.commands.specs.PolicyFiles.{IsRead}
 use Rattle.office_commands.specs.Policies.{installed_text}
 use Rattle.office_commands.specs.Tasks.{Does, IsPortFor, Listens, Replays, ReplaysAfter, install_of}
-use Rattle.office_commands.specs.Texts.{IsFailure}
+use Rattle.office_commands.specs.Texts.{IsFailure, IsUnsaid}
 use Rattle.office_commands.specs.Traffic.{Traffic}
 use Rattle.office_commands.specs.Works.{Comes, ComesOfPolicy, IsQuiet, SaysInstalled, SaysRefused, read_policy, refused_policy}
 use Rattle.office_commands.specs.declared.done.Done.{Done}
@@ -58,15 +58,15 @@ is_refused read refused is it refuses = refused_policy it.0 refused (subst (IsRe
 
 pub says_refused : (r : Result Done CommandFault) (refused : RefusedPolicy) (was now : Traffic) → OnOk r (Appends was.output now.output (bad_policy_text refused.fault))
     → IsCutShort (bad_policy_text refused.fault) was.output now.output → IfOk r (λ done. option_map string_bytes done.reason ≡ Some (string_bytes refused.reason)) → IfOk r (λ done. done.ending ≡ Refused)
-    → IfErr r IsFailure → SaysRefused refused r was now
+    → IfErr r IsUnsaid → SaysRefused refused r was now
 says_refused (Ok done) refused was now printed front reason ending failed = (reason, ending, printed)
 says_refused (Err fault) refused was now printed front reason ending failed = (failed, front)
 
 pub says_installed : (ran : Result Done CommandFault) (x : Done) (r : Result Done CommandFault) (policy : PolicyValue) (was now : Traffic) → ran ≡ Ok x → OnOk r (Appends was.output now.output (installed_text policy))
-    → IsCutShort (installed_text policy) was.output now.output → IfOk r IsQuiet → IfErr r IsFailure → SaysInstalled policy ran r was now
+    → IsCutShort (installed_text policy) was.output now.output → IfOk r IsQuiet → IfErr r IsUnsaid → SaysInstalled policy ran r was now
 says_installed ran x r policy was now is said front quiet failed = subst (λ (i : Result Done CommandFault). SaysInstalled policy i r was now) (sym is) (go r said front quiet failed)
   where
-    go : (r : Result Done CommandFault) → OnOk r (Appends was.output now.output (installed_text policy)) → IsCutShort (installed_text policy) was.output now.output → IfOk r IsQuiet → IfErr r IsFailure
+    go : (r : Result Done CommandFault) → OnOk r (Appends was.output now.output (installed_text policy)) → IsCutShort (installed_text policy) was.output now.output → IfOk r IsQuiet → IfErr r IsUnsaid
         → SaysInstalled policy (Ok x) r was now
     go (Ok done) said front quiet failed = (quiet, said)
     go (Err fault) said front quiet failed = (failed, front)

@@ -54,6 +54,12 @@ IsFailure (Policy fault) = ⊥
 IsFailure (BadRecord index) = ⊥
 IsFailure (Failed fault cause) = ⊤
 
+-- a line could not be printed: standard output or memory failed
+abbrev pub IsUnsaid : CommandFault → Type 0
+IsUnsaid (Failed Device (Some Output)) = ⊤
+IsUnsaid (Failed Memory cause) = ⊤
+IsUnsaid _ = ⊥
+
 -- nothing was found where the store is to be
 abbrev pub is_of_nothing : Option Cause → Bool
 is_of_nothing None = false

@@ -10,7 +10,7 @@ use Rattle.commands.specs.declared.ending.Ending.TheVariants.{Accepted, Refused}
 use Rattle.commands.specs.PolicyFiles.{IsRefused as IsRefusedFor}
 use Rattle.office_commands.specs.Policies.{IsUnread, installed_text}
 use Rattle.office_commands.specs.Stores.{RunsOn}
-use Rattle.office_commands.specs.Texts.{IsFailure}
+use Rattle.office_commands.specs.Texts.{IsUnsaid}
 use Rattle.office_commands.specs.Traffic.{Begins, Prints, Traffic}
 use Rattle.office_commands.specs.declared.done.Done.{Done}
 use Rattle.office_commands.specs.declared.fault.CommandFault.{CommandFault}
@@ -49,12 +49,12 @@ IsUntouched alone was now = alone × (now ≡ was)
 abbrev pub SaysRefused : RefusedPolicy → Result Done CommandFault → Traffic → Traffic → Type 0
 SaysRefused refused (Ok done) was now =
     (option_map string_bytes done.reason ≡ Some (string_bytes refused.reason)) × (done.ending ≡ Refused) × Prints (bad_policy_text refused.fault) was now
-SaysRefused refused (Err fault) was now = IsFailure fault × Begins (bad_policy_text refused.fault) was now
+SaysRefused refused (Err fault) was now = IsUnsaid fault × Begins (bad_policy_text refused.fault) was now
 
 -- once the policy is installed that is printed, or the output or memory fails; where it isn't, nothing is printed
 abbrev pub SaysInstalled : PolicyValue → Result Done CommandFault → Result Done CommandFault → Traffic → Traffic → Type 0
 SaysInstalled policy (Ok _) (Ok done) was now = IsQuiet done × Prints (installed_text policy) was now
-SaysInstalled policy (Ok _) (Err fault) was now = IsFailure fault × Begins (installed_text policy) was now
+SaysInstalled policy (Ok _) (Err fault) was now = IsUnsaid fault × Begins (installed_text policy) was now
 SaysInstalled policy (Err fault) (Err told) was now = (told ≡ fault) × (now ≡ was)
 SaysInstalled policy (Err fault) (Ok _) was now = ⊥
 

@@ -6,7 +6,7 @@ ghost use Rattle.commands.specs.Explaining.{bad_policy_text};
 ghost use Rattle.streams.specs.Writing.{IsCutShort};
 ghost use Rattle.desk_devices.specs.Devices.{device_of};
 ghost use Rattle.office_commands.specs.Policies.{installed_text};
-ghost use Rattle.office_commands.specs.Texts.{IsFailure};
+ghost use Rattle.office_commands.specs.Texts.{IsFailure, IsUnsaid};
 ghost use Rattle.office_commands.specs.Works.{IsQuiet};
 ghost use Rattle.office_commands.specs.declared.fault.Cause.TheVariants.{Output};
 ghost use Rattle.office_commands.specs.declared.fault.CommandFault.TheVariants.{Failed};
@@ -38,6 +38,7 @@ pub fn print<O: Write>(text: &str, out: &mut Counted<O>) -> Result<Done, Command
     ensures whole { OnOk result (Appends (O.contents (device_of out.old)) (O.contents (device_of out.new)) text.now) }
     ensures front { IsCutShort text.now (O.contents (device_of out.old)) (O.contents (device_of out.new)) }
     ensures quiet { IfOk result IsQuiet }
+    ensures unsaid { IfErr result IsUnsaid }
     ensures failure { IfErr result IsFailure }
 {
     match write_text(text, out) {

@@ -8,7 +8,7 @@ ghost use Rattle.streams.specs.Writing.{IsCutShort};
 ghost use Rattle.commands.specs.declared.ending.Ending.TheVariants.{Refused};
 ghost use Rattle.desk_devices.specs.Devices.{device_of};
 ghost use Rattle.office_commands.specs.Policies.{installed_text};
-ghost use Rattle.office_commands.specs.Texts.{IsFailure};
+ghost use Rattle.office_commands.specs.Texts.{IsUnsaid};
 ghost use Rattle.office_commands.specs.Traffic.{traffic_of};
 ghost use Rattle.office_commands.specs.Works.{Comes, IsQuiet, reads_input};
 ghost use Rattle.office_commands.specs.declared.work.Work.TheVariants as works;
@@ -38,7 +38,7 @@ fn say_installed<O: Write>(
     ensures said { OnOk result (Appends (O.contents (device_of out.old)) (O.contents (device_of out.new)) (installed_text policy.now)) }
     ensures front { IsCutShort (installed_text policy.now) (O.contents (device_of out.old)) (O.contents (device_of out.new)) }
     ensures quiet { IfOk result IsQuiet }
-    ensures failure { IfErr result IsFailure }
+    ensures unsaid { IfErr result IsUnsaid }
 {
     match installed_line(alloc, policy) {
         Ok(line) => print(line.as_str(), out),
@@ -56,7 +56,7 @@ fn say_refused<O: Write>(
     ensures front { IsCutShort (bad_policy_text refused.fault) (O.contents (device_of out.old)) (O.contents (device_of out.new)) }
     ensures reason { IfOk result (λ done. option_map string_bytes done.reason ≡ Some (string_bytes refused.reason)) }
     ensures ending { IfOk result (λ done. done.ending ≡ Refused) }
-    ensures failure { IfErr result IsFailure }
+    ensures unsaid { IfErr result IsUnsaid }
 {
     let RefusedPolicy { fault, reason } = refused;
     let Ok(line) = refused_line(alloc, fault) else {
