@@ -8,7 +8,7 @@ use std::io::{Error, ErrorKind};
 use std::test::*;
 
 /// Runs, how many bytes the input gives before it fails, and what becomes of what is printed and told.
-static FAILURES: [(&str, u64, Taking, Taking); 9] = [
+static FAILURES: [(&str, u64, Taking, Taking); 12] = [
     // The input fails at once, and in the middle.
     (
         "check,-||Failed||device\ndepot: cannot read standard input: broken pipe\n",
@@ -50,6 +50,25 @@ static FAILURES: [(&str, u64, Taking, Taking); 9] = [
         Taking::Fails,
     ),
     ("judge,-||Unsaid||", u64::MAX, Taking::All, Taking::Nothing),
+    // It takes all, and fails as it is flushed.
+    (
+        "check,-||Unsaid||device\n",
+        0,
+        Taking::All,
+        Taking::Unflushed,
+    ),
+    (
+        "check,-||Unsaid|unreadable S3\n|the form ..",
+        u64::MAX,
+        Taking::All,
+        Taking::Unflushed,
+    ),
+    (
+        "judge,-||Unsaid||depot has no subcommand judge\n..",
+        u64::MAX,
+        Taking::All,
+        Taking::Unflushed,
+    ),
     // What tells nothing ends well all the same.
     (
         "check,-|~bag~|Accepted|valid 1.0 files 1 bytes 3 manifests 1\n|",
@@ -97,5 +116,6 @@ fn words_that_could_not_be_had(rt: HostRuntime) {
         error.taking = Taking::Fails;
         let ending = refuse_words(&Error::from(*kind), &mut error);
         assert!(rt; ending == Ending::Unsaid, "{text}");
+        assert!(rt; ending.status() == 3, "{text}");
     }
 }
