@@ -17,7 +17,7 @@ use Rattle.http_desk.specs.Replaying.{AnswersEach}
 use Rattle.http_desk.specs.ReplayRuns as runs
 use Rattle.http_desk.specs.ReplayRuns.{IsRunOf}
 use Rattle.http_desk.proofs.RunLemmas.{was_clean}
-use Rattle.office_commands.specs.Deeds.{AreDone, Deed, IsAnsweredFrom, IsDone, LeadOn, Leads, answers, by_desk, by_office, deeds_of_connections, deeds_of_records, fails, installs}
+use Rattle.office_commands.specs.Deeds.{AreDone, Deed, IsAnsweredFrom, IsDone, LeadOn, Leads, answers, by_desk, by_office, deeds_of_connections, deeds_of_records, fails, installs, records_of_connections, texts_of_connections}
 
 -- ---- an honest disk
 
@@ -116,3 +116,15 @@ answers_are_runs (item ∷ items) (text ∷ texts) h next same leads =
     one_more item text items texts h leads.0 next leads.1 (answers_are_runs items texts leads.0 next (omega (arith, same)) leads.2)
 answers_are_runs [] (text ∷ texts) h next same leads = absurd (omega (arith, same))
 answers_are_runs (item ∷ items) [] h next same leads = absurd (omega (arith, same))
+
+-- each connection that is answered has a text
+as_many_heard : (day : Date) (connections : List Connection) → length (texts_of_connections connections) ≡ length (records_of_connections day connections)
+as_many_heard day [] = refl
+as_many_heard day (served bytes item answer whole ∷ more) = let rest = as_many_heard day more in omega arith
+as_many_heard day (refused bytes refusal ∷ more) = let rest = as_many_heard day more in omega arith
+as_many_heard day (lost ∷ more) = as_many_heard day more
+
+pub connections_are_runs : (day : Date) (connections : List Connection) (h next : History) → LeadOn (deeds_of_connections day connections) h next
+    → (run : List Item) × (answers : List Answer) × IsRunOf (records_of_connections day connections) (texts_of_connections connections) run answers × Run h run answers next
+connections_are_runs day connections h next leads =
+    answers_are_runs (records_of_connections day connections) (texts_of_connections connections) h next (as_many_heard day connections) leads

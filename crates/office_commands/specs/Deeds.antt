@@ -68,9 +68,20 @@ abbrev pub deeds_of_records : List RequestRecord → List (List ℕ) → List De
 deeds_of_records (item ∷ items) (text ∷ texts) = answers item.day item.bytes text ∷ deeds_of_records items texts
 deeds_of_records _ _ = []
 
+-- what was heard over each connection, as a record of that day; one that was lost is none
+abbrev pub records_of_connections : Date → List Connection → List RequestRecord
+records_of_connections day [] = []
+records_of_connections day (served bytes item answer whole ∷ more) = record { day = day; bytes = bytes } ∷ records_of_connections day more
+records_of_connections day (refused bytes refusal ∷ more) = record { day = day; bytes = bytes } ∷ records_of_connections day more
+records_of_connections day (lost ∷ more) = records_of_connections day more
+
+-- with the text that answers it
+abbrev pub texts_of_connections : List Connection → List (List ℕ)
+texts_of_connections [] = []
+texts_of_connections (served bytes item answer whole ∷ more) = answer_text answer ∷ texts_of_connections more
+texts_of_connections (refused bytes refusal ∷ more) = refusal_text refusal ∷ texts_of_connections more
+texts_of_connections (lost ∷ more) = texts_of_connections more
+
 -- what was heard over each connection is answered; one that was lost is no deed
 abbrev pub deeds_of_connections : Date → List Connection → List Deed
-deeds_of_connections day [] = []
-deeds_of_connections day (served bytes item answer whole ∷ more) = answers day bytes (answer_text answer) ∷ deeds_of_connections day more
-deeds_of_connections day (refused bytes refusal ∷ more) = answers day bytes (refusal_text refusal) ∷ deeds_of_connections day more
-deeds_of_connections day (lost ∷ more) = deeds_of_connections day more
+deeds_of_connections day connections = deeds_of_records (records_of_connections day connections) (texts_of_connections connections)

@@ -1,15 +1,17 @@
 //! Laws of what is done with an office.
 
 ghost use Rattle.std.specs.Prelude.{◌≡◌, ℕ, List, length};
+ghost use Rattle.jiff.specs.Types.{Date};
 ghost use Rattle.sqlite.specs.Held.{Held, state};
 ghost use Rattle.sqlite.specs.State.{HasCleanDisk};
 ghost use Rattle.office_core.specs.declared.answer.Answer.{Answer};
 ghost use Rattle.office_history.specs.Histories.{History};
 ghost use Rattle.office_history.specs.Runs.{IsLegal, Item, Run};
 ghost use Rattle.office_engine.specs.Keeping.{IsKeptBy, IsReached};
+ghost use Rattle.desk_listening.specs.Listening.{Connection};
 ghost use Rattle.desk_records.specs.RecordLists.{RequestRecord};
 ghost use Rattle.http_desk.specs.ReplayRuns.{IsRunOf};
-ghost use Rattle.office_commands.specs.Deeds.{AreDone, Deed, LeadOn, deeds_of_records};
+ghost use Rattle.office_commands.specs.Deeds.{AreDone, Deed, LeadOn, deeds_of_connections, deeds_of_records, records_of_connections, texts_of_connections};
 
 use sqlite::Alter;
 
@@ -21,10 +23,13 @@ pub fn deeds_lead_on<S: Alter>()
         → (next : History) × LeadOn deeds h next × IsReached next (state S.Store new) }
 {}
 
-/// Where records are answered, their texts are those of a run of the office that asks what is heard of
-/// them, and of the desk's refusals.
+/// Where records are answered, or what is heard over connections, the texts are those of a run of the office
+/// that asks what is heard, and of the desk's refusals.
 pub fn answers_are_runs()
-    ensures { (items : List RequestRecord) (texts : List (List ℕ)) (h next : History)
+    ensures records { (items : List RequestRecord) (texts : List (List ℕ)) (h next : History)
         → length texts ≡ length items → LeadOn (deeds_of_records items texts) h next
         → (run : List Item) × (answers : List Answer) × IsRunOf items texts run answers × Run h run answers next }
+    ensures connections { (day : Date) (connections : List Connection) (h next : History)
+        → LeadOn (deeds_of_connections day connections) h next → (run : List Item) × (answers : List Answer)
+        × IsRunOf (records_of_connections day connections) (texts_of_connections connections) run answers × Run h run answers next }
 {}
