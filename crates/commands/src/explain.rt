@@ -104,11 +104,10 @@ fn refused_outcome(alloc: Global, refused: RefusedPolicy) -> Result<Outcome, All
     ensures { IfOk result (λ outcome. Prints outcome (bad_policy_text refused.fault)
         (Some (string_bytes refused.reason)) Refused) }
 {
-    let RefusedPolicy { fault, reason } = refused;
-    let text = format!(in alloc; "policy {fault}\n")?;
+    let text = refused.line(alloc)?;
     Ok(Outcome {
         text,
-        reason: Some(reason),
+        reason: Some(refused.reason),
         ending: Ending::Refused,
     })
 }

@@ -1,8 +1,8 @@
 //! The policy that the bytes of a file are.
 
-ghost use Rattle.std.specs.Prelude.{◌≡◌, ◌≢◌, ◌⊎◌, ℕ, IfErr, IfOk, IfSome, List};
+ghost use Rattle.std.specs.Prelude.{◌≡◌, ◌≢◌, ◌⊎◌, ℕ, IfErr, IfOk, IfSome, List, string_bytes};
 ghost use Rattle.office_core.specs.declared.policy_fault.PolicyFault.TheVariants.{Memory};
-ghost use Rattle.commands.specs.Explaining.{HasFault, Spells};
+ghost use Rattle.commands.specs.Explaining.{HasFault, Spells, bad_policy_text};
 ghost use Rattle.commands.specs.PolicyFiles.{IsAllOf, IsRead, IsRefused};
 
 use crate::trouble::Trouble;
@@ -17,6 +17,16 @@ use std::io::Read;
 pub struct RefusedPolicy {
     pub fault: PolicyFault,
     pub reason: String,
+}
+
+impl RefusedPolicy {
+    /// The line of standard output that names the fault, with its end.
+    pub fn line(&self, alloc: Global) -> Result<String, AllocError>
+        ensures { IfOk result (λ text. string_bytes text ≡ bad_policy_text self.now.fault) }
+    {
+        let fault = self.fault;
+        format!(in alloc; "policy {fault}\n")
+    }
 }
 
 /// What is refused for this fault.

@@ -92,9 +92,14 @@ fn is_refused_policy(alloc: Global) -> Result<bool, Fail> {
     let mut rest = NOTED;
     match read_policy_from(alloc, &mut rest)? {
         Ok(_) => Ok(false),
-        Err(refused) => Ok(
-            refused.fault == PolicyFault::UnknownKey && refused.reason.as_str() == UNKNOWN_KEY,
-        ),
+        Err(refused) => {
+            let line = refused.line(alloc)?;
+            Ok(
+                refused.fault == PolicyFault::UnknownKey
+                    && line.as_str() == "policy Y3\n"
+                    && refused.reason.as_str() == UNKNOWN_KEY,
+            )
+        }
     }
 }
 
