@@ -18,11 +18,10 @@ use Rattle.office_history.specs.Runs.{IsLegal, new, new_history}
 use Rattle.office_engine.specs.Keeping.{IsKeptBy}
 use Rattle.office_commands.specs.Deeds.{AreDone, Deed}
 use Rattle.office_commands.specs.Stores.{AreDoneAndClosed, IsOpenedFrom, RunsAndCloses, RunsInFile, RunsInMemory, made_office}
-use Rattle.office_commands.specs.Tasks.{Does, makes_office}
+use Rattle.office_commands.specs.Tasks.{Does, Task, makes_office}
 use Rattle.office_commands.specs.Texts.{IsFailure}
 use Rattle.office_commands.specs.Traffic.{Traffic}
 use Rattle.office_commands.specs.declared.fault.CommandFault.{CommandFault}
-use Rattle.office_commands.specs.declared.task.Task.{Task}
 use Rattle.office_commands.proofs.DeedLemmas.{deeds_clean, deeds_lead}
 use Rattle.office_commands.proofs.FileLemmas.{held_of}
 

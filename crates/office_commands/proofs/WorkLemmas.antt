@@ -14,16 +14,15 @@ use Rattle.commands.specs.declared.ending.Ending.TheVariants.{Refused}
 use Rattle.office_commands.specs.Deeds.{AreDone, Deed, fails, installs}
 use Rattle.commands.specs.PolicyFiles.{IsRead}
 use Rattle.office_commands.specs.Policies.{installed_text}
-use Rattle.office_commands.specs.Tasks.{Does, IsPortFor, Listens, Replays, ReplaysAfter, install_of}
+use Rattle.office_commands.specs.Tasks.{Does, IsPortFor, Listens, Replays, ReplaysAfter, Task, install_of}
 use Rattle.office_commands.specs.Texts.{IsFailure, IsUnsaid}
 use Rattle.office_commands.specs.Traffic.{Traffic}
 use Rattle.office_commands.specs.Works.{Comes, ComesOfPolicy, IsQuiet, SaysInstalled, SaysRefused, read_policy, refused_policy}
 use Rattle.office_commands.specs.declared.done.Done.{Done}
 use Rattle.office_commands.specs.declared.fault.CommandFault.{CommandFault}
 use Rattle.commands.specs.declared.policy_file.RefusedPolicy.{RefusedPolicy}
-use Rattle.office_commands.specs.declared.task.Task.{Task}
-use Rattle.office_commands.specs.declared.task.Task.TheVariants.{Install, Serve}
 use Rattle.office_commands.specs.declared.work.Work.{Work}
+use Rattle.office_commands.specs.declared.work.Work.TheVariants.{Policy, Serve}
 
 -- ---- a policy that comes first
 
@@ -76,7 +75,7 @@ says_nothing ran fault policy was is = subst (λ (i : Result Done CommandFault).
 
 -- ---- what a task does
 
-pub does_install : {S T : Type 0} (g : Ghosts S) (task : Task) (policy : Bor PolicyValue) (r : Result T CommandFault) (old new : Held S) (was : Traffic) → task ≡ Install policy → IfErr r IsFailure
+pub does_install : {S T : Type 0} (g : Ghosts S) (task : Task) (policy : Bor PolicyValue) (r : Result T CommandFault) (old new : Held S) (was : Traffic) → task ≡ Policy policy → IfErr r IsFailure
     → AreDone g (install_of r policy.now ∷ []) old new → (deeds : List Deed) × Does task r deeds was was × AreDone g deeds old new
 does_install g task policy r old new was is failed done =
     subst (λ (t : Task). (deeds : List Deed) × Does t r deeds was was × AreDone g deeds old new) (sym is) (install_of r policy.now ∷ [], (failed, refl, refl), done)
@@ -89,6 +88,6 @@ does_serve g task day port count r old new was now is same failed it =
 
 -- ---- what a work comes to
 
-pub comes_as : {D : Type 0} (g : Disks D) (first : Image) (store : List ℕ) (work other : Work) (alone : Type 0) (result : Result Done CommandFault) (was now : Traffic) → work ≡ other
+pub comes_as : {D : Type 0} (g : Disks D) (first : Image) (store : List ℕ) (work other : Work (Bor (List ℕ))) (alone : Type 0) (result : Result Done CommandFault) (was now : Traffic) → work ≡ other
     → Comes g first store other alone result was now → Comes g first store work alone result was now
-comes_as g first store work other alone result was now same it = subst (λ (w : Work). Comes g first store w alone result was now) (sym same) it
+comes_as g first store work other alone result was now same it = subst (λ (w : Work (Bor (List ℕ))). Comes g first store w alone result was now) (sym same) it

@@ -20,11 +20,10 @@ use Rattle.office_history.specs.Runs.{IsLegal, new_history}
 use Rattle.office_recovery.specs.Found.{HoldsWhere}
 use Rattle.office_engine.specs.Keeping.{IsKeptBy, IsLeftOf, IsReached}
 use Rattle.office_commands.specs.Deeds.{AreDone, Deed, LeadOn}
-use Rattle.office_commands.specs.Tasks.{Does, HasFailed, makes_office}
+use Rattle.office_commands.specs.Tasks.{Does, HasFailed, Task, makes_office}
 use Rattle.office_commands.specs.Texts.{IsFailure, found_nothing}
 use Rattle.office_commands.specs.Traffic.{Traffic}
 use Rattle.office_commands.specs.declared.fault.CommandFault.{CommandFault}
-use Rattle.office_commands.specs.declared.task.Task.{Task}
 
 -- ---- in memory
 

@@ -14,24 +14,33 @@ use Rattle.office_commands.specs.Deeds.{Deed, answers, deeds_of_connections, dee
 use Rattle.office_commands.specs.Texts.{IsFailure}
 use Rattle.office_commands.specs.Traffic.{Begins, Gives, Prints, Traffic}
 use Rattle.office_commands.specs.declared.fault.CommandFault.{CommandFault}
-use Rattle.office_commands.specs.declared.fault.CommandFault.TheVariants.{BadRecord, Failed, Policy}
-use Rattle.office_commands.specs.declared.task.Task.{Task}
-use Rattle.office_commands.specs.declared.task.Task.TheVariants.{Ask, Install, Replay, Serve}
+use Rattle.office_commands.specs.declared.fault.CommandFault.TheVariants as faults
+use Rattle.office_commands.specs.declared.fault.CommandFault.TheVariants.{BadRecord, Failed}
+use Rattle.office_commands.specs.declared.work.Work.{Work}
+use Rattle.office_commands.specs.declared.work.Work.TheVariants.{Ask, Policy, Replay, Serve}
 
--- whether the office is made where there is none: only where a policy comes with the task
-abbrev pub makes_office : Task → Bool
-makes_office (Install policy) = true
+-- ---- the work of a command, its policy named by its file or read from it
+
+-- whether the office is made where there is none: only where a policy comes with the work
+abbrev pub makes_office : {P : Type 0} → Work P → Bool
+makes_office (Policy policy) = true
 makes_office (Ask day) = false
 makes_office (Replay None) = false
 makes_office (Replay (Some policy)) = true
 makes_office (Serve day port count) = false
 
--- whether it reads the input
-abbrev pub reads : Task → Bool
-reads (Install policy) = false
-reads (Ask day) = true
-reads (Replay policy) = true
-reads (Serve day port count) = false
+-- only requests, and records of requests, are read from the input
+abbrev pub reads_input : {P : Type 0} → Work P → Bool
+reads_input (Policy policy) = false
+reads_input (Ask day) = true
+reads_input (Replay policy) = true
+reads_input (Serve day port count) = false
+
+-- ---- with an open office
+
+-- what is to be done: the work, its policy read
+abbrev pub Task : Type 0
+Task = Work (Bor PolicyValue)
 
 -- the store, memory or a device failed
 abbrev pub HasFailed : {T : Type 0} → Result T CommandFault → Type 0
@@ -61,7 +70,7 @@ Asks day (Ok _) deeds was now = (text : List ℕ) × IsAsked day text deeds was 
 Asks day (Err (Failed fault cause)) deeds was now =
     ((deeds ≡ []) × Prints [] was now) ⊎ ((text : List ℕ) × IsAsked day text deeds was now × Begins text was now)
 Asks day (Err (BadRecord index)) deeds was now = ⊥
-Asks day (Err (Policy refused)) deeds was now = ⊥
+Asks day (Err (faults.Policy refused)) deeds was now = ⊥
 
 -- ---- records of requests
 
@@ -92,7 +101,7 @@ Replays (Err (BadRecord index)) deeds was now =
 Replays (Err (Failed fault cause)) deeds was now =
     (items : List RequestRecord) × (texts : List (List ℕ)) × (rest : List ℕ) × AreAsked items texts rest deeds was now
     × PrintsAllOrBut texts was now
-Replays (Err (Policy refused)) deeds was now = ⊥
+Replays (Err (faults.Policy refused)) deeds was now = ⊥
 
 -- the policy is installed first, where there is one; where that fails, nothing is read or written
 abbrev pub ReplaysAfter : {T : Type 0} → Option (Bor PolicyValue) → Result T CommandFault → List Deed → Traffic → Traffic → Type 0
@@ -128,7 +137,7 @@ Listens day told count result deeds held holds =
 
 -- these deeds are done for the task as it ends so, with this traffic
 abbrev pub Does : {T : Type 0} → Task → Result T CommandFault → List Deed → Traffic → Traffic → Type 0
-Does (Install policy) result deeds was now = IfErr result IsFailure × (deeds ≡ install_of result policy.now ∷ []) × (now ≡ was)
+Does (Policy policy) result deeds was now = IfErr result IsFailure × (deeds ≡ install_of result policy.now ∷ []) × (now ≡ was)
 Does (Ask day) result deeds was now = Asks day result deeds was now
 Does (Replay policy) result deeds was now = ReplaysAfter policy result deeds was now
 Does (Serve day port count) result deeds was now =

@@ -1,10 +1,11 @@
 -- What is known of the two streams beside an office, before a command and after it.
-use Rattle.std.specs.Prelude.{ℕ, List, Option, take}
+use Rattle.std.specs.Prelude.{ℕ, List, Option}
 use Rattle.std.specs.Io.KnownBytes.{Appends, Consumes}
 use Rattle.std.specs.declared.io.Read.{Ghosts as Reads}
 use Rattle.std.specs.declared.io.Write.{Ghosts as Writes}
 use Rattle.desk_devices.specs.Devices.{device_of}
 use Rattle.desk_devices.specs.declared.counted.Counted.{Counted}
+use Rattle.streams.specs.Writing.{IsCutShort}
 
 pub record Traffic : Type 0 where
   -- what the input still has
@@ -25,4 +26,4 @@ Prints text was now = Appends was.output now.output text
 
 -- a beginning of it is: nothing, a part or all of it
 abbrev pub Begins : List ℕ → Traffic → Traffic → Type 0
-Begins text was now = (count : ℕ) × Prints (take count text) was now
+Begins text was now = IsCutShort text was.output now.output

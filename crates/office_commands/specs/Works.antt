@@ -1,6 +1,6 @@
 -- What a command on a store comes to. `was` is the traffic before and `now` the traffic after; `alone` says that the store was left alone: it was
 -- not opened, so that nothing in it is read or changed.
-use Rattle.std.specs.Prelude.{◌≡◌, ℕ, Bool, true, false, List, None, Some, Result, Ok, Err, IfOk, IsErrAnd, option_map, string_bytes}
+use Rattle.std.specs.Prelude.{◌≡◌, ℕ, List, None, Some, Result, Ok, Err, IfOk, IsErrAnd, option_map, string_bytes}
 use denote.Ref.{Bor}
 use Rattle.sqlite_disk.specs.declared.Disk.{Ghosts}
 use Rattle.sqlite.specs.Recovery.{Image}
@@ -16,16 +16,8 @@ use Rattle.office_commands.specs.declared.done.Done.{Done}
 use Rattle.office_commands.specs.declared.fault.CommandFault.{CommandFault}
 use Rattle.office_commands.specs.declared.fault.CommandFault.TheVariants as faults
 use Rattle.commands.specs.declared.policy_file.RefusedPolicy.{RefusedPolicy}
-use Rattle.office_commands.specs.declared.task.Task.TheVariants as tasks
 use Rattle.office_commands.specs.declared.work.Work.{Work}
 use Rattle.office_commands.specs.declared.work.Work.TheVariants.{Ask, Policy, Replay, Serve}
-
--- only requests, and records of requests, are read from the input
-abbrev pub reads_input : Work → Bool
-reads_input (Policy path) = false
-reads_input (Ask day) = true
-reads_input (Replay policy) = true
-reads_input (Serve day port count) = false
 
 -- the command ends well, and standard error is told nothing
 abbrev pub IsQuiet : Done → Type 0
@@ -65,16 +57,16 @@ abbrev pub IsRefusedBefore : Type 0 → RefusedPolicy → Result Done CommandFau
 IsRefusedBefore alone refused result was now = (result ≡ Err (faults.Policy refused)) × IsUntouched alone was now
 
 -- What comes of the work on the store, whose files held this at first.
-abbrev pub Comes : {D : Type 0} → Ghosts D → Image → List ℕ → Work → Type 0 → Result Done CommandFault → Traffic → Traffic → Type 0
+abbrev pub Comes : {D : Type 0} → Ghosts D → Image → List ℕ → Work (Bor (List ℕ)) → Type 0 → Result Done CommandFault → Traffic → Traffic → Type 0
 Comes g first store (Policy path) alone result was now =
     ComesOfPolicy (IsErrAnd result IsUnread × IsUntouched alone was now)
     (λ refused. alone × SaysRefused refused result was now)
-    (λ policy. (ran : Result Done CommandFault) × (mid : Traffic) × RunsOn g first store (tasks.Install policy) ran was mid × SaysInstalled policy.now ran result mid now)
-Comes g first store (Ask day) alone result was now = IfOk result IsQuiet × RunsOn g first store (tasks.Ask day) result was now
-Comes g first store (Replay None) alone result was now = IfOk result IsQuiet × RunsOn g first store (tasks.Replay None) result was now
+    (λ policy. (ran : Result Done CommandFault) × (mid : Traffic) × RunsOn g first store (Policy policy) ran was mid × SaysInstalled policy.now ran result mid now)
+Comes g first store (Ask day) alone result was now = IfOk result IsQuiet × RunsOn g first store (Ask day) result was now
+Comes g first store (Replay None) alone result was now = IfOk result IsQuiet × RunsOn g first store (Replay None) result was now
 Comes g first store (Replay (Some path)) alone result was now =
     IfOk result IsQuiet
     × ComesOfPolicy (IsErrAnd result IsUnread × IsUntouched alone was now)
     (λ refused. IsRefusedBefore alone refused result was now)
-    (λ policy. RunsOn g first store (tasks.Replay (Some policy)) result was now)
-Comes g first store (Serve day port count) alone result was now = IfOk result IsQuiet × RunsOn g first store (tasks.Serve day port count) result was now
+    (λ policy. RunsOn g first store (Replay (Some policy)) result was now)
+Comes g first store (Serve day port count) alone result was now = IfOk result IsQuiet × RunsOn g first store (Serve day port count) result was now

@@ -120,8 +120,7 @@ fn refused_lines(alloc: Global, refused: &RefusedPolicy) -> Result<String, Alloc
     ensures { IfOk result (λ text. string_bytes text
         ≡ bad_policy_text refused.now.fault ++ string_bytes refused.now.reason) }
 {
-    let fault = refused.fault;
-    let mut lines = format!(in alloc; "policy {fault}\n")?;
+    let mut lines = refused.line(alloc)?;
     lines.push_str(refused.reason.as_str())?;
     Ok(lines)
 }

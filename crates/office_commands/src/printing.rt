@@ -2,7 +2,6 @@
 
 ghost use Rattle.std.specs.Prelude.{◌≡◌, IfErr, IfOk, OnOk, Some, string_bytes};
 ghost use Rattle.std.specs.Io.KnownBytes.{Appends, Keeps};
-ghost use Rattle.commands.specs.Explaining.{bad_policy_text};
 ghost use Rattle.streams.specs.Writing.{IsCutShort};
 ghost use Rattle.desk_devices.specs.Devices.{device_of};
 ghost use Rattle.office_commands.specs.Policies.{installed_text};
@@ -15,7 +14,7 @@ ghost use Rattle.office_commands.specs.declared.fault.StoreFault.TheVariants.{De
 use crate::done::Done;
 use crate::fault::{Cause, CommandFault, StoreFault, failed_by};
 use desk_devices::Counted;
-use office_core::{Policy, PolicyFault};
+use office_core::Policy;
 use std::alloc::{AllocError, Global};
 use std::io::Write;
 use streams::write_text;
@@ -54,11 +53,4 @@ pub fn installed_line(alloc: Global, policy: &Policy) -> Result<String, AllocErr
     let rules = policy.rules().len();
     let callers = policy.callers().len();
     format!(in alloc; "installed {rules} rules {callers} callers\n")
-}
-
-/// The line of a policy that is refused.
-pub fn refused_line(alloc: Global, fault: PolicyFault) -> Result<String, AllocError>
-    ensures { IfOk result (λ text. string_bytes text ≡ bad_policy_text fault) }
-{
-    format!(in alloc; "policy {fault}\n")
 }

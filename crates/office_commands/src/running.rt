@@ -8,17 +8,17 @@ ghost use Rattle.streams.specs.Writing.{IsCutShort};
 ghost use Rattle.commands.specs.declared.ending.Ending.TheVariants.{Refused};
 ghost use Rattle.desk_devices.specs.Devices.{device_of};
 ghost use Rattle.office_commands.specs.Policies.{installed_text};
+ghost use Rattle.office_commands.specs.Tasks.{reads_input};
 ghost use Rattle.office_commands.specs.Texts.{IsUnsaid};
 ghost use Rattle.office_commands.specs.Traffic.{traffic_of};
-ghost use Rattle.office_commands.specs.Works.{Comes, IsQuiet, reads_input};
+ghost use Rattle.office_commands.specs.Works.{Comes, IsQuiet};
 ghost use Rattle.office_commands.specs.declared.work.Work.TheVariants as works;
 
 use crate::done::Done;
 use crate::fault::{CommandFault, StoreFault};
 use crate::policy_file::policy_in_file;
-use crate::printing::{installed_line, print, refused_line};
+use crate::printing::{installed_line, print};
 use crate::stores::in_store;
-use crate::task::Task;
 use crate::work::Work;
 use commands::{Ending, RefusedPolicy};
 use http_desk::Counted;
@@ -58,13 +58,12 @@ fn say_refused<O: Write>(
     ensures ending { IfOk result (λ done. done.ending ≡ Refused) }
     ensures unsaid { IfErr result IsUnsaid }
 {
-    let RefusedPolicy { fault, reason } = refused;
-    let Ok(line) = refused_line(alloc, fault) else {
+    let Ok(line) = refused.line(alloc) else {
         return Err(CommandFault::without_cause(StoreFault::Memory));
     };
     match print(line.as_str(), out) {
         Ok(_) => Ok(Done {
-            reason: Some(reason),
+            reason: Some(refused.reason),
             ending: Ending::Refused,
         }),
         Err(fault) => Err(fault),
@@ -90,7 +89,8 @@ fn install_in<S: Start, R: Read, O: Write>(
         Ok(Err(refused)) => return say_refused(rt.alloc(), refused, out),
         Err(fault) => return Err(fault),
     };
-    match in_store(rt, start, store, &Task::Install(&policy), input, out) {
+    let task = Work::Policy { policy: &policy };
+    match in_store(rt, start, store, &task, input, out) {
         Ok(_) => say_installed(rt.alloc(), &policy, out),
         Err(fault) => Err(fault),
     }
@@ -110,7 +110,10 @@ fn replay_under<S: Start, R: Read, O: Write>(
         (traffic_of R.Read O.Write input.old out.old) (traffic_of R.Read O.Write input.new out.new) }
 {
     match policy_in_file(rt, path) {
-        Ok(Ok(policy)) => in_store(rt, start, store, &Task::Replay(Some(&policy)), input, out),
+        Ok(Ok(policy)) => {
+            let policy = Some(&policy);
+            in_store(rt, start, store, &Work::Replay { policy }, input, out)
+        }
         Ok(Err(refused)) => Err(CommandFault::Policy(refused)),
         Err(fault) => Err(fault),
     }
@@ -131,7 +134,7 @@ fn replay_in<S: Start, R: Read, O: Write>(
 {
     match policy {
         Some(path) => replay_under(rt, start, store, path, input, out),
-        None => in_store(rt, start, store, &Task::Replay(None), input, out),
+        None => in_store(rt, start, store, &Work::Replay { policy: None }, input, out),
     }
 }
 
@@ -144,7 +147,7 @@ pub fn perform<S: Start, R: Read, O: Write>(
     rt: &HostRuntime,
     start: &mut Option<S>,
     store: &str,
-    work: &Work<'_>,
+    work: &Work<&str>,
     input: &mut Counted<R>,
     out: &mut Counted<O>,
 ) -> Result<Done, CommandFault>
@@ -154,17 +157,11 @@ pub fn perform<S: Start, R: Read, O: Write>(
 {
     match *work {
         Work::Policy { policy } => install_in(rt, start, store, policy, input, out),
-        Work::Ask { day } => in_store(rt, start, store, &Task::Ask(day), input, out),
+        Work::Ask { day } => in_store(rt, start, store, &Work::Ask { day }, input, out),
         Work::Replay { policy } => replay_in(rt, start, store, policy, input, out),
         Work::Serve { day, port, count } => {
-            in_store(
-                rt,
-                start,
-                store,
-                &Task::Serve { day, port, count },
-                input,
-                out,
-            )
+            let task = Work::Serve { day, port, count };
+            in_store(rt, start, store, &task, input, out)
         }
     }
 }

@@ -15,7 +15,7 @@ ghost use Rattle.office_tables.specs.Schema.{no_schema};
 ghost use Rattle.office_history.specs.Histories.{History};
 ghost use Rattle.office_engine.specs.Keeping.{IsKeptBy, IsLeftOf};
 ghost use Rattle.office_commands.specs.Stores.{IsOpenedFrom, RunsAndCloses, RunsInFile, RunsInMemory, RunsOn};
-ghost use Rattle.office_commands.specs.Tasks.{reads};
+ghost use Rattle.office_commands.specs.Tasks.{reads_input};
 ghost use Rattle.office_commands.specs.Texts.{IsFailure, found_nothing, is_of_nothing, search_failure, store_failure};
 ghost use Rattle.office_commands.specs.Traffic.{traffic_of};
 ghost use Rattle.office_commands.specs.Works.{IsQuiet};
@@ -52,7 +52,7 @@ fn in_memory<R: Read, O: Write>(
 ) -> Result<Done, CommandFault>
     ensures runs { RunsInMemory task.now result
         (traffic_of R.Read O.Write input.old out.old) (traffic_of R.Read O.Write input.new out.new) }
-    ensures left { reads task.now ≡ false → input.new ≡ input.old }
+    ensures left { reads_input task.now ≡ false → input.new ≡ input.old }
     ensures quiet { IfOk result IsQuiet }
 {
     let Ok(conn) = Connection::open_in_memory(rt.alloc()) else {
@@ -225,7 +225,7 @@ fn on_files<D: Disk + Drop, R: Read, O: Write>(
 ) -> Result<Done, CommandFault>
     ensures runs { RunsAndCloses D.Disk office task.now result
         (traffic_of R.Read O.Write input.old out.old) (traffic_of R.Read O.Write input.new out.new) }
-    ensures left { reads task.now ≡ false → input.new ≡ input.old }
+    ensures left { reads_input task.now ≡ false → input.new ≡ input.old }
     ensures quiet { IfOk result IsQuiet }
 {
     let done = do_task(rt, &mut office, task, input, out);
@@ -246,7 +246,7 @@ fn in_file<S: Start, R: Read, O: Write>(
 ) -> Result<Done, CommandFault>
     ensures runs { RunsInFile ⟦<FileFrom<S> as Disk>⟧ (image_at S.Start) task.now result
         (traffic_of R.Read O.Write input.old out.old) (traffic_of R.Read O.Write input.new out.new) }
-    ensures left { reads task.now ≡ false → input.new ≡ input.old }
+    ensures left { reads_input task.now ≡ false → input.new ≡ input.old }
     ensures quiet { IfOk result IsQuiet }
 {
     match open_office(rt, start, store, task.makes_office()) {
@@ -266,7 +266,7 @@ pub fn in_store<S: Start, R: Read, O: Write>(
 ) -> Result<Done, CommandFault>
     ensures runs { RunsOn ⟦<FileFrom<S> as Disk>⟧ (image_at S.Start) store.now task.now result
         (traffic_of R.Read O.Write input.old out.old) (traffic_of R.Read O.Write input.new out.new) }
-    ensures left { reads task.now ≡ false → input.new ≡ input.old }
+    ensures left { reads_input task.now ≡ false → input.new ≡ input.old }
     ensures quiet { IfOk result IsQuiet }
 {
     if store == ":memory:" {

@@ -1,5 +1,6 @@
 -- A command on a store that comes to its end answers yes or no.
 use Rattle.std.proofs.Common.{inl, inr, ℕ, List, None, Some, Result, Ok, Err, IfOk}
+use denote.Ref.{Bor}
 use Rattle.sqlite.specs.Recovery.{Image}
 use Rattle.sqlite_disk.specs.declared.Disk.{Ghosts}
 use Rattle.commands.specs.Printing.{IsAnswer}
@@ -15,7 +16,7 @@ installed_answered : (policy : PolicyValue) (ran : Result Done CommandFault) (do
 installed_answered policy (Ok _) done was now says = inl says.0.1
 installed_answered policy (Err fault) done was now says = absurd says
 
-pub store_answered : {D : Type 0} (g : Ghosts D) (first : Image) (store : List ℕ) (work : Work) (alone : Type 0) (result : Result Done CommandFault) (was now : Traffic)
+pub store_answered : {D : Type 0} (g : Ghosts D) (first : Image) (store : List ℕ) (work : Work (Bor (List ℕ))) (alone : Type 0) (result : Result Done CommandFault) (was now : Traffic)
     → Comes g first store work alone result was now → IfOk result (λ done. IsAnswer done.ending)
 store_answered g first store work alone (Err fault) was now comes = tt
 store_answered g first store (Policy path) alone (Ok done) was now (unread_file unread) = absurd unread.0

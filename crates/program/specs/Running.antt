@@ -1,7 +1,8 @@
 -- What a run does for each subcommand, what it tells standard error, and how it ends. `was` is what is seen of the three streams before the run and
 -- `now` after it; `OnStore` says what comes of a command on a store, and `alone` that no store was opened.
-use Rattle.std.specs.Prelude.{◌≡◌, ◌⊎◌, ℕ, Bool, true, false, List, Result, Ok, Err, codes, option_map, string_bytes}
+use Rattle.std.specs.Prelude.{◌≡◌, ◌⊎◌, ℕ, Bool, false, List, Option, None, Some, IfSome, Result, Ok, Err, codes, is_some, option_map, string_bytes, unwrap_or}
 use Rattle.std.specs.Str.{bytes_eq}
+use denote.Ref.{Bor}
 use Rattle.sqlite.specs.Recovery.{Image}
 use Rattle.sqlite_disk.specs.declared.Disk.{Ghosts}
 use Rattle.commands.specs.declared.ending.Ending.{Ending}
@@ -9,6 +10,7 @@ use Rattle.command_line.specs.Lines.{Asks}
 use Rattle.command_line.specs.declared.line.Line.{Line}
 use Rattle.command_line.specs.declared.line.Line.TheVariants.{Check, Explain, Pack, Unpack, Policy, Ask, Replay, Serve}
 use Rattle.office_commands.specs.Traffic.{Traffic}
+use Rattle.office_commands.specs.Tasks.{reads_input as work_reads_input}
 use Rattle.office_commands.specs.Works.{Comes as ComesOnStore}
 use Rattle.office_commands.specs.declared.done.Done.{Done}
 use Rattle.office_commands.specs.declared.fault.CommandFault.{CommandFault}
@@ -22,9 +24,13 @@ use Rattle.program.specs.declared.stopped.Stopped.TheVariants.{Folder, Output, S
 
 -- ---- what is done
 
--- what comes of the work on the store of this name, with this traffic before and after
+-- work whose policy is named by its file
+abbrev pub FileWork : Type 0
+FileWork = Work (Bor (List ℕ))
+
+-- what comes of such work on the store of this name, with this traffic before and after
 abbrev pub CommandOn : Type 1
-CommandOn = List ℕ → Work → Result Done CommandFault → Traffic → Traffic → Type 0
+CommandOn = List ℕ → FileWork → Result Done CommandFault → Traffic → Traffic → Type 0
 
 -- where its files held this at first
 abbrev pub on_store : {D : Type 0} → Ghosts D → Image → Type 0 → CommandOn
@@ -38,8 +44,23 @@ IsOfStore Comes (Err (Unread trouble)) = ⊥
 IsOfStore Comes (Err (Folder failed)) = ⊥
 IsOfStore Comes (Err (Output error)) = ⊥
 
-abbrev pub DoesOnStore : {R O E : Type 0} → CommandOn → List ℕ → Work → Result Done Stopped → Seen R O E → Seen R O E → Type 0
+abbrev pub DoesOnStore : {R O E : Type 0} → CommandOn → List ℕ → FileWork → Result Done Stopped → Seen R O E → Seen R O E → Type 0
 DoesOnStore OnStore store work result was now = IsOfStore (λ came. OnStore store work came (traffic was) (traffic now)) result
+
+-- the work on a store that a line asks for
+pub record StoreWork : Type 0 where
+  pub store : List ℕ
+  pub work : FileWork
+
+abbrev pub work_of : Line → Option StoreWork
+work_of (Policy store policy) = Some (record { store = store.now; work = works.Policy policy })
+work_of (Ask store day) = Some (record { store = store.now; work = works.Ask day })
+work_of (Replay policy store) = Some (record { store = store.now; work = works.Replay policy })
+work_of (Serve port count store day) = Some (record { store = store.now; work = works.Serve day port count })
+work_of (Check file) = None
+work_of (Explain asked) = None
+work_of (Pack folder file) = None
+work_of (Unpack file folder) = None
 
 -- What the line asks for is done.
 abbrev pub Does : {R O E : Type 0} → CommandOn → Line → Result Done Stopped → Seen R O E → Seen R O E → Type 0
@@ -47,33 +68,17 @@ Does OnStore (Check file) result was now = Answers (IsJudged file.now was.input 
 Does OnStore (Explain asked) result was now = Answers (IsExplained asked) result was.output now.output
 Does OnStore (Pack folder file) result was now = Answers IsPackSaid result was.output now.output
 Does OnStore (Unpack file folder) result was now = Answers IsUnpackSaid result was.output now.output
-Does OnStore (Policy store policy) result was now = DoesOnStore OnStore store.now (works.Policy policy) result was now
-Does OnStore (Ask store day) result was now = DoesOnStore OnStore store.now (works.Ask day) result was now
-Does OnStore (Replay policy store) result was now = DoesOnStore OnStore store.now (works.Replay policy) result was now
-Does OnStore (Serve port count store day) result was now = DoesOnStore OnStore store.now (works.Serve day port count) result was now
+Does OnStore line result was now = IfSome (work_of line) (λ asked. DoesOnStore OnStore asked.store asked.work result was now)
 
 -- ---- what is left alone
 
--- the input is read for a check of `-`, for a request and for records of requests alone
+-- the input is read for a check of `-`, and for work that reads it
 abbrev pub reads_input : Line → Bool
 reads_input (Check file) = bytes_eq file.now (codes "-")
-reads_input (Explain asked) = false
-reads_input (Pack folder file) = false
-reads_input (Unpack file folder) = false
-reads_input (Policy store policy) = false
-reads_input (Ask store day) = true
-reads_input (Replay policy store) = true
-reads_input (Serve port count store day) = false
+reads_input line = unwrap_or (option_map (λ asked. work_reads_input asked.work) (work_of line)) false
 
 abbrev pub is_on_store : Line → Bool
-is_on_store (Check file) = false
-is_on_store (Explain asked) = false
-is_on_store (Pack folder file) = false
-is_on_store (Unpack file folder) = false
-is_on_store (Policy store policy) = true
-is_on_store (Ask store day) = true
-is_on_store (Replay policy store) = true
-is_on_store (Serve port count store day) = true
+is_on_store line = is_some (work_of line)
 
 -- ---- a run
 

@@ -2,7 +2,7 @@
 
 ghost use Rattle.std.specs.Prelude.{◌≡◌, Err, IfOk, MatchResult, false};
 ghost use Rattle.sqlite.specs.WalFiles.{image_at};
-ghost use Rattle.office_commands.specs.Works.{reads_input as work_reads_input};
+ghost use Rattle.office_commands.specs.Tasks.{reads_input as work_reads_input};
 ghost use Rattle.commands.specs.Printing.{IsAnswer};
 ghost use Rattle.program.specs.Answering.{IsPrinted};
 ghost use Rattle.program.specs.Running.{Does, DoesOnStore, is_on_store, on_store, reads_input};
@@ -45,7 +45,7 @@ fn work_on<S: Start, R: Read, O: Write, E: Write>(
     rt: &HostRuntime,
     start: &mut Option<S>,
     store: &str,
-    work: &Work<'_>,
+    work: &Work<&str>,
     streams: &mut Streams<R, O, E>,
 ) -> Result<Done, Stopped>
     ensures does { DoesOnStore

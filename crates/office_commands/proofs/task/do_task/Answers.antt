@@ -2,9 +2,9 @@ use Rattle.std.proofs.Common.{refl}
 use Rattle.office_commands.proofs.WorkLemmas.{does_install, does_serve}
 use Rattle.office_commands.proofs.task.do_task.Goals as goal
 
-pub returns-in-Install-clause-does : goal.returns-in-Install-clause-does
-returns-in-Install-clause-does g c =
-    does_install g.S.Store c.args.task.now c.in-Install.policy c.install_policy.result c.args.office.now c.install_policy.new.office _ c.in-Install.is c.install_policy.ensures.failure c.install_policy.ensures.done
+pub returns-in-Policy-clause-does : goal.returns-in-Policy-clause-does
+returns-in-Policy-clause-does g c =
+    does_install g.S.Store c.args.task.now c.in-Policy.policy c.install_policy.result c.args.office.now c.install_policy.new.office _ c.in-Policy.is c.install_policy.ensures.failure c.install_policy.ensures.done
 
 pub returns-in-Serve-clause-does : goal.returns-in-Serve-clause-does
 returns-in-Serve-clause-does g c =
