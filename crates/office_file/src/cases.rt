@@ -3,7 +3,8 @@
 //! Standard input may name one group of cases, whose allocations `diff/memory.py` has refused, one after the
 //! other.
 
-use crate::groups;
+use crate::bags::bags;
+use office_trials::{run_office, run_plain_office, run_tables};
 use std::io::{self, Read};
 
 /// A group of cases.
@@ -32,10 +33,10 @@ impl Group {
     /// Prints how each case of the group comes out.
     fn run(self, rt: &HostRuntime) -> io::Result<()> {
         match self {
-            Group::Bags => groups::bags(rt),
-            Group::Tables => groups::tables(rt),
-            Group::Office => groups::office(rt),
-            Group::Stored => groups::office_over_tables(rt),
+            Group::Bags => bags(rt),
+            Group::Tables => run_tables(rt),
+            Group::Office => run_plain_office(rt),
+            Group::Stored => run_office(rt),
         }
     }
 }

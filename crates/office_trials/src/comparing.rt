@@ -111,7 +111,7 @@ impl<S: Alter + Drop> Offices<S> {
 /// Puts so many requests, drawn by the seed, to two new offices, one of them in the empty database, with
 /// installs before some of them. Fails where an answer of the one isn't the answer of the other. How many
 /// were accepted and refused.
-pub fn compare<S: Alter + Drop>(
+fn compare<S: Alter + Drop>(
     alloc: Global,
     conn: Connection<S>,
     seed: u64,
@@ -138,4 +138,10 @@ pub fn compare<S: Alter + Drop>(
         }
     }
     Ok(tally)
+}
+
+/// The same with an office in memory.
+pub fn compare_in_memory(alloc: Global, seed: u64, count: u32) -> Result<Tally> {
+    let conn = Connection::open_in_memory(alloc).context("opening memory")?;
+    compare(alloc, conn, seed, count)
 }

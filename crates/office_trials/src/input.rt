@@ -17,16 +17,6 @@ pub enum Input {
     Whole,
 }
 
-impl Input {
-    pub fn read(word: &str) -> Option<Input> {
-        match word {
-            "hear" => Some(Input::Heard),
-            "read-all" => Some(Input::Whole),
-            _ => None,
-        }
-    }
-}
-
 /// Hears a request: how many bytes its bag has, where it deposits one.
 fn hear(rt: &HostRuntime) -> Result<usize> {
     let mut reader = Counted::new(rt.stdin());
@@ -62,15 +52,26 @@ fn peak(rt: &HostRuntime) -> Result<u64> {
     bail!("the status has no VmHWM")
 }
 
-/// Takes standard input, and prints how many bytes were heard or read, the microseconds, and the most
-/// memory that the program has taken, in KiB.
-pub fn measure(rt: &HostRuntime, input: Input) -> Result<()> {
-    let start = Instant::now(rt)?;
-    let length = match input {
-        Input::Heard => hear(rt)?,
-        Input::Whole => read_all(rt)?,
-    };
-    let took = start.elapsed(rt)?.as_micros();
-    println!(rt; "{length} {took} {}", peak(rt)?)?;
-    Ok(())
+impl Input {
+    /// What a word asks for.
+    pub fn read(word: &str) -> Option<Input> {
+        match word {
+            "hear" => Some(Input::Heard),
+            "read-all" => Some(Input::Whole),
+            _ => None,
+        }
+    }
+
+    /// Takes standard input, and prints how many bytes were heard or read, the microseconds, and the
+    /// most memory that the program has taken, in KiB.
+    pub fn measure(self, rt: &HostRuntime) -> Result<()> {
+        let start = Instant::now(rt)?;
+        let length = match self {
+            Input::Heard => hear(rt)?,
+            Input::Whole => read_all(rt)?,
+        };
+        let took = start.elapsed(rt)?.as_micros();
+        println!(rt; "{length} {took} {}", peak(rt)?)?;
+        Ok(())
+    }
 }

@@ -1,41 +1,18 @@
-//! The groups of cases.
+//! The groups of cases: each prints how its cases came out.
 
 use crate::outcome::Outcome;
-use crate::{calls, lines, offices, tables};
+use crate::{calls, offices, tables};
 use sqlite::{Connection, MemStore};
 use std::io;
-use worked_bags::{
-    CHECKSUM, COUNTED, DENIED_EVERYTHING, LISTED_IN_ONE, PERCENT_SIGN_0_97, PRINTED_NAME, SMALL,
-    TAG_MANIFEST, TWO_LINES, WorkedBag,
-};
 use worked_sessions::AnyOffice;
 
-static BAGS: [(&str, WorkedBag); 8] = [
-    ("a valid bag", SMALL),
-    ("a decoded path", PERCENT_SIGN_0_97),
-    ("an unlisted file", LISTED_IN_ONE),
-    ("two lines for one path", TWO_LINES),
-    ("a wrong checksum", CHECKSUM),
-    ("a strange name", PRINTED_NAME),
-    ("a tag manifest", TAG_MANIFEST),
-    ("a counted payload", COUNTED),
-];
-
 /// Prints how a case came out.
-fn say(rt: &HostRuntime, name: &str, outcome: Outcome) -> io::Result<()> {
+pub fn say(rt: &HostRuntime, name: &str, outcome: Outcome) -> io::Result<()> {
     println!(rt; "{name}: {}", outcome.words())
 }
 
-/// Bags, the words of a command line, a question of `explain`.
-pub fn bags(rt: &HostRuntime) -> io::Result<()> {
-    for (name, worked) in &BAGS {
-        say(rt, name, lines::judge(rt, *worked))?;
-    }
-    say(
-        rt,
-        "a denial explained",
-        lines::explain(rt, DENIED_EVERYTHING),
-    )?;
+/// The words of a command line, and the calls below the program.
+pub fn run_calls(rt: &HostRuntime) -> io::Result<()> {
     say(rt, "words of check", calls::read_check(rt.alloc()))?;
     say(rt, "words of explain", calls::read_explain(rt.alloc()))?;
     say(rt, "words of no use", calls::refuse_words(rt.alloc()))?;
@@ -47,7 +24,7 @@ pub fn bags(rt: &HostRuntime) -> io::Result<()> {
 }
 
 /// A session over the tables. Where no database could be had for want of memory, the second has to be.
-pub fn tables(rt: &HostRuntime) -> io::Result<()> {
+pub fn run_tables(rt: &HostRuntime) -> io::Result<()> {
     match Connection::open_in_memory(rt.alloc()) {
         Ok(mut conn) => session(rt, &mut conn),
         Err(_) => {
@@ -68,7 +45,7 @@ fn session(rt: &HostRuntime, conn: &mut Connection<MemStore>) -> io::Result<()> 
 }
 
 /// A session with the plain office.
-pub fn office(rt: &HostRuntime) -> io::Result<()> {
+pub fn run_plain_office(rt: &HostRuntime) -> io::Result<()> {
     let alloc = rt.alloc();
     let Some(mut office) = offices::plain(alloc) else {
         return say(rt, "an office", Outcome::Wrong);
@@ -82,7 +59,7 @@ pub fn office(rt: &HostRuntime) -> io::Result<()> {
 }
 
 /// The same session with the office over tables in memory.
-pub fn office_over_tables(rt: &HostRuntime) -> io::Result<()> {
+pub fn run_office(rt: &HostRuntime) -> io::Result<()> {
     let Some((outcome, mut office)) = offices::over_tables(rt.alloc()) else {
         return say(rt, "an office over tables", Outcome::Wrong);
     };

@@ -1,0 +1,120 @@
+//! What is done with an office in a file.
+
+use crate::office;
+use crate::requests::{self, Asked};
+use crate::timed::{self, Call};
+use anyhow::{Context, Result, bail};
+use office_engine::Office;
+use sqlite::{Alter, Connection};
+use std::time::{Duration, Instant};
+
+/// What is done with the file.
+#[derive(Clone, Copy)]
+pub enum Task {
+    /// The worked office is made in it.
+    Write,
+    /// An office in which bags can be deposited.
+    Make,
+    /// A call of the tables, so many times.
+    Time(Call, u32),
+    /// A request to the office, so many times.
+    Ask(Asked, u32),
+}
+
+/// What a task comes to.
+#[derive(Clone, Copy)]
+pub enum Report {
+    Done,
+    /// The time of the calls or requests: the opening of the file doesn't count.
+    Took(Duration),
+}
+
+/// Makes the call so many times. The time of all calls.
+fn time<S: Alter>(
+    rt: &HostRuntime,
+    conn: &mut Connection<S>,
+    call: Call,
+    count: u32,
+) -> Result<Duration> {
+    let last = timed::last(conn)?;
+    let start = Instant::now(rt)?;
+    timed::repeat(rt.alloc(), conn, call, last, count)?;
+    Ok(start.elapsed(rt)?)
+}
+
+/// Makes the request so many times. The connection again, and the time of all requests.
+fn ask<S: Alter + Drop>(
+    rt: &HostRuntime,
+    mut conn: Connection<S>,
+    asked: Asked,
+    count: u32,
+) -> Result<(Connection<S>, Duration)> {
+    let last = timed::last(&mut conn)?;
+    if !conn.is_autocommit() {
+        bail!("a transaction is open");
+    }
+    let Ok(mut office) = Office::adopt(conn) else {
+        bail!("the file holds no office");
+    };
+    let start = Instant::now(rt)?;
+    requests::repeat(rt.alloc(), &mut office, asked, last, count)?;
+    let took = start.elapsed(rt)?;
+    Ok((office.into_connection(), took))
+}
+
+/// Does the task over the open file. The connection again, and what the task comes to.
+fn perform<S: Alter + Drop>(
+    rt: &HostRuntime,
+    mut conn: Connection<S>,
+    task: Task,
+) -> Result<(Connection<S>, Report)> {
+    match task {
+        Task::Write => office::write(rt.alloc(), &mut conn)?,
+        Task::Make => timed::make(rt.alloc(), &mut conn)?,
+        Task::Time(call, count) => {
+            let took = time(rt, &mut conn, call, count)?;
+            return Ok((conn, Report::Took(took)));
+        }
+        Task::Ask(asked, count) => {
+            let (conn, took) = ask(rt, conn, asked, count)?;
+            return Ok((conn, Report::Took(took)));
+        }
+    }
+    Ok((conn, Report::Done))
+}
+
+impl Task {
+    /// The task that a word asks for.
+    pub fn read(word: &str) -> Option<Task> {
+        match word {
+            "write" => Some(Task::Write),
+            "make" => Some(Task::Make),
+            _ => None,
+        }
+    }
+
+    /// The calls or requests that a word asks for, so many of them.
+    pub fn read_timed(word: &str, count: u32) -> Option<Task> {
+        match word {
+            "deposits" => Some(Task::Time(Call::Deposit, count)),
+            "read" => Some(Task::Time(Call::Read, count)),
+            "live" => Some(Task::Time(Call::LiveHolds, count)),
+            "last" => Some(Task::Time(Call::LastDeposit, count)),
+            "ask-deposits" => Some(Task::Ask(Asked::Deposit, count)),
+            "ask-records" => Some(Task::Ask(Asked::Record, count)),
+            "ask-disposals" => Some(Task::Ask(Asked::Disposal, count)),
+            "ask-bags" => Some(Task::Ask(Asked::Bag, count)),
+            "ask-lists" => Some(Task::Ask(Asked::List, count)),
+            "ask-due" => Some(Task::Ask(Asked::DueList, count)),
+            _ => None,
+        }
+    }
+
+    /// Does the task over the file.
+    pub fn take(self, rt: &HostRuntime, file: &str) -> Result<Report> {
+        let conn = Connection::open(rt, file).context("opening the file")?;
+        let (conn, report) = perform(rt, conn, self)?;
+        conn.close().context("closing the file")?;
+        Ok(report)
+    }
+}
