@@ -4,7 +4,7 @@ use office_core::{Day, OwnedAccession, OwnedMatter, OwnedName, Years};
 
 /// What a request asks of the office, but for the bytes of its body, which are the bag of a
 /// deposit. Deposits and holds are asked for by their numbers.
-#[derive(Debug, Drop)]
+#[derive(Drop)]
 pub(crate) enum Ask {
     DefineClass {
         name: OwnedName,

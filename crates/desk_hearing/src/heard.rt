@@ -8,7 +8,7 @@ use office_core::{Name, OwnedName, Request};
 use std::marker::Model;
 
 /// A request that was heard. It owns its bytes, and lends what they ask.
-#[derive(Debug, Drop)]
+#[derive(Drop)]
 pub struct Heard {
     pub(crate) caller: Option<OwnedName>,
     pub(crate) ask: Ask,

@@ -12,7 +12,7 @@ use office_core::{Name, OwnedName};
 use std::alloc::{AllocError, Global};
 
 /// What a head announces: who asks what, but for the body, and how long the body is.
-#[derive(Debug, Drop)]
+#[derive(Drop)]
 pub(crate) struct Announced {
     pub(crate) caller: Option<OwnedName>,
     pub(crate) question: Question,

@@ -16,7 +16,7 @@ use office_core::OwnedName;
 use std::alloc::Global;
 
 /// What is asked, as far as the route and its query say it.
-#[derive(Debug, Drop)]
+#[derive(Drop)]
 pub(crate) enum Question {
     /// A class, whose years are in the body.
     Class(OwnedName),

@@ -12,7 +12,7 @@ use office_core::Name;
 
 /// What a path names. Names are names as they stand, and numbers have 1 to 7 digits, without a
 /// leading zero: nothing is decoded.
-#[derive(Debug, Drop)]
+#[derive(Drop)]
 pub enum Place<'p> {
     /// `/classes/NAME`
     Class(Name<'p>),

@@ -9,7 +9,7 @@ use crate::place::Place;
 use office_core::Name;
 
 /// What a method asks of a place. Deposits and holds are given by their numbers.
-#[derive(Debug, Drop)]
+#[derive(Drop)]
 pub enum Route<'p> {
     /// `PUT /classes/NAME`
     DefineClass(Name<'p>),
