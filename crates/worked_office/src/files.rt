@@ -26,9 +26,21 @@ fn close_files<D: Disk + Drop>(
     }
 }
 
+/// Closes the files where every answer was as it is told. After another answer the log isn't copied into the
+/// database file.
+fn close_after<D: Disk + Drop>(
+    alloc: Global,
+    conn: Connection<FileStore<D>>,
+    differs: Option<String>,
+) -> (Option<String>, Files<D>) {
+    match differs {
+        Some(text) if text.is_empty() => close_files(alloc, conn),
+        differs => (differs, conn.into_store().close()),
+    }
+}
+
 /// Opens the files with small caches, takes the part and closes the files, which are handed back, with
-/// what is answered otherwise, or no text. After such an answer the log isn't copied into the database
-/// file.
+/// what is answered otherwise, or no text.
 pub fn take_once<D: Disk + Drop>(
     alloc: Global,
     files: Files<D>,
@@ -42,10 +54,7 @@ pub fn take_once<D: Disk + Drop>(
         Err((_, left)) => (says(alloc, "not opened"), left.into_files()),
         Ok(conn) => {
             let (differs, conn) = take_part(alloc, conn, way, part);
-            match differs {
-                Some(text) if text.is_empty() => close_files(alloc, conn),
-                differs => (differs, conn.into_store().close()),
-            }
+            close_after(alloc, conn, differs)
         }
     }
 }

@@ -4,12 +4,32 @@
 use crate::codes::{DECLARATIONS, ENTRIES, INFOS, MANIFESTS, PAYLOADS};
 use crate::output::Taking;
 use crate::rows::prints;
-use crate::runs::{Given, came_of};
+use crate::runs::{Came, Given, came_of};
 use commands::Ending;
 use std::alloc::Global;
 use std::fs;
 use std::test::*;
 use worked_bags::{bytes_of, many_files};
+
+/// Whether a form, with marks, is judged as a row says.
+fn is_judged(rt: &HostRuntime, form: &str, row: &str) -> Result<bool, Fail> {
+    let form = bytes_of(rt.alloc(), form)?;
+    prints(rt, ["check", "-"].as_slice(), form.as_slice(), row)
+}
+
+/// How many rows a table has. Fails where a form is judged otherwise than its row says.
+fn rows_of(rt: &HostRuntime, table: &str) -> Result<usize, Fail> {
+    let mut rows = 0usize;
+    for line in table.lines() {
+        if let Some((form, row)) = line.split_once(" => ") {
+            if !is_judged(rt, form, row)? {
+                return Err(Fail::new(line));
+            }
+            rows = rows.saturating_add(1);
+        }
+    }
+    Ok(rows)
+}
 
 #[test]
 fn small_bags_are_judged(rt: HostRuntime) -> Result<(), Fail> {
@@ -20,15 +40,7 @@ fn small_bags_are_judged(rt: HostRuntime) -> Result<(), Fail> {
         (INFOS, 37),
         (ENTRIES, 30),
     ] {
-        let mut rows = 0usize;
-        for line in table.lines() {
-            if let Some((form, row)) = line.split_once(" => ") {
-                let bytes = bytes_of(rt.alloc(), form)?;
-                let is_so = prints(&rt, ["check", "-"].as_slice(), bytes.as_slice(), row)?;
-                assert!(rt; is_so, "{line}");
-                rows = rows.saturating_add(1);
-            }
-        }
+        let rows = rows_of(&rt, table)?;
         assert!(rt; rows == wanted, "{rows} rows");
     }
     Ok(())
@@ -87,26 +99,34 @@ fn a_file_is_judged(rt: HostRuntime) -> Result<(), Fail> {
     Ok(())
 }
 
+/// Whether a form is judged as a row says, from a stream and from a file.
+fn is_judged_from_both(rt: &HostRuntime, form: &[u8], row: &str) -> Result<bool, Fail> {
+    fs::write(rt, "longest.bagset", form)?;
+    Ok(
+        prints(rt, ["check", "-"].as_slice(), form, row)?
+            && prints(rt, ["check", "longest.bagset"].as_slice(), b"", row)?,
+    )
+}
+
+/// Judges a form where that can't be said.
+fn came_unsaid(rt: &HostRuntime, form: &[u8]) -> Result<Came, Fail> {
+    let given = Given {
+        output: Taking::Fails,
+        ..Given::new(form)
+    };
+    came_of(rt, ["check", "-"].as_slice(), &given)
+}
+
 #[test]
 fn reads_up_to_the_limit(rt: HostRuntime) -> Result<(), Fail> {
     let mut form = longest_form(rt.alloc())?;
     for (length, row) in &LENGTHS {
         assert!(rt; form.len() == *length);
-        fs::write(&rt, "longest.bagset", form.as_slice())?;
-        // From a stream, and from a file.
-        for (file, given) in [("-", form.as_slice()), ("longest.bagset", b"".as_slice())] {
-            let is_so = prints(&rt, ["check", file].as_slice(), given, row)?;
-            assert!(rt; is_so, "{file}: {row}");
-        }
-        form.extend_from_slice(b"\n")?;
+        assert!(rt; is_judged_from_both(&rt, form.as_slice(), row)?, "{row}");
+        form.push(b'\n')?;
     }
     fs::remove_file(&rt, "longest.bagset")?;
-    // And where it can't be said.
-    let given = Given {
-        output: Taking::Fails,
-        ..Given::new(form.as_slice())
-    };
-    let came = came_of(&rt, ["check", "-"].as_slice(), &given)?;
+    let came = came_unsaid(&rt, form.as_slice())?;
     assert!(rt; came.said.is_empty());
     assert!(rt;
         came.told.as_slice()

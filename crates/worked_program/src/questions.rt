@@ -1,6 +1,7 @@
 //! Questions to small policies, and texts that are none, with what `explain` says of each.
 
 use crate::rows::{prints, words_of};
+use std::alloc::Global;
 use std::fs;
 use std::test::*;
 use worked_bags::{bytes_of, text_of};
@@ -39,19 +40,35 @@ version = 1\nrule = [1]\n => anna|list|maps|y1 => policy Y5 1\n => rule 1{no-rul
 version = 1\n[[rule]]\neffect = "allow"\nrole = "*"\naction = "audit"\ncollection = "*"\nclass = "*"\n[[rule]]\neffect = "permit"\nrole = "*"\naction = "audit"\ncollection = "*"\nclass = "*"\n => anna|list|maps|y1 => policy Y5 2\n => rule 2{no-rule}: the key effect\n
 "#;
 
+/// Writes the policy that is asked.
+fn write_policy(rt: &HostRuntime, policy: &str) -> Result<(), Fail> {
+    let policy = bytes_of(rt.alloc(), policy)?;
+    Ok(fs::write(rt, "policy.toml", policy.as_slice())?)
+}
+
+/// Whether a question to that policy is answered as a row says.
+fn explains(rt: &HostRuntime, asked: &str, row: &str) -> Result<bool, Fail> {
+    let asked = text_of(rt.alloc(), asked)?;
+    let mut words = words_of(rt.alloc(), "explain|policy.toml")?;
+    for word in asked.split('|') {
+        words.push(word)?;
+    }
+    prints(rt, words.as_slice(), b"", row)
+}
+
+/// Whether a question to the policy, and what is said of it, are as a line of the table has them.
+fn is_so(rt: &HostRuntime, policy: &str, rest: &str) -> Result<bool, Fail> {
+    let (asked, row) = rest.split_once(" => ").ok_or(policy)?;
+    write_policy(rt, policy)?;
+    explains(rt, asked, row)
+}
+
 #[test]
 fn explains_what_was_worked_out(rt: HostRuntime) -> Result<(), Fail> {
     let mut rows = 0usize;
     for line in QUESTIONS.lines() {
         if let Some((policy, rest)) = line.split_once(" => ") {
-            let (asked, row) = rest.split_once(" => ").ok_or(line)?;
-            let policy = bytes_of(rt.alloc(), policy)?;
-            fs::write(&rt, "policy.toml", policy.as_slice())?;
-            let asked = format!(in rt.alloc(); "explain|policy.toml|{asked}")?;
-            let asked = text_of(rt.alloc(), &asked)?;
-            let words = words_of(rt.alloc(), asked.as_str())?;
-            let is_so = prints(&rt, words.as_slice(), b"", row)?;
-            assert!(rt; is_so, "{line}");
+            assert!(rt; is_so(&rt, policy, rest)?, "{line}");
             rows = rows.saturating_add(1);
         }
     }
@@ -60,22 +77,20 @@ fn explains_what_was_worked_out(rt: HostRuntime) -> Result<(), Fail> {
     Ok(())
 }
 
+/// A policy after a comment that is longer than any form.
+fn long_policy(alloc: Global) -> Result<Vec<u8>, Fail> {
+    let mut long = vec![in alloc; b'#'; 16_777_217]?;
+    long.extend_from_slice(b"\n")?;
+    long.extend_from_slice(bytes_of(alloc, "{policy}")?.as_slice())?;
+    Ok(long)
+}
+
 #[test]
 fn a_policy_is_read_whole(rt: HostRuntime) -> Result<(), Fail> {
-    // A policy after a comment that is longer than any form, and in a file that is named as standard
-    // input is elsewhere.
-    let policy = bytes_of(rt.alloc(), "{policy}")?;
-    let mut long = vec![in rt.alloc(); b'#'; 16_777_217]?;
-    long.extend_from_slice(b"\n")?;
-    long.extend_from_slice(policy.as_slice())?;
-    fs::write(&rt, "-", long.as_slice())?;
-    let is_so = prints(
-        &rt,
-        ["explain", "-", "carl", "list", "tax", "y10"].as_slice(),
-        b"",
-        r"allow rule 3\n",
-    )?;
-    assert!(rt; is_so);
+    // In a file that is named as standard input is elsewhere.
+    fs::write(&rt, "-", long_policy(rt.alloc())?.as_slice())?;
+    let words = ["explain", "-", "carl", "list", "tax", "y10"];
+    assert!(rt; prints(&rt, words.as_slice(), b"", r"allow rule 3\n")?);
     fs::remove_file(&rt, "-")?;
     Ok(())
 }

@@ -225,39 +225,61 @@ fn take_closed(
     compare(rt, path, bytes)
 }
 
-#[test]
-fn what_is_no_office(rt: HostRuntime) -> Result<(), Fail> {
-    begin(&rt, "s", &[("s/policy.toml", "~policy~")])?;
+/// The bytes of a new office.
+fn new_office(rt: &HostRuntime) -> Result<Vec<u8>, Fail> {
+    begin(rt, "s", &[("s/policy.toml", "~policy~")])?;
     run_all(
-        &rt,
+        rt,
         &["policy,s/office.db,s/policy.toml||Accepted|~installed~|"],
     )?;
-    let office = fs::read(&rt, "s/office.db")?;
+    Ok(fs::read(rt, "s/office.db")?)
+}
+
+/// Each of the stores, made of the office's bytes.
+fn take_all(rt: &HostRuntime, office: &[u8]) -> Result<(), Fail> {
     for store in &STORES {
-        let bytes = content(rt.alloc(), store, office.as_slice())?;
-        take(&rt, store.path, store.told, bytes.as_slice())?;
+        let bytes = content(rt.alloc(), store, office)?;
+        take(rt, store.path, store.told, bytes.as_slice())?;
     }
-    fs::create_dir(&rt, "s/folder")?;
+    Ok(())
+}
+
+/// A folder, and an office that is locked, or that nobody may read, or write.
+fn take_unopened(rt: &HostRuntime, office: &[u8]) -> Result<(), Fail> {
+    fs::create_dir(rt, "s/folder")?;
     refuse(
-        &rt,
+        rt,
         "s/folder",
         "~unopened~STORE: Is a directory (os error 21)\n",
     )?;
     take_locked(
-        &rt,
+        rt,
         "s/locked.db",
         "~unopened~STORE: database is locked\n",
-        office.as_slice(),
+        office,
     )?;
     for mode in [0, 0o444] {
         take_closed(
-            &rt,
+            rt,
             "s/closed.db",
             mode,
             "~unopened~STORE: Permission denied (os error 13)\n",
-            office.as_slice(),
+            office,
         )?;
     }
+    Ok(())
+}
+
+/// Takes all of them.
+fn take_stores(rt: &HostRuntime) -> Result<(), Fail> {
+    let office = new_office(rt)?;
+    take_all(rt, office.as_slice())?;
+    take_unopened(rt, office.as_slice())
+}
+
+#[test]
+fn what_is_no_office(rt: HostRuntime) -> Result<(), Fail> {
+    take_stores(&rt)?;
     // What can't be opened got no log beside it.
     for path in ["s/folder-wal", "s/locked.db-wal", "s/closed.db-wal"] {
         assert!(rt; !fs::exists(&rt, path)?);

@@ -209,36 +209,53 @@ static QUEUES: [Queue; 15] = [
     },
 ];
 
-/// Peers of an office on 2024-03-01. Who was refused any wait isn't heard: what it sent was not
-/// read, so that its connection is reset.
-pub fn take_peers<S: Alter>(rt: &HostRuntime, office: &mut Office<S>) -> Result<(), Fail> {
+/// Serves the peers of a queue. Fails where other connections are answered, or the serving ends otherwise.
+fn serve_queue<S: Alter>(
+    alloc: Global,
+    office: &mut Office<S>,
+    sockets: &mut Sockets<'_>,
+    queue: &Queue,
+) -> Result<(), Fail> {
     let day = Day::read("2024-03-01").ok_or("day")?;
+    let patience = Patience {
+        talk: Duration::from_millis(queue.talk),
+        rest: Duration::from_millis(50),
+        ..Patience::default()
+    };
+    let served = serve_connections(alloc, office, day, sockets, queue.count, &patience);
+    let (served, stops) = match served {
+        Ok(served) => (served, None),
+        Err(failure) => (failure.served, Some(failure.error.kind())),
+    };
+    if served.answered != queue.answered || served.failed != queue.failed || stops != queue.stops {
+        return Err(Fail::new(queue.name));
+    }
+    Ok(())
+}
+
+/// Has the peers of a queue call, serves them, and hears what they got. Who was refused any wait isn't
+/// heard: what it sent was not read, so that its connection is reset.
+fn take_queue<S: Alter>(
+    rt: &HostRuntime,
+    office: &mut Office<S>,
+    listener: &TcpListener,
+    queue: &Queue,
+) -> Result<(), Fail> {
+    listener.set_nonblocking(queue.stops.is_some())?;
+    let streams = call_all(rt, queue.peers, listener.local_addr()?)?;
+    let mut sockets = Sockets::new(rt.alloc(), listener);
+    serve_queue(rt.alloc(), office, &mut sockets, queue)?;
+    if queue.talk != 0 {
+        hear_all(rt, queue.peers, streams)?;
+    }
+    Ok(())
+}
+
+/// Peers of an office on 2024-03-01.
+pub fn take_peers<S: Alter>(rt: &HostRuntime, office: &mut Office<S>) -> Result<(), Fail> {
     let listener = TcpListener::bind(rt, "127.0.0.1:0")?;
-    let address = listener.local_addr()?;
-    let mut sockets = Sockets::new(rt.alloc(), &listener);
     for queue in &QUEUES {
-        listener.set_nonblocking(queue.stops.is_some())?;
-        let streams = call_all(rt, queue.peers, address)?;
-        let patience = Patience {
-            talk: Duration::from_millis(queue.talk),
-            rest: Duration::from_millis(50),
-            ..Patience::default()
-        };
-        let count = queue.count;
-        let served = serve_connections(rt.alloc(), office, day, &mut sockets, count, &patience);
-        let (served, stops) = match served {
-            Ok(served) => (served, None),
-            Err(failure) => (failure.served, Some(failure.error.kind())),
-        };
-        if served.answered != queue.answered
-            || served.failed != queue.failed
-            || stops != queue.stops
-        {
-            return Err(Fail::new(queue.name));
-        }
-        if queue.talk != 0 {
-            hear_all(rt, queue.peers, streams)?;
-        }
+        take_queue(rt, office, &listener, queue)?;
     }
     Ok(())
 }

@@ -76,8 +76,29 @@ fn make_over<S: Alter + Drop>(
     Ok(office.into_connection())
 }
 
+/// Performs the task over the connection, and hands it back. The visit is `None` where the store fails
+/// before a step.
+fn perform_with<S: Alter + Drop>(
+    rt: &HostRuntime,
+    conn: Connection<S>,
+    task: Task,
+) -> Result<(Option<Visit>, Connection<S>), Fail> {
+    match task {
+        Task::Make(part) => Ok((Some(START), make_over(rt, conn, part)?)),
+        Task::Visit(way) => visit_over(rt.alloc(), conn, way),
+    }
+}
+
+/// Whether the files are to be closed: not where their rows can't be read any more.
+fn closes(visit: &Option<Visit>) -> bool {
+    match visit {
+        Some(visit) => visit.shown.is_some(),
+        None => false,
+    }
+}
+
 /// Performs the task over the files, and hands them back: closed, but as they are left where their
-/// rows can't be read any more. The visit is `None` where the store fails before a step.
+/// rows can't be read any more.
 fn perform_over<D: Disk + Drop>(
     rt: &HostRuntime,
     files: Files<D>,
@@ -88,14 +109,8 @@ fn perform_over<D: Disk + Drop>(
         Ok(conn) => conn,
         Err(left) => return Ok((None, left)),
     };
-    let (visit, conn) = match task {
-        Task::Make(part) => (Some(START), make_over(rt, conn, part)?),
-        Task::Visit(way) => visit_over(rt.alloc(), conn, way)?,
-    };
-    let closes = match visit {
-        Some(visit) => visit.shown.is_some(),
-        None => false,
-    };
+    let (visit, conn) = perform_with(rt, conn, task)?;
+    let closes = closes(&visit);
     Ok((visit, leave(conn, closes)))
 }
 

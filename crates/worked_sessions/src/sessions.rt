@@ -46,6 +46,17 @@ fn read_row(day: &str, asked: Asked) -> Result<(Day, Request<'static>), SessionF
     }
 }
 
+/// What the office answers to a request, in words.
+fn step_in_words<O: AnyOffice>(
+    alloc: Global,
+    office: &mut O,
+    day: Day,
+    caller: &str,
+    request: &Request<'_>,
+) -> Result<String, AllocError> {
+    words(alloc, &office.step(alloc, day, caller, request))
+}
+
 /// What the office answers that caller on that day, in words.
 pub fn answer_in_words<O: AnyOffice>(
     alloc: Global,
@@ -55,8 +66,7 @@ pub fn answer_in_words<O: AnyOffice>(
     asked: Asked,
 ) -> Result<String, SessionFault> {
     let (day, request) = read_row(day, asked)?;
-    let answer = office.step(alloc, day, caller, &request);
-    Ok(words(alloc, &answer)?)
+    Ok(step_in_words(alloc, office, day, caller, &request)?)
 }
 
 /// A row that is answered otherwise than it tells, or none.
@@ -101,6 +111,17 @@ fn items_of(
     Ok(items)
 }
 
+/// An answer that the row doesn't tell, or none.
+fn other_answer(
+    alloc: Global,
+    at: usize,
+    answer: &Answer,
+    row: &Row,
+) -> Result<Option<String>, AllocError> {
+    let answer = words(alloc, answer)?;
+    told_otherwise(alloc, at, answer.as_str(), row.3)
+}
+
 /// The first of the rows that these answers don't tell, or none.
 fn first_other(
     alloc: Global,
@@ -108,8 +129,7 @@ fn first_other(
     rows: &[Row],
 ) -> Result<Option<String>, AllocError> {
     for (at, (answer, row)) in answers.iter().zip(rows.iter()).enumerate() {
-        let answer = words(alloc, answer)?;
-        if let Some(other) = told_otherwise(alloc, at, answer.as_str(), row.3)? {
+        if let Some(other) = other_answer(alloc, at, answer, row)? {
             return Ok(Some(other));
         }
     }
