@@ -74,16 +74,15 @@ limited() {
     )
 }
 
-# What is done, the reason that is wanted on the second line of standard error, and the command: it prints nothing
-# and ends with 3, and the first line is `store Q4`.
+# What is done, the file that can't be opened, the reason, and the command: it prints nothing and ends with 3, and
+# standard error has `store Q4` and one line that names both.
 refused() {
-    local what=$1 reason=$2 status=0 lines
-    shift 2
+    local what=$1 file=$2 reason=$3 status=0 told
+    shift 3
     "$@" <"$folder/request" >"$folder/out" 2>"$folder/err" || status=$?
-    mapfile -t lines <"$folder/err"
-    if [ -s "$folder/out" ] || [ "$status ${#lines[@]} ${lines[0]-}" != '3 2 store Q4' ] ||
-        [[ ${lines[1]} != "depot: "*"$reason"* ]]; then
-        echo "$what: 'store Q4', '$reason' and 3 are wanted, and this came: '$(cat "$folder/out" "$folder/err")' and $status" >&2
+    told=$(printf 'store Q4\ndepot: cannot open %s: %s\n.' "$file" "$reason")
+    if [ -s "$folder/out" ] || [ "$status" -ne 3 ] || [ "$(cat "$folder/err" && echo .)" != "$told" ]; then
+        echo "$what: '${told%.}' and 3 are wanted, and this came: '$(cat "$folder/out" "$folder/err")' and $status" >&2
         exit 1
     fi
     cases=$((cases + 1))
@@ -132,14 +131,18 @@ request PUT /collections/maps /dev/null >"$folder/request"
 # No rights: on a folder where an office is to be made, and on an office's file.
 mkdir "$folder/closed"
 chmod 555 "$folder/closed"
-refused "an office is made where the user may not write" 'Permission denied' as_nobody policy "$folder/closed/new.db" "$policy"
-refused "a replay makes one there" 'Permission denied' as_nobody replay --policy "$policy" "$folder/closed/new.db"
+refused "an office is made where the user may not write" "$folder/closed/new.db" 'Permission denied (os error 13)' \
+    as_nobody policy "$folder/closed/new.db" "$policy"
+refused "a replay makes one there" "$folder/closed/new.db" 'Permission denied (os error 13)' \
+    as_nobody replay --policy "$policy" "$folder/closed/new.db"
 compare "nothing was made" '' "$(names "$folder/closed")"
-refused "an office is made where no folder is" 'No such file or directory' run policy "$folder/none/new.db" "$policy"
+refused "an office is made where no folder is" "$folder/none/new.db" 'No such file or directory (os error 2)' \
+    run policy "$folder/none/new.db" "$policy"
 made others
 chmod 444 "$folder/others/office.db"
 cp "$folder/others/office.db" "$folder/before"
-refused "an office is asked that the user may not write" 'Permission denied' as_nobody ask "$folder/others/office.db" "$day"
+refused "an office is asked that the user may not write" "$folder/others/office.db" 'Permission denied (os error 13)' \
+    as_nobody ask "$folder/others/office.db" "$day"
 cmp "$folder/before" "$folder/others/office.db"
 chmod 644 "$folder/others/office.db"
 answers "$folder/others/office.db"
@@ -147,8 +150,10 @@ answers "$folder/others/office.db"
 # A mount that can only be read.
 made mounted
 if where_it_is_read true 2>"$folder/err"; then
-    refused "an office is made on a mount that is only read" 'Read-only file system' on_a_mount policy "$folder/mounted/new.db" "$policy"
-    refused "an office is asked there" 'Read-only file system' on_a_mount ask "$folder/mounted/office.db" "$day"
+    refused "an office is made on a mount that is only read" "$folder/mounted/new.db" 'Read-only file system (os error 30)' \
+        on_a_mount policy "$folder/mounted/new.db" "$policy"
+    refused "an office is asked there" "$folder/mounted/office.db" 'Read-only file system (os error 30)' \
+        on_a_mount ask "$folder/mounted/office.db" "$day"
     mounts=
 else
     mounts=", and no mount was tried, since this machine gives none: $(head -n 1 "$folder/err")"
@@ -157,8 +162,10 @@ fi
 # A second name of the office's file.
 made linked
 ln "$folder/linked/office.db" "$folder/linked/second.db"
-refused "an office has a second name" 'unable to open database file' run ask "$folder/linked/office.db" "$day"
-refused "it is asked by that name" 'unable to open database file' run ask "$folder/linked/second.db" "$day"
+refused "an office has a second name" "$folder/linked/office.db" 'unable to open database file' \
+    run ask "$folder/linked/office.db" "$day"
+refused "it is asked by that name" "$folder/linked/second.db" 'unable to open database file' \
+    run ask "$folder/linked/second.db" "$day"
 rm "$folder/linked/second.db"
 answers "$folder/linked/office.db"
 
