@@ -23,6 +23,15 @@ struct Offices<S: Alter> {
     kept: Office<S>,
 }
 
+/// What the two answer to one request.
+#[derive(Drop)]
+struct Answers {
+    wanted: String,
+    found: String,
+    /// Whether the plain office accepts it.
+    is_accepted: bool,
+}
+
 /// All that an answer says, and whether the request was accepted.
 fn read_answer(alloc: Global, answer: Answer) -> Result<(String, bool)> {
     Ok((
@@ -53,6 +62,24 @@ impl<S: Alter + Drop> Offices<S> {
         Ok(())
     }
 
+    /// What the two answer.
+    fn answers(
+        &mut self,
+        alloc: Global,
+        day: Day,
+        caller: &str,
+        request: &Request<'_>,
+    ) -> Result<Answers> {
+        let answer = self.plain.step(alloc, day, caller, request);
+        let (wanted, is_accepted) = read_answer(alloc, answer)?;
+        let (found, _) = read_answer(alloc, self.kept.step(alloc, day, caller, request))?;
+        Ok(Answers {
+            wanted,
+            found,
+            is_accepted,
+        })
+    }
+
     /// Whether the request is accepted. Fails where the answers differ.
     fn step(
         &mut self,
@@ -61,11 +88,11 @@ impl<S: Alter + Drop> Offices<S> {
         caller: &str,
         request: &Request<'_>,
     ) -> Result<bool> {
-        let (wanted, is_accepted) = read_answer(
-            alloc,
-            self.plain.step(alloc, day, caller, request),
-        )?;
-        let (found, _) = read_answer(alloc, self.kept.step(alloc, day, caller, request))?;
+        let Answers {
+            wanted,
+            found,
+            is_accepted,
+        } = self.answers(alloc, day, caller, request)?;
         if wanted != found {
             bail!(
                 "{request:?} on {day} by {caller:?} is answered {found}, by the plain office {wanted}"

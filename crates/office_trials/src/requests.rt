@@ -83,6 +83,38 @@ fn is_answered(asked: Asked, answer: &Answer) -> bool {
     }
 }
 
+/// Makes the request of a turn. Fails where it isn't answered as it is to be.
+fn ask<S: Alter>(
+    alloc: Global,
+    office: &mut Office<S>,
+    asked: Asked,
+    turn: u32,
+    request: &Request<'_>,
+) -> Result<()> {
+    let day = Day::read(DAY).context("the day")?;
+    let answer = office.step(alloc, day, CALLER, request);
+    if !is_answered(asked, &answer) {
+        bail!("request {turn} is answered {answer:?}");
+    }
+    Ok(())
+}
+
+/// Makes the request for the deposit of a turn, in an office of deposits 1 to `last`.
+fn ask_in_turn<S: Alter>(
+    alloc: Global,
+    office: &mut Office<S>,
+    asked: Asked,
+    last: u32,
+    turn: u32,
+    bag: &[u8],
+) -> Result<()> {
+    let next = last.wrapping_add(turn);
+    let accession = format!(in alloc; "2026-{next:07}")?;
+    let number = scattered_number(turn, last);
+    let request = request(asked, number, &accession, bag).context("a request")?;
+    ask(alloc, office, asked, turn, &request)
+}
+
 /// Makes the request this many times, in an office of deposits 1 to `last`.
 pub fn repeat<S: Alter>(
     alloc: Global,
@@ -92,16 +124,8 @@ pub fn repeat<S: Alter>(
     count: u32,
 ) -> Result<()> {
     let bag = form(alloc)?;
-    let day = Day::read(DAY).context("the day")?;
     for turn in 1..=count {
-        let next = last.wrapping_add(turn);
-        let accession = format!(in alloc; "2026-{next:07}")?;
-        let number = scattered_number(turn, last);
-        let request = request(asked, number, &accession, &bag).context("a request")?;
-        let answer = office.step(alloc, day, CALLER, &request);
-        if !is_answered(asked, &answer) {
-            bail!("request {turn} is answered {answer:?}");
-        }
+        ask_in_turn(alloc, office, asked, last, turn, bag.as_slice())?;
     }
     Ok(())
 }

@@ -133,26 +133,57 @@ fn text(alloc: Global, words: &str) -> Result<String, AllocError> {
     words.to_owned(alloc)
 }
 
-/// Whether each row reads as it was put.
-fn read<S: Alter>(alloc: Global, tx: &mut Transaction<'_, S>) -> Result<bool, TableFault> {
+/// Whether the limits, the definitions and the policy read as they were put.
+fn reads_definitions<S: Alter>(
+    alloc: Global,
+    tx: &mut Transaction<'_, S>,
+) -> Result<bool, TableFault> {
     let limits = limits(tx)?;
-    let files = files_of(alloc, tx, 1)?;
-    let content = file_of(tx, 1, "data/b")?;
     Ok(
         limits.max_deposits == 10
             && limits.max_holds == 20
             && class_of(tx, "short")? == Some(2)
             && has_collection(tx, "maps")?
             && role_of(tx, "anna")?.is_some_and(|role| role.as_str() == "archivist")
-            && rules(alloc, tx)?.len() == 1
-            && last_deposit(tx)? == Some(1)
+            && rules(alloc, tx)?.len() == 1,
+    )
+}
+
+/// Whether the deposit does.
+fn reads_deposit<S: Alter>(alloc: Global, tx: &mut Transaction<'_, S>) -> Result<bool, TableFault> {
+    Ok(
+        last_deposit(tx)? == Some(1)
             && deposit_rows(alloc, tx)?.len() == 1
             && by_accession(tx, "A-1")?.is_some_and(|found| found.number == 1
-                && found.gone.is_none())
-            && files.iter().map(|file| file.content.len()).eq([1, 2])
-            && content.is_some_and(|bytes| bytes.as_slice() == b"bb".as_slice())
-            && last_hold(tx)? == Some(2)
+                && found.gone.is_none()),
+    )
+}
+
+/// Whether its files do.
+fn reads_files<S: Alter>(alloc: Global, tx: &mut Transaction<'_, S>) -> Result<bool, TableFault> {
+    let files = files_of(alloc, tx, 1)?;
+    if !files.iter().map(|file| file.content.len()).eq([1, 2]) {
+        return Ok(false);
+    }
+    let content = file_of(tx, 1, "data/b")?;
+    Ok(content.is_some_and(|bytes| bytes.as_slice() == b"bb".as_slice()))
+}
+
+/// Whether the holds do.
+fn reads_holds<S: Alter>(alloc: Global, tx: &mut Transaction<'_, S>) -> Result<bool, TableFault> {
+    Ok(
+        last_hold(tx)? == Some(2)
             && live_holds(alloc, tx, 1, "maps")?.as_slice() == [1, 2].as_slice(),
+    )
+}
+
+/// Whether each row reads as it was put.
+fn read<S: Alter>(alloc: Global, tx: &mut Transaction<'_, S>) -> Result<bool, TableFault> {
+    Ok(
+        reads_definitions(alloc, tx)?
+            && reads_deposit(alloc, tx)?
+            && reads_files(alloc, tx)?
+            && reads_holds(alloc, tx)?,
     )
 }
 

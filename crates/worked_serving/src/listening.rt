@@ -6,6 +6,7 @@ use http_desk::{Counted, FailAt, Portion};
 use office_core::Day;
 use office_engine::Office;
 use sqlite::Alter;
+use std::alloc::Global;
 use std::io::ErrorKind;
 use std::net::TcpListener;
 use std::test::Fail;
