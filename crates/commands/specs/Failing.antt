@@ -1,11 +1,7 @@
--- How a failure is printed, what a device's error comes to, and what standard error is told.
-use Rattle.std.specs.Prelude.{◌≡◌, ◌⊎◌, ◌++◌, ◌∷◌, [], ℕ, List, Option, Some, None, codes}
-use Rattle.std.specs.Io.KnownBytes.{Appends}
+-- How a failure is printed, and what a device's error comes to.
+use Rattle.std.specs.Prelude.{◌++◌, ◌∷◌, [], ℕ, List, codes}
 use Rattle.std.specs.declared.io.ErrorKind.{ErrorKind}
 use Rattle.std.specs.declared.io.ErrorKind.TheVariants.{OutOfMemory}
-pub use Rattle.streams.specs.Writing.{BeginsWith, IsCutShort, MayGrow}
-use Rattle.commands.specs.declared.ending.Ending.{Ending}
-use Rattle.commands.specs.declared.ending.Ending.TheVariants.{Unsaid}
 use Rattle.commands.specs.declared.failure.Failure.{Failure}
 use Rattle.commands.specs.declared.failure.Failure.TheVariants as failures
 use Rattle.commands.specs.declared.trouble.Trouble.{Trouble}
@@ -25,11 +21,3 @@ failure_of _ = failures.Device
 abbrev pub failure_in : Trouble → Failure
 failure_in (troubles.Device error) = failures.Device
 failure_in troubles.Memory = failures.Memory
-
--- ---- why an answer is what it is
-
--- Where there is no reason, standard error is left alone, and the program ends in this way. Else the reason follows what standard error held,
--- where that is known, and nothing else; or standard error fails, and has a beginning of it.
-abbrev pub IsToldWhy : Option (List ℕ) → Ending → Option (List ℕ) → Option (List ℕ) → Type 0 → Ending → Type 0
-IsToldWhy None end told tells alone ending = (ending ≡ end) × alone
-IsToldWhy (Some reason) end told tells alone ending = ((ending ≡ end) × Appends told tells reason) ⊎ ((ending ≡ Unsaid) × IsCutShort reason told tells)

@@ -1,6 +1,8 @@
 -- What the commands on a store print, and how the program ends.
 use Rattle.std.specs.Prelude.{◌++◌, ◌∷◌, [], ℕ, List, ⊤, codes, decimal, string_bytes}
 use Rattle.commands.specs.Explaining.{bad_policy_text}
+use Rattle.commands.specs.Failing.{message_of as failure_text}
+use Rattle.commands.specs.declared.failure.Failure.TheVariants as failures
 use Rattle.commands.specs.declared.ending.Ending.{Ending}
 use Rattle.commands.specs.declared.ending.Ending.TheVariants as endings
 use Rattle.std.specs.Prelude.{Bool, None, Option, Some, false, true}
@@ -26,9 +28,9 @@ use Rattle.office_commands.specs.declared.fault.StoreFault.TheVariants.{NotAnOff
 abbrev pub message_of : StoreFault → List ℕ
 message_of NotAnOffice = codes "store Q1" ++ 10 ∷ []
 message_of OtherVersion = codes "store Q2" ++ 10 ∷ []
-message_of Memory = codes "memory" ++ 10 ∷ []
+message_of Memory = failure_text failures.Memory
 message_of Store = codes "store Q4" ++ 10 ∷ []
-message_of Device = codes "device" ++ 10 ∷ []
+message_of Device = failure_text failures.Device
 
 -- the line of a bad record
 abbrev pub bad_record_text : ℕ → List ℕ

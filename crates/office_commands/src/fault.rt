@@ -5,7 +5,7 @@ ghost use Rattle.commands.specs.Explaining.{bad_policy_text};
 ghost use Rattle.office_commands.specs.Texts.{IsFailure, ending_of, fault_text, found_nothing, is_of_nothing, message_of};
 ghost use Rattle.office_commands.specs.declared.fault.CommandFault.TheVariants.{Failed};
 
-use commands::{Ending, RefusedPolicy};
+use commands::{Ending, Failure, RefusedPolicy};
 use std::alloc::{AllocError, Global};
 use std::{fmt, io};
 
@@ -32,9 +32,9 @@ impl StoreFault {
         match self {
             StoreFault::NotAnOffice => "store Q1\n",
             StoreFault::OtherVersion => "store Q2\n",
-            StoreFault::Memory => "memory\n",
+            StoreFault::Memory => Failure::Memory.message(),
             StoreFault::Store => "store Q4\n",
-            StoreFault::Device => "device\n",
+            StoreFault::Device => Failure::Device.message(),
         }
     }
 }
