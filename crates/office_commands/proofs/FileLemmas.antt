@@ -1,5 +1,5 @@
 -- An office that is found in files, and copied into them.
-use Rattle.std.proofs.Common.{◌≡◌, ◌≢◌, ◌∙◌, List, [], ◌∷◌, Bool, Result, Ok, Err, IfErr, IfOk, IsErr, IsTrue, true, false, refl, sym, ap, subst}
+use Rattle.std.proofs.Common.{◌≡◌, ◌≢◌, ◌∙◌, List, [], ◌∷◌, Bool, Result, Ok, Err, IfErr, IfOk, IsErr, IsTrue, true, false, inl, inr, refl, sym, ap, subst}
 use Rattle.std.proofs.Math.Logic.{∥∥₁_map}
 use Rattle.sqlite.specs.Recovery.{Image}
 use Rattle.sqlite.specs.Schema.{Schema}
@@ -22,7 +22,7 @@ use Rattle.office_recovery.proofs.FoundAgain.{becomes_again}
 use Rattle.office_recovery.proofs.Settled.{left_from}
 use Rattle.office_engine.specs.Keeping.{IsKeptBy, IsLeftOf, IsReached}
 use Rattle.office_engine.proofs.Kept.{rows_left}
-use Rattle.office_commands.specs.Stores.{IsOpenedFrom}
+use Rattle.office_commands.specs.Stores.{IsOpenedFrom, made_office}
 use Rattle.office_commands.specs.Texts.{found_nothing}
 use Rattle.office_commands.specs.declared.fault.CommandFault.{CommandFault}
 
@@ -77,13 +77,13 @@ taken_as_held (Ok o) shown image s cleans goes_on opened found = λ clean h hold
     let was = cleans clean in goes_on clean h (found_of image s (opened was).0 (opened was).1 (found was) h holds)
 
 -- an office that is made, where one may be made
-pub opened_as_made : {D E : Type 0} (g : Disks D) (r : Result (Held (FileStore D g)) E) (image : Image) (s : State) (makes : Bool) → (makes ≡ false → ⊥)
-    → IfOk r (λ o. HasCleanDisk (file_state o) → HasCleanDisk s) → (s.now.schema ≢ no_schema → IsErr r)
+pub opened_as_made : {D E : Type 0} (g : Disks D) (r : Result (Held (FileStore D g)) E) (image : Image) (s : State) (makes : Bool) → makes ≡ true
+    → IfOk r (λ o. HasCleanDisk (file_state o) → HasCleanDisk s) → IfOk r (λ o. HasCleanDisk (file_state o) → IsKeptBy made_office (file_state o)) → (s.now.schema ≢ no_schema → IsErr r)
     → (HasCleanDisk s → Opens s × IsLive s) → (HasCleanDisk s → FindsIn image s) → IfOk r (IsOpenedFrom g image makes)
-opened_as_made g (Err e) image s makes may cleans empty opened found = tt
-opened_as_made {E = E} g (Ok o) image s makes may cleans empty opened found = record {
+opened_as_made g (Err e) image s makes may cleans made empty opened found = tt
+opened_as_made {E = E} g (Ok o) image s makes may cleans made empty opened found = record {
   found = made_where_none {E = E} (Ok o) file_state image s cleans empty opened found;
-  was_there = λ no. absurd (may no);
+  origin = λ clean. inr (may, made clean);
 }
 
 -- one that is taken was there
@@ -94,14 +94,11 @@ pub opened_as_taken : {D E : Type 0} (g : Disks D) (r : Result (Held (FileStore 
 opened_as_taken g (Err e) image s makes cleans goes_on there opened found = tt
 opened_as_taken {E = E} g (Ok o) image s makes cleans goes_on there opened found = record {
   found = taken_as_held {E = E} (Ok o) file_state image s cleans goes_on opened found;
-  was_there = λ no clean.
+  origin = λ clean.
       let was = cleans clean in
       let same : s.now.trees ≡ s.committed.trees = ap (λ (d : Database). d.trees) (opened was).0.clean in
-      (s.now, record { holds = λ db held. same ∙ (found was).holds db held; reads = subst (AreFoundIn image) (sym same) (found was).reads }, there clean);
+      inl (s.now, record { holds = λ db held. same ∙ (found was).holds db held; reads = subst (AreFoundIn image) (sym same) (found was).reads }, there clean);
 }
-
-pub may_make : (makes : Bool) → makes ≡ true → makes ≡ false → ⊥
-may_make makes is isnt = let never : true ≡ false = sym is ∙ isnt in cc
 
 -- something was found
 pub found_something : {T : Type 0} (r : Result T CommandFault) (makes : Bool) → IfErr r (λ fault. found_nothing fault ≡ false) → IfErr r (λ fault. found_nothing fault ≡ true → makes ≡ false)

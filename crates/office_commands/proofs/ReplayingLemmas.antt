@@ -1,8 +1,7 @@
 -- What a replay reads, has answered and prints, however it ends.
-use Rattle.std.proofs.Common.{◌≡◌, ◌⊎◌, ◌∙◌, ◌+◌, ℕ, List, [], Option, Result, Ok, Err, IfErr, inl, inr, length, take, refl, sym, ap, subst}
+use Rattle.std.proofs.Common.{◌≡◌, ◌⊎◌, ◌∙◌, ◌+◌, ℕ, List, [], Option, Some, Result, Ok, Err, IfErr, inl, inr, length, take, refl, sym, ap, subst}
 use Rattle.std.proofs.KnownBytes.{Appends-kept}
 use Rattle.std.proofs.lemmas.List.{append-nil}
-use Rattle.std.proofs.Math.Seq.{take-length}
 use Rattle.std.specs.Io.KnownBytes.{Appends, Consumes, IsAtEnd, Keeps}
 use Rattle.sqlite.specs.Held.{Held}
 use Rattle.sqlite.specs.Store.{Ghosts}
@@ -12,25 +11,24 @@ use Rattle.http_desk.specs.declared.replaying.ReplayFault.{ReplayFault}
 use Rattle.http_desk.specs.declared.replaying.ReplayStop.{ReplayStop}
 use Rattle.http_desk.specs.declared.replaying.ReplayStop.TheVariants as stops
 use Rattle.office_commands.specs.Deeds.{AreDone, Deed, deeds_of_records}
-use Rattle.office_commands.specs.Tasks.{AreAsked, PrintsAllOrBut, Replays}
-use Rattle.office_commands.specs.Texts.{IsFailure, replay_failure}
+use Rattle.office_commands.specs.Tasks.{AreAsked, ComesOfReplay}
+use Rattle.office_commands.specs.Texts.{replay_failure}
 use Rattle.office_commands.specs.Traffic.{Traffic}
+use Rattle.office_commands.specs.declared.fault.Cause.TheVariants.{Output}
 use Rattle.office_commands.specs.declared.fault.CommandFault.{CommandFault}
-use Rattle.office_commands.specs.declared.fault.CommandFault.TheVariants.{BadRecord, Failed, Policy}
+use Rattle.office_commands.specs.declared.fault.CommandFault.TheVariants.{Failed}
+use Rattle.office_commands.specs.declared.fault.StoreFault.TheVariants.{Device}
 use Rattle.office_commands.proofs.DeedLemmas.{as_many, records_are_done}
 
 -- the records are read, and their answers are so many deeds
 abbrev pub Comes : {S T : Type 0} → Ghosts S → Held S → Held S → Result T CommandFault → Traffic → Traffic → Type 0
-Comes g first last r was now = (deeds : List Deed) × Replays r deeds was now × AreDone g deeds first last
-
-abbrev nothing : List ℕ
-nothing = []
+Comes g first last r was now = (deeds : List Deed) × ComesOfReplay r deeds was now × AreDone g deeds first last
 
 -- memory ran out after the last answer, or before it was printed
 so_many : (fault : ReplayFault) (items : List RequestRecord) (texts : List (List ℕ)) → length texts ≡ length items → fault.done ≡ length items → (fault.done ≡ fault.answered) ⊎ (fault.done ≡ fault.answered + 1)
-    → ((fault.answered ≡ length texts) × (nothing ≡ nothing)) ⊎ ((fault.answered + 1 ≡ length texts) × ((nothing ≡ nothing) ⊎ IsBegun texts nothing))
-so_many fault items texts many done (inl same) = inl (sym same ∙ (done ∙ sym many), refl)
-so_many fault items texts many done (inr more) = inr (sym more ∙ (done ∙ sym many), inl refl)
+    → (fault.answered ≡ length texts) ⊎ (fault.answered + 1 ≡ length texts)
+so_many fault items texts many done (inl same) = inl (sym same ∙ (done ∙ sym many))
+so_many fault items texts many done (inr more) = inr (sym more ∙ (done ∙ sym many))
 
 module _ {S : Type 0} (g : Ghosts S) (first last : Held S) (was_left left held holds : Option (List ℕ)) where
   abbrev pub was : Traffic
@@ -48,13 +46,8 @@ module _ {S : Type 0} (g : Ghosts S) (first last : Held S) (was_left left held h
     done = refl;
   }
 
-  -- all records' answers are printed
-  all_printed : (texts : List (List ℕ)) → Appends held holds (answer_texts texts) → PrintsAllOrBut texts was now
-  all_printed texts writes =
-      (length texts, [], subst (Appends held holds) (sym (append-nil (answer_texts (take (length texts) texts)) ∙ ap answer_texts (take-length texts))) writes, inl (refl, refl))
-
   -- the answers are written, and then the output hands them on or fails to
-  pub ended : {T : Type 0} (r : Result T CommandFault) (mid : Option (List ℕ)) (items : List RequestRecord) → IfErr r IsFailure
+  pub ended : {T : Type 0} (r : Result T CommandFault) (mid : Option (List ℕ)) (items : List RequestRecord) → IfErr r (λ fault. fault ≡ Failed Device (Some Output))
       → HasAnswered g first last was_left left held mid items [] → IsAtEnd left → Keeps mid holds → Comes g first last r was now
   ended {T} r mid items fails has at_end kept = go r fails
     where
@@ -67,11 +60,10 @@ module _ {S : Type 0} (g : Ghosts S) (first last : Held S) (was_left left held h
       done : AreDone g deeds first last
       done = records_are_done g items has.texts first last has.answers
 
-      go : (r : Result T CommandFault) → IfErr r IsFailure → Comes g first last r was now
+      go : (r : Result T CommandFault) → IfErr r (λ fault. fault ≡ Failed Device (Some Output)) → Comes g first last r was now
       go (Ok x) fails = (deeds, (items, has.texts, answered items [] handed, at_end, handed.writes), done)
-      go (Err (Failed fault cause)) fails = (deeds, (items, has.texts, [], answered items [] handed, all_printed has.texts handed.writes), done)
-      go (Err (BadRecord index)) fails = absurd fails
-      go (Err (Policy refused)) fails = absurd fails
+      go (Err fault) is =
+          subst (λ (f : CommandFault). Comes {T = T} g first last (Err f) was now) (sym is) (deeds, (items, has.texts, [], answered items [] handed, inl handed.writes), done)
 
   -- the replay stopped
   pub stopped : (T : Type 0) (fault : ReplayFault) (named : CommandFault) → named ≡ replay_failure fault.stop
@@ -96,14 +88,14 @@ module _ {S : Type 0} (g : Ghosts S) (first last : Held S) (was_left left held h
       go stops.Read it =
           let items = it.0 in
           let has = it.2 in
-          (deeds_of_records items has.texts, (items, has.texts, it.1, answered items it.1 has, all_printed has.texts has.writes), records_are_done g items has.texts first last has.answers)
+          (deeds_of_records items has.texts, (items, has.texts, it.1, answered items it.1 has, (it.3, has.writes)), records_are_done g items has.texts first last has.answers)
       go stops.Write it =
           let items = it.0 in
           let texts = it.1 in
           let has = it.3 in
           let many = as_many g items texts first last has.answers in (
             deeds_of_records items texts,
-            (items, texts, has.rest, part_asked items texts it.2 has, (fault.answered, it.2, has.writes, inr (sym it.6 ∙ (it.5 ∙ sym many), inr it.4))),
+            (items, texts, has.rest, part_asked items texts it.2 has, inr (fault.answered, it.2, sym it.6 ∙ (it.5 ∙ sym many), it.4, has.writes)),
             records_are_done g items texts first last has.answers,
           )
       go stops.Memory it =
@@ -112,6 +104,12 @@ module _ {S : Type 0} (g : Ghosts S) (first last : Held S) (was_left left held h
           let has = it.2 in
           let many = as_many g items texts first last has.answers in (
             deeds_of_records items texts,
-            (items, texts, has.rest, part_asked items texts [] has, (fault.answered, [], has.writes, so_many fault items texts many it.3 it.4)),
+            (
+              items,
+              texts,
+              has.rest,
+              part_asked items texts [] has,
+              (fault.answered, so_many fault items texts many it.3 it.4, subst (Appends held holds) (append-nil (answer_texts (take fault.answered texts))) has.writes),
+            ),
             records_are_done g items texts first last has.answers,
           )

@@ -15,10 +15,11 @@ use Rattle.sqlite.proofs.Callers.{memory_is_clean}
 use Rattle.office_rows.specs.Rows.{max_limit}
 use Rattle.office_history.specs.Histories.{History}
 use Rattle.office_history.specs.Runs.{IsLegal, new, new_history}
-use Rattle.office_engine.specs.Keeping.{IsKeptBy}
-use Rattle.office_commands.specs.Deeds.{AreDone, Deed}
-use Rattle.office_commands.specs.Stores.{AreDoneAndClosed, IsOpenedFrom, RunsAndCloses, RunsInFile, RunsInMemory, made_office}
-use Rattle.office_commands.specs.Tasks.{Does, Task, makes_office}
+use Rattle.office_recovery.specs.Found.{HoldsWhere}
+use Rattle.office_engine.specs.Keeping.{IsKeptBy, IsLeftOf, IsReached}
+use Rattle.office_commands.specs.Deeds.{AreDone, Deed, LeadOn}
+use Rattle.office_commands.specs.Stores.{InFile, InMemory, IsOpenedFrom, LeadsInto, RunsAndCloses, RunsInFile, RunsInMemory, made_office}
+use Rattle.office_commands.specs.Tasks.{ComesOfTask, Task, makes_office}
 use Rattle.office_commands.specs.Texts.{IsFailure}
 use Rattle.office_commands.specs.Traffic.{Traffic}
 use Rattle.office_commands.specs.declared.fault.CommandFault.{CommandFault}
@@ -31,33 +32,33 @@ made_is_legal = new max_limit max_limit refl refl
 -- with an office that was just made in memory, whose disk is always clean
 pub runs_in_memory : {T : Type 0} (r : Result T CommandFault) (task : Task) (a b : ℕ) (first last : Held MemStore) (was now : Traffic) → (a ≡ max_limit) × (b ≡ max_limit)
     → (HasCleanDisk (state over_memory first) → IsKeptBy (new_history a b) (state over_memory first))
-    → ((deeds : List Deed) × Does task r deeds was now × AreDone over_memory deeds first last) → RunsInMemory task r was now
+    → ((deeds : List Deed) × ComesOfTask task r deeds was now × AreDone over_memory deeds first last) → RunsInMemory task r was now
 runs_in_memory r task a b first last was now limits made it =
     let kept : IsKeptBy made_office (state over_memory first) = subst (λ (h : History). IsKeptBy h (state over_memory first)) (ap₂ new_history limits.0 limits.1) (made (memory_is_clean first)) in
-    let leads = deeds_lead over_memory it.0 first last it.2 (memory_is_clean last) made_office made_is_legal kept in
-    inr (it.0, it.1, record { old = first; new = last; made = kept; done = it.2; next = leads.0; leads = leads.1; reached = leads.2 })
+    inr (it.0, it.1, record { old = first; new = last; made = kept; done = it.2 })
+
+-- what it comes to
+pub memory_leads : (deeds : List Deed) (office : InMemory deeds) → (next : History) × LeadOn deeds made_office next × IsReached next (state over_memory office.new)
+memory_leads deeds office = deeds_lead over_memory deeds office.old office.new office.done (memory_is_clean office.new) made_office made_is_legal office.made
 
 -- with an open office, which is closed into these files
-done_and_closed : {D : Type 0} (g : Disks D) (deeds : List Deed) (first last : Held (FileStore D g)) (files : Files D) → (AreClean g files.log files.db → IsCopied last files)
-    → AreDone over_files deeds first last → AreDoneAndClosed g deeds first files
-done_and_closed g deeds first last files copied done = record {
-  new = last;
-  done = done;
-  was_clean = λ clean. deeds_clean over_files deeds first last done (copied clean).was_clean;
-  copied = copied;
-  leads = λ clean h legal keeps.
-      let it = copied clean in
-      let at = deeds_lead over_files deeds first last done it.was_clean h legal keeps in
-      (at.0, at.1, at.2.legal, held_of (image_of g files) (file_state last) it.was_open it.seen.both at.0 at.2);
-}
-
 pub runs_and_closes : {D T : Type 0} (g : Disks D) (r : Result T CommandFault) (task : Task) (first last : Held (FileStore D g)) (files : Files D) (was now : Traffic)
-    → (AreClean g files.log files.db → IsCopied last files) → ((deeds : List Deed) × Does task r deeds was now × AreDone over_files deeds first last) → RunsAndCloses g first task r was now
-runs_and_closes g r task first last files was now copied it = inl (it.0, files, it.1, done_and_closed g it.0 first last files copied it.2)
+    → (AreClean g files.log files.db → IsCopied last files) → ((deeds : List Deed) × ComesOfTask task r deeds was now × AreDone over_files deeds first last) → RunsAndCloses g first task r was now
+runs_and_closes g r task first last files was now copied it = inl (it.0, files, it.1, record { new = last; done = it.2; copied = copied })
+
+-- what the files hold then
+pub files_lead : {D : Type 0} (g : Disks D) (first : Image) (makes : Bool) (deeds : List Deed) (office : InFile g first makes deeds) → AreClean g office.files.log office.files.db
+    → (h : History) → IsLegal h → HoldsWhere (IsLeftOf h) first → LeadsInto deeds h (image_of g office.files)
+files_lead g first makes deeds office clean h legal holds =
+    let closed = office.closed in
+    let it = closed.copied clean in
+    let kept = office.opened.found (deeds_clean over_files deeds office.old closed.new closed.done it.was_clean) h holds in
+    let at = deeds_lead over_files deeds office.old closed.new closed.done it.was_clean h legal kept in
+    (at.0, at.1, at.2.legal, held_of (image_of g office.files) (file_state closed.new) it.was_open it.seen.both at.0 at.2)
 
 -- or it can't be closed
 pub runs_unclosed : {D T : Type 0} (g : Disks D) (r : Result T CommandFault) (fault : CommandFault) (task : Task) (first last : Held (FileStore D g)) (was now : Traffic)
-    → IsFailure fault → ((deeds : List Deed) × Does task r deeds was now × AreDone over_files deeds first last) → RunsAndCloses {T = T} g first task (Err fault) was now
+    → IsFailure fault → ((deeds : List Deed) × ComesOfTask task r deeds was now × AreDone over_files deeds first last) → RunsAndCloses {T = T} g first task (Err fault) was now
 runs_unclosed g r fault task first last was now fails it = inr (record { failed = fails; did = r; deeds = it.0; does = it.1; new = last; done = it.2 })
 
 -- the office was opened from files
@@ -73,7 +74,6 @@ runs_in_file g first r task makes old was now same opened (inl it) =
         opened = from;
         files = it.1;
         closed = it.3;
-        goes_on = λ clean h legal holds. it.3.leads clean h legal (from.found (it.3.was_clean clean) h holds);
       },
     ))
 runs_in_file g first r task makes old was now same opened (inr it) = inr (inr (old, subst (λ (m : Bool). IsOpenedFrom g first m old) same opened, it))

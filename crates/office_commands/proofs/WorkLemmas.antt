@@ -1,5 +1,5 @@
 -- What a command on a store comes to.
-use Rattle.std.proofs.Common.{◌≡◌, ℕ, List, [], ◌∷◌, Option, Some, Result, Ok, Err, IfErr, IfOk, OnOk, Bor, inl, inr, refl, sym, subst}
+use Rattle.std.proofs.Common.{◌≡◌, ℕ, List, [], ◌∷◌, Option, None, Some, IfSome, Result, Ok, Err, IfErr, IfOk, OnOk, Bor, inl, inr, refl, sym, subst}
 use Rattle.std.specs.Prelude.{option_map, string_bytes}
 use Rattle.std.specs.Io.KnownBytes.{Appends}
 use Rattle.jiff.specs.Types.{Date}
@@ -12,22 +12,23 @@ use Rattle.commands.specs.Explaining.{bad_policy_text}
 use Rattle.streams.specs.Writing.{IsCutShort}
 use Rattle.commands.specs.declared.ending.Ending.TheVariants.{Refused}
 use Rattle.office_commands.specs.Deeds.{AreDone, Deed, fails, installs}
-use Rattle.commands.specs.PolicyFiles.{IsRead}
+use Rattle.commands.specs.PolicyFiles.{IsAllOf, IsRead}
 use Rattle.office_commands.specs.Policies.{installed_text}
-use Rattle.office_commands.specs.Tasks.{Does, IsPortFor, Listens, Replays, ReplaysAfter, Task, install_of}
+use Rattle.office_commands.specs.Tasks.{ComesOfTask, IsPortFor, Listens, ComesOfReplay, ReplaysAfter, Task, install_of}
 use Rattle.office_commands.specs.Texts.{IsFailure, IsUnsaid}
 use Rattle.office_commands.specs.Traffic.{Traffic}
-use Rattle.office_commands.specs.Works.{Comes, ComesOfPolicy, IsQuiet, SaysInstalled, SaysRefused, read_policy, refused_policy}
+use Rattle.office_commands.specs.Works.{ComesOfWork, ComesOfBytes, ComesOfFile, IsQuiet, SaysInstalled, SaysRefused, read_policy, refused_policy}
 use Rattle.office_commands.specs.declared.done.Done.{Done}
 use Rattle.office_commands.specs.declared.fault.CommandFault.{CommandFault}
 use Rattle.commands.specs.declared.policy_file.RefusedPolicy.{RefusedPolicy}
+use Rattle.commands.specs.declared.trouble.Trouble.{Trouble}
 use Rattle.office_commands.specs.declared.work.Work.{Work}
 use Rattle.office_commands.specs.declared.work.Work.TheVariants.{Policy, Serve}
 
 -- ---- a policy that comes first
 
 pub after_install : {S T : Type 0} (g : Ghosts S) (installed : Result T CommandFault) (x : T) (r : Result T CommandFault) (given : Option (Bor PolicyValue)) (policy : Bor PolicyValue) (old mid new : Held S)
-    (was now : Traffic) → given ≡ Some policy → installed ≡ Ok x → AreDone g (install_of installed policy.now ∷ []) old mid → ((deeds : List Deed) × Replays r deeds was now × AreDone g deeds mid new)
+    (was now : Traffic) → given ≡ Some policy → installed ≡ Ok x → AreDone g (install_of installed policy.now ∷ []) old mid → ((deeds : List Deed) × ComesOfReplay r deeds was now × AreDone g deeds mid new)
     → (deeds : List Deed) × ReplaysAfter given r deeds was now × AreDone g deeds old new
 after_install {T = T} g installed x r given policy old mid new was now same is first rest =
     let it : AreDone g (installs policy.now ∷ []) old mid = subst (λ (i : Result T CommandFault). AreDone g (install_of i policy.now ∷ []) old mid) is first in (
@@ -45,13 +46,21 @@ not_installed {T = T} g installed fault given policy old new was same is failed 
 
 -- ---- what is read of a policy's file
 
-pub goes_on : {unread : Type 0} {IsRefused : RefusedPolicy → Type 0} {GoesOn : Bor PolicyValue → Type 0} (read : Result PolicyValue RefusedPolicy) (policy : Bor PolicyValue) → read ≡ Ok policy.now
-    → ((bytes : List ℕ) × IsRead bytes read) → GoesOn policy → ComesOfPolicy unread IsRefused GoesOn
-goes_on read policy is it on = read_policy it.0 policy (subst (IsRead it.0) is it.1) on
+-- all that the reader had, where that is known
+pub read_of : (had left : Option (List ℕ)) (r : Result (Result PolicyValue RefusedPolicy) Trouble) (read : Result PolicyValue RefusedPolicy) → r ≡ Ok read
+    → IfOk r (λ read. (bytes : List ℕ) × IsAllOf had left bytes × IsRead bytes read) → IfSome had (λ given. IfOk r (IsRead given))
+    → (bytes : List ℕ) × IfSome had (λ all. bytes ≡ all) × IsRead bytes read
+read_of None left r read is it given =
+    let at = subst (λ (x : Result (Result PolicyValue RefusedPolicy) Trouble). IfOk x (λ read. (bytes : List ℕ) × IsAllOf None left bytes × IsRead bytes read)) is it in (at.0, tt, at.2)
+read_of (Some all) left r read is it given = (all, refl, subst (λ (x : Result (Result PolicyValue RefusedPolicy) Trouble). IfOk x (IsRead all)) is given)
 
-pub is_refused : {unread : Type 0} {IsRefused : RefusedPolicy → Type 0} {GoesOn : Bor PolicyValue → Type 0} (read : Result PolicyValue RefusedPolicy) (refused : RefusedPolicy) → read ≡ Err refused
-    → ((bytes : List ℕ) × IsRead bytes read) → IsRefused refused → ComesOfPolicy unread IsRefused GoesOn
-is_refused read refused is it refuses = refused_policy it.0 refused (subst (IsRead it.0) is it.1) refuses
+pub goes_on : (had : Option (List ℕ)) {unread : Type 0} {IsRefused : RefusedPolicy → Type 0} {GoesOn : Bor PolicyValue → Type 0} (read : Result PolicyValue RefusedPolicy) (policy : Bor PolicyValue)
+    → read ≡ Ok policy.now → ((bytes : List ℕ) × IfSome had (λ all. bytes ≡ all) × IsRead bytes read) → GoesOn policy → ComesOfFile had unread (ComesOfBytes IsRefused GoesOn)
+goes_on had read policy is it on = inr (it.0, it.1, read_policy policy (subst (IsRead it.0) is it.2) on)
+
+pub is_refused : (had : Option (List ℕ)) {unread : Type 0} {IsRefused : RefusedPolicy → Type 0} {GoesOn : Bor PolicyValue → Type 0} (read : Result PolicyValue RefusedPolicy) (refused : RefusedPolicy)
+    → read ≡ Err refused → ((bytes : List ℕ) × IfSome had (λ all. bytes ≡ all) × IsRead bytes read) → IsRefused refused → ComesOfFile had unread (ComesOfBytes IsRefused GoesOn)
+is_refused had read refused is it refuses = inr (it.0, it.1, refused_policy refused (subst (IsRead it.0) is it.2) refuses)
 
 -- ---- what is said of it
 
@@ -76,18 +85,18 @@ says_nothing ran fault policy was is = subst (λ (i : Result Done CommandFault).
 -- ---- what a task does
 
 pub does_install : {S T : Type 0} (g : Ghosts S) (task : Task) (policy : Bor PolicyValue) (r : Result T CommandFault) (old new : Held S) (was : Traffic) → task ≡ Policy policy → IfErr r IsFailure
-    → AreDone g (install_of r policy.now ∷ []) old new → (deeds : List Deed) × Does task r deeds was was × AreDone g deeds old new
+    → AreDone g (install_of r policy.now ∷ []) old new → (deeds : List Deed) × ComesOfTask task r deeds was was × AreDone g deeds old new
 does_install g task policy r old new was is failed done =
-    subst (λ (t : Task). (deeds : List Deed) × Does t r deeds was was × AreDone g deeds old new) (sym is) (install_of r policy.now ∷ [], (failed, refl, refl), done)
+    subst (λ (t : Task). (deeds : List Deed) × ComesOfTask t r deeds was was × AreDone g deeds old new) (sym is) (install_of r policy.now ∷ [], (failed, refl, refl), done)
 
 pub does_serve : {S T : Type 0} (g : Ghosts S) (task : Task) (day : Date) (port count : ℕ) (r : Result T CommandFault) (old new : Held S) (was now : Traffic) → task ≡ Serve day port count → now.input ≡ was.input
     → IfErr r IsFailure → ((told : ℕ) × (deeds : List Deed) × IsPortFor port told × Listens day told count r deeds was.output now.output × AreDone g deeds old new)
-    → (deeds : List Deed) × Does task r deeds was now × AreDone g deeds old new
+    → (deeds : List Deed) × ComesOfTask task r deeds was now × AreDone g deeds old new
 does_serve g task day port count r old new was now is same failed it =
-    subst (λ (t : Task). (deeds : List Deed) × Does t r deeds was now × AreDone g deeds old new) (sym is) (it.1, (same, failed, (it.0, it.2, it.3)), it.4)
+    subst (λ (t : Task). (deeds : List Deed) × ComesOfTask t r deeds was now × AreDone g deeds old new) (sym is) (it.1, (same, failed, (it.0, it.2, it.3)), it.4)
 
 -- ---- what a work comes to
 
 pub comes_as : {D : Type 0} (g : Disks D) (first : Image) (store : List ℕ) (work other : Work (Bor (List ℕ))) (alone : Type 0) (result : Result Done CommandFault) (was now : Traffic) → work ≡ other
-    → Comes g first store other alone result was now → Comes g first store work alone result was now
-comes_as g first store work other alone result was now same it = subst (λ (w : Work (Bor (List ℕ))). Comes g first store w alone result was now) (sym same) it
+    → ComesOfWork g first store other alone result was now → ComesOfWork g first store work alone result was now
+comes_as g first store work other alone result was now same it = subst (λ (w : Work (Bor (List ℕ))). ComesOfWork g first store w alone result was now) (sym same) it

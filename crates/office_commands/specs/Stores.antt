@@ -20,7 +20,7 @@ use Rattle.office_history.specs.Runs.{IsLegal, new_history}
 use Rattle.office_recovery.specs.Found.{HoldsWhere}
 use Rattle.office_engine.specs.Keeping.{IsKeptBy, IsLeftOf, IsReached}
 use Rattle.office_commands.specs.Deeds.{AreDone, Deed, LeadOn}
-use Rattle.office_commands.specs.Tasks.{Does, HasFailed, Task, makes_office}
+use Rattle.office_commands.specs.Tasks.{ComesOfTask, HasFailed, Task, makes_office}
 use Rattle.office_commands.specs.Texts.{IsFailure, found_nothing}
 use Rattle.office_commands.specs.Traffic.{Traffic}
 use Rattle.office_commands.specs.declared.fault.CommandFault.{CommandFault}
@@ -31,15 +31,12 @@ use Rattle.office_commands.specs.declared.fault.CommandFault.{CommandFault}
 abbrev pub made_office : History
 made_office = new_history max_limit max_limit
 
--- the deeds are done with an office that was just made in memory, and its history leads on by them
+-- the deeds are done with an office that was just made in memory
 pub record InMemory (deeds : List Deed) : Type 0 where
   pub old : Held MemStore
   pub new : Held MemStore
   pub made : IsKeptBy made_office (state over_memory old)
   pub done : AreDone over_memory deeds old new
-  pub next : History
-  pub leads : LeadOn deeds made_office next
-  pub reached : IsReached next (state over_memory new)
 
 -- ---- in a file
 
@@ -48,32 +45,29 @@ pub record Show (image : Image) (shown : Database) : Type 0 where
   pub holds : (db : Trees) → HoldsDatabase image db → shown.trees ≡ db
   pub reads : AreFoundIn image shown.trees
 
--- An office was opened from files that held this at first. On an honest disk it keeps the history that they held; and unless it might be made,
--- they showed a database with the table of an office.
+-- An office was opened from files that held this at first. On an honest disk it keeps the history that they held; and they showed a database with the table
+-- of an office, or it is one that was just made, where it might be.
 pub record IsOpenedFrom {D : Type 0} (g : disk.Ghosts D) (first : Image) (makes : Bool) (office : Held (FileStore D g)) : Type 0 where
   pub found : HasCleanDisk (file_state office) → (h : History) → HoldsWhere (IsLeftOf h) first → IsKeptBy h (file_state office)
-  pub was_there : makes ≡ false → HasCleanDisk (file_state office) → (shown : Database) × Show first shown × IsTrue (has_office shown.schema)
+  pub origin : HasCleanDisk (file_state office)
+      → ((shown : Database) × Show first shown × IsTrue (has_office shown.schema)) ⊎ ((makes ≡ true) × IsKeptBy made_office (file_state office))
 
--- the history leads by the deeds to one that the files hold
-abbrev pub LeadsInto : List Deed → History → Image → Type 0
-LeadsInto deeds h image = (next : History) × LeadOn deeds h next × IsLegal next × HoldsWhere (IsLeftOf next) image
-
--- The deeds are done with an open office, and it is closed into these files. On an honest disk all of it is copied, and whichever legal history
--- it kept leads by the deeds to one that the files hold.
+-- the deeds are done with an open office, and it is closed into these files: on an honest disk all of it is copied
 pub record AreDoneAndClosed {D : Type 0} (g : disk.Ghosts D) (deeds : List Deed) (old : Held (FileStore D g)) (files : Files D) : Type 0 where
   pub new : Held (FileStore D g)
   pub done : AreDone over_files deeds old new
-  pub was_clean : AreClean g files.log files.db → HasCleanDisk (file_state old)
   pub copied : AreClean g files.log files.db → IsCopied new files
-  pub leads : AreClean g files.log files.db → (h : History) → IsLegal h → IsKeptBy h (file_state old) → LeadsInto deeds h (image_of g files)
 
--- The same, of an office that was opened from files that held this at first: where they held a legal history, they hold one that it leads to.
+-- the same, of an office that was opened from files that held this at first
 pub record InFile {D : Type 0} (g : disk.Ghosts D) (first : Image) (makes : Bool) (deeds : List Deed) : Type 0 where
   pub old : Held (FileStore D g)
   pub opened : IsOpenedFrom g first makes old
   pub files : Files D
   pub closed : AreDoneAndClosed g deeds old files
-  pub goes_on : AreClean g files.log files.db → (h : History) → IsLegal h → HoldsWhere (IsLeftOf h) first → LeadsInto deeds h (image_of g files)
+
+-- the history leads by the deeds to one that files hold
+abbrev pub LeadsInto : List Deed → History → Image → Type 0
+LeadsInto deeds h image = (next : History) × LeadOn deeds h next × IsLegal next × HoldsWhere (IsLeftOf next) image
 
 -- ---- a task
 
@@ -87,25 +81,25 @@ pub record IsUnclosed {D T : Type 0} (g : disk.Ghosts D) (old : Held (FileStore 
   pub failed : HasFailed result
   pub did : Result T CommandFault
   pub deeds : List Deed
-  pub does : Does task did deeds was now
+  pub does : ComesOfTask task did deeds was now
   pub new : Held (FileStore D g)
   pub done : AreDone over_files deeds old new
 
 -- the task is done with a new office in memory
 abbrev pub RunsInMemory : {T : Type 0} → Task → Result T CommandFault → Traffic → Traffic → Type 0
-RunsInMemory task result was now = IsUnopened task result was now ⊎ ((deeds : List Deed) × Does task result deeds was now × InMemory deeds)
+RunsInMemory task result was now = IsUnopened task result was now ⊎ ((deeds : List Deed) × ComesOfTask task result deeds was now × InMemory deeds)
 
 -- the task is done with an open office, and it is closed
 abbrev pub RunsAndCloses : {D T : Type 0} → (g : disk.Ghosts D) → Held (FileStore D g) → Task → Result T CommandFault → Traffic → Traffic → Type 0
 RunsAndCloses {D} g old task result was now =
-    ((deeds : List Deed) × (files : Files D) × Does task result deeds was now × AreDoneAndClosed g deeds old files)
+    ((deeds : List Deed) × (files : Files D) × ComesOfTask task result deeds was now × AreDoneAndClosed g deeds old files)
     ⊎ IsUnclosed g old task result was now
 
 -- the task is done with the office in a file
 abbrev pub RunsInFile : {D T : Type 0} → disk.Ghosts D → Image → Task → Result T CommandFault → Traffic → Traffic → Type 0
 RunsInFile {D} g first task result was now =
     IsUnopened task result was now
-    ⊎ (((deeds : List Deed) × Does task result deeds was now × InFile g first (makes_office task) deeds)
+    ⊎ (((deeds : List Deed) × ComesOfTask task result deeds was now × InFile g first (makes_office task) deeds)
     ⊎ ((old : Held (FileStore D g)) × IsOpenedFrom g first (makes_office task) old × IsUnclosed g old task result was now))
 
 -- over `:memory:` the one, and else the other

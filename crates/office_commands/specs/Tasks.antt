@@ -5,6 +5,8 @@ use Rattle.std.specs.Io.KnownBytes.{Appends, IsAtEnd}
 use denote.Ref.{Bor}
 use Rattle.jiff.specs.Types.{Date}
 use Rattle.office_core.specs.Policies.{PolicyValue}
+use Rattle.desk_routes.specs.declared.refusal.DeskRefusal.TheVariants.{Truncated}
+use Rattle.desk_hearing.specs.Hearing.{Hears}
 use Rattle.desk_listening.specs.Listening.{Connection}
 use Rattle.desk_records.specs.Records.{BeginsWithNone}
 use Rattle.desk_records.specs.RecordLists.{AreRecords, RequestRecord, answer_texts, max_records, request_texts}
@@ -13,9 +15,13 @@ use Rattle.streams.specs.Writing.{IsCutShort}
 use Rattle.office_commands.specs.Deeds.{Deed, answers, deeds_of_connections, deeds_of_records, fails, installs}
 use Rattle.office_commands.specs.Texts.{IsFailure}
 use Rattle.office_commands.specs.Traffic.{Begins, Gives, Prints, Traffic}
+use Rattle.office_commands.specs.declared.fault.Cause.{Cause}
+use Rattle.office_commands.specs.declared.fault.Cause.TheVariants.{Input, Output}
 use Rattle.office_commands.specs.declared.fault.CommandFault.{CommandFault}
 use Rattle.office_commands.specs.declared.fault.CommandFault.TheVariants as faults
 use Rattle.office_commands.specs.declared.fault.CommandFault.TheVariants.{BadRecord, Failed}
+use Rattle.office_commands.specs.declared.fault.StoreFault.{StoreFault}
+use Rattle.office_commands.specs.declared.fault.StoreFault.TheVariants.{Device, Memory}
 use Rattle.office_commands.specs.declared.work.Work.{Work}
 use Rattle.office_commands.specs.declared.work.Work.TheVariants.{Ask, Policy, Replay, Serve}
 
@@ -64,13 +70,20 @@ whole_of (Some input) given = input
 abbrev pub IsAsked : Date → List ℕ → List Deed → Traffic → Traffic → Type 0
 IsAsked day text deeds was now = (given : List ℕ) × Gives given was now × (deeds ≡ answers day (whole_of was.input given) text ∷ [])
 
--- The text is written. Where that fails, nothing was done or written, or a beginning of the text was written.
-abbrev pub Asks : {T : Type 0} → Date → Result T CommandFault → List Deed → Traffic → Traffic → Type 0
-Asks day (Ok _) deeds was now = (text : List ℕ) × IsAsked day text deeds was now × Prints text was now
-Asks day (Err (Failed fault cause)) deeds was now =
-    ((deeds ≡ []) × Prints [] was now) ⊎ ((text : List ℕ) × IsAsked day text deeds was now × Begins text was now)
-Asks day (Err (BadRecord index)) deeds was now = ⊥
-Asks day (Err (faults.Policy refused)) deeds was now = ⊥
+-- Where the input fails, it gave no whole request, and nothing is done or written. Where the output fails, the request is answered and a beginning
+-- of the text is written. Where memory runs out, nothing is written.
+abbrev pub AsksInPart : Date → StoreFault → Option Cause → List Deed → Traffic → Traffic → Type 0
+AsksInPart day Device (Some Input) deeds was now = ((given : List ℕ) × Gives given was now × Hears given (Err Truncated)) × (deeds ≡ []) × Prints [] was now
+AsksInPart day Device (Some Output) deeds was now = (text : List ℕ) × IsAsked day text deeds was now × Begins text was now
+AsksInPart day Memory None deeds was now = ((deeds ≡ []) ⊎ ((text : List ℕ) × IsAsked day text deeds was now)) × Prints [] was now
+AsksInPart day fault cause deeds was now = ⊥
+
+-- the text is written, or a device or memory fails
+abbrev pub ComesOfAsk : {T : Type 0} → Date → Result T CommandFault → List Deed → Traffic → Traffic → Type 0
+ComesOfAsk day (Ok _) deeds was now = (text : List ℕ) × IsAsked day text deeds was now × Prints text was now
+ComesOfAsk day (Err (Failed fault cause)) deeds was now = AsksInPart day fault cause deeds was now
+ComesOfAsk day (Err (BadRecord index)) deeds was now = ⊥
+ComesOfAsk day (Err (faults.Policy refused)) deeds was now = ⊥
 
 -- ---- records of requests
 
@@ -82,32 +95,45 @@ pub record AreAsked (items : List RequestRecord) (texts : List (List ℕ)) (rest
   pub as_many : length texts ≡ length items
   pub done : deeds ≡ deeds_of_records items texts
 
--- The records of the answers are written; or all but the last one, of which there may be a beginning.
+-- the records of the answers are written; or all but the last one, and a beginning of that
+abbrev pub PrintsAllOrBegins : List (List ℕ) → Traffic → Traffic → Type 0
+PrintsAllOrBegins texts was now =
+    Prints (answer_texts texts) was now
+    ⊎ ((answered : ℕ) × (part : List ℕ) × (answered + 1 ≡ length texts) × IsBegun texts part × Prints (answer_texts (take answered texts) ++ part) was now)
+
+-- the records of the answers are written, or all but the last one
 abbrev pub PrintsAllOrBut : List (List ℕ) → Traffic → Traffic → Type 0
 PrintsAllOrBut texts was now =
-    (answered : ℕ) × (part : List ℕ) × Prints (answer_texts (take answered texts) ++ part) was now
-    × (((answered ≡ length texts) × (part ≡ [])) ⊎ ((answered + 1 ≡ length texts) × ((part ≡ []) ⊎ IsBegun texts part)))
+    (answered : ℕ) × ((answered ≡ length texts) ⊎ (answered + 1 ≡ length texts)) × Prints (answer_texts (take answered texts)) was now
+
+-- Where the input fails, each whole record that it gave is answered, and the answer written. Where the output fails, the last answer isn't handed on, or
+-- a beginning of it is written. Where memory runs out, the last answer may not be written.
+abbrev pub ReplaysInPart : StoreFault → Option Cause → List RequestRecord → List (List ℕ) → List ℕ → Traffic → Traffic → Type 0
+ReplaysInPart Device (Some Input) items texts rest was now = BeginsWithNone rest × Prints (answer_texts texts) was now
+ReplaysInPart Device (Some Output) items texts rest was now = PrintsAllOrBegins texts was now
+ReplaysInPart Memory None items texts rest was now = PrintsAllOrBut texts was now
+ReplaysInPart fault cause items texts rest was now = ⊥
 
 -- All that the input gives are records, to its end; or what follows them is none, and its number, from 1, is told. The records of the answers
 -- are written. Where a device or memory fails, that was so up to some record.
-abbrev pub Replays : {T : Type 0} → Result T CommandFault → List Deed → Traffic → Traffic → Type 0
-Replays (Ok _) deeds was now =
+abbrev pub ComesOfReplay : {T : Type 0} → Result T CommandFault → List Deed → Traffic → Traffic → Type 0
+ComesOfReplay (Ok _) deeds was now =
     (items : List RequestRecord) × (texts : List (List ℕ)) × AreAsked items texts [] deeds was now
     × IsAtEnd now.input × Prints (answer_texts texts) was now
-Replays (Err (BadRecord index)) deeds was now =
+ComesOfReplay (Err (BadRecord index)) deeds was now =
     (items : List RequestRecord) × (texts : List (List ℕ)) × (rest : List ℕ) × AreAsked items texts rest deeds was now
     × IsNoRecord now.input (length items) rest × (length items < max_records → BeginsWithNone rest)
     × (index ≡ length items + 1) × Prints (answer_texts texts) was now
-Replays (Err (Failed fault cause)) deeds was now =
+ComesOfReplay (Err (Failed fault cause)) deeds was now =
     (items : List RequestRecord) × (texts : List (List ℕ)) × (rest : List ℕ) × AreAsked items texts rest deeds was now
-    × PrintsAllOrBut texts was now
-Replays (Err (faults.Policy refused)) deeds was now = ⊥
+    × ReplaysInPart fault cause items texts rest was now
+ComesOfReplay (Err (faults.Policy refused)) deeds was now = ⊥
 
 -- the policy is installed first, where there is one; where that fails, nothing is read or written
 abbrev pub ReplaysAfter : {T : Type 0} → Option (Bor PolicyValue) → Result T CommandFault → List Deed → Traffic → Traffic → Type 0
-ReplaysAfter None result deeds was now = Replays result deeds was now
+ReplaysAfter None result deeds was now = ComesOfReplay result deeds was now
 ReplaysAfter (Some policy) result deeds was now =
-    ((more : List Deed) × (deeds ≡ installs policy.now ∷ more) × Replays result more was now)
+    ((more : List Deed) × (deeds ≡ installs policy.now ∷ more) × ComesOfReplay result more was now)
     ⊎ (HasFailed result × (deeds ≡ fails policy.now ∷ []) × (now ≡ was))
 
 -- ---- connections
@@ -136,10 +162,10 @@ Listens day told count result deeds held holds =
 -- ---- a task
 
 -- these deeds are done for the task as it ends so, with this traffic
-abbrev pub Does : {T : Type 0} → Task → Result T CommandFault → List Deed → Traffic → Traffic → Type 0
-Does (Policy policy) result deeds was now = IfErr result IsFailure × (deeds ≡ install_of result policy.now ∷ []) × (now ≡ was)
-Does (Ask day) result deeds was now = Asks day result deeds was now
-Does (Replay policy) result deeds was now = ReplaysAfter policy result deeds was now
-Does (Serve day port count) result deeds was now =
+abbrev pub ComesOfTask : {T : Type 0} → Task → Result T CommandFault → List Deed → Traffic → Traffic → Type 0
+ComesOfTask (Policy policy) result deeds was now = IfErr result IsFailure × (deeds ≡ install_of result policy.now ∷ []) × (now ≡ was)
+ComesOfTask (Ask day) result deeds was now = ComesOfAsk day result deeds was now
+ComesOfTask (Replay policy) result deeds was now = ReplaysAfter policy result deeds was now
+ComesOfTask (Serve day port count) result deeds was now =
     (now.input ≡ was.input) × IfErr result IsFailure
     × ((told : ℕ) × IsPortFor port told × Listens day told count result deeds was.output now.output)

@@ -1,6 +1,6 @@
--- What a command on a store comes to. `was` is the traffic before and `now` the traffic after; `alone` says that the store was left alone: it was
--- not opened, so that nothing in it is read or changed.
-use Rattle.std.specs.Prelude.{◌≡◌, ℕ, List, None, Some, Result, Ok, Err, IfOk, IsErrAnd, option_map, string_bytes}
+-- What a command on a store comes to. `was` is the traffic before and `now` the traffic after; `alone` says that the value that opens the store is still
+-- there, so that nothing was opened by it.
+use Rattle.std.specs.Prelude.{◌≡◌, ◌⊎◌, ℕ, List, Option, None, Some, IfSome, Result, Ok, Err, IfOk, IsErrAnd, option_map, string_bytes}
 use denote.Ref.{Bor}
 use Rattle.sqlite_disk.specs.declared.Disk.{Ghosts}
 use Rattle.sqlite.specs.Recovery.{Image}
@@ -25,15 +25,23 @@ IsQuiet done = (done.reason ≡ None) × (done.ending ≡ Accepted)
 
 -- ---- a policy's file comes first
 
--- It could not be read; or what was read is refused, and that comes to this; or it is the text of a policy, with which it goes on.
-pub data ComesOfPolicy (unread : Type 0) (IsRefused : RefusedPolicy → Type 0) (GoesOn : Bor PolicyValue → Type 0) : Type 0 where
-  unread_file : unread → ComesOfPolicy unread IsRefused GoesOn
-  refused_policy : (bytes : List ℕ) (refused : RefusedPolicy) → IsRefusedFor bytes refused → IsRefused refused → ComesOfPolicy unread IsRefused GoesOn
-  read_policy : (bytes : List ℕ) (policy : Bor PolicyValue) → Spells bytes policy.now → GoesOn policy → ComesOfPolicy unread IsRefused GoesOn
+-- these bytes are refused as a policy, and that comes to this; or they spell one, with which it goes on
+pub data ComesOfBytes (IsRefused : RefusedPolicy → Type 0) (GoesOn : Bor PolicyValue → Type 0) (bytes : List ℕ) : Type 0 where
+  refused_policy : (refused : RefusedPolicy) → IsRefusedFor bytes refused → IsRefused refused → ComesOfBytes IsRefused GoesOn bytes
+  read_policy : (policy : Bor PolicyValue) → Spells bytes policy.now → GoesOn policy → ComesOfBytes IsRefused GoesOn bytes
 
 -- nothing is read, written or opened
 abbrev pub IsUntouched : Type 0 → Traffic → Traffic → Type 0
 IsUntouched alone was now = alone × (now ≡ was)
+
+-- the file could not be read, and nothing else was tried
+abbrev pub IsUnreadFirst : Type 0 → Result Done CommandFault → Traffic → Traffic → Type 0
+IsUnreadFirst alone result was now = IsErrAnd result IsUnread × IsUntouched alone was now
+
+-- The file could not be read, or what it gave comes to this: all that it had, where that is known. So what is said of a policy that is refused is said
+-- whatever the store is.
+abbrev pub ComesOfFile : Option (List ℕ) → Type 0 → (List ℕ → Type 0) → Type 0
+ComesOfFile had unread ComesOf = unread ⊎ ((bytes : List ℕ) × IfSome had (λ all. bytes ≡ all) × ComesOf bytes)
 
 -- ---- an install
 
@@ -56,17 +64,23 @@ SaysInstalled policy (Err fault) (Ok _) was now = ⊥
 abbrev pub IsRefusedBefore : Type 0 → RefusedPolicy → Result Done CommandFault → Traffic → Traffic → Type 0
 IsRefusedBefore alone refused result was now = (result ≡ Err (faults.Policy refused)) × IsUntouched alone was now
 
--- What comes of the work on the store, whose files held this at first.
-abbrev pub Comes : {D : Type 0} → Ghosts D → Image → List ℕ → Work (Bor (List ℕ)) → Type 0 → Result Done CommandFault → Traffic → Traffic → Type 0
-Comes g first store (Policy path) alone result was now =
-    ComesOfPolicy (IsErrAnd result IsUnread × IsUntouched alone was now)
-    (λ refused. alone × SaysRefused refused result was now)
+-- what comes of an install where these are the bytes of the policy's file
+abbrev pub InstallsOf : {D : Type 0} → Ghosts D → Image → List ℕ → Type 0 → Result Done CommandFault → Traffic → Traffic → List ℕ → Type 0
+InstallsOf g first store alone result was now =
+    ComesOfBytes (λ refused. alone × SaysRefused refused result was now)
     (λ policy. (ran : Result Done CommandFault) × (mid : Traffic) × RunsOn g first store (Policy policy) ran was mid × SaysInstalled policy.now ran result mid now)
-Comes g first store (Ask day) alone result was now = IfOk result IsQuiet × RunsOn g first store (Ask day) result was now
-Comes g first store (Replay None) alone result was now = IfOk result IsQuiet × RunsOn g first store (Replay None) result was now
-Comes g first store (Replay (Some path)) alone result was now =
-    IfOk result IsQuiet
-    × ComesOfPolicy (IsErrAnd result IsUnread × IsUntouched alone was now)
-    (λ refused. IsRefusedBefore alone refused result was now)
-    (λ policy. RunsOn g first store (Replay (Some policy)) result was now)
-Comes g first store (Serve day port count) alone result was now = IfOk result IsQuiet × RunsOn g first store (Serve day port count) result was now
+
+-- and of a replay under that policy
+abbrev pub ReplaysOf : {D : Type 0} → Ghosts D → Image → List ℕ → Type 0 → Result Done CommandFault → Traffic → Traffic → List ℕ → Type 0
+ReplaysOf g first store alone result was now =
+    ComesOfBytes (λ refused. IsRefusedBefore alone refused result was now) (λ policy. RunsOn g first store (Replay (Some policy)) result was now)
+
+-- What comes of the work on the store, whose files held this at first. Of a file that is named it isn't known what it had.
+abbrev pub ComesOfWork : {D : Type 0} → Ghosts D → Image → List ℕ → Work (Bor (List ℕ)) → Type 0 → Result Done CommandFault → Traffic → Traffic → Type 0
+ComesOfWork g first store (Policy path) alone result was now =
+    ComesOfFile None (IsUnreadFirst alone result was now) (InstallsOf g first store alone result was now)
+ComesOfWork g first store (Ask day) alone result was now = IfOk result IsQuiet × RunsOn g first store (Ask day) result was now
+ComesOfWork g first store (Replay None) alone result was now = IfOk result IsQuiet × RunsOn g first store (Replay None) result was now
+ComesOfWork g first store (Replay (Some path)) alone result was now =
+    IfOk result IsQuiet × ComesOfFile None (IsUnreadFirst alone result was now) (ReplaysOf g first store alone result was now)
+ComesOfWork g first store (Serve day port count) alone result was now = IfOk result IsQuiet × RunsOn g first store (Serve day port count) result was now

@@ -16,6 +16,6 @@ mod working;
 
 pub use done::Done;
 pub use fault::{Cause, CommandFault, StoreFault};
-pub use laws::{answers_are_runs, deeds_lead_on};
+pub use laws::{answers_are_runs, deeds_lead_on, files_lead_on, memory_leads_on};
 pub use running::perform;
 pub use work::Work;

@@ -1,6 +1,6 @@
 //! The policy's file.
 
-ghost use Rattle.std.specs.Prelude.{◌≡◌, ℕ, IfErr, IfOk, List, None, Some};
+ghost use Rattle.std.specs.Prelude.{◌≡◌, ℕ, IfErr, IfOk, IfSome, List, None, Some};
 ghost use Rattle.commands.specs.PolicyFiles.{IsRead};
 ghost use Rattle.commands.specs.declared.trouble.Trouble.TheVariants as troubles;
 ghost use Rattle.office_commands.specs.Policies.{IsUnread};
@@ -8,7 +8,9 @@ ghost use Rattle.office_commands.specs.Policies.{IsUnread};
 use crate::fault::{Cause, CommandFault, StoreFault, failed_by};
 use commands::{RefusedPolicy, Trouble, read_policy_from};
 use office_core::Policy;
+use std::alloc::Global;
 use std::fs;
+use std::io::Read;
 use std::rt::Files;
 
 /// A file that could not be read.
@@ -21,19 +23,26 @@ fn unread(trouble: Trouble) -> CommandFault
     }
 }
 
+/// Opens the file.
+pub fn open_policy<F: Files>(rt: &F, path: &str) -> Result<F::File, CommandFault>
+    ensures { IfErr result IsUnread }
+{
+    match fs::open(rt, path) {
+        Ok(file) => Ok(file),
+        Err(error) => Err(unread(Trouble::from(error))),
+    }
+}
+
 /// The policy in the file, or why it is refused.
-pub fn policy_in_file<F: Files + AllocGlobal>(
-    rt: &F,
-    path: &str,
+pub fn policy_from<P: Read>(
+    alloc: Global,
+    file: &mut P,
 ) -> Result<Result<Policy, RefusedPolicy>, CommandFault>
-    ensures read { IfOk result (λ read. (bytes : List ℕ) × IsRead bytes read) }
+    ensures read { IfOk result (λ read. (bytes : List ℕ)
+        × IfSome (P.remaining file.old) (λ all. bytes ≡ all) × IsRead bytes read) }
     ensures unread { IfErr result IsUnread }
 {
-    let mut file = match fs::open(rt, path) {
-        Ok(file) => file,
-        Err(error) => return Err(unread(Trouble::from(error))),
-    };
-    match read_policy_from(rt.alloc(), &mut file) {
+    match read_policy_from(alloc, file) {
         Ok(read) => Ok(read),
         Err(trouble) => Err(unread(trouble)),
     }

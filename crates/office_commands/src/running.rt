@@ -11,12 +11,12 @@ ghost use Rattle.office_commands.specs.Policies.{installed_text};
 ghost use Rattle.office_commands.specs.Tasks.{reads_input};
 ghost use Rattle.office_commands.specs.Texts.{IsUnsaid};
 ghost use Rattle.office_commands.specs.Traffic.{traffic_of};
-ghost use Rattle.office_commands.specs.Works.{Comes, IsQuiet};
+ghost use Rattle.office_commands.specs.Works.{ComesOfFile, ComesOfWork, InstallsOf, IsQuiet, IsUnreadFirst, ReplaysOf};
 ghost use Rattle.office_commands.specs.declared.work.Work.TheVariants as works;
 
 use crate::done::Done;
 use crate::fault::{CommandFault, StoreFault};
-use crate::policy_file::policy_in_file;
+use crate::policy_file::{open_policy, policy_from};
 use crate::printing::{installed_line, print};
 use crate::stores::in_store;
 use crate::work::Work;
@@ -70,21 +70,22 @@ fn say_refused<O: Write>(
     }
 }
 
-/// `policy STORE POLICY`: installs the policy, and then says so. The policy is read before that; one that
-/// is refused leaves the store alone.
-fn install_in<S: Start, R: Read, O: Write>(
+/// Installs the policy that the file gives, and then says so. One that is refused leaves the store alone.
+fn install_from<S: Start, P: Read, R: Read, O: Write>(
     rt: &HostRuntime,
     start: &mut Option<S>,
     store: &str,
-    path: &str,
+    file: &mut P,
     input: &mut Counted<R>,
     out: &mut Counted<O>,
 ) -> Result<Done, CommandFault>
-    ensures comes { Comes ⟦<FileFrom<S> as Disk>⟧ (image_at S.Start) store.now (works.Policy path.entry) (start.new ≡ start.old) result
-        (traffic_of R.Read O.Write input.old out.old) (traffic_of R.Read O.Write input.new out.new) }
+    ensures comes { ComesOfFile (P.remaining file.old)
+        (IsUnreadFirst (start.new ≡ start.old) result (traffic_of R.Read O.Write input.old out.old) (traffic_of R.Read O.Write input.new out.new))
+        (InstallsOf ⟦<FileFrom<S> as Disk>⟧ (image_at S.Start) store.now (start.new ≡ start.old) result
+        (traffic_of R.Read O.Write input.old out.old) (traffic_of R.Read O.Write input.new out.new)) }
     ensures left { input.new ≡ input.old }
 {
-    let policy = match policy_in_file(rt, path) {
+    let policy = match policy_from(rt.alloc(), file) {
         Ok(Ok(policy)) => policy,
         Ok(Err(refused)) => return say_refused(rt.alloc(), refused, out),
         Err(fault) => return Err(fault),
@@ -96,8 +97,53 @@ fn install_in<S: Start, R: Read, O: Write>(
     }
 }
 
+/// `policy STORE POLICY`: installs the policy, and then says so. The policy is read before that.
+fn install_in<S: Start, R: Read, O: Write>(
+    rt: &HostRuntime,
+    start: &mut Option<S>,
+    store: &str,
+    path: &str,
+    input: &mut Counted<R>,
+    out: &mut Counted<O>,
+) -> Result<Done, CommandFault>
+    ensures comes { ComesOfWork ⟦<FileFrom<S> as Disk>⟧ (image_at S.Start) store.now (works.Policy path.entry) (start.new ≡ start.old) result
+        (traffic_of R.Read O.Write input.old out.old) (traffic_of R.Read O.Write input.new out.new) }
+    ensures left { input.new ≡ input.old }
+{
+    match open_policy(rt, path) {
+        Ok(mut file) => install_from(rt, start, store, &mut file, input, out),
+        Err(fault) => Err(fault),
+    }
+}
+
+/// Installs the policy that the file gives, and answers the records that the input gives. A policy that is
+/// refused leaves the store and the input alone.
+fn replay_from<S: Start, P: Read, R: Read, O: Write>(
+    rt: &HostRuntime,
+    start: &mut Option<S>,
+    store: &str,
+    file: &mut P,
+    input: &mut Counted<R>,
+    out: &mut Counted<O>,
+) -> Result<Done, CommandFault>
+    ensures comes { ComesOfFile (P.remaining file.old)
+        (IsUnreadFirst (start.new ≡ start.old) result (traffic_of R.Read O.Write input.old out.old) (traffic_of R.Read O.Write input.new out.new))
+        (ReplaysOf ⟦<FileFrom<S> as Disk>⟧ (image_at S.Start) store.now (start.new ≡ start.old) result
+        (traffic_of R.Read O.Write input.old out.old) (traffic_of R.Read O.Write input.new out.new)) }
+    ensures quiet { IfOk result IsQuiet }
+{
+    match policy_from(rt.alloc(), file) {
+        Ok(Ok(policy)) => {
+            let policy = Some(&policy);
+            in_store(rt, start, store, &Work::Replay { policy }, input, out)
+        }
+        Ok(Err(refused)) => Err(CommandFault::Policy(refused)),
+        Err(fault) => Err(fault),
+    }
+}
+
 /// `replay --policy POLICY STORE`: installs the policy, and answers the records that the input gives. The
-/// policy is read before that; one that is refused leaves the store and the input alone.
+/// policy is read before that.
 fn replay_under<S: Start, R: Read, O: Write>(
     rt: &HostRuntime,
     start: &mut Option<S>,
@@ -106,15 +152,11 @@ fn replay_under<S: Start, R: Read, O: Write>(
     input: &mut Counted<R>,
     out: &mut Counted<O>,
 ) -> Result<Done, CommandFault>
-    ensures comes { Comes ⟦<FileFrom<S> as Disk>⟧ (image_at S.Start) store.now (works.Replay (Some path.entry)) (start.new ≡ start.old) result
+    ensures comes { ComesOfWork ⟦<FileFrom<S> as Disk>⟧ (image_at S.Start) store.now (works.Replay (Some path.entry)) (start.new ≡ start.old) result
         (traffic_of R.Read O.Write input.old out.old) (traffic_of R.Read O.Write input.new out.new) }
 {
-    match policy_in_file(rt, path) {
-        Ok(Ok(policy)) => {
-            let policy = Some(&policy);
-            in_store(rt, start, store, &Work::Replay { policy }, input, out)
-        }
-        Ok(Err(refused)) => Err(CommandFault::Policy(refused)),
+    match open_policy(rt, path) {
+        Ok(mut file) => replay_from(rt, start, store, &mut file, input, out),
         Err(fault) => Err(fault),
     }
 }
@@ -129,7 +171,7 @@ fn replay_in<S: Start, R: Read, O: Write>(
     input: &mut Counted<R>,
     out: &mut Counted<O>,
 ) -> Result<Done, CommandFault>
-    ensures comes { Comes ⟦<FileFrom<S> as Disk>⟧ (image_at S.Start) store.now (works.Replay policy.entry) (start.new ≡ start.old) result
+    ensures comes { ComesOfWork ⟦<FileFrom<S> as Disk>⟧ (image_at S.Start) store.now (works.Replay policy.entry) (start.new ≡ start.old) result
         (traffic_of R.Read O.Write input.old out.old) (traffic_of R.Read O.Write input.new out.new) }
 {
     match policy {
@@ -151,7 +193,7 @@ pub fn perform<S: Start, R: Read, O: Write>(
     input: &mut Counted<R>,
     out: &mut Counted<O>,
 ) -> Result<Done, CommandFault>
-    ensures comes { Comes ⟦<FileFrom<S> as Disk>⟧ (image_at S.Start) store.now work.now (start.new ≡ start.old) result
+    ensures comes { ComesOfWork ⟦<FileFrom<S> as Disk>⟧ (image_at S.Start) store.now work.now (start.new ≡ start.old) result
         (traffic_of R.Read O.Write input.old out.old) (traffic_of R.Read O.Write input.new out.new) }
     ensures left { reads_input work.now ≡ false → input.new ≡ input.old }
 {

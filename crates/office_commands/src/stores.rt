@@ -14,7 +14,7 @@ ghost use Rattle.office_tables.specs.Opening.{has_office};
 ghost use Rattle.office_tables.specs.Schema.{no_schema};
 ghost use Rattle.office_history.specs.Histories.{History};
 ghost use Rattle.office_engine.specs.Keeping.{IsKeptBy, IsLeftOf};
-ghost use Rattle.office_commands.specs.Stores.{IsOpenedFrom, RunsAndCloses, RunsInFile, RunsInMemory, RunsOn};
+ghost use Rattle.office_commands.specs.Stores.{IsOpenedFrom, RunsAndCloses, RunsInFile, RunsInMemory, RunsOn, made_office};
 ghost use Rattle.office_commands.specs.Tasks.{reads_input};
 ghost use Rattle.office_commands.specs.Texts.{IsFailure, found_nothing, is_of_nothing, search_failure, store_failure};
 ghost use Rattle.office_commands.specs.Traffic.{traffic_of};
@@ -153,6 +153,7 @@ fn open_store<S: Start>(
 fn make_office<S: Alter + Drop>(conn: Connection<S>) -> Result<Office<S>, CommandFault>
     requires outside { (state S.Store conn).in_transaction ≡ false }
     ensures clean { IfOk result (λ office. HasCleanDisk (state S.Store office) → HasCleanDisk (state S.Store conn)) }
+    ensures made { IfOk result (λ office. HasCleanDisk (state S.Store office) → IsKeptBy made_office (state S.Store office)) }
     ensures not_empty { (state S.Store conn).now.schema ≢ no_schema → IsErr result }
     ensures failure { IfErr result IsFailure }
     ensures not_missing { IfErr result (λ fault. found_nothing fault ≡ false) }

@@ -2,7 +2,7 @@
 
 ghost use Rattle.std.specs.Prelude.{◌≡◌, IfOk, List, false};
 ghost use Rattle.office_commands.specs.Deeds.{AreDone, Deed};
-ghost use Rattle.office_commands.specs.Tasks.{Does, reads_input};
+ghost use Rattle.office_commands.specs.Tasks.{ComesOfTask, reads_input};
 ghost use Rattle.office_commands.specs.Traffic.{traffic_of};
 ghost use Rattle.office_commands.specs.Works.{IsQuiet};
 
@@ -29,7 +29,7 @@ pub fn do_task<S: Alter, R: Read, O: Write>(
     input: &mut Counted<R>,
     out: &mut Counted<O>,
 ) -> Result<Done, CommandFault>
-    ensures does { (deeds : List Deed) × Does task.now result deeds
+    ensures does { (deeds : List Deed) × ComesOfTask task.now result deeds
         (traffic_of R.Read O.Write input.old out.old) (traffic_of R.Read O.Write input.new out.new)
         × AreDone S.Store deeds office.old office.new }
     ensures left { reads_input task.now ≡ false → input.new ≡ input.old }

@@ -2,7 +2,7 @@
 
 ghost use Rattle.std.specs.Prelude.{◌≡◌, ◌∷◌, [], IfErr, IfOk, List, false};
 ghost use Rattle.office_commands.specs.Deeds.{AreDone, Deed};
-ghost use Rattle.office_commands.specs.Tasks.{Asks, Replays, ReplaysAfter, install_of};
+ghost use Rattle.office_commands.specs.Tasks.{ComesOfAsk, ComesOfReplay, ReplaysAfter, install_of};
 ghost use Rattle.office_commands.specs.Texts.{IsFailure, desk_failure, found_nothing, replay_failure, table_failure};
 ghost use Rattle.office_commands.specs.Traffic.{traffic_of};
 ghost use Rattle.office_commands.specs.Works.{IsQuiet};
@@ -68,7 +68,7 @@ pub fn ask_office<S: Alter, R: Read, O: Write>(
     input: &mut Counted<R>,
     out: &mut Counted<O>,
 ) -> Result<Done, CommandFault>
-    ensures asks { (deeds : List Deed) × Asks day result deeds
+    ensures asks { (deeds : List Deed) × ComesOfAsk day result deeds
         (traffic_of R.Read O.Write input.old out.old) (traffic_of R.Read O.Write input.new out.new)
         × AreDone S.Store deeds office.old office.new }
     ensures quiet { IfOk result IsQuiet }
@@ -98,7 +98,7 @@ fn replay_office<S: Alter, R: Read, O: Write>(
     input: &mut Counted<R>,
     out: &mut Counted<O>,
 ) -> Result<Done, CommandFault>
-    ensures replays { (deeds : List Deed) × Replays result deeds
+    ensures replays { (deeds : List Deed) × ComesOfReplay result deeds
         (traffic_of R.Read O.Write input.old out.old) (traffic_of R.Read O.Write input.new out.new)
         × AreDone S.Store deeds office.old office.new }
     ensures quiet { IfOk result IsQuiet }

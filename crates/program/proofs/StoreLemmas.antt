@@ -5,7 +5,7 @@ use Rattle.sqlite.specs.Recovery.{Image}
 use Rattle.sqlite_disk.specs.declared.Disk.{Ghosts}
 use Rattle.commands.specs.Printing.{IsAnswer}
 use Rattle.office_commands.specs.Traffic.{Traffic}
-use Rattle.office_commands.specs.Works.{Comes, SaysInstalled, read_policy, refused_policy, unread_file}
+use Rattle.office_commands.specs.Works.{ComesOfWork, SaysInstalled, read_policy, refused_policy}
 use Rattle.office_commands.specs.declared.done.Done.{Done}
 use Rattle.office_commands.specs.declared.fault.CommandFault.{CommandFault}
 use Rattle.office_commands.specs.declared.work.Work.{Work}
@@ -17,11 +17,11 @@ installed_answered policy (Ok _) done was now says = inl says.0.1
 installed_answered policy (Err fault) done was now says = absurd says
 
 pub store_answered : {D : Type 0} (g : Ghosts D) (first : Image) (store : List ℕ) (work : Work (Bor (List ℕ))) (alone : Type 0) (result : Result Done CommandFault) (was now : Traffic)
-    → Comes g first store work alone result was now → IfOk result (λ done. IsAnswer done.ending)
+    → ComesOfWork g first store work alone result was now → IfOk result (λ done. IsAnswer done.ending)
 store_answered g first store work alone (Err fault) was now comes = tt
-store_answered g first store (Policy path) alone (Ok done) was now (unread_file unread) = absurd unread.0
-store_answered g first store (Policy path) alone (Ok done) was now (refused_policy bytes refused is says) = inr says.1.1
-store_answered g first store (Policy path) alone (Ok done) was now (read_policy bytes policy spells ran) = installed_answered policy.now ran.0 done ran.1 now ran.3
+store_answered g first store (Policy path) alone (Ok done) was now (inl unread) = absurd unread.0
+store_answered g first store (Policy path) alone (Ok done) was now (inr (bytes, known, refused_policy refused is says)) = inr says.1.1
+store_answered g first store (Policy path) alone (Ok done) was now (inr (bytes, known, read_policy policy spells ran)) = installed_answered policy.now ran.0 done ran.1 now ran.3
 store_answered g first store (Ask day) alone (Ok done) was now comes = inl comes.0.1
 store_answered g first store (Replay None) alone (Ok done) was now comes = inl comes.0.1
 store_answered g first store (Replay (Some path)) alone (Ok done) was now comes = inl comes.0.1

@@ -11,7 +11,7 @@ use Rattle.command_line.specs.declared.line.Line.{Line}
 use Rattle.command_line.specs.declared.line.Line.TheVariants.{Check, Explain, Pack, Unpack, Policy, Ask, Replay, Serve}
 use Rattle.office_commands.specs.Traffic.{Traffic}
 use Rattle.office_commands.specs.Tasks.{reads_input as work_reads_input}
-use Rattle.office_commands.specs.Works.{Comes as ComesOnStore}
+use Rattle.office_commands.specs.Works.{ComesOfWork}
 use Rattle.office_commands.specs.declared.done.Done.{Done}
 use Rattle.office_commands.specs.declared.fault.CommandFault.{CommandFault}
 use Rattle.office_commands.specs.declared.work.Work.{Work}
@@ -34,7 +34,7 @@ CommandOn = List ℕ → FileWork → Result Done CommandFault → Traffic → T
 
 -- where its files held this at first
 abbrev pub on_store : {D : Type 0} → Ghosts D → Image → Type 0 → CommandOn
-on_store g first alone = λ store work. ComesOnStore g first store work alone
+on_store g first alone = λ store work. ComesOfWork g first store work alone
 
 -- a command on a store ended so
 abbrev pub IsOfStore : (Result Done CommandFault → Type 0) → Result Done Stopped → Type 0
