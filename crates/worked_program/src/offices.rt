@@ -39,17 +39,22 @@ static NOTHING_MADE: [&str; 16] = [
 ];
 
 /// An office that `policy` makes, run after run.
-static MADE: [&str; 7] = [
+static MADE: [&str; 4] = [
     "policy,o/office.db,o/policy.toml||Accepted|~installed~|",
     "replay,o/office.db|~records~|Accepted|~answers~|",
     "ask,o/office.db,2024-03-02|~maps~|Accepted|~maps made~|",
     // What comes before a record that is none is answered.
     "replay,o/office.db|~torn records~|Refused|~one answer~|record 2\ndepot: record 2 of the input is malformed\n",
-    // A policy that is refused leaves the one that stands.
+];
+
+/// Policies that are refused.
+static REFUSED: [&str; 2] = [
     "policy,o/office.db,o/other.toml||Refused|policy Y2\n|~Y2~",
     "replay,--policy,o/other.toml,o/office.db|~records~|Refused||policy Y2\n~Y2~depot: o/other.toml is no policy\n",
-    "replay,o/office.db||Accepted||",
 ];
+
+/// What the policy that stands allows.
+static ALLOWED: &str = "ask,o/office.db,2024-03-02|~maps~|Accepted|~maps made~|";
 
 /// A request whose last byte does not come, as the input fails.
 static INPUT_FAILS: &str =
@@ -96,6 +101,16 @@ fn run_at_taken_port(rt: &HostRuntime) -> Result<(), Fail> {
     run_one(rt, text.as_str())
 }
 
+/// A policy that is refused leaves the office as it was, and the one that stands.
+fn refuse_policies(rt: &HostRuntime) -> Result<(), Fail> {
+    let office = fs::read(rt, "o/office.db")?;
+    run_all(rt, &REFUSED)?;
+    if fs::read(rt, "o/office.db")?.as_slice() != office.as_slice() {
+        return Err("the office is written".into());
+    }
+    run_one(rt, ALLOWED)
+}
+
 #[test]
 fn offices_in_files_and_in_memory(rt: HostRuntime) -> Result<(), Fail> {
     begin(&rt, "o", &FILES)?;
@@ -103,6 +118,7 @@ fn offices_in_files_and_in_memory(rt: HostRuntime) -> Result<(), Fail> {
     assert!(rt; !fs::exists(&rt, "o/office.db")?);
     assert!(rt; !fs::exists(&rt, "o/none")?);
     run_all(&rt, &MADE)?;
+    refuse_policies(&rt)?;
     let given = Given::new(b"");
     run_with(&rt, INPUT_FAILS, &Given { gives: 53, ..given })?;
     let mute = Given {

@@ -1,6 +1,7 @@
 //! Questions to small policies, and texts that are none, with what `explain` says of each.
 
 use crate::rows::{prints, words_of};
+use crate::runs::run_all;
 use std::alloc::Global;
 use std::fs;
 use std::test::*;
@@ -85,12 +86,19 @@ fn long_policy(alloc: Global) -> Result<Vec<u8>, Fail> {
     Ok(long)
 }
 
+/// The commands that install it.
+static INSTALLS: [&str; 2] = [
+    "policy,:memory:,-||Accepted|~installed~|",
+    "replay,--policy=-,:memory:|~records~|Accepted|~answers~|",
+];
+
 #[test]
 fn a_policy_is_read_whole(rt: HostRuntime) -> Result<(), Fail> {
     // In a file that is named as standard input is elsewhere.
     fs::write(&rt, "-", long_policy(rt.alloc())?.as_slice())?;
     let words = ["explain", "-", "carl", "list", "tax", "y10"];
     assert!(rt; prints(&rt, words.as_slice(), b"", r"allow rule 3\n")?);
+    run_all(&rt, &INSTALLS)?;
     fs::remove_file(&rt, "-")?;
     Ok(())
 }

@@ -46,6 +46,12 @@ static COMMANDS: [&str; 5] = [
     "serve,--port,0,--count,1,STORE,2024-03-02||Failed||",
 ];
 
+/// A policy that is refused comes first, whatever the store is.
+static REFUSED: [&str; 2] = [
+    "policy,STORE,s/other.toml||Refused|policy Y2\n|~Y2~",
+    "replay,--policy,s/other.toml,STORE|~records~|Refused||policy Y2\n~Y2~depot: s/other.toml is no policy\n",
+];
+
 static STORES: [Store; 13] = [
     Store {
         path: "s/empty.db",
@@ -180,6 +186,9 @@ fn refuse(rt: &HostRuntime, path: &str, told: &str) -> Result<(), Fail> {
         let text = format!(in rt.alloc(); "{command}{told}")?.replace(rt.alloc(), "STORE", path)?;
         run_one(rt, text.as_str())?;
     }
+    for text in &REFUSED {
+        run_one(rt, text.replace(rt.alloc(), "STORE", path)?.as_str())?;
+    }
     Ok(())
 }
 
@@ -227,7 +236,14 @@ fn take_closed(
 
 /// The bytes of a new office.
 fn new_office(rt: &HostRuntime) -> Result<Vec<u8>, Fail> {
-    begin(rt, "s", &[("s/policy.toml", "~policy~")])?;
+    begin(
+        rt,
+        "s",
+        &[
+            ("s/policy.toml", "~policy~"),
+            ("s/other.toml", "version = 3\n"),
+        ],
+    )?;
     run_all(
         rt,
         &["policy,s/office.db,s/policy.toml||Accepted|~installed~|"],
