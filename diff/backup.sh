@@ -63,7 +63,7 @@ deposit() {
 # In a new folder, a new office that serves so many connections, and three deposits that it has answered.
 begin() {
     rm -rf "${room:?}"/*
-    mkdir "$room/backup" "$room/copy"
+    mkdir "$room/copy"
     cd "$room"
     ln -s "$program" depot
     ./depot policy office.db "$top/examples/policy.toml" >said
@@ -79,7 +79,7 @@ begin() {
 asks() {
     local status=0
     printf 'GET %s HTTP/1.1\r\nDepot-Caller: anna\r\n\r\n' "$2" | timeout 60 ./depot ask "$1" "$day" >answer 2>why || status=$?
-    echo "$(head -n 1 why)$(body <answer); $status"
+    echo "$(paste -sd' ' why)$(body <answer); $status"
 }
 
 # What follows the head of an answer.
@@ -128,7 +128,7 @@ compare "it goes on, and is killed" '{"deposits":[1,2,3,4]}; 0' "$(deposits_of o
 
 # An office that runs, or has ended already.
 begin 1000000
-compare "the log of an office that runs is to be folded in" 'store Q4; 3' "$(asks office.db /due)"
+compare "the log of an office that runs is to be folded in" 'store Q4 depot: cannot open office.db: database is locked; 3' "$(asks office.db /due)"
 kill_office
 follow 1
 has_three "the page's copy of an office that had ended" backup/2024-03-02.db
@@ -154,7 +154,8 @@ has_three "the file and its log, while the office rests" copy/office.db
 cp office.db copy/office.db
 for number in 4 5 6 7; do deposit "$number" "$large"; done
 cp office.db-wal copy/office.db-wal
-compare "the file, and later its log" 'store Q4; 3' "$(deposits_of copy/office.db)"
+compare "the file, and later its log" 'store Q4 depot: cannot open copy/office.db: database disk image is malformed; 3' \
+    "$(deposits_of copy/office.db)"
 kill_office
 begin 1000000
 cp office.db-wal copy/office.db-wal
@@ -172,15 +173,16 @@ has_three "the file alone, after the last connection" copy/office.db
 # A backup that is put beside a later log: the log counts, or the two don't fit.
 begin 3
 ended "$office"
-cp office.db backup/office.db
+cp office.db older.db
 serve 1000000
 deposit 4
 kill_office
-cp backup/office.db office.db
+cp older.db office.db
 compare "a backup beside a later log" '{"deposits":[1,2,3,4]}; 0' "$(deposits_of office.db)"
 serve 1000000
 for number in 5 6 7 8; do deposit "$number" "$large"; done
 kill_office
-cp backup/office.db office.db
-compare "a backup beside a log of after a copy into the file" 'store Q4; 3' "$(deposits_of office.db)"
+cp older.db office.db
+compare "a backup beside a log of after a copy into the file" 'store Q4 depot: cannot open office.db: database disk image is malformed; 3' \
+    "$(deposits_of office.db)"
 echo "backup: $cases cases: the commands of docs/OPERATING.md, word for word, keep three deposits, and what each other copy gives is as the page says"
