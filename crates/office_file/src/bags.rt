@@ -1,7 +1,7 @@
 //! The cases of bags, and of what the program says of them.
 
+use crate::groups::{run_calls, say};
 use crate::lines;
-use office_trials::{run_calls, say};
 use std::io;
 use worked_bags::{
     CHECKSUM, COUNTED, DENIED_EVERYTHING, LISTED_IN_ONE, PERCENT_SIGN_0_97, PRINTED_NAME, SMALL,

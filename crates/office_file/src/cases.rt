@@ -4,7 +4,7 @@
 //! other.
 
 use crate::bags::bags;
-use office_trials::{run_office, run_plain_office, run_tables};
+use crate::groups::{run_office, run_plain_office, run_tables};
 use std::io::{self, Read};
 
 /// A group of cases.

@@ -1,8 +1,8 @@
 //! Cases of the program: what it prints and how it ends.
 
+use crate::outcome::Outcome;
 use commands::Ending;
 use desk_devices::Counted;
-use office_trials::Outcome;
 use program::{Streams, run};
 use sqlite::Unknown;
 use std::alloc::AllocError;

@@ -4,13 +4,29 @@
 #![tactic(auto)]
 
 mod bags;
+mod calls;
 mod cases;
+mod changes;
+mod comparing;
+mod drawing;
+mod groups;
+mod input;
 mod lines;
+mod office;
+mod offices;
+mod outcome;
 mod replaying;
+mod requests;
+mod tables;
+mod tasks;
+mod texts;
+mod timed;
 
 use anyhow::{Context, Result, bail};
-use office_trials::{Input, Report, Task, compare_in_memory};
+use comparing::compare_in_memory;
+use input::Input;
 use std::env::{Env, FillError};
+use tasks::{Report, Task};
 
 const USAGE: &str =
     "words: none, all POLICY, hear, read-all, write FILE, make FILE, draw COUNT SEED, or FILE and COUNT behind one of deposits, read, live, last, ask-deposits, ask-records, ask-disposals, ask-bags, ask-lists and ask-due";
