@@ -71,11 +71,6 @@ number_day d h = (
       (λ ge. omega (arith, signed_arith, ge)),
 )
 
--- 1 January 1970 has the number 0
-pub epoch_day-epoch : (d : Date) → d.year ≡ pos 1970 → d.month ≡ 1 → d.day ≡ 1 → epoch_day d ≡ pos 0
-unfolding days_from_civil
-epoch_day-epoch d year month day = rw (year, month, day) (omega (arith, signed_arith))
-
 -- a number that two digits write is written by them
 digits-number : (a b n : ℕ) → number_of a b ≡ Some n → (a ≡ 48 + n / 10) × (b ≡ 48 + n % 10)
 unfolding number_of

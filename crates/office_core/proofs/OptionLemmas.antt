@@ -15,11 +15,6 @@ pub some_and_ok : {A E : Type 0} (P : A → Type 0) (o : Option A) (r : Result A
 some_and_ok P o (Ok x) e h p = rw e p
 some_and_ok P o (Err x) e h p = absurd (false≢true h)
 
--- a value that is there, with a fact of it
-pub some_and : {A : Type 0} (P Q : A → Type 0) (o : Option A) → IsSome o → IfSome o P → ((x : A) → P x → Q x) → IsSomeAnd o Q
-some_and P Q (Some x) h p f = f x p
-some_and P Q None h p f = absurd (false≢true h)
-
 pub some_if : {A : Type 0} (b : Bool) (o : Option A) (x : A) → (if b then o else None) ≡ Some x → (b ≡ true) × (o ≡ Some x)
 some_if true o x e = (refl, e)
 some_if false o x e = cc

@@ -6,7 +6,8 @@ ghost use Rattle.jiff.specs.Words.{epoch_day, IsDate, IsYmd};
 ghost use Rattle.office_core.specs.Days.{IsDay, IsDayNumber, day_text};
 ghost use Rattle.office_core.specs.DayReading.{number_of, parts_of};
 
-use jiff::{ToSpan, civil};
+use crate::date::Date;
+use jiff_core::civil;
 use std::fmt;
 use std::marker::Model;
 
@@ -23,9 +24,9 @@ const FIRST_NUMBER: i32 = -25_567;
 const LAST_NUMBER: i32 = 2_859_848;
 
 /// A day of the civil calendar, from 1900-01-01 to 9799-12-31.
-#[derive(Clone, Copy, Debug, PartialEq, Eq, PartialOrd, Ord)]
+#[derive(Clone, Copy, PartialEq, Eq, PartialOrd, Ord)]
 pub struct Day {
-    date: civil::Date,
+    date: Date,
 }
 
 impl Model for Day {
@@ -46,10 +47,12 @@ fn of_date(date: civil::Date) -> Option<Day>
     ensures value { IfSome result (λ day. IsDay day × (day ≡ date)) }
     ensures only { IsDay date → result ≡ Some date }
 {
-    if date.year() < FIRST_YEAR || date.year() > LAST_YEAR {
+    if date.year < FIRST_YEAR || date.year > LAST_YEAR {
         return None;
     }
-    Some(Day { date })
+    Some(Day {
+        date: Date::of_plain(date),
+    })
 }
 
 #[tactic(auto, unfolding(crate::specs::DayReading::number_of))]
@@ -116,19 +119,12 @@ fn date_of(century: u8, year: u8, month: u8, day: u8) -> Option<civil::Date>
     civil_date(year_of(century, year), signed_byte(month), signed_byte(day))
 }
 
-/// 1970-01-01, whose number is 0.
-fn epoch() -> Option<civil::Date>
-    ensures { IsSomeAnd result (λ date. epoch_day date ≡ pos 0) }
-{
-    civil_date(1970, 1, 1)
-}
-
 /// The calendar's date with that number.
 fn date_at(number: i32) -> Option<civil::Date>
     requires { IsDayNumber number }
     ensures { IsSomeAnd result (λ date. epoch_day date ≡ number) }
 {
-    epoch()?.checked_add((number as i64).days()).ok()
+    civil::Date::from_unix_epoch_day(number as i64).ok()
 }
 
 impl Day {
@@ -157,11 +153,19 @@ impl Day {
         ensures value { result ≡ epoch_day self }
         ensures range { IsDayNumber result }
     {
-        self.date.to_plain().to_unix_epoch_day()
+        self.date.number()
+    }
+
+    /// The plain value of its date.
+    pub(crate) fn plain(self) -> civil::Date
+        ensures value { result ≡ self }
+        ensures range { IsDay self }
+    {
+        self.date.plain()
     }
 
     /// The calendar's date.
-    pub fn date(self) -> civil::Date
+    pub fn date(self) -> Date
         ensures value { result ≡ self }
         ensures range { IsDay self }
     {
@@ -174,5 +178,11 @@ impl fmt::Display for Day {
 
     fn fmt<W: fmt::Write>(&self, f: &mut fmt::Formatter<W>) -> fmt::Result {
         write!(f, "{}", self.date)
+    }
+}
+
+impl fmt::Debug for Day {
+    fn fmt<W: fmt::Write>(&self, f: &mut fmt::Formatter<W>) -> fmt::Result {
+        fmt::Display::fmt(self, f)
     }
 }

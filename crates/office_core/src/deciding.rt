@@ -5,22 +5,16 @@ ghost use Rattle.jiff.specs.Words.{epoch_day};
 ghost use Rattle.office_core.specs.Verdicts.{denial_verdict, disposal_of, verdict_of};
 
 use crate::action::Action;
+use crate::date::Date;
 use crate::day::Day;
 use crate::facts::{Facts, Verdict};
 use crate::retention::Due;
 use crate::rule::{Decision, Effect};
-use jiff::civil;
 
-fn number_of(date: civil::Date) -> i32
-    ensures { result ≡ epoch_day date }
-{
-    date.to_plain().to_unix_epoch_day()
-}
-
-fn is_before(day: Day, date: civil::Date) -> bool
+fn is_before(day: Day, date: Date) -> bool
     ensures { result ≡ int_lt (epoch_day day) (epoch_day date) }
 {
-    number_of(day.date()) < number_of(date)
+    day.number() < date.number()
 }
 
 /// The verdict of the rules alone, where they refuse: the rule that decides denies, or none does.

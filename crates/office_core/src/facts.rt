@@ -1,10 +1,10 @@
 //! What is known of a request, and what is decided of it.
 
 use crate::action::Action;
+use crate::date::Date;
 use crate::day::Day;
 use crate::retention::Due;
 use crate::rule::Decision;
-use jiff::civil;
 
 /// What is known of a request where it is decided.
 #[derive(Clone, Copy, Debug)]
@@ -32,7 +32,7 @@ pub enum Verdict {
     /// That hold covers the deposit.
     Held(u32),
     /// The deposit isn't due before that day.
-    NotDue(civil::Date),
+    NotDue(Date),
     /// The deposit is kept for good.
     Permanent,
     Allow,

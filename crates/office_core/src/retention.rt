@@ -4,7 +4,7 @@ ghost use Rattle.std.specs.Prelude.{◌≡◌, ◌≤◌, Some, None, IfSome};
 ghost use Rattle.std.specs.Option.{SomeIff};
 ghost use Rattle.office_core.specs.Bounds.{max_years};
 
-use jiff::civil;
+use crate::date::Date;
 use std::marker::Model;
 
 /// How many years a class keeps its deposits at most, if not for good.
@@ -59,6 +59,6 @@ impl Years {
 /// The day from which a deposit may be destroyed: a date up to 9999-12-31, or never.
 #[derive(Clone, Copy, Debug, PartialEq, Eq)]
 pub enum Due {
-    On(civil::Date),
+    On(Date),
     Never,
 }

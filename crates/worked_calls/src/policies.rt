@@ -62,37 +62,68 @@ fn days(rt: HostRuntime) -> Result<(), AllocError> {
     Ok(())
 }
 
-/// A date: its year, its month and its day.
-type Parts = (i16, i8, i8);
-
-/// From which day a deposit is due, if ever, that was closed on that day and is kept for so many years,
-/// or permanently. None where that is no day, or no class may have those years.
-fn due_of(closing: &str, years: Option<u8>) -> Option<Option<Parts>> {
+/// From which day a deposit is due that was closed on that day and is kept for so many years, or
+/// permanently. None where that is no day, or no class may have those years.
+fn due_of(closing: &str, years: Option<u8>) -> Option<Due> {
     let years = match years {
         Some(count) => Years::new(count)?,
         None => Years::permanent(),
     };
-    match due(Day::read(closing)?, years) {
-        Due::On(date) => Some(Some((date.year(), date.month(), date.day()))),
-        Due::Never => Some(None),
+    Some(due(Day::read(closing)?, years))
+}
+
+/// A due day in words.
+fn words_of(alloc: Global, due: Due) -> Result<String, AllocError> {
+    match due {
+        Due::On(date) => format!(in alloc; "{date}"),
+        Due::Never => format!(in alloc; "never"),
+    }
+}
+
+/// The due day in words, or that no class may have those years.
+fn due_words(alloc: Global, closing: &str, years: Option<u8>) -> Result<String, AllocError> {
+    match due_of(closing, years) {
+        Some(due) => words_of(alloc, due),
+        None => format!(in alloc; "no years"),
     }
 }
 
 /// What is told for a day of closing and the years of a class.
-static DUES: [(&str, Option<u8>, Option<Option<Parts>>); 6] = [
-    ("2024-02-29", Some(1), Some(Some((2025, 2, 28)))),
-    ("2024-02-29", Some(4), Some(Some((2028, 2, 29)))),
-    ("2024-03-01", Some(1), Some(Some((2025, 3, 1)))),
-    ("9799-12-31", Some(200), Some(Some((9999, 12, 31)))),
-    ("2024-02-29", None, Some(None)),
-    ("2024-02-29", Some(201), None),
+static DUES: [(&str, Option<u8>, &str); 6] = [
+    ("2024-02-29", Some(1), "2025-02-28"),
+    ("2024-02-29", Some(4), "2028-02-29"),
+    ("2024-03-01", Some(1), "2025-03-01"),
+    ("9799-12-31", Some(200), "9999-12-31"),
+    ("2024-02-29", None, "never"),
+    ("2024-02-29", Some(201), "no years"),
 ];
 
 #[test]
-fn due_days(rt: HostRuntime) {
-    for (closing, years, date) in &DUES {
-        holds(&rt, due_of(closing, *years) == *date, closing);
+fn due_days(rt: HostRuntime) -> Result<(), AllocError> {
+    for (closing, years, due) in &DUES {
+        let said = due_words(rt.alloc(), closing, *years)?;
+        holds(&rt, said.as_str() == *due, closing);
     }
+    Ok(())
+}
+
+/// The number of a due day, if there is one.
+fn number_of(due: Due) -> Option<i32> {
+    match due {
+        Due::On(date) => Some(date.number()),
+        Due::Never => None,
+    }
+}
+
+/// The number of the day from which that deposit is due, if ever.
+fn due_number(closing: &str, years: u8) -> Option<i32> {
+    number_of(due_of(closing, Some(years))?)
+}
+
+#[test]
+fn the_number_of_a_due_day(rt: HostRuntime) {
+    assert!(rt; due_number("1969-12-31", 0) == Some(-1));
+    assert!(rt; due_number("2024-02-29", 1) == Some(20_147));
 }
 
 /// Numbers of deposits and of holds, and whether an office may have that many.
@@ -355,7 +386,7 @@ static KNOWN: [Known; 7] = [
         hold: Some(2),
         due: "2025-02-28",
         day: "2025-02-27",
-        verdict: "Gone(Day { date: 2025-02-27 })",
+        verdict: "Gone(2025-02-27)",
     },
     Known {
         action: Action::Dispose,
