@@ -2,27 +2,28 @@
 //! tables are altered behind its back; and the calls of the tables themselves.
 #![tactic(auto)]
 
-#[cfg(test)]
 mod altered;
-#[cfg(test)]
 mod altering;
-#[cfg(test)]
 mod files;
-#[cfg(test)]
 mod offices;
-#[cfg(test)]
 mod parts;
-#[cfg(test)]
 mod rows;
-#[cfg(test)]
 mod sessions;
-#[cfg(test)]
 mod stores;
-#[cfg(test)]
 mod tables;
-#[cfg(test)]
 mod tests;
-#[cfg(test)]
 mod tests_stops;
-#[cfg(test)]
 mod words;
+
+pub use tables::tests::{
+    calls_last_and_what_is_refused_changes_nothing, each_fault_has_its_code,
+    files_of_each_size_are_found_again, only_an_office_is_taken_for_one,
+};
+pub use tables::tests_stops::each_stop_leaves_an_office_or_none;
+pub use tests::{
+    a_content_counts_once_and_while_it_is_kept, altered_rows_are_met_where_an_answer_rests_on_them,
+    each_office_answers_alike, only_an_office_of_this_version_is_taken_up,
+};
+pub use tests_stops::{
+    a_stop_leaves_the_office_after_its_last_request, a_stop_leaves_the_office_after_the_run,
+};

@@ -7,5 +7,5 @@ mod openings;
 mod refusals;
 mod sizes;
 pub mod steps;
-mod tests;
-mod tests_stops;
+pub mod tests;
+pub mod tests_stops;

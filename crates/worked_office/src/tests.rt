@@ -9,30 +9,32 @@ use crate::sessions::{CONTENTS, DECIDING, KEEPING};
 use crate::stores::{in_memory, plain_office, to_offices};
 use office_history::Stock;
 use std::alloc::Global;
-use std::test::*;
+use std::test::Fail;
 
-#[test]
-fn each_office_answers_alike(rt: HostRuntime) -> Result<(), Fail> {
-    to_offices(rt.alloc(), &DECIDING)?;
-    to_offices(rt.alloc(), &KEEPING)?;
-    to_offices(rt.alloc(), &[&CONTENTS])
+/// Each session is answered alike by each office, by steps and in one run.
+pub fn each_office_answers_alike(alloc: Global) -> Result<(), Fail> {
+    to_offices(alloc, &DECIDING)?;
+    to_offices(alloc, &KEEPING)?;
+    to_offices(alloc, &[&CONTENTS])
 }
 
 /// What is kept when the office is made, and after each part of `CONTENTS` behind.
 static STOCKS: [(usize, usize); 4] = [(0, 0), (4, 185), (3, 131), (0, 0)];
 
-#[test]
-fn a_content_counts_once_and_while_it_is_kept(rt: HostRuntime) -> Result<(), Fail> {
-    let mut office = plain_office(rt.alloc(), "1000000")?;
+/// What an office has in stock: a content counts once, and as long as a deposit that has it is kept.
+pub fn a_content_counts_once_and_while_it_is_kept(alloc: Global) -> Result<(), Fail> {
+    let mut office = plain_office(alloc, "1000000")?;
     for ((kind, text), (contents, bytes)) in CONTENTS.iter().zip(STOCKS.iter()) {
         if *kind == "asks" {
-            agree(put(rt.alloc(), &mut office, Way::Steps, text))?;
+            agree(put(alloc, &mut office, Way::Steps, text))?;
         }
         let wanted = Stock {
             contents: *contents,
             bytes: *bytes,
         };
-        assert!(rt; office.stock(rt.alloc())? == wanted);
+        if office.stock(alloc)? != wanted {
+            return Err("the office has another stock".into());
+        }
     }
     Ok(())
 }
@@ -52,17 +54,17 @@ fn alter(alloc: Global, cases: &[Part]) -> Result<(), Fail> {
     in_memory(alloc, Way::Steps, &parts)
 }
 
-#[test]
-fn altered_rows_are_met_where_an_answer_rests_on_them(rt: HostRuntime) -> Result<(), Fail> {
-    alter(rt.alloc(), &FILES)?;
-    alter(rt.alloc(), &CLASSES)?;
-    alter(rt.alloc(), &DEPOSITS)?;
-    alter(rt.alloc(), &RULES)?;
-    alter(rt.alloc(), &HOLDS)?;
-    in_memory(rt.alloc(), Way::Steps, &BESIDE)
+/// An answer that rests on a row that was altered is a failure.
+pub fn altered_rows_are_met_where_an_answer_rests_on_them(alloc: Global) -> Result<(), Fail> {
+    alter(alloc, &FILES)?;
+    alter(alloc, &CLASSES)?;
+    alter(alloc, &DEPOSITS)?;
+    alter(alloc, &RULES)?;
+    alter(alloc, &HOLDS)?;
+    in_memory(alloc, Way::Steps, &BESIDE)
 }
 
-#[test]
-fn only_an_office_of_this_version_is_taken_up(rt: HostRuntime) -> Result<(), Fail> {
-    in_memory(rt.alloc(), Way::Steps, &OPENINGS)
+/// A database that is no office of this version isn't taken for one.
+pub fn only_an_office_of_this_version_is_taken_up(alloc: Global) -> Result<(), Fail> {
+    in_memory(alloc, Way::Steps, &OPENINGS)
 }

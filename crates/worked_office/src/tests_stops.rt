@@ -8,7 +8,7 @@ use office_engine::{Office, reopen, stop_in, stop_in_run};
 use sqlite::{FileStore, Files};
 use sqlite_disk::Disk;
 use std::alloc::{AllocError, Global};
-use std::test::*;
+use std::test::Fail;
 use worked_sessions::{Asked, SMALL_CACHES, words};
 
 static BEFORE: [Part; 2] = [
@@ -97,14 +97,14 @@ fn stop_in_two<D: Disk + Drop>(alloc: Global, files: Files<D>) -> Option<String>
     put(alloc, &mut office, Way::Steps, AFTER_THE_RUN)
 }
 
-#[test]
-fn a_stop_leaves_the_office_after_its_last_request(rt: HostRuntime) -> Result<(), Fail> {
-    let files = in_files(rt.alloc(), Way::Steps, &BEFORE)?;
-    agree(stop_once(rt.alloc(), files))
+/// A stop in a request leaves the office after it.
+pub fn a_stop_leaves_the_office_after_its_last_request(alloc: Global) -> Result<(), Fail> {
+    let files = in_files(alloc, Way::Steps, &BEFORE)?;
+    agree(stop_once(alloc, files))
 }
 
-#[test]
-fn a_stop_leaves_the_office_after_the_run(rt: HostRuntime) -> Result<(), Fail> {
-    let files = in_files(rt.alloc(), Way::Steps, &BEFORE)?;
-    agree(stop_in_two(rt.alloc(), files))
+/// A stop in a run leaves the office after it.
+pub fn a_stop_leaves_the_office_after_the_run(alloc: Global) -> Result<(), Fail> {
+    let files = in_files(alloc, Way::Steps, &BEFORE)?;
+    agree(stop_in_two(alloc, files))
 }

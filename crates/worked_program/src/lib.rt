@@ -20,6 +20,8 @@ mod rows;
 #[cfg(test)]
 mod runs;
 #[cfg(test)]
+mod sessions;
+#[cfg(test)]
 mod stores;
 #[cfg(test)]
 mod texts;

@@ -2,27 +2,20 @@
 //! and over sockets; and an office whose files stop.
 #![tactic(auto)]
 
-#[cfg(test)]
 mod accepts;
-#[cfg(test)]
 mod answers;
-#[cfg(test)]
 mod day;
-#[cfg(test)]
 mod desk;
-#[cfg(test)]
 mod files;
-#[cfg(test)]
 mod limits;
-#[cfg(test)]
 mod listening;
-#[cfg(test)]
 mod offices;
-#[cfg(test)]
 mod peers;
-#[cfg(test)]
 mod replays;
-#[cfg(test)]
 mod stops;
-#[cfg(test)]
 mod tests;
+
+pub use tests::{
+    an_office_is_found_again_where_its_files_stop, offices_are_served, the_patience_of_an_office,
+    what_still_comes_is_dropped,
+};
