@@ -1,5 +1,5 @@
 -- An ask answers all that the input has; one that fails has done nothing, or has answered and written a beginning of the answer.
-use Rattle.std.proofs.Common.{◌≡◌, ◌<◌, ℕ, List, [], Bool, true, false, Option, Some, None, Result, Ok, Err, IfErr, IfSome, ◌⊎◌, ◌∷◌, inl, inr, length, take, refl, sym, ap, subst}
+use Rattle.std.proofs.Common.{◌≡◌, ◌<◌, ℕ, List, [], Bool, true, false, Option, Some, None, Result, Ok, Err, IfErr, IfSome, ◌∷◌, inl, inr, length, take, refl, sym, ap, subst}
 use Rattle.std.proofs.KnownBytes.{Appends-kept}
 use Rattle.std.proofs.Math.Seq.{take-length}
 use Rattle.std.specs.Io.KnownBytes.{Appends, Consumes, Keeps}

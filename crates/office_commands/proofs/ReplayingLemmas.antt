@@ -1,12 +1,12 @@
 -- What a replay reads, has answered and prints, however it ends.
-use Rattle.std.proofs.Common.{◌≡◌, ◌⊎◌, ◌∙◌, ◌+◌, ℕ, List, [], Option, Some, Result, Ok, Err, IfErr, inl, inr, length, take, refl, sym, ap, subst}
+use Rattle.std.proofs.Common.{◌≡◌, ◌⊎◌, ◌∙◌, ◌+◌, ℕ, List, [], Option, Some, Result, Ok, Err, IfErr, inl, inr, length, take, refl, sym, subst}
 use Rattle.std.proofs.KnownBytes.{Appends-kept}
 use Rattle.std.proofs.lemmas.List.{append-nil}
 use Rattle.std.specs.Io.KnownBytes.{Appends, Consumes, IsAtEnd, Keeps}
 use Rattle.sqlite.specs.Held.{Held}
 use Rattle.sqlite.specs.Store.{Ghosts}
 use Rattle.desk_records.specs.RecordLists.{RequestRecord, answer_texts}
-use Rattle.http_desk.specs.Replaying.{HasAnswered, HasDone, IsBegun, Stopped}
+use Rattle.http_desk.specs.Replaying.{HasAnswered, HasDone, Stopped}
 use Rattle.http_desk.specs.declared.replaying.ReplayFault.{ReplayFault}
 use Rattle.http_desk.specs.declared.replaying.ReplayStop.{ReplayStop}
 use Rattle.http_desk.specs.declared.replaying.ReplayStop.TheVariants as stops

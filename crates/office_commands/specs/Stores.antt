@@ -6,7 +6,7 @@ use Rattle.sqlite_wal.specs.Reads.{AreClean}
 use Rattle.sqlite.specs.Recovery.{Image}
 use Rattle.sqlite.specs.Closing.{IsCopied}
 use Rattle.sqlite.specs.Effect.{Database}
-use Rattle.sqlite.specs.Files.{AreFoundIn, HoldsDatabase, file_state, image_of, over_files}
+use Rattle.sqlite.specs.Files.{AreFoundIn, HoldsDatabase, file_state, over_files}
 use Rattle.sqlite.specs.Held.{Held, state}
 use Rattle.sqlite.specs.State.{HasCleanDisk}
 use Rattle.sqlite.specs.Steps.{over_memory}
@@ -18,7 +18,7 @@ use Rattle.office_tables.specs.Opening.{has_office}
 use Rattle.office_history.specs.Histories.{History}
 use Rattle.office_history.specs.Runs.{IsLegal, new_history}
 use Rattle.office_recovery.specs.Found.{HoldsWhere}
-use Rattle.office_engine.specs.Keeping.{IsKeptBy, IsLeftOf, IsReached}
+use Rattle.office_engine.specs.Keeping.{IsKeptBy, IsLeftOf}
 use Rattle.office_commands.specs.Deeds.{AreDone, Deed, LeadOn}
 use Rattle.office_commands.specs.Tasks.{ComesOfTask, HasFailed, Task, makes_office}
 use Rattle.office_commands.specs.Texts.{IsFailure, found_nothing}

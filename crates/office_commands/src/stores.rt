@@ -181,6 +181,39 @@ fn take_office<S: Alter + Drop>(conn: Connection<S>) -> Result<Office<S>, Comman
     }
 }
 
+/// Whether the store is to be made: nothing is there, and that is asked for.
+fn is_to_be_made(rt: &HostRuntime, store: &str, makes: bool) -> Result<bool, CommandFault>
+    ensures asked { IfOk result (λ is_new. is_new ≡ true → makes ≡ true) }
+    ensures failure { IfErr result IsFailure }
+    ensures missing { IfErr result (λ fault. found_nothing fault ≡ true → makes ≡ false) }
+{
+    let is_new = is_missing(rt, store)?;
+    if is_new && !makes {
+        return Err(failed_by(StoreFault::NotAnOffice, Cause::Missing));
+    }
+    Ok(is_new)
+}
+
+/// The office of the connection: it is made there, or was there.
+fn office_of<S: Alter + Drop>(conn: Connection<S>, is_new: bool) -> Result<Office<S>, CommandFault>
+    requires outside { (state S.Store conn).in_transaction ≡ false }
+    ensures clean { IfOk result (λ office. HasCleanDisk (state S.Store office) → HasCleanDisk (state S.Store conn)) }
+    ensures made { is_new ≡ true → IfOk result (λ office. HasCleanDisk (state S.Store office) → IsKeptBy made_office (state S.Store office)) }
+    ensures not_empty { is_new ≡ true → (state S.Store conn).now.schema ≢ no_schema → IsErr result }
+    ensures goes_on { is_new ≡ false → IfOk result (λ office. HasCleanDisk (state S.Store office)
+        → (h : History) → IsLeftOf h (state S.Store conn).now.trees → IsKeptBy h (state S.Store office)) }
+    ensures was_there { is_new ≡ false → IfOk result (λ office. HasCleanDisk (state S.Store office)
+        → IsTrue (has_office (state S.Store conn).now.schema)) }
+    ensures failure { IfErr result IsFailure }
+    ensures not_missing { IfErr result (λ fault. found_nothing fault ≡ false) }
+{
+    if is_new {
+        make_office(conn)
+    } else {
+        take_office(conn)
+    }
+}
+
 /// Opens the office of the store. Where nothing is there, it is made if that is asked for.
 fn open_office<S: Start>(
     rt: &HostRuntime,
@@ -192,13 +225,8 @@ fn open_office<S: Start>(
     ensures failure { IfErr result IsFailure }
     ensures missing { IfErr result (λ fault. found_nothing fault ≡ true → makes ≡ false) }
 {
-    if !is_missing(rt, store)? {
-        return take_office(open_store(rt, start, store, false)?);
-    }
-    if !makes {
-        return Err(failed_by(StoreFault::NotAnOffice, Cause::Missing));
-    }
-    make_office(open_store(rt, start, store, true)?)
+    let is_new = is_to_be_made(rt, store, makes)?;
+    office_of(open_store(rt, start, store, is_new)?, is_new)
 }
 
 /// Copies the log into the file of the store, and hands both back.
