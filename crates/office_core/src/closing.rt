@@ -32,7 +32,7 @@ fn due_on(closing: Day, years: Years) -> Due
     ensures { IsDue closing years result }
 {
     match years.count() {
-        Some(count) => Due::On(Date::of_plain(years_after(closing.plain(), count))),
+        Some(count) => Due::On(Date::of_plain(years_after(closing.date().plain(), count))),
         None => Due::Never,
     }
 }

@@ -156,14 +156,6 @@ impl Day {
         self.date.number()
     }
 
-    /// The plain value of its date.
-    pub(crate) fn plain(self) -> civil::Date
-        ensures value { result ≡ self }
-        ensures range { IsDay self }
-    {
-        self.date.plain()
-    }
-
     /// The calendar's date.
     pub fn date(self) -> Date
         ensures value { result ≡ self }
