@@ -1,5 +1,5 @@
 -- What is done with an office over a store is done on the store: in memory, or in a file.
-use Rattle.std.proofs.Common.{◌≡◌, ℕ, List, Bool, Result, Err, inl, inr, subst, ap₂, refl}
+use Rattle.std.proofs.Common.{◌≡◌, ℕ, List, Bool, Result, Ok, Err, IfErr, IfOk, inl, inr, subst, sym, ap₂, refl}
 use Rattle.sqlite_disk.specs.declared.Disk.{Ghosts as Disks}
 use Rattle.sqlite_disk.specs.declared.Files.{Files}
 use Rattle.sqlite_wal.specs.Reads.{AreClean}
@@ -20,8 +20,9 @@ use Rattle.office_engine.specs.Keeping.{IsKeptBy, IsLeftOf, IsReached}
 use Rattle.office_commands.specs.Deeds.{AreDone, Deed, LeadOn}
 use Rattle.office_commands.specs.Stores.{InFile, InMemory, IsOpenedFrom, LeadsInto, RunsAndCloses, RunsInFile, RunsInMemory, made_office}
 use Rattle.office_commands.specs.Tasks.{ComesOfTask, Task, makes_office}
-use Rattle.office_commands.specs.Texts.{IsFailure}
+use Rattle.office_commands.specs.Texts.{IsUnclosable}
 use Rattle.office_commands.specs.Traffic.{Traffic}
+use Rattle.office_commands.specs.declared.done.Done.{Done}
 use Rattle.office_commands.specs.declared.fault.CommandFault.{CommandFault}
 use Rattle.office_commands.proofs.DeedLemmas.{deeds_clean, deeds_lead}
 use Rattle.office_commands.proofs.FileLemmas.{held_of}
@@ -58,8 +59,17 @@ files_lead g first makes deeds office clean h legal holds =
 
 -- or it can't be closed
 pub runs_unclosed : {D T : Type 0} (g : Disks D) (r : Result T CommandFault) (fault : CommandFault) (task : Task) (first last : Held (FileStore D g)) (was now : Traffic)
-    → IsFailure fault → ((deeds : List Deed) × ComesOfTask task r deeds was now × AreDone over_files deeds first last) → RunsAndCloses {T = T} g first task (Err fault) was now
+    → IsUnclosable fault → ((deeds : List Deed) × ComesOfTask task r deeds was now × AreDone over_files deeds first last) → RunsAndCloses {T = T} g first task (Err fault) was now
 runs_unclosed g r fault task first last was now fails it = inr (record { failed = fails; did = r; deeds = it.0; does = it.1; new = last; done = it.2 })
+
+-- it is closed or it can't be
+pub runs_to_end : {D : Type 0} (g : Disks D) (r done : Result Done CommandFault) (closed : Result (Files D) CommandFault) (task : Task) (first last : Held (FileStore D g)) (was now : Traffic)
+    → IfOk closed (λ files. AreClean g files.log files.db → IsCopied last files) → IfErr closed IsUnclosable → IfOk closed (λ _. r ≡ done) → IfErr closed (λ fault. r ≡ Err fault)
+    → ((deeds : List Deed) × ComesOfTask task done deeds was now × AreDone over_files deeds first last) → RunsAndCloses g first task r was now
+runs_to_end g r done (Ok files) task first last was now copied fails same other it =
+    subst (λ (x : Result Done CommandFault). RunsAndCloses g first task x was now) (sym same) (runs_and_closes g done task first last files was now copied it)
+runs_to_end g r done (Err fault) task first last was now copied fails same other it =
+    subst (λ (x : Result Done CommandFault). RunsAndCloses g first task x was now) (sym other) (runs_unclosed g done fault task first last was now fails it)
 
 -- the office was opened from files
 pub runs_in_file : {D T : Type 0} (g : Disks D) (first : Image) (r : Result T CommandFault) (task : Task) (makes : Bool) (old : Held (FileStore D g)) (was now : Traffic)

@@ -1,5 +1,5 @@
 -- An office that is made in memory, or opened in a file and closed again, and what is done with it.
-use Rattle.std.specs.Prelude.{◌≡◌, ◌≢◌, ◌⊎◌, ℕ, List, Bool, IsTrue, Result, Ok, Err, false, true, codes}
+use Rattle.std.specs.Prelude.{◌≡◌, ◌≢◌, ◌⊎◌, ℕ, List, Bool, IsTrue, Result, Ok, Err, IsErrAnd, false, true, codes}
 use Rattle.sqlite_disk.specs.declared.Disk as disk
 use Rattle.sqlite_disk.specs.declared.Files.{Files}
 use Rattle.sqlite_wal.specs.Reads.{AreClean}
@@ -20,8 +20,8 @@ use Rattle.office_history.specs.Runs.{IsLegal, new_history}
 use Rattle.office_recovery.specs.Found.{HoldsWhere}
 use Rattle.office_engine.specs.Keeping.{IsKeptBy, IsLeftOf}
 use Rattle.office_commands.specs.Deeds.{AreDone, Deed, LeadOn}
-use Rattle.office_commands.specs.Tasks.{ComesOfTask, HasFailed, Task, makes_office}
-use Rattle.office_commands.specs.Texts.{IsFailure, found_nothing}
+use Rattle.office_commands.specs.Tasks.{ComesOfTask, Task, makes_office}
+use Rattle.office_commands.specs.Texts.{IsUnclosable, IsUnopenable, found_nothing}
 use Rattle.office_commands.specs.Traffic.{Traffic}
 use Rattle.office_commands.specs.declared.fault.CommandFault.{CommandFault}
 
@@ -74,11 +74,11 @@ LeadsInto deeds h image = (next : History) × LeadOn deeds h next × IsLegal nex
 -- The store could not be opened, and nothing is read or written. A task with which an office is made is never refused because nothing is there.
 abbrev pub IsUnopened : {T : Type 0} → Task → Result T CommandFault → Traffic → Traffic → Type 0
 IsUnopened task (Ok _) was now = ⊥
-IsUnopened task (Err fault) was now = IsFailure fault × (found_nothing fault ≡ true → makes_office task ≡ false) × (now ≡ was)
+IsUnopened task (Err fault) was now = IsUnopenable fault × (found_nothing fault ≡ true → makes_office task ≡ false) × (now ≡ was)
 
 -- the task is done so with an open office, but the store could not be closed, which is what is told, however the task ended
 pub record IsUnclosed {D T : Type 0} (g : disk.Ghosts D) (old : Held (FileStore D g)) (task : Task) (result : Result T CommandFault) (was now : Traffic) : Type 0 where
-  pub failed : HasFailed result
+  pub failed : IsErrAnd result IsUnclosable
   pub did : Result T CommandFault
   pub deeds : List Deed
   pub does : ComesOfTask task did deeds was now

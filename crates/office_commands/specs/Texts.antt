@@ -1,11 +1,10 @@
 -- What the commands on a store print, and how the program ends.
-use Rattle.std.specs.Prelude.{◌++◌, ◌∷◌, [], ℕ, List, ⊤, codes, decimal, string_bytes}
+use Rattle.std.specs.Prelude.{◌++◌, ◌∷◌, [], ℕ, List, Bool, false, true, Option, None, Some, ⊤, codes, decimal, string_bytes}
 use Rattle.commands.specs.Explaining.{bad_policy_text}
 use Rattle.commands.specs.Failing.{message_of as failure_text}
 use Rattle.commands.specs.declared.failure.Failure.TheVariants as failures
 use Rattle.commands.specs.declared.ending.Ending.{Ending}
 use Rattle.commands.specs.declared.ending.Ending.TheVariants as endings
-use Rattle.std.specs.Prelude.{Bool, None, Option, Some, false, true}
 use Rattle.std.specs.declared.io.ErrorKind.{ErrorKind}
 use Rattle.std.specs.declared.io.ErrorKind.TheVariants.{OutOfMemory}
 use Rattle.sqlite.specs.declared.error.Error.{Error}
@@ -18,7 +17,7 @@ use Rattle.http_desk.specs.declared.serving.DeskFault.TheVariants as desk
 use Rattle.http_desk.specs.declared.replaying.ReplayStop.{ReplayStop}
 use Rattle.http_desk.specs.declared.replaying.ReplayStop.TheVariants as stops
 use Rattle.office_commands.specs.declared.fault.Cause.{Cause}
-use Rattle.office_commands.specs.declared.fault.Cause.TheVariants.{Input, Missing, Output}
+use Rattle.office_commands.specs.declared.fault.Cause.TheVariants.{Close, Empty, Input, Install, Missing, Open, Output, Refused, Search, Taken}
 use Rattle.office_commands.specs.declared.fault.CommandFault.{CommandFault}
 use Rattle.office_commands.specs.declared.fault.CommandFault.TheVariants.{Policy, BadRecord, Failed}
 use Rattle.office_commands.specs.declared.fault.StoreFault.{StoreFault}
@@ -56,6 +55,33 @@ IsFailure (Policy fault) = ⊥
 IsFailure (BadRecord index) = ⊥
 IsFailure (Failed fault cause) = ⊤
 
+-- it is the store or memory, and no device
+abbrev pub IsOfStore : StoreFault → Type 0
+IsOfStore Device = ⊥
+IsOfStore _ = ⊤
+
+-- what keeps a store from being opened
+abbrev pub IsOfOpening : Option Cause → Type 0
+IsOfOpening None = ⊤
+IsOfOpening (Some (Search error)) = ⊤
+IsOfOpening (Some (Refused error)) = ⊤
+IsOfOpening (Some (Open error)) = ⊤
+IsOfOpening (Some Missing) = ⊤
+IsOfOpening (Some Empty) = ⊤
+IsOfOpening (Some Taken) = ⊤
+IsOfOpening (Some _) = ⊥
+
+-- the store can't be opened
+abbrev pub IsUnopenable : CommandFault → Type 0
+IsUnopenable (Policy refused) = ⊥
+IsUnopenable (BadRecord index) = ⊥
+IsUnopenable (Failed fault cause) = IsOfStore fault × IsOfOpening cause
+
+-- the store can't be closed
+abbrev pub IsUnclosable : CommandFault → Type 0
+IsUnclosable (Failed fault (Some (Close error))) = IsOfStore fault
+IsUnclosable _ = ⊥
+
 -- a line could not be printed: standard output or memory failed
 abbrev pub IsUnsaid : CommandFault → Type 0
 IsUnsaid (Failed Device (Some Output)) = ⊤
@@ -86,11 +112,19 @@ abbrev pub store_failure : Error → StoreFault
 store_failure (SqliteFailure codes_of.OutOfMemory) = Memory
 store_failure _ = Store
 
+abbrev pub table_fault : TableFault → StoreFault
+table_fault tables.NotAnOffice = NotAnOffice
+table_fault tables.OtherVersion = OtherVersion
+table_fault tables.Memory = Memory
+table_fault tables.Store = Store
+
+-- an office that can't be made or taken up
 abbrev pub table_failure : TableFault → CommandFault
-table_failure tables.NotAnOffice = fails NotAnOffice
-table_failure tables.OtherVersion = fails OtherVersion
-table_failure tables.Memory = fails Memory
-table_failure tables.Store = fails Store
+table_failure fault = fails (table_fault fault)
+
+-- a policy that can't be installed
+abbrev pub install_failure : TableFault → CommandFault
+install_failure fault = Failed (table_fault fault) (Some (Install fault))
 
 abbrev pub desk_failure : DeskFault → CommandFault
 desk_failure desk.Read = Failed Device (Some Input)

@@ -2,10 +2,11 @@
 
 ghost use Rattle.std.specs.Prelude.{◌≡◌, ◌++◌, IfOk, None, Some, false, string_bytes};
 ghost use Rattle.commands.specs.Explaining.{bad_policy_text};
-ghost use Rattle.office_commands.specs.Texts.{IsFailure, ending_of, fault_text, found_nothing, is_of_nothing, message_of};
+ghost use Rattle.office_commands.specs.Texts.{IsFailure, IsOfOpening, IsOfStore, IsUnopenable, ending_of, fault_text, found_nothing, is_of_nothing, message_of};
 ghost use Rattle.office_commands.specs.declared.fault.CommandFault.TheVariants.{Failed};
 
 use commands::{Ending, Failure, RefusedPolicy};
+use office_tables::TableFault;
 use std::alloc::{AllocError, Global};
 use std::{fmt, io};
 
@@ -66,6 +67,8 @@ pub enum Cause {
     Output,
     /// The store was opened before.
     Taken,
+    /// The policy could not be installed.
+    Install(TableFault),
 }
 
 impl fmt::Display for Cause {
@@ -82,6 +85,8 @@ impl fmt::Display for Cause {
             Cause::Input => write!(f, "it can't be read"),
             Cause::Output => write!(f, "it can't be written"),
             Cause::Taken => write!(f, "it was opened before"),
+            Cause::Install(TableFault::Memory) => write!(f, "out of memory"),
+            Cause::Install(_) => write!(f, "the store failed"),
         }
     }
 }
@@ -108,6 +113,7 @@ pub(crate) fn failed_by(fault: StoreFault, cause: Cause) -> CommandFault
     ensures is { result ≡ Failed fault (Some cause) }
     ensures nothing { found_nothing result ≡ is_of_nothing (Some cause) }
     ensures failure { IsFailure result }
+    ensures unopenable { IsOfStore fault → IsOfOpening (Some cause) → IsUnopenable result }
 {
     CommandFault::Failed {
         fault,
@@ -131,6 +137,7 @@ impl CommandFault {
         ensures is { result ≡ Failed fault None }
         ensures nothing { found_nothing result ≡ false }
         ensures failure { IsFailure result }
+        ensures unopenable { IsOfStore fault → IsUnopenable result }
     {
         CommandFault::Failed { fault, cause: None }
     }

@@ -1,6 +1,6 @@
 //! The stores: an office in memory, or in a file.
 
-ghost use Rattle.std.specs.Prelude.{◌≡◌, ◌≢◌, false, IfErr, IfOk, IsErr, IsTrue, Some, codes, true};
+ghost use Rattle.std.specs.Prelude.{◌≡◌, ◌≢◌, false, Err, IfErr, IfOk, IsErr, List, Ok, IsTrue, Some, codes, true};
 ghost use Rattle.std.specs.IoError.{error_kind};
 ghost use Rattle.sqlite.specs.Closing.{IsCopied};
 ghost use Rattle.sqlite.specs.Files.{IsOpened, file_state};
@@ -14,9 +14,10 @@ ghost use Rattle.office_tables.specs.Opening.{has_office};
 ghost use Rattle.office_tables.specs.Schema.{no_schema};
 ghost use Rattle.office_history.specs.Histories.{History};
 ghost use Rattle.office_engine.specs.Keeping.{IsKeptBy, IsLeftOf};
+ghost use Rattle.office_commands.specs.Deeds.{AreDone, Deed};
 ghost use Rattle.office_commands.specs.Stores.{IsOpenedFrom, RunsAndCloses, RunsInFile, RunsInMemory, RunsOn, made_office};
-ghost use Rattle.office_commands.specs.Tasks.{reads_input};
-ghost use Rattle.office_commands.specs.Texts.{IsFailure, found_nothing, is_of_nothing, search_failure, store_failure};
+ghost use Rattle.office_commands.specs.Tasks.{ComesOfTask, reads_input};
+ghost use Rattle.office_commands.specs.Texts.{IsOfOpening, IsOfStore, IsUnclosable, IsUnopenable, found_nothing, is_of_nothing, search_failure, store_failure};
 ghost use Rattle.office_commands.specs.Traffic.{traffic_of};
 ghost use Rattle.office_commands.specs.Works.{IsQuiet};
 ghost use Rattle.office_commands.specs.declared.fault.Cause.TheVariants.{Search};
@@ -67,7 +68,7 @@ fn in_memory<R: Read, O: Write>(
 /// A search that failed.
 fn search_failure(error: io::Error) -> CommandFault
     ensures is { result ≡ Failed (search_failure (error_kind error)) (Some (Search error)) }
-    ensures failure { IsFailure result }
+    ensures failure { IsUnopenable result }
 {
     match error.kind() {
         ErrorKind::OutOfMemory => failed_by(StoreFault::Memory, Cause::Search(error)),
@@ -77,7 +78,8 @@ fn search_failure(error: io::Error) -> CommandFault
 
 /// What the store said as it was opened or closed.
 fn store_fault(error: Error) -> StoreFault
-    ensures { result ≡ store_failure error }
+    ensures is { result ≡ store_failure error }
+    ensures store { IsOfStore result }
 {
     match error {
         Error::SqliteFailure(ErrorCode::OutOfMemory) => StoreFault::Memory,
@@ -87,7 +89,7 @@ fn store_fault(error: Error) -> StoreFault
 
 /// Whether there is no file at the path. An empty one is no office, and stays empty.
 fn is_missing(rt: &HostRuntime, store: &str) -> Result<bool, CommandFault>
-    ensures failure { IfErr result IsFailure }
+    ensures failure { IfErr result IsUnopenable }
     ensures not_missing { IfErr result (λ fault. found_nothing fault ≡ false) }
 {
     match fs::metadata(rt, store) {
@@ -103,7 +105,8 @@ fn is_missing(rt: &HostRuntime, store: &str) -> Result<bool, CommandFault>
 /// What kept the store from being opened: the host's files, where they refuse it. Where the store is to
 /// be made they are asked for a new file, which is taken away again.
 fn opening_cause(rt: &HostRuntime, store: &str, is_new: bool, error: Error) -> Cause
-    ensures { is_of_nothing (Some result) ≡ false }
+    ensures opening { IsOfOpening (Some result) }
+    ensures something { is_of_nothing (Some result) ≡ false }
 {
     if !matches!(error, Error::SqliteFailure(ErrorCode::CannotOpen)) {
         return Cause::Open(error);
@@ -137,7 +140,7 @@ fn open_store<S: Start>(
     ensures opened { IfOk result (λ conn. HasCleanDisk (file_state conn) → IsOpened conn) }
     ensures found { IfOk result (λ conn. HasCleanDisk (file_state conn)
         → FindsIn (image_at S.Start) (file_state conn)) }
-    ensures failure { IfErr result IsFailure }
+    ensures failure { IfErr result IsUnopenable }
     ensures not_missing { IfErr result (λ fault. found_nothing fault ≡ false) }
 {
     match Connection::open_from(rt, store, false, start) {
@@ -155,7 +158,7 @@ fn make_office<S: Alter + Drop>(conn: Connection<S>) -> Result<Office<S>, Comman
     ensures clean { IfOk result (λ office. HasCleanDisk (state S.Store office) → HasCleanDisk (state S.Store conn)) }
     ensures made { IfOk result (λ office. HasCleanDisk (state S.Store office) → IsKeptBy made_office (state S.Store office)) }
     ensures not_empty { (state S.Store conn).now.schema ≢ no_schema → IsErr result }
-    ensures failure { IfErr result IsFailure }
+    ensures failure { IfErr result IsUnopenable }
     ensures not_missing { IfErr result (λ fault. found_nothing fault ≡ false) }
 {
     match Office::create(conn, limits()) {
@@ -172,7 +175,7 @@ fn take_office<S: Alter + Drop>(conn: Connection<S>) -> Result<Office<S>, Comman
         → (h : History) → IsLeftOf h (state S.Store conn).now.trees → IsKeptBy h (state S.Store office)) }
     ensures was_there { IfOk result (λ office. HasCleanDisk (state S.Store office)
         → IsTrue (has_office (state S.Store conn).now.schema)) }
-    ensures failure { IfErr result IsFailure }
+    ensures failure { IfErr result IsUnopenable }
     ensures not_missing { IfErr result (λ fault. found_nothing fault ≡ false) }
 {
     match Office::adopt(conn) {
@@ -184,7 +187,7 @@ fn take_office<S: Alter + Drop>(conn: Connection<S>) -> Result<Office<S>, Comman
 /// Whether the store is to be made: nothing is there, and that is asked for.
 fn is_to_be_made(rt: &HostRuntime, store: &str, makes: bool) -> Result<bool, CommandFault>
     ensures asked { IfOk result (λ is_new. is_new ≡ true → makes ≡ true) }
-    ensures failure { IfErr result IsFailure }
+    ensures failure { IfErr result IsUnopenable }
     ensures missing { IfErr result (λ fault. found_nothing fault ≡ true → makes ≡ false) }
 {
     let is_new = is_missing(rt, store)?;
@@ -204,7 +207,7 @@ fn office_of<S: Alter + Drop>(conn: Connection<S>, is_new: bool) -> Result<Offic
         → (h : History) → IsLeftOf h (state S.Store conn).now.trees → IsKeptBy h (state S.Store office)) }
     ensures was_there { is_new ≡ false → IfOk result (λ office. HasCleanDisk (state S.Store office)
         → IsTrue (has_office (state S.Store conn).now.schema)) }
-    ensures failure { IfErr result IsFailure }
+    ensures failure { IfErr result IsUnopenable }
     ensures not_missing { IfErr result (λ fault. found_nothing fault ≡ false) }
 {
     if is_new {
@@ -222,24 +225,64 @@ fn open_office<S: Start>(
     makes: bool,
 ) -> Result<Office<FileStore<FileFrom<S>>>, CommandFault>
     ensures opened { IfOk result (IsOpenedFrom ⟦<FileFrom<S> as Disk>⟧ (image_at S.Start) makes) }
-    ensures failure { IfErr result IsFailure }
+    ensures failure { IfErr result IsUnopenable }
     ensures missing { IfErr result (λ fault. found_nothing fault ≡ true → makes ≡ false) }
 {
     let is_new = is_to_be_made(rt, store, makes)?;
-    office_of(open_store(rt, start, store, is_new)?, is_new)
+    match open_store(rt, start, store, is_new) {
+        Ok(conn) => office_of(conn, is_new),
+        Err(fault) => Err(fault),
+    }
+}
+
+/// What a close handed back; or why it failed, and the store is let go.
+fn closed<F, S: Drop>(given: Result<F, (Error, S)>) -> Result<F, CommandFault>
+    ensures files { IfOk result (λ files. given ≡ Ok files) }
+    ensures failure { IfErr result IsUnclosable }
+{
+    match given {
+        Ok(files) => Ok(files),
+        Err((error, _)) => Err(failed_by(store_fault(error), Cause::Close(error))),
+    }
 }
 
 /// Copies the log into the file of the store, and hands both back.
 fn close_office<D: Disk + Drop>(office: Office<FileStore<D>>) -> Result<Files<D>, CommandFault>
     ensures copied { IfOk result (λ files. AreClean D.Disk files.log files.db → IsCopied office files) }
-    ensures failure { IfErr result IsFailure }
+    ensures failure { IfErr result IsUnclosable }
 {
-    match office.into_connection().close_files() {
-        Ok(files) => Ok(files),
-        Err((error, store)) => {
-            drop(store.close());
-            Err(failed_by(store_fault(error), Cause::Close(error)))
-        }
+    closed(office.into_connection().close_files())
+}
+
+/// Does the task with an open office, and hands that back with what comes of it.
+fn done_with<S: Alter, R: Read, O: Write>(
+    rt: &HostRuntime,
+    mut office: Office<S>,
+    task: &Task<'_>,
+    input: &mut Counted<R>,
+    out: &mut Counted<O>,
+) -> (Office<S>, Result<Done, CommandFault>)
+    ensures does { (deeds : List Deed) × ComesOfTask task.now result.1 deeds
+        (traffic_of R.Read O.Write input.old out.old) (traffic_of R.Read O.Write input.new out.new)
+        × AreDone S.Store deeds office result.0 }
+    ensures left { reads_input task.now ≡ false → input.new ≡ input.old }
+    ensures quiet { IfOk result.1 IsQuiet }
+{
+    let done = do_task(rt, &mut office, task, input, out);
+    (office, done)
+}
+
+/// What a task came to, or that the close behind it failed.
+fn ended<F: Drop>(
+    done: Result<Done, CommandFault>,
+    closed: Result<F, CommandFault>,
+) -> Result<Done, CommandFault>
+    ensures done { IfOk closed (λ _. result ≡ done) }
+    ensures unclosed { IfErr closed (λ fault. result ≡ Err fault) }
+{
+    match closed {
+        Ok(_) => done,
+        Err(fault) => Err(fault),
     }
 }
 
@@ -247,7 +290,7 @@ fn close_office<D: Disk + Drop>(office: Office<FileStore<D>>) -> Result<Files<D>
 /// the task ended.
 fn on_files<D: Disk + Drop, R: Read, O: Write>(
     rt: &HostRuntime,
-    mut office: Office<FileStore<D>>,
+    office: Office<FileStore<D>>,
     task: &Task<'_>,
     input: &mut Counted<R>,
     out: &mut Counted<O>,
@@ -257,11 +300,8 @@ fn on_files<D: Disk + Drop, R: Read, O: Write>(
     ensures left { reads_input task.now ≡ false → input.new ≡ input.old }
     ensures quiet { IfOk result IsQuiet }
 {
-    let done = do_task(rt, &mut office, task, input, out);
-    match close_office(office) {
-        Ok(_) => done,
-        Err(fault) => Err(fault),
-    }
+    let (office, done) = done_with(rt, office, task, input, out);
+    ended(done, close_office(office))
 }
 
 /// Does the task with the office in the file of the store.

@@ -3,7 +3,7 @@
 ghost use Rattle.std.specs.Prelude.{◌≡◌, ◌∷◌, [], IfErr, IfOk, List, false};
 ghost use Rattle.office_commands.specs.Deeds.{AreDone, Deed};
 ghost use Rattle.office_commands.specs.Tasks.{ComesOfAsk, ComesOfReplay, ReplaysAfter, install_of};
-ghost use Rattle.office_commands.specs.Texts.{IsFailure, desk_failure, found_nothing, replay_failure, table_failure};
+ghost use Rattle.office_commands.specs.Texts.{IsFailure, IsOfStore, IsUnopenable, desk_failure, found_nothing, install_failure, replay_failure, table_failure, table_fault};
 ghost use Rattle.office_commands.specs.Traffic.{traffic_of};
 ghost use Rattle.office_commands.specs.Works.{IsQuiet};
 
@@ -18,18 +18,34 @@ use sqlite::Alter;
 use std::alloc::Global;
 use std::io::{Read, Write};
 
-/// What a fault of the tables comes to.
-pub fn table_failure(fault: TableFault) -> CommandFault
-    ensures is { result ≡ table_failure fault }
-    ensures nothing { found_nothing result ≡ false }
-    ensures failure { IsFailure result }
+/// What a fault of the tables is of the store.
+fn table_fault(fault: TableFault) -> StoreFault
+    ensures is { result ≡ table_fault fault }
+    ensures store { IsOfStore result }
 {
-    CommandFault::without_cause(match fault {
+    match fault {
         TableFault::NotAnOffice => StoreFault::NotAnOffice,
         TableFault::OtherVersion => StoreFault::OtherVersion,
         TableFault::Memory => StoreFault::Memory,
         TableFault::Store => StoreFault::Store,
-    })
+    }
+}
+
+/// An office that can't be made or taken up.
+pub fn table_failure(fault: TableFault) -> CommandFault
+    ensures is { result ≡ table_failure fault }
+    ensures nothing { found_nothing result ≡ false }
+    ensures failure { IsUnopenable result }
+{
+    CommandFault::without_cause(table_fault(fault))
+}
+
+/// A policy that can't be installed.
+fn install_failure(fault: TableFault) -> CommandFault
+    ensures is { result ≡ install_failure fault }
+    ensures failure { IsFailure result }
+{
+    failed_by(table_fault(fault), Cause::Install(fault))
 }
 
 /// What a fault of the desk comes to.
@@ -56,7 +72,7 @@ pub fn install_policy<S: Alter>(
 {
     match office.install(alloc, policy) {
         Ok(()) => Ok(Done::quiet()),
-        Err(fault) => Err(table_failure(fault)),
+        Err(fault) => Err(install_failure(fault)),
     }
 }
 

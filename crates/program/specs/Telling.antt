@@ -70,6 +70,7 @@ tried_text (tried.Read file) = codes "read " ++ printed_text file.now
 tried_text (tried.Look store) = codes "look at " ++ printed_text store.now
 tried_text (tried.Open store) = codes "open " ++ printed_text store.now
 tried_text (tried.Close store) = codes "close " ++ printed_text store.now
+tried_text (tried.Install store) = codes "install the policy in " ++ printed_text store.now
 tried_text (tried.Listen port) = codes "listen on 127.0.0.1:" ++ decimal port
 tried_text tried.Accept = codes "accept a connection"
 tried_text tried.Input = codes "read standard input"

@@ -96,6 +96,7 @@ fn cause_detail<'a>(line: &Line<'a>, cause: Cause, errors: LastErrors) -> Detail
         Cause::Input => cannot(Tried::Input, errors.input),
         Cause::Output => cannot(Tried::Output, errors.output),
         Cause::Taken => Detail::File(store, "was opened before"),
+        Cause::Install(_) => Detail::Cannot(Tried::Install(store), why),
     }
 }
 

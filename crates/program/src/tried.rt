@@ -17,6 +17,8 @@ pub(crate) enum Tried<'a> {
     Open(&'a str),
     /// A store was closed.
     Close(&'a str),
+    /// A policy was to be installed in a store.
+    Install(&'a str),
     /// This port of 127.0.0.1 was to be had.
     Listen(u16),
     /// The next connection was to be accepted.
@@ -45,6 +47,10 @@ impl fmt::Display for Tried<'_> {
             Tried::Close(store) => {
                 let store = Escaped(store);
                 write!(f, "close {store}")
+            }
+            Tried::Install(store) => {
+                let store = Escaped(store);
+                write!(f, "install the policy in {store}")
             }
             Tried::Listen(port) => write!(f, "listen on 127.0.0.1:{port}"),
             Tried::Accept => f.write_str("accept a connection"),
