@@ -1,5 +1,5 @@
 -- An office that is found in files, and copied into them.
-use Rattle.std.proofs.Common.{◌≡◌, ◌≢◌, ◌∙◌, List, [], ◌∷◌, Bool, Result, Ok, Err, IfErr, IfOk, IsErr, IsTrue, true, false, inl, inr, refl, sym, ap, subst}
+use Rattle.std.proofs.Common.{◌≡◌, ◌≢◌, ◌∙◌, List, [], ◌∷◌, Bool, Result, Ok, Err, IfOk, IsErr, IsTrue, true, false, inl, inr, refl, sym, ap, subst}
 use Rattle.std.proofs.Math.Logic.{∥∥₁_map}
 use Rattle.sqlite.specs.Recovery.{Image}
 use Rattle.sqlite.specs.Schema.{Schema}
@@ -10,7 +10,8 @@ use Rattle.sqlite.specs.State.{State, HasCleanDisk, Opens, IsLive}
 use Rattle.sqlite.specs.Start.{FindsIn}
 use Rattle.sqlite_disk.specs.declared.Disk.{Ghosts as Disks}
 use Rattle.sqlite.specs.Files.{AreFoundIn, HoldsDatabase, file_state}
-use Rattle.sqlite.specs.Held.{Held}
+use Rattle.sqlite.specs.Held.{Held, state}
+use Rattle.sqlite.specs.Store.{Ghosts}
 use Rattle.sqlite.specs.declared.FileStore.{FileStore}
 use Rattle.office_rows.specs.Rows.{this_version}
 use Rattle.office_tables.specs.Opening.{IsLeft, has_office}
@@ -22,9 +23,7 @@ use Rattle.office_recovery.proofs.FoundAgain.{becomes_again}
 use Rattle.office_recovery.proofs.Settled.{left_from}
 use Rattle.office_engine.specs.Keeping.{IsKeptBy, IsLeftOf, IsReached}
 use Rattle.office_engine.proofs.Kept.{rows_left}
-use Rattle.office_commands.specs.Stores.{IsOpenedFrom, made_office}
-use Rattle.office_commands.specs.Texts.{found_nothing}
-use Rattle.office_commands.specs.declared.fault.CommandFault.{CommandFault}
+use Rattle.office_commands.specs.Stores.{IsOfficeOf, IsOpenedFrom, made_office}
 
 -- what is left with the rows of a history is left of the history
 left_of : (h : History) (left : Trees) → IsLeft (picture this_version h) left → IsLeftOf h left
@@ -100,7 +99,27 @@ opened_as_taken {E = E} g (Ok o) image s makes cleans goes_on there opened found
       inl (s.now, record { holds = λ db held. same ∙ (found was).holds db held; reads = subst (AreFoundIn image) (sym same) (found was).reads }, there clean);
 }
 
--- something was found
-pub found_something : {T : Type 0} (r : Result T CommandFault) (makes : Bool) → IfErr r (λ fault. found_nothing fault ≡ false) → IfErr r (λ fault. found_nothing fault ≡ true → makes ≡ false)
-found_something (Ok x) makes isnt = tt
-found_something (Err fault) makes isnt = λ is. let never : false ≡ true = sym isnt ∙ is in absurd (cc)
+-- ---- an office of a connection
+
+pub made_is_office : {S E : Type 0} (g : Ghosts S) (conn : Held S) (is_new : Bool) (r : Result (Held S) E) → is_new ≡ true → IfOk r (λ o. HasCleanDisk (state g o) → HasCleanDisk (state g conn))
+    → IfOk r (λ o. HasCleanDisk (state g o) → IsKeptBy made_office (state g o)) → ((state g conn).now.schema ≢ no_schema → IsErr r) → IfOk r (IsOfficeOf g conn is_new)
+made_is_office g conn is_new (Err e) new clean made empty = tt
+made_is_office g conn is_new (Ok o) new clean made empty = record {
+  clean = clean;
+  empty = λ _ more. let never : false ≡ true = empty more in absurd (cc);
+  made = λ _. made;
+  was_there = λ isnt. let never : true ≡ false = sym new ∙ isnt in absurd (cc);
+  goes_on = λ isnt. let never : true ≡ false = sym new ∙ isnt in absurd (cc);
+}
+
+pub taken_is_office : {S E : Type 0} (g : Ghosts S) (conn : Held S) (is_new : Bool) (r : Result (Held S) E) → is_new ≡ false → IfOk r (λ o. HasCleanDisk (state g o) → HasCleanDisk (state g conn))
+    → IfOk r (λ o. HasCleanDisk (state g o) → (h : History) → IsLeftOf h (state g conn).now.trees → IsKeptBy h (state g o)) → IfOk r (λ o. HasCleanDisk (state g o) → IsTrue (has_office (state g conn).now.schema))
+    → IfOk r (IsOfficeOf g conn is_new)
+taken_is_office g conn is_new (Err e) there clean goes_on was_there = tt
+taken_is_office g conn is_new (Ok o) there clean goes_on was_there = record {
+  clean = clean;
+  empty = λ is. let never : false ≡ true = sym there ∙ is in absurd (cc);
+  made = λ is. let never : false ≡ true = sym there ∙ is in absurd (cc);
+  was_there = λ _. was_there;
+  goes_on = λ _. goes_on;
+}

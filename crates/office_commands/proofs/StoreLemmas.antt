@@ -1,12 +1,14 @@
 -- What is done with an office over a store is done on the store: in memory, or in a file.
-use Rattle.std.proofs.Common.{◌≡◌, ℕ, List, Bool, Result, Ok, Err, IfErr, IfOk, inl, inr, subst, sym, ap₂, refl}
+use Rattle.std.proofs.Common.{◌≡◌, ◌∙◌, ℕ, List, Bool, true, Result, Ok, Err, IfErr, IfOk, inl, inr, subst, sym, ap₂, refl}
+use Rattle.std.proofs.lemmas.Bool.{cases_Bool}
 use Rattle.sqlite_disk.specs.declared.Disk.{Ghosts as Disks}
 use Rattle.sqlite_disk.specs.declared.Files.{Files}
 use Rattle.sqlite_wal.specs.Reads.{AreClean}
 use Rattle.sqlite.specs.Recovery.{Image}
 use Rattle.sqlite.specs.Closing.{IsCopied}
-use Rattle.sqlite.specs.Files.{file_state, image_of, over_files}
+use Rattle.sqlite.specs.Files.{IsOpened, file_state, image_of, over_files}
 use Rattle.sqlite.specs.Held.{Held, state}
+use Rattle.sqlite.specs.Start.{FindsIn}
 use Rattle.sqlite.specs.State.{HasCleanDisk}
 use Rattle.sqlite.specs.Steps.{over_memory}
 use Rattle.sqlite.specs.declared.FileStore.{FileStore}
@@ -18,14 +20,14 @@ use Rattle.office_history.specs.Runs.{IsLegal, new, new_history}
 use Rattle.office_recovery.specs.Found.{HoldsWhere}
 use Rattle.office_engine.specs.Keeping.{IsKeptBy, IsLeftOf, IsReached}
 use Rattle.office_commands.specs.Deeds.{AreDone, Deed, LeadOn}
-use Rattle.office_commands.specs.Stores.{InFile, InMemory, IsOpenedFrom, LeadsInto, RunsAndCloses, RunsInFile, RunsInMemory, made_office}
+use Rattle.office_commands.specs.Stores.{InFile, InMemory, IsOfficeOf, IsOpenedFrom, LeadsInto, RunsAndCloses, RunsInFile, RunsInMemory, RunsOver, SomeOffice, made_office}
 use Rattle.office_commands.specs.Tasks.{ComesOfTask, Task, makes_office}
 use Rattle.office_commands.specs.Texts.{IsUnclosable}
 use Rattle.office_commands.specs.Traffic.{Traffic}
 use Rattle.office_commands.specs.declared.done.Done.{Done}
 use Rattle.office_commands.specs.declared.fault.CommandFault.{CommandFault}
 use Rattle.office_commands.proofs.DeedLemmas.{deeds_clean, deeds_lead}
-use Rattle.office_commands.proofs.FileLemmas.{held_of}
+use Rattle.office_commands.proofs.FileLemmas.{held_of, opened_as_made, opened_as_taken}
 
 made_is_legal : IsLegal made_office
 made_is_legal = new max_limit max_limit refl refl
@@ -71,19 +73,40 @@ runs_to_end g r done (Ok files) task first last was now copied fails same other 
 runs_to_end g r done (Err fault) task first last was now copied fails same other it =
     subst (λ (x : Result Done CommandFault). RunsAndCloses g first task x was now) (sym other) (runs_unclosed g done fault task first last was now fails it)
 
--- the office was opened from files
-pub runs_in_file : {D T : Type 0} (g : Disks D) (first : Image) (r : Result T CommandFault) (task : Task) (makes : Bool) (old : Held (FileStore D g)) (was now : Traffic)
-    → makes ≡ makes_office task → IsOpenedFrom g first makes old → RunsAndCloses g old task r was now → RunsInFile g first task r was now
-runs_in_file g first r task makes old was now same opened (inl it) =
-    let from = subst (λ (m : Bool). IsOpenedFrom g first m old) same opened in
-    inr (inl (
-      it.0,
-      it.2,
-      record {
-        old = old;
-        opened = from;
-        files = it.1;
-        closed = it.3;
-      },
-    ))
-runs_in_file g first r task makes old was now same opened (inr it) = inr (inr (old, subst (λ (m : Bool). IsOpenedFrom g first m old) same opened, it))
+-- over a connection
+pub runs_over : {D : Type 0} (g : Disks D) (r done : Result Done CommandFault) (closed : Result (Files D) CommandFault) (conn last : Held (FileStore D g)) (is_new : Bool) (task : Task) (was now : Traffic)
+    → IfOk closed (λ files. AreClean g files.log files.db → IsCopied last files) → IfErr closed IsUnclosable → IfOk closed (λ _. r ≡ done) → IfErr closed (λ fault. r ≡ Err fault)
+    → SomeOffice (IsOfficeOf over_files conn is_new) (λ office. (deeds : List Deed) × ComesOfTask task done deeds was now × AreDone over_files deeds office last) → RunsOver g conn is_new task r was now
+runs_over g r done closed conn last is_new task was now copied fails same other it =
+    inr (it.0, it.1, runs_to_end g r done closed task it.0 last was now copied fails same other it.2)
+
+-- an office of a connection that was opened from files
+opened_from : {D : Type 0} (g : Disks D) (first : Image) (makes is_new : Bool) (conn office : Held (FileStore D g)) → (is_new ≡ true → makes ≡ true)
+    → (HasCleanDisk (file_state conn) → IsOpened conn) → (HasCleanDisk (file_state conn) → FindsIn first (file_state conn)) → IsOfficeOf over_files conn is_new office
+    → IsOpenedFrom g first makes office
+opened_from g first makes is_new conn office asked opened found is = elim (cases_Bool is_new) [
+  | inl made ↦ opened_as_made {E = CommandFault} g (Ok office) first (file_state conn) makes (asked made) is.clean (is.made made) (λ more. absurd (is.empty made more)) opened found
+  | inr there ↦ opened_as_taken {E = CommandFault} g (Ok office) first (file_state conn) makes is.clean (is.goes_on there) (is.was_there there) opened found
+]
+
+-- the office is had in a file
+in_file : {D T : Type 0} (g : Disks D) (first : Image) (r : Result T CommandFault) (task : Task) (old : Held (FileStore D g)) (was now : Traffic) → IsOpenedFrom g first (makes_office task) old
+    → RunsAndCloses g old task r was now → RunsInFile g first task r was now
+in_file g first r task old was now opened (inl it) = inr (inl (
+  it.0,
+  it.2,
+  record {
+    old = old;
+    opened = opened;
+    files = it.1;
+    closed = it.3;
+  },
+))
+in_file g first r task old was now opened (inr it) = inr (inr (old, opened, it))
+
+pub runs_in_file : {D T : Type 0} (g : Disks D) (first : Image) (r : Result T CommandFault) (task : Task) (makes is_new : Bool) (conn : Held (FileStore D g)) (was now : Traffic)
+    → makes ≡ makes_office task → (is_new ≡ true → makes ≡ true) → (HasCleanDisk (file_state conn) → IsOpened conn) → (HasCleanDisk (file_state conn) → FindsIn first (file_state conn))
+    → RunsOver g conn is_new task r was now → RunsInFile g first task r was now
+runs_in_file g first r task makes is_new conn was now same asked opened found (inl it) = inl it
+runs_in_file g first r task makes is_new conn was now same asked opened found (inr it) =
+    in_file g first r task it.0 was now (opened_from g first (makes_office task) is_new conn it.0 (λ made. sym same ∙ asked made) opened found it.1) it.2

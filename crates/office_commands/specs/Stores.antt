@@ -10,11 +10,13 @@ use Rattle.sqlite.specs.Files.{AreFoundIn, HoldsDatabase, file_state, over_files
 use Rattle.sqlite.specs.Held.{Held, state}
 use Rattle.sqlite.specs.State.{HasCleanDisk}
 use Rattle.sqlite.specs.Steps.{over_memory}
+use Rattle.sqlite.specs.Store.{Ghosts}
 use Rattle.sqlite.specs.Tree.{Trees}
 use Rattle.sqlite.specs.declared.FileStore.{FileStore}
 use Rattle.sqlite.specs.declared.MemStore.{MemStore}
 use Rattle.office_rows.specs.Rows.{max_limit}
 use Rattle.office_tables.specs.Opening.{has_office}
+use Rattle.office_tables.specs.Schema.{no_schema}
 use Rattle.office_history.specs.Histories.{History}
 use Rattle.office_history.specs.Runs.{IsLegal, new_history}
 use Rattle.office_recovery.specs.Found.{HoldsWhere}
@@ -25,11 +27,24 @@ use Rattle.office_commands.specs.Texts.{IsUnclosable, IsUnopenable, found_nothin
 use Rattle.office_commands.specs.Traffic.{Traffic}
 use Rattle.office_commands.specs.declared.fault.CommandFault.{CommandFault}
 
--- ---- in memory
-
 -- the history of an office that was just made
 abbrev pub made_office : History
 made_office = new_history max_limit max_limit
+
+-- An office is had over a connection: it is made there, where `is_new`, and then the database was empty; or it was there. On an honest disk it keeps then
+-- the new history, or whichever was left there.
+pub record IsOfficeOf {S : Type 0} (g : Ghosts S) (conn : Held S) (is_new : Bool) (office : Held S) : Type 0 where
+  pub clean : HasCleanDisk (state g office) → HasCleanDisk (state g conn)
+  pub empty : is_new ≡ true → (state g conn).now.schema ≢ no_schema → ⊥
+  pub made : is_new ≡ true → HasCleanDisk (state g office) → IsKeptBy made_office (state g office)
+  pub was_there : is_new ≡ false → HasCleanDisk (state g office) → IsTrue (has_office (state g conn).now.schema)
+  pub goes_on : is_new ≡ false → HasCleanDisk (state g office) → (h : History) → IsLeftOf h (state g conn).now.trees → IsKeptBy h (state g office)
+
+-- there is such an office, of which this is so
+abbrev pub SomeOffice : {S : Type 0} → (Held S → Type 0) → (Held S → Type 0) → Type 0
+SomeOffice {S} Is Then = (office : Held S) × Is office × Then office
+
+-- ---- in memory
 
 -- the deeds are done with an office that was just made in memory
 pub record InMemory (deeds : List Deed) : Type 0 where
@@ -94,6 +109,11 @@ abbrev pub RunsAndCloses : {D T : Type 0} → (g : disk.Ghosts D) → Held (File
 RunsAndCloses {D} g old task result was now =
     ((deeds : List Deed) × (files : Files D) × ComesOfTask task result deeds was now × AreDoneAndClosed g deeds old files)
     ⊎ IsUnclosed g old task result was now
+
+-- the task is done with the office of a connection, which is closed; or the office can't be had
+abbrev pub RunsOver : {D T : Type 0} → (g : disk.Ghosts D) → Held (FileStore D g) → Bool → Task → Result T CommandFault → Traffic → Traffic → Type 0
+RunsOver g conn is_new task result was now =
+    IsUnopened task result was now ⊎ SomeOffice (IsOfficeOf over_files conn is_new) (λ office. RunsAndCloses g office task result was now)
 
 -- the task is done with the office in a file
 abbrev pub RunsInFile : {D T : Type 0} → disk.Ghosts D → Image → Task → Result T CommandFault → Traffic → Traffic → Type 0

@@ -1,6 +1,6 @@
 //! The stores: an office in memory, or in a file.
 
-ghost use Rattle.std.specs.Prelude.{◌≡◌, ◌≢◌, false, Err, IfErr, IfOk, IsErr, List, Ok, IsTrue, Some, codes, true};
+ghost use Rattle.std.specs.Prelude.{◌≡◌, ◌≢◌, false, Err, IfErr, IfOk, IsErr, IsTrue, List, Ok, OnErr, Some, codes, true};
 ghost use Rattle.std.specs.IoError.{error_kind};
 ghost use Rattle.sqlite.specs.Closing.{IsCopied};
 ghost use Rattle.sqlite.specs.Files.{IsOpened, file_state};
@@ -15,7 +15,7 @@ ghost use Rattle.office_tables.specs.Schema.{no_schema};
 ghost use Rattle.office_history.specs.Histories.{History};
 ghost use Rattle.office_engine.specs.Keeping.{IsKeptBy, IsLeftOf};
 ghost use Rattle.office_commands.specs.Deeds.{AreDone, Deed};
-ghost use Rattle.office_commands.specs.Stores.{IsOpenedFrom, RunsAndCloses, RunsInFile, RunsInMemory, RunsOn, made_office};
+ghost use Rattle.office_commands.specs.Stores.{IsOfficeOf, RunsInFile, RunsInMemory, RunsOn, RunsOver, SomeOffice, made_office};
 ghost use Rattle.office_commands.specs.Tasks.{ComesOfTask, reads_input};
 ghost use Rattle.office_commands.specs.Texts.{IsOfOpening, IsOfStore, IsUnclosable, IsUnopenable, found_nothing, is_of_nothing, search_failure, store_failure};
 ghost use Rattle.office_commands.specs.Traffic.{traffic_of};
@@ -200,13 +200,7 @@ fn is_to_be_made(rt: &HostRuntime, store: &str, makes: bool) -> Result<bool, Com
 /// The office of the connection: it is made there, or was there.
 fn office_of<S: Alter + Drop>(conn: Connection<S>, is_new: bool) -> Result<Office<S>, CommandFault>
     requires outside { (state S.Store conn).in_transaction ≡ false }
-    ensures clean { IfOk result (λ office. HasCleanDisk (state S.Store office) → HasCleanDisk (state S.Store conn)) }
-    ensures made { is_new ≡ true → IfOk result (λ office. HasCleanDisk (state S.Store office) → IsKeptBy made_office (state S.Store office)) }
-    ensures not_empty { is_new ≡ true → (state S.Store conn).now.schema ≢ no_schema → IsErr result }
-    ensures goes_on { is_new ≡ false → IfOk result (λ office. HasCleanDisk (state S.Store office)
-        → (h : History) → IsLeftOf h (state S.Store conn).now.trees → IsKeptBy h (state S.Store office)) }
-    ensures was_there { is_new ≡ false → IfOk result (λ office. HasCleanDisk (state S.Store office)
-        → IsTrue (has_office (state S.Store conn).now.schema)) }
+    ensures is { IfOk result (IsOfficeOf S.Store conn is_new) }
     ensures failure { IfErr result IsUnopenable }
     ensures not_missing { IfErr result (λ fault. found_nothing fault ≡ false) }
 {
@@ -217,22 +211,28 @@ fn office_of<S: Alter + Drop>(conn: Connection<S>, is_new: bool) -> Result<Offic
     }
 }
 
-/// Opens the office of the store. Where nothing is there, it is made if that is asked for.
-fn open_office<S: Start>(
+/// Does the task with the office of the connection, and hands the connection back with what comes of it.
+fn work_over<S: Alter + Drop, R: Read, O: Write>(
     rt: &HostRuntime,
-    start: S,
-    store: &str,
-    makes: bool,
-) -> Result<Office<FileStore<FileFrom<S>>>, CommandFault>
-    ensures opened { IfOk result (IsOpenedFrom ⟦<FileFrom<S> as Disk>⟧ (image_at S.Start) makes) }
+    conn: Connection<S>,
+    is_new: bool,
+    task: &Task<'_>,
+    input: &mut Counted<R>,
+    out: &mut Counted<O>,
+) -> Result<(Connection<S>, Result<Done, CommandFault>), CommandFault>
+    requires outside { (state S.Store conn).in_transaction ≡ false }
+    ensures works { IfOk result (λ worked. SomeOffice (IsOfficeOf S.Store conn is_new) (λ office. (deeds : List Deed)
+        × ComesOfTask task.now worked.1 deeds (traffic_of R.Read O.Write input.old out.old) (traffic_of R.Read O.Write input.new out.new)
+        × AreDone S.Store deeds office worked.0)) }
     ensures failure { IfErr result IsUnopenable }
-    ensures missing { IfErr result (λ fault. found_nothing fault ≡ true → makes ≡ false) }
+    ensures not_missing { IfErr result (λ fault. found_nothing fault ≡ false) }
+    ensures untouched { OnErr result ((input.new ≡ input.old) × (out.new ≡ out.old)) }
+    ensures left { reads_input task.now ≡ false → input.new ≡ input.old }
+    ensures quiet { IfOk result (λ worked. IfOk worked.1 IsQuiet) }
 {
-    let is_new = is_to_be_made(rt, store, makes)?;
-    match open_store(rt, start, store, is_new) {
-        Ok(conn) => office_of(conn, is_new),
-        Err(fault) => Err(fault),
-    }
+    let mut office = office_of(conn, is_new)?;
+    let done = do_task(rt, &mut office, task, input, out);
+    Ok((office.into_connection(), done))
 }
 
 /// What a close handed back; or why it failed, and the store is let go.
@@ -247,29 +247,11 @@ fn closed<F, S: Drop>(given: Result<F, (Error, S)>) -> Result<F, CommandFault>
 }
 
 /// Copies the log into the file of the store, and hands both back.
-fn close_office<D: Disk + Drop>(office: Office<FileStore<D>>) -> Result<Files<D>, CommandFault>
-    ensures copied { IfOk result (λ files. AreClean D.Disk files.log files.db → IsCopied office files) }
+fn close_store<D: Disk + Drop>(conn: Connection<FileStore<D>>) -> Result<Files<D>, CommandFault>
+    ensures copied { IfOk result (λ files. AreClean D.Disk files.log files.db → IsCopied conn files) }
     ensures failure { IfErr result IsUnclosable }
 {
-    closed(office.into_connection().close_files())
-}
-
-/// Does the task with an open office, and hands that back with what comes of it.
-fn done_with<S: Alter, R: Read, O: Write>(
-    rt: &HostRuntime,
-    mut office: Office<S>,
-    task: &Task<'_>,
-    input: &mut Counted<R>,
-    out: &mut Counted<O>,
-) -> (Office<S>, Result<Done, CommandFault>)
-    ensures does { (deeds : List Deed) × ComesOfTask task.now result.1 deeds
-        (traffic_of R.Read O.Write input.old out.old) (traffic_of R.Read O.Write input.new out.new)
-        × AreDone S.Store deeds office result.0 }
-    ensures left { reads_input task.now ≡ false → input.new ≡ input.old }
-    ensures quiet { IfOk result.1 IsQuiet }
-{
-    let done = do_task(rt, &mut office, task, input, out);
-    (office, done)
+    closed(conn.close_files())
 }
 
 /// What a task came to, or that the close behind it failed.
@@ -286,22 +268,27 @@ fn ended<F: Drop>(
     }
 }
 
-/// Does the task with an open office, and closes it. Where the close fails, that is the fault, however
-/// the task ended.
+/// Does the task with the office of the connection, and closes it. Where the close fails, that is the
+/// fault, however the task ended. No other function names the store's own type for an office's work: the
+/// prover goes over all of it where one does.
 fn on_files<D: Disk + Drop, R: Read, O: Write>(
     rt: &HostRuntime,
-    office: Office<FileStore<D>>,
+    conn: Connection<FileStore<D>>,
+    is_new: bool,
     task: &Task<'_>,
     input: &mut Counted<R>,
     out: &mut Counted<O>,
 ) -> Result<Done, CommandFault>
-    ensures runs { RunsAndCloses D.Disk office task.now result
+    requires outside { (file_state conn).in_transaction ≡ false }
+    ensures runs { RunsOver D.Disk conn is_new task.now result
         (traffic_of R.Read O.Write input.old out.old) (traffic_of R.Read O.Write input.new out.new) }
     ensures left { reads_input task.now ≡ false → input.new ≡ input.old }
     ensures quiet { IfOk result IsQuiet }
 {
-    let (office, done) = done_with(rt, office, task, input, out);
-    ended(done, close_office(office))
+    match work_over(rt, conn, is_new, task, input, out) {
+        Ok((conn, done)) => ended(done, close_store(conn)),
+        Err(fault) => Err(fault),
+    }
 }
 
 /// Does the task with the office in the file of the store.
@@ -318,8 +305,9 @@ fn in_file<S: Start, R: Read, O: Write>(
     ensures left { reads_input task.now ≡ false → input.new ≡ input.old }
     ensures quiet { IfOk result IsQuiet }
 {
-    match open_office(rt, start, store, task.makes_office()) {
-        Ok(office) => on_files(rt, office, task, input, out),
+    let is_new = is_to_be_made(rt, store, task.makes_office())?;
+    match open_store(rt, start, store, is_new) {
+        Ok(conn) => on_files(rt, conn, is_new, task, input, out),
         Err(fault) => Err(fault),
     }
 }
