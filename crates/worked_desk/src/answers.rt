@@ -1,4 +1,4 @@
-//! The calls of `desk_answers`, on answers that the stored run of `depot` has not.
+//! The calls of `desk_answers`, on answers that the stored replay has not.
 
 use desk_answers::{answer_bytes, refusal_bytes};
 use desk_routes::DeskRefusal;

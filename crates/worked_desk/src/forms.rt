@@ -1,5 +1,5 @@
 //! The calls of `desk_forms`, on their happy paths, and what paths stand for. Each query and each body that
-//! is refused stands in the stored run of `depot`.
+//! is refused stands in the stored replay.
 
 use desk_forms::{
     BodyFault, HoldBody, QueryFault, check_no_body, check_no_query, decode_path,

@@ -1,5 +1,5 @@
 //! The calls of `desk_hearing`, on their happy path: a reader that gives one byte a call is heard as one that
-//! gives all. What else is heard stands in the stored run of `depot`.
+//! gives all. What else is heard stands in the stored replay.
 
 use desk_devices::{Counted, FailAt, Portion};
 use desk_hearing::{Heard, HeardFault, read_request};

@@ -1,5 +1,5 @@
 //! The calls of `desk_routes`, on their happy paths. Each path and each method that is refused stands in
-//! the stored run of `depot`.
+//! the stored replay.
 
 use desk_routes::{DeskRefusal, Method, Pattern, Place, Route, Routes, split_target};
 use std::test::*;
