@@ -3,7 +3,8 @@
 # file may be written (`ulimit -f`) the log takes a commit, and the file, which is longer, doesn't take
 # it from the log. `ask`, `replay` and `serve` have to say so and end with 3, their answers given, and
 # what they answered has to be there afterwards; so too where the output fails as well. Then the output alone fails
-# (`/dev/full`): the command ends with 3, and the file has the change without its log.
+# (`/dev/full`): the command ends with 3, and the file has the change without its log. At last an install fails, and
+# the policy before stands.
 # Needs sha256sum and curl. Words: the program, `depot` of the repository if left out.
 set -eu
 top=$(dirname "$(readlink -f "$0")")/..
@@ -30,11 +31,12 @@ record() {
     echo
 }
 
-# Runs the program where no file may be written past 512 KiB.
+# Runs the program where no file may be written past so many KiB.
 limited() {
     (
         trap '' XFSZ
-        ulimit -f 512
+        ulimit -f "$1"
+        shift
         exec "$program" "$@"
     )
 }
@@ -78,18 +80,18 @@ for each in class collection first; do record "$folder/$each"; done >"$folder/in
 "$program" replay "$store" <"$folder/input" | grep -aq '^HTTP/1.1 201 ' || { echo "no deposit was made" >&2; exit 1; }
 
 status=0
-request POST "${target}A-2" "$small" | limited ask "$store" "$day" >"$folder/out" 2>"$folder/err" || status=$?
+request POST "${target}A-2" "$small" | limited 512 ask "$store" "$day" >"$folder/out" 2>"$folder/err" || status=$?
 compare 'HTTP/1.1 201 Created; store Q4; 3' "$status"
 is_kept 2
 
 status=0
 request POST "${target}A-3" "$small" >"$folder/third"
-record "$folder/third" | limited replay "$store" >"$folder/out" 2>"$folder/err" || status=$?
+record "$folder/third" | limited 512 replay "$store" >"$folder/out" 2>"$folder/err" || status=$?
 compare 'HTTP/1.1 201 Created; store Q4; 3' "$status"
 is_kept 3
 
 status=0
-limited serve --port 0 --count 1 "$store" "$day" >"$folder/listening" 2>"$folder/err" &
+limited 512 serve --port 0 --count 1 "$store" "$day" >"$folder/listening" 2>"$folder/err" &
 serving=$!
 await "$serving" "$folder/listening" listening
 curl -sS --max-time 60 -i -H 'Depot-Caller: anna' --data-binary "@$small" \
@@ -101,7 +103,7 @@ is_kept 4
 # The output fails, and the closing too: the closing is told.
 status=0
 : >"$folder/out"
-request POST "${target}A-5" "$small" | limited ask "$store" "$day" >/dev/full 2>"$folder/err" || status=$?
+request POST "${target}A-5" "$small" | limited 512 ask "$store" "$day" >/dev/full 2>"$folder/err" || status=$?
 compare '; store Q4; 3' "$status"
 is_kept 5
 
@@ -111,4 +113,15 @@ request POST "${target}A-6" "$small" | "$program" ask "$store" "$day" >/dev/full
 compare '; device; 3' "$status"
 cp "$store" "$folder/alone.db"
 is_kept 6 "$folder/alone.db"
+# The log takes no page, so the install fails: that is told, and the policy before stands.
+office=$folder/installed.db
+"$program" policy "$office" "$top/examples/policy.toml" >/dev/null
+cp "$office" "$folder/before.db"
+status=0
+limited 4 policy "$office" "$top/examples/policy.toml" >"$folder/out" 2>"$folder/err" </dev/null || status=$?
+compare '; store Q4; 3' "$status"
+told="depot: cannot install the policy in $office: the store failed"
+[ "$(tail -n +2 "$folder/err")" = "$told" ] || { echo "'$told' is wanted, and this came: '$(tail -n +2 "$folder/err")'" >&2; exit 1; }
+cmp "$office" "$folder/before.db"
+request GET /deposits | "$program" ask "$office" "$day" | head -n 1 | grep -q '^HTTP/1.1 200 ' || { echo "the policy before doesn't stand" >&2; exit 1; }
 echo "$cases commands whose end goes wrong say so, and what they did stands"
