@@ -1,5 +1,5 @@
 -- The entries that are listed, folder by folder.
-use Rattle.std.proofs.Common.{◌≡◌, ◌∙◌, ◌+◌, ◌<◌, ◌≤◌, ℕ, List, [], ◌∷◌, ◌++◌, get_or, length, sym, ap, subst, take, take_all, append-nil, append_assoc, arith}
+use Rattle.std.proofs.Common.{◌≡◌, ◌∙◌, ◌+◌, ◌<◌, ◌≤◌, ℕ, List, true, false, Result, Ok, Err, IfErr, IfOk, IsErr, [], ◌∷◌, ◌++◌, get_or, length, sym, ap, subst, take, take_all, append-nil, append_assoc, arith}
 use Rattle.std.specs.Prelude.{flat_map, string_bytes}
 use Rattle.std.specs.List.{AllZip}
 use Rattle.std.proofs.lemmas.List.{take_more, take-append-le}
@@ -52,3 +52,10 @@ listed_all lists entries next le so_far = record {
   are_first = so_far.are_first;
   are_below = subst (λ (es : List Entry). AllZip (At lists) es so_far.below) (take_all next entries le) so_far.are_below;
 }
+
+-- what is told of names is told of some
+pub told_of_some : {S E V X : Type 0} (P : S → V → Type 0) (names : Result S E) (r : Result V X) → IfErr names (λ _. IsErr r) → IfOk names (λ n. IfOk r (λ v. P n v)) → IfOk r (λ v. (n : S) × P n v)
+told_of_some P (Ok n) (Ok v) fails told = (n, told)
+told_of_some P (Ok n) (Err x) fails told = tt
+told_of_some P (Err e) (Ok v) fails told = let never : false ≡ true = fails in absurd (cc)
+told_of_some P (Err e) (Err x) fails told = tt

@@ -1,16 +1,17 @@
 -- What is told of a folder that is refused.
 use Rattle.std.proofs.Common.{◌≡◌, inl, inr, ℕ, List, [], ◌∷◌, length, replicate, map, refl, ◌∙◌}
-use Rattle.std.specs.Prelude.{None, Result, Ok, Err, IfErr, string_bytes}
+use Rattle.std.specs.Prelude.{None, Result, Ok, Err, IfErr, IfOk, string_bytes}
 use Rattle.std.proofs.Math.ListN.{length-replicate}
 use Rattle.bag_text.specs.TransferForm.{File, IsFormOf}
 use Rattle.bag_folders.specs.declared.failed.Failed.{Failed}
 use Rattle.bag_folders.specs.declared.failed.Failed.TheVariants as failures
+use Rattle.bag_folders.specs.declared.listed.Entry.{Entry}
 use Rattle.bag_folders.specs.declared.listed.Found.{Found}
 use Rattle.bag_folders.specs.declared.listed.Listed.{Listed}
 use Rattle.bag_folders.specs.declared.packing.Packed.{Packed}
 use Rattle.bag_folders.specs.declared.pack_fault.PackFault.{PackFault}
 use Rattle.bag_folders.specs.declared.pack_fault.PackFault.TheVariants.{Name, Set, Size, Device, Memory}
-use Rattle.bag_folders.specs.Packing.{AreFilesOf, AllFilesOf, AreInOrder, HasNoForm, IsPacked, IsRefused, MayBeRefused, pack_failed}
+use Rattle.bag_folders.specs.Packing.{AreFilesOf, AllFilesOf, AreInOrder, HasNoForm, HasNoFormOf, IsFoundUnder, IsPacked, IsPackedOf, IsRefused, IsRefusedOf, IsRefusedUnder, MayBeRefused, pack_failed}
 use Rattle.bag_folders.proofs.LoadLemmas.{same_count}
 
 -- ---- files that could be the ones that are listed
@@ -32,32 +33,80 @@ plan_refused found listed Size odd order none = (odd, (listed, order, none))
 plan_refused found listed (Device trouble) odd order none = none (map filled listed) (some_files listed)
 plan_refused found listed Memory odd order none = tt
 
-pub memory_may_be : MayBeRefused Memory
-memory_may_be = inr ([], tt)
+pub failed_has_none : (listed : List Listed) (failed : Failed) → HasNoFormOf listed (pack_failed failed)
+failed_has_none listed (failures.Device trouble) = tt
+failed_has_none listed failures.Memory = tt
 
-pub failed_may_be : (failed : Failed) → MayBeRefused (pack_failed failed)
-failed_may_be (failures.Device trouble) = tt
-failed_may_be failures.Memory = memory_may_be
+has_none : (listed : List Listed) (files : List File) (fault : PackFault) → AreFilesOf listed files → HasNoForm files fault → HasNoFormOf listed fault
+has_none listed files (Name path) are h = absurd h
+has_none listed files (Set fault path) are h = (files, are, h)
+has_none listed files Size are h = (files, are, h)
+has_none listed files (Device trouble) are h = tt
+has_none listed files Memory are h = tt
 
-pub plan_may_be : (found : Found) (fault : PackFault) → IsRefused found fault → MayBeRefused fault
-plan_may_be found (Name path) h = inl (found, h)
-plan_may_be found (Set fault path) h = inl (found, h)
-plan_may_be found Size h = inl (found, h)
-plan_may_be found (Device trouble) h = tt
-plan_may_be found Memory h = inl (found, h)
+pub form_has_none : {X : Type 0} (listed : List Listed) (files : List File) (result : Result X PackFault) → AreFilesOf listed files → IfErr result (HasNoForm files) → IfErr result (HasNoFormOf listed)
+form_has_none listed files (Ok x) are h = tt
+form_has_none listed files (Err fault) are h = has_none listed files fault are h
 
-form_fault : (files : List File) (fault : PackFault) → HasNoForm files fault → MayBeRefused fault
-form_fault files (Name path) h = absurd h
-form_fault files (Set fault path) h = inr (files, h)
-form_fault files Size h = inr (files, h)
-form_fault files (Device trouble) h = tt
-form_fault files Memory h = inr (files, h)
+pub failed_under : (lists : List ℕ → List Entry → Type 0) (failed : Failed) → IsRefusedUnder lists (pack_failed failed)
+failed_under lists (failures.Device trouble) = tt
+failed_under lists failures.Memory = tt
 
-pub form_may_be : {X : Type 0} (files : List File) (result : Result X PackFault) → IfErr result (HasNoForm files) → IfErr result MayBeRefused
-form_may_be files (Ok x) h = tt
-form_may_be files (Err fault) h = form_fault files fault h
+refused_under : (lists : List ℕ → List Entry → Type 0) (found : Found) (fault : PackFault) → IsFoundUnder lists found → IsRefusedOf found fault → IsRefusedUnder lists fault
+refused_under lists found (Name path) under h = (found, under, h)
+refused_under lists found (Set fault path) under h = (found, under, h)
+refused_under lists found Size under h = (found, under, h)
+refused_under lists found (Device trouble) under h = tt
+refused_under lists found Memory under h = tt
+
+pub plan_under : (lists : List ℕ → List Entry → Type 0) (found : Found) (fault : PackFault) → IsFoundUnder lists found → IsRefused found fault → IsRefusedUnder lists fault
+plan_under lists found fault under h = refused_under lists found fault under (inl h)
+
+pub form_under : (lists : List ℕ → List Entry → Type 0) (found : Found) (listed : List Listed) (fault : PackFault) → IsFoundUnder lists found → (found.odd ≡ None) × AreInOrder found.files.items listed → HasNoFormOf listed fault
+    → IsRefusedUnder lists fault
+form_under lists found listed fault under order h = refused_under lists found fault under (inr (listed, order.0, order.1, h))
 
 -- ---- what is packed
 
-pub is_packed : (packed : Packed) (listed : List Listed) (text : List ℕ) → packed.files ≡ length listed → packed.bytes ≡ length text → (files : List File) × AreFilesOf listed files × IsFormOf files text → IsPacked packed
-is_packed packed listed text count bytes h = (h.0, text, h.2, count ∙ same_count listed h.0 h.1, bytes)
+pub is_packed_of : (found : Found) (packed : Packed) (listed : List Listed) (text : List ℕ) → (found.odd ≡ None) × AreInOrder found.files.items listed → packed.files ≡ length listed → packed.bytes ≡ length text
+    → (files : List File) × AreFilesOf listed files × IsFormOf files text → IsPackedOf found packed
+is_packed_of found packed listed text order count bytes h = record {
+  listed = listed;
+  files = h.0;
+  text = text;
+  odd = order.0;
+  order = order.1;
+  are = h.1;
+  form = h.2;
+  count = count ∙ same_count listed h.0 h.1;
+  bytes = bytes;
+}
+
+-- ---- whatever is found
+
+pub some_packed : (lists : List ℕ → List Entry → Type 0) (result : Result Packed PackFault) → IfOk result (λ packed. (found : Found) × IsFoundUnder lists found × IsPackedOf found packed) → IfOk result IsPacked
+some_packed lists (Ok packed) h = let it = h.2 in (it.files, it.text, it.form, it.count, it.bytes)
+some_packed lists (Err fault) h = tt
+
+of_refused : (found : Found) (fault : PackFault) → IsRefusedOf found fault → MayBeRefused fault
+of_refused found (Name path) (inl h) = inl (found, h)
+of_refused found (Set fault path) (inl h) = inl (found, h)
+of_refused found Size (inl h) = inl (found, h)
+of_refused found (Device trouble) (inl h) = tt
+of_refused found Memory (inl h) = inl (found, h)
+of_refused found (Name path) (inr h) = let it = h.3 in inr (it.0, it.2)
+of_refused found (Set fault path) (inr h) = let it = h.3 in inr (it.0, it.2)
+of_refused found Size (inr h) = let it = h.3 in inr (it.0, it.2)
+of_refused found (Device trouble) (inr h) = tt
+of_refused found Memory (inr h) = inr ([], tt)
+
+under_refused : (lists : List ℕ → List Entry → Type 0) (fault : PackFault) → IsRefusedUnder lists fault → MayBeRefused fault
+under_refused lists (Name path) h = of_refused h.0 (Name path) h.2
+under_refused lists (Set fault path) h = of_refused h.0 (Set fault path) h.2
+under_refused lists Size h = of_refused h.0 Size h.2
+under_refused lists (Device trouble) h = tt
+under_refused lists Memory h = inr ([], tt)
+
+pub some_refused : (lists : List ℕ → List Entry → Type 0) (result : Result Packed PackFault) → IfErr result (IsRefusedUnder lists) → IfErr result MayBeRefused
+some_refused lists (Ok packed) h = tt
+some_refused lists (Err fault) h = under_refused lists fault h

@@ -1,13 +1,14 @@
 -- What comes of a text that was read.
 use Rattle.std.proofs.Common.{◌≡◌, ℕ, List, Option, Some, None, IfSome, sym, subst}
 use Rattle.std.specs.Prelude.{Result, Ok, Err, IfErr, IfOk}
+use Rattle.std.specs.declared.io.Read.{Ghosts as Reads}
 use Rattle.bag_text.specs.TransferForm.{File, IsFormOf}
 use Rattle.bag_folders.specs.declared.failed.Failed.{Failed}
 use Rattle.bag_folders.specs.declared.failed.Failed.TheVariants as failures
 use Rattle.bag_folders.specs.declared.unpacking.Unpacked.{Unpacked}
 use Rattle.bag_folders.specs.declared.unpack_fault.UnpackFault.{UnpackFault}
 use Rattle.bag_folders.specs.declared.unpack_fault.UnpackFault.TheVariants.{Set, Size, Exists, Device, Memory}
-use Rattle.bag_folders.specs.Unpacking.{CanStop, IsMade, IsUnpacked, IsUnpackedFrom, IsUnreadable, MayBeUnreadable, judged_part, unpack_failed}
+use Rattle.bag_folders.specs.Unpacking.{CanStop, IsMade, IsOfForm, IsUnpacked, IsUnpackedFrom, IsUnpackedFromFile, IsUnreadable, MayBeUnreadable, judged_part, unpack_failed}
 
 pub failed_stops : (failed : Failed) → CanStop (unpack_failed failed)
 failed_stops (failures.Device trouble) = tt
@@ -33,10 +34,10 @@ unread_from text (Device trouble) h = tt
 unread_from text Memory h = tt
 
 -- a bag that was read is made, and what is none is refused
-pub made_from : (text : List ℕ) (read : Result (List File) UnpackFault) (result : Result Unpacked UnpackFault) → IfOk read (λ bag. IsFormOf bag text) → IfErr read (IsUnreadable text)
-    → IfErr read (λ fault. result ≡ Err fault) → IfOk read (λ bag. IsMade bag result) → IsUnpackedFrom text result
-made_from text (Ok files) result form refused unread made = made_of text files result form made
-made_from text (Err fault) result form refused unread made = subst (λ (r : Result Unpacked UnpackFault). IsUnpackedFrom text r) (sym unread) (unread_from text fault refused)
+pub made_from : (unmade : Type 0) (text : List ℕ) (read : Result (List File) UnpackFault) (result : Result Unpacked UnpackFault) → IfOk read (λ bag. IsFormOf bag text) → IfErr read (IsUnreadable text)
+    → IfErr read (λ fault. (result ≡ Err fault) × unmade) → IfOk read (λ bag. IsMade bag result) → IsUnpackedFrom text result
+made_from unmade text (Ok files) result form refused unread made = made_of text files result form made
+made_from unmade text (Err fault) result form refused unread made = subst (λ (r : Result Unpacked UnpackFault). IsUnpackedFrom text r) (sym unread.0) (unread_from text fault refused)
 
 -- the text is what was judged of a file, where that is known
 pub judged_from : (known : Option (List ℕ)) (text : List ℕ) (result : Result Unpacked UnpackFault) → IfSome known (λ given. text ≡ judged_part given) → IsUnpackedFrom text result
@@ -63,3 +64,30 @@ some_refused text Memory from = (text, tt)
 pub some_unreadable : (text : List ℕ) (result : Result Unpacked UnpackFault) → IsUnpackedFrom text result → IfErr result MayBeUnreadable
 some_unreadable text (Ok unpacked) from = tt
 some_unreadable text (Err fault) from = some_refused text fault from
+
+-- a form that is refused is told of where nothing is made
+stops : (fault : UnpackFault) → CanStop fault → IsOfForm fault → ⊥
+stops (Set fault other) stop form = stop
+stops Size stop form = stop
+stops Exists stop form = form
+stops (Device trouble) stop form = form
+stops Memory stop form = form
+
+pub unmade_from : (unmade : Type 0) (read : Result (List File) UnpackFault) (result : Result Unpacked UnpackFault) → IfErr read (λ fault. (result ≡ Err fault) × unmade) → IfOk read (λ bag. IsMade bag result)
+    → IfErr result (λ fault. IsOfForm fault → unmade)
+unmade_from unmade read (Ok unpacked) unread made = tt
+unmade_from unmade (Ok files) (Err fault) unread made = λ form. absurd (stops fault made form)
+unmade_from unmade (Err other) (Err fault) unread made = λ form. unread.1
+
+-- what comes of a file that was opened
+pub of_file : {F : Type 0} (reads : Reads F) (file : F) (result : Result Unpacked UnpackFault) → IfSome (reads.remaining file) (λ given. IsUnpackedFrom (judged_part given) result) → IsUnpackedFromFile reads result
+of_file reads file (Ok unpacked) judged = (file, judged)
+of_file reads file (Err (Set fault other)) judged = (file, judged)
+of_file reads file (Err Size) judged = (file, judged)
+of_file reads file (Err Exists) judged = (file, judged)
+of_file reads file (Err (Device trouble)) judged = tt
+of_file reads file (Err Memory) judged = tt
+
+pub of_none : {F : Type 0} (reads : Reads F) (failed : Failed) → IsUnpackedFromFile reads (Err (unpack_failed failed))
+of_none reads (failures.Device trouble) = tt
+of_none reads failures.Memory = tt

@@ -32,6 +32,10 @@ abbrev pub AreToldOf : {S R A F D : Type 0} → (S → Option (Result (DirEntry 
 AreToldOf {R = R} {A = A} {F = F} {D = D} steps folder names entries =
     (given : List (Result (DirEntry R A F D) Error)) × Drains steps names given × AllZip (IsToldOf folder) given entries
 
+-- so of some names
+abbrev pub AreToldOfSome : {S R A F D : Type 0} → (S → Option (Result (DirEntry R A F D) Error) → S → Type 0) → List ℕ → List Entry → Type 0
+AreToldOfSome {S} steps folder entries = (names : S) × AreToldOf steps folder names entries
+
 -- ---- a folder and all folders below it
 
 -- these entries are listed at this path where it is a folder's, and none where it isn't

@@ -9,6 +9,8 @@ use Rattle.bag_text.specs.declared.set_fault.SetFault.{SetFault}
 use Rattle.bag_text.specs.declared.set_fault.SetFault.TheVariants as sets
 use Rattle.bag_folders.specs.declared.failed.Failed.{Failed}
 use Rattle.bag_folders.specs.declared.failed.Failed.TheVariants as failures
+use Rattle.bag_folders.specs.Listing.{AreListed, IsFoundIn}
+use Rattle.bag_folders.specs.declared.listed.Entry.{Entry}
 use Rattle.bag_folders.specs.declared.listed.Found.{Found}
 use Rattle.bag_folders.specs.declared.listed.Listed.{Listed}
 use Rattle.bag_folders.specs.declared.packing.Packed.{Packed}
@@ -69,6 +71,42 @@ IsRefused found Memory = Unit {0}
 IsRefused found (Device trouble) = ⊥
 IsRefused found fault =
     (found.odd ≡ None) × ((listed : List Listed) × AreInOrder found.files.items listed × AllFilesOf listed (λ files. HasNoForm files fault))
+
+-- ---- what comes of folders that may be listed so
+
+-- what is found under the first of them, where these entries may be listed
+abbrev pub IsFoundUnder : (List ℕ → List Entry → Type 0) → Found → Type 0
+IsFoundUnder lists found = (entries : List Entry) × AreListed lists entries × IsFoundIn entries found
+
+-- all that was found are files; and so many files and bytes has the form of them, in the order of their paths
+pub record IsPackedOf (found : Found) (packed : Packed) : Type 0 where
+  pub listed : List Listed
+  pub files : List File
+  pub text : List ℕ
+  pub odd : found.odd ≡ None
+  pub order : AreInOrder found.files.items listed
+  pub are : AreFilesOf listed files
+  pub form : IsFormOf files text
+  pub count : packed.files ≡ length files
+  pub bytes : packed.bytes ≡ length text
+
+-- what was read of the files that are listed has no form; a device may fail
+abbrev pub HasNoFormOf : List Listed → PackFault → Type 0
+HasNoFormOf listed (Device trouble) = Unit {0}
+HasNoFormOf listed Memory = Unit {0}
+HasNoFormOf listed fault = (files : List File) × AreFilesOf listed files × HasNoForm files fault
+
+-- what was found is refused, as far as paths and sizes tell, or what was read of it has no form
+abbrev pub IsRefusedOf : Found → PackFault → Type 0
+IsRefusedOf found fault =
+    IsRefused found fault
+    ⊎ ((listed : List Listed) × (found.odd ≡ None) × AreInOrder found.files.items listed × HasNoFormOf listed fault)
+
+-- so of what is found under the first of the folders; a device may fail
+abbrev pub IsRefusedUnder : (List ℕ → List Entry → Type 0) → PackFault → Type 0
+IsRefusedUnder lists (Device trouble) = Unit {0}
+IsRefusedUnder lists Memory = Unit {0}
+IsRefusedUnder lists fault = (found : Found) × IsFoundUnder lists found × IsRefusedOf found fault
 
 -- ---- what is told of a folder, of which no contract says what it holds
 

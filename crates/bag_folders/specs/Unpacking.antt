@@ -1,6 +1,7 @@
 -- What unpacking a text comes to: the files of the bag whose form it is, or why it is none.
-use Rattle.std.specs.Prelude.{◌≡◌, ℕ, ◌+◌, ◌<◌, ◌≤◌, Bool, not, ◌&&◌, List, [], ◌∷◌, ◌++◌, Option, Some, None, ◌==◌, Result, Ok, Err, bytes_eq, codes, filter_map, if◌then◌else◌, length, map, option_map, string_bytes, take}
+use Rattle.std.specs.Prelude.{◌≡◌, ℕ, ◌+◌, ◌<◌, ◌≤◌, Bool, not, ◌&&◌, List, [], ◌∷◌, ◌++◌, Option, Some, None, ◌==◌, Result, Ok, Err, IfSome, bytes_eq, codes, filter_map, if◌then◌else◌, length, map, option_map, string_bytes, take}
 use Rattle.std.specs.List.{list_any}
+use Rattle.std.specs.declared.io.Read.{Ghosts as Reads}
 use Rattle.std.specs.List.Sorted.{IsPermutation}
 use Rattle.std.specs.Option.{option_or}
 use Rattle.bag_check.specs.Contents.{declaration_path, is_payload}
@@ -63,6 +64,24 @@ IsUnpackedFrom text (Ok unpacked) = (files : List File) × IsFormOf files text �
 IsUnpackedFrom text (Err Exists) = (files : List File) × IsFormOf files text
 IsUnpackedFrom text (Err (Device trouble)) = Unit {0}
 IsUnpackedFrom text (Err fault) = IsUnreadable text fault
+
+-- the fault is one of the form
+abbrev pub IsOfForm : UnpackFault → Type 0
+IsOfForm (Set fault other) = Unit {0}
+IsOfForm Size = Unit {0}
+IsOfForm fault = ⊥
+
+-- ---- what comes of a file
+
+-- a file of which this is so, where it is known what it gives
+abbrev pub SomeFile : {F : Type 0} → Reads F → (List ℕ → Type 0) → Type 0
+SomeFile {F} reads Is = (file : F) × IfSome (reads.remaining file) Is
+
+-- what comes of the text that a file gives, unless a device or memory fails
+abbrev pub IsUnpackedFromFile : {F : Type 0} → Reads F → Result Unpacked UnpackFault → Type 0
+IsUnpackedFromFile reads (Err (Device trouble)) = Unit {0}
+IsUnpackedFromFile reads (Err Memory) = Unit {0}
+IsUnpackedFromFile reads result = SomeFile reads (λ given. IsUnpackedFrom (judged_part given) result)
 
 -- ---- what is told of a file, of which no contract says what it holds
 

@@ -5,14 +5,14 @@ ghost use Rattle.std.specs.Fs.{IsDir, IsFile, dir_entry_name, file_type, metadat
 ghost use Rattle.std.specs.Iterator.{IsFinite};
 ghost use Rattle.std.specs.IoError.{error_kind};
 ghost use Rattle.std.specs.declared.io.ErrorKind.TheVariants.{InvalidFilename};
-ghost use Rattle.bag_folders.specs.Listing.{AreToldOf, IsToldOf, joined};
+ghost use Rattle.bag_folders.specs.Listing.{AreToldOf, AreToldOfSome, IsToldOf, joined};
 ghost use Rattle.bag_folders.specs.declared.failed.Failed.{Failed};
 ghost use Rattle.bag_folders.specs.declared.listed.Entry.{Entry};
 
 use crate::failed::{Failed, Tried, failed_at};
 use crate::listed::{Entry, Kind};
 use std::alloc::{AllocError, Global};
-use std::fs::{DirEntry, Metadata};
+use std::fs::{DirEntry, Metadata, ReadDir};
 use std::io::ErrorKind;
 use std::rt::Files;
 use std::{fs, io};
@@ -180,7 +180,8 @@ pub struct FoldersUnder<'a, R> {
 }
 
 impl<'a, R: Files + AllocGlobal> Folders for FoldersUnder<'a, R> {
-    ghost lists = { λ _ _ _. ⊤ };
+    // Those that are told of the names that some listing of the system gives.
+    ghost lists = { λ _. AreToldOfSome ⟦<ReadDir<&'a R, Global> as Iterator>⟧.next_gives };
 
     ghost fails = { λ _ _ _. ⊤ };
 

@@ -25,7 +25,7 @@ pub use folders::Folders;
 pub use form::form_of;
 pub use listed::{Entry, Found, Kind, Listed};
 pub use listing::found_under;
-pub use making::folders_of;
+pub use making::{Maker, folders_of};
 pub use pack_fault::PackFault;
 pub use packing::{Packed, pack};
 pub use planning::plan;

@@ -4,13 +4,13 @@ ghost use Rattle.std.specs.Prelude.{◌≡◌, ◌++◌, [], List, Some, IfErr, 
 ghost use Rattle.std.specs.List.{cons_option};
 ghost use Rattle.std.specs.Option.{option_or};
 ghost use Rattle.bag_folders.specs.Listing.{AreListed, AreListedAt, CanFail, IsFoundIn, file_in, odd_in};
+ghost use Rattle.bag_folders.specs.Packing.{IsFoundUnder};
 ghost use Rattle.bag_folders.specs.declared.listed.Entry.{Entry};
 
 use crate::failed::Failed;
-use crate::folders::{Folders, FoldersUnder};
+use crate::folders::Folders;
 use crate::listed::{Entry, Found, Kind, Listed};
 use std::alloc::{AllocError, Global};
-use std::rt::Files;
 
 /// The entries that an entry leads to: those of a folder.
 fn entries_at<F: Folders>(alloc: Global, folders: &F, entry: &Entry) -> Result<Vec<Entry>, Failed>
@@ -86,17 +86,10 @@ fn found_in(alloc: Global, entries: Vec<Entry>) -> Result<Found, AllocError>
 /// What is found under the first of the folders, its subfolders included.
 pub fn found_under<F: Folders>(alloc: Global, folders: &F) -> Result<Found, Failed>
     // It is all that is listed there and in each folder below it.
-    ensures found { IfOk result (λ found. (entries : List Entry)
-        × AreListed (F.lists folders.now) entries × IsFoundIn entries found) }
+    ensures found { IfOk result (IsFoundUnder (F.lists folders.now)) }
     // Where one of them can't be listed, nothing is found.
     ensures failed { IfErr result (CanFail (F.fails folders.now)) }
 {
     let entries = all_entries(alloc, folders)?;
     Ok(found_in(alloc, entries)?)
-}
-
-/// What is found under a folder of the file system.
-pub(crate) fn list_folder<R: Files + AllocGlobal>(rt: &R, root: &str) -> Result<Found, Failed> {
-    let folders = FoldersUnder { rt, root };
-    found_under(rt.alloc(), &folders)
 }

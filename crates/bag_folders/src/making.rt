@@ -102,93 +102,109 @@ pub fn folders_of<'a>(
     Ok(folders)
 }
 
-/// Makes the folder, where nothing stands under its name.
-fn make_folder<R: Files + AllocGlobal>(rt: &R, folder: &str) -> Result<(), UnpackFault>
-    ensures { IfErr result CanStop }
-{
-    match fs::create_dir(rt, folder) {
-        Ok(()) => Ok(()),
-        Err(error) => {
-            if error.kind() == ErrorKind::AlreadyExists {
-                return Err(UnpackFault::Exists);
+/// What makes the folders and files of a bag, in a first folder.
+pub trait Maker {
+    /// Makes the first folder, where nothing stands under its name.
+    fn make_first(&mut self) -> Result<(), UnpackFault>
+        ensures { IfErr result CanStop };
+
+    /// Makes a folder of this path in the first one, and those above it.
+    fn make_folder(&mut self, path: &str) -> Result<(), Failed>;
+
+    /// Makes a file of this path in the first folder, where none stands, and writes the bytes to it.
+    fn make_file(&mut self, path: &str, content: &[u8]) -> Result<(), Failed>;
+}
+
+/// A folder of a file system that is to be made, with all in it.
+#[derive(Clone, Copy)]
+pub struct NewFolder<'a, R> {
+    pub rt: &'a R,
+    /// Its path.
+    pub folder: &'a str,
+}
+
+impl<'a, R: Files + AllocGlobal> Maker for NewFolder<'a, R> {
+    fn make_first(&mut self) -> Result<(), UnpackFault> {
+        match fs::create_dir(&self.rt, self.folder) {
+            Ok(()) => Ok(()),
+            Err(error) => {
+                if error.kind() == ErrorKind::AlreadyExists {
+                    return Err(UnpackFault::Exists);
+                }
+                Err(failed_at(self.rt.alloc(), Tried::Make, self.folder, error).into())
             }
-            Err(failed_at(rt.alloc(), Tried::Make, folder, error).into())
+        }
+    }
+
+    fn make_folder(&mut self, path: &str) -> Result<(), Failed> {
+        let path = path_under(self.rt.alloc(), self.folder, path)?;
+        match fs::create_dir_all(&self.rt, path.as_str()) {
+            Ok(()) => Ok(()),
+            Err(error) => Err(failed_at(self.rt.alloc(), Tried::Make, path.as_str(), error)),
+        }
+    }
+
+    fn make_file(&mut self, path: &str, content: &[u8]) -> Result<(), Failed> {
+        let path = path_under(self.rt.alloc(), self.folder, path)?;
+        let opened = OpenOptions::new()
+            .write(true)
+            .create_new(true)
+            .open(&self.rt, path.as_str());
+        let mut file = match opened {
+            Ok(file) => file,
+            Err(error) => return Err(failed_at(self.rt.alloc(), Tried::Make, path.as_str(), error)),
+        };
+        match write_bytes(content, &mut file) {
+            Ok(()) => Ok(()),
+            Err(error) => Err(failed_at(self.rt.alloc(), Tried::Write, path.as_str(), error)),
         }
     }
 }
 
 /// Makes these folders under the first, and those above them.
-fn make_folders<R: Files + AllocGlobal>(
-    rt: &R,
-    first: &str,
-    folders: &[&str],
-) -> Result<(), Failed> {
+fn make_folders<M: Maker>(maker: &mut M, folders: &[&str]) -> Result<(), Failed> {
     for folder in folders {
-        let path = path_under(rt.alloc(), first, folder)?;
-        if let Err(error) = fs::create_dir_all(rt, path.as_str()) {
-            return Err(failed_at(rt.alloc(), Tried::Make, path.as_str(), error));
-        }
+        maker.make_folder(folder)?;
     }
     Ok(())
 }
 
-/// Makes a file where none stands, and writes the bytes to it.
-fn make_file<R: Files + AllocGlobal>(rt: &R, path: &str, content: &[u8]) -> Result<(), Failed> {
-    let opened = OpenOptions::new()
-        .write(true)
-        .create_new(true)
-        .open(rt, path);
-    let mut file = match opened {
-        Ok(file) => file,
-        Err(error) => return Err(failed_at(rt.alloc(), Tried::Make, path, error)),
-    };
-    match write_bytes(content, &mut file) {
-        Ok(()) => Ok(()),
-        Err(error) => Err(failed_at(rt.alloc(), Tried::Write, path, error)),
-    }
-}
-
-/// Makes the files of a bag under the folder, whose folders stand.
-fn make_files<R: Files + AllocGlobal>(
-    rt: &R,
-    folder: &str,
-    files: &[(&str, &[u8])],
-) -> Result<(), Failed> {
+/// Makes the files of a bag, whose folders stand.
+fn make_files<M: Maker>(maker: &mut M, files: &[(&str, &[u8])]) -> Result<(), Failed> {
     for file in files {
-        let path = path_under(rt.alloc(), folder, file.0)?;
-        make_file(rt, path.as_str(), file.1)?;
+        maker.make_file(file.0, file.1)?;
     }
     Ok(())
 }
 
-/// Makes the folder, and in it the folders and files of a bag.
-fn make_all<R: Files + AllocGlobal>(
-    rt: &R,
-    folder: &str,
+/// Makes the first folder, and in it the folders and files of a bag.
+fn make_all<M: Maker>(
+    alloc: Global,
+    maker: &mut M,
     files: &[(&str, &[u8])],
 ) -> Result<Unpacked, UnpackFault>
     ensures { IsMade (files_of files.now) result }
 {
-    make_folder(rt, folder)?;
-    let folders = folders_of(rt.alloc(), files)?;
-    make_folders(rt, folder, folders.as_slice())?;
-    make_files(rt, folder, files)?;
+    maker.make_first()?;
+    let folders = folders_of(alloc, files)?;
+    make_folders(maker, folders.as_slice())?;
+    make_files(maker, files)?;
     Ok(Unpacked { files: files.len() })
 }
 
 /// Makes the folder of the bag that was read, where one was.
-pub fn make_bag<R: Files + AllocGlobal>(
-    rt: &R,
-    folder: &str,
+pub fn make_bag<M: Maker>(
+    alloc: Global,
+    maker: &mut M,
     read: Result<BagSet<'_>, UnpackFault>,
 ) -> Result<Unpacked, UnpackFault>
-    // Where none was, that is said, whatever stands under the folder's name.
-    ensures unread { IfErr read.entry (λ fault. result ≡ Err fault) }
+    // Where none was, that is said, whatever stands under the folder's name, and nothing is made.
+    ensures unread { IfErr read.entry (λ fault. (result ≡ Err fault) × (maker.new ≡ maker.old)) }
     // Else the files are counted, or something stands there or fails.
     ensures made { IfOk read.entry (λ bag. IsMade bag result) }
 {
     match read {
-        Ok(bag) => make_all(rt, folder, bag.files()),
+        Ok(bag) => make_all(alloc, maker, bag.files()),
         Err(fault) => Err(fault),
     }
 }

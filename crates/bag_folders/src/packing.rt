@@ -2,16 +2,21 @@
 
 ghost use Rattle.std.specs.Prelude.{◌≡◌, IfOk, IfErr, length, List, ℕ};
 ghost use Rattle.bag_text.specs.TransferForm.{File, IsFormOf, set_text};
-ghost use Rattle.bag_folders.specs.Packing.{AreFilesOf, IsPacked, MayBeRefused};
+ghost use Rattle.bag_folders.specs.Listing.{AreToldOfSome};
+ghost use Rattle.bag_folders.specs.Packing.{AreFilesOf, HasNoFormOf, IsFoundUnder, IsPacked, IsPackedOf, IsRefusedUnder, MayBeRefused};
+ghost use Rattle.bag_folders.specs.declared.listed.Found.{Found};
 
 use crate::failed::Failed;
+use crate::folders::{Folders, FoldersUnder};
 use crate::form::form_of;
 use crate::listed::Listed;
-use crate::listing::list_folder;
+use crate::listing::found_under;
 use crate::loading::{lend, load};
 use crate::pack_fault::PackFault;
 use crate::planning::plan;
 use crate::putting::put;
+use std::alloc::Global;
+use std::fs::ReadDir;
 use std::rt::Files;
 
 /// What was packed.
@@ -31,22 +36,28 @@ fn form_of_folder<R: Files + AllocGlobal>(
 ) -> Result<Vec<u8>, PackFault>
     ensures form { IfOk result (λ form. (list : List File)
         × AreFilesOf files.now list × IsFormOf list form.items) }
-    ensures refused { IfErr result MayBeRefused }
+    ensures refused { IfErr result (HasNoFormOf files.now) }
 {
     let loaded = load(rt, folder, files)?;
     let list = lend(rt.alloc(), loaded.as_slice())?;
     form_of(rt.alloc(), list.as_slice())
 }
 
-/// Writes the transfer form of all files under the folder to the file. The form is made of what was
-/// found before the file is made.
-pub fn pack<R: Files + AllocGlobal>(rt: &R, folder: &str, file: &str) -> Result<Packed, PackFault>
-    // What is packed is the form of some bag, of so many files and bytes.
-    ensures packed { IfOk result IsPacked }
-    // What is refused is so for files that have the fault that is named.
-    ensures refused { IfErr result MayBeRefused }
+/// Writes the transfer form of all files that are listed in the folders to the file. The form is made of
+/// what was found before the file is made. The files are read under the folder of this path.
+fn pack_listed<R: Files + AllocGlobal, F: Folders>(
+    rt: &R,
+    folders: &F,
+    folder: &str,
+    file: &str,
+) -> Result<Packed, PackFault>
+    // What is packed is all that is listed.
+    ensures packed { IfOk result (λ packed. (found : Found)
+        × IsFoundUnder (F.lists folders.now) found × IsPackedOf found packed) }
+    // What is refused is so for what is listed, or for what was read of it.
+    ensures refused { IfErr result (IsRefusedUnder (F.lists folders.now)) }
 {
-    let found = list_folder(rt, folder)?;
+    let found = found_under(rt.alloc(), folders)?;
     let files = plan(rt.alloc(), found)?;
     let form = form_of_folder(rt, folder, files.as_slice())?;
     put(rt, file, form.as_slice())?;
@@ -54,4 +65,24 @@ pub fn pack<R: Files + AllocGlobal>(rt: &R, folder: &str, file: &str) -> Result<
         files: files.len(),
         bytes: form.len(),
     })
+}
+
+/// Writes the transfer form of all files under the folder to the file. The form is made of what was
+/// found before the file is made.
+pub fn pack<'a, R: Files + AllocGlobal>(
+    rt: &'a R,
+    folder: &'a str,
+    file: &str,
+) -> Result<Packed, PackFault>
+    // What is packed is the form of some bag, of so many files and bytes.
+    ensures packed { IfOk result IsPacked }
+    // It has all that the system lists under the folder.
+    ensures listed { IfOk result (λ packed. (found : Found)
+        × IsFoundUnder (AreToldOfSome ⟦<ReadDir<&'a R, Global> as Iterator>⟧.next_gives) found
+        × IsPackedOf found packed) }
+    // What is refused is so for files that have the fault that is named.
+    ensures refused { IfErr result MayBeRefused }
+{
+    let folders = FoldersUnder { rt, root: folder };
+    pack_listed(rt, &folders, folder, file)
 }

@@ -1,25 +1,9 @@
-use Rattle.std.proofs.Common.{◌≡◌, length, rules}
-use Rattle.std.proofs.lemmas.Result.{err_from_is_err_and}
-use Rattle.bag_folders.proofs.PackLemmas.{failed_may_be, is_packed, plan_may_be}
+use Rattle.bag_folders.proofs.PackLemmas.{some_packed, some_refused}
 use Rattle.bag_folders.proofs.packing.pack.Goals as goal
 
-pub returns-in_err-found-clause-refused : goal.returns-in_err-found-clause-refused
-returns-in_err-found-clause-refused g c =
-    let p = err_from_is_err_and c.from_residual.result c.from_residual.ensures.1 in
-    rw (p.1, p.2) (failed_may_be c.in_err-found.field-0.0)
-
-pub returns-in_err-files-clause-refused : goal.returns-in_err-files-clause-refused
-returns-in_err-files-clause-refused g c =
-    let p = err_from_is_err_and c.from_residual-in_err-files.result c.from_residual-in_err-files.ensures.1 in
-    rw (p.1, p.2) (plan_may_be c.in_ok-found.found c.in_err-files.field-0.0 c.in_err-files.ensures.refused)
-
-pub returns-in_err-put-clause-refused : goal.returns-in_err-put-clause-refused
-returns-in_err-put-clause-refused g c =
-    let p = err_from_is_err_and c.from_residual-in_err-put.result c.from_residual-in_err-put.ensures.1 in
-    rw (p.1, p.2) (failed_may_be c.in_err-put.field-0.0)
-
-pub returns-clause-packed : goal.returns-clause-packed
-returns-clause-packed g c =
-    let count : c.len.result ≡ length c.in_ok-files.files.items = search rules in
-    let bytes : c.len-2.result ≡ length c.in_ok-form.form.items = search rules in
-    is_packed (record { files = c.len.result; bytes = c.len-2.result }) c.in_ok-files.files.items c.in_ok-form.form.items count bytes (rw c.as_slice.ensures.value at c.in_ok-form.ensures.form)
+pub returns : goal.returns
+returns g c = record {
+  listed = c.pack_listed.ensures.packed;
+  packed = some_packed _ c.pack_listed.result c.pack_listed.ensures.packed;
+  refused = some_refused _ c.pack_listed.result c.pack_listed.ensures.refused;
+}
