@@ -1,5 +1,5 @@
 -- What is said is printed.
-use Rattle.std.proofs.Common.{◌≡◌, ap, Result, Ok, Err, IfErr, IfOk, MatchResult}
+use Rattle.std.proofs.Common.{◌≡◌, ap, ℕ, List, Option, Some, None, IfSome, Result, Ok, Err, IfErr, IfOk, MatchResult, subst}
 use Rattle.std.specs.declared.io.Write.{Ghosts as Writes}
 use Rattle.commands.specs.declared.outcome.Outcome.{Outcome}
 use Rattle.desk_devices.specs.declared.counted.Counted.{Counted}
@@ -11,6 +11,11 @@ use Rattle.program.specs.declared.stopped.Stopped.{Stopped}
 pub either : {T E : Type 0} (r : Result T E) (P : T → Type 0) (Q : E → Type 0) → IfOk r P → IfErr r Q → MatchResult r P Q
 either (Ok x) P Q is none = is
 either (Err e) P Q none is = is
+
+-- what is said of all that a file gives, where it is known
+pub given_of : {T E : Type 0} (P : List ℕ → T → Type 0) (known : Option (List ℕ)) (r : Result T E) (x : T) → r ≡ Ok x → IfSome known (λ given. IfOk r (P given)) → IfSome known (λ given. P given x)
+given_of P None r x is says = tt
+given_of {T = T} {E = E} P (Some given) r x is says = subst (λ (r : Result T E). IfOk r (P given)) is says
 
 module _ {O : Type 0} (w : Writes O) (IsSaid : Outcome → Type 0) (result : Result Done Stopped) (old new : Counted O) where
   -- it is printed, or there is nothing to say

@@ -1,6 +1,9 @@
 //! `check` and `explain`: what is said of a bag, and of a policy.
 
-ghost use Rattle.std.specs.Prelude.{◌≡◌, IfErr, IfOk, codes};
+ghost use Rattle.std.specs.Prelude.{◌≡◌, IfErr, IfOk, codes, take};
+ghost use Rattle.bag_folders.specs.Unpacking.{SomeFile};
+ghost use Rattle.commands.specs.Checking.{Says, bytes_to_read};
+ghost use Rattle.commands.specs.Explaining.{Explains};
 ghost use Rattle.program.specs.Answering.{IsExplained, IsJudged, IsUnanswered};
 ghost use Rattle.program.specs.Streams.{reader_seen};
 
@@ -24,6 +27,9 @@ pub fn answer_check<F: Files + AllocGlobal, R: Read>(
 ) -> Result<Outcome, Stopped>
     ensures judged { IfOk result (IsJudged file.now
         (reader_seen R.Read input.old) (reader_seen R.Read input.new)) }
+    // Of a file that is named it is all that the file gives, up to the most that is judged.
+    ensures file { (file.now ≡ codes "-" → ⊥) → IfOk result (λ outcome.
+        SomeFile ⟦<F::File as Read>⟧ (λ given. Says (take bytes_to_read given) outcome)) }
     ensures stopped { IfErr result IsUnanswered }
     ensures left { (file.now ≡ codes "-" → ⊥) → input.new ≡ input.old }
 {
@@ -37,6 +43,9 @@ pub fn answer_check<F: Files + AllocGlobal, R: Read>(
 /// `explain`: says which rule of the policy in the file decides.
 pub fn answer_explain<F: Files + AllocGlobal>(rt: &F, asked: &Asked<'_>) -> Result<Outcome, Stopped>
     ensures explained { IfOk result (IsExplained asked.now) }
+    // It is all that the file gives.
+    ensures file { IfOk result (λ outcome.
+        SomeFile ⟦<F::File as Read>⟧ (λ given. Explains given asked.now outcome)) }
     ensures stopped { IfErr result IsUnanswered }
 {
     let mut policy = open(rt, asked.policy)?;
