@@ -1,5 +1,5 @@
 -- What is done with an office over a store is done on the store: in memory, or in a file.
-use Rattle.std.proofs.Common.{◌≡◌, ◌∙◌, ℕ, List, Bool, true, Result, Ok, Err, IfErr, IfOk, inl, inr, subst, sym, ap₂, refl}
+use Rattle.std.proofs.Common.{◌≡◌, ℕ, List, Bool, true, Result, Ok, Err, IfErr, IfOk, inl, inr, subst, sym, ap₂, refl}
 use Rattle.std.proofs.lemmas.Bool.{cases_Bool}
 use Rattle.sqlite_disk.specs.declared.Disk.{Ghosts as Disks}
 use Rattle.sqlite_disk.specs.declared.Files.{Files}
@@ -104,9 +104,9 @@ in_file g first r task old was now opened (inl it) = inr (inl (
 ))
 in_file g first r task old was now opened (inr it) = inr (inr (old, opened, it))
 
-pub runs_in_file : {D T : Type 0} (g : Disks D) (first : Image) (r : Result T CommandFault) (task : Task) (makes is_new : Bool) (conn : Held (FileStore D g)) (was now : Traffic)
-    → makes ≡ makes_office task → (is_new ≡ true → makes ≡ true) → (HasCleanDisk (file_state conn) → IsOpened conn) → (HasCleanDisk (file_state conn) → FindsIn first (file_state conn))
+pub runs_in_file : {D T : Type 0} (g : Disks D) (first : Image) (r : Result T CommandFault) (task : Task) (is_new : Bool) (conn : Held (FileStore D g)) (was now : Traffic)
+    → (is_new ≡ true → makes_office task ≡ true) → (HasCleanDisk (file_state conn) → IsOpened conn) → (HasCleanDisk (file_state conn) → FindsIn first (file_state conn))
     → RunsOver g conn is_new task r was now → RunsInFile g first task r was now
-runs_in_file g first r task makes is_new conn was now same asked opened found (inl it) = inl it
-runs_in_file g first r task makes is_new conn was now same asked opened found (inr it) =
-    in_file g first r task it.0 was now (opened_from g first (makes_office task) is_new conn it.0 (λ made. sym same ∙ asked made) opened found it.1) it.2
+runs_in_file g first r task is_new conn was now asked opened found (inl it) = inl it
+runs_in_file g first r task is_new conn was now asked opened found (inr it) =
+    in_file g first r task it.0 was now (opened_from g first (makes_office task) is_new conn it.0 asked opened found it.1) it.2

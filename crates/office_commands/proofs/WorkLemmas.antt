@@ -1,5 +1,5 @@
 -- What a command on a store comes to.
-use Rattle.std.proofs.Common.{◌≡◌, ℕ, List, [], ◌∷◌, Option, None, Some, IfSome, Result, Ok, Err, IfErr, IfOk, OnOk, Bor, inl, inr, refl, sym, subst}
+use Rattle.std.proofs.Common.{◌≡◌, ◌⊎◌, ℕ, List, [], ◌∷◌, Option, None, Some, IfSome, Result, Ok, Err, IfErr, IfOk, OnOk, Bor, inl, inr, refl, sym, subst}
 use Rattle.std.specs.Prelude.{option_map, string_bytes}
 use Rattle.std.specs.Io.KnownBytes.{Appends}
 use Rattle.jiff.specs.Types.{Date}
@@ -15,7 +15,7 @@ use Rattle.office_commands.specs.Deeds.{AreDone, Deed, fails, installs}
 use Rattle.commands.specs.PolicyFiles.{IsAllOf, IsRead}
 use Rattle.office_commands.specs.Policies.{installed_text}
 use Rattle.office_commands.specs.Tasks.{ComesOfTask, IsPortFor, Listens, ComesOfReplay, ReplaysAfter, Task, install_of}
-use Rattle.office_commands.specs.Texts.{IsFailure, IsUnsaid}
+use Rattle.office_commands.specs.Texts.{IsUninstalled, IsUnsaid}
 use Rattle.office_commands.specs.Traffic.{Traffic}
 use Rattle.office_commands.specs.Works.{ComesOfWork, ComesOfBytes, ComesOfFile, IsQuiet, SaysInstalled, SaysRefused, read_policy, refused_policy}
 use Rattle.office_commands.specs.declared.done.Done.{Done}
@@ -38,7 +38,7 @@ after_install {T = T} g installed x r given policy old mid new was now same is f
     )
 
 pub not_installed : {S T : Type 0} (g : Ghosts S) (installed : Result T CommandFault) (fault : CommandFault) (given : Option (Bor PolicyValue)) (policy : Bor PolicyValue) (old new : Held S) (was : Traffic)
-    → given ≡ Some policy → installed ≡ Err fault → IsFailure fault → AreDone g (install_of installed policy.now ∷ []) old new
+    → given ≡ Some policy → installed ≡ Err fault → IsUninstalled fault → AreDone g (install_of installed policy.now ∷ []) old new
     → (deeds : List Deed) × ReplaysAfter {T = T} given (Err fault) deeds was was × AreDone g deeds old new
 not_installed {T = T} g installed fault given policy old new was same is failed done =
     let it : AreDone g (fails policy.now ∷ []) old new = subst (λ (i : Result T CommandFault). AreDone g (install_of i policy.now ∷ []) old new) is done in
@@ -84,18 +84,23 @@ says_nothing ran fault policy was is = subst (λ (i : Result Done CommandFault).
 
 -- ---- what a task does
 
-pub does_install : {S T : Type 0} (g : Ghosts S) (task : Task) (policy : Bor PolicyValue) (r : Result T CommandFault) (old new : Held S) (was : Traffic) → task ≡ Policy policy → IfErr r IsFailure
+pub does_install : {S T : Type 0} (g : Ghosts S) (task : Task) (policy : Bor PolicyValue) (r : Result T CommandFault) (old new : Held S) (was : Traffic) → task ≡ Policy policy → IfErr r IsUninstalled
     → AreDone g (install_of r policy.now ∷ []) old new → (deeds : List Deed) × ComesOfTask task r deeds was was × AreDone g deeds old new
 does_install g task policy r old new was is failed done =
     subst (λ (t : Task). (deeds : List Deed) × ComesOfTask t r deeds was was × AreDone g deeds old new) (sym is) (install_of r policy.now ∷ [], (failed, refl, refl), done)
 
 pub does_serve : {S T : Type 0} (g : Ghosts S) (task : Task) (day : Date) (port count : ℕ) (r : Result T CommandFault) (old new : Held S) (was now : Traffic) → task ≡ Serve day port count → now.input ≡ was.input
-    → IfErr r IsFailure → ((told : ℕ) × (deeds : List Deed) × IsPortFor port told × Listens day told count r deeds was.output now.output × AreDone g deeds old new)
+    → ((told : ℕ) × (deeds : List Deed) × IsPortFor port told × Listens day told count r deeds was.output now.output × AreDone g deeds old new)
     → (deeds : List Deed) × ComesOfTask task r deeds was now × AreDone g deeds old new
-does_serve g task day port count r old new was now is same failed it =
-    subst (λ (t : Task). (deeds : List Deed) × ComesOfTask t r deeds was now × AreDone g deeds old new) (sym is) (it.1, (same, failed, (it.0, it.2, it.3)), it.4)
+does_serve g task day port count r old new was now is same it =
+    subst (λ (t : Task). (deeds : List Deed) × ComesOfTask t r deeds was now × AreDone g deeds old new) (sym is) (it.1, (same, (it.0, it.2, it.3)), it.4)
 
 -- ---- what a work comes to
+
+-- a file of the host, of which it isn't known what it has
+pub of_host : {F unread : Type 0} {ComesOf : List ℕ → Type 0} → unread ⊎ ((file : F) × ComesOfFile None unread ComesOf) → ComesOfFile None unread ComesOf
+of_host (inl none) = inl none
+of_host (inr it) = it.1
 
 pub comes_as : {D : Type 0} (g : Disks D) (first : Image) (store : List ℕ) (work other : Work (Bor (List ℕ))) (alone : Type 0) (result : Result Done CommandFault) (was now : Traffic) → work ≡ other
     → ComesOfWork g first store other alone result was now → ComesOfWork g first store work alone result was now

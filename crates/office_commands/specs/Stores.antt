@@ -23,7 +23,7 @@ use Rattle.office_recovery.specs.Found.{HoldsWhere}
 use Rattle.office_engine.specs.Keeping.{IsKeptBy, IsLeftOf}
 use Rattle.office_commands.specs.Deeds.{AreDone, Deed, LeadOn}
 use Rattle.office_commands.specs.Tasks.{ComesOfTask, Task, makes_office}
-use Rattle.office_commands.specs.Texts.{IsUnclosable, IsUnopenable, found_nothing}
+use Rattle.office_commands.specs.Texts.{IsUnclosable, IsUnopenable, found_nothing, is_sought}
 use Rattle.office_commands.specs.Traffic.{Traffic}
 use Rattle.office_commands.specs.declared.fault.CommandFault.{CommandFault}
 
@@ -86,10 +86,16 @@ LeadsInto deeds h image = (next : History) × LeadOn deeds h next × IsLegal nex
 
 -- ---- a task
 
--- The store could not be opened, and nothing is read or written. A task with which an office is made is never refused because nothing is there.
-abbrev pub IsUnopened : {T : Type 0} → Task → Result T CommandFault → Traffic → Traffic → Type 0
-IsUnopened task (Ok _) was now = ⊥
-IsUnopened task (Err fault) was now = IsUnopenable fault × (found_nothing fault ≡ true → makes_office task ≡ false) × (now ≡ was)
+-- There is nothing that could be opened as the store, so that nothing is opened, read or written. A task with which an office is made is never refused because
+-- nothing is there.
+abbrev pub IsUnfound : {T : Type 0} → Type 0 → Task → Result T CommandFault → Traffic → Traffic → Type 0
+IsUnfound alone task (Ok _) was now = ⊥
+IsUnfound alone task (Err fault) was now = IsUnopenable fault × (found_nothing fault ≡ true → makes_office task ≡ false) × alone × (now ≡ was)
+
+-- the store could not be opened, and nothing is read or written
+abbrev pub IsUnopened : {T : Type 0} → Result T CommandFault → Traffic → Traffic → Type 0
+IsUnopened (Ok _) was now = ⊥
+IsUnopened (Err fault) was now = IsUnopenable fault × (is_sought fault ≡ false) × (now ≡ was)
 
 -- the task is done so with an open office, but the store could not be closed, which is what is told, however the task ended
 pub record IsUnclosed {D T : Type 0} (g : disk.Ghosts D) (old : Held (FileStore D g)) (task : Task) (result : Result T CommandFault) (was now : Traffic) : Type 0 where
@@ -102,7 +108,7 @@ pub record IsUnclosed {D T : Type 0} (g : disk.Ghosts D) (old : Held (FileStore 
 
 -- the task is done with a new office in memory
 abbrev pub RunsInMemory : {T : Type 0} → Task → Result T CommandFault → Traffic → Traffic → Type 0
-RunsInMemory task result was now = IsUnopened task result was now ⊎ ((deeds : List Deed) × ComesOfTask task result deeds was now × InMemory deeds)
+RunsInMemory task result was now = IsUnopened result was now ⊎ ((deeds : List Deed) × ComesOfTask task result deeds was now × InMemory deeds)
 
 -- the task is done with an open office, and it is closed
 abbrev pub RunsAndCloses : {D T : Type 0} → (g : disk.Ghosts D) → Held (FileStore D g) → Task → Result T CommandFault → Traffic → Traffic → Type 0
@@ -113,16 +119,18 @@ RunsAndCloses {D} g old task result was now =
 -- the task is done with the office of a connection, which is closed; or the office can't be had
 abbrev pub RunsOver : {D T : Type 0} → (g : disk.Ghosts D) → Held (FileStore D g) → Bool → Task → Result T CommandFault → Traffic → Traffic → Type 0
 RunsOver g conn is_new task result was now =
-    IsUnopened task result was now ⊎ SomeOffice (IsOfficeOf over_files conn is_new) (λ office. RunsAndCloses g office task result was now)
+    IsUnopened result was now ⊎ SomeOffice (IsOfficeOf over_files conn is_new) (λ office. RunsAndCloses g office task result was now)
 
 -- the task is done with the office in a file
 abbrev pub RunsInFile : {D T : Type 0} → disk.Ghosts D → Image → Task → Result T CommandFault → Traffic → Traffic → Type 0
 RunsInFile {D} g first task result was now =
-    IsUnopened task result was now
+    IsUnopened result was now
     ⊎ (((deeds : List Deed) × ComesOfTask task result deeds was now × InFile g first (makes_office task) deeds)
     ⊎ ((old : Held (FileStore D g)) × IsOpenedFrom g first (makes_office task) old × IsUnclosed g old task result was now))
 
--- over `:memory:` the one, and else the other
-abbrev pub RunsOn : {D T : Type 0} → disk.Ghosts D → Image → List ℕ → Task → Result T CommandFault → Traffic → Traffic → Type 0
-RunsOn g first store task result was now =
-    (store ≡ codes ":memory:" → RunsInMemory task result was now) × (store ≢ codes ":memory:" → RunsInFile g first task result was now)
+-- Over `:memory:` it is the one, and no file is opened. Else it is the other, where a file is found that may be opened. `alone` says that the value that opens
+-- the store is still there.
+abbrev pub RunsOn : {D T : Type 0} → disk.Ghosts D → Image → List ℕ → Type 0 → Task → Result T CommandFault → Traffic → Traffic → Type 0
+RunsOn g first store alone task result was now =
+    (store ≡ codes ":memory:" → alone × RunsInMemory task result was now)
+    × (store ≢ codes ":memory:" → IsUnfound alone task result was now ⊎ RunsInFile g first task result was now)

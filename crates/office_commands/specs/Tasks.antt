@@ -1,6 +1,6 @@
 -- What is to be done with an open office, and what the input gives and the output gets as it is done. `was` is the traffic before
 -- and `now` the traffic after.
-use Rattle.std.specs.Prelude.{◌≡◌, ◌≢◌, ◌⊎◌, ◌<◌, ◌≤◌, ◌+◌, ◌∷◌, ◌++◌, [], ℕ, Bool, true, false, List, Option, None, Some, Result, Ok, Err, IfErr, codes, decimal, length, take}
+use Rattle.std.specs.Prelude.{◌≡◌, ◌≢◌, ◌⊎◌, ◌<◌, ◌≤◌, ◌+◌, ◌∷◌, ◌++◌, [], ℕ, Bool, true, false, List, Option, None, Some, Result, Ok, Err, IfErr, IsErrAnd, codes, decimal, length, take}
 use Rattle.std.specs.Io.KnownBytes.{Appends, IsAtEnd}
 use denote.Ref.{Bor}
 use Rattle.jiff.specs.Types.{Date}
@@ -13,7 +13,7 @@ use Rattle.desk_records.specs.RecordLists.{AreRecords, RequestRecord, answer_tex
 use Rattle.http_desk.specs.Replaying.{IsBegun, IsNoRecord}
 use Rattle.streams.specs.Writing.{IsCutShort}
 use Rattle.office_commands.specs.Deeds.{Deed, answers, deeds_of_connections, deeds_of_records, fails, installs}
-use Rattle.office_commands.specs.Texts.{IsFailure}
+use Rattle.office_commands.specs.Texts.{IsUnaccepted, IsUnheard, IsUninstalled, IsUnsaid}
 use Rattle.office_commands.specs.Traffic.{Begins, Gives, Prints, Traffic}
 use Rattle.office_commands.specs.declared.fault.Cause.{Cause}
 use Rattle.office_commands.specs.declared.fault.Cause.TheVariants.{Input, Output}
@@ -47,11 +47,6 @@ reads_input (Serve day port count) = false
 -- what is to be done: the work, its policy read
 abbrev pub Task : Type 0
 Task = Work (Bor PolicyValue)
-
--- the store, memory or a device failed
-abbrev pub HasFailed : {T : Type 0} → Result T CommandFault → Type 0
-HasFailed (Ok _) = ⊥
-HasFailed (Err fault) = IsFailure fault
 
 -- ---- an install
 
@@ -134,7 +129,7 @@ abbrev pub ReplaysAfter : {T : Type 0} → Option (Bor PolicyValue) → Result T
 ReplaysAfter None result deeds was now = ComesOfReplay result deeds was now
 ReplaysAfter (Some policy) result deeds was now =
     ((more : List Deed) × (deeds ≡ installs policy.now ∷ more) × ComesOfReplay result more was now)
-    ⊎ (HasFailed result × (deeds ≡ fails policy.now ∷ []) × (now ≡ was))
+    ⊎ (IsErrAnd result IsUninstalled × (deeds ≡ fails policy.now ∷ []) × (now ≡ was))
 
 -- ---- connections
 
@@ -151,21 +146,21 @@ abbrev pub AreServedFor : {T : Type 0} → Result T CommandFault → ℕ → Lis
 AreServedFor (Ok _) count served = length served ≡ count
 AreServedFor (Err _) count served = length served < count
 
--- The port is told, and then so many connections are served on that day, one after the other. Where that fails, a beginning of the line
--- was written and no connection served; or it was written, and fewer were.
+-- The port is told, and then so many connections are served on that day, one after the other. Where the port can't be had, nothing is written; where it can't
+-- be told, a beginning of the line; and no connection is served. Where one can't be accepted, those before it were served.
 abbrev pub Listens : {T : Type 0} → Date → ℕ → ℕ → Result T CommandFault → List Deed → Option (List ℕ) → Option (List ℕ) → Type 0
 Listens day told count result deeds held holds =
-    (HasFailed result × (deeds ≡ []) × IsCutShort (listening_text told) held holds)
-    ⊎ ((served : List Connection) × AreServedFor result count served × (deeds ≡ deeds_of_connections day served)
-    × Appends held holds (listening_text told))
+    (IsErrAnd result IsUnheard × (deeds ≡ []) × (holds ≡ held))
+    ⊎ ((IsErrAnd result IsUnsaid × (deeds ≡ []) × IsCutShort (listening_text told) held holds)
+    ⊎ ((served : List Connection) × IfErr result IsUnaccepted × AreServedFor result count served × (deeds ≡ deeds_of_connections day served)
+    × Appends held holds (listening_text told)))
 
 -- ---- a task
 
 -- these deeds are done for the task as it ends so, with this traffic
 abbrev pub ComesOfTask : {T : Type 0} → Task → Result T CommandFault → List Deed → Traffic → Traffic → Type 0
-ComesOfTask (Policy policy) result deeds was now = IfErr result IsFailure × (deeds ≡ install_of result policy.now ∷ []) × (now ≡ was)
+ComesOfTask (Policy policy) result deeds was now = IfErr result IsUninstalled × (deeds ≡ install_of result policy.now ∷ []) × (now ≡ was)
 ComesOfTask (Ask day) result deeds was now = ComesOfAsk day result deeds was now
 ComesOfTask (Replay policy) result deeds was now = ReplaysAfter policy result deeds was now
 ComesOfTask (Serve day port count) result deeds was now =
-    (now.input ≡ was.input) × IfErr result IsFailure
-    × ((told : ℕ) × IsPortFor port told × Listens day told count result deeds was.output now.output)
+    (now.input ≡ was.input) × ((told : ℕ) × IsPortFor port told × Listens day told count result deeds was.output now.output)

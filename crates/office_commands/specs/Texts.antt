@@ -1,15 +1,17 @@
 -- What the commands on a store print, and how the program ends.
-use Rattle.std.specs.Prelude.{◌++◌, ◌∷◌, [], ℕ, List, Bool, false, true, Option, None, Some, ⊤, codes, decimal, string_bytes}
+use Rattle.std.specs.Prelude.{◌≡◌, ◌++◌, ◌∷◌, [], ℕ, List, Bool, false, true, Option, None, Some, ⊤, codes, decimal, string_bytes}
 use Rattle.commands.specs.Explaining.{bad_policy_text}
 use Rattle.commands.specs.Failing.{message_of as failure_text}
 use Rattle.commands.specs.declared.failure.Failure.TheVariants as failures
 use Rattle.commands.specs.declared.ending.Ending.{Ending}
 use Rattle.commands.specs.declared.ending.Ending.TheVariants as endings
+use Rattle.std.specs.IoError.{error_kind}
 use Rattle.std.specs.declared.io.ErrorKind.{ErrorKind}
 use Rattle.std.specs.declared.io.ErrorKind.TheVariants.{OutOfMemory}
 use Rattle.sqlite.specs.declared.error.Error.{Error}
 use Rattle.sqlite.specs.declared.error.Error.TheVariants.{SqliteFailure}
 use Rattle.sqlite.specs.declared.error.ErrorCode.TheVariants as codes_of
+use Rattle.office_tables.specs.Faults as tables_of
 use Rattle.office_tables.specs.declared.fault.TableFault.{TableFault}
 use Rattle.office_tables.specs.declared.fault.TableFault.TheVariants as tables
 use Rattle.http_desk.specs.declared.serving.DeskFault.{DeskFault}
@@ -17,7 +19,7 @@ use Rattle.http_desk.specs.declared.serving.DeskFault.TheVariants as desk
 use Rattle.http_desk.specs.declared.replaying.ReplayStop.{ReplayStop}
 use Rattle.http_desk.specs.declared.replaying.ReplayStop.TheVariants as stops
 use Rattle.office_commands.specs.declared.fault.Cause.{Cause}
-use Rattle.office_commands.specs.declared.fault.Cause.TheVariants.{Close, Empty, Input, Install, Missing, Open, Output, Refused, Search, Taken}
+use Rattle.office_commands.specs.declared.fault.Cause.TheVariants.{Accept, Close, Empty, Input, Install, Listen, Missing, Open, Output, Refused, Search, Taken}
 use Rattle.office_commands.specs.declared.fault.CommandFault.{CommandFault}
 use Rattle.office_commands.specs.declared.fault.CommandFault.TheVariants.{Policy, BadRecord, Failed}
 use Rattle.office_commands.specs.declared.fault.StoreFault.{StoreFault}
@@ -48,12 +50,6 @@ ending_of (BadRecord index) = endings.Refused
 ending_of (Failed fault cause) = endings.Failed
 
 -- ---- what the faults of the layers below come to
-
--- neither a policy is refused nor a record bad: the store, memory or a device failed
-abbrev pub IsFailure : CommandFault → Type 0
-IsFailure (Policy fault) = ⊥
-IsFailure (BadRecord index) = ⊥
-IsFailure (Failed fault cause) = ⊤
 
 -- it is the store or memory, and no device
 abbrev pub IsOfStore : StoreFault → Type 0
@@ -99,6 +95,18 @@ found_nothing (Policy refused) = false
 found_nothing (BadRecord index) = false
 found_nothing (Failed fault cause) = is_of_nothing cause
 
+-- that came of the search for the store, before it was opened
+abbrev pub is_of_search : Option Cause → Bool
+is_of_search (Some (Search error)) = true
+is_of_search (Some Missing) = true
+is_of_search (Some Empty) = true
+is_of_search _ = false
+
+abbrev pub is_sought : CommandFault → Bool
+is_sought (Policy refused) = false
+is_sought (BadRecord index) = false
+is_sought (Failed fault cause) = is_of_search cause
+
 abbrev pub fails : StoreFault → CommandFault
 fails fault = Failed fault None
 
@@ -125,6 +133,24 @@ table_failure fault = fails (table_fault fault)
 -- a policy that can't be installed
 abbrev pub install_failure : TableFault → CommandFault
 install_failure fault = Failed (table_fault fault) (Some (Install fault))
+
+abbrev pub IsUninstalled : CommandFault → Type 0
+IsUninstalled fault = (tables : TableFault) × tables_of.IsFailure tables × (fault ≡ install_failure tables)
+
+-- a device that failed with this error, which may be want of memory
+abbrev pub device_failure : ErrorKind → StoreFault
+device_failure OutOfMemory = Memory
+device_failure _ = Device
+
+-- the port can't be had
+abbrev pub IsUnheard : CommandFault → Type 0
+IsUnheard (Failed fault (Some (Listen error))) = fault ≡ device_failure (error_kind error)
+IsUnheard _ = ⊥
+
+-- a connection can't be accepted
+abbrev pub IsUnaccepted : CommandFault → Type 0
+IsUnaccepted (Failed fault (Some (Accept error))) = fault ≡ device_failure (error_kind error)
+IsUnaccepted _ = ⊥
 
 abbrev pub desk_failure : DeskFault → CommandFault
 desk_failure desk.Read = Failed Device (Some Input)

@@ -2,6 +2,7 @@
 -- there, so that nothing was opened by it.
 use Rattle.std.specs.Prelude.{◌≡◌, ◌⊎◌, ℕ, List, Option, None, Some, IfSome, Result, Ok, Err, IfOk, IsErrAnd, option_map, string_bytes}
 use denote.Ref.{Bor}
+use Rattle.std.specs.declared.io.Read.{Ghosts as Reads}
 use Rattle.sqlite_disk.specs.declared.Disk.{Ghosts}
 use Rattle.sqlite.specs.Recovery.{Image}
 use Rattle.office_core.specs.Policies.{PolicyValue}
@@ -43,6 +44,10 @@ IsUnreadFirst alone result was now = IsErrAnd result IsUnread × IsUntouched alo
 abbrev pub ComesOfFile : Option (List ℕ) → Type 0 → (List ℕ → Type 0) → Type 0
 ComesOfFile had unread ComesOf = unread ⊎ ((bytes : List ℕ) × IfSome had (λ all. bytes ≡ all) × ComesOf bytes)
 
+-- what comes of a file that is opened, or can't be
+abbrev pub ComesOfNamed : {F : Type 0} → Reads F → Type 0 → (List ℕ → Type 0) → Type 0
+ComesOfNamed {F} reads unread ComesOf = unread ⊎ ((file : F) × ComesOfFile (reads.remaining file) unread ComesOf)
+
 -- ---- an install
 
 -- the fault is printed, and why is to be told; or the output or memory fails
@@ -68,19 +73,19 @@ IsRefusedBefore alone refused result was now = (result ≡ Err (faults.Policy re
 abbrev pub InstallsOf : {D : Type 0} → Ghosts D → Image → List ℕ → Type 0 → Result Done CommandFault → Traffic → Traffic → List ℕ → Type 0
 InstallsOf g first store alone result was now =
     ComesOfBytes (λ refused. alone × SaysRefused refused result was now)
-    (λ policy. (ran : Result Done CommandFault) × (mid : Traffic) × RunsOn g first store (Policy policy) ran was mid × SaysInstalled policy.now ran result mid now)
+    (λ policy. (ran : Result Done CommandFault) × (mid : Traffic) × RunsOn g first store alone (Policy policy) ran was mid × SaysInstalled policy.now ran result mid now)
 
 -- and of a replay under that policy
 abbrev pub ReplaysOf : {D : Type 0} → Ghosts D → Image → List ℕ → Type 0 → Result Done CommandFault → Traffic → Traffic → List ℕ → Type 0
 ReplaysOf g first store alone result was now =
-    ComesOfBytes (λ refused. IsRefusedBefore alone refused result was now) (λ policy. RunsOn g first store (Replay (Some policy)) result was now)
+    ComesOfBytes (λ refused. IsRefusedBefore alone refused result was now) (λ policy. RunsOn g first store alone (Replay (Some policy)) result was now)
 
 -- What comes of the work on the store, whose files held this at first. Of a file that is named it isn't known what it had.
 abbrev pub ComesOfWork : {D : Type 0} → Ghosts D → Image → List ℕ → Work (Bor (List ℕ)) → Type 0 → Result Done CommandFault → Traffic → Traffic → Type 0
 ComesOfWork g first store (Policy path) alone result was now =
     ComesOfFile None (IsUnreadFirst alone result was now) (InstallsOf g first store alone result was now)
-ComesOfWork g first store (Ask day) alone result was now = IfOk result IsQuiet × RunsOn g first store (Ask day) result was now
-ComesOfWork g first store (Replay None) alone result was now = IfOk result IsQuiet × RunsOn g first store (Replay None) result was now
+ComesOfWork g first store (Ask day) alone result was now = IfOk result IsQuiet × RunsOn g first store alone (Ask day) result was now
+ComesOfWork g first store (Replay None) alone result was now = IfOk result IsQuiet × RunsOn g first store alone (Replay None) result was now
 ComesOfWork g first store (Replay (Some path)) alone result was now =
     IfOk result IsQuiet × ComesOfFile None (IsUnreadFirst alone result was now) (ReplaysOf g first store alone result was now)
-ComesOfWork g first store (Serve day port count) alone result was now = IfOk result IsQuiet × RunsOn g first store (Serve day port count) result was now
+ComesOfWork g first store (Serve day port count) alone result was now = IfOk result IsQuiet × RunsOn g first store alone (Serve day port count) result was now

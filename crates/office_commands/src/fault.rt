@@ -2,7 +2,7 @@
 
 ghost use Rattle.std.specs.Prelude.{◌≡◌, ◌++◌, IfOk, None, Some, false, string_bytes};
 ghost use Rattle.commands.specs.Explaining.{bad_policy_text};
-ghost use Rattle.office_commands.specs.Texts.{IsFailure, IsOfOpening, IsOfStore, IsUnopenable, ending_of, fault_text, found_nothing, is_of_nothing, message_of};
+ghost use Rattle.office_commands.specs.Texts.{IsOfOpening, IsOfStore, IsUnopenable, ending_of, fault_text, found_nothing, is_of_nothing, is_of_search, is_sought, message_of};
 ghost use Rattle.office_commands.specs.declared.fault.CommandFault.TheVariants.{Failed};
 
 use commands::{Ending, Failure, RefusedPolicy};
@@ -112,7 +112,7 @@ pub enum CommandFault {
 pub(crate) fn failed_by(fault: StoreFault, cause: Cause) -> CommandFault
     ensures is { result ≡ Failed fault (Some cause) }
     ensures nothing { found_nothing result ≡ is_of_nothing (Some cause) }
-    ensures failure { IsFailure result }
+    ensures sought { is_sought result ≡ is_of_search (Some cause) }
     ensures unopenable { IsOfStore fault → IsOfOpening (Some cause) → IsUnopenable result }
 {
     CommandFault::Failed {
@@ -135,8 +135,7 @@ impl CommandFault {
     /// A failure of which no more is known.
     pub(crate) fn without_cause(fault: StoreFault) -> CommandFault
         ensures is { result ≡ Failed fault None }
-        ensures nothing { found_nothing result ≡ false }
-        ensures failure { IsFailure result }
+        ensures sought { is_sought result ≡ false }
         ensures unopenable { IsOfStore fault → IsUnopenable result }
     {
         CommandFault::Failed { fault, cause: None }

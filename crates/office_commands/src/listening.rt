@@ -2,16 +2,14 @@
 
 ghost use Rattle.std.specs.Prelude.{◌≡◌, ℕ, IfErr, IfOk, List, OnOk, Some, string_bytes};
 ghost use Rattle.std.specs.Io.KnownBytes.{Appends};
+ghost use Rattle.std.specs.IoError.{error_kind};
 ghost use Rattle.streams.specs.Writing.{IsCutShort};
 ghost use Rattle.desk_listening.specs.Listening.{Connection};
 ghost use Rattle.desk_devices.specs.Devices.{device_of};
 ghost use Rattle.office_commands.specs.Deeds.{AreDone, Deed, deeds_of_connections};
 ghost use Rattle.office_commands.specs.Tasks.{AreServedFor, IsPortFor, Listens, listening_text};
-ghost use Rattle.office_commands.specs.Texts.{IsFailure};
+ghost use Rattle.office_commands.specs.Texts.{IsUnaccepted, IsUnheard, IsUnsaid, device_failure};
 ghost use Rattle.office_commands.specs.Works.{IsQuiet};
-ghost use Rattle.office_commands.specs.declared.fault.Cause.TheVariants.{Accept, Listen};
-ghost use Rattle.office_commands.specs.declared.fault.CommandFault.TheVariants.{Failed};
-ghost use Rattle.office_commands.specs.declared.fault.StoreFault.TheVariants.{Device};
 
 use crate::done::Done;
 use crate::fault::{Cause, CommandFault, StoreFault, failed_by};
@@ -22,7 +20,7 @@ use office_core::Day;
 use office_engine::Office;
 use sqlite::Alter;
 use std::alloc::{AllocError, Global};
-use std::io::{Error, Write};
+use std::io::{Error, ErrorKind, Write};
 use std::net::{Ipv4Addr, TcpListener};
 use std::rt::HostRuntime;
 
@@ -33,20 +31,28 @@ struct Desk {
     port: u16,
 }
 
+/// What failed with this error: memory, or else the device.
+fn device_failure(error: &Error) -> StoreFault
+    ensures { result ≡ device_failure (error_kind error.now) }
+{
+    match error.kind() {
+        ErrorKind::OutOfMemory => StoreFault::Memory,
+        _ => StoreFault::Device,
+    }
+}
+
 /// A port that can't be had.
 fn unheard(error: Error) -> CommandFault
-    ensures is { result ≡ Failed Device (Some (Listen error)) }
-    ensures failure { IsFailure result }
+    ensures { IsUnheard result }
 {
-    failed_by(StoreFault::Device, Cause::Listen(error))
+    failed_by(device_failure(&error), Cause::Listen(error))
 }
 
 /// A connection that can't be accepted.
 fn unaccepted(error: Error) -> CommandFault
-    ensures is { result ≡ Failed Device (Some (Accept error)) }
-    ensures failure { IsFailure result }
+    ensures { IsUnaccepted result }
 {
-    failed_by(StoreFault::Device, Cause::Accept(error))
+    failed_by(device_failure(&error), Cause::Accept(error))
 }
 
 /// The port that is told: the one that was asked for, or, where that is 0, the one that the machine
@@ -60,7 +66,7 @@ fn port_told(asked: u16, picked: u16) -> u16
 /// The desk at that port of 127.0.0.1. With the port 0 the machine picks one.
 fn desk_at(rt: &HostRuntime, port: u16) -> Result<Desk, CommandFault>
     ensures port { IfOk result (λ desk. IsPortFor port desk.port) }
-    ensures failure { IfErr result IsFailure }
+    ensures unheard { IfErr result IsUnheard }
 {
     let listener = match TcpListener::bind(rt, (Ipv4Addr::LOCALHOST, port)) {
         Ok(listener) => listener,
@@ -90,7 +96,7 @@ fn say_listening<O: Write>(
 ) -> Result<Done, CommandFault>
     ensures said { OnOk result (Appends (O.contents (device_of out.old)) (O.contents (device_of out.new)) (listening_text port)) }
     ensures front { IsCutShort (listening_text port) (O.contents (device_of out.old)) (O.contents (device_of out.new)) }
-    ensures failure { IfErr result IsFailure }
+    ensures unsaid { IfErr result IsUnsaid }
 {
     match listening_line(alloc, port) {
         Ok(line) => print(line.as_str(), out),
@@ -109,7 +115,7 @@ fn serve_sockets<S: Alter>(
     ensures serves { (served : List Connection) × AreServedFor result count served
         × AreDone S.Store (deeds_of_connections day served) office.old office.new }
     ensures quiet { IfOk result IsQuiet }
-    ensures failure { IfErr result IsFailure }
+    ensures unaccepted { IfErr result IsUnaccepted }
 {
     let patience = Patience::default();
     let mut sockets = Sockets::new(alloc, &desk.listener);
@@ -131,7 +137,6 @@ fn serve_office<S: Alter, O: Write>(
     ensures serves { (deeds : List Deed) × Listens day desk.now.port count result deeds
         (O.contents (device_of out.old)) (O.contents (device_of out.new)) × AreDone S.Store deeds office.old office.new }
     ensures quiet { IfOk result IsQuiet }
-    ensures failure { IfErr result IsFailure }
 {
     match say_listening(alloc, desk.port, out) {
         Ok(_) => serve_sockets(alloc, office, day, desk, count),
@@ -152,7 +157,6 @@ pub fn serve_at<S: Alter, O: Write>(
     ensures serves { (told : ℕ) × (deeds : List Deed) × IsPortFor port told × Listens day told count result deeds
         (O.contents (device_of out.old)) (O.contents (device_of out.new)) × AreDone S.Store deeds office.old office.new }
     ensures quiet { IfOk result IsQuiet }
-    ensures failure { IfErr result IsFailure }
 {
     match desk_at(rt, port) {
         Ok(desk) => serve_office(rt.alloc(), office, day, &desk, count, out),

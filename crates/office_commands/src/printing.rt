@@ -5,7 +5,7 @@ ghost use Rattle.std.specs.Io.KnownBytes.{Appends, Keeps};
 ghost use Rattle.streams.specs.Writing.{IsCutShort};
 ghost use Rattle.desk_devices.specs.Devices.{device_of};
 ghost use Rattle.office_commands.specs.Policies.{installed_text};
-ghost use Rattle.office_commands.specs.Texts.{IsFailure, IsUnsaid};
+ghost use Rattle.office_commands.specs.Texts.{IsUnsaid};
 ghost use Rattle.office_commands.specs.Works.{IsQuiet};
 ghost use Rattle.office_commands.specs.declared.fault.Cause.TheVariants.{Output};
 ghost use Rattle.office_commands.specs.declared.fault.CommandFault.TheVariants.{Failed};
@@ -24,7 +24,6 @@ pub fn flush<O: Write>(out: &mut Counted<O>) -> Result<Done, CommandFault>
     ensures kept { Keeps (O.contents (device_of out.old)) (O.contents (device_of out.new)) }
     ensures fault { IfErr result (λ fault. fault ≡ Failed Device (Some Output)) }
     ensures quiet { IfOk result IsQuiet }
-    ensures failure { IfErr result IsFailure }
 {
     match out.flush() {
         Ok(()) => Ok(Done::quiet()),
@@ -38,7 +37,6 @@ pub fn print<O: Write>(text: &str, out: &mut Counted<O>) -> Result<Done, Command
     ensures front { IsCutShort text.now (O.contents (device_of out.old)) (O.contents (device_of out.new)) }
     ensures quiet { IfOk result IsQuiet }
     ensures unsaid { IfErr result IsUnsaid }
-    ensures failure { IfErr result IsFailure }
 {
     match write_text(text, out) {
         Ok(()) => Ok(Done::quiet()),

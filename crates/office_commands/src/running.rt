@@ -11,7 +11,7 @@ ghost use Rattle.office_commands.specs.Policies.{installed_text};
 ghost use Rattle.office_commands.specs.Tasks.{reads_input};
 ghost use Rattle.office_commands.specs.Texts.{IsUnsaid};
 ghost use Rattle.office_commands.specs.Traffic.{traffic_of};
-ghost use Rattle.office_commands.specs.Works.{ComesOfFile, ComesOfWork, InstallsOf, IsQuiet, IsUnreadFirst, ReplaysOf};
+ghost use Rattle.office_commands.specs.Works.{ComesOfFile, ComesOfNamed, ComesOfWork, InstallsOf, IsQuiet, IsUnreadFirst, ReplaysOf};
 ghost use Rattle.office_commands.specs.declared.work.Work.TheVariants as works;
 
 use crate::done::Done;
@@ -27,7 +27,7 @@ use sqlite::{FileFrom, Start};
 use sqlite_disk::Disk;
 use std::alloc::Global;
 use std::io::{Read, Write};
-use std::rt::HostRuntime;
+use std::rt::{Files, HostRuntime};
 
 /// Says that the policy was installed.
 fn say_installed<O: Write>(
@@ -98,19 +98,22 @@ fn install_from<S: Start, P: Read, R: Read, O: Write>(
 }
 
 /// `policy STORE POLICY`: installs the policy, and then says so. The policy is read before that.
-fn install_in<S: Start, R: Read, O: Write>(
+fn install_in<F: Files, S: Start, R: Read, O: Write>(
     rt: &HostRuntime,
+    files: &F,
     start: &mut Option<S>,
     store: &str,
     path: &str,
     input: &mut Counted<R>,
     out: &mut Counted<O>,
 ) -> Result<Done, CommandFault>
-    ensures comes { ComesOfWork ⟦<FileFrom<S> as Disk>⟧ (image_at S.Start) store.now (works.Policy path.entry) (start.new ≡ start.old) result
-        (traffic_of R.Read O.Write input.old out.old) (traffic_of R.Read O.Write input.new out.new) }
+    ensures comes { ComesOfNamed ⟦<F::File as Read>⟧
+        (IsUnreadFirst (start.new ≡ start.old) result (traffic_of R.Read O.Write input.old out.old) (traffic_of R.Read O.Write input.new out.new))
+        (InstallsOf ⟦<FileFrom<S> as Disk>⟧ (image_at S.Start) store.now (start.new ≡ start.old) result
+        (traffic_of R.Read O.Write input.old out.old) (traffic_of R.Read O.Write input.new out.new)) }
     ensures left { input.new ≡ input.old }
 {
-    match open_policy(rt, path) {
+    match open_policy(files, path) {
         Ok(mut file) => install_from(rt, start, store, &mut file, input, out),
         Err(fault) => Err(fault),
     }
@@ -144,18 +147,22 @@ fn replay_from<S: Start, P: Read, R: Read, O: Write>(
 
 /// `replay --policy POLICY STORE`: installs the policy, and answers the records that the input gives. The
 /// policy is read before that.
-fn replay_under<S: Start, R: Read, O: Write>(
+fn replay_under<F: Files, S: Start, R: Read, O: Write>(
     rt: &HostRuntime,
+    files: &F,
     start: &mut Option<S>,
     store: &str,
     path: &str,
     input: &mut Counted<R>,
     out: &mut Counted<O>,
 ) -> Result<Done, CommandFault>
-    ensures comes { ComesOfWork ⟦<FileFrom<S> as Disk>⟧ (image_at S.Start) store.now (works.Replay (Some path.entry)) (start.new ≡ start.old) result
-        (traffic_of R.Read O.Write input.old out.old) (traffic_of R.Read O.Write input.new out.new) }
+    ensures comes { ComesOfNamed ⟦<F::File as Read>⟧
+        (IsUnreadFirst (start.new ≡ start.old) result (traffic_of R.Read O.Write input.old out.old) (traffic_of R.Read O.Write input.new out.new))
+        (ReplaysOf ⟦<FileFrom<S> as Disk>⟧ (image_at S.Start) store.now (start.new ≡ start.old) result
+        (traffic_of R.Read O.Write input.old out.old) (traffic_of R.Read O.Write input.new out.new)) }
+    ensures quiet { IfOk result IsQuiet }
 {
-    match open_policy(rt, path) {
+    match open_policy(files, path) {
         Ok(mut file) => replay_from(rt, start, store, &mut file, input, out),
         Err(fault) => Err(fault),
     }
@@ -175,7 +182,7 @@ fn replay_in<S: Start, R: Read, O: Write>(
         (traffic_of R.Read O.Write input.old out.old) (traffic_of R.Read O.Write input.new out.new) }
 {
     match policy {
-        Some(path) => replay_under(rt, start, store, path, input, out),
+        Some(path) => replay_under(rt, rt, start, store, path, input, out),
         None => in_store(rt, start, store, &Work::Replay { policy: None }, input, out),
     }
 }
@@ -198,7 +205,7 @@ pub fn perform<S: Start, R: Read, O: Write>(
     ensures left { reads_input work.now ≡ false → input.new ≡ input.old }
 {
     match *work {
-        Work::Policy { policy } => install_in(rt, start, store, policy, input, out),
+        Work::Policy { policy } => install_in(rt, rt, start, store, policy, input, out),
         Work::Ask { day } => in_store(rt, start, store, &Work::Ask { day }, input, out),
         Work::Replay { policy } => replay_in(rt, start, store, policy, input, out),
         Work::Serve { day, port, count } => {

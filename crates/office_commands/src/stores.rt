@@ -16,8 +16,8 @@ ghost use Rattle.office_history.specs.Histories.{History};
 ghost use Rattle.office_engine.specs.Keeping.{IsKeptBy, IsLeftOf};
 ghost use Rattle.office_commands.specs.Deeds.{AreDone, Deed};
 ghost use Rattle.office_commands.specs.Stores.{IsOfficeOf, RunsInFile, RunsInMemory, RunsOn, RunsOver, SomeOffice, made_office};
-ghost use Rattle.office_commands.specs.Tasks.{ComesOfTask, reads_input};
-ghost use Rattle.office_commands.specs.Texts.{IsOfOpening, IsOfStore, IsUnclosable, IsUnopenable, found_nothing, is_of_nothing, search_failure, store_failure};
+ghost use Rattle.office_commands.specs.Tasks.{ComesOfTask, makes_office, reads_input};
+ghost use Rattle.office_commands.specs.Texts.{IsOfOpening, IsOfStore, IsUnclosable, IsUnopenable, found_nothing, is_of_search, is_sought, search_failure, store_failure};
 ghost use Rattle.office_commands.specs.Traffic.{traffic_of};
 ghost use Rattle.office_commands.specs.Works.{IsQuiet};
 ghost use Rattle.office_commands.specs.declared.fault.Cause.TheVariants.{Search};
@@ -106,7 +106,7 @@ fn is_missing(rt: &HostRuntime, store: &str) -> Result<bool, CommandFault>
 /// be made they are asked for a new file, which is taken away again.
 fn opening_cause(rt: &HostRuntime, store: &str, is_new: bool, error: Error) -> Cause
     ensures opening { IsOfOpening (Some result) }
-    ensures something { is_of_nothing (Some result) ≡ false }
+    ensures not_sought { is_of_search (Some result) ≡ false }
 {
     if !matches!(error, Error::SqliteFailure(ErrorCode::CannotOpen)) {
         return Cause::Open(error);
@@ -141,7 +141,7 @@ fn open_store<S: Start>(
     ensures found { IfOk result (λ conn. HasCleanDisk (file_state conn)
         → FindsIn (image_at S.Start) (file_state conn)) }
     ensures failure { IfErr result IsUnopenable }
-    ensures not_missing { IfErr result (λ fault. found_nothing fault ≡ false) }
+    ensures not_sought { IfErr result (λ fault. is_sought fault ≡ false) }
 {
     match Connection::open_from(rt, store, false, start) {
         Ok(conn) => Ok(conn),
@@ -159,7 +159,7 @@ fn make_office<S: Alter + Drop>(conn: Connection<S>) -> Result<Office<S>, Comman
     ensures made { IfOk result (λ office. HasCleanDisk (state S.Store office) → IsKeptBy made_office (state S.Store office)) }
     ensures not_empty { (state S.Store conn).now.schema ≢ no_schema → IsErr result }
     ensures failure { IfErr result IsUnopenable }
-    ensures not_missing { IfErr result (λ fault. found_nothing fault ≡ false) }
+    ensures not_sought { IfErr result (λ fault. is_sought fault ≡ false) }
 {
     match Office::create(conn, limits()) {
         Ok(office) => Ok(office),
@@ -176,7 +176,7 @@ fn take_office<S: Alter + Drop>(conn: Connection<S>) -> Result<Office<S>, Comman
     ensures was_there { IfOk result (λ office. HasCleanDisk (state S.Store office)
         → IsTrue (has_office (state S.Store conn).now.schema)) }
     ensures failure { IfErr result IsUnopenable }
-    ensures not_missing { IfErr result (λ fault. found_nothing fault ≡ false) }
+    ensures not_sought { IfErr result (λ fault. is_sought fault ≡ false) }
 {
     match Office::adopt(conn) {
         Ok(office) => Ok(office),
@@ -202,7 +202,7 @@ fn office_of<S: Alter + Drop>(conn: Connection<S>, is_new: bool) -> Result<Offic
     requires outside { (state S.Store conn).in_transaction ≡ false }
     ensures is { IfOk result (IsOfficeOf S.Store conn is_new) }
     ensures failure { IfErr result IsUnopenable }
-    ensures not_missing { IfErr result (λ fault. found_nothing fault ≡ false) }
+    ensures not_sought { IfErr result (λ fault. is_sought fault ≡ false) }
 {
     if is_new {
         make_office(conn)
@@ -225,7 +225,7 @@ fn work_over<S: Alter + Drop, R: Read, O: Write>(
         × ComesOfTask task.now worked.1 deeds (traffic_of R.Read O.Write input.old out.old) (traffic_of R.Read O.Write input.new out.new)
         × AreDone S.Store deeds office worked.0)) }
     ensures failure { IfErr result IsUnopenable }
-    ensures not_missing { IfErr result (λ fault. found_nothing fault ≡ false) }
+    ensures not_sought { IfErr result (λ fault. is_sought fault ≡ false) }
     ensures untouched { OnErr result ((input.new ≡ input.old) × (out.new ≡ out.old)) }
     ensures left { reads_input task.now ≡ false → input.new ≡ input.old }
     ensures quiet { IfOk result (λ worked. IfOk worked.1 IsQuiet) }
@@ -291,21 +291,22 @@ fn on_files<D: Disk + Drop, R: Read, O: Write>(
     }
 }
 
-/// Does the task with the office in the file of the store.
+/// Does the task with the office in the file of the store, which is to be made or is there.
 fn in_file<S: Start, R: Read, O: Write>(
     rt: &HostRuntime,
     start: S,
     store: &str,
+    is_new: bool,
     task: &Task<'_>,
     input: &mut Counted<R>,
     out: &mut Counted<O>,
 ) -> Result<Done, CommandFault>
+    requires asked { is_new ≡ true → makes_office task.now ≡ true }
     ensures runs { RunsInFile ⟦<FileFrom<S> as Disk>⟧ (image_at S.Start) task.now result
         (traffic_of R.Read O.Write input.old out.old) (traffic_of R.Read O.Write input.new out.new) }
     ensures left { reads_input task.now ≡ false → input.new ≡ input.old }
     ensures quiet { IfOk result IsQuiet }
 {
-    let is_new = is_to_be_made(rt, store, task.makes_office())?;
     match open_store(rt, start, store, is_new) {
         Ok(conn) => on_files(rt, conn, is_new, task, input, out),
         Err(fault) => Err(fault),
@@ -321,7 +322,7 @@ pub fn in_store<S: Start, R: Read, O: Write>(
     input: &mut Counted<R>,
     out: &mut Counted<O>,
 ) -> Result<Done, CommandFault>
-    ensures runs { RunsOn ⟦<FileFrom<S> as Disk>⟧ (image_at S.Start) store.now task.now result
+    ensures runs { RunsOn ⟦<FileFrom<S> as Disk>⟧ (image_at S.Start) store.now (start.new ≡ start.old) task.now result
         (traffic_of R.Read O.Write input.old out.old) (traffic_of R.Read O.Write input.new out.new) }
     ensures left { reads_input task.now ≡ false → input.new ≡ input.old }
     ensures quiet { IfOk result IsQuiet }
@@ -329,8 +330,9 @@ pub fn in_store<S: Start, R: Read, O: Write>(
     if store == ":memory:" {
         return in_memory(rt, task, input, out);
     }
+    let is_new = is_to_be_made(rt, store, task.makes_office())?;
     match start.take() {
-        Some(start) => in_file(rt, start, store, task, input, out),
+        Some(start) => in_file(rt, start, store, is_new, task, input, out),
         None => Err(failed_by(StoreFault::Store, Cause::Taken)),
     }
 }

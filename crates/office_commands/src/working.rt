@@ -1,9 +1,10 @@
 //! What is done with an open office, over any store.
 
 ghost use Rattle.std.specs.Prelude.{◌≡◌, ◌∷◌, [], IfErr, IfOk, List, false};
+ghost use Rattle.office_tables.specs.Faults as faults;
 ghost use Rattle.office_commands.specs.Deeds.{AreDone, Deed};
 ghost use Rattle.office_commands.specs.Tasks.{ComesOfAsk, ComesOfReplay, ReplaysAfter, install_of};
-ghost use Rattle.office_commands.specs.Texts.{IsFailure, IsOfStore, IsUnopenable, desk_failure, found_nothing, install_failure, replay_failure, table_failure, table_fault};
+ghost use Rattle.office_commands.specs.Texts.{IsOfStore, IsUninstalled, IsUnopenable, desk_failure, install_failure, is_sought, replay_failure, table_failure, table_fault};
 ghost use Rattle.office_commands.specs.Traffic.{traffic_of};
 ghost use Rattle.office_commands.specs.Works.{IsQuiet};
 
@@ -34,7 +35,7 @@ fn table_fault(fault: TableFault) -> StoreFault
 /// An office that can't be made or taken up.
 pub fn table_failure(fault: TableFault) -> CommandFault
     ensures is { result ≡ table_failure fault }
-    ensures nothing { found_nothing result ≡ false }
+    ensures sought { is_sought result ≡ false }
     ensures failure { IsUnopenable result }
 {
     CommandFault::without_cause(table_fault(fault))
@@ -43,15 +44,14 @@ pub fn table_failure(fault: TableFault) -> CommandFault
 /// A policy that can't be installed.
 fn install_failure(fault: TableFault) -> CommandFault
     ensures is { result ≡ install_failure fault }
-    ensures failure { IsFailure result }
+    ensures failure { faults.IsFailure fault → IsUninstalled result }
 {
     failed_by(table_fault(fault), Cause::Install(fault))
 }
 
 /// What a fault of the desk comes to.
 fn desk_failure(fault: DeskFault) -> CommandFault
-    ensures is { result ≡ desk_failure fault }
-    ensures failure { IsFailure result }
+    ensures { result ≡ desk_failure fault }
 {
     match fault {
         DeskFault::Read => failed_by(StoreFault::Device, Cause::Input),
@@ -68,7 +68,7 @@ pub fn install_policy<S: Alter>(
 ) -> Result<Done, CommandFault>
     ensures done { AreDone S.Store (install_of result policy.now ∷ []) office.old office.new }
     ensures quiet { IfOk result IsQuiet }
-    ensures failure { IfErr result IsFailure }
+    ensures failure { IfErr result IsUninstalled }
 {
     match office.install(alloc, policy) {
         Ok(()) => Ok(Done::quiet()),

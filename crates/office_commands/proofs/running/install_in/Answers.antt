@@ -1,4 +1,5 @@
+use Rattle.std.proofs.Common.{inr}
 use Rattle.office_commands.proofs.running.install_in.Goals as goal
 
 pub returns-in-Ok-clause-comes : goal.returns-in-Ok-clause-comes
-returns-in-Ok-clause-comes g c = c.install_from.ensures.comes
+returns-in-Ok-clause-comes g c = inr (c.in-Ok.file, c.install_from.ensures.comes)

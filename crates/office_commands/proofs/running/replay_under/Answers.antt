@@ -1,4 +1,5 @@
+use Rattle.std.proofs.Common.{inr}
 use Rattle.office_commands.proofs.running.replay_under.Goals as goal
 
 pub returns-in-Ok : goal.returns-in-Ok
-returns-in-Ok g c = record { comes = (c.replay_from.ensures.quiet, c.replay_from.ensures.comes) }
+returns-in-Ok g c = record { comes = inr (c.in-Ok.file, c.replay_from.ensures.comes); quiet = c.replay_from.ensures.quiet }

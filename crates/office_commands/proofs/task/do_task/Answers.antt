@@ -8,4 +8,4 @@ returns-in-Policy-clause-does g c =
 
 pub returns-in-Serve-clause-does : goal.returns-in-Serve-clause-does
 returns-in-Serve-clause-does g c =
-    does_serve g.S.Store c.args.task.now c.in-Serve.day c.in-Serve.port c.in-Serve.count c.serve_at.result c.args.office.now c.serve_at.new.office _ _ c.in-Serve.is refl c.serve_at.ensures.failure c.serve_at.ensures.serves
+    does_serve g.S.Store c.args.task.now c.in-Serve.day c.in-Serve.port c.in-Serve.count c.serve_at.result c.args.office.now c.serve_at.new.office _ _ c.in-Serve.is refl c.serve_at.ensures.serves
