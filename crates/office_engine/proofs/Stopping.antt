@@ -1,5 +1,5 @@
 -- What is found again after a stop.
-use Rattle.std.proofs.Common.{◌⊎◌, inl, inr, List, Result, Ok, Err, OnErr}
+use Rattle.std.proofs.Common.{◌≡◌, ◌⊎◌, inl, inr, List, Option, Some, IfSome, Result, Ok, Err, OnErr, sym, subst}
 use Rattle.std.proofs.Math.Logic.{∥∥₁_map}
 use Rattle.sqlite.specs.Tree.{Trees}
 use Rattle.sqlite.specs.Recovery.{Image}
@@ -35,3 +35,7 @@ holds_all image new P leaves holds = ∥∥₁_map holds (λ d. (d.0, leaves d.0
 pub on_err_both : {T E P Q R : Type 0} (r : Result T E) → (P → Q → R) → OnErr r P → OnErr r Q → OnErr r R
 on_err_both (Ok x) f p q = tt
 on_err_both (Err e) f p q = f p q
+
+-- what is so of an item is so of a choice that is this item
+pub if_some : {T : Type 0} (o : Option T) (x : T) (P : T → Type 0) → o ≡ Some x → P x → IfSome o P
+if_some o x P is p = subst (λ y. IfSome y P) (sym is) p

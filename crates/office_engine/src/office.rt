@@ -230,7 +230,7 @@ impl<S: Alter> Office<S> {
 /// Serves a request, and stops there: the files as they are then, which may be what a crash leaves.
 pub fn stop_in<D: Disk + Drop>(
     alloc: Global,
-    mut office: Office<FileStore<D>>,
+    office: Office<FileStore<D>>,
     day: Day,
     caller: &str,
     request: &Request<'_>,
@@ -239,8 +239,7 @@ pub fn stop_in<D: Disk + Drop>(
     ensures leaves { IsClean (view result) → (h : History) → IsLegal h → IsTrue (file_state office).is_open → IsKeptBy h (file_state office)
         → (image : Image) → (files_state result).may_leave image → HoldsWhere (IsLeftOfEither h (after h day caller.now request.now)) image }
 {
-    let _answer = office.step(alloc, day, caller, request);
-    stop(office.into_connection())
+    stop_after(alloc, office, &Some((day, caller, request)), &[]).files
 }
 
 /// What is left of a run that was stopped behind its last request.
@@ -255,7 +254,7 @@ pub struct StoppedRun<D: Disk + Drop> {
 /// Serves requests one after the other, and stops there.
 pub fn stop_in_run<D: Disk + Drop>(
     alloc: Global,
-    mut office: Office<FileStore<D>>,
+    office: Office<FileStore<D>>,
     items: &[(Day, &str, Request<'_>)],
 ) -> StoppedRun<D>
     // They hold the office that the answers tell, or that one with the change of a failed request.
@@ -265,10 +264,39 @@ pub fn stop_in_run<D: Disk + Drop>(
     ensures failed { IsClean (view result.files) → OnErr result.answers ((h : History) → IsTrue (file_state office).is_open → IsKeptBy h (file_state office)
         → (image : Image) → (files_state result.files).may_leave image → HoldsWhere (IsLeftOf h) image) }
 {
-    let answers = office.run(alloc, items);
-    StoppedRun {
-        answers,
-        files: stop(office.into_connection()),
+    stop_after(alloc, office, &None, items)
+}
+
+/// Serves the request, or where there is none the items, and stops there. Of a single request no answer
+/// is handed back.
+fn stop_after<D: Disk + Drop>(
+    alloc: Global,
+    mut office: Office<FileStore<D>>,
+    one: &Option<(Day, &str, &Request<'_>)>,
+    items: &[(Day, &str, Request<'_>)],
+) -> StoppedRun<D>
+    ensures one { IsClean (view result.files) → IfSome one.now (λ item. (h : History) → IsLegal h → IsTrue (file_state office).is_open → IsKeptBy h (file_state office)
+        → (image : Image) → (files_state result.files).may_leave image → HoldsWhere (IsLeftOfEither h (after h item.0 item.1.now item.2.now)) image) }
+    ensures run { IsClean (view result.files) → one.now ≡ None → IfOk result.answers (λ answers. (h : History) → IsLegal h → IsTrue (file_state office).is_open → IsKeptBy h (file_state office)
+        → (image : Image) → (files_state result.files).may_leave image → HoldsWhere (IsLeftOfRun h items.now answers.items) image) }
+    ensures failed { IsClean (view result.files) → one.now ≡ None → OnErr result.answers ((h : History) → IsTrue (file_state office).is_open → IsKeptBy h (file_state office)
+        → (image : Image) → (files_state result.files).may_leave image → HoldsWhere (IsLeftOf h) image) }
+{
+    match one {
+        Some((day, caller, request)) => {
+            let _answer = office.step(alloc, *day, caller, request);
+            StoppedRun {
+                answers: Ok(Vec::new(alloc)),
+                files: stop(office.into_connection()),
+            }
+        }
+        None => {
+            let answers = office.run(alloc, items);
+            StoppedRun {
+                answers,
+                files: stop(office.into_connection()),
+            }
+        }
     }
 }
 
