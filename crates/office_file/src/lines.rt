@@ -30,7 +30,7 @@ pub fn run_words(
 }
 
 /// The line that was worked out with its reason and its ending, or want of memory with nothing on
-/// standard output.
+/// standard output: the line `memory`, after which a second one may say what was tried.
 fn outcome(
     found: Result<(Vec<u8>, Vec<u8>, Ending), AllocError>,
     line: &str,
@@ -40,7 +40,7 @@ fn outcome(
     match found {
         Err(_) => Outcome::Memory,
         Ok((out, err, Ending::Failed)) => {
-            Outcome::memory_if(out.is_empty() && err.as_slice() == b"memory\n".as_slice())
+            Outcome::memory_if(out.is_empty() && err.starts_with(b"memory\n"))
         }
         Ok((out, err, found)) => Outcome::expected_if(
             out.as_slice() == line.as_bytes()
