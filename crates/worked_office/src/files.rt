@@ -26,21 +26,8 @@ fn close_files<D: Disk + Drop>(
     }
 }
 
-/// Closes the files where every answer was as it is told. After another answer the log isn't copied into the
-/// database file.
-fn close_after<D: Disk + Drop>(
-    alloc: Global,
-    conn: Connection<FileStore<D>>,
-    differs: Option<String>,
-) -> (Option<String>, Files<D>) {
-    match differs {
-        Some(text) if text.is_empty() => close_files(alloc, conn),
-        differs => (differs, conn.into_store().close()),
-    }
-}
-
 /// Opens the files with small caches, takes the part and closes the files, which are handed back, with
-/// what is answered otherwise, or no text.
+/// what is answered otherwise, or no text. After another answer the log isn't copied into the database file.
 pub fn take_once<D: Disk + Drop>(
     alloc: Global,
     files: Files<D>,
@@ -54,7 +41,10 @@ pub fn take_once<D: Disk + Drop>(
         Err((_, left)) => (says(alloc, "not opened"), left.into_files()),
         Ok(conn) => {
             let (differs, conn) = take_part(alloc, conn, way, part);
-            close_after(alloc, conn, differs)
+            match differs {
+                Some(text) if text.is_empty() => close_files(alloc, conn),
+                differs => (differs, conn.into_store().close()),
+            }
         }
     }
 }

@@ -1,15 +1,16 @@
 //! A stop in a request and in a run, and what is found again in the files.
 
-use crate::offices::{Way, put};
+use crate::offices::Way;
 use crate::parts::{Part, agree};
+use crate::rows::rows;
 use crate::stores::in_files;
-use office_core::{Answer, Day};
+use office_core::{Answer, Day, Request};
 use office_engine::{Office, reopen, stop_in, stop_in_run};
 use sqlite::{FileStore, Files};
 use sqlite_disk::Disk;
 use std::alloc::{AllocError, Global};
 use std::test::Fail;
-use worked_sessions::{Asked, SMALL_CACHES, words};
+use worked_sessions::{Asked, Row, SMALL_CACHES, words};
 
 static BEFORE: [Part; 2] = [
     ("office", "1000000"),
@@ -26,7 +27,9 @@ const AFTER_THE_REQUEST: &str = "2024-03-02 anna\n\
      2025-02-28 anna\n\
      dispose 1 > Held 1";
 
-const TOLD_OF_THE_RUN: &str = "hold 2\nreleased 1 2024-03-02\n";
+const THE_RUN: &str = "2024-03-02 anna\n\
+     hold-all maps > hold 2\n\
+     release 1 > released 1 2024-03-02";
 
 const AFTER_THE_RUN: &str = "2025-02-28 anna\n\
      dispose 1 > Held 2\n\
@@ -40,71 +43,83 @@ fn find_office<D: Disk + Drop>(alloc: Global, files: Files<D>) -> Option<Office<
     reopen(alloc, files, SMALL_CACHES)
 }
 
-/// Stops in a hold of deposit 1. Then the files show the office after it.
-fn stop_once<D: Disk + Drop>(alloc: Global, files: Files<D>) -> Option<String> {
+/// Stops in a hold of deposit 1. What the files have then.
+fn stop_in_hold<D: Disk + Drop>(alloc: Global, files: Files<D>) -> Option<Files<D>> {
     let day = Day::read("2024-03-02")?;
     let hold = Asked::HoldDeposit(1).request()?;
     let store = stop_in(alloc, find_office(alloc, files)?, day, "anna", &hold);
-    let mut office = find_office(alloc, store.close())?;
-    put(alloc, &mut office, Way::Steps, AFTER_THE_REQUEST)
+    Some(store.close())
 }
 
-/// The answers in words, a line each.
-fn lines_of(alloc: Global, answers: &Result<Vec<Answer>, AllocError>) -> Option<String> {
-    let mut text = String::new(alloc);
-    for answer in answers.as_ref().ok()? {
-        text.push_str(words(alloc, answer).ok()?.as_str()).ok()?;
-        text.push_str("\n").ok()?;
+/// What the rows ask, as a run takes it.
+fn items_of(alloc: Global, rows: &[Row]) -> Option<Vec<(Day, &'static str, Request<'static>)>> {
+    let mut items = Vec::new(alloc);
+    for (day, caller, asked, _) in rows {
+        items
+            .push((Day::read(day)?, *caller, asked.request()?))
+            .ok()?;
     }
-    Some(text)
+    Some(items)
 }
 
-/// The office that is found in the files, with a hold of deposit 1.
-fn find_holding_office<D: Disk + Drop>(
+/// The first answer that its row doesn't tell, or no text.
+fn other_answer(
+    alloc: Global,
+    answers: &Result<Vec<Answer>, AllocError>,
+    rows: &[Row],
+) -> Option<String> {
+    let answers = answers.as_ref().ok()?;
+    if answers.len() != rows.len() {
+        return String::from_str(alloc, "another number of answers").ok();
+    }
+    for (answer, row) in answers.iter().zip(rows.iter()) {
+        let answer = words(alloc, answer).ok()?;
+        if answer.as_str() != row.3 {
+            return Some(answer);
+        }
+    }
+    Some(String::new(alloc))
+}
+
+/// Stops in a run of the rows. What is answered otherwise, or no text, and what the files have then.
+fn stop_in_rows<D: Disk + Drop>(
     alloc: Global,
     files: Files<D>,
-) -> Option<Office<FileStore<D>>> {
-    let day = Day::read("2024-03-02")?;
-    let hold = Asked::HoldDeposit(1).request()?;
-    let mut office = find_office(alloc, files)?;
-    let _placed = office.step(alloc, day, "anna", &hold);
-    Some(office)
-}
-
-/// Stops in a run of a hold of deposit 1's collection and a release of the first hold. What the files
-/// have then, and the answers in words.
-fn stop_in_holds<D: Disk + Drop>(
-    alloc: Global,
-    office: Office<FileStore<D>>,
-) -> Option<(Files<D>, String)> {
-    let day = Day::read("2024-03-02")?;
-    let items = [
-        (day, "anna", Asked::HoldCollection("maps").request()?),
-        (day, "anna", Asked::Release(1).request()?),
-    ];
-    let stopped = stop_in_run(alloc, office, &items);
+    text: &'static str,
+) -> Option<(String, Files<D>)> {
+    let rows = rows(alloc, text)?;
+    let items = items_of(alloc, &rows)?;
+    let stopped = stop_in_run(alloc, find_office(alloc, files)?, &items);
     let files = stopped.files.close();
-    Some((files, lines_of(alloc, &stopped.answers)?))
+    Some((other_answer(alloc, &stopped.answers, &rows)?, files))
 }
 
-/// Stops in a run, whose answers tell both its requests. Then the files show the office after both.
-fn stop_in_two<D: Disk + Drop>(alloc: Global, files: Files<D>) -> Option<String> {
-    let (files, lines) = stop_in_holds(alloc, find_holding_office(alloc, files)?)?;
-    if lines.as_str() != TOLD_OF_THE_RUN {
-        return Some(lines);
+/// Stops in a hold of deposit 1, and then in each of the runs, each time with an opening of the files
+/// before it. What is answered otherwise, or no text.
+fn stop_in_turn<D: Disk + Drop>(
+    alloc: Global,
+    files: Files<D>,
+    runs: &[&'static str],
+) -> Option<String> {
+    let mut files = stop_in_hold(alloc, files)?;
+    for text in runs {
+        let (differs, left) = stop_in_rows(alloc, files, text)?;
+        if !differs.is_empty() {
+            return Some(differs);
+        }
+        files = left;
     }
-    let mut office = find_office(alloc, files)?;
-    put(alloc, &mut office, Way::Steps, AFTER_THE_RUN)
+    Some(String::new(alloc))
 }
 
 /// A stop in a request leaves the office after it.
 pub fn a_stop_leaves_the_office_after_its_last_request(alloc: Global) -> Result<(), Fail> {
     let files = in_files(alloc, Way::Steps, &BEFORE)?;
-    agree(stop_once(alloc, files))
+    agree(stop_in_turn(alloc, files, &[AFTER_THE_REQUEST]))
 }
 
 /// A stop in a run leaves the office after it.
 pub fn a_stop_leaves_the_office_after_the_run(alloc: Global) -> Result<(), Fail> {
     let files = in_files(alloc, Way::Steps, &BEFORE)?;
-    agree(stop_in_two(alloc, files))
+    agree(stop_in_turn(alloc, files, &[THE_RUN, AFTER_THE_RUN]))
 }
