@@ -7,8 +7,8 @@ before those of the C library (`LD_PRELOAD`). Each run ends by itself, and print
 answer of the session that nothing is refused to, or 503, and then it has done nothing: the next time it
 has the answer that it would have had. Or the program ends with `memory`, and what was answered before.
 
-`ask`: `depot ask` over a file, a request each: a deposit, a download, a release that the office refuses, and
-a request that the desk refuses. It is answered as with all memory, or by 503, or the program ends with
+`ask`: `depot ask` over a file, a request each: a deposit, a class that is revised over two deposits, a download,
+a due list, a release that the office refuses, and a request that the desk refuses. It is answered as with all memory, or by 503, or the program ends with
 `memory`; and the same request to the same file, with all memory, is then answered as the second time that it
 is asked where it was answered, as the first time where 503 was answered for want of memory, else as one of both.
 
@@ -90,7 +90,7 @@ def record(day, caller, line, body=b""):
 
 
 def session():
-    """Records of every route, of a refusal of the office and of refusals of the desk."""
+    """Records of every route, of refusals of the office and of the desk; a class is revised over two deposits of one bag."""
     bag = (TOP / "examples/bag-a.bagset").read_bytes()
     deposit = "POST /deposits?collection=maps&class=y1&accession=A-1&closed=2024-02-29"
     early, late = "2024-03-01", "2025-02-28"
@@ -99,6 +99,10 @@ def session():
         record(early, "anna", "PUT /collections/maps"),
         record(early, "anna", deposit, bag),
         record(early, "anna", deposit.replace("A-1", "A-2"), bag[:-4]),
+        record(early, "anna", deposit.replace("A-1", "A-3"), bag),
+        record(early, "anna", "PUT /classes/y1", b'{"years":0}'),
+        record(early, "anna", "GET /due"),
+        record(early, "anna", "PUT /classes/y1", b'{"years":1}'),
         record(early, "anna", "GET /deposits?collection=maps&class=y1"),
         record(early, "anna", "GET /deposits/1"),
         record(early, "anna", "GET /deposits/1/bag"),
@@ -112,6 +116,8 @@ def session():
         record(late, "anna", "GET /due"),
         record(late, "anna", "DELETE /deposits/1"),
         record(late, "anna", "DELETE /holds/1"),
+        record(late, "anna", "GET /due"),
+        record(late, "anna", "DELETE /deposits/1"),
     ]
 
 
@@ -205,8 +211,10 @@ def ask(library, first, last):
     deposit = "POST /deposits?collection=maps&class=y1&accession=A-%d&closed=2024-02-29"
     day = "2024-03-01"
     given = [
-        request("anna", deposit % 2, bag),
+        request("anna", deposit % 3, bag),
+        request("anna", "PUT /classes/y1", b'{"years":0}'),
         request("anna", "GET /deposits/1/bag"),
+        request("anna", "GET /due"),
         request("anna", "DELETE /holds/1"),
         request("anna", "GET /nothing"),
     ]
@@ -215,7 +223,8 @@ def ask(library, first, last):
         kept, used = pathlib.Path(room, "kept"), pathlib.Path(room, "used")
         kept.mkdir()
         subprocess.run([DEPOT, "policy", kept / "office.db", POLICY], check=True, capture_output=True, timeout=60)
-        for text in (request("anna", "PUT /classes/y1", b'{"years":1}'), request("anna", "PUT /collections/maps"), request("anna", deposit % 1, bag)):
+        definitions = request("anna", "PUT /classes/y1", b'{"years":1}'), request("anna", "PUT /collections/maps")
+        for text in (*definitions, request("anna", deposit % 1, bag), request("anna", deposit % 2, bag)):
             subprocess.run([DEPOT, "ask", kept / "office.db", day], input=text, check=True, capture_output=True, timeout=60)
 
         def asks(number, text):

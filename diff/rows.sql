@@ -1,16 +1,17 @@
--- Every row of an office: a line each, with the table's name first, paths and contents in
--- hexadecimal digits.
+-- Every row of an office: a line each, with the table's name first, paths, contents and marks in
+-- hexadecimal digits. A file is shown with the bytes of its content.
 .mode list
 SELECT 'office', id, version, max_deposits, max_holds FROM office ORDER BY id;
 SELECT 'caller', name, role FROM caller ORDER BY name;
 SELECT 'rule', place, effect, role, action, collection, class FROM rule ORDER BY place;
 SELECT 'class', name, years FROM class ORDER BY name;
 SELECT 'collection', name FROM collection ORDER BY name;
-SELECT 'deposit', number, accession, collection, class, closed, deposited, files, bytes, gone
+SELECT 'deposit', number, accession, collection, class, closed, deposited, files, bytes, gone, due, holds
   FROM deposit ORDER BY number;
 -- The one long content is told from every other.
 SELECT 'file', deposit, hex(path),
-    CASE WHEN content = CAST(replace(hex(zeroblob(20000)), '00', 'abcde') AS BLOB)
-    THEN 'abcde 20000 times' ELSE hex(content) END
-  FROM file ORDER BY deposit, path;
+    CASE WHEN content.bytes = CAST(replace(hex(zeroblob(20000)), '00', 'abcde') AS BLOB)
+    THEN 'abcde 20000 times' ELSE hex(content.bytes) END
+  FROM file JOIN content ON content.id = file.content ORDER BY deposit, path;
 SELECT 'hold', number, deposit, collection, matter, placed, released FROM hold ORDER BY number;
+SELECT 'content', id, hex(mark), size FROM content ORDER BY id;

@@ -81,8 +81,8 @@ all() {
     asks anna 409 '{"due":"permanent","error":"NotDue"}' /deposits/4 -X DELETE
     asks anna 200 '{"day":"2024-03-01","destroyed":1}' /deposits/1 -X DELETE
     asks anna 410 '{"day":"2024-03-01","error":"Gone"}' /deposits/1
-    asks anna 201 '{"deposit":5}' '/deposits?collection=maps&class=odd&accession=A-5&closed=2024-02-29' --data-binary "@$bag"
-    asks anna 503 '{"error":"Store"}' /deposits/5
+    asks anna 503 '{"error":"Store"}' '/deposits?collection=maps&class=odd&accession=A-5&closed=2024-02-29' --data-binary "@$bag"
+    asks anna 201 '{"deposit":5}' '/deposits?collection=maps&class=kept&accession=A-5&closed=2024-02-29' --data-binary "@$bag"
     asks anna 409 '{"error":"Full"}' '/deposits?collection=maps&class=y0&accession=A-6&closed=2024-02-29' --data-binary "@$bag"
     asks anna 404 '{"error":"NoRoute"}' /nowhere
     asks anna '405 GET' '{"error":"Method"}' /due -X PUT
@@ -261,9 +261,9 @@ logged "$folder/made/notes.db" "$folder/logged/notes.db" \
     "CREATE TABLE note (number INTEGER PRIMARY KEY, said TEXT NOT NULL); INSERT INTO note VALUES (1, 'first')" \
     "UPDATE note SET said = 'changed'; INSERT INTO note VALUES (2, 'second')"
 refused_with_log "$folder/logged/notes.db" $'store Q1\ndepot: STORE is another database, and no office' "(1,'changed')"
-"$program" policy "$folder/made/later.db" "$policy" >"$folder/installed"
-logged "$folder/made/later.db" "$folder/logged/later.db" "" "UPDATE office SET version = 2"
-refused_with_log "$folder/logged/later.db" $'store Q2\ndepot: STORE is an office of another version' '(1,2,1000000,1000000)'
+"$program" policy "$folder/made/earlier.db" "$policy" >"$folder/installed"
+logged "$folder/made/earlier.db" "$folder/logged/earlier.db" "" "UPDATE office SET version = 2"
+refused_with_log "$folder/logged/earlier.db" $'store Q2\ndepot: STORE is an office of another version' '(1,2,1000000,1000000)'
 echo "commits in a log: ${#commands[@]} commands refuse another database and another version's office, and leave both as they were"
 
 held=$folder/held/office.db

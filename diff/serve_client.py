@@ -41,6 +41,7 @@ COUNTED = {
     "kept deposits": "deposit WHERE gone IS NULL",
     "destroyed deposits": "deposit WHERE gone IS NOT NULL",
     "files": "file",
+    "contents": "content",
     "live holds": "hold WHERE released IS NULL",
     "released holds": "hold WHERE released IS NOT NULL",
     "rules": "rule",
@@ -349,6 +350,7 @@ class Kept:
         with open(POLICY, "rb") as file:
             policy = tomllib.load(file)
         kept = len(self.bags) - len(self.gone)
+        forms = {form for number, form in self.bags.items() if number not in self.gone}
         return {
             # (what `opened` puts there)
             "classes": 1,
@@ -357,6 +359,8 @@ class Kept:
             "destroyed deposits": len(self.gone),
             # (each bag has three)
             "files": 3 * kept,
+            # (and all bags have the first of them alike)
+            "contents": 2 * len(forms) + (1 if forms else 0),
             "live holds": len(self.holds) - len(self.released),
             "released holds": len(self.released),
             "rules": len(policy["rule"]),

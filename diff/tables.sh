@@ -24,4 +24,13 @@ if "$program" write "$file" >/dev/null 2>&1; then
     exit 1
 fi
 sqlite3 -batch "$file" <"$top/diff/rows.sql" | diff -u "$top/diff/rows.txt" -
+# A file is opened while its contents are there, and no more once `sqlite3` took one that a file has.
+"$program" last "$file" 1 >/dev/null
+sqlite3 -batch "$file" 'PRAGMA foreign_keys = OFF; DELETE FROM content WHERE size = 43;'
+cp "$file" "$folder/before"
+if "$program" last "$file" 1 >/dev/null 2>&1; then
+    echo "a file without one of its contents was opened" >&2
+    exit 1
+fi
+cmp "$file" "$folder/before"
 echo "sqlite3 finds the $(wc -l <"$top/diff/rows.txt") rows that were written and the $(wc -l <"$top/diff/schema.sql") texts of the schema, and its own tests pass"

@@ -3,8 +3,8 @@ use Rattle.std.proofs.Common.{◌≡◌, refl, sym, subst, ◌∙◌, inl, arith
 use Rattle.std.specs.Prelude.{Result, OnOk}
 use Rattle.std.proofs.lemmas.Result.{on_ok_weaker}
 use Rattle.sqlite.specs.State.{State, HasCleanDisk}
-use Rattle.sql_meaning.specs.Inside.{Stays, GoesOn}
-use Rattle.sql_meaning.proofs.Inside.{goes_then}
+use Rattle.sql_meaning.specs.Inside.{Stays, GoesOn, Stands}
+use Rattle.sql_meaning.proofs.Inside.{goes_then, stays_then}
 use Rattle.office_tables.specs.Tables.{IsOffice}
 
 -- a disk that is clean after a call was clean before it
@@ -26,7 +26,18 @@ module _ (a b c : State) (stays : Stays b c) where
       let same = first (clean_before b c stays clean) office in
       second clean (subst IsOffice (sym same) office) ∙ same
 
+-- a call, and calls in turn after it
+pub goes_still : (a b c : State) → GoesOn a b → Stands b c → GoesOn a c
+goes_still a b c p q = record { was_open = p.was_open; is_open = q.is_open p.is_open; inside = λ inside. q.inside (p.inside inside) }
+
+-- three calls
+pub stays_thrice : (a b c d : State) → Stays a b → (HasCleanDisk b → GoesOn a b) → Stays b c → (HasCleanDisk c → GoesOn b c) → Stays c d → Stays a d
+stays_thrice a b c d first goes second goes_on third = stays_then a c d (stays_then a b c first goes second) (goes_twice a b c second goes goes_on) third
+
 -- where no call was made
+pub stands_still : (a : State) → Stands a a
+stands_still a = record { is_open = λ is_open. is_open; inside = λ inside. inside }
+
 pub stays_still : (a : State) → Stays a a
 stays_still a = record {
   survives = record {

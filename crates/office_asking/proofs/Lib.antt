@@ -11,3 +11,10 @@ pub mod Unchanged
 pub mod CollectionTold
 pub mod LimitsTold
 pub mod InTurn
+pub mod DuesGrown
+pub mod Counts
+pub mod DuesRevised
+pub mod DuesPlaced
+pub mod MatchTold
+pub mod DuesDeposited
+pub mod DuesTold

@@ -1,8 +1,7 @@
 -- What the rows of callers and rules tell of the policy.
-use Rattle.std.proofs.Common.{◌≡◌, ℕ, zero, suc, ◌+◌, Bool, true, false, ◌||◌, ◌&&◌, List, [], ◌∷◌, map, Option, Some, None, option_map, slice_get, refl, ap, ◌∙◌, cond}
+use Rattle.std.proofs.Common.{◌≡◌, ℕ, ℤ, zero, suc, ◌+◌, codes, Bool, true, false, ◌||◌, ◌&&◌, List, [], ◌∷◌, map, Option, Some, None, option_map, slice_get, refl, ap, ◌∙◌, cond}
 use Rattle.std.specs.Prelude.{bytes_eq, find, position, option_and_then, nat_lt, not}
 use Rattle.std.specs.List.{AllByRecursion, prefix_len}
-use Rattle.std.proofs.lemmas.Option.{same_Some}
 use Rattle.office_core.specs.Actions.{action_text}
 use Rattle.office_core.specs.Policies.{PolicyValue, IsPolicy, IsNamed, HasNames, or_stranger}
 use Rattle.office_core.specs.Rules.{Question, matches_name, matches_action, matches_optional, matches, decision_at, decision_of}
@@ -21,7 +20,30 @@ use Rattle.office_rows.specs.Rows.{CallerRow, RuleRow, caller_named}
 use Rattle.office_history.specs.Pictures.{caller_row, effect_number, pattern_text, action_pattern_text, rule_row, rule_rows}
 use Rattle.office_history.proofs.Pictured.{not_star}
 use Rattle.office_history.proofs.RowLemmas.{count_of_rules}
-use Rattle.office_asking.specs.Asking.{star, asks_for, asks_for_optional, row_matches, row_decision, as_row}
+
+abbrev pub star : List ℕ
+star = codes "*"
+
+-- `*` asks for every name, and a name for itself
+abbrev pub asks_for : List ℕ → List ℕ → Bool
+asks_for text name = bytes_eq text star || bytes_eq text name
+
+-- and `*` for an absent name too
+abbrev pub asks_for_optional : List ℕ → Option (List ℕ) → Bool
+asks_for_optional text None = bytes_eq text star
+asks_for_optional text (Some name) = asks_for text name
+
+abbrev pub row_matches : RuleRow → Question → Bool
+row_matches row asked =
+    asks_for row.role asked.role && asks_for row.action (action_text asked.action)
+    && asks_for_optional row.collection asked.collection && asks_for_optional row.class asked.class
+
+-- the number of the first rule that matches, from 1, and the number that stands for its effect
+abbrev pub row_decision : List RuleRow → Question → Option (ℕ × ℤ)
+row_decision rows asked = option_and_then (λ place. option_map (λ (row : RuleRow). (place + 1, row.effect)) (slice_get rows place)) (position (λ row. row_matches row asked) rows)
+
+abbrev pub as_row : Decision → ℕ × ℤ
+as_row decision = (decision.rule, effect_number decision.effect)
 
 -- ---- the role
 
@@ -87,7 +109,7 @@ then_same : {A B C : Type 0} (f : A → Option C) (g : A → Option B) (into : B
 then_same f g into None same = refl
 then_same f g into (Some x) same = same x
 
-decision_told : (policy : PolicyValue) (asked : Question) → IsPolicy policy → row_decision (rule_rows 1 policy.rules) asked ≡ option_map as_row (decision_of policy.rules asked)
+pub decision_told : (policy : PolicyValue) (asked : Question) → IsPolicy policy → row_decision (rule_rows 1 policy.rules) asked ≡ option_map as_row (decision_of policy.rules asked)
 decision_told policy asked named =
     ap (option_and_then (λ place. option_map (λ (row : RuleRow). (place + 1, row.effect)) (slice_get (rule_rows 1 policy.rules) place))) (same_place asked policy.rules named.rules_ask_for_names)
     ∙ then_same (λ place. option_map (λ (row : RuleRow). (place + 1, row.effect)) (slice_get (rule_rows 1 policy.rules) place)) (λ place. option_map (decision_at place) (slice_get policy.rules place)) as_row
@@ -95,21 +117,8 @@ decision_told policy asked named =
 
 -- ---- and back
 
-same_effect : (a b : Effect) → effect_number a ≡ effect_number b → a ≡ b
+pub same_effect : (a b : Effect) → effect_number a ≡ effect_number b → a ≡ b
 same_effect Allow Allow e = refl
 same_effect Allow Deny e = absurd cc
 same_effect Deny Allow e = absurd cc
 same_effect Deny Deny e = refl
-
-same_decision : (a b : Option Decision) → option_map as_row a ≡ option_map as_row b → a ≡ b
-same_decision None None e = refl
-same_decision None (Some b) e = absurd cc
-same_decision (Some a) None e = absurd cc
-same_decision (Some a) (Some b) e =
-    let both : as_row a ≡ as_row b = same_Some _ _ e in
-    λ i. Some (record { rule = ap (λ p. p.0) both i; effect = same_effect a.effect b.effect (ap (λ p. p.1) both) i })
-
--- the decision by the rows is that of the policy
-pub decided : (policy : PolicyValue) (asked : Question) (rows : List RuleRow) (decision : Option Decision) → IsPolicy policy → rows ≡ rule_rows 1 policy.rules → option_map as_row decision ≡ row_decision rows asked
-    → decision ≡ decision_of policy.rules asked
-decided policy asked rows decision named is e = same_decision decision (decision_of policy.rules asked) (e ∙ ap (λ rs. row_decision rs asked) is ∙ decision_told policy asked named)

@@ -9,6 +9,7 @@ use Rattle.office_core.specs.declared.request.Request.{Request}
 use Rattle.office_rows.specs.Rows.{Tables, this_version}
 use Rattle.office_history.specs.Pictures.{picture}
 use Rattle.office_tables.specs.Tables.{Becomes, tables_of}
+use Rattle.office_tables.specs.Contents.{KeepsOnce}
 use Rattle.office_history.specs.Histories.{History, with_changes}
 use Rattle.office_history.specs.Refusals.{refusal}
 use Rattle.office_history.proofs.Accepted.{grown_by_none}
@@ -34,6 +35,7 @@ module _ (h : History) (day : Date) (caller : List ℕ) (request : Request) (db 
   pub read_serves : (given : Answer) → None ≡ refusal h day caller request → given ≡ allowed_answer h day caller request → allowed_change h day request ≡ [] → Pictures h db → IsServed h day caller request given db
   read_serves given e is none pictured = allowed_serves given e is (subst (λ (x : History). Pictures x db) (grown_by_none h ∙ ap (with_changes h) (sym none)) pictured)
 
--- what the tables became pictures a longer history, where these rows are that history's
-pub pictures_grown : (h next : History) (change : Tables → Tables) (mid new : Database) → change (picture this_version h) ≡ picture this_version next → Pictures h mid → Becomes new (change (tables_of mid)) → Pictures next new
-pictures_grown h next change mid new told pictured became = record { office = became.office; are = became.are ∙ ap change pictured.are ∙ told }
+-- what the tables became pictures a longer history, where these rows are that history's and contents are kept once still
+pub pictures_grown : (h next : History) (change : Tables → Tables) (mid new : Database) → change (picture this_version h) ≡ picture this_version next → Pictures h mid → Becomes new (change (tables_of mid))
+    → (KeepsOnce mid → KeepsOnce new) → Pictures next new
+pictures_grown h next change mid new told pictured became leaves = record { office = became.office; are = became.are ∙ ap change pictured.are ∙ told; once = leaves pictured.once }

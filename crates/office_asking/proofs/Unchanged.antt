@@ -1,12 +1,14 @@
 -- Which rows a longer history leaves as they were.
-use Rattle.std.proofs.Common.{◌≡◌, ℕ, List, [], ◌∷◌, ◌++◌, map, filter, length, Option, None, option_map, unwrap_or, is_none, sym, ap, ◌∙◌, append-nil}
+use Rattle.std.proofs.Common.{◌≡◌, ℕ, List, [], ◌∷◌, ◌++◌, map, filter, length, Option, None, option_map, unwrap_or, is_none, sym, ap, ◌∙◌, append-nil, pos, ◌&&◌, false}
 use Rattle.std.specs.List.{filter_map, flat_map}
 use Rattle.std.specs.Option.{option_or, option_map_or}
 use Rattle.std.proofs.lemmas.List.Elements.{filter_map-append}
-use Rattle.office_rows.specs.Rows.{ClassRow, DepositRow, FileRow, HoldRow, this_version}
+use Rattle.office_core.specs.RetentionReading.{due_of}
+use Rattle.office_core.specs.declared.retention.Due.TheVariants.{Never}
+use Rattle.office_rows.specs.Rows.{ClassRow, DepositRow, DueRow, FileRow, HoldRow, this_version}
 use Rattle.office_history.specs.Lists.{first_said, last_said, item_numbered, numbers, in_first_places}
-use Rattle.office_history.specs.Histories.{History, Change, with_changes, installed_in, policy, years_in, years_of, collection_in, deposit_in, deposits, destroyed_in, destruction_day, hold_in, holds, released_in, release_day}
-use Rattle.office_history.specs.Pictures.{class_in, class_row, class_rows, caller_row, rule_rows, office_row, collection_rows, row_by_gone, deposit_rows, file_row, file_rows, row_by_release, hold_rows, picture}
+use Rattle.office_history.specs.Histories.{History, Change, with_changes, installed_in, policy, years_in, years_of, collection_in, deposit_in, deposits, destroyed_in, destruction_day, hold_in, holds, released_in, release_day, reaches}
+use Rattle.office_history.specs.Pictures.{class_in, class_row, class_rows, caller_row, rule_rows, office_row, collection_rows, row_by_gone, deposit_rows, due_number, due_rows, file_row, file_rows, row_by_release, hold_rows, picture}
 use Rattle.office_history.proofs.Alike.{or_none, last_said-append, policy_grown, gone_grown, released_grown}
 
 module _ (h : History) (more : List Change) where
@@ -56,22 +58,33 @@ module _ (h : History) (more : List Change) where
   pub same_hold_rows : filter_map hold_in more ≡ [] → ((k : ℕ) → first_said (released_in k) more ≡ None) → hold_rows (with_changes h more) ≡ hold_rows h
   same_hold_rows none live = λ i. filter_map (λ k. option_map (row_by_release k (same_released live k i)) (item_numbered (same_holds none i) k)) (numbers (length (same_holds none i)))
 
+  -- it defines no class, takes no deposit, and places and releases no hold
+  pub same_due_rows : filter_map deposit_in more ≡ [] → ((name : List ℕ) → last_said (years_in name) more ≡ None) → filter_map hold_in more ≡ [] → ((k : ℕ) → first_said (released_in k) more ≡ None)
+      → due_rows (with_changes h more) ≡ due_rows h
+  same_due_rows none silent free live = λ i. filter_map (λ n. option_map (λ found. record {
+    number = pos n;
+    due = due_number (option_map_or (due_of found.1.closed) (same_years silent found.1.class i) Never);
+    holds = pos (length (filter (λ k. is_none (same_released live k i) && option_map_or (λ hold. reaches hold.1.target n found.1) (item_numbered (same_holds free i) k) false) (numbers (length (same_holds free i)))));
+  }) (item_numbered (same_deposits none i) n)) (numbers (length (same_deposits none i)))
+
   -- the picture of a history that goes on under the same policy, by the tables that are left
-  pub pictured_by : {classes : List ClassRow} {collections : List (List ℕ)} {deposits : List DepositRow} {files : List FileRow} {holds : List HoldRow}
+  pub pictured_by : {classes : List ClassRow} {collections : List (List ℕ)} {deposits : List DepositRow} {dues : List DueRow} {files : List FileRow} {holds : List HoldRow}
       → last_said installed_in more ≡ None
       → classes ≡ class_rows (with_changes h more)
       → collections ≡ collection_rows (with_changes h more)
       → deposits ≡ deposit_rows (with_changes h more)
+      → dues ≡ due_rows (with_changes h more)
       → files ≡ file_rows (with_changes h more)
       → holds ≡ hold_rows (with_changes h more)
-      → record (picture this_version h) { classes = classes; collections = collections; deposits = deposits; files = files; holds = holds } ≡ picture this_version (with_changes h more)
-  pictured_by none classes_are collections_are deposits_are files_are holds_are = λ i. record {
+      → record (picture this_version h) { classes = classes; collections = collections; deposits = deposits; dues = dues; files = files; holds = holds } ≡ picture this_version (with_changes h more)
+  pictured_by none classes_are collections_are deposits_are dues_are files_are holds_are = λ i. record {
     office = office_row this_version h ∷ [];
     callers = map caller_row (sym (same_policy none) i).callers;
     rules = rule_rows 1 (sym (same_policy none) i).rules;
     classes = classes_are i;
     collections = collections_are i;
     deposits = deposits_are i;
+    dues = dues_are i;
     files = files_are i;
     holds = holds_are i;
   }

@@ -16,7 +16,6 @@ use crate::rows::{day_numbered, optional_day_numbered};
 use office_core::{Action, Day, Refusal, Subject};
 use office_tables::{DepositRow, TableFault, deposit_row};
 use sqlite::{Alter, Transaction};
-use std::alloc::Global;
 
 /// The days of a deposit.
 #[derive(Clone, Copy)]
@@ -72,7 +71,6 @@ fn unless_refused(
 ///
 /// Fails with `Memory` or `Store`.
 pub fn kept_deposit<S: Alter>(
-    alloc: Global,
     tx: &mut Transaction<'_, S>,
     caller: &str,
     action: Action,
@@ -90,7 +88,6 @@ pub fn kept_deposit<S: Alter>(
         return Ok(Err(Refusal::NoSuch(Subject::Deposit)));
     };
     let denied = denial(
-        alloc,
         tx,
         caller,
         action,

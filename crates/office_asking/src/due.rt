@@ -1,12 +1,12 @@
 //! What stands against the destruction of a deposit: its due day, and the holds that cover it.
 
-ghost use Rattle.std.specs.Prelude.{◌≡◌, IfErr, List, ℕ};
+ghost use Rattle.std.specs.Prelude.{◌≡◌, IfErr, List, ℕ, Some, length, pos};
 ghost use Rattle.jiff.specs.Types.{Date};
 ghost use Rattle.office_core.specs.declared.action.Action.TheVariants as acts;
 ghost use Rattle.office_tables.specs.Faults.{IsFailure};
-ghost use Rattle.office_tables.specs.Calls.{CommitsNothing, Continues};
-ghost use Rattle.office_history.specs.Histories.{Deposit, due, least_hold};
-ghost use Rattle.office_history.specs.Pictures.{deposit_row};
+ghost use Rattle.office_tables.specs.Calls.{CommitsNothing, Continues, ContinuesInTurn};
+ghost use Rattle.office_history.specs.Histories.{Deposit, deposit_numbered, due, least_hold, live_holds};
+ghost use Rattle.office_history.specs.Pictures.{deposit_row, due_row};
 ghost use Rattle.office_history.specs.Refusals.{facts_of};
 ghost use Rattle.office_asking.specs.Asking.{IsAsker};
 ghost use Rattle.office_asking.specs.Serving.{Finds};
@@ -14,9 +14,9 @@ ghost use Rattle.office_asking.specs.Serving.{Finds};
 use crate::asker::Asker;
 use crate::deposits::days_in;
 use crate::holds::told_hold;
-use crate::rows::years_numbered;
+use crate::rows::{due_numbered, years_numbered};
 use office_core::{Action, Day, Due, Facts};
-use office_tables::{DepositRow, TableFault, class_of, live_holds};
+use office_tables::{DepositRow, DueRow, TableFault, class_of, due_row, live_holds};
 use sqlite::{Alter, Transaction};
 use std::alloc::Global;
 
@@ -67,6 +67,48 @@ pub fn least_hold<S: Alter>(
     Ok(Some(least))
 }
 
+/// What is kept of the deposit of that number beside its row.
+///
+/// Fails with `Memory` or `Store`.
+pub fn kept_of<S: Alter>(tx: &mut Transaction<'_, S>, number: u32) -> Result<DueRow, TableFault>
+    ensures same_reference { tx.new.conn.ghost_name ≡ tx.old.conn.ghost_name }
+    ensures stays { CommitsNothing S.Store tx.old.conn.now tx.new.conn.now }
+    ensures goes_on { Continues S.Store tx.old.conn.now tx.new.conn.now result }
+    ensures failure { IfErr result IsFailure }
+    ensures kept { Finds S.Store tx.old.conn.now tx.new.conn.now result (λ h kept.
+        (found : Date × Deposit) → deposit_numbered h number ≡ Some found → kept ≡ due_row h number found) }
+{
+    match due_row(tx, number)? {
+        Some(kept) => Ok(kept),
+        None => Err(TableFault::Store),
+    }
+}
+
+/// The least live hold that covers the deposit of that number, which is of that collection and covered by so
+/// many. The holds are asked only where there are some, and one has to be found then.
+fn counted_hold<S: Alter>(
+    alloc: Global,
+    tx: &mut Transaction<'_, S>,
+    count: i64,
+    number: u32,
+    collection: &str,
+) -> Result<Option<u32>, TableFault>
+    ensures same_reference { tx.new.conn.ghost_name ≡ tx.old.conn.ghost_name }
+    ensures stays { CommitsNothing S.Store tx.old.conn.now tx.new.conn.now }
+    ensures goes_on { ContinuesInTurn S.Store tx.old.conn.now tx.new.conn.now result }
+    ensures failure { IfErr result IsFailure }
+    ensures least { Finds S.Store tx.old.conn.now tx.new.conn.now result (λ h found.
+        (deposit : Deposit) → deposit.collection ≡ collection.now → count ≡ pos (length (live_holds h number deposit)) → found ≡ least_hold h number deposit) }
+{
+    if count == 0 {
+        return Ok(None);
+    }
+    match least_hold(alloc, tx, number, collection)? {
+        Some(hold) => Ok(Some(hold)),
+        None => Err(TableFault::Store),
+    }
+}
+
 /// What is known of the disposal of the deposit that has this row.
 ///
 /// Fails with `Memory` or `Store`.
@@ -81,12 +123,13 @@ pub fn disposal_facts<S: Alter>(
     ensures goes_on { Continues S.Store tx.old.conn.now tx.new.conn.now result }
     ensures failure { IfErr result IsFailure }
     ensures facts { Finds S.Store tx.old.conn.now tx.new.conn.now result (λ h facts.
-        (caller : List ℕ) → IsAsker h caller asker.now → (n : ℕ) (found : Date × Deposit) → row.now ≡ deposit_row h n found → facts ≡ facts_of h caller acts.Dispose n found.1) }
+        (caller : List ℕ) → IsAsker h caller asker.now → (n : ℕ) (found : Date × Deposit) → deposit_numbered h n ≡ Some found → row.now ≡ deposit_row h n found → facts ≡ facts_of h caller acts.Dispose n found.1) }
 {
     let days = days_in(row)?;
-    let decision = asker.decision(Action::Dispose, Some(&row.collection), Some(&row.class))?;
-    let hold = least_hold(alloc, tx, row.number, &row.collection)?;
-    let due = due_day(tx, &row.class, days.closed)?;
+    let decision = asker.decision(tx, Action::Dispose, Some(&row.collection), Some(&row.class))?;
+    let kept = kept_of(tx, row.number)?;
+    let due = due_numbered(kept.due)?;
+    let hold = counted_hold(alloc, tx, kept.holds, row.number, &row.collection)?;
     Ok(Facts {
         action: Action::Dispose,
         decision,

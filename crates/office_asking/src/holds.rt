@@ -1,15 +1,16 @@
 //! What the row of a hold tells.
 
-ghost use Rattle.std.specs.Prelude.{◌≡◌, IfErr, IfOk, Some};
+ghost use Rattle.std.specs.Prelude.{◌≡◌, IfErr, IfOk, Some, length, pos};
 ghost use Rattle.office_tables.specs.Faults.{IsFailure};
 ghost use Rattle.office_tables.specs.Calls.{CommitsNothing, Continues};
+ghost use Rattle.office_history.specs.Histories.{Deposit, live_holds};
 ghost use Rattle.office_history.specs.Answers.{told_hold};
 ghost use Rattle.office_asking.specs.Serving.{Finds};
 ghost use Rattle.office_asking.specs.Holds.{IsHoldOf, scope_in};
 
 use crate::rows::{day_numbered, text_of_kind};
 use office_core::{LiveHold, Scope};
-use office_tables::{HoldRow, TableFault, hold_row};
+use office_tables::{HoldRow, TableFault, hold_row, live_holds};
 use sqlite::{Alter, Transaction};
 use std::alloc::Global;
 
@@ -58,5 +59,28 @@ pub fn told_hold<S: Alter>(
     match hold_row(tx, number)? {
         Some(row) => hold_in(alloc, &row),
         None => Err(TableFault::Store),
+    }
+}
+
+/// How many live holds cover the deposit of that number, which is of that collection, by the rows of the holds.
+///
+/// Fails with `Memory` or `Store`.
+pub fn live_count<S: Alter>(
+    alloc: Global,
+    tx: &mut Transaction<'_, S>,
+    number: u32,
+    collection: &str,
+) -> Result<i64, TableFault>
+    ensures same_reference { tx.new.conn.ghost_name ≡ tx.old.conn.ghost_name }
+    ensures stays { CommitsNothing S.Store tx.old.conn.now tx.new.conn.now }
+    ensures goes_on { Continues S.Store tx.old.conn.now tx.new.conn.now result }
+    ensures failure { IfErr result IsFailure }
+    ensures count { Finds S.Store tx.old.conn.now tx.new.conn.now result (λ h count.
+        (deposit : Deposit) → deposit.collection ≡ collection.now → count ≡ pos (length (live_holds h number deposit))) }
+{
+    let holds = live_holds(alloc, tx, number, collection)?;
+    match i64::try_from(holds.len()) {
+        Ok(count) => Ok(count),
+        Err(_) => Err(TableFault::Store),
     }
 }

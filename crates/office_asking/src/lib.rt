@@ -6,12 +6,13 @@ mod asker;
 mod deposits;
 mod due;
 mod holds;
+pub mod laws;
 mod limits;
 mod rows;
 
 pub use asker::{Asker, denial};
 pub use deposits::{DepositDays, days_in, kept_deposit};
-pub use due::{disposal_facts, due_day, least_hold};
-pub use holds::{hold_in, told_hold};
+pub use due::{disposal_facts, due_day, kept_of, least_hold};
+pub use holds::{hold_in, live_count, told_hold};
 pub use limits::number_after;
-pub use rows::{day_numbered, optional_day_numbered, text_of_kind, years_numbered};
+pub use rows::{day_numbered, due_numbered, optional_day_numbered, text_of_kind, years_numbered};

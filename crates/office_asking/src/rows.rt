@@ -5,9 +5,9 @@ ghost use Rattle.std.specs.Prelude.{◌≡◌, Err, IfErr, IfOk, option_map, tru
 ghost use Rattle.jiff.specs.Words.{epoch_day};
 ghost use Rattle.office_tables.specs.Faults.{IsFailure};
 ghost use Rattle.office_tables.specs.declared.fault.TableFault.TheVariants.{Memory, Store};
-ghost use Rattle.office_history.specs.Pictures.{years_back, years_number};
+ghost use Rattle.office_history.specs.Pictures.{due_number, years_back, years_number};
 
-use office_core::{Day, OwnedText, Text, TextKind, Years};
+use office_core::{Day, Due, OwnedText, Text, TextKind, Years, due_date};
 use office_tables::TableFault;
 use std::alloc::Global;
 
@@ -34,6 +34,21 @@ pub fn optional_day_numbered(number: Option<i64>) -> Result<Option<Day>, TableFa
     match number {
         Some(number) => Ok(Some(day_numbered(number)?)),
         None => Ok(None),
+    }
+}
+
+/// The day from which a deposit may be destroyed, by the number that is kept of it; never where there is none.
+pub fn due_numbered(number: Option<i64>) -> Result<Due, TableFault>
+    ensures due { IfOk result (λ due. due_number due ≡ number) }
+    ensures failure { IfErr result IsFailure }
+    ensures store { IfErr result (λ fault. fault ≡ TableFault.Store) }
+{
+    let Some(number) = number else {
+        return Ok(Due::Never);
+    };
+    match due_date(number) {
+        Some(date) => Ok(Due::On(date)),
+        None => Err(TableFault::Store),
     }
 }
 

@@ -5,7 +5,7 @@ use Rattle.sqlite.specs.Recovery.{Image}
 use Rattle.sqlite.specs.Schema.{Schema}
 use Rattle.sqlite.specs.Table.{Table}
 use Rattle.sqlite.specs.Tree.{Trees}
-use Rattle.sqlite.specs.Effect.{Database}
+use Rattle.sqlite.specs.Effect.{Database, IsDatabase}
 use Rattle.sqlite.specs.State.{State, HasCleanDisk, Opens, IsLive}
 use Rattle.sqlite.specs.Start.{FindsIn}
 use Rattle.sqlite_disk.specs.declared.Disk.{Ghosts as Disks}
@@ -14,27 +14,31 @@ use Rattle.sqlite.specs.Held.{Held, state}
 use Rattle.sqlite.specs.Store.{Ghosts}
 use Rattle.sqlite.specs.declared.FileStore.{FileStore}
 use Rattle.office_rows.specs.Rows.{this_version}
-use Rattle.office_tables.specs.Opening.{IsLeft, has_office}
+use Rattle.office_tables.specs.Opening.{has_office}
 use Rattle.office_tables.specs.Schema.{no_schema, office_schema}
 use Rattle.office_history.specs.Histories.{History}
 use Rattle.office_history.specs.Pictures.{picture}
 use Rattle.office_recovery.specs.Found.{HoldsWhere}
-use Rattle.office_recovery.proofs.FoundAgain.{becomes_again}
-use Rattle.office_recovery.proofs.Settled.{left_from}
+use Rattle.office_recovery.proofs.FoundAgain.{becomes_again, found_again}
+use Rattle.office_recovery.proofs.Settled.{becomes_from, once_from}
+use Rattle.office_asking.specs.Pictures.{Pictures}
 use Rattle.office_engine.specs.Keeping.{IsKeptBy, IsLeftOf, IsReached}
 use Rattle.office_engine.proofs.Kept.{rows_left}
 use Rattle.office_commands.specs.Stores.{IsOfficeOf, IsOpenedFrom, made_office}
 
--- what is left with the rows of a history is left of the history
-left_of : (h : History) (left : Trees) → IsLeft (picture this_version h) left → IsLeftOf h left
-left_of h left it = (it.0, record { office = it.1.office; are = it.1.are }, it.2)
+-- what is left of a history comes out of a truncation, where a database is found
+left_from : (h : History) (db : Database) → IsDatabase db → ∥ IsLeftOf h db.trees ∥₁ → IsLeftOf h db.trees
+left_from h db listed left =
+    let pictured : ∥ Pictures h db ∥₁ = ∥∥₁_map left (λ it. found_again (Pictures h) it.0 db it.1.office.listed listed it.2 it.1) in
+    let becomes = becomes_from (picture this_version h) db listed (∥∥₁_map pictured (λ p. record { office = p.office; are = p.are })) in
+    (db, record { office = becomes.office; are = becomes.are; once = once_from db (∥∥₁_map pictured (λ p. p.once)) }, refl)
 
 -- an open of files that hold an office shows what is left of it
 pub found_of : (image : Image) (s : State) → Opens s → IsLive s → FindsIn image s → (h : History) → HoldsWhere (IsLeftOf h) image → IsLeftOf h s.now.trees
 found_of image s opens live finds h holds =
     let shown : s.now.trees ≡ s.committed.trees = ap (λ (d : Database). d.trees) opens.clean in
-    let found : ∥ IsLeft (picture this_version h) s.now.trees ∥₁ = ∥∥₁_map holds (λ d. subst (IsLeft (picture this_version h)) (sym (shown ∙ finds.holds d.0 d.2)) (rows_left h d.0 d.1)) in
-    left_of h s.now.trees (left_from (picture this_version h) s.now (live opens.is_open).0 found)
+    let found : ∥ IsLeftOf h s.now.trees ∥₁ = ∥∥₁_map holds (λ d. subst (IsLeftOf h) (sym (shown ∙ finds.holds d.0 d.2)) d.1) in
+    left_from h s.now (live opens.is_open).0 found
 
 some_tables : (x : Table) (xs : List Table) → x ∷ xs ≡ [] → ⊥
 some_tables x xs same = cc

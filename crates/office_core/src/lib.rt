@@ -30,7 +30,7 @@ mod tree;
 pub use action::Action;
 pub use answer::{Answer, AuditReport, DepositRecord, LiveHold, Scope};
 pub use caller::Caller;
-pub use closing::due;
+pub use closing::{due, due_date};
 pub use date::Date;
 pub use day::Day;
 pub use deciding::{denial_verdict, verdict};

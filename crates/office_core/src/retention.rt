@@ -3,6 +3,7 @@
 ghost use Rattle.std.specs.Prelude.{◌≡◌, ◌≤◌, Some, None, IfSome};
 ghost use Rattle.std.specs.Option.{SomeIff};
 ghost use Rattle.office_core.specs.Bounds.{max_years};
+ghost use Rattle.office_core.specs.Retention.{due_number};
 
 use crate::date::Date;
 use std::marker::Model;
@@ -61,4 +62,16 @@ impl Years {
 pub enum Due {
     On(Date),
     Never,
+}
+
+impl Due {
+    /// The number of the date, where 1970-01-01 has the number 0; none where it is never.
+    pub fn number(self) -> Option<i64>
+        ensures { result ≡ due_number self }
+    {
+        match self {
+            Due::On(date) => Some(date.number() as i64),
+            Due::Never => None,
+        }
+    }
 }

@@ -1,19 +1,28 @@
--- The rows of classes, and the history that they picture.
-use Rattle.std.proofs.Common.{◌≡◌, ℕ, Bool, true, false, ◌||◌, List, [], ◌∷◌, ◌++◌, map, Option, Some, None, option_map, is_some, refl, sym, ap, ◌∙◌, true≢false, append-nil, if◌then◌else◌}
+-- The rows of classes and the due days of their deposits, and the history that they picture.
+use Rattle.std.proofs.Common.{◌≡◌, ℕ, ℤ, Bool, true, false, ◌||◌, List, [], ◌∷◌, ◌++◌, map, filter, Option, Some, None, option_map, is_some, refl, sym, ap, ◌∙◌, true≢false, append-nil, if◌then◌else◌}
 use Rattle.std.specs.Prelude.{bytes_eq}
 use Rattle.std.specs.List.{AllByRecursion, filter_map, cons_option, list_any}
 use Rattle.std.specs.Option.{option_or}
 use Rattle.std.proofs.lemmas.Slice.Eq.{bytes_eq-Decides}
 use Rattle.std.proofs.lemmas.List.Elements.{filter_map-append}
 use Rattle.jiff.specs.Types.{Date}
-use Rattle.office_rows.specs.Rows.{Tables, ClassRow, is_class, has_class, with_class, with_years, with_new_class, this_version}
+use Rattle.jiff.specs.Words.{epoch_day}
+use Rattle.sqlite.specs.Effect.{Database}
+use Rattle.office_rows.specs.Rows.{Tables, ClassRow, is_class, has_class, with_class, with_years, with_new_class, is_of_class, this_version}
+use Rattle.office_rows.specs.Told.{closing_of, class_closings}
+use Rattle.office_tables.specs.Tables.{Becomes, tables_of}
+use Rattle.office_tables.specs.Contents.{KeepsOnce}
 use Rattle.office_history.specs.Lists.{in_first_places}
-use Rattle.office_history.specs.Histories.{History, DefinedClass, with_changes, years_of}
+use Rattle.office_history.specs.Histories.{History, DefinedClass, with_changes, years_of, deposits}
 use Rattle.office_history.specs.Pictures.{class_in, class_row, years_number, class_rows, picture}
 use Rattle.office_history.proofs.AlikeAnswers.{among_first_places}
 use Rattle.office_history.proofs.Pictured.{rows_by, HasYears, all_have_years, all_distinct}
 use Rattle.office_asking.proofs.Unchanged.{years_grown, same_collections, same_deposit_rows, same_file_rows, same_hold_rows, pictured_by}
 use Rattle.office_asking.proofs.CollectionTold.{bytes_eq-sym}
+use Rattle.office_asking.proofs.DepositTold.{deposit_rows_are}
+use Rattle.office_asking.specs.Pictures.{Pictures}
+use Rattle.office_defining.specs.Revising.{closing_row, with_due_days, AreDueDaysSet}
+use Rattle.office_defining.proofs.DueDays.{closed_from, told_from, with_due_days_is, days_revised}
 use Rattle.office_defining.proofs.FirstPlaces.{first_places_last}
 
 -- ---- the years of one class change
@@ -89,7 +98,7 @@ module _ (h : History) (day : Date) (name : List ℕ) (y : Option ℕ) where
       (λ i. sym (elsewhere name y (years_of h) (names_of h) e) i ++ sym last i)
       ∙ sym (filter_map-append (λ n. option_map (class_row n) (revised name y (years_of h) n)) (names_of h) (name ∷ []))
 
-  with_classes : List ClassRow → Tables
+  abbrev with_classes : List ClassRow → Tables
   with_classes classes = record (picture this_version h) { classes = classes }
 
   classes_told : (if has_class name (picture this_version h) then map (revise name y (years_of h)) (class_rows h) else class_rows h ++ record { name = name; years = years_number y } ∷ []) ≡ class_rows longer
@@ -98,13 +107,42 @@ module _ (h : History) (day : Date) (name : List ℕ) (y : Option ℕ) where
       ∙ classes_at (list_any (bytes_eq name) (names_of h)) refl
       ∙ sym longer_rows
 
-  pub class_told : with_class name (years_number y) (picture this_version h) ≡ picture this_version longer
-  class_told =
-      by (has_class name (picture this_version h))
-      ∙ pictured_by h (DefinedClass day name y ∷ []) refl classes_told (sym (same_collections h (DefinedClass day name y ∷ []) refl))
-      (sym (same_deposit_rows h (DefinedClass day name y ∷ []) refl (λ n. refl))) (sym (same_file_rows h (DefinedClass day name y ∷ []) refl (λ n. refl))) (sym (same_hold_rows h (DefinedClass day name y ∷ []) refl (λ k. refl)))
+  -- the tables with that class
+  with_class_is : with_class name (years_number y) (picture this_version h) ≡ with_classes (class_rows longer)
+  with_class_is = by (has_class name (picture this_version h)) ∙ ap with_classes classes_told
     where
       by : (b : Bool) → (if b then with_years name (years_number y) (picture this_version h) else with_new_class name (years_number y) (picture this_version h))
-          ≡ record (picture this_version h) { classes = if b then map (revise name y (years_of h)) (class_rows h) else class_rows h ++ record { name = name; years = years_number y } ∷ [] }
+          ≡ with_classes (if b then map (revise name y (years_of h)) (class_rows h) else class_rows h ++ record { name = name; years = years_number y } ∷ [])
       by true = refl
       by false = refl
+
+  -- the deposits of the class, whose due days are set
+  abbrev pub those : List (ℤ × Date)
+  those = closed_from name 1 (deposits h)
+
+  class_told : with_due_days y those (with_class name (years_number y) (picture this_version h)) ≡ picture this_version longer
+  class_told =
+      ap (with_due_days y those) with_class_is
+      ∙ with_due_days_is y those (with_classes (class_rows longer))
+      ∙ pictured_by h (DefinedClass day name y ∷ []) refl refl (sym (same_collections h (DefinedClass day name y ∷ []) refl))
+      (sym (same_deposit_rows h (DefinedClass day name y ∷ []) refl (λ n. refl))) (days_revised h day name y)
+      (sym (same_file_rows h (DefinedClass day name y ∷ []) refl (λ n. refl))) (sym (same_hold_rows h (DefinedClass day name y ∷ []) refl (λ k. refl)))
+
+  closings_told : class_closings name (with_class name (years_number y) (picture this_version h)) ≡ map closing_row those
+  closings_told =
+      ap (class_closings name) with_class_is
+      ∙ ap (λ rows. map closing_of (filter (is_of_class name) rows)) (deposit_rows_are h)
+      ∙ sym (told_from h name epoch_day (deposits h) 1)
+
+  module _ (old mid : Database) (pictured : Pictures h old) (put : Becomes mid (with_class name (years_number y) (tables_of old))) where
+    -- the rows of the class that are read
+    pub closings_read : class_closings name (tables_of mid) ≡ map closing_row those
+    closings_read = ap (class_closings name) (put.are ∙ ap (with_class name (years_number y)) pictured.are) ∙ closings_told
+
+    -- the class has its years, and its deposits their due days
+    pub class_defined : (new : Database) → KeepsOnce mid → AreDueDaysSet y those mid new → Pictures longer new
+    class_defined new kept set = record {
+      office = set.becomes.office;
+      are = set.becomes.are ∙ ap (with_due_days y those) (put.are ∙ ap (with_class name (years_number y)) pictured.are) ∙ class_told;
+      once = set.once kept;
+    }

@@ -8,7 +8,7 @@ use Rattle.office_history.specs.Lists.{in_first_places}
 use Rattle.office_history.specs.Histories.{History, Change, DefinedCollection, with_changes, has_collection, collection_in}
 use Rattle.office_history.specs.Pictures.{collection_rows, picture}
 use Rattle.office_history.proofs.Accepted.{grown_by_none}
-use Rattle.office_asking.proofs.Unchanged.{same_classes, same_deposit_rows, same_file_rows, same_hold_rows, pictured_by}
+use Rattle.office_asking.proofs.Unchanged.{same_classes, same_deposit_rows, same_due_rows, same_file_rows, same_hold_rows, pictured_by}
 use Rattle.office_asking.proofs.CollectionTold.{collection_there}
 use Rattle.office_defining.proofs.FirstPlaces.{first_places_last}
 
@@ -25,7 +25,7 @@ module _ (h : History) (day : Date) (name : List ℕ) where
   new_told : has_collection h name ≡ false → with_new_collection name (picture this_version h) ≡ picture this_version (with_changes h defined)
   new_told none =
       pictured_by h defined refl (sym (same_classes h defined refl (λ n. refl))) (sym (rows_with none))
-      (sym (same_deposit_rows h defined refl (λ n. refl))) (sym (same_file_rows h defined refl (λ n. refl))) (sym (same_hold_rows h defined refl (λ k. refl)))
+      (sym (same_deposit_rows h defined refl (λ n. refl))) (sym (same_due_rows h defined refl (λ n. refl) refl (λ k. refl))) (sym (same_file_rows h defined refl (λ n. refl))) (sym (same_hold_rows h defined refl (λ k. refl)))
 
   -- a collection that is there changes nothing
   pub collection_told : with_collection name (picture this_version h) ≡ picture this_version (with_changes h (if has_collection h name then [] else defined))

@@ -10,7 +10,7 @@ use Rattle.office_history.specs.Histories.{History, Change, Installed, with_chan
 use Rattle.office_history.specs.Pictures.{caller_row, rule_row, rule_rows, office_row, picture}
 use Rattle.office_history.proofs.Alike.{policy_grown}
 use Rattle.office_asking.proofs.NumberedRows.{is_less}
-use Rattle.office_asking.proofs.Unchanged.{same_classes, same_collections, same_deposit_rows, same_file_rows, same_hold_rows}
+use Rattle.office_asking.proofs.Unchanged.{same_classes, same_collections, same_deposit_rows, same_due_rows, same_file_rows, same_hold_rows}
 
 -- ---- rows made one after another
 
@@ -55,6 +55,7 @@ module _ (h : History) (new : PolicyValue) where
     classes = sym (same_classes h install refl (λ n. refl)) i;
     collections = sym (same_collections h install refl) i;
     deposits = sym (same_deposit_rows h install refl (λ n. refl)) i;
+    dues = sym (same_due_rows h install refl (λ n. refl) refl (λ k. refl)) i;
     files = sym (same_file_rows h install refl (λ n. refl)) i;
     holds = sym (same_hold_rows h install refl (λ k. refl)) i;
   }

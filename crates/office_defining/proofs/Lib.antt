@@ -1,4 +1,5 @@
 pub mod FirstPlaces
+pub mod DueDays
 pub mod ClassTold
 pub mod CollectionTold
 pub mod InstallTold

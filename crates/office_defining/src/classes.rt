@@ -1,15 +1,26 @@
 //! Classes.
 
-ghost use Rattle.std.specs.Prelude.{◌≡◌, IfErr};
+ghost use Rattle.std.specs.Prelude.{◌≡◌, ⊤, IfErr, [], ◌∷◌};
+ghost use Rattle.jiff.specs.Types.{Date};
+ghost use Rattle.jiff.specs.Words.{epoch_day};
+ghost use Rattle.sqlite.specs.Held.{state};
+ghost use Rattle.office_core.specs.Retention.{due_number};
+ghost use Rattle.office_core.specs.RetentionReading.{due_of};
 ghost use Rattle.office_core.specs.declared.request.Request.TheVariants as requests;
+ghost use Rattle.office_rows.specs.Rows.{with_due};
+ghost use Rattle.office_rows.specs.Told.{class_closings};
 ghost use Rattle.office_tables.specs.Faults.{IsFailure};
-ghost use Rattle.office_tables.specs.Calls.{CommitsNothing, Continues};
+ghost use Rattle.office_tables.specs.Tables.{tables_of};
+ghost use Rattle.office_tables.specs.Calls.{CommitsNothing, Continues, ContinuesInTurn, Writes};
+ghost use Rattle.office_tables.specs.Contents.{LeavesOnce};
+ghost use Rattle.office_history.specs.Histories.{DefinedClass};
 ghost use Rattle.office_history.specs.Pictures.{years_number};
-ghost use Rattle.office_asking.specs.Serving.{Decides};
+ghost use Rattle.office_asking.specs.Serving.{Accepts, Decides};
+ghost use Rattle.office_defining.specs.Revising.{SetsDueDays};
 
-use office_asking::denial;
-use office_core::{Action, Answer, Day, Name, Years};
-use office_tables::{TableFault, put_class};
+use office_asking::{day_numbered, denial};
+use office_core::{Action, Answer, Day, Name, Years, due};
+use office_tables::{ClosingRow, TableFault, put_class, rows_of_class, set_due};
 use sqlite::{Alter, Transaction};
 use std::alloc::Global;
 
@@ -21,6 +32,75 @@ fn years_number(years: Years) -> i64
         Some(count) => count as i64,
         None => -1,
     }
+}
+
+/// Sets the day from which the deposit of that row may be destroyed, by the years of its class.
+fn set_due_day<S: Alter>(
+    tx: &mut Transaction<'_, S>,
+    row: &ClosingRow,
+    years: Years,
+) -> Result<(), TableFault>
+    ensures same_reference { tx.new.conn.ghost_name ≡ tx.old.conn.ghost_name }
+    ensures stays { CommitsNothing S.Store tx.old.conn.now tx.new.conn.now }
+    ensures goes_on { Continues S.Store tx.old.conn.now tx.new.conn.now result }
+    ensures failure { IfErr result IsFailure }
+    ensures becomes { (closed : Date) → epoch_day closed ≡ row.now.closed → Writes S.Store tx.old.conn.now tx.new.conn.now result (with_due row.now.number (due_number (due_of closed years))) }
+    ensures once { LeavesOnce S.Store tx.old.conn.now tx.new.conn.now result }
+{
+    let closed = day_numbered(row.closed)?;
+    set_due(tx, row.number, due(closed, years).number())
+}
+
+/// Sets the due days of the deposits of these rows in turn.
+fn set_due_days<S: Alter>(
+    tx: &mut Transaction<'_, S>,
+    rows: &[ClosingRow],
+    years: Years,
+) -> Result<(), TableFault>
+    ensures same_reference { tx.new.conn.ghost_name ≡ tx.old.conn.ghost_name }
+    ensures stays { CommitsNothing S.Store tx.old.conn.now tx.new.conn.now }
+    ensures goes_on { ContinuesInTurn S.Store tx.old.conn.now tx.new.conn.now result }
+    ensures failure { IfErr result IsFailure }
+    ensures set { SetsDueDays S.Store tx.old.conn.now tx.new.conn.now result years rows.now }
+{
+    for row in rows {
+        set_due_day(tx, row, years)?;
+    }
+    Ok(())
+}
+
+/// Sets the due day of each deposit of the class, destroyed ones too, by the years of the class.
+fn set_days_of_class<S: Alter>(
+    alloc: Global,
+    tx: &mut Transaction<'_, S>,
+    class: &str,
+    years: Years,
+) -> Result<(), TableFault>
+    ensures same_reference { tx.new.conn.ghost_name ≡ tx.old.conn.ghost_name }
+    ensures stays { CommitsNothing S.Store tx.old.conn.now tx.new.conn.now }
+    ensures goes_on { Continues S.Store tx.old.conn.now tx.new.conn.now result }
+    ensures failure { IfErr result IsFailure }
+    ensures set { SetsDueDays S.Store tx.old.conn.now tx.new.conn.now result years (class_closings class.now (tables_of (state S.Store tx.old.conn.now).now)) }
+{
+    let rows = rows_of_class(alloc, tx, class)?;
+    set_due_days(tx, &rows, years)
+}
+
+/// Gives the class those years, and its deposits the due days that follow from them.
+fn put_years<S: Alter>(
+    alloc: Global,
+    tx: &mut Transaction<'_, S>,
+    name: &str,
+    years: Years,
+) -> Result<(), TableFault>
+    ensures same_reference { tx.new.conn.ghost_name ≡ tx.old.conn.ghost_name }
+    ensures stays { CommitsNothing S.Store tx.old.conn.now tx.new.conn.now }
+    ensures goes_on { Continues S.Store tx.old.conn.now tx.new.conn.now result }
+    ensures failure { IfErr result IsFailure }
+    ensures defined { (day : Date) → Accepts S.Store tx.old.conn.now tx.new.conn.now result (λ _. ⊤) (DefinedClass day name.now years ∷ []) }
+{
+    put_class(tx, name, years_number(years))?;
+    set_days_of_class(alloc, tx, name, years)
 }
 
 /// Defines a class, or revises it: the class has those years from now on, also for the deposits that
@@ -41,11 +121,11 @@ pub fn define_class<S: Alter>(
     ensures failure { IfErr result IsFailure }
     ensures decides { Decides S.Store tx.old.conn.now tx.new.conn.now result day caller.now (requests.DefineClass name.now years) }
 {
-    if let Some(why) = denial(alloc, tx, caller, Action::Class, None, Some(name.as_str()))? {
+    if let Some(why) = denial(tx, caller, Action::Class, None, Some(name.as_str()))? {
         return Ok(Answer::Refused(why));
     }
     let defined = name.to_owned(alloc)?;
-    put_class(tx, name.as_str(), years_number(years))?;
+    put_years(alloc, tx, name.as_str(), years)?;
     Ok(Answer::Class {
         name: defined,
         years,

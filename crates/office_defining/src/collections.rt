@@ -28,14 +28,7 @@ pub fn define_collection<S: Alter>(
     ensures failure { IfErr result IsFailure }
     ensures decides { Decides S.Store tx.old.conn.now tx.new.conn.now result day caller.now (requests.DefineCollection name.now) }
 {
-    if let Some(why) = denial(
-        alloc,
-        tx,
-        caller,
-        Action::Collection,
-        Some(name.as_str()),
-        None,
-    )? {
+    if let Some(why) = denial(tx, caller, Action::Collection, Some(name.as_str()), None)? {
         return Ok(Answer::Refused(why));
     }
     let defined = name.to_owned(alloc)?;

@@ -20,9 +20,9 @@ use Rattle.office_history.specs.Answers.{change}
 use Rattle.office_history.specs.Runs.{IsLegal, IsFailure, Item, IsItem, serve}
 use Rattle.office_history.proofs.Accepted.{grown_by_none}
 use Rattle.office_asking.specs.Pictures.{Pictures}
-use Rattle.office_asking.specs.Serving.{Decides, IsServed}
+use Rattle.office_asking.specs.Serving.{Decides, Finds, IsServed}
 use Rattle.office_serving.specs.Audits.{IsAuditOf}
-use Rattle.office_engine.specs.Keeping.{Audits, CommitsTo, IsKeptBy, IsLeftOf, IsTurn, IsUnchanged, LeavesEither, StaysShut, after_item, is_accepted}
+use Rattle.office_engine.specs.Keeping.{Audits, CommitsTo, IsKeptBy, IsLeftOf, IsReached, IsTurn, IsUnchanged, LeavesEither, StaysShut, after_item, is_accepted}
 use Rattle.office_engine.proofs.Accepted.{failure_audits, no_change}
 
 -- while the store is open, a crash leaves what is committed
@@ -102,6 +102,18 @@ module _ {S T E : Type 0} {g : Ghosts S} {first last : Held S} {next : History �
 
         pub made_lasting : IsSettled (state g end) → (left : Trees) → (state g end).may_leave left → IsLeftOf (next h) left
         made_lasting settled db left = ((state g last).now, made, settled db shows.is_open left ∙ ap (λ (found : Database). found.trees) shows.committed_is)
+
+-- what was found inside a transaction that is rolled back is so of the history, which is kept still
+module _ {S T : Type 0} (g : Ghosts S) (first last end : Held S) (is_so : History → T → Type 0) (committed : IsTrue (state g first).is_open → (state g first).now ≡ (state g first).committed)
+    (stays : CommitsNothing g (record first { in_transaction = true }) last) where
+  pub found_kept : (found : Result T TableFault) → Continues g (record first { in_transaction = true }) last found → Finds g (record first { in_transaction = true }) last found is_so
+      → HasCleanDisk (state g last) → IsRolledBack (state g last) (state g end)
+      → IfOk found (λ x. (h : History) → IsLegal h → IsKeptBy h (state g first) → IsReached h (state g end) × is_so h x)
+  found_kept (Err e) goes finds clean back = tt
+  found_kept (Ok x) goes finds clean back = λ h legal keeps.
+      let ok : Result T TableFault = Ok x in
+      let made : IsMade g first last (λ k. k) ok = record { committed = committed; stays = stays; goes_on = goes; makes = λ late k is pictured. (finds late k is pictured).0 } in
+      (record { legal = legal; kept = still_kept made end clean back h keeps }, (finds clean h legal (keeps (was_open made end clean x refl)).0).1)
 
 -- what an Ok that is committed comes to
 pub on_committed : {T E : Type 0} (P shows : Type 0) (done result : Result T E) → ((x : T) → done ≡ Ok x → shows → P) → IfOk result (λ x. (done ≡ Ok x) × shows) → OnOk result P

@@ -1,29 +1,35 @@
 -- Histories and the rows that are kept or left of them.
-use Rattle.std.proofs.Common.{◌≡◌, Some, ℕ, pos, refl}
+use Rattle.std.proofs.Common.{◌≡◌, Some, ℕ, pos, refl, sym, subst}
 use Rattle.sqlite.specs.Tree.{Trees}
 use Rattle.sqlite.specs.State.{State, Survives}
 use Rattle.sqlite.proofs.StateLemmas.{survives_weaker}
 use Rattle.office_rows.specs.Rows.{empty_office, this_version, version_of}
-use Rattle.office_tables.specs.Opening.{IsLeft}
+use Rattle.office_tables.specs.Opening.{IsLeft, IsMadeLeft}
+use Rattle.sqlite.specs.Effect.{Database}
 use Rattle.office_history.specs.Histories.{History}
 use Rattle.office_history.specs.Pictures.{picture}
 use Rattle.office_history.specs.Runs.{IsLegal, new_history}
 use Rattle.office_history.proofs.RangeLemmas.{limits_hold}
-use Rattle.office_recovery.specs.Found.{GoesOnAs}
+use Rattle.office_recovery.specs.Found.{GoesOnAs, Shows}
+use Rattle.office_asking.specs.Pictures.{Pictures}
 use Rattle.office_engine.specs.Keeping.{IsKeptBy, IsLeftOf}
 
 pub rows_left : (h : History) (left : Trees) → IsLeftOf h left → IsLeft (picture this_version h) left
 rows_left h left it = (it.0, record { office = it.1.office; are = it.1.are }, it.2)
 
+-- what shows a database that pictures a history keeps that history
+pub shown_kept : (h : History) (db : Database) (s : State) → Pictures h db → Shows db s → IsKeptBy h s
+shown_kept h db s pictured shows is_open = let it = shows is_open in (subst (Pictures h) (sym it.0) pictured, it.1)
+
 -- what was left goes on as the history that it pictures
 pub history_goes_on : (old new : State) → GoesOnAs old new → (h : History) → IsLeftOf h old.now.trees → IsKeptBy h new
-history_goes_on old new on h left is_open = let it = on (picture this_version h) (rows_left h old.now.trees left) is_open in (record { office = it.0.office; are = it.0.are }, it.1)
+history_goes_on old new on h left = shown_kept h left.0 new left.1 (on left.0 left.1.office.listed left.2)
 
 -- a crash leaves a new office
-pub new_left : (a b : ℕ) (left : Trees) → IsLeft (empty_office this_version (pos a) (pos b)) left → IsLeftOf (new_history a b) left
-new_left a b left it = (it.0, record { office = it.1.office; are = it.1.are }, it.2)
+pub new_left : (a b : ℕ) (left : Trees) → IsMadeLeft (empty_office this_version (pos a) (pos b)) left → IsLeftOf (new_history a b) left
+new_left a b left it = (it.0, record { office = it.1.office; are = it.1.are; once = it.2 }, it.3)
 
-pub new_survives : (a b : ℕ) (old new : State) → Survives old new (IsLeft (empty_office this_version (pos a) (pos b))) → Survives old new (IsLeftOf (new_history a b))
+pub new_survives : (a b : ℕ) (old new : State) → Survives old new (IsMadeLeft (empty_office this_version (pos a) (pos b))) → Survives old new (IsLeftOf (new_history a b))
 new_survives a b old new = survives_weaker old new _ _ (λ clean db left. new_left a b db left)
 
 -- the tables of a legal history are known as this version's

@@ -6,17 +6,15 @@ use Rattle.sqlite.specs.Recovery.{Image}
 use Rattle.sqlite.specs.Files.{HoldsDatabase}
 use Rattle.sqlite.specs.State.{State}
 use Rattle.office_core.specs.declared.answer.Answer.{Answer}
-use Rattle.office_rows.specs.Rows.{this_version}
 use Rattle.office_history.specs.Histories.{History}
-use Rattle.office_history.specs.Pictures.{picture}
 use Rattle.office_history.specs.Runs.{Item}
 use Rattle.office_recovery.specs.Found.{HoldsWhere, PicksUp}
 use Rattle.office_engine.specs.Keeping.{IsKeptBy, IsKeptOfRun, IsLeftOf, IsLeftOfEither, IsLeftOfRun}
-use Rattle.office_engine.proofs.Kept.{rows_left}
+use Rattle.office_engine.proofs.Kept.{shown_kept}
 
 -- what files hold of a history is picked up as that history
 picked : (image : Image) (s : State) → PicksUp image s → (db : Trees) → HoldsDatabase image db → (h : History) → IsLeftOf h db → IsKeptBy h s
-picked image s picks db held h left is_open = let it = picks db held (picture this_version h) (rows_left h db left) is_open in (record { office = it.0.office; are = it.0.are }, it.1)
+picked image s picks db held h left = shown_kept h left.0 s left.1 (picks db held left.0 left.1.office.listed left.2)
 
 pub either_found : (image : Image) (s : State) (g h : History) → PicksUp image s → HoldsWhere (IsLeftOfEither g h) image → ∥ (IsKeptBy g s ⊎ IsKeptBy h s) ∥₁
 either_found image s g h picks holds = ∥∥₁_map holds (λ d. one d.0 d.2 d.1)

@@ -16,6 +16,7 @@ use Rattle.office_tables.specs.Tables.{IsOffice, tables_of}
 use Rattle.office_history.specs.Histories.{History, Installed, with_changes}
 use Rattle.office_history.specs.Answers.{change, after, due_list}
 use Rattle.office_history.specs.Runs.{IsLegal, IsFailure, Item, Step, Run}
+use Rattle.office_history.specs.Stocks.{Stock, stock}
 use Rattle.office_asking.specs.Pictures.{Pictures}
 use Rattle.office_serving.specs.Audits.{IsAuditOf}
 
@@ -167,3 +168,9 @@ InstallLasts old new policy = (h : History) → IsLegal h → IsKeptBy h old →
 -- whichever legal history was kept, it still is, and these are the deposits that the caller may destroy on that day
 abbrev pub ListsDue : State → State → Date → List ℕ → List ℕ → Type 0
 ListsDue old new day caller numbers = (h : History) → IsLegal h → IsKeptBy h old → IsReached h new × (numbers ≡ due_list h day caller)
+
+-- ---- the stock
+
+-- whichever legal history was kept, it still is, and this is its stock
+abbrev pub CountsStock : State → State → Stock → Type 0
+CountsStock old new found = (h : History) → IsLegal h → IsKeptBy h old → IsReached h new × (found ≡ stock h)

@@ -1,14 +1,19 @@
 //! Laws of the office: those of its histories, and what its tables tell of them.
 
-ghost use Rattle.std.specs.Prelude.{◌≡◌, ◌↔◌, ◌++◌, ℕ, List, [], ◌∷◌, pos};
+ghost use Rattle.std.specs.Prelude.{◌≡◌, ◌↔◌, ◌++◌, ℕ, List, [], ◌∷◌, map, pos};
+ghost use Rattle.std.specs.List.{AllByRecursion};
+ghost use Rattle.std.specs.List.Sorted.{IsPermutation};
 ghost use Rattle.jiff.specs.Types.{Date};
 ghost use Rattle.sqlite.specs.Effect.{Database};
 ghost use Rattle.office_core.specs.declared.answer.Answer.{Answer};
 ghost use Rattle.office_core.specs.declared.request.Request.{Request};
 ghost use Rattle.office_rows.specs.Rows.{empty_office, this_version};
-ghost use Rattle.office_tables.specs.Tables.{Becomes, tables_of};
+ghost use Rattle.office_tables.specs.Tables.{Becomes, contents_of, tables_of};
+ghost use Rattle.office_tables.specs.Contents.{IsMarked, KeepsOnce};
 ghost use Rattle.office_history.specs.Histories.{History};
 ghost use Rattle.office_history.specs.Answers.{answer};
+ghost use Rattle.office_history.specs.Pictures.{due_rows};
+ghost use Rattle.office_history.specs.Stocks.{contents};
 ghost use Rattle.office_history.specs.RowRanges.{AreInRange};
 ghost use Rattle.office_history.specs.Runs.{IsFailure, IsLater, IsLegal, Item, Run, new_history};
 ghost use Rattle.office_asking.specs.Pictures.{Pictures};
@@ -22,14 +27,26 @@ pub use office_history::laws::{
     revised_classes_move_due_days, runs_only_add, runs_stay_legal, served_as_deposited, sound_bags,
     verdicts_decide, what_is_named_is_there,
 };
+use office_tables::laws::contents_are_those_of_files;
 
 /// What `create` of the tables leaves pictures the history of a new office with those limits, and
 /// nothing else does.
 pub fn new_offices_are_pictured()
     ensures { (db : Database) (max_deposits max_holds : ℕ)
-        → Becomes db (empty_office this_version (pos max_deposits) (pos max_holds))
+        → Becomes db (empty_office this_version (pos max_deposits) (pos max_holds)) × KeepsOnce db
         ↔ Pictures (new_history max_deposits max_holds) db }
 {}
+
+/// Tables that picture a history hold exactly the contents of its kept bags, each once, under its own SHA-256 and with its
+/// length; and the due day and the count of live holds that they keep of each deposit, destroyed or not, are those of the
+/// history.
+pub fn kept_columns_are_told()
+    ensures contents { (db : Database) (h : History) → Pictures h db → IsPermutation (contents h) (map (λ c. c.bytes) (contents_of db)) }
+    ensures marked { (db : Database) (h : History) → Pictures h db → AllByRecursion IsMarked (contents_of db) }
+    ensures dues { (db : Database) (h : History) → Pictures h db → (tables_of db).dues ≡ due_rows h }
+{
+    contents_are_those_of_files();
+}
 
 /// Tables that picture two legal histories answer each request alike, whichever of the two is
 /// asked: the rows of an office tell all that it answers by.

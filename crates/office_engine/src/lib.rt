@@ -8,3 +8,4 @@ mod office;
 mod serving;
 
 pub use office::{Office, StoppedRun, reopen, stop_in, stop_in_run};
+pub use office_serving::Stock;

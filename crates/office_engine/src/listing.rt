@@ -1,13 +1,13 @@
-//! The due list, read in a transaction that is rolled back.
+//! The due list and the stock, read in a transaction that is rolled back.
 
 ghost use Rattle.std.specs.Prelude.{◌≡◌, IfErr, IfOk, IsTrue, OnOk, false};
 ghost use Rattle.sqlite.specs.State.{HasCleanDisk, Survives};
 ghost use Rattle.sqlite.specs.Held.{state};
 ghost use Rattle.office_tables.specs.Faults.{IsFailure};
-ghost use Rattle.office_engine.specs.Keeping.{IsUnchanged, ListsDue};
+ghost use Rattle.office_engine.specs.Keeping.{CountsStock, IsUnchanged, ListsDue};
 
 use office_core::Day;
-use office_serving::due_numbers;
+use office_serving::{Stock, due_numbers, stock_of};
 use office_tables::TableFault;
 use sqlite::{Alter, Connection};
 use std::alloc::Global;
@@ -32,6 +32,25 @@ pub fn due_list<S: Alter>(
     let _is_settled = conn.is_autocommit();
     let mut tx = conn.transaction();
     let found = due_numbers(alloc, &mut tx, day, caller);
+    tx.rollback();
+    found
+}
+
+/// The stock of the office.
+pub fn stock<S: Alter>(alloc: Global, conn: &mut Connection<S>) -> Result<Stock, TableFault>
+    requires outside { (state S.Store conn.old).in_transaction ≡ false }
+    ensures outside { (state S.Store conn.new).in_transaction ≡ false }
+    ensures failure { IfErr result IsFailure }
+    ensures counted { HasCleanDisk (state S.Store conn.new) → IfOk result (λ found.
+        CountsStock (state S.Store conn.old) (state S.Store conn.new) found) }
+    ensures open { HasCleanDisk (state S.Store conn.new) → OnOk result (IsTrue (state S.Store conn.old).is_open) }
+    ensures kept { HasCleanDisk (state S.Store conn.new) → IsUnchanged (state S.Store conn.old) (state S.Store conn.new) }
+    ensures survives { Survives (state S.Store conn.old) (state S.Store conn.new) (λ _. ⊥) }
+{
+    // What the connection says of its state.
+    let _is_settled = conn.is_autocommit();
+    let mut tx = conn.transaction();
+    let found = stock_of(alloc, &mut tx);
     tx.rollback();
     found
 }

@@ -20,13 +20,14 @@ ghost use Rattle.office_history.specs.Histories.{History};
 ghost use Rattle.office_history.specs.Answers.{after};
 ghost use Rattle.office_history.specs.Runs.{IsLegal, Item, new_history};
 ghost use Rattle.office_recovery.specs.Found.{HoldsWhere};
-ghost use Rattle.office_engine.specs.Keeping.{AllStayShut, Audits, CommitsRun, CommitsTo, InTurn, InstallLasts, Installs, IsKeptBy, IsKeptOfRun, IsLeftOf, IsLeftOfEither, IsLeftOfRun, IsUnchanged, Lasts, LeavesEither, LeavesKept, LeavesRun, ListsDue, Runs, Serves, StaysShut, after_item, is_accepted, after_policy};
+ghost use Rattle.office_engine.specs.Keeping.{AllStayShut, Audits, CommitsRun, CommitsTo, CountsStock, InTurn, InstallLasts, Installs, IsKeptBy, IsKeptOfRun, IsLeftOf, IsLeftOfEither, IsLeftOfRun, IsUnchanged, Lasts, LeavesEither, LeavesKept, LeavesRun, ListsDue, Runs, Serves, StaysShut, after_item, is_accepted, after_policy};
 
 use crate::installing::install;
-use crate::listing::due_list;
+use crate::listing::{due_list, stock};
 use crate::serving::serve;
 use office_core::{Answer, Day, Limits, Policy, Request};
 use office_recovery::{reopen_files, stop};
+use office_serving::Stock;
 use office_tables::TableFault;
 use sqlite::{Alter, Connection, FileStore, Files, Options};
 use sqlite_disk::Disk;
@@ -215,6 +216,20 @@ impl<S: Alter> Office<S> {
         ensures survives { Survives (state S.Store self.old) (state S.Store self.new) (λ _. ⊥) }
     {
         due_list(alloc, &mut self.conn, day, caller)
+    }
+
+    /// How many different contents the files of the kept deposits have, and how many bytes these have together.
+    ///
+    /// Fails with `Memory` or `Store`. Nothing changes.
+    pub fn stock(&mut self, alloc: Global) -> Result<Stock, TableFault>
+        ensures failure { IfErr result faults.IsFailure }
+        ensures counted { HasCleanDisk (state S.Store self.new) → IfOk result (λ found.
+            CountsStock (state S.Store self.old) (state S.Store self.new) found) }
+        ensures open { HasCleanDisk (state S.Store self.new) → OnOk result (IsTrue (state S.Store self.old).is_open) }
+        ensures kept { HasCleanDisk (state S.Store self.new) → IsUnchanged (state S.Store self.old) (state S.Store self.new) }
+        ensures survives { Survives (state S.Store self.old) (state S.Store self.new) (λ _. ⊥) }
+    {
+        stock(alloc, &mut self.conn)
     }
 
     /// The connection, outside a transaction, its tables as they are.

@@ -77,10 +77,10 @@ fn decide<S: Alter>(
             alloc, tx, day, caller, collection, class, accession, *closed, bag,
         ),
         Request::HoldDeposit { deposit, matter } => {
-            hold_deposit(alloc, tx, day, caller, *deposit, matter)
+            hold_deposit(tx, day, caller, *deposit, matter)
         }
         Request::HoldCollection { collection, matter } => {
-            hold_collection(alloc, tx, day, caller, collection, matter)
+            hold_collection(tx, day, caller, collection, matter)
         }
         Request::Release { hold } => release(alloc, tx, day, caller, *hold),
         Request::Dispose { deposit } => dispose(alloc, tx, day, caller, *deposit),
@@ -96,7 +96,7 @@ fn decide<S: Alter>(
         Request::Holds { deposit } => holds(alloc, tx, day, caller, *deposit),
         Request::DownloadBag { deposit } => download_bag(alloc, tx, day, caller, *deposit),
         Request::DownloadFile { deposit, path } => {
-            download_file(alloc, tx, day, caller, *deposit, path)
+            download_file(tx, day, caller, *deposit, path)
         }
         Request::Audit { deposit } => audit(alloc, tx, day, caller, *deposit),
         Request::DueList => due_list(alloc, tx, day, caller),

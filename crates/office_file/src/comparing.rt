@@ -1,6 +1,6 @@
 //! The same requests, put to both offices.
 
-use crate::drawing::Draws;
+use crate::drawing::{Drawn, Draws};
 use crate::texts::{FIRST_CLASSES, FIRST_COLLECTIONS, POLICIES};
 use anyhow::{Context, Result, bail};
 use office_core::{Answer, Day, Limits, Name, Request, Years, read_policy};
@@ -41,9 +41,9 @@ fn read_answer(alloc: Global, answer: Answer) -> Result<(String, bool)> {
 }
 
 impl<S: Alter + Drop> Offices<S> {
-    /// Two new offices, with room for a few deposits and holds, one of them in the empty database.
+    /// Two new offices, with room for some deposits and holds, one of them in the empty database.
     fn create(alloc: Global, conn: Connection<S>) -> Result<Offices<S>> {
-        let limits = Limits::new(5, 6).context("limits")?;
+        let limits = Limits::new(7, 7).context("limits")?;
         if !conn.is_autocommit() {
             bail!("a transaction is open");
         }
@@ -133,33 +133,47 @@ impl<S: Alter + Drop> Offices<S> {
         }
         bail!("the due list on {day} for {caller:?} is another one")
     }
+    /// Compares what either office has in stock.
+    fn compare_stock(&mut self, alloc: Global) -> Result<()> {
+        let found = self.kept.stock(alloc)?;
+        let wanted = self.plain.stock(alloc)?;
+        if (found.contents, found.bytes) != (wanted.contents, wanted.bytes) {
+            bail!("the stock is {found:?}, of the plain office {wanted:?}");
+        }
+        Ok(())
+    }
+
+    /// Puts what is drawn to both offices: whether the request is accepted. Fails where the answers differ,
+    /// or, behind an accepted request, the due lists or the stocks.
+    fn take(&mut self, alloc: Global, drawn: &Drawn) -> Result<bool> {
+        if let Some(policy) = drawn.policy {
+            self.install(alloc, policy)?;
+        }
+        let is_accepted = self.step(alloc, drawn.day, drawn.caller, &drawn.request)?;
+        if is_accepted {
+            self.compare_due(alloc, drawn.day, drawn.caller)?;
+            self.compare_stock(alloc)?;
+        }
+        Ok(is_accepted)
+    }
 }
 
-/// Puts so many requests, drawn by the seed, to two new offices, one of them in the empty database, with
-/// installs before some of them. Fails where an answer of the one isn't the answer of the other. How many
-/// were accepted and refused.
-fn compare<S: Alter + Drop>(
+/// Puts so many requests, drawn by the seed, to the two offices. How many were accepted and refused.
+fn take_all<S: Alter + Drop>(
     alloc: Global,
-    conn: Connection<S>,
+    offices: &mut Offices<S>,
     seed: u64,
     count: u32,
 ) -> Result<Tally> {
     let mut draws = Draws::new(seed);
-    let mut offices = Offices::create(alloc, conn)?;
-    offices.install(alloc, POLICIES[0])?;
-    offices.define(alloc)?;
     let mut tally = Tally {
         accepted: 0,
         refused: 0,
     };
     for _ in 0..count {
         let drawn = draws.next().context("a draw")?;
-        if let Some(policy) = drawn.policy {
-            offices.install(alloc, policy)?;
-        }
-        if offices.step(alloc, drawn.day, drawn.caller, &drawn.request)? {
+        if offices.take(alloc, &drawn)? {
             tally.accepted = tally.accepted.saturating_add(1);
-            offices.compare_due(alloc, drawn.day, drawn.caller)?;
         } else {
             tally.refused = tally.refused.saturating_add(1);
         }
@@ -167,8 +181,26 @@ fn compare<S: Alter + Drop>(
     Ok(tally)
 }
 
+/// Puts so many requests, drawn by the seed, to two new offices, one of them in the empty database, with
+/// installs before some of them. Fails where an answer of the one isn't the answer of the other. The
+/// connection again, and how many were accepted and refused.
+pub fn compare<S: Alter + Drop>(
+    alloc: Global,
+    conn: Connection<S>,
+    seed: u64,
+    count: u32,
+) -> Result<(Connection<S>, Tally)> {
+    let mut offices = Offices::create(alloc, conn)?;
+    offices.install(alloc, POLICIES[0])?;
+    offices.define(alloc)?;
+    let tally = take_all(alloc, &mut offices, seed, count)?;
+    let Offices { plain: _, kept } = offices;
+    Ok((kept.into_connection(), tally))
+}
+
 /// The same with an office in memory.
 pub fn compare_in_memory(alloc: Global, seed: u64, count: u32) -> Result<Tally> {
     let conn = Connection::open_in_memory(alloc).context("opening memory")?;
-    compare(alloc, conn, seed, count)
+    let (_, tally) = compare(alloc, conn, seed, count)?;
+    Ok(tally)
 }

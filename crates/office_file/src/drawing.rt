@@ -28,7 +28,7 @@ enum Kind {
 }
 
 /// Each kind as often as it is to come: most deposits are refused, so they come more often.
-static KINDS: [Kind; 25] = [
+static KINDS: [Kind; 27] = [
     Kind::DefineClass,
     Kind::DefineClass,
     Kind::DefineClass,
@@ -48,6 +48,8 @@ static KINDS: [Kind; 25] = [
     Kind::Audit,
     Kind::HoldDeposit,
     Kind::HoldCollection,
+    Kind::HoldCollection,
+    Kind::Release,
     Kind::Release,
     Kind::Release,
     Kind::Dispose,

@@ -46,16 +46,11 @@ fn session(rt: &HostRuntime, conn: &mut Connection<MemStore>) -> io::Result<()> 
 
 /// A session with the plain office.
 pub fn run_plain_office(rt: &HostRuntime) -> io::Result<()> {
-    let alloc = rt.alloc();
-    let Some(mut office) = offices::plain(alloc) else {
+    let Some(mut office) = offices::plain(rt.alloc()) else {
         return say(rt, "an office", Outcome::Wrong);
     };
     ask_session(rt, &mut office)?;
-    let outcome = offices::count(alloc, &office, offices::KEPT);
-    say(rt, "contents counted", outcome)?;
-    ask_end(rt, &mut office)?;
-    let outcome = offices::count(alloc, &office, offices::NOTHING);
-    say(rt, "no contents counted", outcome)
+    ask_end(rt, &mut office)
 }
 
 /// The same session with the office over tables in memory.
@@ -93,10 +88,13 @@ fn ask_session<O: AnyOffice>(rt: &HostRuntime, office: &mut O) -> io::Result<()>
     )
 }
 
-/// The end of the session.
+/// The end of the session, with the stock before and after it.
 fn ask_end<O: AnyOffice>(rt: &HostRuntime, office: &mut O) -> io::Result<()> {
+    let outcome = offices::count(rt.alloc(), office, offices::KEPT);
+    say(rt, "contents counted", outcome)?;
     for (name, day, part) in &offices::END {
         say(rt, name, offices::come_out(rt.alloc(), office, day, *part))?;
     }
-    Ok(())
+    let outcome = offices::count(rt.alloc(), office, offices::NOTHING);
+    say(rt, "no contents counted", outcome)
 }

@@ -23,13 +23,13 @@ mod texts;
 mod timed;
 
 use anyhow::{Context, Result, bail};
-use comparing::compare_in_memory;
+use comparing::{Tally, compare_in_memory};
 use input::Input;
 use std::env::{Env, FillError};
 use tasks::{Report, Task};
 
 const USAGE: &str =
-    "words: none, all POLICY, hear, read-all, write FILE, make FILE, draw COUNT SEED, or FILE and COUNT behind one of deposits, read, live, last, ask-deposits, ask-records, ask-disposals, ask-bags, ask-lists and ask-due";
+    "words: none, all POLICY, hear, read-all, write FILE, make FILE, draw COUNT SEED, draw COUNT SEED FILE, or FILE and COUNT behind one of deposits, read, live, last, ask-deposits, ask-records, ask-disposals, ask-bags, ask-lists and ask-due";
 
 /// The task and the file that the words after the program's name ask for.
 fn read_words(words: &[String]) -> Result<(Task, &str)> {
@@ -45,18 +45,30 @@ fn read_words(words: &[String]) -> Result<(Task, &str)> {
 
 /// Prints what the task comes to.
 fn say(rt: &HostRuntime, report: Report) -> Result<()> {
-    if let Report::Took(took) = report {
-        println!(rt; "{}", took.as_micros())?;
+    match report {
+        Report::Done => {}
+        Report::Took(took) => println!(rt; "{}", took.as_micros())?,
+        Report::Drew(tally) => say_tally(rt, tally)?,
     }
+    Ok(())
+}
+
+/// Prints how many requests were accepted and how many refused.
+fn say_tally(rt: &HostRuntime, tally: Tally) -> Result<()> {
+    println!(rt; "{} accepted {} refused", tally.accepted, tally.refused)?;
     Ok(())
 }
 
 /// Puts so many requests, drawn by the seed, to an office in memory and to the plain office. Prints how
 /// many were accepted and how many refused.
 fn draw(rt: &HostRuntime, count: u32, seed: u64) -> Result<()> {
-    let tally = compare_in_memory(rt.alloc(), seed, count)?;
-    println!(rt; "{} accepted {} refused", tally.accepted, tally.refused)?;
-    Ok(())
+    say_tally(rt, compare_in_memory(rt.alloc(), seed, count)?)
+}
+
+/// The words behind `draw`: how many requests, and the seed.
+fn read_draw(count: &str, seed: &str) -> Result<(u32, u64)> {
+    let count = count.parse::<u32>().context("COUNT")?;
+    Ok((count, seed.parse::<u64>().context("SEED")?))
 }
 
 /// Does the task over the file, and says what it comes to.
@@ -77,8 +89,14 @@ fn run(rt: &HostRuntime, words: &[String]) -> Result<()> {
     }
     if let [_, word, count, seed] = words {
         if word.as_str() == "draw" {
-            let count = count.parse::<u32>().context("COUNT")?;
-            return draw(rt, count, seed.parse::<u64>().context("SEED")?);
+            let (count, seed) = read_draw(count, seed)?;
+            return draw(rt, count, seed);
+        }
+    }
+    if let [_, word, count, seed, file] = words {
+        if word.as_str() == "draw" {
+            let (count, seed) = read_draw(count, seed)?;
+            return take(rt, file, Task::Draw(count, seed));
         }
     }
     let (task, file) = read_words(words)?;

@@ -2,10 +2,11 @@
 
 use crate::outcome::Outcome;
 use office_tables::{
-    CallerRow, HoldTarget, NewDeposit, RuleRow, TableFault, by_accession, class_of, create,
-    deposit_row, deposit_rows, drop_files, end_hold, file_of, files_of, has_collection, hold_row,
-    last_deposit, last_hold, limits, live_holds, mark_gone, open_tables, put_class, put_collection,
-    put_deposit, put_file, put_hold, put_policy, role_of, rules,
+    CallerRow, HoldTarget, NewDeposit, RuleRow, TableFault, add_holds, by_accession, class_of,
+    contents, create, deposit_row, deposit_rows, deposits_and_dues, drop_files, due_row, due_rows,
+    end_hold, file_of, files_of, has_collection, hold_row, last_deposit, last_hold, limits,
+    live_holds, mark_gone, match_rule, open_tables, put_class, put_collection, put_deposit,
+    put_file, put_hold, put_marked, put_policy, role_of, rows_of_class, rules, set_due, set_holds,
 };
 use sqlite::{Alter, Connection, Transaction};
 use std::alloc::{AllocError, Global};
@@ -97,18 +98,27 @@ fn change<S: Alter>(
         Step::Deposit => {
             put_deposit(tx, DEPOSIT)?;
             put_file(tx, 1, "data/b", b"bb")?;
-            put_file(tx, 1, "data/a", b"a")
+            put_file(tx, 1, "data/a", b"a")?;
+            put_marked(tx, 1, "data/c", &[7; 32], b"a")?;
+            set_due(tx, 1, Some(740))
         }
-        Step::Hold => {
-            put_hold(tx, 1, HoldTarget::Deposit(1), "suit", 100)?;
-            put_hold(tx, 2, HoldTarget::Collection("maps"), "suit", 101)
-        }
+        Step::Hold => hold(tx),
         _ => {
             mark_gone(tx, 1, 99)?;
             drop_files(tx, 1)?;
-            end_hold(tx, 1, 102)
+            end_hold(tx, 1, 102)?;
+            add_holds(tx, "maps", -1)?;
+            set_due(tx, 1, None)
         }
     }
+}
+
+/// Puts a hold on the deposit and one on its collection, and counts them.
+fn hold<S: Alter>(tx: &mut Transaction<'_, S>) -> Result<(), TableFault> {
+    put_hold(tx, 1, HoldTarget::Deposit(1), "suit", 100)?;
+    set_holds(tx, 1, 1)?;
+    put_hold(tx, 2, HoldTarget::Collection("maps"), "suit", 101)?;
+    add_holds(tx, "maps", 1)
 }
 
 /// Puts a policy of one caller and one rule.
@@ -162,7 +172,7 @@ fn reads_deposit<S: Alter>(alloc: Global, tx: &mut Transaction<'_, S>) -> Result
 /// Whether its files do.
 fn reads_files<S: Alter>(alloc: Global, tx: &mut Transaction<'_, S>) -> Result<bool, TableFault> {
     let files = files_of(alloc, tx, 1)?;
-    if !files.iter().map(|file| file.content.len()).eq([1, 2]) {
+    if !files.iter().map(|file| file.content.len()).eq([1, 2, 1]) {
         return Ok(false);
     }
     let content = file_of(tx, 1, "data/b")?;
@@ -177,12 +187,33 @@ fn reads_holds<S: Alter>(alloc: Global, tx: &mut Transaction<'_, S>) -> Result<b
     )
 }
 
+/// Whether the contents do, two of which have the same bytes under other marks, and the rule that decides.
+fn reads_contents<S: Alter>(
+    alloc: Global,
+    tx: &mut Transaction<'_, S>,
+) -> Result<bool, TableFault> {
+    let rule = match_rule(tx, "archivist", "list", "maps", "")?;
+    Ok(contents(alloc, tx)?.len() == 3 && rule.is_some_and(|rule| rule.place == 1))
+}
+
+/// Whether what is kept beside the deposit does: its due day and the count of its holds.
+fn reads_kept<S: Alter>(alloc: Global, tx: &mut Transaction<'_, S>) -> Result<bool, TableFault> {
+    Ok(
+        due_row(tx, 1)?.is_some_and(|kept| kept.due == Some(740) && kept.holds == 2)
+            && due_rows(alloc, tx, 740)?.is_empty()
+            && deposits_and_dues(alloc, tx)?.len() == 1
+            && rows_of_class(alloc, tx, "short")?.len() == 1,
+    )
+}
+
 /// Whether each row reads as it was put.
 fn read<S: Alter>(alloc: Global, tx: &mut Transaction<'_, S>) -> Result<bool, TableFault> {
     Ok(
         reads_definitions(alloc, tx)?
             && reads_deposit(alloc, tx)?
             && reads_files(alloc, tx)?
+            && reads_contents(alloc, tx)?
+            && reads_kept(alloc, tx)?
             && reads_holds(alloc, tx)?,
     )
 }
@@ -192,6 +223,8 @@ fn read_again<S: Alter>(alloc: Global, tx: &mut Transaction<'_, S>) -> Result<bo
     Ok(
         deposit_row(tx, 1)?.is_some_and(|found| found.gone == Some(99))
             && file_of(tx, 1, "data/a")?.is_none()
+            && contents(alloc, tx)?.is_empty()
+            && due_row(tx, 1)?.is_some_and(|kept| kept.due.is_none() && kept.holds == 1)
             && hold_row(tx, 1)?.is_some_and(|hold| hold.released == Some(102))
             && live_holds(alloc, tx, 1, "maps")?.as_slice() == [2].as_slice(),
     )

@@ -1,5 +1,6 @@
 //! What is done with an office in a file.
 
+use crate::comparing::{Tally, compare};
 use crate::office;
 use crate::requests::{self, Asked};
 use crate::timed::{self, Call};
@@ -19,6 +20,8 @@ pub enum Task {
     Time(Call, u32),
     /// A request to the office, so many times.
     Ask(Asked, u32),
+    /// So many requests, drawn by the seed, which are put to an office in it and to the plain office.
+    Draw(u32, u64),
 }
 
 /// What a task comes to.
@@ -27,6 +30,8 @@ pub enum Report {
     Done,
     /// The time of the calls or requests: the opening of the file doesn't count.
     Took(Duration),
+    /// How many requests were accepted and refused.
+    Drew(Tally),
 }
 
 /// Makes the call so many times. The time of all calls.
@@ -78,6 +83,10 @@ fn perform<S: Alter + Drop>(
         Task::Ask(asked, count) => {
             let (conn, took) = ask(rt, conn, asked, count)?;
             return Ok((conn, Report::Took(took)));
+        }
+        Task::Draw(count, seed) => {
+            let (conn, tally) = compare(rt.alloc(), conn, seed, count)?;
+            return Ok((conn, Report::Drew(tally)));
         }
     }
     Ok((conn, Report::Done))

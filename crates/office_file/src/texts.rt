@@ -45,15 +45,28 @@ const OLDER: &[u8] =
 const PERCENT: &[u8] =
     b"BAGSET 1\nFILE 9 54\nbagit.txtBagIt-Version: 1.0\nTag-File-Character-Encoding: UTF-8\n\nFILE 10 3\ndata/a%0Ababc\nFILE 19 79\nmanifest-sha256.txtba7816bf8f01cfea414140de5dae2223b00361a396177a9cb410ff61f20015ad  data/a%250Ab\n\nEND\n";
 
+const NO_PAYLOAD: &[u8] =
+    b"BAGSET 1\nFILE 9 54\nbagit.txtBagIt-Version: 1.0\nTag-File-Character-Encoding: UTF-8\n\nFILE 19 0\nmanifest-sha256.txt\nFILE 22 86\ntagmanifest-sha256.txte3b0c44298fc1c149afbf4c8996fb92427ae41e4649b934ca495991b7852b855  manifest-sha256.txt\n\nEND\n";
+
 const OTHER_BYTES: &[u8] =
     b"BAGSET 1\nFILE 9 54\nbagit.txtBagIt-Version: 1.0\nTag-File-Character-Encoding: UTF-8\n\nFILE 6 3\ndata/aabd\nFILE 19 73\nmanifest-sha256.txtba7816bf8f01cfea414140de5dae2223b00361a396177a9cb410ff61f20015ad  data/a\n\nEND\n";
 
 const CUT: &[u8] =
     b"BAGSET 1\nFILE 9 54\nbagit.txtBagIt-Version: 1.0\nTag-File-Character-Encoding: UTF-8\n";
 
-/// Three valid bags, one of them three times, one whose file has other bytes than its manifest says,
-/// one that is cut, and none.
-pub static BAGS: [&[u8]; 8] = [BAG, BAG, BAG, OLDER, PERCENT, OTHER_BYTES, CUT, b""];
+/// Four valid bags, one of them three times, each of which has files in common with another; one whose file
+/// has other bytes than its manifest says, one that is cut, and none.
+pub static BAGS: [&[u8]; 9] = [
+    BAG,
+    BAG,
+    BAG,
+    OLDER,
+    PERCENT,
+    NO_PAYLOAD,
+    OTHER_BYTES,
+    CUT,
+    b"",
+];
 
 const ARCHIVIST_AND_CLERK: &str =
     "version = 1\n\n[callers]\nanna = \"archivist\"\ncarl = \"clerk\"\n\n[[rule]]\neffect = \"deny\"\nrole = \"archivist\"\naction = \"dispose\"\ncollection = \"tax\"\nclass = \"*\"\n\n[[rule]]\neffect = \"allow\"\nrole = \"archivist\"\naction = \"*\"\ncollection = \"*\"\nclass = \"*\"\n\n[[rule]]\neffect = \"allow\"\nrole = \"clerk\"\naction = \"list\"\ncollection = \"*\"\nclass = \"y10\"\n";

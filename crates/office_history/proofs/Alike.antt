@@ -1,5 +1,5 @@
 -- Two histories that agree in all that the office decides by: they grow alike, and have one picture.
-use Rattle.std.proofs.Common.{◌≡◌, ℕ, zero, suc, ℤ, Bool, true, false, List, [], ◌∷◌, ◌++◌, length, map, filter, Option, Some, None, option_map, unwrap_or, slice_get, is_none, is_some, refl, sym, ap, ◌∙◌, pos, arith, cond}
+use Rattle.std.proofs.Common.{◌≡◌, ℕ, zero, suc, ℤ, Bool, true, false, List, [], ◌∷◌, ◌++◌, length, map, filter, Option, Some, None, option_map, unwrap_or, slice_get, is_none, is_some, refl, sym, ap, ◌∙◌, pos, arith, cond, ◌&&◌}
 use Rattle.std.specs.Prelude.{bytes_eq, sum}
 use Rattle.std.specs.List.{filter_map, flat_map, list_any, cons_option}
 use Rattle.std.specs.Option.{option_or, option_map_or}
@@ -10,11 +10,13 @@ use Rattle.jiff.specs.Types.{Date}
 use Rattle.jiff.specs.Words.{epoch_day}
 use Rattle.bag_text.specs.TransferForm.{File}
 use Rattle.bag_check.specs.Validity.{payload_files, payload_bytes}
+use Rattle.office_core.specs.RetentionReading.{due_of}
+use Rattle.office_core.specs.declared.retention.Due.TheVariants.{Never}
 use Rattle.office_rows.specs.Rows.{DepositRow}
 use Rattle.office_history.specs.Lists.{first_said, last_said, item_numbered, numbers, distinct_after, in_first_places}
-use Rattle.office_history.specs.Histories.{History, Change, Deposit, with_changes, installed_in, no_policy, policy, years_in, years_of, collection_in, deposit_in, deposits, deposit_numbered, destroyed_in, destruction_day, kept_numbers, hold_in, holds, released_in, release_day}
+use Rattle.office_history.specs.Histories.{History, Change, Deposit, with_changes, installed_in, no_policy, policy, years_in, years_of, collection_in, deposit_in, deposits, deposit_numbered, destroyed_in, destruction_day, kept_numbers, due, Hold, Target, OnDeposit, OnCollection, reaches, is_live, hold_in, holds, hold_numbered, released_in, release_day}
 use Rattle.office_history.specs.Stocks.{files_of, Stock, stock}
-use Rattle.office_history.specs.Pictures.{class_in, class_row, caller_row, rule_rows, file_row, file_rows, row_by_release, deposit_row, row_of_deposit, picture}
+use Rattle.office_history.specs.Pictures.{class_in, class_row, caller_row, rule_rows, file_row, file_rows, row_by_release, deposit_row, row_of_deposit, due_number, due_row, row_of_due, picture}
 use Rattle.office_history.proofs.HistoryLemmas.{deposits_grown, holds_grown}
 use Rattle.bag_text.proofs.ResultLemmas.{is_nothing}
 
@@ -236,6 +238,44 @@ same_file_rows h k a =
     (λ n e. ap (map (file_row n)) (a.same_bags n (is_nothing (destruction_day h n) e)))
     ∙ ap (flat_map (λ n. map (file_row n) (files_of k n))) (same_kept h k a)
 
+-- ---- what is kept of deposits says nothing of their bags
+
+abbrev bare : Outline → Deposit
+bare o = record { collection = o.collection; class = o.class; accession = o.accession; closed = o.closed; bag = [] }
+
+reaches_bare : (target : Target) (n : ℕ) (found : Date × Deposit) → reaches target n found.1 ≡ reaches target n (bare (outline found))
+reaches_bare (OnDeposit m) n found = refl
+reaches_bare (OnCollection name) n found = refl
+
+covers_bare : (o : Option (Date × Hold)) (n : ℕ) (found : Date × Deposit)
+    → option_map_or (λ hold. reaches hold.1.target n found.1) o false ≡ option_map_or (λ hold. reaches hold.1.target n (bare (outline found))) o false
+covers_bare None n found = refl
+covers_bare (Some hold) n found = reaches_bare hold.1.target n found
+
+due_row_bare : (h : History) (n : ℕ) (found : Date × Deposit) → due_row h n found ≡ due_row h n (found.0, bare (outline found))
+due_row_bare h n found = λ i. record {
+  number = pos n;
+  due = due_number (due h found.1);
+  holds = pos (length (filter (λ k. is_live h k && covers_bare (hold_numbered h k) n found i) (numbers (length (holds h)))));
+}
+
+due_of_outline : (h : History) (n : ℕ) (found : Option (Date × Deposit)) → option_map (due_row h n) found ≡ option_map (λ (o : Outline). due_row h n (o.day, bare o)) (option_map outline found)
+due_of_outline h n None = refl
+due_of_outline h n (Some found) = ap Some (due_row_bare h n found)
+
+same_due : (h k : History) → Alike h k → (n : ℕ) (o : Outline) → due_row h n (o.day, bare o) ≡ due_row k n (o.day, bare o)
+same_due h k a n o = λ i. record {
+  number = pos n;
+  due = due_number (option_map_or (due_of o.closed) (a.same_years o.class i) Never);
+  holds = pos (length (filter (λ m. is_none (a.same_released m i) && option_map_or (λ hold. reaches hold.1.target n (bare o)) (item_numbered (a.same_holds i) m) false) (numbers (length (a.same_holds i)))));
+}
+
+same_due_row : (h k : History) → Alike h k → (n : ℕ) → row_of_due h n ≡ row_of_due k n
+same_due_row h k a n =
+    due_of_outline h n (deposit_numbered h n)
+    ∙ (λ i. option_map (λ o. same_due h k a n o i) (same_outline h k a n i))
+    ∙ sym (due_of_outline k n (deposit_numbered k n))
+
 -- histories that agree have one picture
 pub same_picture : (h k : History) → Alike h k → (version : ℤ) → picture version h ≡ picture version k
 same_picture h k a version = λ i. record {
@@ -245,6 +285,7 @@ same_picture h k a version = λ i. record {
   classes = filter_map (λ name. option_map (class_row name) (a.same_years name i)) (a.same_classes i);
   collections = a.same_collections i;
   deposits = filter_map (λ n. same_row h k a n i) (numbers (same_count h k a i));
+  dues = filter_map (λ n. same_due_row h k a n i) (numbers (same_count h k a i));
   files = same_file_rows h k a i;
   holds = filter_map (λ n. option_map (λ found. row_by_release n (a.same_released n i) found) (item_numbered (a.same_holds i) n)) (numbers (length (a.same_holds i)));
 }

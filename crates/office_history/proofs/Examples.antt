@@ -14,7 +14,7 @@ use Rattle.office_core.specs.declared.rule.Pattern.TheVariants.{Any, Named}
 use Rattle.office_history.specs.Histories.{History, Change, Installed, DefinedClass, DefinedCollection, Deposited, PlacedHold, ReleasedHold, Destroyed, Deposit, OnDeposit, OnCollection, destruction_day, kept_numbers, due, live_holds}
 use Rattle.office_history.specs.Refusals.{refusal, taken_refusal}
 use Rattle.office_history.specs.Lists.{in_first_places}
-use Rattle.office_history.specs.Pictures.{picture}
+use Rattle.office_history.specs.Pictures.{due_number, picture}
 
 -- a deposit of the collection `maps` in the class `y1`
 deposited : Date → List ℕ → Deposit
@@ -132,6 +132,10 @@ drawn_rows : (day : Date) → picture (pos 1) (drawn day) ≡ record {
   deposits =
       record { number = pos 1; accession = codes "A-1"; collection = codes "maps"; class = codes "y1"; closed = epoch_day day; deposited = epoch_day day; files = pos 1; bytes = pos 3; gone = None }
       ∷ record { number = pos 2; accession = codes "A-2"; collection = codes "maps"; class = codes "y1"; closed = epoch_day day; deposited = epoch_day day; files = pos 0; bytes = pos 0; gone = Some (epoch_day day) }
+      ∷ [];
+  dues =
+      record { number = pos 1; due = due_number (due_of day (Some 5)); holds = pos 1 }
+      ∷ record { number = pos 2; due = due_number (due_of day (Some 5)); holds = pos 0 }
       ∷ [];
   files =
       record { deposit = pos 1; path = codes "data/a"; content = codes "abc" }

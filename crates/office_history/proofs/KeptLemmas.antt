@@ -1,20 +1,27 @@
 -- Due lists and what is kept, by what stands in the lists; audits of legal histories.
-use Rattle.std.proofs.Common.{◌≡◌, ℕ, List, [], length, map, Option, Some, None, is_none, refl, sym, ap, subst}
+use Rattle.std.proofs.Common.{◌≡◌, ◌∙◌, ℕ, Bool, false, List, [], ◌∷◌, length, map, Option, Some, None, slice_get, is_none, int_lt, refl, sym, ap, subst, rules}
 use Rattle.std.specs.List.{flat_map}
 use Rattle.std.specs.Prelude.{Contains}
 use Rattle.std.specs.Option.{option_map_or}
 use Rattle.jiff.specs.Types.{Date}
+use Rattle.jiff.specs.Words.{epoch_day}
 use Rattle.bag_text.specs.TransferForm.{File}
+use Rattle.office_core.specs.FirstOf.{first_some, answer_if}
+use Rattle.office_core.specs.Verdicts.{gone_verdict, hold_verdict, due_verdict}
+use Rattle.office_core.specs.declared.action.Action.TheVariants as acts
 use Rattle.office_core.specs.declared.answer.Answer.TheVariants as answers
 use Rattle.office_core.specs.declared.answer.AuditReport.{AuditReport}
+use Rattle.office_core.specs.declared.facts.Verdict.TheVariants.{NotDue}
 use Rattle.office_core.specs.declared.refusal.Refusal.{Refusal}
 use Rattle.office_core.specs.declared.request.Request.TheVariants.{Audit, Dispose}
 use Rattle.office_history.specs.Lists.{numbers}
 use Rattle.office_history.specs.Histories.{History, Deposit, deposits, deposit_numbered, destruction_day, kept_numbers}
+use Rattle.office_history.specs.Acceptance.{IsDisposable}
 use Rattle.office_history.specs.Bags.{report_on}
-use Rattle.office_history.specs.Refusals.{refusal}
+use Rattle.office_history.specs.Refusals.{refusal_in, denial_at, of_deposit, disposal_refusals, refusal}
 use Rattle.office_history.specs.Answers.{answer, answer_unless, allowed_answer, told_of, audit_report, due_list}
 use Rattle.office_history.specs.Stocks.{files_of, contents, IsKept}
+use Rattle.office_core.proofs.OptionLemmas.{none_of}
 use Rattle.bag_text.proofs.ResultLemmas.{is_nothing}
 use Rattle.bag_text.proofs.ElementLemmas.{Has, contains_has, has_contains, has_filter, filter_has, has_map, map_has}
 use Rattle.office_history.proofs.MemberLemmas.{numbered_has, has_gathered, gathered_has, first_places_have, has_in_places}
@@ -23,10 +30,13 @@ use Rattle.office_history.proofs.LawLemmas.{unrefused}
 
 -- ---- due lists
 
-pub listed_is_due : (h : History) (day : Date) (caller : List ℕ) (n : ℕ) → Contains (due_list h day caller) n → answer h day caller (Dispose n) ≡ answers.Destroyed n day
-listed_is_due h day caller n found =
+listed_unrefused : (h : History) (day : Date) (caller : List ℕ) (n : ℕ) → Contains (due_list h day caller) n → refusal h day caller (Dispose n) ≡ None
+listed_unrefused h day caller n found =
     let passes = filter_has (λ m. is_none (refusal h day caller (Dispose m))) (kept_numbers h) n (contains_has (due_list h day caller) n found) in
-    ap (λ (why : Option Refusal). answer_unless why (answers.Destroyed n day)) (is_nothing (refusal h day caller (Dispose n)) passes.1)
+    is_nothing (refusal h day caller (Dispose n)) passes.1
+
+pub listed_is_due : (h : History) (day : Date) (caller : List ℕ) (n : ℕ) → Contains (due_list h day caller) n → answer h day caller (Dispose n) ≡ answers.Destroyed n day
+listed_is_due h day caller n found = ap (λ (why : Option Refusal). answer_unless why (answers.Destroyed n day)) (listed_unrefused h day caller n found)
 
 -- the number of a deposit that was not destroyed is one of those that are kept
 is_kept : (h : History) (n : ℕ) (found : Date × Deposit) → deposit_numbered h n ≡ Some found → destruction_day h n ≡ None → Has (kept_numbers h) n
@@ -37,6 +47,24 @@ due_is_listed h day caller n e =
     let r = unrefused (refusal h day caller (Dispose n)) (answers.Destroyed n day) (answers.Destroyed n day) e (λ r. λ wrong. absurd cc) in
     let may = disposable h day caller n r.0 in
     has_contains (due_list h day caller) n (has_filter (λ m. is_none (refusal h day caller (Dispose m))) (kept_numbers h) n (is_kept h n may.found may.there may.kept) (ap is_none r.0))
+
+-- the disposal of a deposit that may be destroyed, and that the rules let the caller destroy, is not refused
+unrefused_disposal : (h : History) (day : Date) (caller : List ℕ) (n : ℕ) (may : IsDisposable h day n) → denial_at h caller acts.Dispose may.found.1 ≡ None → refusal h day caller (Dispose n) ≡ None
+unrefused_disposal h day caller n may allowed =
+    let come : int_lt (epoch_day day) (epoch_day may.date) ≡ false = (let has_come = may.has_come in search (rules, has_come)) in
+    ap (λ (o : Option (Date × Deposit)). first_some (of_deposit o (disposal_refusals h day caller n))) may.there
+    ∙ (λ i. first_some (allowed i ∷ refusal_in (gone_verdict (may.kept i)) ∷ refusal_in (hold_verdict (slice_get (may.unheld i) 0)) ∷ refusal_in (due_verdict day (may.due i)) ∷ []))
+    ∙ ap (λ (early : Bool). first_some (refusal_in (answer_if early (NotDue may.date)) ∷ [])) come
+
+pub disposable_is_listed : (h : History) (day : Date) (caller : List ℕ) (n : ℕ) (may : IsDisposable h day n) → denial_at h caller acts.Dispose may.found.1 ≡ None → Contains (due_list h day caller) n
+disposable_is_listed h day caller n may allowed =
+    due_is_listed h day caller n (ap (λ why. answer_unless why (answers.Destroyed n day)) (unrefused_disposal h day caller n may allowed))
+
+pub listed_is_disposable : (h : History) (day : Date) (caller : List ℕ) (n : ℕ) → Contains (due_list h day caller) n → (may : IsDisposable h day n) × (denial_at h caller acts.Dispose may.found.1 ≡ None)
+listed_is_disposable h day caller n listed =
+    let free = listed_unrefused h day caller n listed in
+    let may = disposable h day caller n free in
+    (may, (none_of (denial_at h caller acts.Dispose may.found.1) _ (sym (ap (λ (o : Option (Date × Deposit)). first_some (of_deposit o (disposal_refusals h day caller n))) may.there) ∙ free)).0)
 
 -- ---- contents
 

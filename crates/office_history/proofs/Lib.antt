@@ -20,3 +20,4 @@ pub mod DisposalFacts
 pub mod RangeLemmas
 pub mod RowLemmas
 pub mod KeptLemmas
+pub mod UndoneLemmas

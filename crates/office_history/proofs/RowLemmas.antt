@@ -1,11 +1,13 @@
 -- The rows of a legal history are in range.
-use Rattle.std.proofs.Common.{◌≡◌, ◌≤◌, ℕ, zero, suc, ◌+◌, ℤ, pos, Bool, true, false, List, [], ◌∷◌, length, map, filter, Option, Some, None, IfSome, IsSome, is_none, is_some, option_map, refl, sym, ap, subst, ◌∙◌, inl, inr, ◌⊎◌, arith, cond}
+use Rattle.std.proofs.Common.{◌≡◌, ◌≤◌, ◌<ℤ◌, ◌&&◌, ℕ, zero, suc, ◌+◌, ℤ, pos, Bool, true, false, List, [], ◌∷◌, length, map, filter, Option, Some, None, IfSome, IsSome, is_none, is_some, option_map, refl, sym, ap, subst, ◌∙◌, inl, inr, ◌⊎◌, arith, cond}
 use Rattle.std.specs.Prelude.{⊤, Contains, bytes_eq, neg_ℤ}
 use Rattle.std.specs.List.{AllByRecursion, filter_map, flat_map, list_any, range_with_len, cons_option}
 use Rattle.std.specs.Option.{option_map_or}
 use Rattle.std.proofs.lemmas.List.{length-map}
 use Rattle.std.proofs.lemmas.List.FromFn.{length-range_with_len}
+use Rattle.std.proofs.lemmas.List.Sums.{length-filter, count_by-le-length}
 use Rattle.std.proofs.lemmas.Slice.Eq.{bytes_eq-Decides}
+use Rattle.jiff_core.proofs.DateLemmas.{epoch_day-lt, epoch_day_range}
 use Rattle.jiff_core.proofs.SignedLemmas.{signed_arith}
 use Rattle.jiff.specs.Types.{Date}
 use Rattle.jiff.specs.Words.{epoch_day, IsBetween}
@@ -13,10 +15,15 @@ use Rattle.bag_text.specs.TransferForm.{File, Fits}
 use Rattle.bag_check.proofs.CodeLemmas.{few_payload, small_payload}
 use Rattle.bag_text.proofs.ElementLemmas.{Has, has_contains, any_has}
 use Rattle.office_core.proofs.DayLemmas.{day_number}
+use Rattle.office_core.proofs.DueLemmas.{is_due_of}
 use Rattle.office_core.specs.Bounds.{max_years}
-use Rattle.office_core.specs.Days.{IsDay, IsDayNumber}
+use Rattle.office_core.specs.Days.{first_year, last_year, IsDay, IsDayNumber, IsYearsAfter}
 use Rattle.office_core.specs.Names.{IsName}
 use Rattle.office_core.specs.Requests.{IsYears}
+use Rattle.office_core.specs.Retention.{IsDue, IsDueNumber, due_number}
+use Rattle.office_core.specs.RetentionReading.{due_of}
+use Rattle.office_core.specs.declared.retention.Due.{Due}
+use Rattle.office_core.specs.declared.retention.Due.TheVariants.{On, Never}
 use Rattle.office_core.specs.Policies.{IsNamed, HasNames, IsNamedCaller}
 use Rattle.office_core.specs.declared.caller.Caller.{Caller}
 use Rattle.office_core.specs.declared.rule.ActionPattern.{ActionPattern}
@@ -26,12 +33,12 @@ use Rattle.office_core.specs.declared.rule.Effect.TheVariants.{Allow, Deny}
 use Rattle.office_core.specs.declared.rule.Pattern.{Pattern}
 use Rattle.office_core.specs.declared.rule.Pattern.TheVariants as patterns
 use Rattle.office_core.specs.declared.rule.Rule.{Rule}
-use Rattle.office_rows.specs.Rows.{RuleRow, ClassRow, DepositRow, HoldRow}
+use Rattle.office_rows.specs.Rows.{RuleRow, ClassRow, DepositRow, DueRow, HoldRow}
 use Rattle.office_history.specs.Lists.{item_numbered, numbers, in_first_places}
-use Rattle.office_history.specs.Histories.{History, Target, OnDeposit, OnCollection, Deposit, policy, years_of, has_class, collection_in, has_collection, deposits, deposit_numbered, destruction_day, holds, hold_numbered, release_day}
+use Rattle.office_history.specs.Histories.{History, Target, OnDeposit, OnCollection, Deposit, policy, years_of, has_class, collection_in, has_collection, deposits, deposit_numbered, destruction_day, due, holds, hold_numbered, release_day, is_live, covers, live_holds}
 use Rattle.office_history.specs.Acceptance.{IsThere}
-use Rattle.office_history.specs.Pictures.{effect_number, pattern_text, action_pattern_text, caller_row, rule_rows, years_number, class_row, class_in, row_of_class, class_rows, collection_rows, deposit_row, deposit_rows, row_of_deposit, file_row, held_deposit, held_collection, hold_row, row_of_hold, picture}
-use Rattle.office_history.specs.RowRanges.{AreNumbered, IsPatternText, IsActionText, IsOneTarget, IsCallerRow, IsRuleRow, IsClassRow, IsDepositRow, IsFileRow, IsHoldRow, AreInRange}
+use Rattle.office_history.specs.Pictures.{office_row, effect_number, pattern_text, action_pattern_text, caller_row, rule_rows, years_number, class_row, class_in, row_of_class, class_rows, collection_rows, deposit_row, deposit_rows, row_of_deposit, due_row, row_of_due, file_row, held_deposit, held_collection, hold_row, row_of_hold, picture}
+use Rattle.office_history.specs.RowRanges.{AreNumbered, IsPatternText, IsActionText, IsOneTarget, IsCallerRow, IsRuleRow, IsClassRow, IsDepositRow, IsDueRow, IsFileRow, IsHoldRow, AreInRange}
 use Rattle.office_history.specs.Runs.{IsLegal}
 use Rattle.office_history.specs.Stocks.{files_of}
 use Rattle.office_history.proofs.ListLemmas.{all_numbered, all_said, each}
@@ -211,6 +218,45 @@ passing_rows P p rows so (n ∷ ns) = by (p n) refl (passing_rows P p rows so ns
     by true is rest = all_append P (rows n) (flat_map rows (filter p ns)) (so n is) rest
     by false is rest = rest
 
+-- ---- what is kept of deposits
+
+-- a date some years after a day of the office is not before its first day, nor past the calendar
+after_ranged : (closing date : Date) (years : ℕ) → IsDay closing → IsYearsAfter closing years date → IsDueNumber (epoch_day date)
+after_ranged closing date zero is after =
+    let same : date.year ≡ closing.year = omega (arith, signed_arith, after.year) in
+    ((day_number date (subst (IsBetween first_year last_year) (sym same) is)).0, (epoch_day_range date).1)
+after_ranged closing date (suc years) is after =
+    let later : closing.year <ℤ date.year = omega (arith, signed_arith, after.year) in
+    (omega (arith, signed_arith, (day_number closing is).0, epoch_day-lt closing date (inl later)), (epoch_day_range date).1)
+
+due_ranged : (closing : Date) (years : Option ℕ) (falls : Due) → IsDay closing → IsDue closing years falls → IfSome (due_number falls) IsDueNumber
+due_ranged closing (Some years) (On date) in_day is = after_ranged closing date years in_day is
+due_ranged closing None (On date) in_day is = absurd is
+due_ranged closing years Never in_day is = tt
+
+class_due_ranged : (h : History) → IsLegal h → (deposit : Deposit) → IsDay deposit.closed → IfSome (due_number (due h deposit)) IsDueNumber
+class_due_ranged h legal deposit in_day = by (years_of h deposit.class) refl
+  where
+    by : (o : Option (Option ℕ)) → years_of h deposit.class ≡ o → IfSome (due_number (option_map_or (due_of deposit.closed) o Never)) IsDueNumber
+    by None e = tt
+    by (Some years) e = due_ranged deposit.closed years (due_of deposit.closed years) in_day (is_due_of deposit.closed years in_day (named_classes h legal deposit.class years e).1)
+
+-- no more live holds than were accepted
+few_live : (h : History) (n : ℕ) (deposit : Deposit) → length (live_holds h n deposit) ≤ length (holds h)
+few_live h n deposit =
+    let all = numbers (length (holds h)) in
+    let live : ℕ → Bool = λ k. is_live h k && covers h k n deposit in
+    omega (arith, length-filter live all, count_by-le-length live all, length-range_with_len 1 (length (holds h)))
+
+due_row_ranged : (h : History) (version : ℤ) → IsLegal h → (n : ℕ) (row : DueRow) → row_of_due h n ≡ Some row → IsDueRow (office_row version h) row
+due_row_ranged h version legal n row e =
+    option_map_some (due_row h n) (deposit_numbered h n) row e (λ found there same.
+    let made = all_numbered IsDeposited (deposits h) n found (ranged_deposits h legal) there in
+    subst (IsDueRow (office_row version h)) same (record {
+      due = class_due_ranged h legal found.1 made.1.closed;
+      holds = (omega (arith, signed_arith), omega (arith, signed_arith, few_live h n found.1, (limits_hold h legal).holds_in));
+    }))
+
 -- ---- holds
 
 target_ranged : (h : History) (version : ℤ) (target : Target) → IsThere h target → IsOneTarget (picture version h) (held_deposit target) (held_collection target)
@@ -259,6 +305,8 @@ rows_in_range reads judges h version legal =
       collections = all_distinct IsName [] (filter_map collection_in h.changes) (named_collections h legal);
       deposits = all_told (IsDepositRow (picture version h)) (row_of_deposit h) (deposit_ranged reads judges h version legal) (numbers (length (deposits h)));
       deposit_numbers = numbered_rows (deposits h) (deposit_row h) (λ (row : DepositRow). row.number) (λ n x. refl) (length (deposits h)) 1 (omega arith) (omega arith);
+      dues = all_told (IsDueRow (office_row version h)) (row_of_due h) (due_row_ranged h version legal) (numbers (length (deposits h)));
+      due_numbers = numbered_rows (deposits h) (due_row h) (λ (row : DueRow). row.number) (λ n x. refl) (length (deposits h)) 1 (omega arith) (omega arith);
       files = passing_rows (IsFileRow (picture version h)) (λ n. is_none (destruction_day h n)) (λ n. map (file_row n) (files_of h n)) (λ n passes. kept_ranged reads judges h version legal n (is_nothing (destruction_day h n) passes)) (numbers (length (deposits h)));
       holds = all_told (IsHoldRow (picture version h)) (row_of_hold h) (hold_ranged h version legal) (numbers (length (holds h)));
       hold_numbers = numbered_rows (holds h) (hold_row h) (λ (row : HoldRow). row.number) (λ n x. refl) (length (holds h)) 1 (omega arith) (omega arith);

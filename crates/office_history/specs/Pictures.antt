@@ -14,10 +14,11 @@ use Rattle.office_core.specs.declared.rule.Pattern.TheVariants as names
 use Rattle.office_core.specs.declared.rule.ActionPattern.{ActionPattern}
 use Rattle.office_core.specs.declared.rule.ActionPattern.TheVariants as acts
 use Rattle.office_core.specs.declared.rule.Rule.{Rule}
+pub use Rattle.office_core.specs.Retention.{due_number}
 use Rattle.office_core.specs.declared.caller.Caller.{Caller}
-use Rattle.office_rows.specs.Rows.{OfficeRow, CallerRow, RuleRow, ClassRow, DepositRow, FileRow, HoldRow, Tables}
+use Rattle.office_rows.specs.Rows.{OfficeRow, CallerRow, RuleRow, ClassRow, DepositRow, DueRow, FileRow, HoldRow, Tables}
 use Rattle.office_history.specs.Lists.{numbers, in_first_places}
-use Rattle.office_history.specs.Histories.{History, Change, DefinedClass, Deposit, Hold, Target, OnDeposit, OnCollection, policy, years_of, collection_in, deposits, deposit_numbered, destruction_day, kept_numbers, holds, hold_numbered, release_day}
+use Rattle.office_history.specs.Histories.{History, Change, DefinedClass, Deposit, Hold, Target, OnDeposit, OnCollection, policy, years_of, collection_in, deposits, deposit_numbered, destruction_day, due, live_holds, kept_numbers, holds, hold_numbered, release_day}
 use Rattle.office_history.specs.Stocks.{files_of}
 
 -- ---- one row each
@@ -84,6 +85,10 @@ row_by_gone n day found = record {
 abbrev pub deposit_row : History → ℕ → Date × Deposit → DepositRow
 deposit_row h n found = row_by_gone n (destruction_day h n) found
 
+-- what is kept of a deposit: its due day, by the years of its class as they stand, and how many live holds cover it
+abbrev pub due_row : History → ℕ → Date × Deposit → DueRow
+due_row h n found = record { number = pos n; due = due_number (due h found.1); holds = pos (length (live_holds h n found.1)) }
+
 abbrev pub file_row : ℕ → File → FileRow
 file_row n file = record { deposit = pos n; path = file.path; content = file.content }
 
@@ -133,6 +138,13 @@ row_of_deposit h n = option_map (deposit_row h n) (deposit_numbered h n)
 abbrev pub deposit_rows : History → List DepositRow
 deposit_rows h = filter_map (row_of_deposit h) (numbers (length (deposits h)))
 
+abbrev pub row_of_due : History → ℕ → Option DueRow
+row_of_due h n = option_map (due_row h n) (deposit_numbered h n)
+
+-- of destroyed deposits too
+abbrev pub due_rows : History → List DueRow
+due_rows h = filter_map (row_of_due h) (numbers (length (deposits h)))
+
 -- the files of the deposits that are kept
 abbrev pub file_rows : History → List FileRow
 file_rows h = flat_map (λ n. map (file_row n) (files_of h n)) (kept_numbers h)
@@ -152,6 +164,7 @@ picture version h = record {
   classes = class_rows h;
   collections = collection_rows h;
   deposits = deposit_rows h;
+  dues = due_rows h;
   files = file_rows h;
   holds = hold_rows h;
 }

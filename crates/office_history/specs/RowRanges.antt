@@ -9,8 +9,9 @@ use Rattle.office_core.specs.Actions.{action_text}
 use Rattle.office_core.specs.Bounds.{max_callers, max_rules, max_years}
 use Rattle.office_core.specs.Days.{IsDayNumber}
 use Rattle.office_core.specs.Names.{IsName, IsAccession, IsMatter}
+use Rattle.office_core.specs.Retention.{IsDueNumber}
 use Rattle.office_core.specs.declared.action.Action.{Action}
-use Rattle.office_rows.specs.Rows.{OfficeRow, CallerRow, RuleRow, ClassRow, DepositRow, FileRow, HoldRow, Tables, IsLimit}
+use Rattle.office_rows.specs.Rows.{OfficeRow, CallerRow, RuleRow, ClassRow, DepositRow, DueRow, FileRow, HoldRow, Tables, IsLimit}
 use Rattle.office_history.specs.Lists.{item_numbered}
 
 -- the numbers of the rows are these: n, n + 1, n + 2 and so on
@@ -61,6 +62,11 @@ pub record IsDepositRow (tables : Tables) (row : DepositRow) : Type 0 where
   pub bytes : IsBetween (pos 0) (pos (max_files * max_content)) row.bytes
   pub gone : IfSome row.gone IsDayNumber
 
+-- what is kept of a deposit: a day from which it may be destroyed, or none, and no more live holds than the office takes
+pub record IsDueRow (office : OfficeRow) (row : DueRow) : Type 0 where
+  pub due : IfSome row.due IsDueNumber
+  pub holds : IsBetween (pos 0) office.max_holds row.holds
+
 -- a file that a bag may have, of a deposit that is there and was not destroyed
 pub record IsFileRow (tables : Tables) (row : FileRow) : Type 0 where
   pub file : Fits (record { path = row.path; content = row.content })
@@ -99,6 +105,8 @@ pub record AreInRange (version : ℤ) (tables : Tables) : Type 0 where
   pub collections : AllByRecursion IsName tables.collections
   pub deposits : AllByRecursion (IsDepositRow tables) tables.deposits
   pub deposit_numbers : AreNumbered (λ row. row.number) 1 tables.deposits
+  pub dues : AllByRecursion (IsDueRow office_row) tables.dues
+  pub due_numbers : AreNumbered (λ row. row.number) 1 tables.dues
   pub files : AllByRecursion (IsFileRow tables) tables.files
   pub holds : AllByRecursion (IsHoldRow tables) tables.holds
   pub hold_numbers : AreNumbered (λ row. row.number) 1 tables.holds

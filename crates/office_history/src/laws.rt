@@ -1,6 +1,6 @@
 //! Laws of the office, over the definitions alone.
 
-ghost use Rattle.std.specs.Prelude.{◌≡◌, ◌↔◌, ◌≤ℤ◌, ◌<◌, ◌≢◌, ℕ, ℤ, List, [], ◌∷◌, ◌++◌, Option, Some, None, Ok, Err, true, false, Contains, slice_get, bytes_eq};
+ghost use Rattle.std.specs.Prelude.{◌≡◌, ◌↔◌, ◌≤ℤ◌, ◌<◌, ◌≢◌, ◌+◌, ℕ, ℤ, List, [], ◌∷◌, ◌++◌, length, Option, Some, None, Ok, Err, true, false, Contains, slice_get, bytes_eq};
 ghost use Rattle.std.specs.List.{IsDistinct};
 ghost use denote.Ref.{Bor};
 ghost use Rattle.jiff.specs.Types.{Date};
@@ -28,10 +28,10 @@ ghost use Rattle.office_core.specs.declared.refusal.Refusal.TheVariants.{Held};
 ghost use Rattle.office_core.specs.declared.request.Request.{Request};
 ghost use Rattle.office_core.specs.declared.request.Request.TheVariants.{DefineClass, Deposit as MakeDeposit, DownloadBag, DownloadFile, Audit, Holds, HoldCollection, Release, Dispose};
 ghost use Rattle.office_history.specs.Bags.{bag_of};
-ghost use Rattle.office_history.specs.Histories.{History, Change, Installed, ReleasedHold, Destroyed, Deposit, Hold, OnCollection, with_changes, has_class, has_collection, deposit_numbered, hold_numbered, release_day, covers, live_holds, due};
-ghost use Rattle.office_history.specs.Refusals.{asked_refusals, facts_of, refusal, refusal_of};
+ghost use Rattle.office_history.specs.Histories.{History, Change, Installed, DefinedClass, PlacedHold, ReleasedHold, Destroyed, Deposit, Hold, OnCollection, with_changes, years_of, has_class, has_collection, deposit_numbered, holds, hold_numbered, release_day, covers, live_holds, due};
+ghost use Rattle.office_history.specs.Refusals.{denial_at, asked_refusals, facts_of, refusal, refusal_of};
 ghost use Rattle.office_history.specs.Answers.{answer, audit_report, due_list, change, after};
-ghost use Rattle.office_history.specs.Pictures.{picture};
+ghost use Rattle.office_history.specs.Pictures.{due_rows, picture};
 ghost use Rattle.office_history.specs.RowRanges.{AreInRange};
 ghost use Rattle.office_history.specs.Stocks.{stock, contents, IsKept};
 ghost use Rattle.office_history.specs.Acceptance.{IsChange, IsAllowed, IsThere, IsReleasable, IsDisposable};
@@ -195,6 +195,18 @@ pub fn due_lists_are_disposals()
         ↔ (answer h day caller (Dispose n) ≡ answers.Destroyed n day) }
 {}
 
+/// The due list has exactly the deposits that are kept, that no live hold covers, that have fallen
+/// due by that day, and that the rules let the caller dispose of.
+pub fn what_may_be_destroyed_is_on_the_due_list()
+    ensures listed { (h : History) (day : Date) (caller : List ℕ) (n : ℕ)
+        (may : IsDisposable h day n)
+        → denial_at h caller acts.Dispose may.found.1 ≡ None
+        → Contains (due_list h day caller) n }
+    ensures only { (h : History) (day : Date) (caller : List ℕ) (n : ℕ)
+        → Contains (due_list h day caller) n
+        → (may : IsDisposable h day n) × (denial_at h caller acts.Dispose may.found.1 ≡ None) }
+{}
+
 /// In a legal history each audit that is answered is of the deposit that was asked for, and says
 /// that its bag is valid, of its version, with the counts of what the bag has.
 pub fn audits_are_valid()
@@ -217,8 +229,9 @@ pub fn contents_are_kept_once()
 {}
 
 /// The rows that a legal history gives are in their ranges: one row of the office, of that version;
-/// effects 0 and 1; names, accessions and matters; years from -1 to 200; numbers of days; one
-/// target a hold; what a row speaks of is there; places and numbers 1, 2, 3 and so on.
+/// effects 0 and 1; names, accessions and matters; years from -1 to 200; numbers of days, due days
+/// up to 9999-12-31; counts of live holds up to the limit; one target a hold; what a row speaks of
+/// is there; places and numbers 1, 2, 3 and so on.
 pub fn pictures_are_in_range()
     ensures { (h : History) (version : ℤ) → IsLegal h → AreInRange version (picture version h) }
 {
@@ -270,6 +283,33 @@ pub fn revised_classes_move_due_days()
         → answer h day caller (DefineClass name years) ≡ answers.Class given_name given_years
         → deposit.class ≡ name
         → due (after h day caller (DefineClass name years)) deposit ≡ due_of deposit.closed years }
+{}
+
+/// A class that is given other years, and then the years that it had, leaves the due day of each
+/// deposit as it was, and so the row that is kept of it.
+pub fn a_class_that_gets_its_old_years_back_has_its_old_due_days()
+    ensures days { (h : History) (day later : Date) (name : List ℕ) (other years : Option ℕ)
+        → years_of h name ≡ Some years → (deposit : Deposit)
+        → due (with_changes h (DefinedClass day name other ∷ DefinedClass later name years ∷ []))
+        deposit ≡ due h deposit }
+    ensures rows { (h : History) (day later : Date) (name : List ℕ) (other years : Option ℕ)
+        → years_of h name ≡ Some years
+        → due_rows (with_changes h
+        (DefinedClass day name other ∷ DefinedClass later name years ∷ []))
+        ≡ due_rows h }
+{}
+
+/// A hold that is placed, whatever it names, and then released leaves the live holds of each deposit
+/// as they were, and so the row that is kept of it, with their count.
+pub fn a_hold_and_its_release_leave_the_counts()
+    ensures holds { (h : History) (day later : Date) (hold : Hold) (n : ℕ) (deposit : Deposit)
+        → live_holds (with_changes h
+        (PlacedHold day hold ∷ ReleasedHold later (length (holds h) + 1) ∷ [])) n deposit
+        ≡ live_holds h n deposit }
+    ensures rows { (h : History) (day later : Date) (hold : Hold)
+        → due_rows (with_changes h
+        (PlacedHold day hold ∷ ReleasedHold later (length (holds h) + 1) ∷ []))
+        ≡ due_rows h }
 {}
 
 /// No number is given to two deposits, also where the first was destroyed in between, and none to

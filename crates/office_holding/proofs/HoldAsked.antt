@@ -1,5 +1,5 @@
 -- A hold that is asked for, by its row.
-use Rattle.std.proofs.Common.{◌≡◌, ℕ, List, [], ◌∷◌, Option, Some, None, option_map, refl, sym, ap, ◌∙◌}
+use Rattle.std.proofs.Common.{◌≡◌, ℕ, List, [], ◌∷◌, Option, Some, None, option_map, Result, Ok, Err, refl, sym, ap, ◌∙◌}
 use Rattle.std.proofs.lemmas.Option.{same_Some}
 use Rattle.jiff.specs.Types.{Date}
 use Rattle.jiff.specs.Words.{epoch_day}
@@ -16,9 +16,10 @@ use Rattle.office_history.specs.Histories.{History, Hold, Target, OnDeposit, OnC
 use Rattle.office_history.specs.Pictures.{held_deposit, held_collection, hold_row, deposit_row}
 use Rattle.office_history.specs.Refusals.{of_hold, denial, release_denial, release_denial_of, release_refusals}
 use Rattle.office_asking.proofs.DepositAsked.{there}
-use Rattle.office_holding.specs.Holds.{target_of}
+use Rattle.office_history.specs.Acceptance.{IsReleasable}
+use Rattle.office_holding.specs.Holds.{IsLiveOn, IsReleaseAsked, IsUnless, against_release, target_of}
 
-pub no_hold : (h : History) (k : ℕ) (caller : List ℕ) → None ≡ option_map (hold_row h k) (hold_numbered h k) → Some (NoSuch subjects.Hold) ≡ first_some (of_hold (hold_numbered h k) (release_refusals h caller k))
+pub no_hold : (h : History) (k : ℕ) (caller : List ℕ) → None ≡ option_map (hold_row h k) (hold_numbered h k) → Some (NoSuch subjects.Hold) ≡ against_release h caller k
 no_hold h k caller e = by (hold_numbered h k) e
   where
     by : (o : Option (Date × Hold)) → None ≡ option_map (hold_row h k) o → Some (NoSuch subjects.Hold) ≡ first_some (of_hold o (release_refusals h caller k))
@@ -50,15 +51,34 @@ module _ (h : History) (k : ℕ) (row : HoldRow) (read : Some row ≡ option_map
       by (Some found) is e = (found, is, same_Some _ _ e)
 
   -- what is asked of the row is asked of the hold
-  pub release_asked : (caller : List ℕ) (named : HoldTarget) (denied why : Option Refusal) → shown.held_deposit named ≡ row.deposit → shown.held_collection named ≡ row.collection
+  pub release_asked : (caller : List ℕ) (named : HoldTarget) (denied : Option Refusal) (found : Result HoldRow Refusal) → shown.held_deposit named ≡ row.deposit → shown.held_collection named ≡ row.collection
       → denied ≡ release_denial h caller (target_of named)
-      → ((day : Option Date) → option_map epoch_day day ≡ row.released → why ≡ first_some (denied ∷ option_map Released day ∷ []))
-      → why ≡ first_some (of_hold (hold_numbered h k) (release_refusals h caller k))
-  release_asked caller named denied why d c is first =
-      let row_is = hold_there.2 in
-      let target : target_of named ≡ hold_there.0.1.target =
-      same_target named hold_there.0.1.target (d ∙ ap (λ (r : HoldRow). r.deposit) row_is) (c ∙ ap (λ (r : HoldRow). r.collection) row_is) in
-      let asked = is ∙ ap (release_denial h caller) target in
-      first (release_day h k) (sym (ap (λ (r : HoldRow). r.released) row_is))
-      ∙ ap (λ o. first_some (o ∷ option_map Released (release_day h k) ∷ [])) asked
-      ∙ ap (λ o. first_some (of_hold o (release_refusals h caller k))) (sym hold_there.1)
+      → ((day : Option Date) → option_map epoch_day day ≡ row.released → IsUnless row (first_some (denied ∷ option_map Released day ∷ [])) found)
+      → IsReleaseAsked h caller k found
+  release_asked caller named denied found d c is first = by found (first (release_day h k) (sym (ap (λ (r : HoldRow). r.released) row_is)))
+    where
+      row_is : row ≡ hold_row h k hold_there.0
+      row_is = hold_there.2
+
+      target : target_of named ≡ hold_there.0.1.target
+      target = same_target named hold_there.0.1.target (d ∙ ap (λ (r : HoldRow). r.deposit) row_is) (c ∙ ap (λ (r : HoldRow). r.collection) row_is)
+
+      same : first_some (denied ∷ option_map Released (release_day h k) ∷ []) ≡ against_release h caller k
+      same =
+          ap (λ o. first_some (o ∷ option_map Released (release_day h k) ∷ [])) (is ∙ ap (release_denial h caller) target)
+          ∙ ap (λ o. first_some (of_hold o (release_refusals h caller k))) (sym hold_there.1)
+
+      by : (found : Result HoldRow Refusal) → IsUnless row (first_some (denied ∷ option_map Released (release_day h k) ∷ [])) found → IsReleaseAsked h caller k found
+      by (Ok other) it = (it.0 ∙ same, ap Some it.1 ∙ read)
+      by (Err why) it = it ∙ same
+
+  -- what the row names a live hold is on
+  pub live_on : IsReleasable h k → (named : HoldTarget) → shown.held_deposit named ≡ row.deposit → shown.held_collection named ≡ row.collection → IsLiveOn h k (target_of named)
+  live_on is named d c =
+      let row_is : row ≡ hold_row h k is.found = same_Some _ _ (read ∙ ap (option_map (hold_row h k)) is.there) in
+      record {
+        found = is.found;
+        there = is.there;
+        named = sym (same_target named is.found.1.target (d ∙ ap (λ (r : HoldRow). r.deposit) row_is) (c ∙ ap (λ (r : HoldRow). r.collection) row_is));
+        live = is.live;
+      }

@@ -1,5 +1,7 @@
 pub mod HoldCount
 pub mod HoldPlaces
+pub mod CountTold
+pub mod DuesPlacedOn
 pub mod PlacedTold
 pub mod HoldAsked
 pub mod ReleasedTold

@@ -1,6 +1,7 @@
 //! Holds, and their release, over the tables.
 #![tactic(auto)]
 
+mod counting;
 mod placing;
 mod releasing;
 

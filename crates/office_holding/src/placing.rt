@@ -5,16 +5,18 @@ ghost use Rattle.office_core.specs.FirstOf.{first_some};
 ghost use Rattle.office_core.specs.declared.request.Request.TheVariants as requests;
 ghost use Rattle.office_tables.specs.Faults.{IsFailure};
 ghost use Rattle.office_tables.specs.Calls.{CommitsNothing, Continues};
-ghost use Rattle.office_history.specs.Histories.{PlacedHold, deposit_numbered};
+ghost use Rattle.office_history.specs.Histories.{OnCollection, OnDeposit, PlacedHold, deposit_numbered};
 ghost use Rattle.office_history.specs.Refusals.{collection_denials, collection_hold_refusals, full_of_holds, hold_refusals, of_deposit};
 ghost use Rattle.office_asking.specs.Serving.{Accepts, Decides, Finds};
-ghost use Rattle.office_holding.specs.Holds.{IsNext, IsPlace, target_of};
+ghost use Rattle.office_holding.specs.Holds.{IsNext, IsPlace};
 
+use crate::counting::count_over_deposit;
 use office_asking::{denial, kept_deposit, number_after};
 use office_core::{Action, Answer, Day, Matter, Name, Refusal, Subject};
-use office_tables::{HoldTarget, TableFault, has_collection, last_hold, limits, put_hold};
+use office_tables::{
+    HoldTarget, TableFault, add_holds, has_collection, last_hold, limits, put_hold,
+};
 use sqlite::{Alter, Transaction};
-use std::alloc::Global;
 
 /// The number of the next hold, where the office takes one more.
 fn next_hold<S: Alter>(tx: &mut Transaction<'_, S>) -> Result<Result<u32, Refusal>, TableFault>
@@ -29,12 +31,13 @@ fn next_hold<S: Alter>(tx: &mut Transaction<'_, S>) -> Result<Result<u32, Refusa
     Ok(number_after(last, limits.max_holds))
 }
 
-/// Places a hold of that number, which is to be the next.
-fn place<S: Alter>(
+/// Places a hold on the collection, whose number is to be the next, and counts it over the deposits of
+/// the collection.
+fn place_on_collection<S: Alter>(
     tx: &mut Transaction<'_, S>,
     day: Day,
     number: u32,
-    target: HoldTarget<'_>,
+    collection: &str,
     matter: &str,
 ) -> Result<(), TableFault>
     ensures same_reference { tx.new.conn.ghost_name ≡ tx.old.conn.ghost_name }
@@ -42,14 +45,35 @@ fn place<S: Alter>(
     ensures goes_on { Continues S.Store tx.old.conn.now tx.new.conn.now result }
     ensures failure { IfErr result IsFailure }
     ensures placed { Accepts S.Store tx.old.conn.now tx.new.conn.now result (λ h. IsNext h number)
-        (PlacedHold day (record { target = target_of target.entry; matter = matter.now }) ∷ []) }
+        (PlacedHold day (record { target = OnCollection collection.now; matter = matter.now }) ∷ []) }
 {
-    put_hold(tx, number, target, matter, day.number() as i64)
+    let target = HoldTarget::Collection(collection);
+    put_hold(tx, number, target, matter, day.number() as i64)?;
+    add_holds(tx, collection, 1)
+}
+
+/// Places a hold on the deposit, whose number is to be the next, and counts it over the deposit.
+fn place_on_deposit<S: Alter>(
+    tx: &mut Transaction<'_, S>,
+    day: Day,
+    number: u32,
+    deposit: u32,
+    matter: &str,
+) -> Result<(), TableFault>
+    ensures same_reference { tx.new.conn.ghost_name ≡ tx.old.conn.ghost_name }
+    ensures stays { CommitsNothing S.Store tx.old.conn.now tx.new.conn.now }
+    ensures goes_on { Continues S.Store tx.old.conn.now tx.new.conn.now result }
+    ensures failure { IfErr result IsFailure }
+    ensures placed { Accepts S.Store tx.old.conn.now tx.new.conn.now result (λ h. IsNext h number)
+        (PlacedHold day (record { target = OnDeposit deposit; matter = matter.now }) ∷ []) }
+{
+    let target = HoldTarget::Deposit(deposit);
+    put_hold(tx, number, target, matter, day.number() as i64)?;
+    count_over_deposit(tx, deposit, 1)
 }
 
 /// The refusal where there is no such collection, or the caller may not hold it.
 fn collection_denial<S: Alter>(
-    alloc: Global,
     tx: &mut Transaction<'_, S>,
     caller: &str,
     collection: &str,
@@ -64,12 +88,11 @@ fn collection_denial<S: Alter>(
     if !has_collection(tx, collection)? {
         return Ok(Some(Refusal::NoSuch(Subject::Collection)));
     }
-    denial(alloc, tx, caller, Action::Hold, Some(collection), None)
+    denial(tx, caller, Action::Hold, Some(collection), None)
 }
 
 /// The number of a hold of that collection, where nothing stands against it.
 fn place_for_collection<S: Alter>(
-    alloc: Global,
     tx: &mut Transaction<'_, S>,
     caller: &str,
     collection: &str,
@@ -81,7 +104,7 @@ fn place_for_collection<S: Alter>(
     ensures found { Finds S.Store tx.old.conn.now tx.new.conn.now result (λ h place.
         IsPlace h (collection_hold_refusals h caller.now collection.now) place) }
 {
-    if let Some(why) = collection_denial(alloc, tx, caller, collection)? {
+    if let Some(why) = collection_denial(tx, caller, collection)? {
         return Ok(Err(why));
     }
     next_hold(tx)
@@ -89,7 +112,6 @@ fn place_for_collection<S: Alter>(
 
 /// The number of a hold of the deposit of that number, where nothing stands against it.
 fn place_for_deposit<S: Alter>(
-    alloc: Global,
     tx: &mut Transaction<'_, S>,
     caller: &str,
     number: u32,
@@ -101,7 +123,7 @@ fn place_for_deposit<S: Alter>(
     ensures found { Finds S.Store tx.old.conn.now tx.new.conn.now result (λ h place.
         IsPlace h (of_deposit (deposit_numbered h number) (hold_refusals h caller.now number)) place) }
 {
-    match kept_deposit(alloc, tx, caller, Action::Hold, number)? {
+    match kept_deposit(tx, caller, Action::Hold, number)? {
         Ok(_) => next_hold(tx),
         Err(why) => Ok(Err(why)),
     }
@@ -111,7 +133,6 @@ fn place_for_deposit<S: Alter>(
 ///
 /// Fails with `Memory` or `Store`.
 pub fn hold_collection<S: Alter>(
-    alloc: Global,
     tx: &mut Transaction<'_, S>,
     day: Day,
     caller: &str,
@@ -124,10 +145,9 @@ pub fn hold_collection<S: Alter>(
     ensures failure { IfErr result IsFailure }
     ensures decides { Decides S.Store tx.old.conn.now tx.new.conn.now result day caller.now (requests.HoldCollection name.now matter.now) }
 {
-    match place_for_collection(alloc, tx, caller, name.as_str())? {
+    match place_for_collection(tx, caller, name.as_str())? {
         Ok(hold) => {
-            let target = HoldTarget::Collection(name.as_str());
-            place(tx, day, hold, target, matter.as_str())?;
+            place_on_collection(tx, day, hold, name.as_str(), matter.as_str())?;
             Ok(Answer::HoldPlaced { hold })
         }
         Err(why) => Ok(Answer::Refused(why)),
@@ -138,7 +158,6 @@ pub fn hold_collection<S: Alter>(
 ///
 /// Fails with `Memory` or `Store`.
 pub fn hold_deposit<S: Alter>(
-    alloc: Global,
     tx: &mut Transaction<'_, S>,
     day: Day,
     caller: &str,
@@ -151,10 +170,9 @@ pub fn hold_deposit<S: Alter>(
     ensures failure { IfErr result IsFailure }
     ensures decides { Decides S.Store tx.old.conn.now tx.new.conn.now result day caller.now (requests.HoldDeposit number matter.now) }
 {
-    match place_for_deposit(alloc, tx, caller, number)? {
+    match place_for_deposit(tx, caller, number)? {
         Ok(hold) => {
-            let target = HoldTarget::Deposit(number);
-            place(tx, day, hold, target, matter.as_str())?;
+            place_on_deposit(tx, day, hold, number, matter.as_str())?;
             Ok(Answer::HoldPlaced { hold })
         }
         Err(why) => Ok(Answer::Refused(why)),

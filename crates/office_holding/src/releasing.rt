@@ -1,6 +1,6 @@
 //! Holds that are released.
 
-ghost use Rattle.std.specs.Prelude.{◌≡◌, IfErr, IfOk, Option, None, option_map, [], ◌∷◌};
+ghost use Rattle.std.specs.Prelude.{◌≡◌, IfErr, IfOk, Option, option_map, [], ◌∷◌};
 ghost use Rattle.jiff.specs.Words.{epoch_day};
 ghost use Rattle.office_core.specs.FirstOf.{first_some};
 ghost use Rattle.office_core.specs.declared.refusal.Refusal.TheVariants.{Released};
@@ -8,15 +8,16 @@ ghost use Rattle.office_core.specs.declared.request.Request.TheVariants as reque
 ghost use Rattle.office_tables.specs.Faults.{IsFailure};
 ghost use Rattle.office_tables.specs.Calls.{CommitsNothing, Continues};
 ghost use Rattle.office_tables.specs.ShownHolds.{held_collection, held_deposit};
-ghost use Rattle.office_history.specs.Histories.{OnCollection, OnDeposit, ReleasedHold, hold_numbered, release_day};
-ghost use Rattle.office_history.specs.Refusals.{of_hold, release_denial, release_refusals};
+ghost use Rattle.office_history.specs.Histories.{OnCollection, OnDeposit, ReleasedHold};
+ghost use Rattle.office_history.specs.Refusals.{release_denial};
 ghost use Rattle.office_asking.specs.Serving.{Accepts, Decides, Finds};
-ghost use Rattle.office_holding.specs.Holds.{target_of};
+ghost use Rattle.office_holding.specs.Holds.{IsLiveOn, IsReleaseAsked, IsUnless, target_of};
 
+use crate::counting::count_over_deposit;
 use office_asking::{denial, hold_in, optional_day_numbered};
 use office_core::{Action, Answer, Day, Refusal, Subject};
 use office_tables::{
-    HoldRow, HoldTarget, TableFault, deposit_row, end_hold, has_collection, hold_row,
+    HoldRow, HoldTarget, TableFault, add_holds, deposit_row, end_hold, has_collection, hold_row,
 };
 use sqlite::{Alter, Transaction};
 use std::alloc::Global;
@@ -38,7 +39,6 @@ fn named_in(hold: &HoldRow) -> Result<HoldTarget<'_>, TableFault>
 /// The refusal where the caller may not release a hold of the deposit of that number, kept or
 /// destroyed.
 fn deposit_release_denial<S: Alter>(
-    alloc: Global,
     tx: &mut Transaction<'_, S>,
     caller: &str,
     number: u32,
@@ -54,7 +54,6 @@ fn deposit_release_denial<S: Alter>(
         return Err(TableFault::Store);
     };
     denial(
-        alloc,
         tx,
         caller,
         Action::Release,
@@ -65,7 +64,6 @@ fn deposit_release_denial<S: Alter>(
 
 /// The refusal where the caller may not release a hold of the collection of that name.
 fn collection_release_denial<S: Alter>(
-    alloc: Global,
     tx: &mut Transaction<'_, S>,
     caller: &str,
     collection: &str,
@@ -80,12 +78,11 @@ fn collection_release_denial<S: Alter>(
     if !has_collection(tx, collection)? {
         return Err(TableFault::Store);
     }
-    denial(alloc, tx, caller, Action::Release, Some(collection), None)
+    denial(tx, caller, Action::Release, Some(collection), None)
 }
 
 /// The refusal where the caller may not release a hold of what is named.
 fn release_denial<S: Alter>(
-    alloc: Global,
     tx: &mut Transaction<'_, S>,
     caller: &str,
     target: HoldTarget<'_>,
@@ -98,72 +95,106 @@ fn release_denial<S: Alter>(
         why ≡ release_denial h caller.now (target_of target.entry)) }
 {
     match target {
-        HoldTarget::Deposit(number) => deposit_release_denial(alloc, tx, caller, number),
-        HoldTarget::Collection(name) => collection_release_denial(alloc, tx, caller, name),
+        HoldTarget::Deposit(number) => deposit_release_denial(tx, caller, number),
+        HoldTarget::Collection(name) => collection_release_denial(tx, caller, name),
     }
 }
 
-/// The refusal of a release where the hold was released.
-fn released_refusal(released: Option<Day>) -> Option<Refusal>
-    ensures { result ≡ option_map Released released }
-{
-    match released {
-        Some(day) => Some(Refusal::Released(day)),
-        None => None,
-    }
-}
-
-/// The refusal of the release of the hold of that row that stands first: that the rules deny it, or that
-/// it was released. Where the rules allow it all of the row is read, so that no hold is released that
-/// isn't one.
-fn denied_or_released(
+/// The row of a hold, or the refusal of its release that stands first: that the rules deny it, or that it
+/// was released. Where the rules allow it all of the row is read, so that no hold is released that isn't
+/// one.
+fn unless_refused(
     alloc: Global,
-    hold: &HoldRow,
+    hold: HoldRow,
     denied: Option<Refusal>,
-) -> Result<Option<Refusal>, TableFault>
+) -> Result<Result<HoldRow, Refusal>, TableFault>
     ensures failure { IfErr result IsFailure }
-    ensures first { IfOk result (λ why. (day : Option Day) → option_map epoch_day day ≡ hold.now.released
-        → why ≡ first_some (denied ∷ option_map Released day ∷ [])) }
+    ensures first { IfOk result (λ found. (day : Option Day) → option_map epoch_day day ≡ hold.released
+        → IsUnless hold (first_some (denied ∷ option_map Released day ∷ [])) found) }
 {
     if let Some(why) = denied {
-        return Ok(Some(why));
+        return Ok(Err(why));
     }
-    hold_in(alloc, hold)?;
-    let released = optional_day_numbered(hold.released)?;
-    Ok(released_refusal(released))
+    hold_in(alloc, &hold)?;
+    match optional_day_numbered(hold.released)? {
+        Some(day) => Ok(Err(Refusal::Released(day))),
+        None => Ok(Ok(hold)),
+    }
 }
 
-/// Why the hold of that number may not be released, if something stands against it.
-fn release_refusal<S: Alter>(
+/// The row of the hold of that number, or the refusal of its release that stands first.
+fn releasable_hold<S: Alter>(
     alloc: Global,
     tx: &mut Transaction<'_, S>,
     caller: &str,
     number: u32,
-) -> Result<Option<Refusal>, TableFault>
+) -> Result<Result<HoldRow, Refusal>, TableFault>
     ensures same_reference { tx.new.conn.ghost_name ≡ tx.old.conn.ghost_name }
     ensures stays { CommitsNothing S.Store tx.old.conn.now tx.new.conn.now }
     ensures goes_on { Continues S.Store tx.old.conn.now tx.new.conn.now result }
     ensures failure { IfErr result IsFailure }
-    ensures refused { Finds S.Store tx.old.conn.now tx.new.conn.now result (λ h why.
-        why ≡ first_some (of_hold (hold_numbered h number) (release_refusals h caller.now number))) }
+    ensures asked { Finds S.Store tx.old.conn.now tx.new.conn.now result (λ h found. IsReleaseAsked h caller.now number found) }
 {
     let Some(hold) = hold_row(tx, number)? else {
-        return Ok(Some(Refusal::NoSuch(Subject::Hold)));
+        return Ok(Err(Refusal::NoSuch(Subject::Hold)));
     };
     let target = named_in(&hold)?;
-    let denied = release_denial(alloc, tx, caller, target)?;
-    denied_or_released(alloc, &hold, denied)
+    let denied = release_denial(tx, caller, target)?;
+    unless_refused(alloc, hold, denied)
 }
 
-/// Ends the hold of that number, which is live.
-fn end<S: Alter>(tx: &mut Transaction<'_, S>, day: Day, number: u32) -> Result<(), TableFault>
+/// Ends the live hold of that number, which is on the collection, and counts it no more over the
+/// deposits of the collection.
+fn end_collection<S: Alter>(
+    tx: &mut Transaction<'_, S>,
+    day: Day,
+    number: u32,
+    collection: &str,
+) -> Result<(), TableFault>
     ensures same_reference { tx.new.conn.ghost_name ≡ tx.old.conn.ghost_name }
     ensures stays { CommitsNothing S.Store tx.old.conn.now tx.new.conn.now }
     ensures goes_on { Continues S.Store tx.old.conn.now tx.new.conn.now result }
     ensures failure { IfErr result IsFailure }
-    ensures ended { Accepts S.Store tx.old.conn.now tx.new.conn.now result (λ h. release_day h number ≡ None) (ReleasedHold day number ∷ []) }
+    ensures ended { Accepts S.Store tx.old.conn.now tx.new.conn.now result (λ h. IsLiveOn h number (OnCollection collection.now)) (ReleasedHold day number ∷ []) }
 {
-    end_hold(tx, number, day.number() as i64)
+    end_hold(tx, number, day.number() as i64)?;
+    add_holds(tx, collection, -1)
+}
+
+/// Ends the live hold of that number, which is on the deposit, and counts it no more over the deposit.
+fn end_deposit<S: Alter>(
+    tx: &mut Transaction<'_, S>,
+    day: Day,
+    number: u32,
+    deposit: u32,
+) -> Result<(), TableFault>
+    ensures same_reference { tx.new.conn.ghost_name ≡ tx.old.conn.ghost_name }
+    ensures stays { CommitsNothing S.Store tx.old.conn.now tx.new.conn.now }
+    ensures goes_on { Continues S.Store tx.old.conn.now tx.new.conn.now result }
+    ensures failure { IfErr result IsFailure }
+    ensures ended { Accepts S.Store tx.old.conn.now tx.new.conn.now result (λ h. IsLiveOn h number (OnDeposit deposit)) (ReleasedHold day number ∷ []) }
+{
+    end_hold(tx, number, day.number() as i64)?;
+    count_over_deposit(tx, deposit, -1)
+}
+
+/// Ends the live hold of that number, which is on what is named.
+fn end<S: Alter>(
+    tx: &mut Transaction<'_, S>,
+    day: Day,
+    number: u32,
+    target: HoldTarget<'_>,
+) -> Result<(), TableFault>
+    ensures same_reference { tx.new.conn.ghost_name ≡ tx.old.conn.ghost_name }
+    ensures stays { CommitsNothing S.Store tx.old.conn.now tx.new.conn.now }
+    ensures goes_on { Continues S.Store tx.old.conn.now tx.new.conn.now result }
+    ensures failure { IfErr result IsFailure }
+    ensures ended { Accepts S.Store tx.old.conn.now tx.new.conn.now result (λ h. IsLiveOn h number (target_of target.entry)) (ReleasedHold day number ∷ []) }
+{
+    match target {
+        HoldTarget::Deposit(deposit) => end_deposit(tx, day, number, deposit),
+        HoldTarget::Collection(name) => end_collection(tx, day, number, name),
+    }
 }
 
 /// Releases a hold.
@@ -182,9 +213,12 @@ pub fn release<S: Alter>(
     ensures failure { IfErr result IsFailure }
     ensures decides { Decides S.Store tx.old.conn.now tx.new.conn.now result day caller.now (requests.Release hold) }
 {
-    if let Some(why) = release_refusal(alloc, tx, caller, hold)? {
-        return Ok(Answer::Refused(why));
+    match releasable_hold(alloc, tx, caller, hold)? {
+        Ok(row) => {
+            let target = named_in(&row)?;
+            end(tx, day, hold, target)?;
+            Ok(Answer::HoldReleased { hold, day })
+        }
+        Err(why) => Ok(Answer::Refused(why)),
     }
-    end(tx, day, hold)?;
-    Ok(Answer::HoldReleased { hold, day })
 }

@@ -1,5 +1,5 @@
 -- The rows of an office after a deposit was made.
-use Rattle.std.proofs.Common.{◌≡◌, ℕ, zero, suc, ◌+◌, ◌<◌, ℤ, pos, Bool, true, false, List, [], ◌∷◌, ◌++◌, length, map, filter, Some, None, Less, slice_get, is_none, refl, sym, ap, subst, ◌∙◌, arith, cond, append-nil, append_assoc, add-one}
+use Rattle.std.proofs.Common.{◌≡◌, ℕ, zero, suc, ◌+◌, ◌<◌, ℤ, pos, Bool, true, false, List, [], ◌∷◌, ◌++◌, length, map, filter, Option, Some, None, Less, slice_get, is_none, refl, sym, ap, subst, ◌∙◌, arith, cond, append-nil, append_assoc, add-one}
 use Rattle.std.specs.List.{flat_map, range_with_len, AllByRecursion}
 use Rattle.std.specs.Option.{option_map_or}
 use Rattle.std.specs.Ordering.{int_cmp}
@@ -7,24 +7,26 @@ use Rattle.std.proofs.lemmas.List.{at_drop_more, length_push}
 use Rattle.std.proofs.Common.{drop, get_or, Bor}
 use Rattle.bag_text.specs.TransferReading as pairs
 use Rattle.office_tables.specs.Tables.{IsOffice, Becomes, tables_of}
+use Rattle.office_tables.specs.Contents.{KeepsOnce}
 use Rattle.std.proofs.lemmas.List.Elements.{filter-append}
 use Rattle.std.proofs.lemmas.List.Concat.{flat_map-append}
 use Rattle.jiff.specs.Types.{Date}
 use Rattle.sqlite.specs.Effect.{Database}
 use Rattle.bag_text.specs.TransferForm.{File}
 use Rattle.office_rows.proofs.Order.{put_last}
-use Rattle.office_rows.specs.Rows.{Tables, DepositRow, FileRow, put_by, with_deposit, with_file, this_version}
+use Rattle.office_rows.specs.Rows.{Tables, DepositRow, FileRow, put_by, with_deposit, with_due, with_holds, with_file, this_version}
 use Rattle.office_history.specs.Lists.{item_numbered, numbers}
-use Rattle.office_history.specs.Histories.{History, Change, Deposited, Deposit, with_changes, deposits, destruction_day}
-use Rattle.office_history.specs.Pictures.{row_by_gone, deposit_row, deposit_rows, file_row, file_rows, picture}
+use Rattle.office_history.specs.Histories.{History, Change, Deposited, Deposit, with_changes, deposits, destruction_day, due, live_holds}
+use Rattle.office_history.specs.Pictures.{row_by_gone, deposit_row, deposit_rows, due_number, file_row, file_rows, picture}
 use Rattle.office_history.specs.Runs.{IsLegal}
 use Rattle.office_history.proofs.LegalReadings.{none_gone}
 use Rattle.bag_text.proofs.ElementLemmas.{slice_get_last}
 use Rattle.office_asking.specs.Pictures.{Pictures}
 use Rattle.office_history.proofs.HistoryLemmas.{deposits_grown}
-use Rattle.office_keeping.specs.Depositing.{with_files}
+use Rattle.office_keeping.specs.Depositing.{with_files, with_kept}
 use Rattle.office_asking.proofs.NumberedRows.{rows_from, rows_append, range_last, below, none_next}
 use Rattle.office_asking.proofs.DepositTold.{deposit_rows_are}
+use Rattle.office_asking.proofs.DuesDeposited.{dues_deposited}
 use Rattle.office_asking.proofs.Unchanged.{same_classes, same_collections, same_gone, same_hold_rows, pictured_by}
 
 pub files_added : (n : ℕ) (files : List File) (t : Tables) → with_files (pos n) files t ≡ record t { files = t.files ++ map (file_row n) files }
@@ -102,11 +104,11 @@ module _ (h : History) (day : Date) (d : Deposit) (not_gone : destruction_day h 
           ∙ ap (λ o. map (file_row next) (option_map_or (λ (f : Date × Deposit). f.1.bag) o []) ++ []) there
           ∙ append-nil (map (file_row next) d.bag)
 
-  pub deposited_told : with_files (pos next) d.bag (with_deposit new_row (picture this_version h)) ≡ picture this_version longer
+  pub deposited_told : with_files (pos next) d.bag (with_kept new_row (due_number (due h d)) (pos (length (live_holds h next d))) (picture this_version h)) ≡ picture this_version longer
   deposited_told =
-      files_added next d.bag (with_deposit new_row (picture this_version h))
+      files_added next d.bag (with_kept new_row (due_number (due h d)) (pos (length (live_holds h next d))) (picture this_version h))
       ∙ pictured_by h more refl (sym (same_classes h more refl (λ name. refl))) (sym (same_collections h more refl))
-      deposits_told files_told (sym (same_hold_rows h more refl (λ k. refl)))
+      deposits_told (dues_deposited h day d) files_told (sym (same_hold_rows h more refl (λ k. refl)))
 
 -- one file after another
 pub next_file : (n : ℤ) (fs : List (Bor (List ℕ) × Bor (List ℕ))) (i : ℕ) (d : Bor (List ℕ) × Bor (List ℕ)) → i < length fs → (t : Tables) (now new : Database)
@@ -116,15 +118,25 @@ next_file n fs i d low t now new added there =
     let here : with_files n (pairs.files_of (drop i fs)) (tables_of now) ≡ with_files n (pairs.files_of (get_or fs i d ∷ drop (i + 1) fs)) (tables_of now) = at_drop_more (λ more. with_files n (pairs.files_of more) (tables_of now)) fs i d low in
     (added.office, ap (with_files n (pairs.files_of (drop (i + 1) fs))) added.are ∙ sym here ∙ there)
 
--- a deposit's row and then its files
-pub kept_deposit : (h : History) → IsLegal h → (day : Date) (d : Deposit) (n : ℕ) (old mid new : Database) → n ≡ length (deposits h) + 1 → Pictures h old
-    → Becomes mid (with_deposit (row_by_gone n None (day, d)) (tables_of old)) → Becomes new (with_files (pos n) d.bag (tables_of mid)) → Pictures (with_changes h (Deposited day d ∷ [])) new
-kept_deposit h legal day d n old mid new next_is pictured put became =
+-- a deposit's row, its due day and its count of holds, one after another
+pub row_put : (row : DepositRow) (due : Option ℤ) (holds : ℤ) (old first second new : Database) → Becomes first (with_deposit row (tables_of old)) → Becomes second (with_due row.number due (tables_of first))
+    → Becomes new (with_holds row.number holds (tables_of second)) → Becomes new (with_kept row due holds (tables_of old))
+row_put row due holds old first second new put set counted = record {
+  office = counted.office;
+  are = counted.are ∙ ap (with_holds row.number holds) (set.are ∙ ap (with_due row.number due) put.are);
+}
+
+-- a deposit's row with what is kept beside it, and then its files
+pub kept_deposit : (h : History) → IsLegal h → (day : Date) (d : Deposit) (n : ℕ) (due_is : Option ℤ) (holds : ℤ) (old mid new : Database) → n ≡ length (deposits h) + 1
+    → due_is ≡ due_number (due h d) → holds ≡ pos (length (live_holds h n d)) → Pictures h old
+    → Becomes mid (with_kept (row_by_gone n None (day, d)) due_is holds (tables_of old)) → Becomes new (with_files (pos n) d.bag (tables_of mid)) → KeepsOnce new → Pictures (with_changes h (Deposited day d ∷ [])) new
+kept_deposit h legal day d n due_is holds old mid new next_is due_told holds_told pictured put became once =
     let at : 1 + length (deposits h) ≡ n = let one : 1 + length (deposits h) ≡ length (deposits h) + 1 = omega arith in one ∙ sym next_is in
     let told = deposited_told h day d (none_gone h legal (1 + length (deposits h)) (none_next (deposits h))) in
-    let here : with_files (pos n) d.bag (with_deposit (row_by_gone n None (day, d)) (picture this_version h)) ≡ picture this_version (with_changes h (Deposited day d ∷ [])) =
-    subst (λ k. with_files (pos k) d.bag (with_deposit (row_by_gone k None (day, d)) (picture this_version h)) ≡ picture this_version (with_changes h (Deposited day d ∷ []))) at told in
+    let here : with_files (pos n) d.bag (with_kept (row_by_gone n None (day, d)) (due_number (due h d)) (pos (length (live_holds h n d))) (picture this_version h)) ≡ picture this_version (with_changes h (Deposited day d ∷ [])) =
+    subst (λ k. with_files (pos k) d.bag (with_kept (row_by_gone k None (day, d)) (due_number (due h d)) (pos (length (live_holds h k d))) (picture this_version h)) ≡ picture this_version (with_changes h (Deposited day d ∷ []))) at told in
     record {
       office = became.office;
-      are = became.are ∙ ap (with_files (pos n) d.bag) (put.are ∙ ap (with_deposit (row_by_gone n None (day, d))) pictured.are) ∙ here;
+      are = became.are ∙ ap (with_files (pos n) d.bag) (put.are ∙ (λ i. with_kept (row_by_gone n None (day, d)) (due_told i) (holds_told i) (pictured.are i))) ∙ here;
+      once = once;
     }

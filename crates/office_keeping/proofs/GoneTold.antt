@@ -8,6 +8,7 @@ use Rattle.jiff.specs.Words.{epoch_day}
 use Rattle.bag_text.specs.TransferForm.{File}
 use Rattle.office_rows.specs.Rows.{DepositRow, FileRow, is_deposit, is_file_of, with_gone, without_files, this_version}
 use Rattle.office_tables.specs.Tables.{Becomes, tables_of}
+use Rattle.office_tables.specs.Contents.{KeepsOnce}
 use Rattle.sqlite.specs.Effect.{Database}
 use Rattle.office_asking.specs.Pictures.{Pictures}
 use Rattle.office_history.specs.Lists.{item_numbered, numbers}
@@ -18,7 +19,7 @@ use Rattle.office_history.proofs.Alike.{gone_grown, or_none}
 use Rattle.office_asking.proofs.FileRows.{file_rows_at, filter_gathered}
 use Rattle.office_asking.proofs.NumberedRows.{rows_from, rows_changed, itself, another, mark}
 use Rattle.office_asking.proofs.DepositTold.{deposit_rows_are}
-use Rattle.office_asking.proofs.Unchanged.{same_classes, same_collections, same_deposits, same_hold_rows, pictured_by}
+use Rattle.office_asking.proofs.Unchanged.{same_due_rows, same_classes, same_collections, same_deposits, same_hold_rows, pictured_by}
 
 module _ (h : History) (day : Date) (n : ℕ) (kept_before : destruction_day h n ≡ None) where
   abbrev more : List Change
@@ -94,11 +95,12 @@ module _ (h : History) (day : Date) (n : ℕ) (kept_before : destruction_day h n
   pub gone_told : without_files (pos n) (with_gone (pos n) (epoch_day day) (picture this_version h)) ≡ picture this_version longer
   gone_told =
       pictured_by h more refl (sym (same_classes h more refl (λ name. refl))) (sym (same_collections h more refl))
-      deposits_told files_told (sym (same_hold_rows h more refl (λ k. refl)))
+      deposits_told (sym (same_due_rows h more refl (λ name. refl) refl (λ k. refl))) files_told (sym (same_hold_rows h more refl (λ k. refl)))
 
   -- so do the two changes of the tables
-  pub destroyed : (old mid new : Database) → Pictures h old → Becomes mid (with_gone (pos n) (epoch_day day) (tables_of old)) → Becomes new (without_files (pos n) (tables_of mid)) → Pictures longer new
-  destroyed old mid new pictured marked became = record {
+  pub destroyed : (old mid new : Database) → Pictures h old → Becomes mid (with_gone (pos n) (epoch_day day) (tables_of old)) → Becomes new (without_files (pos n) (tables_of mid)) → KeepsOnce new → Pictures longer new
+  destroyed old mid new pictured marked became once = record {
     office = became.office;
     are = became.are ∙ ap (without_files (pos n)) (marked.are ∙ ap (with_gone (pos n) (epoch_day day)) pictured.are) ∙ gone_told;
+    once = once;
   }

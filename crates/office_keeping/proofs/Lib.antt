@@ -1,3 +1,4 @@
+pub mod BothOk
 pub mod GoneTold
 pub mod AccessionTold
 pub mod Placing

@@ -1,10 +1,10 @@
--- What is asked before a bag is kept, and its files, which are added one after another.
+-- What is asked before a bag is kept; its deposit's row, with what is kept beside it; and its files, which are added one after another.
 use Rattle.std.specs.Prelude.{◌≡◌, ℕ, ◌+◌, ℤ, List, [], ◌∷◌, ◌++◌, length, Option, None, Some, Result, Ok, Err}
 use Rattle.jiff.specs.Types.{Date}
 use Rattle.bag_text.specs.TransferForm.{File}
 use Rattle.office_core.specs.FirstOf.{first_some}
 use Rattle.office_core.specs.declared.refusal.Refusal.{Refusal}
-use Rattle.office_rows.specs.Rows.{Tables, with_file}
+use Rattle.office_rows.specs.Rows.{Tables, DepositRow, with_deposit, with_due, with_holds, with_file}
 use Rattle.office_history.specs.Histories.{History, deposits}
 use Rattle.office_history.specs.Bags.{bag_of}
 use Rattle.office_history.specs.Refusals.{place_refusals, taken_refusal, closed_ahead_refusal}
@@ -25,6 +25,10 @@ pub record IsNext (h : History) (text : List ℕ) (these : List (Option Refusal)
 abbrev pub IsAskedFor : History → List ℕ → List (Option Refusal) → Result NewBag Refusal → Type 0
 IsAskedFor h text these (Ok new) = IsNext h text these new
 IsAskedFor h text these (Err why) = Some why ≡ first_some these
+
+-- the deposit is in its place by number; it falls due on that day or never, and so many live holds cover it
+abbrev pub with_kept : DepositRow → Option ℤ → ℤ → Tables → Tables
+with_kept d due holds t = with_holds d.number holds (with_due d.number due (with_deposit d t))
 
 -- the deposit of that number has these files too
 abbrev pub with_files : ℤ → List File → Tables → Tables

@@ -24,7 +24,6 @@ use std::alloc::Global;
 /// The refusal of the place that stands first, if one stands: no such collection, no such class, or
 /// the caller may not deposit there.
 fn place_refusal<S: Alter>(
-    alloc: Global,
     tx: &mut Transaction<'_, S>,
     caller: &str,
     collection: &str,
@@ -42,14 +41,7 @@ fn place_refusal<S: Alter>(
     if class_of(tx, class)?.is_none() {
         return Ok(Some(Refusal::NoSuch(Subject::Class)));
     }
-    denial(
-        alloc,
-        tx,
-        caller,
-        Action::Deposit,
-        Some(collection),
-        Some(class),
-    )
+    denial(tx, caller, Action::Deposit, Some(collection), Some(class))
 }
 
 /// The refusal where a deposit, kept or destroyed, has the accession.
@@ -81,7 +73,6 @@ fn closed_ahead(day: Day, closed: Day) -> Option<Refusal>
 
 /// The refusal that stands first before the bag is looked at, if one stands.
 fn refusal_before_the_bag<S: Alter>(
-    alloc: Global,
     tx: &mut Transaction<'_, S>,
     day: Day,
     caller: &str,
@@ -97,7 +88,7 @@ fn refusal_before_the_bag<S: Alter>(
     ensures refusal { Finds S.Store tx.old.conn.now tx.new.conn.now result (λ h why.
         why ≡ first_some (refusals_before_the_bag h day caller.now collection.now class.now accession.now closed)) }
 {
-    if let Some(why) = place_refusal(alloc, tx, caller, collection, class)? {
+    if let Some(why) = place_refusal(tx, caller, collection, class)? {
         return Ok(Some(why));
     }
     if let Some(why) = taken_refusal(tx, accession)? {
@@ -187,7 +178,7 @@ fn new_bag<'a, S: Alter>(
         IsAskedFor h text.entry.now (refusals.refusals h day caller.now (requests.Deposit collection.now class.now accession.now closed text.entry)) asked) }
 {
     if let Some(why) = refusal_before_the_bag(
-        alloc, tx, day, caller, collection, class, accession, closed,
+        tx, day, caller, collection, class, accession, closed,
     )? {
         return Ok(Err(why));
     }
@@ -227,7 +218,7 @@ pub fn deposit<S: Alter>(
         Err(why) => return Ok(Answer::Refused(why)),
     };
     keep(
-        tx, day, new.number, collection, class, accession, closed, &new.bag,
+        alloc, tx, day, new.number, collection, class, accession, closed, &new.bag,
     )?;
     Ok(Answer::Deposited {
         deposit: new.number,

@@ -1,19 +1,24 @@
-//! A bag that is kept: its deposit's row, and its files.
+//! A bag that is kept: its deposit's row with what is kept beside it, and its files.
 
 ghost use Rattle.std.specs.Prelude.{◌≡◌, IfErr, IfOk, [], ◌∷◌, ◌+◌, length, pos};
 ghost use Rattle.bag_text.specs.TransferReading.{files_of};
 ghost use Rattle.office_rows.specs.Rows.{with_file};
 ghost use Rattle.office_tables.specs.Faults.{IsFailure};
 ghost use Rattle.office_tables.specs.Calls.{CommitsNothing, Continues, ContinuesInTurn, Writes};
-ghost use Rattle.office_history.specs.Histories.{Deposited, deposits};
-ghost use Rattle.office_asking.specs.Serving.{Accepts};
-ghost use Rattle.office_keeping.specs.Depositing.{with_files};
+ghost use Rattle.office_tables.specs.Contents.{LeavesOnce};
+ghost use Rattle.office_tables.specs.Deposits.{added_row};
+ghost use Rattle.office_core.specs.Retention.{due_number};
+ghost use Rattle.office_history.specs.Histories.{Deposit, Deposited, deposits, due, live_holds};
+ghost use Rattle.office_asking.specs.Serving.{Accepts, Finds};
+ghost use Rattle.office_keeping.specs.Depositing.{with_files, with_kept};
 
 use bag_check::count_payload;
 use bag_text::BagSet;
+use office_asking::{due_day, live_count};
 use office_core::Day;
-use office_tables::{NewDeposit, TableFault, put_deposit, put_file};
+use office_tables::{NewDeposit, TableFault, put_deposit, put_file, set_due, set_holds};
 use sqlite::{Alter, Transaction};
+use std::alloc::Global;
 
 /// Adds a file of a bag to the deposit of that number.
 fn add_file<S: Alter>(
@@ -26,6 +31,7 @@ fn add_file<S: Alter>(
     ensures goes_on { Continues S.Store tx.old.conn.now tx.new.conn.now result }
     ensures failure { IfErr result IsFailure }
     ensures becomes { Writes S.Store tx.old.conn.now tx.new.conn.now result (with_file (record { deposit = pos number; path = file.now.0.now; content = file.now.1.now })) }
+    ensures once { LeavesOnce S.Store tx.old.conn.now tx.new.conn.now result }
 {
     put_file(tx, number, file.0, file.1)
 }
@@ -41,6 +47,7 @@ fn add_files<S: Alter>(
     ensures goes_on { ContinuesInTurn S.Store tx.old.conn.now tx.new.conn.now result }
     ensures failure { IfErr result IsFailure }
     ensures becomes { Writes S.Store tx.old.conn.now tx.new.conn.now result (with_files (pos number) (files_of files.now)) }
+    ensures once { LeavesOnce S.Store tx.old.conn.now tx.new.conn.now result }
 {
     for file in files {
         add_file(tx, number, file)?;
@@ -59,10 +66,65 @@ fn row_count(count: usize) -> Result<i64, TableFault>
     }
 }
 
+/// What is kept of a deposit beside its row.
+#[derive(Clone, Copy)]
+struct Beside {
+    /// The number of the day from which it may be destroyed; `None` where it is kept for good.
+    due: Option<i64>,
+    /// How many live holds cover it.
+    holds: i64,
+}
+
+/// What is to be kept beside the row of the deposit that gets that number.
+fn beside_row<S: Alter>(
+    alloc: Global,
+    tx: &mut Transaction<'_, S>,
+    number: u32,
+    collection: &str,
+    class: &str,
+    closed: Day,
+) -> Result<Beside, TableFault>
+    ensures same_reference { tx.new.conn.ghost_name ≡ tx.old.conn.ghost_name }
+    ensures stays { CommitsNothing S.Store tx.old.conn.now tx.new.conn.now }
+    ensures goes_on { Continues S.Store tx.old.conn.now tx.new.conn.now result }
+    ensures failure { IfErr result IsFailure }
+    ensures due { Finds S.Store tx.old.conn.now tx.new.conn.now result (λ h beside.
+        (deposit : Deposit) → deposit.class ≡ class.now → deposit.closed ≡ closed → beside.due ≡ due_number (due h deposit)) }
+    ensures holds { Finds S.Store tx.old.conn.now tx.new.conn.now result (λ h beside.
+        (deposit : Deposit) → deposit.collection ≡ collection.now → beside.holds ≡ pos (length (live_holds h number deposit))) }
+{
+    let due = due_day(tx, class, closed)?;
+    let holds = live_count(alloc, tx, number, collection)?;
+    Ok(Beside {
+        due: due.number(),
+        holds,
+    })
+}
+
+/// Puts the row of a deposit, and what is kept beside it.
+fn put_row<S: Alter>(
+    tx: &mut Transaction<'_, S>,
+    deposit: NewDeposit<'_>,
+    beside: Beside,
+) -> Result<(), TableFault>
+    ensures same_reference { tx.new.conn.ghost_name ≡ tx.old.conn.ghost_name }
+    ensures stays { CommitsNothing S.Store tx.old.conn.now tx.new.conn.now }
+    ensures goes_on { Continues S.Store tx.old.conn.now tx.new.conn.now result }
+    ensures failure { IfErr result IsFailure }
+    ensures becomes { Writes S.Store tx.old.conn.now tx.new.conn.now result (with_kept (added_row deposit.entry) beside.due beside.holds) }
+    ensures once { LeavesOnce S.Store tx.old.conn.now tx.new.conn.now result }
+{
+    let number = deposit.number;
+    put_deposit(tx, deposit)?;
+    set_due(tx, number, beside.due)?;
+    set_holds(tx, number, beside.holds)
+}
+
 /// Keeps a bag as the deposit of that number, which is to be the next.
 ///
 /// Fails with `Memory` or `Store`.
 pub(crate) fn keep<S: Alter>(
+    alloc: Global,
     tx: &mut Transaction<'_, S>,
     day: Day,
     number: u32,
@@ -79,6 +141,7 @@ pub(crate) fn keep<S: Alter>(
     ensures kept { Accepts S.Store tx.old.conn.now tx.new.conn.now result (λ h. number ≡ length (deposits h) + 1)
         (Deposited day (record { collection = collection.now; class = class.now; accession = accession.now; closed = closed; bag = bag.now }) ∷ []) }
 {
+    let beside = beside_row(alloc, tx, number, collection, class, closed)?;
     let payload = count_payload(bag);
     let new = NewDeposit {
         number,
@@ -90,6 +153,6 @@ pub(crate) fn keep<S: Alter>(
         files: row_count(payload.files)?,
         bytes: row_count(payload.bytes)?,
     };
-    put_deposit(tx, new)?;
+    put_row(tx, new, beside)?;
     add_files(tx, number, bag.files())
 }

@@ -36,13 +36,12 @@ whole_again schema a b whole q e = found_again (IsWhole schema) a b whole.listed
 pub becomes_again : (tables : Tables) (left : Trees) (b : Database) → IsLeft tables left → IsDatabase b → b.trees ≡ left → Becomes b tables
 becomes_again tables left b h q e = found_again (λ d. Becomes d tables) h.0 b h.1.office.listed q (e ∙ h.2) h.1
 
--- a call that keeps what the connection shows keeps an office whose trees it holds
+-- a call that keeps what the connection shows keeps the database whose trees it holds
 pub goes_on : (old new : State) → IsLive old → (IsTrue old.is_open → old.now ≡ old.committed) → KeepsTables old new → GoesOnAs old new
-goes_on old new live settled kept tables left is_open =
+goes_on old new live settled kept db whole left is_open =
     let was_open = (kept is_open).0 in
     let same = (kept is_open).1 (sym (settled was_open)) in
-    let old_is = becomes_again tables old.now.trees old.now left (live was_open).0 refl in
-    (subst (λ (d : Database). Becomes d tables) (sym same.0) old_is, same.1 ∙ sym same.0)
+    (same.0 ∙ same_database old.now db (live was_open).0 whole left, same.1 ∙ sym same.0)
 
 -- what was left of an office of this version is known as one
 pub is_known : (tables : Tables) (s : State) → IsLive s → IsTrue s.is_open → IsLeft tables s.now.trees → IsOffice s.now × (tables_of s.now ≡ tables)

@@ -1,5 +1,9 @@
 -- That an office has these rows comes out of a truncation.
-use Rattle.std.proofs.Common.{◌≡◌, refl}
+use Rattle.std.proofs.Common.{◌≡◌, ℕ, ℤ, pos, List, map, length, bytes_eq, Bool, true, refl}
+use Rattle.std.specs.List.{list_any}
+use Rattle.std.specs.Ordering.{int_eq}
+use Rattle.std.proofs.lemmas.Map.Keys.{IsDistinct-prop}
+use Rattle.sha2.specs.Sha256.{sha256}
 use Rattle.std.proofs.Math.Logic.{∥∥₁_elim, ∥∥₁_map}
 use Rattle.std.specs.Coded.{Coded, Coded-set, codes}
 use Rattle.sqlite.specs.Tree.{Trees}
@@ -10,8 +14,9 @@ use Rattle.sqlite_trees.specs.declared.store.Shape.TheVariants as shape
 use Rattle.sqlite.specs.Effect.{Database, IsDatabase}
 use Rattle.sql_meaning.specs.Whole.{AreShaped}
 use Rattle.office_tables.specs.Schema.{office_schema}
-use Rattle.office_rows.specs.Rows.{Tables}
-use Rattle.office_tables.specs.Tables.{Becomes}
+use Rattle.office_rows.specs.Rows.{Tables, ContentRow}
+use Rattle.office_tables.specs.Tables.{Becomes, contents_of}
+use Rattle.office_tables.specs.Contents.{IsMarked, AreKeptOnce, KeepsOnce, references_of}
 use Rattle.office_tables.specs.Opening.{IsLeft}
 use Rattle.office_recovery.proofs.FoundAgain.{becomes_again}
 
@@ -42,3 +47,28 @@ becomes_from tables b q h =
 -- what was left comes out of a truncation, where a database is found
 pub left_from : (tables : Tables) (b : Database) → IsDatabase b → ∥ IsLeft tables b.trees ∥₁ → IsLeft tables b.trees
 left_from tables b q h = (b, becomes_from tables b q (∥∥₁_map h (λ left. becomes_again tables b.trees b left q refl)), refl)
+
+-- ---- contents that are kept once
+
+marked_prop : (c : ContentRow) → IsProp (IsMarked c)
+marked_prop c p q = λ i. record { mark = bytes_set c.mark (sha256 c.bytes) p.mark q.mark i; size = ints_set c.size (pos (length c.bytes)) p.size q.size i }
+  where
+    bytes_set : IsSet (List ℕ)
+    bytes_set = Coded-set (hlevel codes)
+
+    ints_set : IsSet ℤ
+    ints_set = Coded-set (hlevel codes)
+
+once_prop : (refs : List ℤ) (cs : List ContentRow) → IsProp (AreKeptOnce refs cs)
+once_prop refs cs p q = λ i. record {
+  once = IsDistinct-prop bytes_eq (map (λ (c : ContentRow). c.bytes) cs) p.once q.once i;
+  marked = AllByRecursion-prop IsMarked marked_prop cs p.marked q.marked i;
+  used = AllByRecursion-prop (λ (c : ContentRow). list_any (λ id. int_eq id c.id) refs ≡ true) (λ c. bool_set _ _) cs p.used q.used i;
+}
+  where
+    bool_set : IsSet Bool
+    bool_set = Coded-set (hlevel codes)
+
+-- that contents are kept once comes out of a truncation
+pub once_from : (db : Database) → ∥ KeepsOnce db ∥₁ → KeepsOnce db
+once_from db h = ∥∥₁_elim h (once_prop (references_of db) (contents_of db)) (λ once. once)

@@ -1,8 +1,8 @@
 -- The rows of the office's tables as plain records, what is looked up in them, and how they change. Nothing here speaks of SQL.
 -- Texts are lists of bytes. Days are day numbers, 0 for 1970-01-01. Sizes are in bytes, years are calendar years.
-use Rattle.std.specs.Prelude.{⊤, ℕ, ℤ, pos, negsuc, nat_le, List, [], ◌∷◌, ◌++◌, map, find, filter, Option, Some, None, bytes_eq, not, is_some, unwrap_or, option_map, ◌≡◌, ◌≢◌, ◌&&◌, ◌||◌, Bool, false, true, if◌then◌else◌}
+use Rattle.std.specs.Prelude.{⊤, ℕ, ℤ, pos, negsuc, nat_le, List, [], ◌∷◌, ◌++◌, map, find, filter, Option, Some, None, bytes_eq, not, is_some, unwrap_or, option_map, ◌≡◌, ◌≢◌, ◌&&◌, ◌||◌, Bool, false, true, if◌then◌else◌, fold, length, ◌+ℤ◌}
 use Rattle.std.specs.List.{AllByRecursion, list_any}
-use Rattle.std.specs.Ordering.{int_eq, int_cmp, is_lt}
+use Rattle.std.specs.Ordering.{int_eq, int_cmp, is_lt, is_le, is_ge}
 use Rattle.std.specs.declared.cmp.Ordering.TheVariants.{Less}
 
 -- ---- the rows
@@ -55,6 +55,22 @@ pub record FileRow : Type 0 where
   pub path : List ℕ
   pub content : List ℕ
 
+-- A content that is kept, under a number of its own.
+pub record ContentRow : Type 0 where
+  pub id : ℤ
+  -- what tells it apart at a glance
+  pub mark : List ℕ
+  -- how many bytes it has
+  pub size : ℤ
+  pub bytes : List ℕ
+
+-- What the office keeps of a deposit beside its row: when it falls due, and how many live holds cover it.
+pub record DueRow : Type 0 where
+  pub number : ℤ
+  -- nothing where it is kept for good
+  pub due : Option ℤ
+  pub holds : ℤ
+
 pub record HoldRow : Type 0 where
   pub number : ℤ
   -- what is held: the deposit of that number, or each of the collection
@@ -65,7 +81,7 @@ pub record HoldRow : Type 0 where
   pub placed : ℤ
   pub released : Option ℤ
 
--- All rows: rules ascending by place, deposits and holds ascending by number, the others as they were first put.
+-- All rows: rules ascending by place, deposits, dues and holds ascending by number, the others as they were first put.
 pub record Tables : Type 0 where
   pub office : List OfficeRow
   pub callers : List CallerRow
@@ -73,6 +89,7 @@ pub record Tables : Type 0 where
   pub classes : List ClassRow
   pub collections : List (List ℕ)
   pub deposits : List DepositRow
+  pub dues : List DueRow
   pub files : List FileRow
   pub holds : List HoldRow
 
@@ -144,7 +161,7 @@ IsLimit n = is_limit n ≡ true
 
 -- the version of these tables
 abbrev pub this_version : ℤ
-this_version = pos 1
+this_version = pos 3
 
 -- the row by which an office is known: it has the id 1, and limits in range
 abbrev pub is_known : OfficeRow → Bool
@@ -163,6 +180,7 @@ empty_office version max_deposits max_holds = record {
   classes = [];
   collections = [];
   deposits = [];
+  dues = [];
   files = [];
   holds = [];
 }
@@ -231,13 +249,74 @@ has_accession accession d = bytes_eq d.accession accession
 abbrev pub deposit_by : List ℕ → List DepositRow → Option DepositRow
 deposit_by accession = find (has_accession accession)
 
+-- what is kept of a deposit that is new: no day, and no hold
+abbrev pub new_due : ℤ → DueRow
+new_due n = record { number = n; due = None; holds = pos 0 }
+
 -- the deposit is in its place by number
 abbrev pub with_deposit : DepositRow → Tables → Tables
-with_deposit d t = record t { deposits = put_by (λ e. e.number) d t.deposits }
+with_deposit d t = record t { deposits = put_by (λ e. e.number) d t.deposits; dues = put_by (λ e. e.number) (new_due d.number) t.dues }
 
 -- the deposit was destroyed on that day
 abbrev pub with_gone : ℤ → ℤ → Tables → Tables
 with_gone n day t = record t { deposits = map (λ d. if is_deposit n d then record d { gone = Some day } else d) t.deposits }
+
+-- ---- what is kept of deposits
+
+abbrev pub is_due_of : ℤ → DueRow → Bool
+is_due_of n d = int_eq d.number n
+
+abbrev pub due_numbered : ℤ → List DueRow → Option DueRow
+due_numbered n = find (is_due_of n)
+
+-- the deposit falls due on that day, or never
+abbrev pub with_due : ℤ → Option ℤ → Tables → Tables
+with_due n due t = record t { dues = map (λ d. if is_due_of n d then record d { due = due } else d) t.dues }
+
+-- so many live holds cover the deposit
+abbrev pub with_holds : ℤ → ℤ → Tables → Tables
+with_holds n holds t = record t { dues = map (λ d. if is_due_of n d then record d { holds = holds } else d) t.dues }
+
+-- the rows of deposits, each beside what is kept of it
+abbrev pub beside : List DepositRow → List DueRow → List (DepositRow × DueRow)
+beside [] dues = []
+beside (d ∷ ds) [] = []
+beside (d ∷ ds) (k ∷ ks) = (d, k) ∷ beside ds ks
+
+-- each deposit that passes has so many more live holds
+abbrev pub more_holds : (DepositRow → Bool) → ℤ → List DepositRow → List DueRow → List DueRow
+more_holds those by ds ks = map (λ p. if those p.0 then record p.1 { holds = p.1.holds +ℤ by } else p.1) (beside ds ks)
+
+abbrev pub is_within : List ℕ → DepositRow → Bool
+is_within collection d = bytes_eq d.collection collection
+
+abbrev pub is_of_class : List ℕ → DepositRow → Bool
+is_of_class class d = bytes_eq d.class class
+
+-- as many more live holds cover each deposit of the collection
+abbrev pub with_more_holds : List ℕ → ℤ → Tables → Tables
+with_more_holds collection by t = record t { dues = more_holds (is_within collection) by t.deposits t.dues }
+
+-- the deposits of the class
+abbrev pub of_class : List ℕ → Tables → List DepositRow
+of_class class t = filter (is_of_class class) t.deposits
+
+-- the least number that 64 bits hold
+abbrev pub least_number : ℤ
+least_number = negsuc 9_223_372_036_854_775_807
+
+-- that day or an earlier one; a deposit that is kept for good has none
+abbrev pub is_by : ℤ → Option ℤ → Bool
+is_by day None = false
+is_by day (Some due) = is_ge (int_cmp due least_number) && is_le (int_cmp due day)
+
+-- it is kept, no live hold covers it, and it has fallen due
+abbrev pub is_disposable : ℤ → DepositRow × DueRow → Bool
+is_disposable day p = not (is_some p.0.gone) && (int_eq p.1.holds (pos 0) && is_by day p.1.due)
+
+-- the deposits that may be destroyed on that day, by the rules aside
+abbrev pub due_rows : ℤ → Tables → List DepositRow
+due_rows day t = map (λ p. p.0) (filter (is_disposable day) (beside t.deposits t.dues))
 
 -- ---- files
 
@@ -258,6 +337,32 @@ with_file f t = record t { files = t.files ++ f ∷ [] }
 
 abbrev pub without_files : ℤ → Tables → Tables
 without_files n t = record t { files = filter (λ f. not (is_file_of n f)) t.files }
+
+-- ---- contents
+
+abbrev pub is_content : ℤ → ContentRow → Bool
+is_content id c = int_eq c.id id
+
+abbrev pub content_numbered : ℤ → List ContentRow → Option ContentRow
+content_numbered id = find (is_content id)
+
+-- the bytes under that number, none where there is no such content
+abbrev pub bytes_under : List ContentRow → ℤ → List ℕ
+bytes_under contents id = unwrap_or (option_map (λ c. c.bytes) (content_numbered id contents)) []
+
+-- it has this mark and these bytes
+abbrev pub is_alike : List ℕ → List ℕ → ContentRow → Bool
+is_alike mark bytes c = bytes_eq c.mark mark && bytes_eq c.bytes bytes
+
+-- the number that a content gets which comes after these
+abbrev pub next_id : List ContentRow → ℤ
+next_id = fold (λ _ c. c.id +ℤ pos 1) (pos 1)
+
+-- one content more, unless one with this mark and these bytes is there
+abbrev pub with_content : List ℕ → List ℕ → List ContentRow → List ContentRow
+with_content mark bytes contents =
+    if list_any (is_alike mark bytes) contents then contents
+    else contents ++ record { id = next_id contents; mark = mark; size = pos (length bytes); bytes = bytes } ∷ []
 
 -- ---- holds
 

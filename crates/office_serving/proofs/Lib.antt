@@ -4,7 +4,10 @@ pub mod ListedRows
 pub mod RecordTold
 pub mod HoldsTold
 pub mod AuditTold
-pub mod DueListTold
 pub mod ShownTold
 pub mod PathsTold
 pub mod InTurn
+pub mod DueListLaw
+pub mod SameOnce
+pub mod StockTold
+pub mod AllowedTold

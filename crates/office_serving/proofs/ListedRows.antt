@@ -1,51 +1,53 @@
--- The rows of all deposits, one after another, and what is gathered of their numbers.
-use Rattle.std.proofs.Common.{◌≡◌, ℕ, suc, ◌+◌, Bool, true, false, ◌&&◌, List, [], ◌∷◌, ◌++◌, length, filter, Option, Some, None, option_map, slice_get, refl, sym, ap, ◌∙◌, arith, cond, append-nil, if◌then◌else◌}
+-- The rows of all deposits, each with what is kept beside it, one after another; and what is gathered of their numbers.
+use Rattle.std.proofs.Common.{◌≡◌, ℕ, suc, ◌+◌, Bool, true, false, ◌&&◌, List, [], ◌∷◌, ◌++◌, length, filter, Option, Some, None, option_map, slice_get, refl, sym, ap, ap₂, ◌∙◌, arith, cond, append-nil, if◌then◌else◌}
 use Rattle.std.specs.List.{filter_map, cons_option}
-use Rattle.std.proofs.lemmas.List.Elements.{filter-append, filter_map-append}
+use Rattle.std.proofs.lemmas.List.Elements.{filter_map-append}
+use Rattle.std.proofs.lemmas.Option.{same_Some}
 use Rattle.jiff.specs.Types.{Date}
-use Rattle.office_core.specs.declared.action.Action.TheVariants as acts
-use Rattle.office_rows.specs.Rows.{DepositRow}
+use Rattle.office_rows.specs.Rows.{DepositRow, DueRow, beside}
 use Rattle.office_history.specs.Lists.{numbers}
 use Rattle.office_history.specs.Histories.{History, Deposit, deposits, deposit_numbered}
-use Rattle.office_history.specs.Pictures.{deposit_row, deposit_rows}
+use Rattle.office_history.specs.Pictures.{deposit_row, deposit_rows, due_row, due_rows}
 use Rattle.office_history.proofs.Pictured.{told_at}
-use Rattle.office_asking.proofs.NumberedRows.{rows_from, range_last}
+use Rattle.office_asking.proofs.NumberedRows.{rows_from, rows_are, range_last}
 use Rattle.office_asking.proofs.DepositTold.{deposit_rows_are}
-use Rattle.office_asking.proofs.DepositAsked.{there}
+use Rattle.office_asking.proofs.DuesGrown.{due_rows_are}
 
 -- ---- the rows
-
--- at each place stands the row of a deposit
-pub row_at : (h : History) (rows : List DepositRow) → rows ≡ deposit_rows h → (i : ℕ) (row : DepositRow) → slice_get rows i ≡ Some row
-    → (found : Date × Deposit) × (deposit_numbered h (suc i) ≡ Some found) × (row ≡ deposit_row h (suc i) found)
-row_at h rows is i row e =
-    let told : Some row ≡ option_map (deposit_row h (suc i)) (deposit_numbered h (suc i)) = sym e ∙ ap (λ rs. slice_get rs i) is ∙ told_at (deposits h) (deposit_row h) (suc i) in
-    there h [] acts.List (suc i) row told
 
 rows_count : {A R : Type 0} (tell : ℕ → A → R) (start : ℕ) (xs : List A) → length (rows_from tell start xs) ≡ length xs
 rows_count tell start [] = refl
 rows_count tell start (x ∷ xs) = ap suc (rows_count tell (start + 1) xs)
 
--- there are as many as deposits
-pub all_rows : (h : History) (rows : List DepositRow) → rows ≡ deposit_rows h → length rows ≡ length (deposits h)
-all_rows h rows is = ap length (is ∙ deposit_rows_are h) ∙ rows_count (deposit_row h) 1 (deposits h)
+module _ (h : History) where
+  -- the row of a deposit, and what is kept beside it
+  abbrev pub both : ℕ → Date × Deposit → DepositRow × DueRow
+  both n found = (deposit_row h n found, due_row h n found)
+
+  beside_from : (xs : List (Date × Deposit)) (start : ℕ) → beside (rows_from (deposit_row h) start xs) (rows_from (due_row h) start xs) ≡ rows_from both start xs
+  beside_from [] start = refl
+  beside_from (x ∷ xs) start = ap (λ rows. both start x ∷ rows) (beside_from xs (start + 1))
+
+  pub rows_beside : beside (deposit_rows h) (due_rows h) ≡ rows_from both 1 (deposits h)
+  rows_beside = ap₂ beside (deposit_rows_are h) (due_rows_are h) ∙ beside_from (deposits h) 1
+
+  module _ (rows : List (DepositRow × DueRow)) (are : rows ≡ beside (deposit_rows h) (due_rows h)) where
+    -- at each place stand those of a deposit
+    pub row_at : (i : ℕ) (row : DepositRow × DueRow) → slice_get rows i ≡ Some row → (found : Date × Deposit) × (deposit_numbered h (suc i) ≡ Some found) × (row ≡ both (suc i) found)
+    row_at i row e = by (deposit_numbered h (suc i)) refl (sym e ∙ ap (λ rs. slice_get rs i) (are ∙ rows_beside ∙ sym (rows_are both (deposits h))) ∙ told_at (deposits h) both (suc i))
+      where
+        by : (o : Option (Date × Deposit)) → deposit_numbered h (suc i) ≡ o → Some row ≡ option_map (both (suc i)) o → (found : Date × Deposit) × (deposit_numbered h (suc i) ≡ Some found) × (row ≡ both (suc i) found)
+        by None is e = absurd cc
+        by (Some found) is e = (found, is, same_Some _ _ e)
+
+    -- there are as many as deposits
+    pub all_rows : length rows ≡ length (deposits h)
+    all_rows = ap length (are ∙ rows_beside) ∙ rows_count both 1 (deposits h)
 
 -- ---- the numbers
 
 one_more : (count : ℕ) → numbers (suc count) ≡ numbers count ++ suc count ∷ []
 one_more count = let one : 1 + count ≡ suc count = omega arith in range_last 1 count ∙ ap (λ k. numbers count ++ k ∷ []) one
-
-module _ (test : ℕ → Bool) (count : ℕ) where
-  passing : filter test (numbers (suc count)) ≡ filter test (numbers count) ++ cond (test (suc count)) (suc count ∷ []) []
-  passing = ap (filter test) (one_more count) ∙ filter-append test (numbers count) (suc count ∷ [])
-
-  -- the next number passes
-  pub passes_next : (before : List ℕ) (next : ℕ) → before ≡ filter test (numbers count) → next ≡ suc count → true ≡ test (suc count) → before ++ next ∷ [] ≡ filter test (numbers (suc count))
-  passes_next before next e is yes_it = (λ i. e i ++ cond (yes_it i) (is i ∷ []) []) ∙ sym passing
-
-  -- the next number doesn't
-  pub fails_next : (before : List ℕ) → before ≡ filter test (numbers count) → false ≡ test (suc count) → before ≡ filter test (numbers (suc count))
-  fails_next before e not_it = sym (append-nil before) ∙ (λ i. e i ++ cond (not_it i) (suc count ∷ []) []) ∙ sym passing
 
 module _ {B : Type 0} (tell : ℕ → Option B) (count : ℕ) where
   telling : filter_map tell (numbers (suc count)) ≡ filter_map tell (numbers count) ++ cons_option (tell (suc count)) []

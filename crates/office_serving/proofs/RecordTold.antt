@@ -2,18 +2,18 @@
 use Rattle.std.proofs.Common.{◌≡◌, ℕ, ap, ◌∙◌}
 use Rattle.jiff.specs.Types.{Date}
 use Rattle.office_core.specs.declared.answer.DepositRecord.{DepositRecord}
-use Rattle.office_core.specs.declared.retention.Due.{Due}
-use Rattle.office_rows.specs.Rows.{DepositRow}
+use Rattle.office_rows.specs.Rows.{DepositRow, DueRow}
 use Rattle.office_history.specs.Histories.{History, Deposit, due}
-use Rattle.office_history.specs.Pictures.{deposit_row}
+use Rattle.office_history.specs.Pictures.{deposit_row, due_row}
 use Rattle.office_history.specs.Answers.{record_of}
 use Rattle.office_history.proofs.Pictured.{same_day}
 use Rattle.bag_check.specs.Validity.{payload_files, payload_bytes}
+use Rattle.office_asking.proofs.DuesTold.{due_back}
 use Rattle.office_asking.proofs.NumberedRows.{same_count}
 use Rattle.office_serving.specs.Told.{IsRecordOf}
 
-pub record_is : (h : History) (n : ℕ) (found : Date × Deposit) (row : DepositRow) → row ≡ deposit_row h n found → (due_day : Due) → due_day ≡ due h found.1 → (told : DepositRecord) → IsRecordOf row due_day told → told ≡ record_of h n found
-record_is h n found row is due_day due_is told e = λ i. record {
+pub record_is : (h : History) (n : ℕ) (found : Date × Deposit) (row : DepositRow) → row ≡ deposit_row h n found → (kept : DueRow) → kept ≡ due_row h n found → (told : DepositRecord) → IsRecordOf row kept told → told ≡ record_of h n found
+record_is h n found row is kept kept_is told e = λ i. record {
   number = same_count told.number n (e.number ∙ ap (λ (r : DepositRow). r.number) is) i;
   accession = (e.accession ∙ ap (λ (r : DepositRow). r.accession) is) i;
   collection = (e.collection ∙ ap (λ (r : DepositRow). r.collection) is) i;
@@ -22,5 +22,5 @@ record_is h n found row is due_day due_is told e = λ i. record {
   deposited = same_day told.deposited found.0 (e.deposited ∙ ap (λ (r : DepositRow). r.deposited) is) i;
   files = same_count told.files (payload_files found.1.bag) (e.files ∙ ap (λ (r : DepositRow). r.files) is) i;
   bytes = same_count told.bytes (payload_bytes found.1.bag) (e.bytes ∙ ap (λ (r : DepositRow). r.bytes) is) i;
-  due = (e.due_is ∙ due_is) i;
+  due = due_back told.due (due h found.1) (e.due_is ∙ ap (λ (k : DueRow). k.due) kept_is) i;
 }

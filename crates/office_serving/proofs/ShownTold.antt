@@ -1,19 +1,57 @@
 -- The deposits that a caller may list, by the rows.
-use Rattle.std.proofs.Common.{◌≡◌, ℕ, suc, ◌+◌, ◌<◌, Bool, true, false, ◌&&◌, List, [], ◌∷◌, ◌++◌, Option, Some, None, is_none, refl, sym, ap, subst, ◌∙◌, length, get_or, arith, if◌then◌else◌}
+use Rattle.std.proofs.Common.{◌≡◌, ℕ, suc, ◌+◌, ◌<◌, Bool, true, false, ◌&&◌, List, [], ◌∷◌, ◌++◌, Option, Some, None, option_map, is_none, refl, sym, ap, subst, ◌∙◌, length, get_or, arith, if◌then◌else◌}
 use Rattle.std.proofs.lemmas.Option.{slice_get-get_or}
 use Rattle.std.specs.List.{filter_map}
 use Rattle.std.specs.Option.{option_map_or}
 use Rattle.jiff.specs.Types.{Date}
+use Rattle.jiff.specs.Words.{epoch_day}
 use Rattle.office_core.specs.declared.answer.DepositRecord.{DepositRecord}
-use Rattle.office_rows.specs.Rows.{DepositRow}
+use Rattle.office_core.specs.declared.action.Action.TheVariants as acts
+use Rattle.office_rows.specs.Rows.{DepositRow, DueRow, beside}
 use Rattle.office_history.specs.Lists.{numbers}
 use Rattle.office_history.specs.Histories.{History, Deposit, deposits, deposit_numbered, destruction_day}
-use Rattle.office_history.specs.Pictures.{deposit_row, deposit_rows}
-use Rattle.office_history.specs.Answers.{is_listed, record_of, listed_record, listed_records}
+use Rattle.office_history.specs.Pictures.{deposit_row, deposit_rows, due_rows}
+use Rattle.office_history.specs.Refusals.{denial_at}
+use Rattle.office_history.specs.Answers.{is_asked, is_listed, record_of, listed_record, listed_records}
+use Rattle.office_serving.specs.Allowances.{is_allowed}
 use Rattle.office_serving.specs.Listing.{is_shown, shown_record}
-use Rattle.office_serving.proofs.ListedRows.{all_rows, row_at, tells_next, silent_next, told_of_those}
+use Rattle.office_serving.proofs.ListedRows.{both, all_rows, row_at, tells_next, silent_next, told_of_those}
+
+-- asked for and not denied
+none_asked : (a b c d : Bool) → false ≡ (a && (b && c)) → false ≡ (a && (b && c && d))
+none_asked true true true d e = absurd cc
+none_asked true true false d e = refl
+none_asked true false c d e = refl
+none_asked false b c d e = refl
+
+all_asked : (a b c d : Bool) → true ≡ (a && (b && c)) → d ≡ (a && (b && c && d))
+all_asked true true true d e = refl
+all_asked true true false d e = absurd cc
+all_asked true false c d e = absurd cc
+all_asked false b c d e = absurd cc
 
 module _ (h : History) (caller : List ℕ) (collection class : Option (List ℕ)) (n : ℕ) (found : Date × Deposit) where
+  abbrev wanted : DepositRow → Bool
+  wanted row = is_none row.gone && (is_asked collection row.collection && is_asked class row.class)
+
+  module _ (row : DepositRow) (is : row ≡ deposit_row h n found) where
+    wanted_is : wanted row ≡ (is_none (destruction_day h n) && (is_asked collection found.1.collection && is_asked class found.1.class))
+    wanted_is = ap wanted is ∙ ap (λ b. b && (is_asked collection found.1.collection && is_asked class found.1.class)) (kept (destruction_day h n))
+      where
+        kept : (o : Option Date) → is_none (option_map epoch_day o) ≡ is_none o
+        kept None = refl
+        kept (Some day) = refl
+
+    -- one that isn't kept, or is of another collection or class than is asked for
+    pub not_wanted : false ≡ wanted row → false ≡ is_shown h caller collection class n found.1
+    not_wanted e = none_asked (is_none (destruction_day h n)) (is_asked collection found.1.collection) (is_asked class found.1.class) (is_none (denial_at h caller acts.List found.1)) (e ∙ wanted_is)
+
+    -- one of which the rules are asked
+    pub rules_asked : true ≡ wanted row → (is : Bool) → is ≡ is_allowed h caller acts.List row.collection row.class → is ≡ is_shown h caller collection class n found.1
+    rules_asked e answer said =
+        said ∙ ap (λ (r : DepositRow). is_allowed h caller acts.List r.collection r.class) is
+        ∙ all_asked (is_none (destruction_day h n)) (is_asked collection found.1.collection) (is_asked class found.1.class) (is_none (denial_at h caller acts.List found.1)) (e ∙ wanted_is)
+
   module _ (there : deposit_numbered h n ≡ Some found) where
     shown_is : shown_record h caller collection class n ≡ (if is_shown h caller collection class n found.1 then Some (record_of h n found) else None)
     shown_is =
@@ -31,9 +69,9 @@ module _ (h : History) (caller : List ℕ) (collection class : Option (List ℕ)
     none_shown shown e is = ap (λ b. if b then Some (record_of h n found) else None) (sym e ∙ is) ∙ sym shown_is
 
 -- one row after another
-pub shown_next : (h : History) (caller : List ℕ) (collection class : Option (List ℕ)) (rows : List DepositRow) → rows ≡ deposit_rows h → (i : ℕ) (d : DepositRow) → i < length rows
+pub shown_next : (h : History) (caller : List ℕ) (collection class : Option (List ℕ)) (rows : List (DepositRow × DueRow)) → rows ≡ beside (deposit_rows h) (due_rows h) → (i : ℕ) (d : DepositRow × DueRow) → i < length rows
     → (before : List DepositRecord) → before ≡ filter_map (shown_record h caller collection class) (numbers i)
-    → (told : Option DepositRecord) → ((n : ℕ) (found : Date × Deposit) → deposit_numbered h n ≡ Some found → get_or rows i d ≡ deposit_row h n found → told ≡ shown_record h caller collection class n)
+    → (told : Option DepositRecord) → ((n : ℕ) (found : Date × Deposit) → deposit_numbered h n ≡ Some found → get_or rows i d ≡ both h n found → told ≡ shown_record h caller collection class n)
     → ((next : DepositRecord) → told ≡ Some next → before ++ next ∷ [] ≡ filter_map (shown_record h caller collection class) (numbers (i + 1)))
     × (told ≡ None → before ≡ filter_map (shown_record h caller collection class) (numbers (i + 1)))
 shown_next h caller collection class rows is i d low before e told says =
@@ -45,7 +83,7 @@ shown_next h caller collection class rows is i d low before e told says =
     )
 
 -- all of them
-pub shown_of_rows : (h : History) (caller : List ℕ) (collection class : Option (List ℕ)) (rows : List DepositRow) → rows ≡ deposit_rows h
+pub shown_of_rows : (h : History) (caller : List ℕ) (collection class : Option (List ℕ)) (rows : List (DepositRow × DueRow)) → rows ≡ beside (deposit_rows h) (due_rows h)
     → (told : List DepositRecord) → told ≡ filter_map (shown_record h caller collection class) (numbers (length rows)) → told ≡ listed_records h caller collection class
 shown_of_rows h caller collection class rows is told e =
     e ∙ ap (λ count. filter_map (shown_record h caller collection class) (numbers count)) (all_rows h rows is)

@@ -1,4 +1,5 @@
 pub mod Files
+pub mod Allowances
 pub mod Audits
 pub mod Told
 pub mod Listing

@@ -2,11 +2,11 @@
 use Rattle.std.specs.Prelude.{◌≡◌, pos}
 use Rattle.jiff.specs.Words.{epoch_day}
 use Rattle.office_core.specs.declared.answer.DepositRecord.{DepositRecord}
-use Rattle.office_core.specs.declared.retention.Due.{Due}
-use Rattle.office_rows.specs.Rows.{DepositRow}
+use Rattle.office_rows.specs.Rows.{DepositRow, DueRow}
+use Rattle.office_history.specs.Pictures.{due_number}
 
--- what is told is what the row of the deposit says, with this due day
-pub record IsRecordOf (row : DepositRow) (due : Due) (told : DepositRecord) : Type 0 where
+-- what is told is what the row of the deposit says, with the due day that is kept beside it
+pub record IsRecordOf (row : DepositRow) (kept : DueRow) (told : DepositRecord) : Type 0 where
   pub number : pos told.number ≡ row.number
   pub accession : told.accession ≡ row.accession
   pub collection : told.collection ≡ row.collection
@@ -15,4 +15,4 @@ pub record IsRecordOf (row : DepositRow) (due : Due) (told : DepositRecord) : Ty
   pub deposited : epoch_day told.deposited ≡ row.deposited
   pub files : pos told.files ≡ row.files
   pub bytes : pos told.bytes ≡ row.bytes
-  pub due_is : told.due ≡ due
+  pub due_is : due_number told.due ≡ kept.due

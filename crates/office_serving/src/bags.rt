@@ -65,7 +65,7 @@ pub fn kept_files<S: Alter>(
 {
     // A bag that is kept is a bag.
     sound_bags();
-    match kept_deposit(alloc, tx, caller, action, number)? {
+    match kept_deposit(tx, caller, action, number)? {
         Ok(_) => Ok(Ok(files_of(alloc, tx, number)?)),
         Err(why) => Ok(Err(why)),
     }

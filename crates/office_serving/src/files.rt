@@ -16,7 +16,6 @@ use office_core::{Action, Answer, Day, Refusal, Sequence};
 use office_history::laws::sound_bags;
 use office_tables::{TableFault, file_of};
 use sqlite::{Alter, Transaction};
-use std::alloc::Global;
 
 /// The content of the file at a path of the bag of the deposit of that number, which is kept: a path that
 /// is no text is that of no file.
@@ -57,7 +56,6 @@ fn file_answer(content: Option<Vec<u8>>) -> Answer
 ///
 /// Fails with `Memory` or `Store`.
 pub fn download_file<S: Alter>(
-    alloc: Global,
     tx: &mut Transaction<'_, S>,
     day: Day,
     caller: &str,
@@ -70,7 +68,7 @@ pub fn download_file<S: Alter>(
     ensures failure { IfErr result IsFailure }
     ensures decides { Decides S.Store tx.old.conn.now tx.new.conn.now result day caller.now (requests.DownloadFile number path.entry) }
 {
-    match kept_deposit(alloc, tx, caller, Action::Download, number)? {
+    match kept_deposit(tx, caller, Action::Download, number)? {
         Ok(_) => Ok(file_answer(content_of(tx, number, path)?)),
         Err(why) => Ok(Answer::Refused(why)),
     }

@@ -68,7 +68,7 @@ pub fn holds<S: Alter>(
     ensures failure { IfErr result IsFailure }
     ensures decides { Decides S.Store tx.old.conn.now tx.new.conn.now result day caller.now (requests.Holds number) }
 {
-    match kept_deposit(alloc, tx, caller, Action::Holds, number)? {
+    match kept_deposit(tx, caller, Action::Holds, number)? {
         Ok(row) => Ok(Answer::Holds {
             holds: Sequence::of(told_holds(alloc, tx, number, &row.collection)?),
         }),

@@ -1,6 +1,7 @@
 //! The requests that read over the tables of an office, and change nothing.
 #![tactic(auto)]
 
+mod allowances;
 mod audits;
 mod bags;
 mod counts;
@@ -10,6 +11,7 @@ mod hold_lists;
 pub mod laws;
 mod lists;
 mod records;
+mod stocks;
 
 pub use audits::audit;
 pub use bags::download_bag;
@@ -18,3 +20,4 @@ pub use files::download_file;
 pub use hold_lists::holds;
 pub use lists::list;
 pub use records::record;
+pub use stocks::{Stock, stock_of};

@@ -1,22 +1,25 @@
 //! Lists of deposits.
 
-ghost use Rattle.std.specs.Prelude.{◌≡◌, ◌&&◌, is_none, IfErr, IfOk, List, ℕ, option_copied};
+ghost use Rattle.std.specs.Prelude.{◌≡◌, ◌&&◌, is_none, IfErr, List, Some, ℕ, option_copied};
 ghost use Rattle.jiff.specs.Types.{Date};
+ghost use Rattle.office_core.specs.declared.action.Action.TheVariants as acts;
 ghost use Rattle.office_core.specs.declared.request.Request.TheVariants as requests;
+ghost use Rattle.office_rows.specs.Rows.{beside};
 ghost use Rattle.office_tables.specs.Faults.{IsFailure};
 ghost use Rattle.office_tables.specs.Calls.{CommitsNothing, Continues, ContinuesInTurn};
-ghost use Rattle.office_history.specs.Histories.{History, Deposit, deposit_numbered};
-ghost use Rattle.office_history.specs.Pictures.{deposit_row, deposit_rows};
+ghost use Rattle.office_history.specs.Histories.{Deposit, deposit_numbered};
+ghost use Rattle.office_history.specs.Pictures.{deposit_row, deposit_rows, due_row, due_rows};
 ghost use Rattle.office_history.specs.Answers.{is_asked, listed_records};
-ghost use Rattle.office_history.specs.Runs.{IsLegal};
 ghost use Rattle.office_asking.specs.Asking.{IsAsker};
 ghost use Rattle.office_asking.specs.Serving.{Finds, Decides};
+ghost use Rattle.office_serving.specs.Allowances.{AreOf};
 ghost use Rattle.office_serving.specs.Listing.{is_shown, shown_record};
 
-use crate::records::record_of;
+use crate::allowances::Allowances;
+use crate::records::record_in;
 use office_asking::Asker;
 use office_core::{Action, Answer, Day, DepositRecord, Name, Sequence};
-use office_tables::{DepositRow, TableFault, deposit_rows};
+use office_tables::{DepositAndDue, DepositRow, TableFault, deposits_and_dues};
 use sqlite::{Alter, Transaction};
 use std::alloc::Global;
 
@@ -38,42 +41,46 @@ fn is_wanted(row: &DepositRow, collection: Option<&Name<'_>>, class: Option<&Nam
 }
 
 /// Whether the deposit of the row is kept, and the caller may list it.
-fn is_shown(
-    asker: &Asker,
+fn is_shown<'a, S: Alter>(
+    tx: &mut Transaction<'_, S>,
+    allowances: &mut Allowances<'a>,
     collection: Option<&Name<'_>>,
     class: Option<&Name<'_>>,
-    row: &DepositRow,
+    row: &'a DepositRow,
 ) -> Result<bool, TableFault>
+    ensures same_reference { tx.new.conn.ghost_name ≡ tx.old.conn.ghost_name }
+    ensures stays { CommitsNothing S.Store tx.old.conn.now tx.new.conn.now }
+    ensures goes_on { ContinuesInTurn S.Store tx.old.conn.now tx.new.conn.now result }
     ensures failure { IfErr result IsFailure }
-    ensures shown { (h : History) (caller : List ℕ) → IsLegal h → IsAsker h caller asker.now → (n : ℕ) (found : Date × Deposit) → row.now ≡ deposit_row h n found
-        → IfOk result (λ is. is ≡ is_shown h caller (option_copied collection.entry) (option_copied class.entry) n found.1) }
+    ensures shown { Finds S.Store tx.old.conn.now tx.new.conn.now result (λ h is. (caller : List ℕ) → AreOf h caller acts.List allowances.old
+        → AreOf h caller acts.List allowances.new × ((n : ℕ) (found : Date × Deposit) → row.now ≡ deposit_row h n found
+        → is ≡ is_shown h caller (option_copied collection.entry) (option_copied class.entry) n found.1)) }
 {
     if !is_wanted(row, collection, class) {
         return Ok(false);
     }
-    let denied = asker.denial(Action::List, Some(&row.collection), Some(&row.class))?;
-    Ok(denied.is_none())
+    allowances.allows(tx, &row.collection, &row.class)
 }
 
 /// The record of the deposit of the row, where the caller may list it.
-fn shown_record<S: Alter>(
+fn shown_record<'a, S: Alter>(
     alloc: Global,
     tx: &mut Transaction<'_, S>,
-    asker: &Asker,
+    allowances: &mut Allowances<'a>,
     collection: Option<&Name<'_>>,
     class: Option<&Name<'_>>,
-    row: &DepositRow,
+    row: &'a DepositAndDue,
 ) -> Result<Option<DepositRecord>, TableFault>
     ensures same_reference { tx.new.conn.ghost_name ≡ tx.old.conn.ghost_name }
     ensures stays { CommitsNothing S.Store tx.old.conn.now tx.new.conn.now }
     ensures goes_on { ContinuesInTurn S.Store tx.old.conn.now tx.new.conn.now result }
     ensures failure { IfErr result IsFailure }
-    ensures shown { Finds S.Store tx.old.conn.now tx.new.conn.now result (λ h told.
-        (caller : List ℕ) → IsAsker h caller asker.now → (n : ℕ) (found : Date × Deposit) → deposit_numbered h n ≡ Some found → row.now ≡ deposit_row h n found
-        → told ≡ shown_record h caller (option_copied collection.entry) (option_copied class.entry) n) }
+    ensures shown { Finds S.Store tx.old.conn.now tx.new.conn.now result (λ h told. (caller : List ℕ) → AreOf h caller acts.List allowances.old
+        → AreOf h caller acts.List allowances.new × ((n : ℕ) (found : Date × Deposit) → deposit_numbered h n ≡ Some found → row.now ≡ (deposit_row h n found, due_row h n found)
+        → told ≡ shown_record h caller (option_copied collection.entry) (option_copied class.entry) n)) }
 {
-    if is_shown(asker, collection, class, row)? {
-        Ok(Some(record_of(alloc, tx, row)?))
+    if is_shown(tx, allowances, collection, class, &row.deposit)? {
+        Ok(Some(record_in(alloc, &row.deposit, &row.kept)?))
     } else {
         Ok(None)
     }
@@ -86,18 +93,20 @@ fn shown_among<S: Alter>(
     asker: &Asker,
     collection: Option<&Name<'_>>,
     class: Option<&Name<'_>>,
-    rows: &[DepositRow],
+    rows: &[DepositAndDue],
 ) -> Result<Vec<DepositRecord>, TableFault>
     ensures same_reference { tx.new.conn.ghost_name ≡ tx.old.conn.ghost_name }
     ensures stays { CommitsNothing S.Store tx.old.conn.now tx.new.conn.now }
     ensures goes_on { ContinuesInTurn S.Store tx.old.conn.now tx.new.conn.now result }
     ensures failure { IfErr result IsFailure }
     ensures listed { Finds S.Store tx.old.conn.now tx.new.conn.now result (λ h told.
-        (caller : List ℕ) → IsAsker h caller asker.now → rows.now ≡ deposit_rows h → told.items ≡ listed_records h caller (option_copied collection.entry) (option_copied class.entry)) }
+        (caller : List ℕ) → IsAsker h caller asker.now → rows.now ≡ beside (deposit_rows h) (due_rows h)
+        → told.items ≡ listed_records h caller (option_copied collection.entry) (option_copied class.entry)) }
 {
+    let mut allowances = Allowances::new(alloc, asker, Action::List);
     let mut told = Vec::new(alloc);
     for row in rows {
-        if let Some(record) = shown_record(alloc, tx, asker, collection, class, row)? {
+        if let Some(record) = shown_record(alloc, tx, &mut allowances, collection, class, row)? {
             told.push(record)?;
         }
     }
@@ -122,8 +131,8 @@ pub fn list<S: Alter>(
     ensures failure { IfErr result IsFailure }
     ensures decides { Decides S.Store tx.old.conn.now tx.new.conn.now result day caller.now (requests.List (option_copied collection.entry) (option_copied class.entry)) }
 {
-    let asker = Asker::read(alloc, tx, caller)?;
-    let rows = deposit_rows(alloc, tx)?;
+    let asker = Asker::read(tx, caller)?;
+    let rows = deposits_and_dues(alloc, tx)?;
     let told = shown_among(alloc, tx, &asker, collection, class, &rows)?;
     Ok(Answer::List {
         deposits: Sequence::of(told),

@@ -1,26 +1,32 @@
 //! Records of deposits.
 
-ghost use Rattle.std.specs.Prelude.{◌≡◌, IfErr, IfOk, ℕ};
+ghost use Rattle.std.specs.Prelude.{◌≡◌, IfErr, IfOk, Some, ℕ};
 ghost use Rattle.jiff.specs.Types.{Date};
 ghost use Rattle.office_core.specs.declared.request.Request.TheVariants as requests;
 ghost use Rattle.office_tables.specs.Faults.{IsFailure};
 ghost use Rattle.office_tables.specs.Calls.{CommitsNothing, Continues};
-ghost use Rattle.office_history.specs.Histories.{Deposit};
+ghost use Rattle.office_history.specs.Histories.{Deposit, deposit_numbered};
 ghost use Rattle.office_history.specs.Pictures.{deposit_row};
 ghost use Rattle.office_history.specs.Answers.{record_of};
 ghost use Rattle.office_asking.specs.Serving.{Finds, Decides};
 ghost use Rattle.office_serving.specs.Told.{IsRecordOf};
 
 use crate::counts::count_in;
-use office_asking::{day_numbered, due_day, kept_deposit, text_of_kind};
-use office_core::{Action, Answer, Day, DepositRecord, Due};
-use office_tables::{DepositRow, TableFault};
+use office_asking::{day_numbered, due_numbered, kept_deposit, kept_of, text_of_kind};
+use office_core::{Action, Answer, Day, DepositRecord};
+use office_tables::{DepositRow, DueRow, TableFault};
 use sqlite::{Alter, Transaction};
 use std::alloc::Global;
 
-/// What a row tells of its deposit, which has that due day.
-fn record_in(alloc: Global, row: &DepositRow, due: Due) -> Result<DepositRecord, TableFault>
-    ensures told { IfOk result (λ told. IsRecordOf row.now due told) }
+/// What the row of a deposit tells, with what is kept beside it.
+///
+/// Fails with `Memory` or `Store`.
+pub fn record_in(
+    alloc: Global,
+    row: &DepositRow,
+    kept: &DueRow,
+) -> Result<DepositRecord, TableFault>
+    ensures told { IfOk result (λ told. IsRecordOf row.now kept.now told) }
     ensures failure { IfErr result IsFailure }
 {
     let closed = day_numbered(row.closed)?;
@@ -36,14 +42,14 @@ fn record_in(alloc: Global, row: &DepositRow, due: Due) -> Result<DepositRecord,
         deposited,
         files,
         bytes,
-        due,
+        due: due_numbered(kept.due)?,
     })
 }
 
 /// What is told of the deposit that has this row.
 ///
 /// Fails with `Memory` or `Store`.
-pub fn record_of<S: Alter>(
+fn record_of<S: Alter>(
     alloc: Global,
     tx: &mut Transaction<'_, S>,
     row: &DepositRow,
@@ -53,11 +59,10 @@ pub fn record_of<S: Alter>(
     ensures goes_on { Continues S.Store tx.old.conn.now tx.new.conn.now result }
     ensures failure { IfErr result IsFailure }
     ensures told { Finds S.Store tx.old.conn.now tx.new.conn.now result (λ h told.
-        (n : ℕ) (found : Date × Deposit) → row.now ≡ deposit_row h n found → told ≡ record_of h n found) }
+        (n : ℕ) (found : Date × Deposit) → deposit_numbered h n ≡ Some found → row.now ≡ deposit_row h n found → told ≡ record_of h n found) }
 {
-    let closed = day_numbered(row.closed)?;
-    let due = due_day(tx, &row.class, closed)?;
-    record_in(alloc, row, due)
+    let kept = kept_of(tx, row.number)?;
+    record_in(alloc, row, &kept)
 }
 
 /// Answers the record of a deposit.
@@ -76,7 +81,7 @@ pub fn record<S: Alter>(
     ensures failure { IfErr result IsFailure }
     ensures decides { Decides S.Store tx.old.conn.now tx.new.conn.now result day caller.now (requests.Record number) }
 {
-    match kept_deposit(alloc, tx, caller, Action::Record, number)? {
+    match kept_deposit(tx, caller, Action::Record, number)? {
         Ok(row) => Ok(Answer::Record(record_of(alloc, tx, &row)?)),
         Err(why) => Ok(Answer::Refused(why)),
     }

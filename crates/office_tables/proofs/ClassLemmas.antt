@@ -19,8 +19,8 @@ use Rattle.sqlite_rules.proofs.ListLemmas.{all_has, all_from}
 use Rattle.sqlite_rules.proofs.TableLemmas.{int_is}
 use Rattle.sqlite_trees.specs.View.{is_int}
 use Rattle.sql_meaning.specs.Columns.{int_at, bytes_at}
-use Rattle.sql_meaning.proofs.Writing.{inserts}
-use Rattle.sql_meaning.proofs.Scanning.{shown_of}
+use Rattle.sql_meaning.proofs.Writing.{inserts, updates}
+use Rattle.sql_meaning.proofs.Scanning.{as_program, scan, shown_of}
 use Rattle.sql_meaning.proofs.Reading.{reads_same, reads_one, finds_part}
 use Rattle.sql_meaning.proofs.TextKeys.{has_text, by_text, each_passes, few_named}
 use Rattle.sql_meaning.proofs.Typed.{text_at, int_in, all_both}
@@ -30,7 +30,8 @@ use Rattle.sql_meaning.proofs.Changing.{revises}
 use Rattle.office_tables.specs.Schema.{office_schema, class_table, needed}
 use Rattle.office_rows.specs.Rows.{Tables, ClassRow, is_class, class_named, with_years, with_new_class, with_class}
 use Rattle.office_tables.specs.Tables.{IsOffice, Becomes, tables_of, class_in}
-use Rattle.office_tables.proofs.Frames.{idle, becomes}
+use Rattle.office_tables.specs.Contents.{KeepsOnce}
+use Rattle.office_tables.proofs.Frames.{idle, becomes, leaves_once}
 use Rattle.office_tables.proofs.ClassTexts.{years_text, years_columns, asks_years, revise_text, revised_columns, revise_means, add_class_text, class_terms, add_class_means}
 
 -- a stored class, as the rules of its table leave it
@@ -78,6 +79,10 @@ adds_class old new name years count office h =
     let end = appended db class_table source (Text name ∷ Int years ∷ []) office.shaped.1.1.1.0 cast_is in
     becomes old new edit count edit.news office.shaped done _ (ap (λ rows. record (tables_of old.now) { classes = rows }) (ap (map class_in) end ∙ map-append class_in (db 4) _))
 
+pub adds_class_once : (old new : State) (name : List ℕ) (years : ℤ) (count : ℕ) → IsOffice old.now → Executes add_class_text (Text name ∷ Int years ∷ []) old new (Ok count) → KeepsOnce old.now → KeepsOnce new.now
+adds_class_once old new name years count office h =
+    leaves_once old new _ count _ (inserts add_class_text (Text name ∷ Int years ∷ []) old new office_schema office.schema_is 3 class_table refl idle class_terms 3 add_class_means refl refl count h)
+
 -- ---- other years
 
 cast_set : (years : ℤ) (r : Row) → IsClassRow r → IsTrue (is_int (rowid r)) → cast_row class_table (rowid r ∷ column r 1 ∷ Int years ∷ []) ≡ rowid r ∷ Text (bytes_at r 1) ∷ Int years ∷ []
@@ -101,6 +106,10 @@ revises_class old new name years count office h =
       becomes old new edit count edit.news office.shaped done.change _ (ap (λ rows. record (tables_of old.now) { classes = rows }) (ap (map class_in) done.made ∙ set_is)),
       done.change.counted ∙ counted db class_table done.answer keep (shown_of (Text name ∷ Int years ∷ []) revised_columns) class_in (is_class name) (λ r. refl) (few old.now office name) done.shows,
     )
+
+pub revises_class_once : (old new : State) (name : List ℕ) (years : ℤ) (count : ℕ) → IsOffice old.now → Executes revise_text (Text name ∷ Int years ∷ []) old new (Ok count) → KeepsOnce old.now → KeepsOnce new.now
+revises_class_once old new name years count office h =
+    leaves_once old new _ count _ (updates revise_text (Text name ∷ Int years ∷ []) old new office_schema office.schema_is 3 class_table refl idle (as_program (scan 4 (by_text 1) revised_columns [])) revise_means count h).2
 
 -- where the UPDATE counted none, the INSERT is left to do; where it counted one, nothing is
 pub puts_class : (t : Tables) (name : List ℕ) (years : ℤ) (mid : Database) (count : ℕ) → Becomes mid (with_years name years t) → count ≡ (if list_any (is_class name) t.classes then 1 else 0)

@@ -1,5 +1,5 @@
 -- The first row of an office whose tables were just made.
-use Rattle.std.proofs.Common.{IsTrue, ◌≡◌, ℕ, ℤ, pos, [], ◌∷◌, map, Ok, refl, ap, ◌∙◌}
+use Rattle.std.proofs.Common.{IsTrue, ◌≡◌, ℕ, ℤ, pos, [], ◌∷◌, map, Ok, refl, sym, ap, subst₂, ◌∙◌}
 use Rattle.sqlite.specs.declared.types.Value.TheVariants.{Null, Int}
 use Rattle.sqlite.specs.Order.{Row}
 use Rattle.sqlite.specs.Edit.{edit_of, edited}
@@ -14,30 +14,44 @@ use Rattle.sql_meaning.proofs.Whole.{blank_shaped}
 use Rattle.sql_meaning.proofs.Edits.{inserted, cast_null, cast_int}
 use Rattle.office_tables.specs.Schema.{office_schema, office_table}
 use Rattle.office_rows.specs.Rows.{OfficeRow, Tables, empty_office}
-use Rattle.office_tables.specs.Opening.{IsMade, IsLeft}
-use Rattle.office_tables.specs.Tables.{Becomes, tables_of, office_in}
-use Rattle.office_tables.proofs.Frames.{idle, becomes}
+use Rattle.office_tables.specs.Opening.{IsMade, IsMadeLeft}
+use Rattle.std.specs.List.{IsDistinct}
+use Rattle.sql_meaning.specs.Columns.{int_at}
+use Rattle.office_tables.specs.Contents.{AreKeptOnce, KeepsOnce}
+use Rattle.office_tables.specs.Tables.{Becomes, tables_of, content_in, office_in}
+use Rattle.office_tables.proofs.Frames.{idle, becomes, leaves_once}
 use Rattle.office_tables.proofs.CreateTexts.{start_text, start_terms, start_means}
 
 pub starts_office : (old new : State) (deposits holds : ℤ) (count : ℕ) → IsBlank office_schema old.now → Executes start_text (Int deposits ∷ Int holds ∷ []) old new (Ok count)
-    → Becomes new.now (empty_office (pos 1) deposits holds)
+    → Becomes new.now (empty_office (pos 3) deposits holds)
 starts_office old new deposits holds count blank h =
     let params : Row = Int deposits ∷ Int holds ∷ [] in
     let db = old.now.trees in
-    let source : Row = Int (pos 1) ∷ Null ∷ Int (pos 1) ∷ Int deposits ∷ Int holds ∷ [] in
-    let columns : Row = Null ∷ Int (pos 1) ∷ Int deposits ∷ Int holds ∷ [] in
+    let source : Row = Int (pos 1) ∷ Null ∷ Int (pos 3) ∷ Int deposits ∷ Int holds ∷ [] in
+    let columns : Row = Null ∷ Int (pos 3) ∷ Int deposits ∷ Int holds ∷ [] in
     let edit = edit_of db office_table [] Chosen 0 (source ∷ []) in
     let done = inserts start_text params old new office_schema blank.schema_is 0 office_table refl idle start_terms 5 start_means refl refl count h in
-    let cast_is : cast_row office_table source ≡ Int (pos 1) ∷ columns = rw (cast_null, cast_int (pos 1), cast_int deposits, cast_int holds) refl in
+    let cast_is : cast_row office_table source ≡ Int (pos 1) ∷ columns = rw (cast_null, cast_int (pos 1), cast_int (pos 3), cast_int deposits, cast_int holds) refl in
     let e = blank.empty in
     let alone : edited db edit ≡ (Int (pos 1) ∷ columns) ∷ [] = inserted db office_table source columns (pos 1) cast_is ∙ ap (put_row (Int (pos 1) ∷ columns)) e.0 in
-    let row : OfficeRow = record { id = pos 1; version = pos 1; max_deposits = deposits; max_holds = holds } in
+    let row : OfficeRow = record { id = pos 1; version = pos 3; max_deposits = deposits; max_holds = holds } in
     let made : Becomes new.now (record (tables_of old.now) { office = row ∷ [] }) = becomes old new edit count edit.news (blank_shaped office_schema old.now blank) done _ (ap (λ rows. record (tables_of old.now) { office = rows }) (ap (map office_in) alone)) in
-    let rest : record (tables_of old.now) { office = row ∷ [] } ≡ empty_office (pos 1) deposits holds =
+    let rest : record (tables_of old.now) { office = row ∷ [] } ≡ empty_office (pos 3) deposits holds =
     rw (e.1.0, e.1.1.0, e.1.1.1.0, e.1.1.1.1.0, e.1.1.1.1.1.0, e.1.1.1.1.1.1.0, e.1.1.1.1.1.1.1.0) refl in
     record { office = made.office; are = made.are ∙ rest }
 
+-- where no table has a row, contents are kept once
+blank_once : (db : Database) → IsBlank office_schema db → KeepsOnce db
+unfolding IsDistinct
+blank_once db blank =
+    let e = blank.empty in
+    subst₂ AreKeptOnce (sym (ap (map (λ (row : Row). int_at row 3)) e.1.1.1.1.1.1.0)) (sym (ap (map content_in) e.1.1.1.1.1.1.1.1.0)) (record { once = tt; marked = tt; used = tt })
+
+pub starts_once : (old new : State) (deposits holds : ℤ) (count : ℕ) → IsBlank office_schema old.now → Executes start_text (Int deposits ∷ Int holds ∷ []) old new (Ok count) → KeepsOnce new.now
+starts_once old new deposits holds count blank h =
+    leaves_once old new _ count _ (inserts start_text (Int deposits ∷ Int holds ∷ []) old new office_schema blank.schema_is 0 office_table refl idle start_terms 5 start_means refl refl count h) (blank_once old.now blank)
+
 -- what a crash leaves of an office that was made and committed
 pub leaves_made : (end : State) (tables : Tables) → ((db : Trees) → IsTrue end.is_open → end.may_leave db → db ≡ end.committed.trees) → IsMade end tables
-    → (db : Trees) → end.may_leave db → IsLeft tables db
-leaves_made end tables settled made db left = (end.now, made.becomes, settled db made.is_open left ∙ ap (λ (d : Database). d.trees) made.committed)
+    → (db : Trees) → end.may_leave db → IsMadeLeft tables db
+leaves_made end tables settled made db left = (end.now, made.becomes, made.once, settled db made.is_open left ∙ ap (λ (d : Database). d.trees) made.committed)

@@ -16,7 +16,7 @@ use Rattle.sqlite_tied.specs.Compute.{everything}
 use Rattle.sqlite_schema.specs.Names.{same_name}
 use Rattle.sql_meaning.specs.Making.{MakesTable, MakesIndex, Builds}
 use Rattle.sql_meaning.proofs.Writing.{Means}
-use Rattle.office_tables.specs.Schema.{office_schema, no_schema, stage, office_table, caller_table, rule_table, class_table, collection_table, deposit_table, file_table, hold_table, plain_index}
+use Rattle.office_tables.specs.Schema.{office_schema, no_schema, stage, office_table, caller_table, rule_table, class_table, collection_table, deposit_table, file_table, hold_table, content_table, plain_index}
 
 -- what the text is, under the schema of the moment
 abbrev Meant : Schema → List ℕ → Table → Type 0
@@ -81,7 +81,7 @@ unfolding digits same_name
 collection_made = made (stage 4 2) (stage 5 3) collection_text (record collection_table { tree = 0 }) collection_meant refl refl
 
 abbrev pub deposit_text : List ℕ
-deposit_text = codes "CREATE TABLE deposit (number INTEGER PRIMARY KEY, accession TEXT NOT NULL UNIQUE, collection TEXT NOT NULL REFERENCES collection (name), class TEXT NOT NULL REFERENCES class (name), closed INTEGER NOT NULL, deposited INTEGER NOT NULL, files INTEGER NOT NULL, bytes INTEGER NOT NULL, gone INTEGER) STRICT"
+deposit_text = codes "CREATE TABLE deposit (number INTEGER PRIMARY KEY, accession TEXT NOT NULL UNIQUE, collection TEXT NOT NULL REFERENCES collection (name), class TEXT NOT NULL REFERENCES class (name), closed INTEGER NOT NULL, deposited INTEGER NOT NULL, files INTEGER NOT NULL, bytes INTEGER NOT NULL, gone INTEGER, due INTEGER, holds INTEGER NOT NULL) STRICT"
 
 deposit_meant : Meant (stage 5 3) deposit_text (record deposit_table { tree = 0 })
 unfolding understood everything
@@ -92,7 +92,7 @@ unfolding digits same_name
 deposit_made = made (stage 5 3) (stage 6 4) deposit_text (record deposit_table { tree = 0 }) deposit_meant refl refl
 
 abbrev pub file_text : List ℕ
-file_text = codes "CREATE TABLE file (deposit INTEGER NOT NULL, path TEXT NOT NULL, content BLOB NOT NULL, PRIMARY KEY (deposit, path)) STRICT"
+file_text = codes "CREATE TABLE file (deposit INTEGER NOT NULL, path TEXT NOT NULL, content INTEGER NOT NULL REFERENCES content (id), PRIMARY KEY (deposit, path)) STRICT"
 
 file_meant : Meant (stage 6 4) file_text (record file_table { tree = 0 })
 unfolding understood everything
@@ -113,44 +113,91 @@ hold_made : MakesTable (stage 7 5) hold_text (stage 8 5)
 unfolding digits same_name
 hold_made = made (stage 7 5) (stage 8 5) hold_text (record hold_table { tree = 0 }) hold_meant refl refl
 
+abbrev pub content_text : List ℕ
+content_text = codes "CREATE TABLE content (id INTEGER PRIMARY KEY, mark BLOB NOT NULL, size INTEGER NOT NULL, bytes BLOB NOT NULL) STRICT"
+
+content_meant : Meant (stage 8 5) content_text (record content_table { tree = 0 })
+unfolding understood everything
+content_meant = (refl, refl, refl, (refl, refl))
+
+content_made : MakesTable (stage 8 5) content_text (stage 9 5)
+unfolding digits same_name
+content_made = made (stage 8 5) (stage 9 5) content_text (record content_table { tree = 0 }) content_meant refl refl
+
 abbrev pub hold_deposit_text : List ℕ
 hold_deposit_text = codes "CREATE INDEX hold_deposit ON hold (deposit)"
 
-hold_deposit_meant : (index_defined_by hold_table hold_deposit_text ≡ Ok (plain_index (codes "hold_deposit") 0 12 (2 ∷ []))) × (command_of (understood (stage 8 5) hold_deposit_text) ≡ CreateIndex 7)
-    × (statement_of hold_deposit_text (understood (stage 8 5) hold_deposit_text) ≡ hold_deposit_text) × IsPlain (understood (stage 8 5) hold_deposit_text)
+hold_deposit_meant : (index_defined_by hold_table hold_deposit_text ≡ Ok (plain_index (codes "hold_deposit") 0 12 (2 ∷ []))) × (command_of (understood (stage 9 5) hold_deposit_text) ≡ CreateIndex 7)
+    × (statement_of hold_deposit_text (understood (stage 9 5) hold_deposit_text) ≡ hold_deposit_text) × IsPlain (understood (stage 9 5) hold_deposit_text)
 unfolding understood everything
 hold_deposit_meant = (refl, refl, refl, (refl, refl))
 
-hold_deposit_made : MakesIndex (stage 8 5) hold_deposit_text (stage 8 6)
+hold_deposit_made : MakesIndex (stage 9 5) hold_deposit_text (stage 9 6)
 unfolding digits same_name
 hold_deposit_made = record { at = 7; command = hold_deposit_meant.1; statement = hold_deposit_meant.2; plain = hold_deposit_meant.3; table = hold_table; place = refl; index = plain_index (codes "hold_deposit") 0 12 (2 ∷ []); defined = hold_deposit_meant.0; is = refl }
 
 abbrev pub hold_collection_text : List ℕ
 hold_collection_text = codes "CREATE INDEX hold_collection ON hold (collection)"
 
-hold_collection_meant : (index_defined_by hold_table hold_collection_text ≡ Ok (plain_index (codes "hold_collection") 0 12 (3 ∷ []))) × (command_of (understood (stage 8 6) hold_collection_text) ≡ CreateIndex 7)
-    × (statement_of hold_collection_text (understood (stage 8 6) hold_collection_text) ≡ hold_collection_text) × IsPlain (understood (stage 8 6) hold_collection_text)
+hold_collection_meant : (index_defined_by hold_table hold_collection_text ≡ Ok (plain_index (codes "hold_collection") 0 12 (3 ∷ []))) × (command_of (understood (stage 9 6) hold_collection_text) ≡ CreateIndex 7)
+    × (statement_of hold_collection_text (understood (stage 9 6) hold_collection_text) ≡ hold_collection_text) × IsPlain (understood (stage 9 6) hold_collection_text)
 unfolding understood everything
 hold_collection_meant = (refl, refl, refl, (refl, refl))
 
-hold_collection_made : MakesIndex (stage 8 6) hold_collection_text (stage 8 7)
+hold_collection_made : MakesIndex (stage 9 6) hold_collection_text (stage 9 7)
 unfolding digits same_name
 hold_collection_made = record { at = 7; command = hold_collection_meant.1; statement = hold_collection_meant.2; plain = hold_collection_meant.3; table = hold_table; place = refl; index = plain_index (codes "hold_collection") 0 12 (3 ∷ []); defined = hold_collection_meant.0; is = refl }
 
+abbrev pub file_content_text : List ℕ
+file_content_text = codes "CREATE INDEX file_content ON file (content)"
+
+file_content_meant : (index_defined_by file_table file_content_text ≡ Ok (plain_index (codes "file_content") 0 10 (3 ∷ []))) × (command_of (understood (stage 9 7) file_content_text) ≡ CreateIndex 6)
+    × (statement_of file_content_text (understood (stage 9 7) file_content_text) ≡ file_content_text) × IsPlain (understood (stage 9 7) file_content_text)
+unfolding understood everything
+file_content_meant = (refl, refl, refl, (refl, refl))
+
+file_content_made : MakesIndex (stage 9 7) file_content_text (stage 9 8)
+unfolding digits same_name
+file_content_made = record { at = 6; command = file_content_meant.1; statement = file_content_meant.2; plain = file_content_meant.3; table = file_table; place = refl; index = plain_index (codes "file_content") 0 10 (3 ∷ []); defined = file_content_meant.0; is = refl }
+
+abbrev pub content_mark_text : List ℕ
+content_mark_text = codes "CREATE INDEX content_mark ON content (mark)"
+
+content_mark_meant : (index_defined_by content_table content_mark_text ≡ Ok (plain_index (codes "content_mark") 0 13 (2 ∷ []))) × (command_of (understood (stage 9 8) content_mark_text) ≡ CreateIndex 8)
+    × (statement_of content_mark_text (understood (stage 9 8) content_mark_text) ≡ content_mark_text) × IsPlain (understood (stage 9 8) content_mark_text)
+unfolding understood everything
+content_mark_meant = (refl, refl, refl, (refl, refl))
+
+content_mark_made : MakesIndex (stage 9 8) content_mark_text (stage 9 9)
+unfolding digits same_name
+content_mark_made = record { at = 8; command = content_mark_meant.1; statement = content_mark_meant.2; plain = content_mark_meant.3; table = content_table; place = refl; index = plain_index (codes "content_mark") 0 13 (2 ∷ []); defined = content_mark_meant.0; is = refl }
+
+abbrev pub deposit_due_text : List ℕ
+deposit_due_text = codes "CREATE INDEX deposit_due ON deposit (due)"
+
+deposit_due_meant : (index_defined_by deposit_table deposit_due_text ≡ Ok (plain_index (codes "deposit_due") 0 8 (10 ∷ []))) × (command_of (understood (stage 9 9) deposit_due_text) ≡ CreateIndex 5)
+    × (statement_of deposit_due_text (understood (stage 9 9) deposit_due_text) ≡ deposit_due_text) × IsPlain (understood (stage 9 9) deposit_due_text)
+unfolding understood everything
+deposit_due_meant = (refl, refl, refl, (refl, refl))
+
+deposit_due_made : MakesIndex (stage 9 9) deposit_due_text (stage 9 10)
+unfolding digits same_name
+deposit_due_made = record { at = 5; command = deposit_due_meant.1; statement = deposit_due_meant.2; plain = deposit_due_meant.3; table = deposit_table; place = refl; index = plain_index (codes "deposit_due") 0 8 (10 ∷ []); defined = deposit_due_meant.0; is = refl }
+
 abbrev pub create_texts : List (List ℕ)
-create_texts = office_text ∷ caller_text ∷ rule_text ∷ class_text ∷ collection_text ∷ deposit_text ∷ file_text ∷ hold_text ∷ hold_deposit_text ∷ hold_collection_text ∷ []
+create_texts = office_text ∷ caller_text ∷ rule_text ∷ class_text ∷ collection_text ∷ deposit_text ∷ file_text ∷ hold_text ∷ content_text ∷ hold_deposit_text ∷ hold_collection_text ∷ file_content_text ∷ content_mark_text ∷ deposit_due_text ∷ []
 
 -- the texts lead from no schema to that of an office
 pub builds_office : Builds no_schema create_texts office_schema
-builds_office = (stage 1 0, inl office_made, (stage 2 1, inl caller_made, (stage 3 1, inl rule_made, (stage 4 2, inl class_made, (stage 5 3, inl collection_made, (stage 6 4, inl deposit_made, (stage 7 5, inl file_made, (stage 8 5, inl hold_made, (stage 8 6, inr hold_deposit_made, (stage 8 7, inr hold_collection_made, refl))))))))))
+builds_office = (stage 1 0, inl office_made, (stage 2 1, inl caller_made, (stage 3 1, inl rule_made, (stage 4 2, inl class_made, (stage 5 3, inl collection_made, (stage 6 4, inl deposit_made, (stage 7 5, inl file_made, (stage 8 5, inl hold_made, (stage 9 5, inl content_made, (stage 9 6, inr hold_deposit_made, (stage 9 7, inr hold_collection_made, (stage 9 8, inr file_content_made, (stage 9 9, inr content_mark_made, (stage 9 10, inr deposit_due_made, refl))))))))))))))
 
 -- ---- the row of the office
 
 abbrev pub start_text : List ℕ
-start_text = codes "INSERT INTO office (id, version, max_deposits, max_holds) VALUES (1, 1, ?1, ?2)"
+start_text = codes "INSERT INTO office (id, version, max_deposits, max_holds) VALUES (1, 3, ?1, ?2)"
 
 abbrev pub start_terms : List Term
-start_terms = lit (Int (pos 1)) ∷ lit Null ∷ lit (Int (pos 1)) ∷ col 0 0 ∷ col 0 1 ∷ []
+start_terms = lit (Int (pos 1)) ∷ lit Null ∷ lit (Int (pos 3)) ∷ col 0 0 ∷ col 0 1 ∷ []
 
 pub start_means : Means office_schema start_text (Insert 0 (Values start_terms 5))
 unfolding understood everything

@@ -1,5 +1,5 @@
 -- What a deposit that was put tells of the rows before it: its number and its accession are new, and its collection and its class are there.
-use Rattle.std.proofs.Common.{◌≡◌, ℕ, ℤ, [], ◌∷◌, filter, slice_get, option_map, Bool, true, None, Ok, IsTrue, map, refl, sym, ap, subst, ◌∙◌}
+use Rattle.std.proofs.Common.{◌≡◌, ℕ, ℤ, pos, [], ◌∷◌, filter, slice_get, option_map, Bool, true, None, Ok, IsTrue, map, refl, sym, ap, ap₂, subst, ◌∙◌}
 use Rattle.std.specs.List.{AllByRecursion, list_any}
 use Rattle.std.proofs.lemmas.Bool.{and_parts}
 use Rattle.sqlite.specs.declared.types.Value.TheVariants.{Null, Int, Text}
@@ -23,8 +23,8 @@ use Rattle.sql_meaning.proofs.RowidKeys.{has_number, one_numbered}
 use Rattle.sql_meaning.proofs.Edits.{any_mapped, cast_null, cast_int}
 use Rattle.sql_meaning.proofs.Whole.{keeps_rule}
 use Rattle.office_tables.specs.Schema.{office_schema, deposit_table}
-use Rattle.office_rows.specs.Rows.{DepositRow, put_by, with_deposit, is_deposit, deposit_numbered, has_accession, deposit_by, is_class, has_class, is_collection, has_collection}
-use Rattle.office_tables.specs.Tables.{IsOffice, Becomes, tables_of, deposit_in, class_in, collection_in}
+use Rattle.office_rows.specs.Rows.{DepositRow, DueRow, put_by, with_deposit, is_deposit, deposit_numbered, has_accession, deposit_by, is_class, has_class, is_collection, has_collection}
+use Rattle.office_tables.specs.Tables.{IsOffice, Becomes, tables_of, deposit_in, due_in, class_in, collection_in}
 use Rattle.office_tables.specs.Deposits.{IsAdded}
 use Rattle.office_tables.proofs.Frames.{idle, becomes}
 use Rattle.office_tables.proofs.InOrder.{placed}
@@ -37,7 +37,7 @@ abbrev pub params_of : DepositRow → Row
 params_of d = Int d.number ∷ Text d.accession ∷ Text d.collection ∷ Text d.class ∷ Int d.closed ∷ Int d.deposited ∷ Int d.files ∷ Int d.bytes ∷ []
 
 abbrev stored_of : DepositRow → Row
-stored_of d = Null ∷ Text d.accession ∷ Text d.collection ∷ Text d.class ∷ Int d.closed ∷ Int d.deposited ∷ Int d.files ∷ Int d.bytes ∷ Null ∷ []
+stored_of d = Null ∷ Text d.accession ∷ Text d.collection ∷ Text d.class ∷ Int d.closed ∷ Int d.deposited ∷ Int d.files ∷ Int d.bytes ∷ Null ∷ Null ∷ Int (pos 0) ∷ []
 
 module _ (old new : State) (d : DepositRow) (kept : d.gone ≡ None) (count : ℕ) (office : IsOffice old.now) (h : Executes put_text (params_of d) old new (Ok count)) where
   abbrev row : Row
@@ -47,17 +47,19 @@ module _ (old new : State) (d : DepositRow) (kept : d.gone ≡ None) (count : �
   edit = edit_of old.now.trees deposit_table [] Chosen 0 (row ∷ [])
 
   change : Changes office_schema old new edit count edit.news
-  change = inserts put_text (params_of d) old new office_schema office.schema_is 5 deposit_table refl idle put_terms 10 put_means refl refl count h
+  change = inserts put_text (params_of d) old new office_schema office.schema_is 5 deposit_table refl idle put_terms 12 put_means refl refl count h
 
   cast_is : cast_row deposit_table row ≡ row
-  cast_is = rw (cast_null, cast_int d.number, cast_int d.closed, cast_int d.deposited, cast_int d.files, cast_int d.bytes) refl
+  cast_is = rw (cast_null, cast_int d.number, cast_int d.closed, cast_int d.deposited, cast_int d.files, cast_int d.bytes, cast_int (pos 0)) refl
 
   after : Becomes new.now (with_deposit d (tables_of old.now))
   after =
       let number : DepositRow → ℤ = λ e. e.number in
       let is_d : deposit_in row ≡ d = ap (λ g. record d { gone = g }) (sym kept) in
       let at_its_place = placed deposit_in number (λ r. refl) old new deposit_table row (stored_of d) d.number count edit.news office.shaped.1.1.1.1.1.0 cast_is change in
-      becomes old new edit count edit.news office.shaped change _ (ap (λ rows. record (tables_of old.now) { deposits = rows }) (at_its_place ∙ ap (λ x. put_by number x (map deposit_in (old.now.trees 8))) is_d))
+      let due_at_its_place = placed due_in (λ (e : DueRow). e.number) (λ r. refl) old new deposit_table row (stored_of d) d.number count edit.news office.shaped.1.1.1.1.1.0 cast_is change in
+      becomes old new edit count edit.news office.shaped change _ (ap₂ (λ rows dues. record (tables_of old.now) { deposits = rows; dues = dues })
+      (at_its_place ∙ ap (λ x. put_by number x (map deposit_in (old.now.trees 8))) is_d) due_at_its_place)
 
   row_is : put office_schema Enforced old.now.trees new.now.trees deposit_table row change.applies ≡ row
   row_is = ap (with_rowid Chosen (old.now.trees 8)) cast_is

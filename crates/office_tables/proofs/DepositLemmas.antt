@@ -1,9 +1,10 @@
 -- What the statements on deposits do to the rows of an office.
-use Rattle.std.proofs.Common.{IsTrue, ◌≡◌, ◌⊎◌, ℕ, ℤ, List, [], ◌∷◌, map, filter, drop, slice_get, option_map, true, codes, Some, Ok, refl, sym, ap, subst, ◌∙◌}
+use Rattle.std.proofs.Common.{IsTrue, Bool, false, inl, inr, ap₂, if◌then◌else◌, ◌≡◌, ◌⊎◌, ℕ, ℤ, List, [], ◌∷◌, map, filter, drop, slice_get, option_map, true, codes, Some, Ok, refl, sym, ap, subst, ◌∙◌}
 use Rattle.std.specs.List.{AllByRecursion}
+use Rattle.sqlite.specs.declared.types.Value.{Value}
 use Rattle.sqlite.specs.declared.types.Value.TheVariants.{Null, Int, Text}
 use Rattle.sqlite.specs.Order.{Row, column}
-use Rattle.sqlite.specs.Edit.{id_in, edit_of}
+use Rattle.sqlite.specs.Edit.{id_in, edit_of, edited}
 use Rattle.sqlite.specs.Rowids.TheVariants.{Given}
 use Rattle.sqlite.specs.Cast.{cast, cast_row}
 use Rattle.sqlite.specs.Kind.TheVariants as kind
@@ -23,22 +24,24 @@ use Rattle.sql_meaning.proofs.Scanning.{shown_of, finds_one}
 use Rattle.sql_meaning.proofs.Reading.{reads_same, reads_one, reads_rising}
 use Rattle.sql_meaning.proofs.TextKeys.{has_text, by_text, each_passes, few_named}
 use Rattle.sql_meaning.proofs.RowidKeys.{by_number, has_number, each_numbered, few_numbered, rising}
-use Rattle.sql_meaning.proofs.Typed.{text_at, int_in, all_both}
+use Rattle.sql_meaning.proofs.Typed.{text_at, int_in, maybe_int_at as some_int_at, all_both}
 use Rattle.sql_meaning.proofs.Edits.{decoded, cast_null, cast_int}
 use Rattle.sql_meaning.proofs.Whole.{keeps_rule}
 use Rattle.sql_meaning.proofs.Changing.{revises}
-use Rattle.office_tables.specs.Schema.{office_schema, deposit_table, needed}
+use Rattle.office_tables.specs.Schema.{office_schema, deposit_table, needed, optional}
 use Rattle.office_rows.specs.Rows.{DepositRow, is_deposit, deposit_numbered, has_accession, deposit_by, last_number, with_gone}
-use Rattle.office_tables.specs.Tables.{IsOffice, Becomes, tables_of, deposit_in}
+use Rattle.office_tables.specs.Tables.{IsOffice, Becomes, tables_of, deposit_in, due_in}
 use Rattle.office_tables.specs.Deposits.{shown_deposit}
 use Rattle.office_tables.proofs.Frames.{idle, becomes}
 use Rattle.office_tables.proofs.LastRow.{reads_last}
 use Rattle.office_tables.proofs.DepositTexts.{deposit_text, accession_text, deposits_text, last_text, asks_last, deposit_columns, asks_deposit, asks_accession, asks_deposits, gone_text, gone_columns, gone_means}
 
 -- a stored deposit, as the rules of its table leave it
-abbrev IsDepositRow : Row → Type 0
+abbrev pub IsDepositRow : Row → Type 0
 IsDepositRow r = (column r 2 ≡ Text (bytes_at r 2)) × (column r 3 ≡ Text (bytes_at r 3)) × (column r 4 ≡ Text (bytes_at r 4))
     × (column r 5 ≡ Int (int_at r 5)) × (column r 6 ≡ Int (int_at r 6)) × (column r 7 ≡ Int (int_at r 7)) × (column r 8 ≡ Int (int_at r 8))
+    × ((column r 10 ≡ Null) ⊎ (column r 10 ≡ Int (int_at r 10))) × (column r 11 ≡ Int (int_at r 11))
+    × ((column r 9 ≡ Null) ⊎ (column r 9 ≡ Int (int_at r 9)))
 
 pub deposit_rows : (db : Database) → IsOffice db → AllByRecursion IsDepositRow (db.trees 8)
 deposit_rows db office = all_both (λ r t p. (
@@ -49,6 +52,9 @@ deposit_rows db office = all_both (λ r t p. (
   int_in office_schema db.trees deposit_table r t p 5 (needed (codes "deposited") kind.Integer) refl refl refl refl refl,
   int_in office_schema db.trees deposit_table r t p 6 (needed (codes "files") kind.Integer) refl refl refl refl refl,
   int_in office_schema db.trees deposit_table r t p 7 (needed (codes "bytes") kind.Integer) refl refl refl refl refl,
+  some_int_at office_schema db.trees deposit_table r t p 9 (optional (codes "due") kind.Integer) refl refl refl refl,
+  int_in office_schema db.trees deposit_table r t p 10 (needed (codes "holds") kind.Integer) refl refl refl refl refl,
+  some_int_at office_schema db.trees deposit_table r t p 8 (optional (codes "gone") kind.Integer) refl refl refl refl,
 )) (db.trees 8) (keeps_rule office Datatype).1.1.1.1.1.0 (keeps_rule office NotNull).1.1.1.1.1.0
 
 -- ---- one deposit
@@ -107,14 +113,28 @@ finds_last old new rows office h =
 
 -- ---- the day when it was destroyed
 
+-- what an edit of other columns leaves of the typed rows
+pub kept_alike : {Y : Type 0} (decode : Row → Y) (keep : Row → Bool) (set : Row → Row) → ((r : Row) → decode (set r) ≡ decode r) → (rows : List Row)
+    → map decode (map (λ r. if keep r then set r else r) rows) ≡ map decode rows
+kept_alike decode keep set same [] = refl
+kept_alike decode keep set same (r ∷ rows) = ap₂ (λ y ys. y ∷ ys) (one (keep r)) (kept_alike decode keep set same rows)
+  where
+    one : (b : Bool) → decode (if b then set r else r) ≡ decode r
+    one true = same r
+    one false = refl
+
 abbrev set_gone : ℤ → Row → Row
-set_gone day r = rowid r ∷ Null ∷ Text (bytes_at r 2) ∷ Text (bytes_at r 3) ∷ Text (bytes_at r 4) ∷ Int (int_at r 5) ∷ Int (int_at r 6) ∷ Int (int_at r 7) ∷ Int (int_at r 8) ∷ Int day ∷ []
+set_gone day r = rowid r ∷ Null ∷ Text (bytes_at r 2) ∷ Text (bytes_at r 3) ∷ Text (bytes_at r 4) ∷ Int (int_at r 5) ∷ Int (int_at r 6) ∷ Int (int_at r 7) ∷ Int (int_at r 8) ∷ Int day ∷ column r 10 ∷ Int (int_at r 11) ∷ []
+
+pub keeps_int : (v : Value) → (v ≡ Null) ⊎ (v ≡ Int (id_in v)) → cast kind.Integer v ≡ v
+keeps_int v (inl is) = subst (λ w. cast kind.Integer w ≡ w) (sym is) cast_null
+keeps_int v (inr is) = subst (λ w. cast kind.Integer w ≡ w) (sym is) (cast_int (id_in v))
 
 cast_gone : (n day : ℤ) (r : Row) → IsDepositRow r → IsTrue (is_int (rowid r)) → cast_row deposit_table (drop 1 (shown_of (Int n ∷ Int day ∷ []) gone_columns r)) ≡ set_gone day r
 cast_gone n day r it whole =
     let id : rowid r ≡ Int (id_in (rowid r)) = int_is (rowid r) whole in
     let casts : cast kind.Integer (rowid r) ≡ rowid r = subst (λ v. cast kind.Integer v ≡ v) (sym id) (cast_int (id_in (rowid r))) in
-    rw (casts, cast_null, it.0, it.1, it.2, it.3, it.4, it.5, it.6, cast_int (int_at r 5), cast_int (int_at r 6), cast_int (int_at r 7), cast_int (int_at r 8), cast_int day) refl
+    rw (casts, cast_null, it.0, it.1, it.2, it.3, it.4, it.5, it.6, cast_int (int_at r 5), cast_int (int_at r 6), cast_int (int_at r 7), cast_int (int_at r 8), cast_int day, keeps_int (column r 10) it.7, it.8, cast_int (int_at r 11)) refl
 
 pub marks_gone : (old new : State) (n day : ℤ) (count : ℕ) → IsOffice old.now → Executes gone_text (Int n ∷ Int day ∷ []) old new (Ok count)
     → Becomes new.now (with_gone n day (tables_of old.now))
@@ -126,4 +146,5 @@ marks_gone old new n day count office h =
     (λ r there. (refl, cast_gone n day r (all_has IsDepositRow (db 8) r (deposit_rows old.now office) there) (all_has _ (db 8) r shaped.1 there), refl)) count h in
     let edit = edit_of db deposit_table (ids_of done.answer) Given 1 done.answer in
     let gone_is = decoded deposit_in (has_number n) (set_gone day) (is_deposit n) (λ d. record d { gone = Some day }) (λ r. refl) (λ r. refl) (db 8) in
-    becomes old new edit count edit.news office.shaped done.change _ (ap (λ rows. record (tables_of old.now) { deposits = rows }) (ap (map deposit_in) done.made ∙ gone_is))
+    let dues_are : map due_in (edited db edit) ≡ map due_in (db 8) = ap (map due_in) done.made ∙ kept_alike due_in (has_number n) (set_gone day) (λ r. refl) (db 8) in
+    becomes old new edit count edit.news office.shaped done.change _ (ap₂ (λ rows dues. record (tables_of old.now) { deposits = rows; dues = dues }) (ap (map deposit_in) done.made ∙ gone_is) dues_are)

@@ -1,6 +1,6 @@
 -- What the statements on deposits mean under the schema of an office.
-use Rattle.std.proofs.Common.{ℕ, List, [], ◌∷◌, codes, refl}
-use Rattle.sqlite.specs.declared.types.Value.TheVariants.{Null}
+use Rattle.std.proofs.Common.{ℕ, pos, List, [], ◌∷◌, codes, refl}
+use Rattle.sqlite.specs.declared.types.Value.TheVariants.{Null, Int}
 use Rattle.sqlite.specs.Term.{Term, lit, col}
 use Rattle.sqlite.specs.Command.TheVariants.{Insert, Update}
 use Rattle.sqlite.specs.Source.TheVariants.{Values}
@@ -46,12 +46,12 @@ asks_deposits = record { names = deposit_names; command = refl; unlisted = refl;
 -- ---- writes
 
 abbrev pub put_text : List ℕ
-put_text = codes "INSERT INTO deposit (number, accession, collection, class, closed, deposited, files, bytes) VALUES (?1, ?2, ?3, ?4, ?5, ?6, ?7, ?8)"
+put_text = codes "INSERT INTO deposit (number, accession, collection, class, closed, deposited, files, bytes, holds) VALUES (?1, ?2, ?3, ?4, ?5, ?6, ?7, ?8, 0)"
 
 abbrev pub put_terms : List Term
-put_terms = col 0 0 ∷ lit Null ∷ col 0 1 ∷ col 0 2 ∷ col 0 3 ∷ col 0 4 ∷ col 0 5 ∷ col 0 6 ∷ col 0 7 ∷ lit Null ∷ []
+put_terms = col 0 0 ∷ lit Null ∷ col 0 1 ∷ col 0 2 ∷ col 0 3 ∷ col 0 4 ∷ col 0 5 ∷ col 0 6 ∷ col 0 7 ∷ lit Null ∷ lit Null ∷ lit (Int (pos 0)) ∷ []
 
-pub put_means : Means office_schema put_text (Insert 5 (Values put_terms 10))
+pub put_means : Means office_schema put_text (Insert 5 (Values put_terms 12))
 unfolding understood everything
 put_means = record { is = refl; plain = (refl, refl) }
 
@@ -59,7 +59,7 @@ abbrev pub gone_text : List ℕ
 gone_text = codes "UPDATE deposit SET gone = ?2 WHERE number = ?1"
 
 abbrev pub gone_columns : List Term
-gone_columns = col 1 0 ∷ col 1 0 ∷ lit Null ∷ col 1 2 ∷ col 1 3 ∷ col 1 4 ∷ col 1 5 ∷ col 1 6 ∷ col 1 7 ∷ col 1 8 ∷ col 0 1 ∷ []
+gone_columns = col 1 0 ∷ col 1 0 ∷ lit Null ∷ col 1 2 ∷ col 1 3 ∷ col 1 4 ∷ col 1 5 ∷ col 1 6 ∷ col 1 7 ∷ col 1 8 ∷ col 0 1 ∷ col 1 10 ∷ col 1 11 ∷ []
 
 pub gone_means : Means office_schema gone_text (Update 5 (as_program (scan 8 by_number gone_columns [])))
 unfolding understood everything

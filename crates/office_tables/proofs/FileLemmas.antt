@@ -15,9 +15,9 @@ use Rattle.std.proofs.lemmas.Map.Text.{is_eq-slice_cmp}
 use Rattle.std.proofs.lemmas.List.Sorted.{IsPermutation-map, IsPermutation-sym, All-permutation}
 use Rattle.std.proofs.lemmas.Slice.Eq.{bytes_eq-Decides}
 use Rattle.std.proofs.lemmas.List.Elements.{recursion_from_All, All-from_recursion}
-use Rattle.sqlite.specs.declared.types.Value.TheVariants.{Null, Int, Text, Blob}
+use Rattle.sqlite.specs.declared.types.Value.TheVariants.{Null, Int, Text}
 use Rattle.sqlite.specs.Order.{Row, column, value_cmp}
-use Rattle.sqlite.specs.Edit.{Edit, edit_of, with_rowid}
+use Rattle.sqlite.specs.Edit.{Edit, edit_of, with_rowid, next_rowid}
 use Rattle.sqlite.specs.Rowids.TheVariants.{Chosen, Given}
 use Rattle.sqlite.specs.Cast.{cast_row}
 use Rattle.sqlite.specs.Kind.TheVariants as kind
@@ -40,13 +40,14 @@ use Rattle.sqlite_keyed.proofs.ListLemmas.{ascending-map, ascending-filter, all_
 use Rattle.sqlite_rules.specs.Lists.{Has}
 use Rattle.sqlite_rules.specs.Calls.{ids_of}
 use Rattle.sqlite_rules.proofs.ListLemmas.{all_has, all_from, has_filtered, has_kept, has_found}
+use Rattle.sqlite_rules.proofs.ProbeLemmas.{has_mapped, mapped_has}
 use Rattle.sqlite_rules.proofs.KeyLemmas.{agree_back, agree_chain}
 use Rattle.sqlite_schema.specs.declared.schema.Constraint.TheVariants.{Datatype, NotNull, Unique}
 use Rattle.sqlite_schema.specs.declared.schema.Keys.TheVariants.{Enforced}
 use Rattle.sqlite_schema.specs.Rules.{agree, equal}
 use Rattle.sql_meaning.specs.Columns.{int_at, bytes_at}
 use Rattle.sql_meaning.proofs.Writing.{Changes, inserts}
-use Rattle.sql_meaning.proofs.Scanning.{scan, passes, shown_of}
+use Rattle.sql_meaning.proofs.Scanning.{scan, passes, shown_of, answer_complete}
 use Rattle.sql_meaning.proofs.Reading.{reads_same, reads_one, reads_scan, finds_part}
 use Rattle.sql_meaning.proofs.Inserts.{none_before}
 use Rattle.sql_meaning.proofs.Keys.{found_by, bytes_itself, int_itself, same_key, unclashed, same_text, same_int, lone}
@@ -56,11 +57,12 @@ use Rattle.sql_meaning.proofs.Whole.{keeps_rule}
 use Rattle.sql_meaning.proofs.Changing.{drops}
 use Rattle.office_tables.specs.Schema.{office_schema, file_table, needed}
 use Rattle.office_rows.proofs.Order.{map_back}
-use Rattle.office_rows.specs.Rows.{FileRow, is_file_of, is_file_at, file_at, with_file, without_files}
-use Rattle.office_tables.specs.Tables.{IsOffice, Becomes, tables_of, file_in}
+use Rattle.office_rows.specs.Rows.{FileRow, ContentRow, bytes_under, is_file_of, is_file_at, file_at, with_file}
+use Rattle.office_tables.specs.Tables.{IsOffice, Becomes, tables_of, contents_of, file_in}
+use Rattle.office_tables.specs.Contents.{references_of, IsFileAdded, AreFilesDropped}
 use Rattle.office_tables.specs.Deposits.{shown_path, path_cmp, files_by_path}
-use Rattle.office_tables.proofs.Frames.{idle, becomes}
-use Rattle.office_tables.proofs.FileTexts.{by_deposit, by_place, by_path, content_text, content_column, asks_content, paths_text, path_column, asks_paths, put_text, put_terms, put_means, drop_text, rowid_column, drop_means}
+use Rattle.office_tables.proofs.Frames.{idle, becomes, with_edit, file_rows_after, contents_after, references_after}
+use Rattle.office_tables.proofs.FileTexts.{by_deposit, by_place, by_path, content_text, content_column, asks_content, paths_text, path_column, asks_paths, ids_text, asks_ids, put_text, put_terms, put_means, drop_text, rowid_column, drop_means}
 
 -- a stored file, as the rules of its table leave it
 abbrev IsFileRow : Row → Type 0
@@ -118,22 +120,38 @@ module _ (db : Database) (office : IsOffice db) (n : ℤ) where
 
 -- ---- one file
 
+abbrev content_under : List ContentRow → Row → List ℕ
+content_under contents row = bytes_under contents (int_at row 0)
+
+-- the number that the row shows is that of the content
 pub finds_content : (old new : State) (n : ℤ) (path : List ℕ) (rows : List Row) → IsOffice old.now → Shown content_text (Int n ∷ Text path ∷ []) old new rows
-    → (new.now ≡ old.now) × (option_map (λ (f : FileRow). f.content) (file_at n path (tables_of old.now).files) ≡ option_map (λ row. bytes_at row 0) (slice_get rows 0))
+    → (new.now ≡ old.now) × (option_map (λ (f : FileRow). f.content) (file_at n path (tables_of old.now).files) ≡ option_map (content_under (contents_of old.now)) (slice_get rows 0))
 finds_content old new n path rows office h =
     let params : Row = Int n ∷ Text path ∷ [] in
     let stored = old.now.trees 10 in
+    let contents = contents_of old.now in
     let is = reads_one office_schema content_text 10 by_place content_column [] asks_content params old new office.schema_is rows h (has_place n path)
     (each_at old.now office n path) (few_files old.now office n path) in (
       reads_same office_schema content_text 10 by_place content_column [] asks_content params old new office.schema_is rows h,
-      finds_part stored rows (has_place n path) (shown_of params content_column) file_in (is_file_at n path) (λ r. refl) is (λ (f : FileRow). f.content) (λ row. bytes_at row 0) (λ r. refl),
+      finds_part stored rows (has_place n path) (shown_of params content_column) (file_in contents) (is_file_at n path) (λ r. refl) is (λ (f : FileRow). f.content) (content_under contents) (λ r. refl),
+    )
+
+-- the numbers of the contents of a deposit's files
+pub finds_contents : (old new : State) (n : ℤ) (rows : List Row) → IsOffice old.now → Shown ids_text (Int n ∷ []) old new rows
+    → (new.now ≡ old.now) × ((r : Row) → Has (old.now.trees 10) r → has_deposit n r ≡ true → Has (map (λ row. int_at row 0) rows) (int_at r 3))
+finds_contents old new n rows office h =
+    let params : Row = Int n ∷ [] in
+    let db = old.now.trees in
+    let found = reads_scan office_schema ids_text 10 by_deposit content_column [] asks_ids params old new office.schema_is rows h in (
+      reads_same office_schema ids_text 10 by_deposit content_column [] asks_ids params old new office.schema_is rows h,
+      λ r there keeps. mapped_has (λ row. int_at row 0) rows _ (answer_complete db params 10 by_deposit content_column [] rows (has_deposit n) found (each_of old.now office n) r there keeps),
     )
 
 -- ---- a new file
 
-module _ (old new : State) (n : ℤ) (path content : List ℕ) (count : ℕ) (office : IsOffice old.now) (h : Executes put_text (Int n ∷ Text path ∷ Blob content ∷ []) old new (Ok count)) where
+module _ (old new : State) (n : ℤ) (path : List ℕ) (id : ℤ) (count : ℕ) (office : IsOffice old.now) (h : Executes put_text (Int n ∷ Text path ∷ Int id ∷ []) old new (Ok count)) where
   abbrev put_columns : Row
-  put_columns = Int n ∷ Text path ∷ Blob content ∷ []
+  put_columns = Int n ∷ Text path ∷ Int id ∷ []
 
   abbrev put_edit : Edit
   put_edit = edit_of old.now.trees file_table [] Chosen 0 ((Null ∷ put_columns) ∷ [])
@@ -142,32 +160,54 @@ module _ (old new : State) (n : ℤ) (path content : List ℕ) (count : ℕ) (of
   put_change = inserts put_text put_columns old new office_schema office.schema_is 6 file_table refl idle put_terms 4 put_means refl refl count h
 
   put_cast : cast_row file_table (Null ∷ put_columns) ≡ Null ∷ put_columns
-  put_cast = rw (cast_null, cast_int n) refl
+  put_cast = rw (cast_null, cast_int n, cast_int id) refl
 
-  pub puts_file : Becomes new.now (with_file (record { deposit = n; path = path; content = content }) (tables_of old.now))
+  put_end : (with_edit put_edit old.now).trees 10 ≡ old.now.trees 10 ++ (Int (next_rowid (old.now.trees 10)) ∷ put_columns) ∷ []
+  put_end = appended old.now.trees file_table (Null ∷ put_columns) put_columns office.shaped.1.1.1.1.1.1.0 put_cast
+
+  puts_file : Becomes new.now (with_file (record { deposit = n; path = path; content = bytes_under (contents_of old.now) id }) (tables_of old.now))
   puts_file =
-      let end = appended old.now.trees file_table (Null ∷ put_columns) put_columns office.shaped.1.1.1.1.1.1.0 put_cast in
-      becomes old new put_edit count put_edit.news office.shaped put_change _ (ap (λ rows. record (tables_of old.now) { files = rows }) (ap (map file_in) end ∙ map-append file_in (old.now.trees 10) _))
+      becomes old new put_edit count put_edit.news office.shaped put_change _ (ap (λ rows. record (tables_of old.now) { files = rows })
+      (ap (map (file_in (contents_of old.now))) put_end ∙ map-append (file_in (contents_of old.now)) (old.now.trees 10) _))
 
   -- so there was no such file
-  pub path_was_new : file_at n path (tables_of old.now).files ≡ None
+  path_was_new : file_at n path (tables_of old.now).files ≡ None
   path_was_new =
       let stored = old.now.trees 10 in
       let places : has_place n path (with_rowid Chosen stored (Null ∷ put_columns)) ≡ true = ap₂ ◌&&◌ (int_itself n) (bytes_itself path) in
       let placed : has_place n path (with_rowid Chosen stored (cast_row file_table (Null ∷ put_columns))) ≡ true = ap (λ r. has_place n path (with_rowid Chosen stored r)) put_cast ∙ places in
       let none = none_before office_schema Enforced old.now.trees new.now.trees file_table (Null ∷ put_columns) put_change.applies (has_place n path) placed (one_file new.now puts_file.office n path) in
-      found_by (is_file_at n path) (has_place n path) file_in stored (all_from _ stored (λ r there. refl)) ∙ ap (λ rs. option_map file_in (slice_get rs 0)) none
+      found_by (is_file_at n path) (has_place n path) (file_in (contents_of old.now)) stored (all_from _ stored (λ r there. refl)) ∙ ap (λ rs. option_map (file_in (contents_of old.now)) (slice_get rs 0)) none
+
+  pub adds_file : IsFileAdded n path id old.now new.now
+  adds_file = record {
+    becomes = puts_file;
+    contents = contents_after old new put_edit count put_edit.news put_change;
+    references = references_after old new put_edit count put_edit.news put_change ∙ ap (map (λ row. int_at row 3)) put_end ∙ map-append (λ row. int_at row 3) (old.now.trees 10) _;
+    new_path = path_was_new;
+  }
 
 -- ---- the files of a deposit are dropped
 
-pub drops_files : (old new : State) (n : ℤ) (count : ℕ) → IsOffice old.now → Executes drop_text (Int n ∷ []) old new (Ok count)
-    → Becomes new.now (without_files n (tables_of old.now))
+pub drops_files : (old new : State) (n : ℤ) (count : ℕ) → IsOffice old.now → Executes drop_text (Int n ∷ []) old new (Ok count) → AreFilesDropped n old.now new.now
 drops_files old new n count office h =
     let db = old.now.trees in
     let done = drops drop_text (Int n ∷ []) old new office_schema office.schema_is 6 file_table refl idle office.shaped.1.1.1.1.1.1.0 by_deposit rowid_column
     (has_deposit n) (each_of old.now office n) drop_means (λ r. refl) count h in
-    let others_stay = sym (filter-map (λ f. not (is_file_of n f)) file_in (db 10)) in
-    becomes old new (edit_of db file_table (ids_of done.answer) Given 0 []) count _ office.shaped done.change _ (ap (λ rows. record (tables_of old.now) { files = rows }) (ap (map file_in) done.made ∙ others_stay))
+    let edit = edit_of db file_table (ids_of done.answer) Given 0 [] in
+    let decode = file_in (contents_of old.now) in
+    let others_stay = sym (filter-map (λ f. not (is_file_of n f)) decode (db 10)) in
+    let rows : new.now.trees 10 ≡ filter (λ r. not (has_deposit n r)) (db 10) = file_rows_after old new edit count _ done.change ∙ done.made in
+    record {
+      becomes = becomes old new edit count _ office.shaped done.change _ (ap (λ rows. record (tables_of old.now) { files = rows }) (ap (map decode) done.made ∙ others_stay));
+      contents = contents_after old new edit count _ done.change;
+      references = λ id there.
+          let r = has_mapped (λ row. int_at row 3) (db 10) id there in
+          elim (cases_Bool (has_deposit n r.0)) [
+            | inl his ↦ inr (r.0, r.1, his, sym r.2)
+            | inr other ↦ inl (subst (Has (references_of new.now)) (sym r.2) (mapped_has (λ row. int_at row 3) (new.now.trees 10) r.0 (subst (λ rs. Has rs r.0) (sym rows) (has_kept (λ r. not (has_deposit n r)) (db 10) r.0 r.1 (ap not other)))))
+          ];
+    }
 
 -- ---- the paths of the files of a deposit
 
@@ -244,8 +284,9 @@ lists_paths old new n rows office h =
     (ascending-filter (λ a b. value_cmp (rowid a) (rowid b) ≡ Less) keep (db 10) office.shaped.1.1.1.1.1.1.0.0) in
     let distinct = ascending-map (λ s t. is_eq (text_cmp s t) ≡ false) path_in kept apart in
     let sorted_is : map shown_by found.ordered ≡ sort_by text_cmp (map path_in kept) = sorted_is-sort_by text_cmp text_total (map path_in kept) (map shown_by found.ordered) distinct moved up in
-    let files = filter (is_file_of n) (map file_in (db 10)) in
-    let paths_are : map (λ (f : FileRow). f.path) files ≡ map path_in kept = ap (map (λ (f : FileRow). f.path)) (filter-map (is_file_of n) file_in (db 10)) ∙ map-map (λ (f : FileRow). f.path) file_in kept in
+    let decode = file_in (contents_of old.now) in
+    let files = filter (is_file_of n) (map decode (db 10)) in
+    let paths_are : map (λ (f : FileRow). f.path) files ≡ map path_in kept = ap (map (λ (f : FileRow). f.path)) (filter-map (is_file_of n) decode (db 10)) ∙ map-map (λ (f : FileRow). f.path) decode kept in
     let in_order : map (λ (f : FileRow). f.path) (sort_by path_cmp files) ≡ sort_by text_cmp (map path_in kept) = sym (sort_by-map text_cmp (λ (f : FileRow). f.path) files) ∙ ap (sort_by text_cmp) paths_are in
     let rows_are : map shown_path rows ≡ map shown_by found.ordered = ap (map shown_path) found.shown ∙ map-map shown_path (λ (o : Row × Row). o.1) found.ordered in (
       reads_same office_schema paths_text 10 by_deposit path_column by_path asks_paths params old new office.schema_is rows h,
@@ -282,27 +323,30 @@ module _ (db : Database) (office : IsOffice db) (n : ℤ) where
   abbrev stored : List Row
   stored = db.trees 10
 
+  abbrev decode : Row → FileRow
+  decode = file_in (contents_of db)
+
   abbrev IsFound : FileRow → Type 0
   IsFound f = file_at n f.path (tables_of db).files ≡ Some f
 
   -- a file of the deposit is the one at its path
-  found_there : (r : Row) → Has stored r → has_deposit n r ≡ true → IsFound (file_in r)
+  found_there : (r : Row) → Has stored r → has_deposit n r ≡ true → IsFound (decode r)
   found_there r there keeps =
       let path = bytes_at r 2 in
       let its_path : bytes_eq path path ≡ true = bytes_itself path in
       let placed : has_place n path r ≡ true = rw (keeps, its_path) refl in
-      let first = found_by (is_file_at n path) (has_place n path) file_in stored (all_from _ stored (λ r there. refl)) in
+      let first = found_by (is_file_at n path) (has_place n path) decode stored (all_from _ stored (λ r there. refl)) in
       elim (few_files db office n path) [
         | inl none ↦ absurd (subst (λ rs. Has rs r) none (has_kept (has_place n path) stored r there placed))
-        | inr (other, kept, passes, only) ↦ first ∙ ap (λ rs. option_map file_in (slice_get rs 0)) only ∙ ap (λ x. Some (file_in x)) (one_file db office n path other r kept there passes placed)
+        | inr (other, kept, passes, only) ↦ first ∙ ap (λ rs. option_map decode (slice_get rs 0)) only ∙ ap (λ x. Some (decode x)) (one_file db office n path other r kept there passes placed)
       ]
 
   each_found : AllByRecursion IsFound (files_by_path n (tables_of db))
   each_found =
       let kept = filter (has_deposit n) stored in
-      let files = filter (is_file_of n) (map file_in stored) in
-      let all_kept : AllByRecursion IsFound (map file_in kept) = all_map IsFound file_in kept (all_from (λ r. IsFound (file_in r)) kept (λ r there. let it = has_filtered (has_deposit n) stored r there in found_there r it.0 it.1)) in
-      let all_files : AllByRecursion IsFound files = subst (AllByRecursion IsFound) (sym (filter-map (is_file_of n) file_in stored)) all_kept in
+      let files = filter (is_file_of n) (map decode stored) in
+      let all_kept : AllByRecursion IsFound (map decode kept) = all_map IsFound decode kept (all_from (λ r. IsFound (decode r)) kept (λ r there. let it = has_filtered (has_deposit n) stored r there in found_there r it.0 it.1)) in
+      let all_files : AllByRecursion IsFound files = subst (AllByRecursion IsFound) (sym (filter-map (is_file_of n) decode stored)) all_kept in
       all-permutation IsFound files (sort_by path_cmp files) (IsPermutation-sym (sort_by path_cmp files) files (IsPermutation-sort_by path_cmp path_total files)) all_files
 
   -- the files at the paths of the deposit's files are these files

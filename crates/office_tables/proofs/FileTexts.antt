@@ -38,6 +38,13 @@ pub asks_content : Asks office_schema content_text 10 by_place content_column []
 unfolding understood everything
 asks_content = record { names = codes "content" ∷ []; command = refl; unlisted = refl; plain = (refl, refl) }
 
+abbrev pub ids_text : List ℕ
+ids_text = codes "SELECT content FROM file WHERE deposit = ?1"
+
+pub asks_ids : Asks office_schema ids_text 10 by_deposit content_column []
+unfolding understood everything
+asks_ids = record { names = codes "content" ∷ []; command = refl; unlisted = refl; plain = (refl, refl) }
+
 abbrev pub paths_text : List ℕ
 paths_text = codes "SELECT path FROM file WHERE deposit = ?1 ORDER BY path"
 

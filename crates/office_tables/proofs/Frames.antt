@@ -1,5 +1,5 @@
 -- A change of one table leaves an office, and the rows of the other tables.
-use Rattle.std.proofs.Common.{◌≡◌, ℕ, ◌==◌, length, List, refl, ◌∙◌, inl, inr}
+use Rattle.std.proofs.Common.{◌≡◌, ℕ, ◌==◌, length, List, map, refl, sym, ap, subst₂, ◌∙◌, inl, inr}
 use Rattle.std.specs.List.{AllByRecursion}
 use Rattle.std.proofs.lemmas.Bool.{cases_Bool}
 use Rattle.sqlite.specs.Order.{Row}
@@ -11,7 +11,9 @@ use Rattle.sql_meaning.proofs.Writing.{Changes, IsIdle}
 use Rattle.sql_meaning.proofs.Whole.{whole_after, with_rows, rows_after}
 use Rattle.office_tables.specs.Schema.{office_schema, all_tables}
 use Rattle.office_rows.specs.Rows.{Tables}
-use Rattle.office_tables.specs.Tables.{Becomes, tables_of}
+use Rattle.sql_meaning.specs.Columns.{int_at}
+use Rattle.office_tables.specs.Tables.{Becomes, tables_of, contents_of, content_in}
+use Rattle.office_tables.specs.Contents.{references_of, AreKeptOnce, KeepsOnce}
 
 -- no reference of the schema acts
 pub idle : IsIdle office_schema
@@ -19,7 +21,7 @@ idle tree olds news = elim (cases_Bool (length news == 0)) [ inl is ↦ rw is re
 
 -- databases whose tables have the same rows show the same; each table has its place here
 same_tables : (a b : Database) → AllByRecursion (λ t. a.trees t.tree ≡ b.trees t.tree) all_tables → tables_of a ≡ tables_of b
-same_tables a b is = rw (is.0, is.1.0, is.1.1.0, is.1.1.1.0, is.1.1.1.1.0, is.1.1.1.1.1.0, is.1.1.1.1.1.1.0, is.1.1.1.1.1.1.1.0) refl
+same_tables a b is = rw (is.0, is.1.0, is.1.1.0, is.1.1.1.0, is.1.1.1.1.0, is.1.1.1.1.1.0, is.1.1.1.1.1.1.0, is.1.1.1.1.1.1.1.0, is.1.1.1.1.1.1.1.1.0) refl
 
 -- the database with the rows of the edit in its table
 abbrev pub with_edit : Edit → Database → Database
@@ -31,3 +33,18 @@ becomes old new edit count written shaped change tables is = record {
   office = whole_after office_schema old new edit count written change shaped;
   are = same_tables new.now (with_edit edit old.now) (rows_after office_schema old new edit count written change) ∙ is;
 }
+
+-- what the change leaves of the contents, and of the files
+module _ (old new : State) (edit : Edit) (count : ℕ) (written : List Row) (change : Changes office_schema old new edit count written) where
+  pub file_rows_after : new.now.trees 10 ≡ (with_edit edit old.now).trees 10
+  file_rows_after = (rows_after office_schema old new edit count written change).1.1.1.1.1.1.0
+
+  pub contents_after : contents_of new.now ≡ contents_of (with_edit edit old.now)
+  contents_after = ap (map content_in) (rows_after office_schema old new edit count written change).1.1.1.1.1.1.1.1.0
+
+  pub references_after : references_of new.now ≡ references_of (with_edit edit old.now)
+  references_after = ap (map (λ (row : Row). int_at row 3)) file_rows_after
+
+  -- contents that are kept once stay so, where the change is of another table
+  pub leaves_once : KeepsOnce (with_edit edit old.now) → KeepsOnce new.now
+  leaves_once once = subst₂ AreKeptOnce (sym references_after) (sym contents_after) once

@@ -15,7 +15,15 @@ pub mod PolicyLemmas
 pub mod DepositTexts
 pub mod DepositLemmas
 pub mod DepositAdded
+pub mod ContentTexts
+pub mod ContentLemmas
 pub mod FileTexts
 pub mod FileLemmas
 pub mod OpenLemmas
 pub mod OrderLemmas
+pub mod HeldLemmas
+pub mod OnceLemmas
+pub mod DueTexts
+pub mod DueLemmas
+pub mod MatchTexts
+pub mod MatchLemmas

@@ -1,12 +1,17 @@
 -- The rows of an office are in order.
-use Rattle.std.proofs.Common.{◌≡◌, ℕ, ℤ, List, [], ◌∷◌, map, Less, refl, ◌∙◌}
+use Rattle.std.proofs.Common.{◌≡◌, ◌≤ℤ◌, ℕ, ℤ, Bool, true, false, List, [], ◌∷◌, map, find, None, Some, Less, refl, sym, subst, ◌∙◌, inl, inr, arith}
 use Rattle.std.specs.List.{AllByRecursion}
 use Rattle.std.specs.Ordering.{int_cmp}
+use Rattle.std.proofs.lemmas.Bool.{cases_Bool}
+use Rattle.std.proofs.lemmas.Int.{ints}
+use Rattle.std.proofs.lemmas.Option.{same_Some}
 use Rattle.sqlite.specs.Order.{Row, value_cmp}
 use Rattle.sqlite.specs.Tree.{rowid, IsAscending}
 use Rattle.sqlite.specs.Effect.{Database}
 use Rattle.sqlite_trees.specs.View.{IsShaped}
 use Rattle.sqlite_trees.specs.declared.store.Shape.TheVariants as shape
+use Rattle.sqlite_rules.specs.Lists.{Has}
+use Rattle.sqlite_rules.proofs.ListLemmas.{all_has}
 use Rattle.sql_meaning.specs.Columns.{int_at}
 use Rattle.office_rows.specs.Rows.{NumbersRise, AreInOrder, live_holds}
 use Rattle.office_tables.specs.Tables.{IsOffice, tables_of, deposit_in, hold_in, rule_in}
@@ -37,3 +42,47 @@ ascending_numbers (n ∷ ns) up = (up.0, ascending_numbers ns up.1)
 
 pub live_holds_rise : (db : Database) → IsOffice db → (n : ℤ) (collection : List ℕ) → NumbersRise (λ k. k) (live_holds n collection (tables_of db))
 live_holds_rise db office n collection = ascending_numbers _ (live_rise db office n collection)
+
+-- ---- the first that passes
+
+pub first_passes : {X : Type 0} (p : X → Bool) (xs : List X) (x : X) → find p xs ≡ Some x → p x ≡ true
+first_passes p [] x is = absurd cc
+first_passes p (y ∷ ys) x is = elim (cases_Bool (p y)) [
+  | inl fits ↦ subst (λ z. p z ≡ true) (same_Some y x (rw fits at is)) fits
+  | inr isnt ↦ first_passes p ys x (rw isnt at is)
+]
+
+pub first_there : {X : Type 0} (p : X → Bool) (xs : List X) (x : X) → find p xs ≡ Some x → Has xs x
+first_there p [] x is = absurd cc
+first_there p (y ∷ ys) x is = elim (cases_Bool (p y)) [
+  | inl fits ↦ inl (sym (same_Some y x (rw fits at is)))
+  | inr isnt ↦ inr (first_there p ys x (rw isnt at is))
+]
+
+pub none_passes : {X : Type 0} (p : X → Bool) (xs : List X) → find p xs ≡ None → (x : X) → Has xs x → p x ≡ false
+none_passes p [] is x there = absurd there
+none_passes p (y ∷ ys) is x there = elim (cases_Bool (p y)) [
+  | inl fits ↦ absurd (let some : Some y ≡ None = rw fits at is in cc)
+  | inr isnt ↦ elim there [ inl same ↦ subst (λ z. p z ≡ false) (sym same) isnt | inr more ↦ none_passes p ys (rw isnt at is) x more ]
+]
+
+not_above : (a b : ℤ) → int_cmp a b ≡ Less → a ≤ℤ b
+not_above a b e = grind (arith, ints, e)
+
+itself : (a : ℤ) → a ≤ℤ a
+itself a = omega (arith, ints)
+
+pub first_is_least : {X : Type 0} (number : X → ℤ) (p : X → Bool) (xs : List X) → NumbersRise number xs → (x : X) → find p xs ≡ Some x → (y : X) → Has xs y → p y ≡ true → number x ≤ℤ number y
+first_is_least number p [] up x is y there passes = absurd there
+first_is_least number p (z ∷ zs) up x is y there passes = elim (cases_Bool (p z)) [
+  | inl fits ↦
+      let same : z ≡ x = same_Some z x (rw fits at is) in
+      subst (λ w. number w ≤ℤ number y) same (elim there [
+        | inl first ↦ subst (λ w. number z ≤ℤ number w) (sym first) (itself (number z))
+        | inr more ↦ not_above (number z) (number y) (all_has _ zs y up.0 more)
+      ])
+  | inr isnt ↦ elim there [
+    | inl first ↦ absurd (let no : p y ≡ false = subst (λ w. p w ≡ false) (sym first) isnt in cc)
+    | inr more ↦ first_is_least number p zs up.1 x (rw isnt at is) y more passes
+  ]
+]

@@ -2,7 +2,9 @@ pub mod Faults
 pub mod Schema
 pub mod Tables
 pub mod Calls
+pub mod Contents
 pub mod Opening
 pub mod ShownHolds
 pub mod ShownPolicy
 pub mod Deposits
+pub mod Dues

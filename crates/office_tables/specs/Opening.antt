@@ -13,6 +13,7 @@ use Rattle.sqlite_schema.specs.Names.{table_named, column_named}
 use Rattle.sqlite_resolve.specs.declared.compiled.Compiled.{Compiled}
 use Rattle.office_rows.specs.Rows.{Tables, is_limit, version_of}
 use Rattle.office_tables.specs.Tables.{Becomes}
+use Rattle.office_tables.specs.Contents.{KeepsOnce}
 
 -- ---- what is left
 
@@ -24,11 +25,16 @@ KeepsTables old new = IsTrue new.is_open → IsTrue old.is_open × (old.committe
 pub record IsMade (new : State) (tables : Tables) : Type 0 where
   pub is_open : IsTrue new.is_open
   pub becomes : Becomes new.now tables
+  pub once : KeepsOnce new.now
   pub committed : new.committed ≡ new.now
 
 -- what a crash may leave, where it leaves the trees of an office with these rows
 abbrev pub IsLeft : Tables → Trees → Type 0
 IsLeft tables left = (made : Database) × Becomes made tables × (left ≡ made.trees)
+
+-- the same of an office that was just made, whose contents are kept once
+abbrev pub IsMadeLeft : Tables → Trees → Type 0
+IsMadeLeft tables left = (made : Database) × Becomes made tables × KeepsOnce made × (left ≡ made.trees)
 
 -- ---- the row by which an office is known
 

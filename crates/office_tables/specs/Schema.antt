@@ -1,4 +1,4 @@
--- The schema of an office: its eight tables, all STRICT, and their indexes.
+-- The schema of an office: its nine tables, all STRICT, and their indexes.
 use Rattle.std.specs.Prelude.{true, false, [], ◌∷◌, map, take, Some, None, codes, List, ℕ}
 use Rattle.sqlite.specs.Collation.TheVariants.{Binary}
 use Rattle.sqlite.specs.declared.types.Value.TheVariants.{Null}
@@ -87,25 +87,33 @@ abbrev pub deposit_table : Table
 deposit_table = numbered (codes "deposit") 8
     (optional (codes "number") Integer ∷ needed (codes "accession") Text ∷ needed (codes "collection") Text ∷ needed (codes "class") Text
     ∷ needed (codes "closed") Integer ∷ needed (codes "deposited") Integer ∷ needed (codes "files") Integer ∷ needed (codes "bytes") Integer
-    ∷ optional (codes "gone") Integer ∷ [])
+    ∷ optional (codes "gone") Integer ∷ optional (codes "due") Integer ∷ needed (codes "holds") Integer ∷ [])
     ((2 ∷ []) ∷ []) (refers 3 (codes "collection") (codes "name") ∷ refers 4 (codes "class") (codes "name") ∷ [])
 
 abbrev pub file_table : Table
-file_table = keyed (codes "file") 10 (needed (codes "deposit") Integer ∷ needed (codes "path") Text ∷ needed (codes "content") Blob ∷ []) (1 ∷ 2 ∷ [])
+file_table = record (keyed (codes "file") 10 (needed (codes "deposit") Integer ∷ needed (codes "path") Text ∷ needed (codes "content") Integer ∷ []) (1 ∷ 2 ∷ [])) {
+  references = refers 3 (codes "content") (codes "id") ∷ [];
+}
 
 abbrev pub hold_table : Table
 hold_table = numbered (codes "hold") 12
     (optional (codes "number") Integer ∷ optional (codes "deposit") Integer ∷ optional (codes "collection") Text ∷ needed (codes "matter") Text
     ∷ needed (codes "placed") Integer ∷ optional (codes "released") Integer ∷ []) [] []
 
+abbrev pub content_table : Table
+content_table = numbered (codes "content") 13
+    (optional (codes "id") Integer ∷ needed (codes "mark") Blob ∷ needed (codes "size") Integer ∷ needed (codes "bytes") Blob ∷ []) [] []
+
 abbrev pub all_tables : List Table
-all_tables = office_table ∷ caller_table ∷ rule_table ∷ class_table ∷ collection_table ∷ deposit_table ∷ file_table ∷ hold_table ∷ []
+all_tables = office_table ∷ caller_table ∷ rule_table ∷ class_table ∷ collection_table ∷ deposit_table ∷ file_table ∷ hold_table ∷ content_table ∷ []
 
 abbrev pub all_indexes : List Index
 all_indexes = key_index (codes "sqlite_autoindex_caller_1") 2 1 (1 ∷ []) ∷ key_index (codes "sqlite_autoindex_class_1") 5 4 (1 ∷ [])
     ∷ key_index (codes "sqlite_autoindex_collection_1") 7 6 (1 ∷ []) ∷ key_index (codes "sqlite_autoindex_deposit_1") 9 8 (2 ∷ [])
     ∷ key_index (codes "sqlite_autoindex_file_1") 11 10 (1 ∷ 2 ∷ [])
-    ∷ plain_index (codes "hold_deposit") 13 12 (2 ∷ []) ∷ plain_index (codes "hold_collection") 14 12 (3 ∷ []) ∷ []
+    ∷ plain_index (codes "hold_deposit") 14 12 (2 ∷ []) ∷ plain_index (codes "hold_collection") 15 12 (3 ∷ [])
+    ∷ plain_index (codes "file_content") 16 10 (3 ∷ []) ∷ plain_index (codes "content_mark") 17 13 (2 ∷ [])
+    ∷ plain_index (codes "deposit_due") 18 8 (10 ∷ []) ∷ []
 
 abbrev pub office_schema : Schema
 office_schema = record { tables = all_tables; indexes = all_indexes; views = [] }

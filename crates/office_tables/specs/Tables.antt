@@ -5,7 +5,7 @@ use Rattle.sqlite.specs.Effect.{Database}
 use Rattle.sql_meaning.specs.Columns.{int_at, bytes_at, maybe_int_at, maybe_bytes_at}
 use Rattle.sql_meaning.specs.Whole.{IsWhole}
 use Rattle.office_tables.specs.Schema.{office_schema}
-use Rattle.office_rows.specs.Rows.{OfficeRow, Limits, CallerRow, RuleRow, ClassRow, DepositRow, FileRow, HoldRow, Tables}
+use Rattle.office_rows.specs.Rows.{OfficeRow, Limits, CallerRow, RuleRow, ClassRow, DepositRow, DueRow, FileRow, HoldRow, ContentRow, Tables, bytes_under}
 
 -- ---- a stored row; its first value is the rowid, which is the key of a table whose key is a whole number
 
@@ -44,8 +44,15 @@ deposit_in row = record {
   gone = maybe_int_at row 9;
 }
 
-abbrev pub file_in : Row → FileRow
-file_in row = record { deposit = int_at row 1; path = bytes_at row 2; content = bytes_at row 3 }
+abbrev pub due_in : Row → DueRow
+due_in row = record { number = int_at row 0; due = maybe_int_at row 10; holds = int_at row 11 }
+
+abbrev pub content_in : Row → ContentRow
+content_in row = record { id = int_at row 0; mark = bytes_at row 2; size = int_at row 3; bytes = bytes_at row 4 }
+
+-- with its content fetched from these
+abbrev pub file_in : List ContentRow → Row → FileRow
+file_in contents row = record { deposit = int_at row 1; path = bytes_at row 2; content = bytes_under contents (int_at row 3) }
 
 abbrev pub hold_in : Row → HoldRow
 hold_in row = record {
@@ -64,6 +71,11 @@ shown_limits row = record { max_deposits = int_at row 0; max_holds = int_at row 
 
 -- ---- the picture
 
+-- the contents that are kept, ascending by number
+abbrev pub contents_of : Database → List ContentRow
+contents_of db = map content_in (db.trees 13)
+
+-- each file with its content fetched through its reference
 abbrev pub tables_of : Database → Tables
 tables_of db = record {
   office = map office_in (db.trees 0);
@@ -72,7 +84,8 @@ tables_of db = record {
   classes = map class_in (db.trees 4);
   collections = map collection_in (db.trees 6);
   deposits = map deposit_in (db.trees 8);
-  files = map file_in (db.trees 10);
+  dues = map due_in (db.trees 8);
+  files = map (file_in (contents_of db)) (db.trees 10);
   holds = map hold_in (db.trees 12);
 }
 

@@ -4,6 +4,7 @@ ghost use Rattle.std.specs.Prelude.{◌≡◌, IfErr, option_map, slice_get, if�
 ghost use Rattle.sql_meaning.specs.Columns.{int_at};
 ghost use Rattle.office_tables.specs.Faults.{IsFailure};
 ghost use Rattle.office_rows.specs.Rows.{class_named, has_class, with_class, with_new_class, with_years, has_collection, with_collection, with_new_collection};
+ghost use Rattle.office_tables.specs.Contents.{LeavesOnce};
 ghost use Rattle.office_tables.specs.Calls.{CommitsNothing, Continues, Keeps, Tells, Shows, Writes};
 
 use crate::fault::TableFault;
@@ -55,6 +56,7 @@ fn revise_class<S: Alter>(
     ensures goes_on { Continues S.Store tx.old.conn.now tx.new.conn.now result }
     ensures failure { IfErr result IsFailure }
     ensures becomes { Writes S.Store tx.old.conn.now tx.new.conn.now result (with_years name.now years) }
+    ensures once { LeavesOnce S.Store tx.old.conn.now tx.new.conn.now result }
     ensures counted { Tells S.Store tx.old.conn.now tx.new.conn.now result (λ tables count. count ≡ (if has_class name.now tables then 1 else 0)) }
 {
     change(
@@ -75,6 +77,7 @@ fn add_class<S: Alter>(
     ensures goes_on { Continues S.Store tx.old.conn.now tx.new.conn.now result }
     ensures failure { IfErr result IsFailure }
     ensures becomes { Writes S.Store tx.old.conn.now tx.new.conn.now result (with_new_class name.now years) }
+    ensures once { LeavesOnce S.Store tx.old.conn.now tx.new.conn.now result }
 {
     change(
         tx,
@@ -96,6 +99,7 @@ pub fn put_class<S: Alter>(
     ensures goes_on { Continues S.Store tx.old.conn.now tx.new.conn.now result }
     ensures failure { IfErr result IsFailure }
     ensures becomes { Writes S.Store tx.old.conn.now tx.new.conn.now result (with_class name.now years) }
+    ensures once { LeavesOnce S.Store tx.old.conn.now tx.new.conn.now result }
 {
     if revise_class(tx, name, years)? == 0 {
         add_class(tx, name, years)?;
@@ -130,6 +134,7 @@ fn add_collection<S: Alter>(tx: &mut Transaction<'_, S>, name: &str) -> Result<u
     ensures goes_on { Continues S.Store tx.old.conn.now tx.new.conn.now result }
     ensures failure { IfErr result IsFailure }
     ensures becomes { Writes S.Store tx.old.conn.now tx.new.conn.now result (with_new_collection name.now) }
+    ensures once { LeavesOnce S.Store tx.old.conn.now tx.new.conn.now result }
 {
     change(
         tx,
@@ -147,6 +152,7 @@ pub fn put_collection<S: Alter>(tx: &mut Transaction<'_, S>, name: &str) -> Resu
     ensures goes_on { Continues S.Store tx.old.conn.now tx.new.conn.now result }
     ensures failure { IfErr result IsFailure }
     ensures becomes { Writes S.Store tx.old.conn.now tx.new.conn.now result (with_collection name.now) }
+    ensures once { LeavesOnce S.Store tx.old.conn.now tx.new.conn.now result }
 {
     if !has_collection(tx, name)? {
         add_collection(tx, name)?;

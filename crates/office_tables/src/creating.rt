@@ -12,7 +12,8 @@ ghost use Rattle.office_tables.specs.Faults.{IsFailure};
 ghost use Rattle.office_tables.specs.Schema.{no_schema, office_schema};
 ghost use Rattle.office_rows.specs.Rows.{this_version, empty_office, IsLimit};
 ghost use Rattle.office_tables.specs.Tables.{Becomes};
-ghost use Rattle.office_tables.specs.Opening.{KeepsTables, IsMade, IsLeft};
+ghost use Rattle.office_tables.specs.Opening.{KeepsTables, IsMade, IsMadeLeft};
+ghost use Rattle.office_tables.specs.Contents.{KeepsOnce};
 
 use crate::fault::TableFault;
 use crate::run::change;
@@ -34,7 +35,7 @@ fn define<S: Alter>(tx: &mut Transaction<'_, S>, texts: &[&str]) -> Result<(), T
     Ok(())
 }
 
-/// Makes the eight tables and their indexes in an empty database.
+/// Makes the nine tables and their indexes in an empty database.
 fn define_tables<S: Alter>(tx: &mut Transaction<'_, S>) -> Result<(), TableFault>
     ensures same_reference { tx.new.conn.ghost_name ≡ tx.old.conn.ghost_name }
     ensures stays { CommitsNothing S.Store tx.old.conn.now tx.new.conn.now }
@@ -51,11 +52,15 @@ fn define_tables<S: Alter>(tx: &mut Transaction<'_, S>) -> Result<(), TableFault
             "CREATE TABLE rule (place INTEGER PRIMARY KEY, effect INTEGER NOT NULL, role TEXT NOT NULL, action TEXT NOT NULL, collection TEXT NOT NULL, class TEXT NOT NULL) STRICT",
             "CREATE TABLE class (name TEXT NOT NULL PRIMARY KEY, years INTEGER NOT NULL) STRICT",
             "CREATE TABLE collection (name TEXT NOT NULL PRIMARY KEY) STRICT",
-            "CREATE TABLE deposit (number INTEGER PRIMARY KEY, accession TEXT NOT NULL UNIQUE, collection TEXT NOT NULL REFERENCES collection (name), class TEXT NOT NULL REFERENCES class (name), closed INTEGER NOT NULL, deposited INTEGER NOT NULL, files INTEGER NOT NULL, bytes INTEGER NOT NULL, gone INTEGER) STRICT",
-            "CREATE TABLE file (deposit INTEGER NOT NULL, path TEXT NOT NULL, content BLOB NOT NULL, PRIMARY KEY (deposit, path)) STRICT",
+            "CREATE TABLE deposit (number INTEGER PRIMARY KEY, accession TEXT NOT NULL UNIQUE, collection TEXT NOT NULL REFERENCES collection (name), class TEXT NOT NULL REFERENCES class (name), closed INTEGER NOT NULL, deposited INTEGER NOT NULL, files INTEGER NOT NULL, bytes INTEGER NOT NULL, gone INTEGER, due INTEGER, holds INTEGER NOT NULL) STRICT",
+            "CREATE TABLE file (deposit INTEGER NOT NULL, path TEXT NOT NULL, content INTEGER NOT NULL REFERENCES content (id), PRIMARY KEY (deposit, path)) STRICT",
             "CREATE TABLE hold (number INTEGER PRIMARY KEY, deposit INTEGER, collection TEXT, matter TEXT NOT NULL, placed INTEGER NOT NULL, released INTEGER) STRICT",
+            "CREATE TABLE content (id INTEGER PRIMARY KEY, mark BLOB NOT NULL, size INTEGER NOT NULL, bytes BLOB NOT NULL) STRICT",
             "CREATE INDEX hold_deposit ON hold (deposit)",
             "CREATE INDEX hold_collection ON hold (collection)",
+            "CREATE INDEX file_content ON file (content)",
+            "CREATE INDEX content_mark ON content (mark)",
+            "CREATE INDEX deposit_due ON deposit (due)",
         ],
     )
 }
@@ -72,10 +77,11 @@ fn start<S: Alter>(
     ensures failure { IfErr result IsFailure }
     ensures becomes { HasCleanDisk (state S.Store tx.new.conn.now) → IsBlank office_schema (state S.Store tx.old.conn.now).now → OnOk result (
         Becomes (state S.Store tx.new.conn.now).now (empty_office this_version (pos max_deposits) (pos max_holds))) }
+    ensures once { HasCleanDisk (state S.Store tx.new.conn.now) → IsBlank office_schema (state S.Store tx.old.conn.now).now → OnOk result (KeepsOnce (state S.Store tx.new.conn.now).now) }
 {
     change(
         tx,
-        "INSERT INTO office (id, version, max_deposits, max_holds) VALUES (1, 1, ?1, ?2)",
+        "INSERT INTO office (id, version, max_deposits, max_holds) VALUES (1, 3, ?1, ?2)",
         params![max_deposits, max_holds],
     )
 }
@@ -93,6 +99,7 @@ fn make_office<S: Alter>(
     ensures opened { HasCleanDisk (state S.Store tx.new.conn.now) → OnOk result (IsTrue (state S.Store tx.new.conn.now).is_open) }
     ensures becomes { HasCleanDisk (state S.Store tx.new.conn.now) → (state S.Store tx.old.conn.now).now.schema ≡ no_schema → OnOk result (
         Becomes (state S.Store tx.new.conn.now).now (empty_office this_version (pos max_deposits) (pos max_holds))) }
+    ensures once { HasCleanDisk (state S.Store tx.new.conn.now) → (state S.Store tx.old.conn.now).now.schema ≡ no_schema → OnOk result (KeepsOnce (state S.Store tx.new.conn.now).now) }
 {
     define_tables(tx)?;
     start(tx, max_deposits, max_holds)?;
@@ -122,10 +129,10 @@ pub fn create<S: Alter>(
     requires deposits { IsLimit (pos max_deposits) }
     requires holds { IsLimit (pos max_holds) }
     ensures outside { (state S.Store conn.new).in_transaction ≡ false }
-    ensures survives { Survives (state S.Store conn.old) (state S.Store conn.new) (IsLeft (empty_office this_version (pos max_deposits) (pos max_holds))) }
+    ensures survives { Survives (state S.Store conn.old) (state S.Store conn.new) (IsMadeLeft (empty_office this_version (pos max_deposits) (pos max_holds))) }
     ensures made { HasCleanDisk (state S.Store conn.new) → OnOk result (IsMade (state S.Store conn.new) (empty_office this_version (pos max_deposits) (pos max_holds))) }
     ensures durable { HasCleanDisk (state S.Store conn.new) → OnOk result ((db : Trees) → (state S.Store conn.new).may_leave db
-        → IsLeft (empty_office this_version (pos max_deposits) (pos max_holds)) db) }
+        → IsMadeLeft (empty_office this_version (pos max_deposits) (pos max_holds)) db) }
     ensures refused { HasCleanDisk (state S.Store conn.new) → OnErr result (KeepsTables (state S.Store conn.old) (state S.Store conn.new)) }
     ensures failure { IfErr result IsFailure }
     ensures not_empty { (state S.Store conn.old).now.schema ≢ no_schema → result ≡ Err TableFault.Store }

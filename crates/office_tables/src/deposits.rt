@@ -7,6 +7,7 @@ ghost use Rattle.sql_meaning.specs.Columns.{int_at};
 ghost use Rattle.office_tables.specs.Faults.{IsFailure};
 ghost use Rattle.office_rows.specs.Rows.{deposit_numbered, deposit_by, has_class, has_collection, last_number, with_deposit, with_gone};
 ghost use Rattle.office_tables.specs.Tables.{IsOffice};
+ghost use Rattle.office_tables.specs.Contents.{LeavesOnce};
 ghost use Rattle.office_tables.specs.Calls.{CommitsNothing, Continues, Keeps, Tells, Shows, Writes};
 ghost use Rattle.office_tables.specs.Deposits.{shown_deposit, added_row, IsAdded};
 
@@ -73,7 +74,7 @@ impl Model for DepositRow {
 }
 
 /// The deposit that a row shows.
-fn deposit_in(row: &Row) -> Result<DepositRow, TableFault>
+pub(crate) fn deposit_in(row: &Row) -> Result<DepositRow, TableFault>
     ensures shown { IfOk result (λ deposit. deposit ≡ shown_deposit row.now) }
     ensures failure { IfErr result IsFailure }
 {
@@ -287,10 +288,11 @@ fn add_deposit<S: Alter>(
           bytes = bytes;
           gone = None;
         }) (state S.Store tx.old.conn.now).now (state S.Store tx.new.conn.now).now) }
+    ensures once { LeavesOnce S.Store tx.old.conn.now tx.new.conn.now result }
 {
     change(
         tx,
-        "INSERT INTO deposit (number, accession, collection, class, closed, deposited, files, bytes) VALUES (?1, ?2, ?3, ?4, ?5, ?6, ?7, ?8)",
+        "INSERT INTO deposit (number, accession, collection, class, closed, deposited, files, bytes, holds) VALUES (?1, ?2, ?3, ?4, ?5, ?6, ?7, ?8, 0)",
         params![
             number, accession, collection, class, closed, deposited, files, bytes
         ],
@@ -331,6 +333,7 @@ pub fn put_deposit<S: Alter>(
     ensures new_accession { Tells S.Store tx.old.conn.now tx.new.conn.now result (λ tables _. deposit_by deposit.entry.accession.now tables.deposits ≡ None) }
     ensures its_collection { Tells S.Store tx.old.conn.now tx.new.conn.now result (λ tables _. IsTrue (has_collection deposit.entry.collection.now tables)) }
     ensures its_class { Tells S.Store tx.old.conn.now tx.new.conn.now result (λ tables _. IsTrue (has_class deposit.entry.class.now tables)) }
+    ensures once { LeavesOnce S.Store tx.old.conn.now tx.new.conn.now result }
 {
     add_deposit(
         tx,
@@ -359,6 +362,7 @@ pub fn mark_gone<S: Alter>(
     ensures goes_on { Continues S.Store tx.old.conn.now tx.new.conn.now result }
     ensures failure { IfErr result IsFailure }
     ensures becomes { Writes S.Store tx.old.conn.now tx.new.conn.now result (with_gone (pos number) day) }
+    ensures once { LeavesOnce S.Store tx.old.conn.now tx.new.conn.now result }
 {
     change(
         tx,

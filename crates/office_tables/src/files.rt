@@ -1,14 +1,22 @@
 //! The files of deposits.
 
-ghost use Rattle.std.specs.Prelude.{◌≡◌, IfErr, None, Some, pos, map, option_map, slice_get};
-ghost use Rattle.sql_meaning.specs.Columns.{bytes_at};
+ghost use Rattle.std.specs.Prelude.{◌≡◌, true, IfErr, None, Some, pos, map, option_map, slice_get};
+ghost use Rattle.std.specs.Ordering.{int_eq};
+ghost use Rattle.sha2.specs.Sha256.{sha256};
+ghost use Rattle.sqlite_rules.specs.Lists.{Has};
+ghost use Rattle.sql_meaning.specs.Columns.{int_at};
 ghost use Rattle.office_tables.specs.Faults.{IsFailure};
-ghost use Rattle.office_rows.specs.Rows.{file_at, with_file, without_files};
+ghost use Rattle.office_rows.specs.Rows.{bytes_under, file_at, with_content, with_file, without_files};
 ghost use Rattle.office_tables.specs.Calls.{CommitsNothing, Continues, ContinuesInTurn, Keeps, Tells, Shows, Writes};
+ghost use Rattle.office_tables.specs.Tables.{contents_of, tables_of};
+ghost use Rattle.office_tables.specs.Contents.{AreFilesDropped, AreUsed, Does, IsFileAdded, IsMarkedPut, LeavesOnce, StandOnce, references_of};
+ghost use Rattle.std.specs.List.{AllByRecursion};
 ghost use Rattle.office_tables.specs.Deposits.{shown_path, files_by_path};
 
 use crate::fault::TableFault;
-use crate::run::{ask, change};
+use crate::kept::{content_of, drop_each_unused, keep_content};
+use crate::run::{ask, change, number_in};
+use sha2::{Digest, Sha256};
 use sqlite::{Alter, Row, Transaction, params};
 use std::alloc::Global;
 use std::marker::Model;
@@ -35,7 +43,70 @@ impl Model for FileRow {
     ghost view = { λ f. record { deposit = pos f.deposit; path = string_bytes f.path; content = f.content.items } };
 }
 
-/// Adds a file to the deposit of that number.
+/// Adds a file to the deposit of that number, whose content is the one of that number.
+fn add_file<S: Alter>(
+    tx: &mut Transaction<'_, S>,
+    number: u32,
+    path: &str,
+    id: i64,
+) -> Result<usize, TableFault>
+    ensures same_reference { tx.new.conn.ghost_name ≡ tx.old.conn.ghost_name }
+    ensures stays { CommitsNothing S.Store tx.old.conn.now tx.new.conn.now }
+    ensures goes_on { Continues S.Store tx.old.conn.now tx.new.conn.now result }
+    ensures failure { IfErr result IsFailure }
+    ensures added { Does S.Store tx.old.conn.now tx.new.conn.now result (λ old new _. IsFileAdded (pos number) path.now id old new) }
+{
+    change(
+        tx,
+        "INSERT INTO file (deposit, path, content) VALUES (?1, ?2, ?3)",
+        params![number, path, id],
+    )
+}
+
+/// Keeps the content under that mark, and adds a file that has it.
+fn put_kept<S: Alter>(
+    tx: &mut Transaction<'_, S>,
+    number: u32,
+    path: &str,
+    mark: &[u8],
+    content: &[u8],
+) -> Result<usize, TableFault>
+    ensures same_reference { tx.new.conn.ghost_name ≡ tx.old.conn.ghost_name }
+    ensures stays { CommitsNothing S.Store tx.old.conn.now tx.new.conn.now }
+    ensures goes_on { Continues S.Store tx.old.conn.now tx.new.conn.now result }
+    ensures failure { IfErr result IsFailure }
+    ensures put { Does S.Store tx.old.conn.now tx.new.conn.now result (λ old new _. IsMarkedPut (pos number) path.now mark.now content.now old new) }
+{
+    let id = keep_content(tx, mark, content)?;
+    add_file(tx, number, path, id)
+}
+
+/// Adds a file to the deposit of that number. A content that is kept under that mark is reused where its bytes are these.
+///
+/// Fails with `Store` where the deposit has a file of that path, and with `Memory` or `Store`.
+pub fn put_marked<S: Alter>(
+    tx: &mut Transaction<'_, S>,
+    number: u32,
+    path: &str,
+    mark: &[u8; 32],
+    content: &[u8],
+) -> Result<(), TableFault>
+    ensures same_reference { tx.new.conn.ghost_name ≡ tx.old.conn.ghost_name }
+    ensures stays { CommitsNothing S.Store tx.old.conn.now tx.new.conn.now }
+    ensures goes_on { Continues S.Store tx.old.conn.now tx.new.conn.now result }
+    ensures failure { IfErr result IsFailure }
+    ensures becomes { Writes S.Store tx.old.conn.now tx.new.conn.now result (with_file (record { deposit = pos number; path = path.now; content = content.now })) }
+    ensures new_path { Tells S.Store tx.old.conn.now tx.new.conn.now result (λ tables _. file_at (pos number) path.now tables.files ≡ None) }
+    ensures contents { Does S.Store tx.old.conn.now tx.new.conn.now result (λ old new _. contents_of new ≡ with_content mark.now content.now (contents_of old)) }
+    ensures used { Does S.Store tx.old.conn.now tx.new.conn.now result (λ old new _. AreUsed (references_of old) (contents_of old) → AreUsed (references_of new) (contents_of new)) }
+    ensures stands { Does S.Store tx.old.conn.now tx.new.conn.now result (λ old new _. AllByRecursion (λ c. c.bytes ≡ content.now → c.mark ≡ mark.now) (contents_of old)
+        → StandOnce (contents_of old) → StandOnce (contents_of new)) }
+{
+    put_kept(tx, number, path, mark, content)?;
+    Ok(())
+}
+
+/// Adds a file to the deposit of that number. Its content is kept once, under its SHA-256.
 ///
 /// Fails with `Store` where the deposit has a file of that path, and with `Memory` or `Store`.
 pub fn put_file<S: Alter>(
@@ -50,16 +121,16 @@ pub fn put_file<S: Alter>(
     ensures failure { IfErr result IsFailure }
     ensures becomes { Writes S.Store tx.old.conn.now tx.new.conn.now result (with_file (record { deposit = pos number; path = path.now; content = content.now })) }
     ensures new_path { Tells S.Store tx.old.conn.now tx.new.conn.now result (λ tables _. file_at (pos number) path.now tables.files ≡ None) }
+    ensures contents { Does S.Store tx.old.conn.now tx.new.conn.now result (λ old new _. contents_of new ≡ with_content (sha256 content.now) content.now (contents_of old)) }
+    ensures used { Does S.Store tx.old.conn.now tx.new.conn.now result (λ old new _. AreUsed (references_of old) (contents_of old) → AreUsed (references_of new) (contents_of new)) }
+    ensures once { LeavesOnce S.Store tx.old.conn.now tx.new.conn.now result }
 {
-    change(
-        tx,
-        "INSERT INTO file (deposit, path, content) VALUES (?1, ?2, ?3)",
-        params![number, path, content],
-    )?;
+    let mark = Sha256::digest(content);
+    put_kept(tx, number, path, &mark, content)?;
     Ok(())
 }
 
-/// The row that shows the content of the file of that deposit and path, if there is one.
+/// The row that shows the number of the content of the file of that deposit and path, if there is one.
 fn rows_of_file<S: Alter>(
     tx: &mut Transaction<'_, S>,
     number: u32,
@@ -69,14 +140,29 @@ fn rows_of_file<S: Alter>(
     ensures stays { CommitsNothing S.Store tx.old.conn.now tx.new.conn.now }
     ensures goes_on { Continues S.Store tx.old.conn.now tx.new.conn.now result }
     ensures failure { IfErr result IsFailure }
-    ensures found { Shows S.Store tx.old.conn.now tx.new.conn.now result (λ tables rows.
-        option_map (λ f. f.content) (file_at (pos number) path.now tables.files) ≡ option_map (λ row. bytes_at row 0) (slice_get rows.items 0)) }
+    ensures found { Does S.Store tx.old.conn.now tx.new.conn.now result (λ old new rows. (new ≡ old)
+        × (option_map (λ f. f.content) (file_at (pos number) path.now (tables_of old).files) ≡ option_map (λ row. bytes_under (contents_of old) (int_at row 0)) (slice_get rows.items 0))) }
 {
     ask(
         tx,
         "SELECT content FROM file WHERE deposit = ?1 AND path = ?2",
         params![number, path],
     )
+}
+
+/// The content whose number a row shows.
+fn content_in<S: Alter>(tx: &mut Transaction<'_, S>, row: &Row) -> Result<Vec<u8>, TableFault>
+    ensures same_reference { tx.new.conn.ghost_name ≡ tx.old.conn.ghost_name }
+    ensures stays { CommitsNothing S.Store tx.old.conn.now tx.new.conn.now }
+    ensures goes_on { Continues S.Store tx.old.conn.now tx.new.conn.now result }
+    ensures failure { IfErr result IsFailure }
+    ensures found { Does S.Store tx.old.conn.now tx.new.conn.now result (λ old new content. (new ≡ old) × (content.items ≡ bytes_under (contents_of old) (int_at row.now 0))) }
+{
+    let id = number_in(row, 0)?;
+    match content_of(tx, id)? {
+        Some(content) => Ok(content),
+        None => Err(TableFault::Store),
+    }
 }
 
 /// The content of the file of that deposit and path; `None` where there is no such file.
@@ -97,12 +183,39 @@ pub fn file_of<S: Alter>(
 {
     let rows = rows_of_file(tx, number, path)?;
     match rows.first() {
-        Some(row) => Ok(Some(row.get(0)?)),
+        Some(row) => Ok(Some(content_in(tx, row)?)),
         None => Ok(None),
     }
 }
 
-/// Drops every file of the deposit of that number.
+/// Rows that show the numbers of the contents of the deposit's files.
+fn rows_of_ids<S: Alter>(tx: &mut Transaction<'_, S>, number: u32) -> Result<Vec<Row>, TableFault>
+    ensures same_reference { tx.new.conn.ghost_name ≡ tx.old.conn.ghost_name }
+    ensures stays { CommitsNothing S.Store tx.old.conn.now tx.new.conn.now }
+    ensures goes_on { Continues S.Store tx.old.conn.now tx.new.conn.now result }
+    ensures failure { IfErr result IsFailure }
+    ensures found { Does S.Store tx.old.conn.now tx.new.conn.now result (λ old new rows. (new ≡ old)
+        × ((r : _) → Has (old.trees 10) r → int_eq (int_at r 1) (pos number) ≡ true → Has (map (λ row. int_at row 0) rows.items) (int_at r 3))) }
+{
+    ask(
+        tx,
+        "SELECT content FROM file WHERE deposit = ?1",
+        params![number],
+    )
+}
+
+/// Takes out the files of the deposit, and leaves their contents.
+fn drop_rows<S: Alter>(tx: &mut Transaction<'_, S>, number: u32) -> Result<usize, TableFault>
+    ensures same_reference { tx.new.conn.ghost_name ≡ tx.old.conn.ghost_name }
+    ensures stays { CommitsNothing S.Store tx.old.conn.now tx.new.conn.now }
+    ensures goes_on { Continues S.Store tx.old.conn.now tx.new.conn.now result }
+    ensures failure { IfErr result IsFailure }
+    ensures dropped { Does S.Store tx.old.conn.now tx.new.conn.now result (λ old new _. AreFilesDropped (pos number) old new) }
+{
+    change(tx, "DELETE FROM file WHERE deposit = ?1", params![number])
+}
+
+/// Drops every file of the deposit of that number, and each of their contents that no other file has.
 ///
 /// Fails with `Memory` or `Store`.
 pub fn drop_files<S: Alter>(tx: &mut Transaction<'_, S>, number: u32) -> Result<(), TableFault>
@@ -111,8 +224,12 @@ pub fn drop_files<S: Alter>(tx: &mut Transaction<'_, S>, number: u32) -> Result<
     ensures goes_on { Continues S.Store tx.old.conn.now tx.new.conn.now result }
     ensures failure { IfErr result IsFailure }
     ensures becomes { Writes S.Store tx.old.conn.now tx.new.conn.now result (without_files (pos number)) }
+    ensures used { Does S.Store tx.old.conn.now tx.new.conn.now result (λ old new _. AreUsed (references_of old) (contents_of old) → AreUsed (references_of new) (contents_of new)) }
+    ensures once { LeavesOnce S.Store tx.old.conn.now tx.new.conn.now result }
 {
-    change(tx, "DELETE FROM file WHERE deposit = ?1", params![number])?;
+    let rows = rows_of_ids(tx, number)?;
+    drop_rows(tx, number)?;
+    drop_each_unused(tx, &rows)?;
     Ok(())
 }
 

@@ -4,6 +4,7 @@ ghost use Rattle.std.specs.Prelude.{◌≡◌, ℕ, IfOk, IfErr, OnOk, pos, Some
 ghost use Rattle.sql_meaning.specs.Columns.{int_at};
 ghost use Rattle.office_tables.specs.Faults.{IsFailure};
 ghost use Rattle.office_rows.specs.Rows.{hold_numbered, last_number, with_hold, with_released, live_holds, is_live_on, is_live_within};
+ghost use Rattle.office_tables.specs.Contents.{LeavesOnce};
 ghost use Rattle.office_tables.specs.Calls.{CommitsNothing, Continues, Keeps, Tells, Shows, Writes};
 ghost use Rattle.office_tables.specs.ShownHolds.{shown_hold, held_deposit, held_collection};
 
@@ -178,6 +179,7 @@ fn add_hold<S: Alter>(
       released = None;
     })) }
     ensures new_number { Tells S.Store tx.old.conn.now tx.new.conn.now result (λ tables _. hold_numbered (pos number) tables.holds ≡ None) }
+    ensures once { LeavesOnce S.Store tx.old.conn.now tx.new.conn.now result }
 {
     change(
         tx,
@@ -210,6 +212,7 @@ pub fn put_hold<S: Alter>(
       released = None;
     })) }
     ensures new_number { Tells S.Store tx.old.conn.now tx.new.conn.now result (λ tables _. hold_numbered (pos number) tables.holds ≡ None) }
+    ensures once { LeavesOnce S.Store tx.old.conn.now tx.new.conn.now result }
 {
     match target {
         HoldTarget::Deposit(deposit) => add_hold(tx, number, Some(deposit), None, matter, placed),
@@ -230,6 +233,7 @@ pub fn end_hold<S: Alter>(
     ensures goes_on { Continues S.Store tx.old.conn.now tx.new.conn.now result }
     ensures failure { IfErr result IsFailure }
     ensures becomes { Writes S.Store tx.old.conn.now tx.new.conn.now result (with_released (pos number) day) }
+    ensures once { LeavesOnce S.Store tx.old.conn.now tx.new.conn.now result }
 {
     change(
         tx,

@@ -1,9 +1,12 @@
 //! Laws of the rows of an office.
 
-ghost use Rattle.std.specs.Prelude.{ℕ, ℤ, List};
+ghost use Rattle.std.specs.Prelude.{◌≡◌, ◌≤ℤ◌, ℕ, ℤ, List, None, Some, false, map, true};
 ghost use Rattle.sqlite.specs.Effect.{Database};
-ghost use Rattle.office_rows.specs.Rows.{AreInOrder, NumbersRise, live_holds};
-ghost use Rattle.office_tables.specs.Tables.{IsOffice, tables_of};
+ghost use Rattle.sqlite_rules.specs.Lists.{Has};
+ghost use Rattle.office_rows.specs.Rows.{AreInOrder, NumbersRise, RuleRow, live_holds};
+ghost use Rattle.office_rows.specs.Matching.{matching_rule, rule_fits};
+ghost use Rattle.office_tables.specs.Tables.{IsOffice, contents_of, tables_of};
+ghost use Rattle.office_tables.specs.Contents.{AreContents, KeepsOnce};
 
 /// In an office the numbers of deposits, those of holds and the places of rules rise from row to row, so none comes twice.
 pub fn rows_in_order()
@@ -13,4 +16,21 @@ pub fn rows_in_order()
 /// In an office the live holds over a deposit rise by number.
 pub fn live_holds_in_order()
     ensures { (db : Database) → IsOffice db → (deposit : ℤ) (collection : List ℕ) → NumbersRise (λ n. n) (live_holds deposit collection (tables_of db)) }
+{}
+
+/// Where contents are kept once, they are exactly those of the files, each once, under its own SHA-256 and with its length.
+pub fn contents_are_those_of_files()
+    ensures { (db : Database) → IsOffice db → KeepsOnce db → AreContents (map (λ f. f.content) (tables_of db).files) (contents_of db) }
+{}
+
+/// In an office the rule that `match_rule` answers fits and is one of the rules, and no rule of a lower place fits; where it answers none, no rule fits.
+pub fn matching_rules_are_least()
+    ensures fits { (db : Database) → IsOffice db → (role action collection class : List ℕ) (r : RuleRow) → matching_rule role action collection class (tables_of db).rules ≡ Some r
+        → rule_fits role action collection class r ≡ true }
+    ensures there { (db : Database) → IsOffice db → (role action collection class : List ℕ) (r : RuleRow) → matching_rule role action collection class (tables_of db).rules ≡ Some r
+        → Has (tables_of db).rules r }
+    ensures least { (db : Database) → IsOffice db → (role action collection class : List ℕ) (r : RuleRow) → matching_rule role action collection class (tables_of db).rules ≡ Some r
+        → (s : RuleRow) → Has (tables_of db).rules s → rule_fits role action collection class s ≡ true → r.place ≤ℤ s.place }
+    ensures none { (db : Database) → IsOffice db → (role action collection class : List ℕ) → matching_rule role action collection class (tables_of db).rules ≡ None
+        → (s : RuleRow) → Has (tables_of db).rules s → rule_fits role action collection class s ≡ false }
 {}

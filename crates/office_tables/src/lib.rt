@@ -4,9 +4,11 @@
 mod classes;
 mod creating;
 mod deposits;
+mod dues;
 mod fault;
 mod files;
 mod holds;
+mod kept;
 pub mod laws;
 mod opening;
 mod policy;
@@ -18,8 +20,13 @@ pub use deposits::{
     DepositRow, NewDeposit, by_accession, deposit_row, deposit_rows, last_deposit, mark_gone,
     put_deposit,
 };
+pub use dues::{
+    ClosingRow, DepositAndDue, DueRow, PlaceRow, add_holds, deposits_and_dues, due_row, due_rows,
+    rows_of_class, set_due, set_holds,
+};
 pub use fault::TableFault;
-pub use files::{FileRow, drop_files, file_of, files_of, put_file};
+pub use files::{FileRow, drop_files, file_of, files_of, put_file, put_marked};
 pub use holds::{HoldRow, HoldTarget, end_hold, hold_row, last_hold, live_holds, put_hold};
+pub use kept::{ContentSize, contents};
 pub use opening::{OfficeLimits, limits, open_tables};
-pub use policy::{CallerRow, RuleRow, put_policy, role_of, rules};
+pub use policy::{CallerRow, RuleRow, match_rule, put_policy, role_of, rules};

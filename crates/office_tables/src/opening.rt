@@ -84,7 +84,7 @@ fn has_office(schema: &Schema) -> bool
         && table.column_named(b"max_holds").is_some()
 }
 
-/// Finds by the table `office` whether the database is an office whose tables are of version 1. No answer changes a row, as long as
+/// Finds by the table `office` whether the database is an office whose tables are of version 3. No answer changes a row, as long as
 /// the connection is open.
 ///
 /// Fails with `NotAnOffice` where there is no table `office` with its columns, or no row 1 in it of whole numbers with limits from
@@ -113,7 +113,7 @@ pub fn open_tables<S: Alter>(conn: &mut Connection<S>) -> Result<(), TableFault>
     let seen = look(&mut tx);
     tx.rollback();
     match seen {
-        Ok(Some(1)) => Ok(()),
+        Ok(Some(3)) => Ok(()),
         Ok(Some(_)) => Err(TableFault::OtherVersion),
         Ok(None) => Err(TableFault::NotAnOffice),
         Err(failure) => Err(failure),

@@ -4,6 +4,8 @@ ghost use Rattle.std.specs.Prelude.{◌≡◌, ℕ, IfOk, IfErr, map, option_map
 ghost use Rattle.sql_meaning.specs.Columns.{bytes_at};
 ghost use Rattle.office_tables.specs.Faults.{IsFailure};
 ghost use Rattle.office_rows.specs.Rows.{caller_named, without_callers, without_rules, with_caller, with_rule, with_callers, with_rules, with_policy};
+ghost use Rattle.office_tables.specs.Contents.{LeavesOnce};
+ghost use Rattle.office_rows.specs.Matching.{matching_rule};
 ghost use Rattle.office_tables.specs.Calls.{CommitsNothing, Continues, ContinuesInTurn, Keeps, Tells, Shows, Writes};
 ghost use Rattle.office_tables.specs.ShownPolicy.{shown_rule};
 
@@ -172,6 +174,54 @@ pub fn rules<S: Alter>(
     rules_in(alloc, &rows)
 }
 
+/// The row that shows the rule of the least place that matches, if one does.
+fn rows_of_match<S: Alter>(
+    tx: &mut Transaction<'_, S>,
+    role: &str,
+    action: &str,
+    collection: &str,
+    class: &str,
+) -> Result<Vec<Row>, TableFault>
+    ensures same_reference { tx.new.conn.ghost_name ≡ tx.old.conn.ghost_name }
+    ensures stays { CommitsNothing S.Store tx.old.conn.now tx.new.conn.now }
+    ensures goes_on { Continues S.Store tx.old.conn.now tx.new.conn.now result }
+    ensures failure { IfErr result IsFailure }
+    ensures found { Shows S.Store tx.old.conn.now tx.new.conn.now result (λ tables rows.
+        matching_rule role.now action.now collection.now class.now tables.rules ≡ option_map shown_rule (slice_get rows.items 0)) }
+{
+    ask(
+        tx,
+        "SELECT place, effect, role, action, collection, class FROM rule WHERE role IN ('*', ?1) AND action IN ('*', ?2) AND collection IN ('*', ?3) AND class IN ('*', ?4) ORDER BY place LIMIT 1",
+        params![role, action, collection, class],
+    )
+}
+
+/// The rule of the least place whose texts are `*` or these; an absent name is the empty text. `None`
+/// where no rule matches.
+///
+/// Fails with `Memory` or `Store`.
+pub fn match_rule<S: Alter>(
+    tx: &mut Transaction<'_, S>,
+    role: &str,
+    action: &str,
+    collection: &str,
+    class: &str,
+) -> Result<Option<RuleRow>, TableFault>
+    ensures same_reference { tx.new.conn.ghost_name ≡ tx.old.conn.ghost_name }
+    ensures stays { CommitsNothing S.Store tx.old.conn.now tx.new.conn.now }
+    ensures goes_on { Continues S.Store tx.old.conn.now tx.new.conn.now result }
+    ensures failure { IfErr result IsFailure }
+    ensures same { Keeps S.Store tx.old.conn.now tx.new.conn.now result }
+    ensures found { Tells S.Store tx.old.conn.now tx.new.conn.now result (λ tables found.
+        found ≡ matching_rule role.now action.now collection.now class.now tables.rules) }
+{
+    let rows = rows_of_match(tx, role, action, collection, class)?;
+    match rows.first() {
+        Some(row) => Ok(Some(rule_in(row)?)),
+        None => Ok(None),
+    }
+}
+
 /// Takes out each caller.
 fn drop_callers<S: Alter>(tx: &mut Transaction<'_, S>) -> Result<usize, TableFault>
     ensures same_reference { tx.new.conn.ghost_name ≡ tx.old.conn.ghost_name }
@@ -179,6 +229,7 @@ fn drop_callers<S: Alter>(tx: &mut Transaction<'_, S>) -> Result<usize, TableFau
     ensures goes_on { Continues S.Store tx.old.conn.now tx.new.conn.now result }
     ensures failure { IfErr result IsFailure }
     ensures becomes { Writes S.Store tx.old.conn.now tx.new.conn.now result without_callers }
+    ensures once { LeavesOnce S.Store tx.old.conn.now tx.new.conn.now result }
 {
     change(tx, "DELETE FROM caller", &[])
 }
@@ -190,6 +241,7 @@ fn drop_rules<S: Alter>(tx: &mut Transaction<'_, S>) -> Result<usize, TableFault
     ensures goes_on { Continues S.Store tx.old.conn.now tx.new.conn.now result }
     ensures failure { IfErr result IsFailure }
     ensures becomes { Writes S.Store tx.old.conn.now tx.new.conn.now result without_rules }
+    ensures once { LeavesOnce S.Store tx.old.conn.now tx.new.conn.now result }
 {
     change(tx, "DELETE FROM rule", &[])
 }
@@ -205,6 +257,7 @@ fn add_caller<S: Alter>(
     ensures goes_on { Continues S.Store tx.old.conn.now tx.new.conn.now result }
     ensures failure { IfErr result IsFailure }
     ensures becomes { Writes S.Store tx.old.conn.now tx.new.conn.now result (with_caller (record { name = name.now; role = role.now })) }
+    ensures once { LeavesOnce S.Store tx.old.conn.now tx.new.conn.now result }
 {
     change(
         tx,
@@ -229,6 +282,7 @@ fn add_rule<S: Alter>(
     ensures failure { IfErr result IsFailure }
     ensures becomes { Writes S.Store tx.old.conn.now tx.new.conn.now result
         (with_rule (record { place = place; effect = effect; role = role.now; action = action.now; collection = collection.now; class = class.now })) }
+    ensures once { LeavesOnce S.Store tx.old.conn.now tx.new.conn.now result }
 {
     change(
         tx,
@@ -247,6 +301,7 @@ fn add_callers<S: Alter>(
     ensures goes_on { ContinuesInTurn S.Store tx.old.conn.now tx.new.conn.now result }
     ensures failure { IfErr result IsFailure }
     ensures becomes { Writes S.Store tx.old.conn.now tx.new.conn.now result (with_callers callers.now) }
+    ensures once { LeavesOnce S.Store tx.old.conn.now tx.new.conn.now result }
 {
     for caller in callers {
         add_caller(tx, &caller.name, &caller.role)?;
@@ -261,6 +316,7 @@ fn add_rules<S: Alter>(tx: &mut Transaction<'_, S>, rules: &[RuleRow]) -> Result
     ensures goes_on { ContinuesInTurn S.Store tx.old.conn.now tx.new.conn.now result }
     ensures failure { IfErr result IsFailure }
     ensures becomes { Writes S.Store tx.old.conn.now tx.new.conn.now result (with_rules rules.now) }
+    ensures once { LeavesOnce S.Store tx.old.conn.now tx.new.conn.now result }
 {
     for rule in rules {
         add_rule(
@@ -289,6 +345,7 @@ pub fn put_policy<S: Alter>(
     ensures goes_on { Continues S.Store tx.old.conn.now tx.new.conn.now result }
     ensures failure { IfErr result IsFailure }
     ensures becomes { Writes S.Store tx.old.conn.now tx.new.conn.now result (with_policy callers.now rules.now) }
+    ensures once { LeavesOnce S.Store tx.old.conn.now tx.new.conn.now result }
 {
     drop_callers(tx)?;
     drop_rules(tx)?;

@@ -12,3 +12,5 @@ pub mod Results
 pub mod RowidKeys
 pub mod Inserts
 pub mod Changing
+pub mod Limited
+pub mod ManyRows

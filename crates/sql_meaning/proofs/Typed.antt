@@ -126,3 +126,7 @@ module _ (schema : Schema) (db : Trees) (table : Table) (row : Row) (typed : pas
   pub maybe_text_at : (i : ℕ) (c : Column) → slice_get table.columns i ≡ Some c → c.is_strict ≡ true → c.kind ≡ kind.Text → is_key table.key (0 + i) ≡ false
       → (column row (i + 1) ≡ Null) ⊎ (column row (i + 1) ≡ Text (bytes_at row (i + 1)))
   maybe_text_at i c found strict is free = or_text (column row (i + 1)) (subst (λ k. is_of k (column row (i + 1)) ≡ true) is (of_kind i c found strict free))
+
+  pub blob_at : (i : ℕ) (c : Column) → slice_get table.columns i ≡ Some c → c.is_strict ≡ true → c.not_null ≡ true → c.kind ≡ kind.Blob → is_key table.key (0 + i) ≡ false
+      → column row (i + 1) ≡ Blob (bytes_at row (i + 1))
+  blob_at i c found strict needed is free = is_blob (column row (i + 1)) (subst (λ k. is_of k (column row (i + 1)) ≡ true) is (of_kind i c found strict free)) (filled i c found needed free)

@@ -52,13 +52,28 @@ pub static AS_BEFORE: [Part; 2] = [
     ),
 ];
 
-/// The bytes of the file `data/a` of deposit 1 are others; the file is missing; there is one more,
-/// whose path is none, or lies below another.
-pub static FILES: [Part; 7] = [
+/// The bytes of a content are others, which the files `data/a` of all deposits have; the file of
+/// deposit 1 has another content; it is missing; there is one more, whose path is none, or lies below
+/// another. The store takes out no content that a file has, and puts no file that has none. Content 2
+/// is `abc`.
+pub static FILES: [Part; 9] = [
     (
         "",
-        "UPDATE file SET content = x'616264' WHERE deposit = 1 AND path = 'data/a'\n\
-         UPDATE file SET content = x'616263' WHERE deposit = 1 AND path = 'data/a'\n\
+        "UPDATE content SET bytes = x'616264' WHERE id = 2\n\
+         UPDATE content SET bytes = x'616263' WHERE id = 2\n\
+         audit 1 > audit 1 invalid B17 manifest-sha256.txt data/a\n\
+         audit 2 > audit 2 invalid B17 manifest-sha256.txt data/a\n\
+         file 2 data/a > file abd\n\
+         bag 3 > other bytes\n\
+         record 1 > record 1 A-1 maps y1 closed 2024-02-29 deposited 2024-03-01 due 2025-02-28 \
+         files 1 bytes 3",
+    ),
+    (
+        "",
+        "INSERT INTO content (id, mark, size, bytes) VALUES (9, x'', 3, x'616264'); UPDATE file \
+         SET content = 9 WHERE deposit = 1 AND path = 'data/a'\n\
+         UPDATE file SET content = 2 WHERE deposit = 1 AND path = 'data/a'; DELETE FROM content \
+         WHERE id = 9\n\
          audit 1 > audit 1 invalid B17 manifest-sha256.txt data/a\n\
          file 1 data/a > file abd\n\
          bag 1 > other bytes\n\
@@ -70,7 +85,7 @@ pub static FILES: [Part; 7] = [
     (
         "",
         "DELETE FROM file WHERE deposit = 1 AND path = 'data/a'\n\
-         INSERT INTO file (deposit, path, content) VALUES (1, 'data/a', x'616263')\n\
+         INSERT INTO file (deposit, path, content) VALUES (1, 'data/a', 2)\n\
          audit 1 > audit 1 invalid B11 manifest-sha256.txt data/a\n\
          file 1 data/a > NoFile\n\
          audit 2 > audit 2 valid 1.0 files 1 bytes 3 manifests 1",
@@ -86,7 +101,7 @@ pub static FILES: [Part; 7] = [
     ),
     (
         "",
-        "INSERT INTO file (deposit, path, content) VALUES (1, 'data/../x', x'616263')\n\
+        "INSERT INTO file (deposit, path, content) VALUES (1, 'data/../x', 2)\n\
          DELETE FROM file WHERE path = 'data/../x'\n\
          audit 1 > audit 1 invalid S5 1\n\
          bag 1 > Store\n\
@@ -99,7 +114,7 @@ pub static FILES: [Part; 7] = [
     ),
     (
         "",
-        "INSERT INTO file (deposit, path, content) VALUES (1, 'data/a/b', x'')\n\
+        "INSERT INTO file (deposit, path, content) VALUES (1, 'data/a/b', 2)\n\
          DELETE FROM file WHERE path = 'data/a/b'\n\
          audit 1 > audit 1 invalid S8\n\
          bag 1 > Store\n\
@@ -107,7 +122,7 @@ pub static FILES: [Part; 7] = [
     ),
     (
         "",
-        "INSERT INTO file (deposit, path, content) VALUES (4, 'data/a', x'616263')\n\
+        "INSERT INTO file (deposit, path, content) VALUES (4, 'data/a', 2)\n\
          DELETE FROM file WHERE deposit = 4\n\
          audit 4 > Gone 2025-02-28\n\
          bag 4 > Gone 2025-02-28\n\
@@ -115,24 +130,33 @@ pub static FILES: [Part; 7] = [
     ),
     (
         "",
-        "INSERT INTO file (deposit, path, content) VALUES (5, 'data/a', x'616263')\n\
+        "INSERT INTO file (deposit, path, content) VALUES (5, 'data/a', 2)\n\
          DELETE FROM file WHERE deposit = 5\n\
          audit 5 > NoSuch deposit\n\
          audit 1 > audit 1 valid 1.0 files 1 bytes 3 manifests 1",
     ),
+    (
+        "steps",
+        "run|DELETE FROM content WHERE id = 2 > Q4\n\
+         run|UPDATE content SET id = 9 WHERE id = 2 > Q4\n\
+         run|UPDATE file SET content = 9 WHERE deposit = 1 > Q4\n\
+         run|INSERT INTO file (deposit, path, content) VALUES (1, 'data/b', 9) > Q4\n\
+         show|SELECT id, size FROM content ORDER BY id > 1|54;2|3;3|73;",
+    ),
 ];
 
-/// The years of the class of deposits 1 and 4 are none. The class is read with the deposit, before the
-/// rules.
+/// The years of the class of deposits 1 and 4 are none. A new deposit has its due day by them; a record,
+/// a disposal and the due list rest on the due day that is kept.
 pub static CLASSES: [Part; 4] = [
     (
         "",
         "UPDATE class SET years = 300 WHERE name = 'y1'\n\
          UPDATE class SET years = 1 WHERE name = 'y1'\n\
-         record 1 > Store\n\
-         list > Store\n\
-         list-of maps > Store\n\
-         dispose 1 > Store\n\
+         record 1 > record 1 A-1 maps y1 closed 2024-02-29 deposited 2024-03-01 due 2025-02-28 \
+         files 1 bytes 3\n\
+         list > list: 1 2 3\n\
+         list-of maps > list: 1 3\n\
+         deposit maps y1 A-5 > Store\n\
          record 2 > record 2 A-2 tax y10 closed 2024-02-29 deposited 2024-03-01 due 2034-02-28 \
          files 1 bytes 3\n\
          list-of tax > list: 2\n\
@@ -145,25 +169,30 @@ pub static CLASSES: [Part; 4] = [
          record 4 > Gone 2025-02-28\n\
          2030-01-01 carl\n\
          record 1 > Denied default\n\
-         dispose 1 > Store\n\
+         dispose 1 > Denied default\n\
+         2024-03-05 anna\n\
+         dispose 1 > NotDue 2025-02-28\n\
          2040-01-01 anna\n\
          dispose 3 > Held 1\n\
          2030-01-01 anna\n\
-         due > Store",
+         due > due on 2030-01-01: 1",
     ),
     (
         "",
         "UPDATE class SET years = 201 WHERE name = 'y1'\n\
          UPDATE class SET years = 1 WHERE name = 'y1'\n\
-         record 1 > Store\n\
-         due > Store",
+         deposit maps y1 A-5 > Store\n\
+         due > due on 2030-01-01: 1",
     ),
     (
         "",
         "UPDATE class SET years = -2 WHERE name = 'y1'\n\
          UPDATE class SET years = 1 WHERE name = 'y1'\n\
-         dispose 1 > Store\n\
-         due > Store",
+         deposit maps y1 A-5 > Store\n\
+         2024-03-05 anna\n\
+         dispose 1 > NotDue 2025-02-28\n\
+         2030-01-01 anna\n\
+         due > due on 2030-01-01: 1",
     ),
     (
         "",
@@ -201,14 +230,15 @@ pub static DEPOSITS: [Part; 9] = [
          2040-01-01 anna\n\
          dispose 3 > Held 1\n\
          2030-01-01 anna\n\
-         due > Store",
+         class y1 2 > Store\n\
+         due > due on 2030-01-01: 1",
     ),
     (
         "",
         "UPDATE deposit SET closed = -25568 WHERE number = 1\n\
          UPDATE deposit SET closed = 19782 WHERE number = 1\n\
          record 1 > Store\n\
-         due > Store",
+         due > due on 2030-01-01: 1",
     ),
     (
         "",
@@ -276,6 +306,78 @@ pub static DEPOSITS: [Part; 9] = [
     ),
 ];
 
+/// The due day of a deposit is another, none, or no day of a deposit; holds are counted that there are
+/// not, or those that there are aren't. A disposal and the due list rest on them, and a record on the due
+/// day: where a hold is counted and none is found, a disposal is answered by `Store`. Day 20512 is
+/// 2026-02-28, and day 2932897 would be 10000-01-01.
+pub static DUES: [Part; 7] = [
+    (
+        "",
+        "UPDATE deposit SET due = 20512 WHERE number = 1\n\
+         UPDATE deposit SET due = 20147 WHERE number = 1\n\
+         2026-02-27 anna\n\
+         dispose 1 > NotDue 2026-02-28\n\
+         record 1 > record 1 A-1 maps y1 closed 2024-02-29 deposited 2024-03-01 due 2026-02-28 \
+         files 1 bytes 3\n\
+         due > due on 2026-02-27:",
+    ),
+    (
+        "",
+        "UPDATE deposit SET due = NULL WHERE number = 1\n\
+         UPDATE deposit SET due = 20147 WHERE number = 1\n\
+         dispose 1 > NotDue never\n\
+         record 1 > record 1 A-1 maps y1 closed 2024-02-29 deposited 2024-03-01 due never \
+         files 1 bytes 3\n\
+         due > due on 2030-01-01:",
+    ),
+    (
+        "",
+        "UPDATE deposit SET due = 2932897 WHERE number = 1\n\
+         UPDATE deposit SET due = 20147 WHERE number = 1\n\
+         dispose 1 > Store\n\
+         record 1 > Store\n\
+         list > Store\n\
+         list-of tax > list: 2\n\
+         2030-01-01 carl\n\
+         dispose 1 > Store\n\
+         2030-01-01 anna\n\
+         bag 1 > whole\n\
+         due > due on 2030-01-01:",
+    ),
+    (
+        "",
+        "UPDATE deposit SET due = -25568 WHERE number = 1\n\
+         UPDATE deposit SET due = 20147 WHERE number = 1\n\
+         dispose 1 > Store\n\
+         record 1 > Store\n\
+         due > due on 2030-01-01: 1",
+    ),
+    (
+        "",
+        "UPDATE deposit SET holds = 1 WHERE number = 1\n\
+         UPDATE deposit SET holds = 0 WHERE number = 1\n\
+         dispose 1 > Store\n\
+         holds 1 > holds:\n\
+         due > due on 2030-01-01:",
+    ),
+    (
+        "",
+        "UPDATE deposit SET holds = -1 WHERE number = 1\n\
+         UPDATE deposit SET holds = 0 WHERE number = 1\n\
+         dispose 1 > Store\n\
+         due > due on 2030-01-01:",
+    ),
+    (
+        "",
+        "UPDATE deposit SET holds = 0 WHERE number = 3\n\
+         UPDATE deposit SET holds = 1 WHERE number = 3\n\
+         dispose 3 > NotDue 2034-02-28\n\
+         holds 3 > holds: 1 on deposit placed 2024-03-02 for Case 7;\n\
+         2040-01-01 anna\n\
+         due > due on 2040-01-01: 1 3",
+    ),
+];
+
 /// Rules that neither allow nor deny.
 pub static RULES: [Part; 4] = [
     (
@@ -311,7 +413,7 @@ pub static RULES: [Part; 4] = [
          2024-03-05 anna\n\
          dispose 1 > NotDue 2025-02-28\n\
          2030-01-01 anna\n\
-         due > Store",
+         due > due on 2030-01-01: 1",
     ),
     (
         "",
@@ -342,7 +444,8 @@ pub static RULES: [Part; 4] = [
 
 /// A hold names nothing, two things, or what isn't there; its days, its matter and its number are
 /// none. The row of a hold that refuses a disposal is read, too; the others that cover the deposit are
-/// not, and a hold that names nothing covers none.
+/// not, and a hold that names nothing covers none. The due list reads no hold: holds are counted with
+/// the deposits.
 pub static HOLDS: [Part; 8] = [
     (
         "",
@@ -353,7 +456,9 @@ pub static HOLDS: [Part; 8] = [
          holds 2 > holds: 2 on collection placed 2024-03-02 for Case 7;\n\
          record 3 > record 3 A-3 maps y10 closed 2024-02-29 deposited 2024-03-01 due 2034-02-28 \
          files 1 bytes 3\n\
-         due > due on 2030-01-01: 1",
+         2040-01-01 anna\n\
+         dispose 3 > Store\n\
+         due > due on 2040-01-01: 1",
     ),
     (
         "",
@@ -367,8 +472,7 @@ pub static HOLDS: [Part; 8] = [
          files 1 bytes 3\n\
          2040-01-01 anna\n\
          dispose 3 > Store\n\
-         2030-01-01 anna\n\
-         due > Store",
+         due > due on 2040-01-01: 1",
     ),
     (
         "",
@@ -397,7 +501,7 @@ pub static HOLDS: [Part; 8] = [
          release 1 > Denied default\n\
          2040-01-01 anna\n\
          dispose 3 > Store\n\
-         due > Store",
+         due > due on 2040-01-01: 1",
     ),
     (
         "",
@@ -415,7 +519,7 @@ pub static HOLDS: [Part; 8] = [
          release 1 > Store\n\
          2040-01-01 anna\n\
          dispose 3 > Store\n\
-         due > Store",
+         due > due on 2040-01-01: 1",
     ),
     (
         "",
@@ -428,51 +532,181 @@ pub static HOLDS: [Part; 8] = [
          release 1 > NoSuch hold\n\
          holds 1 > holds:\n\
          2040-01-01 anna\n\
-         due > Store",
+         due > due on 2040-01-01: 1",
     ),
 ];
 
-/// A bag is served as deposited beside an altered one: the other deposit has the same files.
-pub static BESIDE: [Part; 4] = [
+/// A bag is served as deposited beside an altered one: the other deposit has the same files, and a
+/// content is reused only where its bytes and its mark are the same. The stock is what the sizes of the
+/// contents tell, where they are sizes.
+pub static BESIDE: [&[Part]; 4] = [
+    &[
+        ("office", "1000000"),
+        (
+            "asks",
+            "2024-03-01 anna\n\
+             deposit maps y1 A-1 > deposit 1",
+        ),
+        (
+            "alters",
+            "UPDATE content SET bytes = x'616264' WHERE id = 2",
+        ),
+        (
+            "asks altered",
+            "2024-03-01 anna\n\
+             deposit maps y10 A-3 > deposit 2\n\
+             bag 2 > whole\n\
+             audit 1 > audit 1 invalid B17 manifest-sha256.txt data/a",
+        ),
+    ],
+    // Content 2 is under no mark of its own: it isn't found for the same bytes.
+    &[
+        ("office", "1000000"),
+        (
+            "asks",
+            "2024-03-01 anna\n\
+             deposit maps y1 A-1 > deposit 1",
+        ),
+        ("steps", "run|UPDATE content SET mark = x'00' WHERE id = 2"),
+        ("found", "content 2 has a mark that isn't its digest"),
+        (
+            "asks altered",
+            "2024-03-01 anna\n\
+             deposit maps y10 A-3 > deposit 2\n\
+             bag 2 > whole\n\
+             audit 2 > audit 2 valid 1.0 files 1 bytes 3 manifests 1\n\
+             bag 1 > whole\n\
+             audit 1 > audit 1 valid 1.0 files 1 bytes 3 manifests 1",
+        ),
+        (
+            "steps",
+            "show|SELECT id, size FROM content ORDER BY id > 1|54;2|3;3|73;4|3;",
+        ),
+        (
+            "asks altered",
+            "dispose 1 > destroyed 1 2030-01-01\n\
+             bag 2 > whole",
+        ),
+        (
+            "steps",
+            "show|SELECT id, size FROM content ORDER BY id > 1|54;3|73;4|3;",
+        ),
+    ],
+    // Content 1 is under the mark of the declaration of another version, and isn't taken for that.
+    &[
+        ("office", "1000000"),
+        (
+            "asks",
+            "2024-03-01 anna\n\
+             deposit maps y1 A-1 > deposit 1",
+        ),
+        (
+            "steps",
+            "run|UPDATE content SET mark = x'e91f941be5973ff71f1dccbdd1a32d598881893a7f21be516aca743da38b1689' WHERE id = 1",
+        ),
+        (
+            "asks altered",
+            "2024-03-01 anna\n\
+             deposit maps y10 A-3 2024-02-29 0.97 > deposit 2\n\
+             bag 2 > whole 0.97\n\
+             bag 1 > whole",
+        ),
+        (
+            "steps",
+            "show|SELECT id, size FROM content ORDER BY id > 1|54;2|3;3|73;4|55;",
+        ),
+    ],
+    // Sizes that are others, and one that is none.
+    &[
+        ("office", "1000000"),
+        (
+            "asks",
+            "2024-03-01 anna\n\
+             deposit maps y1 A-1 > deposit 1",
+        ),
+        ("alters", "UPDATE content SET size = 5 WHERE id = 2"),
+        ("found", "content 2 has another size"),
+        ("stock", "3 contents, 132 bytes"),
+        ("alters", "UPDATE content SET size = -1 WHERE id = 2"),
+        ("stock", "Q4"),
+        ("asks altered", "bag 1 > whole"),
+        ("alters", "UPDATE content SET size = 3 WHERE id = 2"),
+        ("stock", "3 contents, 130 bytes"),
+    ],
+];
+
+/// What a look at the tables behind a request finds: each of what is kept beside the rows, where it is
+/// another.
+pub static FOUND: [Part; 18] = [
     ("office", "1000000"),
     (
         "asks",
         "2024-03-01 anna\n\
-         deposit maps y1 A-1 > deposit 1",
+         deposit maps y1 A-1 > deposit 1\n\
+         deposit tax y1 A-2 > deposit 2\n\
+         hold-all tax > hold 1\n\
+         keep y10 > class y10 permanent\n\
+         deposit tax y10 A-3 > deposit 3\n\
+         2025-02-28 anna\n\
+         dispose 1 > destroyed 1 2025-02-28",
     ),
+    ("alters", "UPDATE deposit SET due = 20148 WHERE number = 1"),
+    ("found", "deposit 1 has another due day"),
+    ("alters", "UPDATE deposit SET due = 20147 WHERE number = 1"),
+    ("found", ""),
+    ("alters", "UPDATE deposit SET due = 20147 WHERE number = 3"),
+    ("found", "deposit 3 has another due day"),
+    ("alters", "UPDATE deposit SET due = NULL WHERE number = 3"),
+    ("alters", "UPDATE deposit SET holds = 0 WHERE number = 2"),
+    ("found", "deposit 2 has another count of holds"),
+    ("alters", "UPDATE hold SET released = 19783"),
+    ("found", "deposit 3 has another count of holds"),
+    ("alters", "UPDATE deposit SET holds = 0 WHERE number = 3"),
     (
         "alters",
-        "UPDATE file SET content = x'616264' WHERE deposit = 1 AND path = 'data/a'",
+        "INSERT INTO content (id, mark, size, bytes) SELECT 9, mark, size, bytes FROM content \
+         WHERE id = 2; UPDATE file SET content = 9 WHERE deposit = 3 AND path = 'data/a'",
     ),
+    ("found", "content 9 has the bytes of another"),
     (
-        "asks",
-        "2024-03-01 anna\n\
-         deposit maps y10 A-3 > deposit 2\n\
-         bag 2 > whole\n\
-         audit 1 > audit 1 invalid B17 manifest-sha256.txt data/a",
+        "alters",
+        "UPDATE content SET bytes = x'00', size = 1, mark = \
+         x'6e340b9cffb37a989ca544e6bb780a2c78901d3fb33738768511a30617afa01d' WHERE id = 9; UPDATE \
+         file SET content = 2 WHERE content = 9",
     ),
+    ("found", "content 9 has no file"),
 ];
 
 /// Which databases are taken for an office: none that is empty, has no row of an office, has one of
 /// another version, or limits that no office has. Nothing is lost of what the office held.
-pub static OPENINGS: [Part; 9] = [
+pub static OPENINGS: [Part; 11] = [
     ("refused", "Q1"),
     ("office", "1000000"),
     (
         "Q1",
         "DELETE FROM office\n\
-         INSERT INTO office (id, version, max_deposits, max_holds) VALUES (1, 1, 1000000, \
+         INSERT INTO office (id, version, max_deposits, max_holds) VALUES (1, 3, 1000000, \
          1000000)",
     ),
     (
         "Q2",
         "UPDATE office SET version = 9\n\
-         UPDATE office SET version = 1",
+         UPDATE office SET version = 3",
+    ),
+    (
+        "Q2",
+        "UPDATE office SET version = 2\n\
+         UPDATE office SET version = 3",
+    ),
+    (
+        "Q2",
+        "UPDATE office SET version = 1\n\
+         UPDATE office SET version = 3",
     ),
     (
         "Q2",
         "UPDATE office SET version = 0\n\
-         UPDATE office SET version = 1",
+         UPDATE office SET version = 3",
     ),
     (
         "Q1",

@@ -7,7 +7,9 @@ use office_engine::Office;
 use office_tables::TableFault;
 use sqlite::{Alter, Connection};
 use std::alloc::Global;
-use worked_sessions::{AnyOffice, Asked, Row, differs, differs_in_run, open, words};
+use worked_sessions::{
+    AnyOffice, Asked, Row, answer_in_words, differs, differs_in_run, look, open, words,
+};
 
 /// How rows are put to an office.
 #[derive(Clone, Copy)]
@@ -102,9 +104,40 @@ fn put_and_call<S: Alter>(
     Some(differs)
 }
 
+/// Puts the row to the office, and calls for the due list, where the row asks for it.
+fn ask_and_call<S: Alter>(alloc: Global, office: &mut Office<S>, row: &Row) -> Option<String> {
+    let (day, caller, asked, told) = *row;
+    let answer = answer_in_words(alloc, office, day, caller, asked).ok()?;
+    if answer.as_str() == told {
+        return call(alloc, office, row);
+    }
+    Some(answer)
+}
+
 /// The code of the fault.
 pub fn code(alloc: Global, fault: TableFault) -> Option<String> {
     format!(in alloc; "{fault}").ok()
+}
+
+/// What was answered otherwise, or else what the tables keep otherwise than their rows give, or no text.
+fn look_behind<S: Alter + Drop>(
+    alloc: Global,
+    office: Office<S>,
+    differs: Option<String>,
+) -> (Option<String>, Connection<S>) {
+    match differs {
+        Some(text) if text.is_empty() => look(alloc, office),
+        differs => (differs, office.into_connection()),
+    }
+}
+
+/// What is told, behind the row.
+fn behind(alloc: Global, at: usize, told: Option<String>) -> Option<String> {
+    let told = told?;
+    if told.is_empty() {
+        return Some(told);
+    }
+    format!(in alloc; "row {at}: {told}").ok()
 }
 
 /// Makes an office in the database, and gives it the policy, the classes and the collections. The
@@ -123,6 +156,130 @@ pub fn create_and_equip<S: Alter + Drop>(
     match Office::create(conn, limits) {
         Ok(mut office) => {
             let differs = equip(alloc, &mut office);
+            look_behind(alloc, office, differs)
+        }
+        Err((conn, fault)) => (code(alloc, fault), conn),
+    }
+}
+
+/// Adopts the connection as an office, puts the row to it, which calls for the due list, too, where it asks
+/// for it, and then looks at the tables. The connection is handed back: with the code of the fault, where it
+/// isn't taken for an office.
+fn put_row<S: Alter + Drop>(
+    alloc: Global,
+    conn: Connection<S>,
+    at: usize,
+    row: &Row,
+) -> (Option<String>, Connection<S>) {
+    if !conn.is_autocommit() {
+        return (None, conn);
+    }
+    match Office::adopt(conn) {
+        Ok(mut office) => {
+            let differs = ask_and_call(alloc, &mut office, row);
+            let (told, conn) = look_behind(alloc, office, differs);
+            (behind(alloc, at, told), conn)
+        }
+        Err((conn, fault)) => (code(alloc, fault), conn),
+    }
+}
+
+/// Puts the rows to the office one after the other, and looks at the tables behind each.
+fn put_each<S: Alter + Drop>(
+    alloc: Global,
+    conn: Connection<S>,
+    text: &'static str,
+) -> (Option<String>, Connection<S>) {
+    let Some(rows) = rows(alloc, text) else {
+        return (None, conn);
+    };
+    let mut conn = conn;
+    for (at, row) in rows.iter().enumerate() {
+        let (told, left) = put_row(alloc, conn, at, row);
+        conn = left;
+        match told {
+            Some(text) if text.is_empty() => {}
+            told => return (told, conn),
+        }
+    }
+    (Some(String::new(alloc)), conn)
+}
+
+/// Puts the rows to the office in one run, and then looks at the tables.
+fn put_in_run<S: Alter + Drop>(
+    alloc: Global,
+    conn: Connection<S>,
+    text: &'static str,
+) -> (Option<String>, Connection<S>) {
+    if !conn.is_autocommit() {
+        return (None, conn);
+    }
+    match Office::adopt(conn) {
+        Ok(mut office) => {
+            let differs = put_and_call(alloc, &mut office, Way::OneRun, text);
+            look_behind(alloc, office, differs)
+        }
+        Err((conn, fault)) => (code(alloc, fault), conn),
+    }
+}
+
+/// Adopts the connection as an office and puts the rows to it. Behind each row, or behind the run of all, what
+/// the tables keep beside their rows is compared with what the rows give. The connection is handed back.
+pub fn put_and_look<S: Alter + Drop>(
+    alloc: Global,
+    conn: Connection<S>,
+    way: Way,
+    text: &'static str,
+) -> (Option<String>, Connection<S>) {
+    match way {
+        Way::Steps => put_each(alloc, conn, text),
+        Way::OneRun => put_in_run(alloc, conn, text),
+    }
+}
+
+/// How much the office keeps, where it isn't this, or no text.
+pub fn other_stock<O: AnyOffice>(alloc: Global, office: &mut O, wanted: &str) -> Option<String> {
+    let told = match office.stock(alloc) {
+        Ok(found) => {
+            let contents = found.contents;
+            let bytes = found.bytes;
+            format!(in alloc; "{contents} contents, {bytes} bytes").ok()?
+        }
+        Err(fault) => code(alloc, fault)?,
+    };
+    if told.as_str() == wanted {
+        return Some(String::new(alloc));
+    }
+    Some(told)
+}
+
+/// Adopts the connection as an office and looks at its tables. The connection is handed back, with what is found
+/// there otherwise than the rows give, or no text.
+pub fn adopt_and_look<S: Alter + Drop>(
+    alloc: Global,
+    conn: Connection<S>,
+) -> (Option<String>, Connection<S>) {
+    if !conn.is_autocommit() {
+        return (None, conn);
+    }
+    match Office::adopt(conn) {
+        Ok(office) => look(alloc, office),
+        Err((conn, fault)) => (code(alloc, fault), conn),
+    }
+}
+
+/// Adopts the connection as an office and asks for its stock. The connection is handed back.
+pub fn ask_stock<S: Alter + Drop>(
+    alloc: Global,
+    conn: Connection<S>,
+    wanted: &str,
+) -> (Option<String>, Connection<S>) {
+    if !conn.is_autocommit() {
+        return (None, conn);
+    }
+    match Office::adopt(conn) {
+        Ok(mut office) => {
+            let differs = other_stock(alloc, &mut office, wanted);
             (differs, office.into_connection())
         }
         Err((conn, fault)) => (code(alloc, fault), conn),

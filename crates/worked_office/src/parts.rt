@@ -1,7 +1,9 @@
 //! What is done between two openings of a database.
 
 use crate::altering::{alter_for_good, case};
-use crate::offices::{Way, adopt_and_put, create_and_equip};
+use crate::offices::{
+    Way, adopt_and_look, adopt_and_put, ask_stock, create_and_equip, put_and_look,
+};
 use crate::tables::steps::steps;
 use sqlite::{Alter, Connection};
 use std::alloc::Global;
@@ -12,7 +14,10 @@ use std::test::Fail;
 /// | Kind | Its text |
 /// |---|---|
 /// | `office` | how many deposits, and holds, the office may have that is made, and given the policy, the classes and the collections of `worked_sessions` |
-/// | `asks` | rows, which are put to the office |
+/// | `asks` | rows, which are put to the office; behind each what is kept beside the rows of the tables is compared with what the rows give |
+/// | `asks altered` | the same without that: rows of the tables are altered |
+/// | `stock` | how much the office keeps |
+/// | `found` | what is kept beside the rows otherwise than they give, where rows of the tables are altered |
 /// | `steps` | steps with the tables |
 /// | `alters` | SQL that alters rows of the office |
 /// | `refused` | the code of the fault where the database is not taken for an office |
@@ -39,7 +44,13 @@ pub fn take_part<S: Alter + Drop>(
     let (kind, text) = part;
     match kind {
         "office" => create_and_equip(alloc, conn, text),
-        "asks" => adopt_and_put(alloc, conn, way, text),
+        "asks" => put_and_look(alloc, conn, way, text),
+        "asks altered" => adopt_and_put(alloc, conn, way, text),
+        "stock" => ask_stock(alloc, conn, text),
+        "found" => {
+            let (told, conn) = adopt_and_look(alloc, conn);
+            (but_for(alloc, told, text), conn)
+        }
         "steps" => {
             let mut conn = conn;
             (steps(alloc, &mut conn, text), conn)

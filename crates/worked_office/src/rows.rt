@@ -2,7 +2,7 @@
 
 use crate::words::{number, word};
 use std::alloc::Global;
-use worked_sessions::{Asked, BAG, BAG_0_97, PERCENT, Row};
+use worked_sessions::{Asked, BAG, BAG_0_97, NO_PAYLOAD, PERCENT, Row};
 
 /// The answer to a download of the bag `BAG`.
 const WHOLE: &str =
@@ -32,6 +32,7 @@ fn bag(name: &str) -> &'static [u8] {
     match name {
         "percent" => PERCENT,
         "0.97" => BAG_0_97,
+        "empty" => NO_PAYLOAD,
         "nothing" => b"",
         _ => BAG,
     }

@@ -3,7 +3,7 @@
 use crate::parts::Part;
 
 /// What rules, holds and dates decide.
-pub static DECIDING: [&[Part]; 6] = [
+pub static DECIDING: [&[Part]; 7] = [
     // A file is served at its own path alone.
     &[
         ("office", "1000000"),
@@ -18,6 +18,7 @@ pub static DECIDING: [&[Part]; 6] = [
              2024-03-01 anna\n\
              file 2 data/b > NoSuch deposit",
         ),
+        ("stock", "3 contents, 136 bytes"),
     ],
     // A disposal asks the rules, then holds, then the date.
     &[
@@ -43,6 +44,7 @@ pub static DECIDING: [&[Part]; 6] = [
              2024-03-05 anna\n\
              release 2 > Released 2024-03-05",
         ),
+        ("stock", "3 contents, 130 bytes"),
     ],
     // What is absent is said first, and what is denied next.
     &[
@@ -62,6 +64,7 @@ pub static DECIDING: [&[Part]; 6] = [
              release 1 > Released 2024-03-05\n\
              hold-all x > NoSuch collection",
         ),
+        ("stock", "3 contents, 130 bytes"),
     ],
     // Records, audits and holds are told to whom the rules allow.
     &[
@@ -84,6 +87,7 @@ pub static DECIDING: [&[Part]; 6] = [
              hold-all maps > hold 1\n\
              holds 1 > holds: 1 on collection placed 2024-03-02 for Case 7;",
         ),
+        ("stock", "3 contents, 130 bytes"),
     ],
     // Due lists follow holds, disposals and years.
     &[
@@ -123,6 +127,40 @@ pub static DECIDING: [&[Part]; 6] = [
              class y1 1 > class y1 1\n\
              due > due on 2025-02-28: 2",
         ),
+        // It rests on the due day that is kept: 20512 is 2026-02-28.
+        ("alters", "UPDATE deposit SET due = 20512 WHERE number = 2"),
+        (
+            "asks altered",
+            "2025-02-28 anna\n\
+             due > due on 2025-02-28:",
+        ),
+        ("stock", "3 contents, 130 bytes"),
+    ],
+    // Years that change, and holds, on deposits that are destroyed, too; what comes later is covered.
+    &[
+        ("office", "1000000"),
+        (
+            "asks",
+            "2024-03-01 anna\n\
+             deposit maps y1 A-1 > deposit 1\n\
+             deposit tax y1 A-2 2023-02-28 > deposit 2\n\
+             deposit maps y10 A-3 > deposit 3\n\
+             class y1 0 > class y1 0\n\
+             dispose 1 > destroyed 1 2024-03-01\n\
+             class y1 4 > class y1 4\n\
+             hold-all maps > hold 1\n\
+             hold-all maps > hold 2\n\
+             hold 3 > hold 3\n\
+             deposit maps y1 A-4 > deposit 4\n\
+             release 1 > released 1 2024-03-01\n\
+             keep y1 > class y1 permanent\n\
+             hold-all tax > hold 4\n\
+             release 3 > released 3 2024-03-01\n\
+             class y1 200 > class y1 200\n\
+             record 2 > record 2 A-2 tax y1 closed 2023-02-28 deposited 2024-03-01 due 2223-02-28 \
+             files 1 bytes 3",
+        ),
+        ("stock", "3 contents, 130 bytes"),
     ],
     // The rules decide lists and due lists.
     &[
@@ -143,6 +181,7 @@ pub static DECIDING: [&[Part]; 6] = [
              class y10 0 > class y10 0\n\
              due > due on 2024-03-05: 1",
         ),
+        ("stock", "3 contents, 130 bytes"),
     ],
 ];
 
@@ -161,6 +200,7 @@ pub static KEEPING: [&[Part]; 6] = [
              dispose 1 > destroyed 1 2025-02-28\n\
              dispose 1 > Gone 2025-02-28",
         ),
+        ("stock", "0 contents, 0 bytes"),
     ],
     // A hold of a collection covers what comes later.
     &[
@@ -183,6 +223,7 @@ pub static KEEPING: [&[Part]; 6] = [
              hold 1 > Gone 2030-01-03\n\
              release 2 > Released 2030-01-03",
         ),
+        ("stock", "0 contents, 0 bytes"),
     ],
     // An accession is used once.
     &[
@@ -200,6 +241,7 @@ pub static KEEPING: [&[Part]; 6] = [
              deposit maps y1 A-1 2024-02-29 nothing > Taken 1\n\
              deposit maps y1 A-2 2024-02-29 nothing > BadBag S3",
         ),
+        ("stock", "0 contents, 0 bytes"),
     ],
     // Records are closed before they come.
     &[
@@ -209,6 +251,7 @@ pub static KEEPING: [&[Part]; 6] = [
             "2024-03-01 anna\n\
              deposit maps y1 A-1 2024-03-02 > ClosedAhead",
         ),
+        ("stock", "0 contents, 0 bytes"),
     ],
     // The first refusal of each request is answered.
     &[
@@ -223,6 +266,7 @@ pub static KEEPING: [&[Part]; 6] = [
              2024-03-01 eve\n\
              deposit maps y1 A-1 2024-03-02 > Denied default",
         ),
+        ("stock", "3 contents, 130 bytes"),
     ],
     // A full office takes no more.
     &[
@@ -238,22 +282,74 @@ pub static KEEPING: [&[Part]; 6] = [
              release 1 > released 1 2024-03-01\n\
              hold 1 > Full",
         ),
+        ("stock", "3 contents, 130 bytes"),
     ],
 ];
 
 /// A content counts once, and while it is kept.
-pub static CONTENTS: [Part; 4] = [
-    ("office", "1000000"),
-    (
-        "asks",
-        "2024-03-01 anna\n\
-         deposit maps y1 A-1 > deposit 1\n\
-         deposit maps y1 A-2 2024-02-29 0.97 > deposit 2",
-    ),
-    (
-        "asks",
-        "dispose 1 > destroyed 1 2030-01-01\n\
-         bag 2 > whole 0.97",
-    ),
-    ("asks", "dispose 2 > destroyed 2 2030-01-01"),
+pub static CONTENTS: [&[Part]; 3] = [
+    // Two bags have two of their files alike.
+    &[
+        ("office", "1000000"),
+        ("stock", "0 contents, 0 bytes"),
+        (
+            "asks",
+            "2024-03-01 anna\n\
+             deposit maps y1 A-1 > deposit 1\n\
+             deposit maps y1 A-2 2024-02-29 0.97 > deposit 2",
+        ),
+        ("stock", "4 contents, 185 bytes"),
+        (
+            "asks",
+            "dispose 1 > destroyed 1 2030-01-01\n\
+             bag 2 > whole 0.97",
+        ),
+        ("stock", "3 contents, 131 bytes"),
+        ("asks", "dispose 2 > destroyed 2 2030-01-01"),
+        ("stock", "0 contents, 0 bytes"),
+    ],
+    // A content of no byte counts, too.
+    &[
+        ("office", "1000000"),
+        (
+            "asks",
+            "2024-03-01 anna\n\
+             deposit maps y1 A-1 2024-02-29 empty > deposit 1\n\
+             audit 1 > audit 1 valid 1.0 files 0 bytes 0 manifests 2",
+        ),
+        ("stock", "3 contents, 140 bytes"),
+    ],
+    // The same bag again is no further content, and goes with the last deposit that has it.
+    &[
+        ("office", "1000000"),
+        (
+            "asks",
+            "2024-03-01 anna\n\
+             deposit maps y1 A-1 > deposit 1\n\
+             deposit maps y1 A-2 > deposit 2\n\
+             deposit maps y10 A-3 > deposit 3",
+        ),
+        ("stock", "3 contents, 130 bytes"),
+        (
+            "asks",
+            "dispose 2 > destroyed 2 2030-01-01\n\
+             bag 1 > whole\n\
+             dispose 1 > destroyed 1 2030-01-01\n\
+             bag 3 > whole",
+        ),
+        ("stock", "3 contents, 130 bytes"),
+        (
+            "asks",
+            "class y10 0 > class y10 0\n\
+             dispose 3 > destroyed 3 2030-01-01",
+        ),
+        ("stock", "0 contents, 0 bytes"),
+        (
+            "asks",
+            "2024-03-01 anna\n\
+             deposit maps y10 A-4 > deposit 4\n\
+             bag 4 > whole",
+        ),
+        ("stock", "3 contents, 130 bytes"),
+    ],
 ];

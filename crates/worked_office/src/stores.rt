@@ -1,7 +1,7 @@
 //! Sessions over each store, and rows put to the plain office.
 
 use crate::files::take_once;
-use crate::offices::{Way, equip, limits, put};
+use crate::offices::{Way, equip, limits, other_stock, put};
 use crate::parts::{Part, agree, take_part};
 use office_history::plain;
 use sqlite::Connection;
@@ -10,18 +10,28 @@ use std::test::Fail;
 use worked_sessions::{Disks, MANY, empty};
 
 /// A plain office with the policy, the classes and the collections of `worked_sessions`.
-pub fn plain_office(alloc: Global, most: &str) -> Result<plain::Office, Fail> {
+fn plain_office(alloc: Global, most: &str) -> Result<plain::Office, Fail> {
     let mut office = plain::Office::create(alloc, limits(most).ok_or("limits")?);
     agree(equip(alloc, &mut office))?;
     Ok(office)
 }
 
-/// Puts the rows of the parts behind the first, which makes the office, to a plain office.
+/// Takes a part with the plain office, which has no tables that could be altered.
+fn take_plain(alloc: Global, office: &mut plain::Office, way: Way, part: Part) -> Option<String> {
+    let (kind, text) = part;
+    match kind {
+        "asks" => put(alloc, office, way, text),
+        "stock" => other_stock(alloc, office, text),
+        _ => Some(String::new(alloc)),
+    }
+}
+
+/// Takes the parts behind the first, which makes the office, with a plain office.
 fn in_plain(alloc: Global, way: Way, parts: &[Part]) -> Result<(), Fail> {
     let (first, rest) = parts.split_first().ok_or("no part")?;
     let mut office = plain_office(alloc, first.1)?;
-    for (_, text) in rest {
-        agree(put(alloc, &mut office, way, text))?;
+    for part in rest {
+        agree(take_plain(alloc, &mut office, way, *part))?;
     }
     Ok(())
 }

@@ -1,42 +1,25 @@
 //! Sessions are put to each office, and cases of altered rows to offices in memory.
 
 use crate::altered::{
-    AS_BEFORE, BESIDE, CLASSES, DEPOSITS, FILES, HOLDS, OPENINGS, PREPARED, RULES,
+    AS_BEFORE, BESIDE, CLASSES, DEPOSITS, DUES, FILES, FOUND, HOLDS, OPENINGS, PREPARED, RULES,
 };
-use crate::offices::{Way, put};
-use crate::parts::{Part, agree};
+use crate::offices::Way;
+use crate::parts::Part;
 use crate::sessions::{CONTENTS, DECIDING, KEEPING};
-use crate::stores::{in_memory, plain_office, to_offices};
-use office_history::Stock;
+use crate::stores::{in_memory, to_offices};
 use std::alloc::Global;
 use std::test::Fail;
 
 /// Each session is answered alike by each office, by steps and in one run.
 pub fn each_office_answers_alike(alloc: Global) -> Result<(), Fail> {
     to_offices(alloc, &DECIDING)?;
-    to_offices(alloc, &KEEPING)?;
-    to_offices(alloc, &[&CONTENTS])
+    to_offices(alloc, &KEEPING)
 }
 
-/// What is kept when the office is made, and after each part of `CONTENTS` behind.
-static STOCKS: [(usize, usize); 4] = [(0, 0), (4, 185), (3, 131), (0, 0)];
-
-/// What an office has in stock: a content counts once, and as long as a deposit that has it is kept.
+/// What an office has in stock, the plain one and the one over its tables: a content counts once, and as long
+/// as a deposit that has it is kept.
 pub fn a_content_counts_once_and_while_it_is_kept(alloc: Global) -> Result<(), Fail> {
-    let mut office = plain_office(alloc, "1000000")?;
-    for ((kind, text), (contents, bytes)) in CONTENTS.iter().zip(STOCKS.iter()) {
-        if *kind == "asks" {
-            agree(put(alloc, &mut office, Way::Steps, text))?;
-        }
-        let wanted = Stock {
-            contents: *contents,
-            bytes: *bytes,
-        };
-        if office.stock(alloc)? != wanted {
-            return Err("the office has another stock".into());
-        }
-    }
-    Ok(())
+    to_offices(alloc, &CONTENTS)
 }
 
 /// The cases, behind the parts that prepare an office for them, and before those that find it as before.
@@ -59,9 +42,13 @@ pub fn altered_rows_are_met_where_an_answer_rests_on_them(alloc: Global) -> Resu
     alter(alloc, &FILES)?;
     alter(alloc, &CLASSES)?;
     alter(alloc, &DEPOSITS)?;
+    alter(alloc, &DUES)?;
     alter(alloc, &RULES)?;
     alter(alloc, &HOLDS)?;
-    in_memory(alloc, Way::Steps, &BESIDE)
+    for parts in BESIDE.iter() {
+        in_memory(alloc, Way::Steps, parts)?;
+    }
+    in_memory(alloc, Way::Steps, &FOUND)
 }
 
 /// A database that is no office of this version isn't taken for one.

@@ -17,23 +17,28 @@ static BEFORE: [Part; 2] = [
     (
         "asks",
         "2024-03-01 anna\n\
-         deposit maps y1 A-1 > deposit 1",
+         deposit maps y1 A-1 > deposit 1\n\
+         deposit maps y1 A-2 > deposit 2",
     ),
 ];
 
 const AFTER_THE_REQUEST: &str = "2024-03-02 anna\n\
      holds 1 > holds: 1 on deposit placed 2024-03-02 for Case 7;\n\
-     list > list: 1\n\
+     list > list: 1 2\n\
      2025-02-28 anna\n\
      dispose 1 > Held 1";
 
 const THE_RUN: &str = "2024-03-02 anna\n\
      hold-all maps > hold 2\n\
-     release 1 > released 1 2024-03-02";
+     release 1 > released 1 2024-03-02\n\
+     class y1 2 > class y1 2";
 
 const AFTER_THE_RUN: &str = "2025-02-28 anna\n\
      dispose 1 > Held 2\n\
-     release 1 > Released 2024-03-02";
+     dispose 2 > Held 2\n\
+     release 1 > Released 2024-03-02\n\
+     release 2 > released 2 2025-02-28\n\
+     dispose 2 > NotDue 2026-02-28";
 
 /// The office that is found in the files.
 fn find_office<D: Disk + Drop>(alloc: Global, files: Files<D>) -> Option<Office<FileStore<D>>> {

@@ -11,7 +11,7 @@ use office_engine::Office;
 use sqlite::{Alter, Connection, Files, Options};
 use sqlite_disk::Disk;
 use std::test::Fail;
-use worked_sessions::Disks;
+use worked_sessions::{Disks, look};
 
 /// What is put to an office that was made.
 #[derive(Clone, Copy)]
@@ -59,7 +59,8 @@ fn serve<S: Alter>(rt: &HostRuntime, office: &mut Office<S>, part: Part) -> Resu
     }
 }
 
-/// Makes an office, and puts the part to it.
+/// Makes an office, and puts the part to it. Fails where its tables then keep something otherwise than their
+/// rows give.
 fn make_over<S: Alter + Drop>(
     rt: &HostRuntime,
     conn: Connection<S>,
@@ -73,7 +74,12 @@ fn make_over<S: Alter + Drop>(
         return Err("no office was made".into());
     };
     serve(rt, &mut office, part)?;
-    Ok(office.into_connection())
+    let (told, conn) = look(rt.alloc(), office);
+    match told {
+        Some(text) if text.is_empty() => Ok(conn),
+        Some(text) => Err(Fail::new(text)),
+        None => Err("the tables can't be read".into()),
+    }
 }
 
 /// Performs the task over the connection, and hands it back. The visit is `None` where the store fails

@@ -11,3 +11,7 @@ pub const PERCENT: &[u8] =
 /// The bag of one file in version 0.97.
 pub const BAG_0_97: &[u8] =
     b"BAGSET 1\nFILE 9 55\nbagit.txtBagIt-Version: 0.97\nTag-File-Character-Encoding: UTF-8\n\nFILE 6 3\ndata/aabc\nFILE 19 73\nmanifest-sha256.txtba7816bf8f01cfea414140de5dae2223b00361a396177a9cb410ff61f20015ad  data/a\n\nEND\n";
+
+/// A bag without payload, whose manifest is empty: a tag manifest lists it.
+pub const NO_PAYLOAD: &[u8] =
+    b"BAGSET 1\nFILE 9 54\nbagit.txtBagIt-Version: 1.0\nTag-File-Character-Encoding: UTF-8\n\nFILE 19 0\nmanifest-sha256.txt\nFILE 22 86\ntagmanifest-sha256.txte3b0c44298fc1c149afbf4c8996fb92427ae41e4649b934ca495991b7852b855  manifest-sha256.txt\n\nEND\n";

@@ -5,6 +5,7 @@
 mod asking;
 mod bags;
 mod files;
+mod keeping;
 mod offices;
 mod session_fault;
 mod sessions;
@@ -12,8 +13,9 @@ mod showing;
 mod wording;
 
 pub use asking::Asked;
-pub use bags::{BAG, BAG_0_97, PERCENT};
+pub use bags::{BAG, BAG_0_97, NO_PAYLOAD, PERCENT};
 pub use files::{Disks, MANY, SMALL_CACHES, copy_files, empty, has_stopped, lose};
+pub use keeping::{kept_otherwise, look};
 pub use offices::AnyOffice;
 pub use session_fault::SessionFault;
 pub use sessions::{OPENING, POLICY, Row, answer_in_words, differs, differs_in_run, open};

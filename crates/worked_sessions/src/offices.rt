@@ -1,7 +1,7 @@
 //! The two offices, asked alike.
 
 use office_core::{Answer, Day, Policy, Request};
-use office_history::plain;
+use office_history::{Stock, plain};
 use office_tables::TableFault;
 use sqlite::Alter;
 use std::alloc::{AllocError, Global};
@@ -20,6 +20,9 @@ pub trait AnyOffice {
         alloc: Global,
         items: &[(Day, &str, Request<'_>)],
     ) -> Result<Vec<Answer>, AllocError>;
+
+    /// How much it keeps. Fails with `Memory` or `Store`.
+    fn stock(&mut self, alloc: Global) -> Result<Stock, TableFault>;
 }
 
 impl AnyOffice for plain::Office {
@@ -38,6 +41,10 @@ impl AnyOffice for plain::Office {
     ) -> Result<Vec<Answer>, AllocError> {
         plain::Office::run(self, alloc, items)
     }
+
+    fn stock(&mut self, alloc: Global) -> Result<Stock, TableFault> {
+        Ok(plain::Office::stock(self, alloc)?)
+    }
 }
 
 impl<S: Alter> AnyOffice for office_engine::Office<S> {
@@ -55,5 +62,13 @@ impl<S: Alter> AnyOffice for office_engine::Office<S> {
         items: &[(Day, &str, Request<'_>)],
     ) -> Result<Vec<Answer>, AllocError> {
         office_engine::Office::run(self, alloc, items)
+    }
+
+    fn stock(&mut self, alloc: Global) -> Result<Stock, TableFault> {
+        let found = office_engine::Office::stock(self, alloc)?;
+        Ok(Stock {
+            contents: found.contents,
+            bytes: found.bytes,
+        })
     }
 }

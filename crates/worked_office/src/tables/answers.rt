@@ -2,8 +2,9 @@
 
 use crate::words::{number, word};
 use office_tables::{
-    TableFault, by_accession, class_of, deposit_row, deposit_rows, file_of, files_of,
-    has_collection, hold_row, last_deposit, last_hold, limits, live_holds, role_of, rules,
+    TableFault, by_accession, class_of, contents, deposit_row, deposit_rows, deposits_and_dues,
+    due_row, due_rows, file_of, files_of, has_collection, hold_row, last_deposit, last_hold,
+    limits, live_holds, match_rule, role_of, rows_of_class, rules,
 };
 use sqlite::{Alter, Transaction};
 use std::alloc::Global;
@@ -35,6 +36,14 @@ pub fn answer<S: Alter>(alloc: Global, tx: &mut Transaction<'_, S>, read: &str) 
         "accession" => answer_text(alloc, by_accession(tx, name)),
         "deposits" => answer_text(alloc, deposit_rows(alloc, tx)),
         "last deposit" => answer_text(alloc, last_deposit(tx)),
+        "rule" => {
+            let (collection, class) = (word(&words, 3), word(&words, 4));
+            answer_text(
+                alloc,
+                match_rule(tx, name, word(&words, 2), collection, class),
+            )
+        }
+        "closings" => answer_text(alloc, rows_of_class(alloc, tx, name)),
         other => answer_of_files_and_holds(alloc, tx, other, of, word(&words, 2)),
     }
 }
@@ -53,6 +62,22 @@ fn answer_of_files_and_holds<S: Alter>(
         "hold" => answer_text(alloc, hold_row(tx, of)),
         "live holds" => answer_text(alloc, live_holds(alloc, tx, of, name)),
         "last hold" => answer_text(alloc, last_hold(tx)),
+        _ => answer_of_kept(alloc, tx, read, of),
+    }
+}
+
+/// What a read answers of contents, or of what is kept beside a deposit.
+fn answer_of_kept<S: Alter>(
+    alloc: Global,
+    tx: &mut Transaction<'_, S>,
+    read: &str,
+    of: u32,
+) -> Option<String> {
+    match read {
+        "contents" => answer_text(alloc, contents(alloc, tx)),
+        "due" => answer_text(alloc, due_row(tx, of)),
+        "due rows" => answer_text(alloc, due_rows(alloc, tx, i64::from(of))),
+        "deposits and dues" => answer_text(alloc, deposits_and_dues(alloc, tx)),
         _ => None,
     }
 }

@@ -3,7 +3,7 @@
 use crate::parts::Part;
 
 /// Each call once.
-pub static CALLS: [&[Part]; 6] = [
+pub static CALLS: [&[Part]; 9] = [
     // An office lasts.
     &[
         (
@@ -15,7 +15,7 @@ pub static CALLS: [&[Part]; 6] = [
             "steps",
             "open\n\
              read|limits > OfficeLimits { max_deposits: 10, max_holds: 20 }\n\
-             held > 1|1|10|20;--;--;--;--;--;--;--;--;\n\
+             held > 1|3|10|20;--;--;--;--;--;--;--;--;--;\n\
              create > Q4\n\
              open",
         ),
@@ -36,7 +36,7 @@ pub static CALLS: [&[Part]; 6] = [
             "read|years|y2 > Some(3)\n\
              read|years|kept > Some(-1)\n\
              read|collection|maps > true\n\
-             held > 1|1|10|20;--;--;--;kept|-1;y2|3;--;maps;--;--;--;--;",
+             held > 1|3|10|20;--;--;--;kept|-1;y2|3;--;maps;--;--;--;--;--;",
         ),
     ],
     // A policy lasts.
@@ -54,8 +54,8 @@ pub static CALLS: [&[Part]; 6] = [
              read|rules > [RuleRow { place: 1, effect: 0, role: \"keeper\", action: \"list\", \
              collection: \"*\", class: \"y2\" }, RuleRow { place: 7, effect: 1, role: \"*\", \
              action: \"list\", collection: \"*\", class: \"y2\" }]\n\
-             held > 1|1|10|20;--;ben|reader;cy|reader;--;1|0|keeper|list|*|y2;7|1|*|list|*|y2;--;\
-             --;--;--;--;--;",
+             held > 1|3|10|20;--;ben|reader;cy|reader;--;1|0|keeper|list|*|y2;7|1|*|list|*|y2;--;\
+             --;--;--;--;--;--;",
         ),
     ],
     // Deposits last.
@@ -85,8 +85,8 @@ pub static CALLS: [&[Part]; 6] = [
              \"y2\", closed: 10, deposited: 11, files: 2, bytes: 300, gone: Some(900) }, \
              DepositRow { number: 9, accession: \"2026/9\", collection: \"maps\", class: \"y2\", \
              closed: 10, deposited: 11, files: 2, bytes: 300, gone: None }]\n\
-             held > 1|1|10|20;--;--;--;y2|2;--;maps;--;1|2026/1|maps|y2|10|11|2|300|;\
-             4|2026/4|maps|y2|10|11|2|300|900;9|2026/9|maps|y2|10|11|2|300|;--;--;--;",
+             held > 1|3|10|20;--;--;--;y2|2;--;maps;--;1|2026/1|maps|y2|10|11|2|300|||0;\
+             4|2026/4|maps|y2|10|11|2|300|900||0;9|2026/9|maps|y2|10|11|2|300|||0;--;--;--;--;",
         ),
     ],
     // Files last.
@@ -105,7 +105,8 @@ pub static CALLS: [&[Part]; 6] = [
             "read|content|2|data/b > Some([98, 98])\n\
              read|files|2 > [FileRow { deposit: 2, path: \"bagit.txt\", content: [116, 101, 120, \
              116] }, FileRow { deposit: 2, path: \"data/b\", content: [98, 98] }]\n\
-             held > 1|1|10|20;--;--;--;--;--;--;1|data/b|one;2|bagit.txt|text;2|data/b|bb;--;--;",
+             held > 1|3|10|20;--;--;--;--;--;--;1|data/b|one;2|bagit.txt|text;2|data/b|bb;--;--;\
+             1|2;2|4;3|3;--;",
         ),
     ],
     // Holds last.
@@ -126,8 +127,96 @@ pub static CALLS: [&[Part]; 6] = [
              read|live holds|8|plans > [5]\n\
              read|hold|1 > Some(HoldRow { number: 1, deposit: Some(7), collection: None, matter: \
              \"tax 1\", placed: 100, released: Some(150) })\n\
-             held > 1|1|10|20;--;--;--;--;--;--;--;1|7||tax 1|100|150;2||maps|suit|100|;\
-             3|7||audit|100|;5|8||audit|100|;--;",
+             held > 1|3|10|20;--;--;--;--;--;--;--;1|7||tax 1|100|150;2||maps|suit|100|;\
+             3|7||audit|100|;5|8||audit|100|;--;--;",
         ),
     ],
+    // Contents of one mark stand side by side, each with its own bytes.
+    &[
+        (
+            "steps",
+            "create\n\
+             do|class|y2|2;collection|maps;deposit|1|2026/1|maps|y2;deposit|2|2026/2|maps|y2\n\
+             do|marked|1|data/a|m|abc\n\
+             do|marked|1|data/b|m|abd\n\
+             do|marked|2|data/c|m|abc\n\
+             do|marked|2|data/c|m|abd > Q4",
+        ),
+        (
+            "steps",
+            "read|contents > [ContentSize { id: 1, size: 3 }, ContentSize { id: 2, size: 3 }]\n\
+             read|content|1|data/a > Some([97, 98, 99])\n\
+             read|content|1|data/b > Some([97, 98, 100])\n\
+             read|content|2|data/c > Some([97, 98, 99])\n\
+             do|drop files|1\n\
+             read|contents > [ContentSize { id: 1, size: 3 }]\n\
+             read|content|1|data/a > None\n\
+             read|content|2|data/c > Some([97, 98, 99])\n\
+             do|drop files|2\n\
+             read|contents > []",
+        ),
+    ],
+    // Due days and counts of holds last.
+    &[
+        (
+            "steps",
+            "create\n\
+             do|class|y2|2;class|kept|-1;collection|maps;collection|tax\n\
+             do|deposit|1|2026/1|maps|y2;deposit|2|2026/2|tax|y2;deposit|3|2026/3|maps|y2\n\
+             do|deposit|4|2026/4|maps|kept;deposit|5|2026/5|maps|y2\n\
+             do|due|1|740;due|2|741;due|3|740;due|4|9;due|5|739;holds|2|1;holds|3|2\n\
+             do|due|4|\n\
+             do|more holds|maps|3\n\
+             do|more holds|maps|-3\n\
+             do|holds|2|0\n\
+             do|gone|5|800",
+        ),
+        (
+            "steps",
+            "read|due|1 > Some(DueRow { number: 1, due: Some(740), holds: 0 })\n\
+             read|due|3 > Some(DueRow { number: 3, due: Some(740), holds: 2 })\n\
+             read|due|4 > Some(DueRow { number: 4, due: None, holds: 0 })\n\
+             read|due|9 > None\n\
+             read|due rows|739 > []\n\
+             read|due rows|740 > [PlaceRow { number: 1, collection: \"maps\", class: \"y2\" }]\n\
+             read|due rows|741 > [PlaceRow { number: 1, collection: \"maps\", class: \"y2\" }, \
+             PlaceRow { number: 2, collection: \"tax\", class: \"y2\" }]\n\
+             read|closings|y2 > [ClosingRow { number: 1, closed: 10 }, ClosingRow { number: 2, \
+             closed: 10 }, ClosingRow { number: 3, closed: 10 }, ClosingRow { number: 5, closed: \
+             10 }]\n\
+             read|closings|Y2 > []",
+        ),
+        (
+            "steps",
+            "do|more holds|maps|2\n\
+             do|more holds|plans|2\n\
+             do|due|1|;due|9|5;holds|9|5\n\
+             read|due|1 > Some(DueRow { number: 1, due: None, holds: 2 })\n\
+             read|due|2 > Some(DueRow { number: 2, due: Some(741), holds: 0 })\n\
+             read|due|3 > Some(DueRow { number: 3, due: Some(740), holds: 4 })\n\
+             read|due|5 > Some(DueRow { number: 5, due: Some(739), holds: 2 })\n\
+             read|due rows|741 > [PlaceRow { number: 2, collection: \"tax\", class: \"y2\" }]\n\
+             do|drop files|1",
+        ),
+    ],
+    // The rule of the least place that fits decides; a name that is absent fits `*` alone.
+    &[(
+        "steps",
+        "create\n\
+         do|policy|anna archivist,carl clerk|3 1 clerk list * y10,2 1 archivist * * *,1 0 archivist \
+         dispose tax *\n\
+         read|rule|archivist|dispose|tax|y1 > Some(RuleRow { place: 1, effect: 0, role: \
+         \"archivist\", action: \"dispose\", collection: \"tax\", class: \"*\" })\n\
+         read|rule|archivist|dispose|maps|y1 > Some(RuleRow { place: 2, effect: 1, role: \
+         \"archivist\", action: \"*\", collection: \"*\", class: \"*\" })\n\
+         read|rule|stranger|list|maps|y10 > None\n\
+         read|rule|archivist|class||y1 > Some(RuleRow { place: 2, effect: 1, role: \"archivist\", \
+         action: \"*\", collection: \"*\", class: \"*\" })\n\
+         read|rule|archivist|dispose||y1 > Some(RuleRow { place: 2, effect: 1, role: \
+         \"archivist\", action: \"*\", collection: \"*\", class: \"*\" })\n\
+         read|rule|clerk|list|maps|y10 > Some(RuleRow { place: 3, effect: 1, role: \"clerk\", \
+         action: \"list\", collection: \"*\", class: \"y10\" })\n\
+         read|rule|clerk|list|maps| > None\n\
+         read|rule|Clerk|list|maps|y10 > None",
+    )],
 ];

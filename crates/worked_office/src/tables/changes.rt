@@ -2,8 +2,9 @@
 
 use crate::words::{number, word};
 use office_tables::{
-    CallerRow, HoldTarget, NewDeposit, RuleRow, TableFault, drop_files, end_hold, mark_gone,
-    put_class, put_collection, put_deposit, put_file, put_hold, put_policy,
+    CallerRow, HoldTarget, NewDeposit, RuleRow, TableFault, add_holds, drop_files, end_hold,
+    mark_gone, put_class, put_collection, put_deposit, put_file, put_hold, put_marked, put_policy,
+    set_due, set_holds,
 };
 use sqlite::{Alter, Transaction};
 use std::alloc::{AllocError, Global};
@@ -50,6 +51,35 @@ fn change_hold<S: Alter>(tx: &mut Transaction<'_, S>, words: &[&str]) -> Result<
     }
 }
 
+/// The mark that a word stands for: its first byte, 32 times.
+fn mark_of(word: &str) -> [u8; 32] {
+    match word.as_bytes() {
+        [byte, ..] => [*byte; 32],
+        [] => [0; 32],
+    }
+}
+
+/// Changes what is kept beside a deposit, or puts a file with a mark, or changes a hold.
+fn change_kept<S: Alter>(tx: &mut Transaction<'_, S>, words: &[&str]) -> Result<(), TableFault> {
+    let deposit = number(words, 1);
+    match word(words, 0) {
+        "marked" => {
+            let mark = mark_of(word(words, 3));
+            put_marked(
+                tx,
+                deposit,
+                word(words, 2),
+                &mark,
+                word(words, 4).as_bytes(),
+            )
+        }
+        "due" => set_due(tx, deposit, word(words, 2).parse().ok()),
+        "holds" => set_holds(tx, deposit, word(words, 2).parse().unwrap_or(0)),
+        "more holds" => add_holds(tx, word(words, 1), word(words, 2).parse().unwrap_or(0)),
+        _ => change_hold(tx, words),
+    }
+}
+
 /// Changes a deposit or its files, or a hold.
 fn change_deposit<S: Alter>(tx: &mut Transaction<'_, S>, words: &[&str]) -> Result<(), TableFault> {
     let deposit = number(words, 1);
@@ -58,7 +88,7 @@ fn change_deposit<S: Alter>(tx: &mut Transaction<'_, S>, words: &[&str]) -> Resu
         "gone" => mark_gone(tx, deposit, i64::from(number(words, 2))),
         "file" => put_file(tx, deposit, word(words, 2), word(words, 3).as_bytes()),
         "drop files" => drop_files(tx, deposit),
-        _ => change_hold(tx, words),
+        _ => change_kept(tx, words),
     }
 }
 

@@ -28,13 +28,13 @@ pub static REFUSALS: [&[Part]; 4] = [
              do|gone|3|9\n\
              do|drop files|3\n\
              do|end hold|3|9\n\
-             held > 1|1|10|20;--;--;--;y2|2;--;maps;--;1|2026/1|maps|y2|10|11|2|300|;--;\
-             1|data/a|abc;--;1|1||suit|100|;--;",
+             held > 1|3|10|20;--;--;--;y2|2;--;maps;--;1|2026/1|maps|y2|10|11|2|300|||0;--;\
+             1|data/a|abc;--;1|1||suit|100|;--;1|3;--;",
         ),
         (
             "steps",
-            "held > 1|1|10|20;--;--;--;y2|2;--;maps;--;1|2026/1|maps|y2|10|11|2|300|;--;\
-             1|data/a|abc;--;1|1||suit|100|;--;\n\
+            "held > 1|3|10|20;--;--;--;y2|2;--;maps;--;1|2026/1|maps|y2|10|11|2|300|||0;--;\
+             1|data/a|abc;--;1|1||suit|100|;--;1|3;--;\n\
              read|role|eve > None\n\
              read|years|Y2 > None\n\
              read|collection|map > false\n\
@@ -59,8 +59,9 @@ pub static REFUSALS: [&[Part]; 4] = [
              * * > Q4\n\
              do|class|new|5;policy|ada keeper,ben keeper|3 1 keeper * * *,4 1 keeper * * *,4 1 \
              keeper * * * > Q4\n\
-             held > 1|1|10|20;--;ada|keeper;ben|keeper;--;1|1|keeper|*|*|*;2|1|keeper|*|*|*;--;\
-             y2|2;--;maps;--;1|2026/1|maps|y2|10|11|2|300|;--;1|data/a|abc;--;1|1||suit|100|;--;",
+             held > 1|3|10|20;--;ada|keeper;ben|keeper;--;1|1|keeper|*|*|*;2|1|keeper|*|*|*;--;\
+             y2|2;--;maps;--;1|2026/1|maps|y2|10|11|2|300|||0;--;1|data/a|abc;--;1|1||suit|100|;\
+             --;1|3;--;",
         ),
         (
             "steps",
@@ -104,6 +105,11 @@ pub static REFUSALS: [&[Part]; 4] = [
              read|years|y2 > Q4\n\
              do|class|y2|2 > Q4\n\
              read|last deposit > Q4\n\
+             read|contents > Q4\n\
+             read|due rows|9 > Q4\n\
+             read|rule|keeper|list|maps|y2 > Q4\n\
+             do|due|1|9 > Q4\n\
+             do|more holds|maps|1 > Q4\n\
              do|file|1|data/a| > Q4",
     )],
     // Strange rows are refused: those that the schema takes and no row of the office can be.
@@ -120,7 +126,8 @@ pub static REFUSALS: [&[Part]; 4] = [
              run|INSERT INTO caller VALUES ('anna', CAST(x'ff' AS TEXT))\n\
              read|role|anna > Q4\n\
              run|INSERT INTO class VALUES ('y2', 2); INSERT INTO collection VALUES ('maps')\n\
-             run|INSERT INTO deposit VALUES (4294967296, 'A-1', 'maps', 'y2', 1, 2, 3, 4, NULL)\n\
+             run|INSERT INTO deposit VALUES (4294967296, 'A-1', 'maps', 'y2', 1, 2, 3, 4, NULL, \
+             NULL, 0)\n\
              read|last deposit > Q4\n\
              read|accession|A-1 > Q4\n\
              read|deposits > Q4\n\

@@ -64,22 +64,22 @@ static STOPS: [Stopped; 4] = [
     Stopped {
         way: Way::Asked,
         of_log: true,
-        least: 51,
+        least: 140,
     },
     Stopped {
         way: Way::Sent,
         of_log: true,
-        least: 51,
+        least: 140,
     },
     Stopped {
         way: Way::Asked,
         of_log: false,
-        least: 21,
+        least: 50,
     },
     Stopped {
         way: Way::Sent,
         of_log: false,
-        least: 21,
+        least: 50,
     },
 ];
 

@@ -9,7 +9,7 @@ use office_tables::TableFault;
 use sqlite::Alter;
 use std::alloc::Global;
 use std::test::Fail;
-use worked_sessions::{Asked, BAG, answer_in_words};
+use worked_sessions::{Asked, BAG, BAG_0_97, answer_in_words};
 
 /// How the requests come.
 #[derive(Clone, Copy)]
@@ -35,7 +35,8 @@ struct Step {
 static POLICY: &str =
     "version = 1\n\n[callers]\nanna = \"archivist\"\ncarl = \"clerk\"\n\n[[rule]]\neffect = \"allow\"\nrole = \"archivist\"\naction = \"*\"\ncollection = \"*\"\nclass = \"*\"\n\n[[rule]]\neffect = \"deny\"\nrole = \"clerk\"\naction = \"class\"\ncollection = \"*\"\nclass = \"*\"\n";
 
-static STEPS: [Step; 6] = [
+/// Two bags with two files alike, under a class that is revised, and holds of one and of both.
+static STEPS: [Step; 10] = [
     Step {
         day: "2024-03-01",
         asked: Asked::Collection("maps"),
@@ -64,11 +65,45 @@ static STEPS: [Step; 6] = [
         answer: b"HTTP/1.1 201 Created\r\nContent-Type: application/json\r\nContent-Length: 13\r\nConnection: close\r\n\r\n{\"deposit\":1}",
     },
     Step {
+        day: "2024-03-01",
+        asked: Asked::Deposit {
+            collection: "maps",
+            class: "y1",
+            accession: "A-2",
+            closed: "2024-02-29",
+            bag: BAG_0_97,
+        },
+        told: b"deposit 2",
+        request: b"POST /deposits?collection=maps&class=y1&accession=A-2&closed=2024-02-29 HTTP/1.1\r\nDepot-Caller: anna\r\nContent-Length: 211\r\n\r\nBAGSET 1\nFILE 9 55\nbagit.txtBagIt-Version: 0.97\nTag-File-Character-Encoding: UTF-8\n\nFILE 6 3\ndata/aabc\nFILE 19 73\nmanifest-sha256.txtba7816bf8f01cfea414140de5dae2223b00361a396177a9cb410ff61f20015ad  data/a\n\nEND\n",
+        answer: b"HTTP/1.1 201 Created\r\nContent-Type: application/json\r\nContent-Length: 13\r\nConnection: close\r\n\r\n{\"deposit\":2}",
+    },
+    Step {
+        day: "2024-03-02",
+        asked: Asked::Class("y1", 2),
+        told: b"class y1 2",
+        request: b"PUT /classes/y1 HTTP/1.1\r\nDepot-Caller: anna\r\nContent-Length: 11\r\n\r\n{\"years\":2}",
+        answer: b"HTTP/1.1 200 OK\r\nContent-Type: application/json\r\nContent-Length: 24\r\nConnection: close\r\n\r\n{\"class\":\"y1\",\"years\":2}",
+    },
+    Step {
         day: "2024-03-02",
         asked: Asked::HoldDeposit(1),
         told: b"hold 1",
         request: b"POST /holds HTTP/1.1\r\nDepot-Caller: anna\r\nContent-Length: 31\r\n\r\n{\"deposit\":1,\"matter\":\"Case 7\"}",
         answer: b"HTTP/1.1 201 Created\r\nContent-Type: application/json\r\nContent-Length: 10\r\nConnection: close\r\n\r\n{\"hold\":1}",
+    },
+    Step {
+        day: "2024-03-02",
+        asked: Asked::HoldCollection("maps"),
+        told: b"hold 2",
+        request: b"POST /holds HTTP/1.1\r\nDepot-Caller: anna\r\nContent-Length: 39\r\n\r\n{\"collection\":\"maps\",\"matter\":\"Case 7\"}",
+        answer: b"HTTP/1.1 201 Created\r\nContent-Type: application/json\r\nContent-Length: 10\r\nConnection: close\r\n\r\n{\"hold\":2}",
+    },
+    Step {
+        day: "2024-03-05",
+        asked: Asked::Release(2),
+        told: b"released 2 2024-03-05",
+        request: b"DELETE /holds/2 HTTP/1.1\r\nDepot-Caller: anna\r\n\r\n",
+        answer: b"HTTP/1.1 200 OK\r\nContent-Type: application/json\r\nContent-Length: 34\r\nConnection: close\r\n\r\n{\"hold\":2,\"released\":\"2024-03-05\"}",
     },
     Step {
         day: "2024-03-05",
@@ -87,18 +122,38 @@ static STEPS: [Step; 6] = [
 ];
 
 /// How far the session goes: the policy is installed, and each step is taken.
-pub const WHOLE: usize = 7;
+pub const WHOLE: usize = 11;
 
 /// What `held_rows` shows of the tables before the session, behind its policy and behind each step.
-pub static TABLES: [&[u8]; 8] = [
-    b"1|1|1000000|1000000\n--\n--\n--\n--\n--\n--\n--\n--\n",
-    b"1|1|1000000|1000000\n--\nanna|archivist\ncarl|clerk\n--\n1|1|archivist|*|*|*\n2|0|clerk|class|*|*\n--\n--\n--\n--\n--\n--\n",
-    b"1|1|1000000|1000000\n--\nanna|archivist\ncarl|clerk\n--\n1|1|archivist|*|*|*\n2|0|clerk|class|*|*\n--\n--\nmaps\n--\n--\n--\n--\n",
-    b"1|1|1000000|1000000\n--\nanna|archivist\ncarl|clerk\n--\n1|1|archivist|*|*|*\n2|0|clerk|class|*|*\n--\ny1|1\n--\nmaps\n--\n--\n--\n--\n",
-    b"1|1|1000000|1000000\n--\nanna|archivist\ncarl|clerk\n--\n1|1|archivist|*|*|*\n2|0|clerk|class|*|*\n--\ny1|1\n--\nmaps\n--\n1|A-1|maps|y1|19782|19783|1|3|\n--\n1|bagit.txt|BagIt-Version: 1.0\nTag-File-Character-Encoding: UTF-8\n\n1|data/a|abc\n1|manifest-sha256.txt|ba7816bf8f01cfea414140de5dae2223b00361a396177a9cb410ff61f20015ad  data/a\n\n--\n--\n",
-    b"1|1|1000000|1000000\n--\nanna|archivist\ncarl|clerk\n--\n1|1|archivist|*|*|*\n2|0|clerk|class|*|*\n--\ny1|1\n--\nmaps\n--\n1|A-1|maps|y1|19782|19783|1|3|\n--\n1|bagit.txt|BagIt-Version: 1.0\nTag-File-Character-Encoding: UTF-8\n\n1|data/a|abc\n1|manifest-sha256.txt|ba7816bf8f01cfea414140de5dae2223b00361a396177a9cb410ff61f20015ad  data/a\n\n--\n1|1||Case 7|19784|\n--\n",
-    b"1|1|1000000|1000000\n--\nanna|archivist\ncarl|clerk\n--\n1|1|archivist|*|*|*\n2|0|clerk|class|*|*\n--\ny1|1\n--\nmaps\n--\n1|A-1|maps|y1|19782|19783|1|3|\n--\n1|bagit.txt|BagIt-Version: 1.0\nTag-File-Character-Encoding: UTF-8\n\n1|data/a|abc\n1|manifest-sha256.txt|ba7816bf8f01cfea414140de5dae2223b00361a396177a9cb410ff61f20015ad  data/a\n\n--\n1|1||Case 7|19784|19787\n--\n",
-    b"1|1|1000000|1000000\n--\nanna|archivist\ncarl|clerk\n--\n1|1|archivist|*|*|*\n2|0|clerk|class|*|*\n--\ny1|1\n--\nmaps\n--\n1|A-1|maps|y1|19782|19783|1|3|21915\n--\n--\n1|1||Case 7|19784|19787\n--\n",
+pub static TABLES: [&[u8]; 12] = [
+    b"1|3|1000000|1000000\n--\n--\n--\n--\n--\n--\n--\n--\n--\n",
+    b"1|3|1000000|1000000\n--\nanna|archivist\ncarl|clerk\n--\n1|1|archivist|*|*|*\n2|0|clerk|class|*|*\n--\n--\n--\n--\n--\n--\n--\n",
+    b"1|3|1000000|1000000\n--\nanna|archivist\ncarl|clerk\n--\n1|1|archivist|*|*|*\n2|0|clerk|class|*|*\n--\n--\nmaps\n--\n--\n--\n--\n--\n",
+    b"1|3|1000000|1000000\n--\nanna|archivist\ncarl|clerk\n--\n1|1|archivist|*|*|*\n2|0|clerk|class|*|*\n--\ny1|1\n--\nmaps\n--\n--\n--\n--\n--\n",
+    b"1|3|1000000|1000000\n--\nanna|archivist\ncarl|clerk\n--\n1|1|archivist|*|*|*\n2|0|clerk|class|*|*\n--\ny1|1\n--\nmaps\n--\n1|A-1|maps|y1|19782|19783|1|3||20147|0\n--\n1|bagit.txt|BagIt-Version: 1.0\nTag-File-Character-Encoding: UTF-8\n\n1|data/a|abc\n1|manifest-sha256.txt|ba7816bf8f01cfea414140de5dae2223b00361a396177a9cb410ff61f20015ad  data/a\n\n--\n--\n1|54\n2|3\n3|73\n--\n",
+    b"1|3|1000000|1000000\n--\nanna|archivist\ncarl|clerk\n--\n1|1|archivist|*|*|*\n2|0|clerk|class|*|*\n--\ny1|1\n--\nmaps\n--\n1|A-1|maps|y1|19782|19783|1|3||20147|0\n2|A-2|maps|y1|19782|19783|1|3||20147|0\n--\n1|bagit.txt|BagIt-Version: 1.0\nTag-File-Character-Encoding: UTF-8\n\n1|data/a|abc\n1|manifest-sha256.txt|ba7816bf8f01cfea414140de5dae2223b00361a396177a9cb410ff61f20015ad  data/a\n\n2|bagit.txt|BagIt-Version: 0.97\nTag-File-Character-Encoding: UTF-8\n\n2|data/a|abc\n2|manifest-sha256.txt|ba7816bf8f01cfea414140de5dae2223b00361a396177a9cb410ff61f20015ad  data/a\n\n--\n--\n1|54\n2|3\n3|73\n4|55\n--\n",
+    b"1|3|1000000|1000000\n--\nanna|archivist\ncarl|clerk\n--\n1|1|archivist|*|*|*\n2|0|clerk|class|*|*\n--\ny1|2\n--\nmaps\n--\n1|A-1|maps|y1|19782|19783|1|3||20512|0\n2|A-2|maps|y1|19782|19783|1|3||20512|0\n--\n1|bagit.txt|BagIt-Version: 1.0\nTag-File-Character-Encoding: UTF-8\n\n1|data/a|abc\n1|manifest-sha256.txt|ba7816bf8f01cfea414140de5dae2223b00361a396177a9cb410ff61f20015ad  data/a\n\n2|bagit.txt|BagIt-Version: 0.97\nTag-File-Character-Encoding: UTF-8\n\n2|data/a|abc\n2|manifest-sha256.txt|ba7816bf8f01cfea414140de5dae2223b00361a396177a9cb410ff61f20015ad  data/a\n\n--\n--\n1|54\n2|3\n3|73\n4|55\n--\n",
+    b"1|3|1000000|1000000\n--\nanna|archivist\ncarl|clerk\n--\n1|1|archivist|*|*|*\n2|0|clerk|class|*|*\n--\ny1|2\n--\nmaps\n--\n1|A-1|maps|y1|19782|19783|1|3||20512|1\n2|A-2|maps|y1|19782|19783|1|3||20512|0\n--\n1|bagit.txt|BagIt-Version: 1.0\nTag-File-Character-Encoding: UTF-8\n\n1|data/a|abc\n1|manifest-sha256.txt|ba7816bf8f01cfea414140de5dae2223b00361a396177a9cb410ff61f20015ad  data/a\n\n2|bagit.txt|BagIt-Version: 0.97\nTag-File-Character-Encoding: UTF-8\n\n2|data/a|abc\n2|manifest-sha256.txt|ba7816bf8f01cfea414140de5dae2223b00361a396177a9cb410ff61f20015ad  data/a\n\n--\n1|1||Case 7|19784|\n--\n1|54\n2|3\n3|73\n4|55\n--\n",
+    b"1|3|1000000|1000000\n--\nanna|archivist\ncarl|clerk\n--\n1|1|archivist|*|*|*\n2|0|clerk|class|*|*\n--\ny1|2\n--\nmaps\n--\n1|A-1|maps|y1|19782|19783|1|3||20512|2\n2|A-2|maps|y1|19782|19783|1|3||20512|1\n--\n1|bagit.txt|BagIt-Version: 1.0\nTag-File-Character-Encoding: UTF-8\n\n1|data/a|abc\n1|manifest-sha256.txt|ba7816bf8f01cfea414140de5dae2223b00361a396177a9cb410ff61f20015ad  data/a\n\n2|bagit.txt|BagIt-Version: 0.97\nTag-File-Character-Encoding: UTF-8\n\n2|data/a|abc\n2|manifest-sha256.txt|ba7816bf8f01cfea414140de5dae2223b00361a396177a9cb410ff61f20015ad  data/a\n\n--\n1|1||Case 7|19784|\n2||maps|Case 7|19784|\n--\n1|54\n2|3\n3|73\n4|55\n--\n",
+    b"1|3|1000000|1000000\n--\nanna|archivist\ncarl|clerk\n--\n1|1|archivist|*|*|*\n2|0|clerk|class|*|*\n--\ny1|2\n--\nmaps\n--\n1|A-1|maps|y1|19782|19783|1|3||20512|1\n2|A-2|maps|y1|19782|19783|1|3||20512|0\n--\n1|bagit.txt|BagIt-Version: 1.0\nTag-File-Character-Encoding: UTF-8\n\n1|data/a|abc\n1|manifest-sha256.txt|ba7816bf8f01cfea414140de5dae2223b00361a396177a9cb410ff61f20015ad  data/a\n\n2|bagit.txt|BagIt-Version: 0.97\nTag-File-Character-Encoding: UTF-8\n\n2|data/a|abc\n2|manifest-sha256.txt|ba7816bf8f01cfea414140de5dae2223b00361a396177a9cb410ff61f20015ad  data/a\n\n--\n1|1||Case 7|19784|\n2||maps|Case 7|19784|19787\n--\n1|54\n2|3\n3|73\n4|55\n--\n",
+    b"1|3|1000000|1000000\n--\nanna|archivist\ncarl|clerk\n--\n1|1|archivist|*|*|*\n2|0|clerk|class|*|*\n--\ny1|2\n--\nmaps\n--\n1|A-1|maps|y1|19782|19783|1|3||20512|0\n2|A-2|maps|y1|19782|19783|1|3||20512|0\n--\n1|bagit.txt|BagIt-Version: 1.0\nTag-File-Character-Encoding: UTF-8\n\n1|data/a|abc\n1|manifest-sha256.txt|ba7816bf8f01cfea414140de5dae2223b00361a396177a9cb410ff61f20015ad  data/a\n\n2|bagit.txt|BagIt-Version: 0.97\nTag-File-Character-Encoding: UTF-8\n\n2|data/a|abc\n2|manifest-sha256.txt|ba7816bf8f01cfea414140de5dae2223b00361a396177a9cb410ff61f20015ad  data/a\n\n--\n1|1||Case 7|19784|19787\n2||maps|Case 7|19784|19787\n--\n1|54\n2|3\n3|73\n4|55\n--\n",
+    b"1|3|1000000|1000000\n--\nanna|archivist\ncarl|clerk\n--\n1|1|archivist|*|*|*\n2|0|clerk|class|*|*\n--\ny1|2\n--\nmaps\n--\n1|A-1|maps|y1|19782|19783|1|3|21915|20512|0\n2|A-2|maps|y1|19782|19783|1|3||20512|0\n--\n2|bagit.txt|BagIt-Version: 0.97\nTag-File-Character-Encoding: UTF-8\n\n2|data/a|abc\n2|manifest-sha256.txt|ba7816bf8f01cfea414140de5dae2223b00361a396177a9cb410ff61f20015ad  data/a\n\n--\n1|1||Case 7|19784|19787\n2||maps|Case 7|19784|19787\n--\n2|3\n3|73\n4|55\n--\n",
+];
+
+/// The stock of the office then: how many contents, and how many bytes.
+pub static STOCKS: [(usize, usize); 12] = [
+    (0, 0),
+    (0, 0),
+    (0, 0),
+    (0, 0),
+    (3, 130),
+    (4, 185),
+    (4, 185),
+    (4, 185),
+    (4, 185),
+    (4, 185),
+    (4, 185),
+    (3, 131),
 ];
 
 /// What the desk answers where the store failed.

@@ -1,12 +1,12 @@
 //! A visit to an office: its rows are found, and a session goes on from there.
 
-use super::steps::{TABLES, Way, go_on};
+use super::steps::{STOCKS, TABLES, Way, go_on};
 use office_engine::Office;
 use office_tables::TableFault;
 use sqlite::{Alter, Connection};
 use std::alloc::Global;
 use std::test::Fail;
-use worked_sessions::held_rows;
+use worked_sessions::{held_rows, kept_otherwise};
 
 /// A visit, by numbers of steps that are done.
 #[derive(Clone, Copy, Drop)]
@@ -27,9 +27,13 @@ pub const START: Visit = Visit {
 };
 
 /// How far the session has come by the rows of the tables, beyond its end where they are of another
-/// office. `None` where the store fails.
+/// office, or where contents, due days or counts of holds are not what the rows give. `None` where the
+/// store fails.
 fn place<S: Alter>(alloc: Global, conn: &mut Connection<S>) -> Option<usize> {
     let found = held_rows(alloc, conn)?;
+    if !kept_otherwise(alloc, conn)?.is_empty() {
+        return Some(usize::MAX);
+    }
     let mut done = 0_usize;
     for wanted in &TABLES {
         if found.as_bytes() == *wanted {
@@ -38,6 +42,31 @@ fn place<S: Alter>(alloc: Global, conn: &mut Connection<S>) -> Option<usize> {
         done = done.saturating_add(1);
     }
     Some(usize::MAX)
+}
+
+/// Fails where the office tells another stock than it has behind so many steps. A store that fails
+/// tells none.
+fn tells_stock<S: Alter>(alloc: Global, office: &mut Office<S>, done: usize) -> Result<(), Fail> {
+    let (contents, bytes) = *STOCKS.get(done).ok_or("no such step")?;
+    match office.stock(alloc) {
+        Ok(found) if found.contents == contents && found.bytes == bytes => Ok(()),
+        Ok(_) => Err("the office tells another stock".into()),
+        Err(TableFault::Store) => Ok(()),
+        Err(_) => Err("the office tells no stock".into()),
+    }
+}
+
+/// Goes on with the session, with a look at the stock before and after it: how far it comes.
+fn go_on_and_tell<S: Alter>(
+    alloc: Global,
+    office: &mut Office<S>,
+    way: Way,
+    found: usize,
+) -> Result<usize, Fail> {
+    tells_stock(alloc, office, found)?;
+    let reached = go_on(alloc, office, way, found)?;
+    tells_stock(alloc, office, reached)?;
+    Ok(reached)
 }
 
 /// Finds the office and goes on with the session. `None` where the store fails before the next
@@ -55,7 +84,7 @@ pub fn visit_over<S: Alter + Drop>(
     }
     match Office::adopt(conn) {
         Ok(mut office) => {
-            let reached = go_on(alloc, &mut office, way, found)?;
+            let reached = go_on_and_tell(alloc, &mut office, way, found)?;
             let mut conn = office.into_connection();
             let shown = place(alloc, &mut conn);
             let visit = Visit {

@@ -1,19 +1,14 @@
-use Rattle.std.proofs.Common.{rules, w64, ◌≡◌, ap, ◌∙◌, Some, None, ◌∷◌, []}
-use mir.Val.{SFits}
-use Rattle.std.proofs.lemmas.Int.{to_z-of_z}
+use Rattle.std.proofs.Common.{rules, ◌≡◌, ap, ◌∙◌, Some, None, ◌∷◌, []}
 use Rattle.sqlite.specs.State.{HasCleanDisk}
 use Rattle.sqlite.specs.Held.{state}
 use Rattle.sql_meaning.proofs.Inside.{stays_then}
 use Rattle.office_core.specs.declared.action.Action.TheVariants as acts
 use Rattle.office_core.specs.declared.request.Request.TheVariants as requests
 use Rattle.office_core.specs.declared.answer.Answer.TheVariants as answers
-use Rattle.office_rows.specs.Rows.{with_class}
-use Rattle.office_tables.specs.Tables.{Becomes, tables_of}
 use Rattle.office_history.specs.Histories.{with_changes, DefinedClass}
-use Rattle.office_history.specs.Pictures.{years_number}
 use Rattle.office_history.specs.Refusals.{denial}
-use Rattle.office_defining.proofs.ClassTold.{class_told}
-use Rattle.office_asking.proofs.Serving.{refused_serves, allowed_serves, one_refusal, pictures_grown}
+use Rattle.office_asking.specs.Pictures.{Pictures}
+use Rattle.office_asking.proofs.Serving.{refused_serves, allowed_serves, one_refusal}
 use Rattle.office_asking.proofs.InTurn.{clean_before, goes_twice}
 use Rattle.office_defining.proofs.classes.define_class.Goals as goal
 
@@ -24,28 +19,25 @@ returns-in-Some-clause-decides g c clean h legal pictured =
     let said : Some c.in-Some.why ≡ denial h a.caller.now acts.Class None (Some a.name.now) = search (rules, asked.1) in
     refused_serves h a.day a.caller.now (requests.DefineClass a.name.now a.years) _ c.in-Some.why (said ∙ one_refusal _) asked.0
 
-pub returns-in_err-put_class-clause-stays : goal.returns-in_err-put_class-clause-stays
-returns-in_err-put_class-clause-stays g c =
-    stays_then (state g.S.Store c.args.tx.now.conn.now) (state g.S.Store c.denial.new.tx.conn.now) (state g.S.Store c.put_class.new.tx.conn.now) c.denial.ensures.stays c.in_ok-why.ensures.goes_on c.put_class.ensures.stays
+pub returns-in_err-put_years-clause-stays : goal.returns-in_err-put_years-clause-stays
+returns-in_err-put_years-clause-stays g c =
+    stays_then (state g.S.Store c.args.tx.now.conn.now) (state g.S.Store c.denial.new.tx.conn.now) (state g.S.Store c.put_years.new.tx.conn.now) c.denial.ensures.stays c.in_ok-why.ensures.goes_on c.put_years.ensures.stays
 
 pub returns-clause-stays : goal.returns-clause-stays
 returns-clause-stays g c =
-    stays_then (state g.S.Store c.args.tx.now.conn.now) (state g.S.Store c.denial.new.tx.conn.now) (state g.S.Store c.put_class.new.tx.conn.now) c.denial.ensures.stays c.in_ok-why.ensures.goes_on c.put_class.ensures.stays
+    stays_then (state g.S.Store c.args.tx.now.conn.now) (state g.S.Store c.denial.new.tx.conn.now) (state g.S.Store c.put_years.new.tx.conn.now) c.denial.ensures.stays c.in_ok-why.ensures.goes_on c.put_years.ensures.stays
 
 pub returns-clause-decides : goal.returns-clause-decides
 returns-clause-decides g c clean h legal pictured =
     let a = c.args in
     let mid = state g.S.Store c.denial.new.tx.conn.now in
-    let new = state g.S.Store c.put_class.new.tx.conn.now in
-    let early : HasCleanDisk mid = clean_before mid new c.put_class.ensures.stays clean in
+    let new = state g.S.Store c.put_years.new.tx.conn.now in
+    let early : HasCleanDisk mid = clean_before mid new c.put_years.ensures.stays clean in
     let asked = c.in_ok-why.ensures.denied early h legal pictured in
     let said : None ≡ denial h a.caller.now acts.Class None (Some a.name.now) = search (rules, asked.1) in
     let name = c.as_str-2.ensures.text in
-    let years : c.years_number.result ≡ years_number a.years = search rules in
-    let fits : SFits w64 c.years_number.result = search rules in
-    let put : Becomes new.now (with_class a.name.now (years_number a.years) (tables_of mid.now)) = rw (to_z-of_z w64 c.years_number.result fits, name, years) at (c.in_ok-put_class.ensures.becomes clean asked.0.office) in
-    let grew = pictures_grown h (with_changes h (DefinedClass a.day a.name.now a.years ∷ [])) (with_class a.name.now (years_number a.years)) mid.now new.now (class_told h a.day a.name.now a.years) asked.0 put in
+    let grew : Pictures (with_changes h (DefinedClass a.day a.name.now a.years ∷ [])) new.now = rw name at (c.in_ok-put_years.ensures.defined a.day clean h legal asked.0 tt) in
     allowed_serves h a.day a.caller.now (requests.DefineClass a.name.now a.years) new.now _ (said ∙ one_refusal _) (ap (λ n. answers.Class n a.years) c.in_ok-defined.ensures) grew
 
 pub returns-clause-goes_on : goal.returns-clause-goes_on
-returns-clause-goes_on g c = goes_twice (state g.S.Store c.args.tx.now.conn.now) (state g.S.Store c.denial.new.tx.conn.now) (state g.S.Store c.put_class.new.tx.conn.now) c.put_class.ensures.stays c.in_ok-why.ensures.goes_on c.in_ok-put_class.ensures.goes_on
+returns-clause-goes_on g c = goes_twice (state g.S.Store c.args.tx.now.conn.now) (state g.S.Store c.denial.new.tx.conn.now) (state g.S.Store c.put_years.new.tx.conn.now) c.put_years.ensures.stays c.in_ok-why.ensures.goes_on c.in_ok-put_years.ensures.goes_on

@@ -40,7 +40,7 @@ returns-clause-decides g c clean h legal pictured =
     let said : None ≡ denial h a.caller.now acts.Collection (Some a.name.now) None = search (rules, asked.1) in
     let name = c.as_str-2.ensures.text in
     let put : Becomes new.now (with_collection a.name.now (tables_of mid.now)) = rw name at (c.in_ok-put_collection.ensures.becomes clean asked.0.office) in
-    let grew = pictures_grown h (with_changes h (allowed_change h a.day (requests.DefineCollection a.name.now))) (with_collection a.name.now) mid.now new.now (collection_told h a.day a.name.now) asked.0 put in
+    let grew = pictures_grown h (with_changes h (allowed_change h a.day (requests.DefineCollection a.name.now))) (with_collection a.name.now) mid.now new.now (collection_told h a.day a.name.now) asked.0 put (c.in_ok-put_collection.ensures.once clean asked.0.office) in
     allowed_serves h a.day a.caller.now (requests.DefineCollection a.name.now) new.now _ (said ∙ one_refusal _) (ap answers.Collection c.in_ok-defined.ensures) grew
 
 pub returns-clause-goes_on : goal.returns-clause-goes_on

@@ -1,12 +1,15 @@
-use Rattle.std.proofs.Common.{rules, ◌≡◌, map, ◌∷◌, []}
+use Rattle.std.proofs.Common.{rules, ◌≡◌, map, ◌∷◌, [], Ok, Err, Result, OnOk}
 use Rattle.sqlite.specs.Held.{state}
-use Rattle.sql_meaning.proofs.Results.{on_ok}
 use Rattle.office_rows.specs.Rows.{with_policy}
 use Rattle.office_history.specs.Histories.{with_changes, Installed}
 use Rattle.office_history.specs.Pictures.{caller_row, rule_rows}
 use Rattle.office_asking.proofs.Serving.{pictures_grown}
 use Rattle.office_defining.proofs.InstallTold.{install_told}
 use Rattle.office_defining.proofs.policy.install.Goals as goal
+
+on_both : {E V P Q R : Type 0} (r : Result V E) → (P → Q → R) → OnOk r P → OnOk r Q → OnOk r R
+on_both (Ok v) next p q = next p q
+on_both (Err e) next p q = tt
 
 pub returns-clause-installed : goal.returns-clause-installed
 returns-clause-installed g c clean h legal pictured _ =
@@ -17,4 +20,5 @@ returns-clause-installed g c clean h legal pictured _ =
     let callers : c.deref.result.now ≡ map caller_row p.callers = search rules in
     let rules_put : c.deref-2.result.now ≡ rule_rows 1 p.rules = search rules in
     let put = rw (callers, rules_put) at (c.put_policy.ensures.becomes clean pictured.office) in
-    on_ok c.put_policy.result (λ count became. pictures_grown h (with_changes h (Installed p ∷ [])) (with_policy (map caller_row p.callers) (rule_rows 1 p.rules)) old.now new.now (install_told h p) pictured became) put
+    on_both c.put_policy.result (λ became kept. pictures_grown h (with_changes h (Installed p ∷ [])) (with_policy (map caller_row p.callers) (rule_rows 1 p.rules)) old.now new.now (install_told h p) pictured became (λ _. kept)) put
+    (c.put_policy.ensures.once clean pictured.office pictured.once)

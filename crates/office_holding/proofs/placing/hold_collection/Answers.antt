@@ -12,16 +12,16 @@ use Rattle.office_asking.proofs.InTurn.{clean_before, goes_twice}
 use Rattle.sql_meaning.proofs.Inside.{stays_then}
 use Rattle.office_holding.proofs.placing.hold_collection.Goals as goal
 
-pub returns-in_ok-place-in-Ok-clause-decides : goal.returns-in_ok-place-in-Ok-clause-decides
-returns-in_ok-place-in-Ok-clause-decides g c clean h legal pictured =
+pub returns-in_ok-place_on_collection-in-Ok-clause-decides : goal.returns-in_ok-place_on_collection-in-Ok-clause-decides
+returns-in_ok-place_on_collection-in-Ok-clause-decides g c clean h legal pictured =
     let a = c.args in
     let mid = state g.S.Store c.place_for_collection.new.tx.conn.now in
-    let new = state g.S.Store c.place.new.tx.conn.now in
-    let early : HasCleanDisk mid = clean_before mid new c.place.ensures.stays clean in
+    let new = state g.S.Store c.place_on_collection.new.tx.conn.now in
+    let early : HasCleanDisk mid = clean_before mid new c.place_on_collection.ensures.stays clean in
     let found = c.in_ok-hold.ensures.found early h legal pictured in
     let place = subst (λ name. IsPlace h (collection_hold_refusals h a.caller.now name) (Ok c.in-Ok.hold)) c.as_str.ensures.text (subst (IsPlace h (collection_hold_refusals h a.caller.now c.as_str.result.now)) c.in-Ok.is found.1) in
     let put : Pictures (with_changes h (PlacedHold a.day (record { target = OnCollection a.name.now; matter = a.matter.now }) ∷ [])) new.now =
-    rw (c.as_str-in-Ok.ensures.text, c.as_str-in-Ok-2.ensures.text) at (c.in_ok-place-in-Ok.ensures.placed clean h legal found.0 place.1) in
+    rw (c.as_str-in-Ok.ensures.text, c.as_str-in-Ok-2.ensures.text) at (c.in_ok-place_on_collection-in-Ok.ensures.placed clean h legal found.0 place.1) in
     allowed_serves h a.day a.caller.now (requests.HoldCollection a.name.now a.matter.now) new.now (answers.HoldPlaced c.in-Ok.hold) place.0 (ap answers.HoldPlaced place.1) put
 
 pub returns-in-Err-clause-decides : goal.returns-in-Err-clause-decides
@@ -32,11 +32,11 @@ returns-in-Err-clause-decides g c clean h legal pictured =
     let said = subst (λ name. IsPlace h (collection_hold_refusals h a.caller.now name) (Err c.in-Err.why)) c.as_str.ensures.text (subst (IsPlace h (collection_hold_refusals h a.caller.now c.as_str.result.now)) c.in-Err.is found.1) in
     refused_serves h a.day a.caller.now (requests.HoldCollection a.name.now a.matter.now) new.now c.in-Err.why said found.0
 
-pub returns-in_err-place-in-Ok-clause-stays : goal.returns-in_err-place-in-Ok-clause-stays
-returns-in_err-place-in-Ok-clause-stays g c = stays_then (state g.S.Store c.args.tx.now.conn.now) (state g.S.Store c.place_for_collection.new.tx.conn.now) (state g.S.Store c.place.new.tx.conn.now) c.place_for_collection.ensures.stays c.in_ok-hold.ensures.goes_on c.place.ensures.stays
+pub returns-in_err-place_on_collection-in-Ok-clause-stays : goal.returns-in_err-place_on_collection-in-Ok-clause-stays
+returns-in_err-place_on_collection-in-Ok-clause-stays g c = stays_then (state g.S.Store c.args.tx.now.conn.now) (state g.S.Store c.place_for_collection.new.tx.conn.now) (state g.S.Store c.place_on_collection.new.tx.conn.now) c.place_for_collection.ensures.stays c.in_ok-hold.ensures.goes_on c.place_on_collection.ensures.stays
 
-pub returns-in_ok-place-in-Ok-clause-stays : goal.returns-in_ok-place-in-Ok-clause-stays
-returns-in_ok-place-in-Ok-clause-stays g c = stays_then (state g.S.Store c.args.tx.now.conn.now) (state g.S.Store c.place_for_collection.new.tx.conn.now) (state g.S.Store c.place.new.tx.conn.now) c.place_for_collection.ensures.stays c.in_ok-hold.ensures.goes_on c.place.ensures.stays
+pub returns-in_ok-place_on_collection-in-Ok-clause-stays : goal.returns-in_ok-place_on_collection-in-Ok-clause-stays
+returns-in_ok-place_on_collection-in-Ok-clause-stays g c = stays_then (state g.S.Store c.args.tx.now.conn.now) (state g.S.Store c.place_for_collection.new.tx.conn.now) (state g.S.Store c.place_on_collection.new.tx.conn.now) c.place_for_collection.ensures.stays c.in_ok-hold.ensures.goes_on c.place_on_collection.ensures.stays
 
-pub returns-in_ok-place-in-Ok-clause-goes_on : goal.returns-in_ok-place-in-Ok-clause-goes_on
-returns-in_ok-place-in-Ok-clause-goes_on g c = goes_twice (state g.S.Store c.args.tx.now.conn.now) (state g.S.Store c.place_for_collection.new.tx.conn.now) (state g.S.Store c.place.new.tx.conn.now) c.place.ensures.stays c.in_ok-hold.ensures.goes_on c.in_ok-place-in-Ok.ensures.goes_on
+pub returns-in_ok-place_on_collection-in-Ok-clause-goes_on : goal.returns-in_ok-place_on_collection-in-Ok-clause-goes_on
+returns-in_ok-place_on_collection-in-Ok-clause-goes_on g c = goes_twice (state g.S.Store c.args.tx.now.conn.now) (state g.S.Store c.place_for_collection.new.tx.conn.now) (state g.S.Store c.place_on_collection.new.tx.conn.now) c.place_on_collection.ensures.stays c.in_ok-hold.ensures.goes_on c.in_ok-place_on_collection-in-Ok.ensures.goes_on

@@ -1,13 +1,28 @@
-use Rattle.std.proofs.Common.{subst}
+use Rattle.std.proofs.Common.{ap, subst, [], ◌∷◌}
+use Rattle.sqlite.specs.State.{HasCleanDisk}
 use Rattle.sqlite.specs.Held.{state}
+use Rattle.office_core.specs.declared.answer.Answer.TheVariants as answers
 use Rattle.office_core.specs.declared.request.Request.TheVariants as requests
-use Rattle.office_history.specs.Histories.{deposit_numbered}
+use Rattle.office_history.specs.Histories.{PlacedHold, OnDeposit, with_changes, deposit_numbered}
 use Rattle.office_history.specs.Refusals.{hold_refusals, of_deposit}
-use Rattle.office_asking.proofs.Serving.{refused_serves}
+use Rattle.office_asking.specs.Pictures.{Pictures}
+use Rattle.office_asking.proofs.Serving.{allowed_serves, refused_serves}
 use Rattle.office_holding.specs.Holds.{IsPlace}
 use Rattle.sql_meaning.proofs.Inside.{stays_then}
-use Rattle.office_asking.proofs.InTurn.{goes_twice}
+use Rattle.office_asking.proofs.InTurn.{clean_before, goes_twice}
 use Rattle.office_holding.proofs.placing.hold_deposit.Goals as goal
+
+pub returns-in_ok-place_on_deposit-in-Ok-clause-decides : goal.returns-in_ok-place_on_deposit-in-Ok-clause-decides
+returns-in_ok-place_on_deposit-in-Ok-clause-decides g c clean h legal pictured =
+    let a = c.args in
+    let mid = state g.S.Store c.place_for_deposit.new.tx.conn.now in
+    let new = state g.S.Store c.place_on_deposit.new.tx.conn.now in
+    let early : HasCleanDisk mid = clean_before mid new c.place_on_deposit.ensures.stays clean in
+    let found = c.in_ok-hold.ensures.found early h legal pictured in
+    let place = subst (IsPlace h (of_deposit (deposit_numbered h a.number) (hold_refusals h a.caller.now a.number))) c.in-Ok.is found.1 in
+    let put : Pictures (with_changes h (PlacedHold a.day (record { target = OnDeposit a.number; matter = a.matter.now }) ∷ [])) new.now =
+    rw c.as_str.ensures.text at (c.in_ok-place_on_deposit-in-Ok.ensures.placed clean h legal found.0 place.1) in
+    allowed_serves h a.day a.caller.now (requests.HoldDeposit a.number a.matter.now) new.now (answers.HoldPlaced c.in-Ok.hold) place.0 (ap answers.HoldPlaced place.1) put
 
 pub returns-in-Err-clause-decides : goal.returns-in-Err-clause-decides
 returns-in-Err-clause-decides g c clean h legal pictured =
@@ -17,11 +32,11 @@ returns-in-Err-clause-decides g c clean h legal pictured =
     let said = subst (IsPlace h (of_deposit (deposit_numbered h a.number) (hold_refusals h a.caller.now a.number))) c.in-Err.is found.1 in
     refused_serves h a.day a.caller.now (requests.HoldDeposit a.number a.matter.now) new.now c.in-Err.why said found.0
 
-pub returns-in_err-place-in-Ok-clause-stays : goal.returns-in_err-place-in-Ok-clause-stays
-returns-in_err-place-in-Ok-clause-stays g c = stays_then (state g.S.Store c.args.tx.now.conn.now) (state g.S.Store c.place_for_deposit.new.tx.conn.now) (state g.S.Store c.place.new.tx.conn.now) c.place_for_deposit.ensures.stays c.in_ok-hold.ensures.goes_on c.place.ensures.stays
+pub returns-in_err-place_on_deposit-in-Ok-clause-stays : goal.returns-in_err-place_on_deposit-in-Ok-clause-stays
+returns-in_err-place_on_deposit-in-Ok-clause-stays g c = stays_then (state g.S.Store c.args.tx.now.conn.now) (state g.S.Store c.place_for_deposit.new.tx.conn.now) (state g.S.Store c.place_on_deposit.new.tx.conn.now) c.place_for_deposit.ensures.stays c.in_ok-hold.ensures.goes_on c.place_on_deposit.ensures.stays
 
-pub returns-in_ok-place-in-Ok-clause-stays : goal.returns-in_ok-place-in-Ok-clause-stays
-returns-in_ok-place-in-Ok-clause-stays g c = stays_then (state g.S.Store c.args.tx.now.conn.now) (state g.S.Store c.place_for_deposit.new.tx.conn.now) (state g.S.Store c.place.new.tx.conn.now) c.place_for_deposit.ensures.stays c.in_ok-hold.ensures.goes_on c.place.ensures.stays
+pub returns-in_ok-place_on_deposit-in-Ok-clause-stays : goal.returns-in_ok-place_on_deposit-in-Ok-clause-stays
+returns-in_ok-place_on_deposit-in-Ok-clause-stays g c = stays_then (state g.S.Store c.args.tx.now.conn.now) (state g.S.Store c.place_for_deposit.new.tx.conn.now) (state g.S.Store c.place_on_deposit.new.tx.conn.now) c.place_for_deposit.ensures.stays c.in_ok-hold.ensures.goes_on c.place_on_deposit.ensures.stays
 
-pub returns-in_ok-place-in-Ok-clause-goes_on : goal.returns-in_ok-place-in-Ok-clause-goes_on
-returns-in_ok-place-in-Ok-clause-goes_on g c = goes_twice (state g.S.Store c.args.tx.now.conn.now) (state g.S.Store c.place_for_deposit.new.tx.conn.now) (state g.S.Store c.place.new.tx.conn.now) c.place.ensures.stays c.in_ok-hold.ensures.goes_on c.in_ok-place-in-Ok.ensures.goes_on
+pub returns-in_ok-place_on_deposit-in-Ok-clause-goes_on : goal.returns-in_ok-place_on_deposit-in-Ok-clause-goes_on
+returns-in_ok-place_on_deposit-in-Ok-clause-goes_on g c = goes_twice (state g.S.Store c.args.tx.now.conn.now) (state g.S.Store c.place_for_deposit.new.tx.conn.now) (state g.S.Store c.place_on_deposit.new.tx.conn.now) c.place_on_deposit.ensures.stays c.in_ok-hold.ensures.goes_on c.in_ok-place_on_deposit-in-Ok.ensures.goes_on

@@ -1,38 +1,45 @@
-use Rattle.std.proofs.Common.{rules, ◌≡◌, refl, sym, ◌∙◌, None}
+use Rattle.std.proofs.Common.{rules, ◌≡◌, refl, sym, subst}
 use Rattle.sqlite.specs.State.{HasCleanDisk}
 use Rattle.sqlite.specs.Held.{state}
 use Rattle.office_core.specs.declared.answer.Answer.TheVariants as answers
 use Rattle.office_core.specs.declared.request.Request.TheVariants as requests
-use Rattle.office_history.specs.Refusals.{refusal}
+use Rattle.office_tables.specs.ShownHolds as shown
 use Rattle.office_history.proofs.Accepted.{releasable}
 use Rattle.office_asking.proofs.Serving.{refused_serves, allowed_serves}
 use Rattle.office_asking.proofs.InTurn.{clean_before, goes_twice}
 use Rattle.sql_meaning.proofs.Inside.{stays_then}
+use Rattle.office_holding.specs.Holds.{IsReleaseAsked}
+use Rattle.office_holding.proofs.HoldAsked.{live_on}
 use Rattle.office_holding.proofs.releasing.release.Goals as goal
 
-pub returns-in-Some-clause-decides : goal.returns-in-Some-clause-decides
-returns-in-Some-clause-decides g c clean h legal pictured =
+pub returns-in-Err-clause-decides : goal.returns-in-Err-clause-decides
+returns-in-Err-clause-decides g c clean h legal pictured =
     let a = c.args in
-    let new = state g.S.Store c.release_refusal.new.tx.conn.now in
-    let asked = c.in_ok-why.ensures.refused clean h legal pictured in
-    refused_serves h a.day a.caller.now (requests.Release a.hold) new.now c.in-Some.why (sym c.in-Some.is ∙ asked.1) asked.0
+    let new = state g.S.Store c.releasable_hold.new.tx.conn.now in
+    let asked = c.in_ok-row.ensures.asked clean h legal pictured in
+    let said = subst (IsReleaseAsked h a.caller.now a.hold) c.in-Err.is asked.1 in
+    refused_serves h a.day a.caller.now (requests.Release a.hold) new.now c.in-Err.why said asked.0
 
-pub returns-clause-decides : goal.returns-clause-decides
-returns-clause-decides g c clean h legal pictured =
+pub returns-in_ok-end-in-Ok-clause-decides : goal.returns-in_ok-end-in-Ok-clause-decides
+returns-in_ok-end-in-Ok-clause-decides g c clean h legal pictured =
     let a = c.args in
-    let mid = state g.S.Store c.release_refusal.new.tx.conn.now in
+    let mid = state g.S.Store c.releasable_hold.new.tx.conn.now in
     let new = state g.S.Store c.end.new.tx.conn.now in
     let early : HasCleanDisk mid = clean_before mid new c.end.ensures.stays clean in
-    let asked = c.in_ok-why.ensures.refused early h legal pictured in
-    let none : None ≡ refusal h a.day a.caller.now (requests.Release a.hold) = search (rules, asked.1) in
-    let live = (releasable h a.day a.caller.now a.hold (sym none)).live in
-    allowed_serves h a.day a.caller.now (requests.Release a.hold) new.now (answers.HoldReleased a.hold a.day) none refl (c.in_ok-end.ensures.ended clean h legal asked.0 live)
+    let asked = c.in_ok-row.ensures.asked early h legal pictured in
+    let row = c.in-Ok.row in
+    let found = subst (IsReleaseAsked h a.caller.now a.hold) c.in-Ok.is asked.1 in
+    let target = c.in_ok-target-in-Ok.target in
+    let deposit : shown.held_deposit target ≡ row.deposit = search rules in
+    let collection : shown.held_collection target ≡ row.collection = search rules in
+    let live = live_on h a.hold row found.1 (releasable h a.day a.caller.now a.hold (sym found.0)) target deposit collection in
+    allowed_serves h a.day a.caller.now (requests.Release a.hold) new.now (answers.HoldReleased a.hold a.day) found.0 refl (c.in_ok-end-in-Ok.ensures.ended clean h legal asked.0 live)
 
-pub returns-in_err-end-clause-stays : goal.returns-in_err-end-clause-stays
-returns-in_err-end-clause-stays g c = stays_then (state g.S.Store c.args.tx.now.conn.now) (state g.S.Store c.release_refusal.new.tx.conn.now) (state g.S.Store c.end.new.tx.conn.now) c.release_refusal.ensures.stays c.in_ok-why.ensures.goes_on c.end.ensures.stays
+pub returns-in_err-end-in-Ok-clause-stays : goal.returns-in_err-end-in-Ok-clause-stays
+returns-in_err-end-in-Ok-clause-stays g c = stays_then (state g.S.Store c.args.tx.now.conn.now) (state g.S.Store c.releasable_hold.new.tx.conn.now) (state g.S.Store c.end.new.tx.conn.now) c.releasable_hold.ensures.stays c.in_ok-row.ensures.goes_on c.end.ensures.stays
 
-pub returns-clause-stays : goal.returns-clause-stays
-returns-clause-stays g c = stays_then (state g.S.Store c.args.tx.now.conn.now) (state g.S.Store c.release_refusal.new.tx.conn.now) (state g.S.Store c.end.new.tx.conn.now) c.release_refusal.ensures.stays c.in_ok-why.ensures.goes_on c.end.ensures.stays
+pub returns-in_ok-end-in-Ok-clause-stays : goal.returns-in_ok-end-in-Ok-clause-stays
+returns-in_ok-end-in-Ok-clause-stays g c = stays_then (state g.S.Store c.args.tx.now.conn.now) (state g.S.Store c.releasable_hold.new.tx.conn.now) (state g.S.Store c.end.new.tx.conn.now) c.releasable_hold.ensures.stays c.in_ok-row.ensures.goes_on c.end.ensures.stays
 
-pub returns-clause-goes_on : goal.returns-clause-goes_on
-returns-clause-goes_on g c = goes_twice (state g.S.Store c.args.tx.now.conn.now) (state g.S.Store c.release_refusal.new.tx.conn.now) (state g.S.Store c.end.new.tx.conn.now) c.end.ensures.stays c.in_ok-why.ensures.goes_on c.in_ok-end.ensures.goes_on
+pub returns-in_ok-end-in-Ok-clause-goes_on : goal.returns-in_ok-end-in-Ok-clause-goes_on
+returns-in_ok-end-in-Ok-clause-goes_on g c = goes_twice (state g.S.Store c.args.tx.now.conn.now) (state g.S.Store c.releasable_hold.new.tx.conn.now) (state g.S.Store c.end.new.tx.conn.now) c.end.ensures.stays c.in_ok-row.ensures.goes_on c.in_ok-end-in-Ok.ensures.goes_on

@@ -36,7 +36,7 @@ returns-clause-refusal g c clean h legal pictured =
     let found = there h a.caller.now acts.Dispose a.number row some in
     let asked = c.in_ok-asker.ensures.asker clean2 h legal still in
     let known = c.in_ok-facts.ensures.facts clean h legal asked.0 in
-    let facts = known.1 a.caller.now asked.1 a.number found.0 found.2 in
+    let facts = known.1 a.caller.now asked.1 a.number found.0 found.1 found.2 in
     let told : c.refusal_of.result ≡ refusal_of (verdict_of c.in_ok-facts.facts a.day) = search rules in
     (known.0, told ∙ ap (λ f. refusal_of (verdict_of f a.day)) facts ∙ sym (c.verdicts_decide.ensures.disposal h a.day a.caller.now a.number found.0 found.1))
 

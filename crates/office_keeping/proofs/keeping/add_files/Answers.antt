@@ -21,6 +21,7 @@ loop-file-preserved g c =
       becomes = λ clean office.
           let there = inv.becomes (early clean) office in
           next_file (pos c.args.number) c.args.files.now c.loop-file.file-index _ c.loop-file-test.true (tables_of old.now) now.now new.now (c.in_ok-add_file.ensures.becomes clean there.0) there.1;
+      once = λ clean office kept. c.in_ok-add_file.ensures.once clean (inv.becomes (early clean) office).0 (inv.once (early clean) office kept);
     }
 
 pub returns-in_err-add_file-clause-stays : goal.returns-in_err-add_file-clause-stays
@@ -32,4 +33,5 @@ loop-file-init g c = record {
   stays = stays_still (state g.S.Store c.args.tx.now.conn.now);
   goes_on = λ _. record { is_open = λ is_open. is_open; inside = λ inside. inside };
   becomes = λ clean office. (office, refl);
+  once = λ clean office kept. kept;
 }

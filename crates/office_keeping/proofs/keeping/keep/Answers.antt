@@ -1,43 +1,59 @@
-use Rattle.std.proofs.Common.{rules, pos, subst, None, OnOk}
-use Rattle.std.proofs.lemmas.Result.{on_ok_weaker}
-use Rattle.office_keeping.specs.Depositing.{with_files}
+use Rattle.std.proofs.Common.{rules, pos, refl, subst, None, OnOk}
+use Rattle.office_keeping.specs.Depositing.{with_files, with_kept}
 use Rattle.sqlite.specs.State.{HasCleanDisk}
 use Rattle.sqlite.specs.Held.{state}
+use Rattle.sql_meaning.specs.Inside.{GoesOn}
 use Rattle.sql_meaning.proofs.Inside.{stays_then}
-use Rattle.office_rows.specs.Rows.{with_deposit}
+use Rattle.std.proofs.lemmas.Result.{on_ok_weaker}
 use Rattle.office_tables.specs.Tables.{Becomes, tables_of}
 use Rattle.office_history.specs.Histories.{Deposit}
 use Rattle.office_history.specs.Pictures.{row_by_gone}
+use Rattle.office_keeping.proofs.BothOk.{on_ok_both}
 use Rattle.office_keeping.proofs.DepositedTold.{kept_deposit}
-use Rattle.office_asking.proofs.InTurn.{clean_before, stays_still}
+use Rattle.office_asking.proofs.InTurn.{clean_before, goes_twice}
 use Rattle.office_keeping.proofs.keeping.keep.Goals as goal
-
-pub returns-clause-stays : goal.returns-clause-stays
-returns-clause-stays g c =
-    stays_then (state g.S.Store c.args.tx.now.conn.now) (state g.S.Store c.put_deposit.new.tx.conn.now) (state g.S.Store c.add_files.new.tx.conn.now) c.put_deposit.ensures.stays c.in_ok-put_deposit.ensures.goes_on c.add_files.ensures.stays
-
-pub returns-clause-goes_on : goal.returns-clause-goes_on
-returns-clause-goes_on g c clean =
-    let mid = state g.S.Store c.put_deposit.new.tx.conn.now in
-    let early : HasCleanDisk mid = clean_before mid (state g.S.Store c.add_files.new.tx.conn.now) c.add_files.ensures.stays clean in
-    let p = c.in_ok-put_deposit.ensures.goes_on early in
-    on_ok_weaker c.add_files.result (λ s. record { was_open = p.was_open; is_open = s.is_open p.is_open; inside = λ i. s.inside (p.inside i) }) (c.add_files.ensures.goes_on clean)
 
 pub returns-clause-kept : goal.returns-clause-kept
 returns-clause-kept g c clean h legal pictured next =
     let a = c.args in
-    let old = state g.S.Store a.tx.now.conn.now in
-    let mid = state g.S.Store c.put_deposit.new.tx.conn.now in
+    let old = state g.S.Store c.beside_row.new.tx.conn.now in
+    let mid = state g.S.Store c.put_row.new.tx.conn.now in
     let new = state g.S.Store c.add_files.new.tx.conn.now in
-    let early : HasCleanDisk mid = clean_before mid new c.add_files.ensures.stays clean in
+    let clean2 : HasCleanDisk mid = clean_before mid new c.add_files.ensures.stays clean in
+    let clean1 : HasCleanDisk old = clean_before old mid c.put_row.ensures.stays clean2 in
     let d : Deposit = record { collection = a.collection.now; class = a.class.now; accession = a.accession.now; closed = a.closed; bag = a.bag.now } in
-    let put = c.in_ok-put_deposit.ensures.becomes early pictured.office in
-    let added : Becomes mid.now (with_deposit (row_by_gone a.number None (a.day, d)) (tables_of old.now)) = search (rules, put) in
-    on_ok_weaker c.add_files.result (kept_deposit h legal a.day d a.number old.now mid.now new.now next pictured added)
+    let beside = c.in_ok-beside.beside in
+    let due = c.in_ok-beside.ensures.due clean1 h legal pictured in
+    let holds = c.in_ok-beside.ensures.holds clean1 h legal pictured in
+    let still = due.0 in
+    let put = c.in_ok-put_row.ensures.becomes clean2 still.office in
+    let added : Becomes mid.now (with_kept (row_by_gone a.number None (a.day, d)) beside.due beside.holds (tables_of old.now)) = search (rules, put) in
+    on_ok_both c.add_files.result (kept_deposit h legal a.day d a.number beside.due beside.holds old.now mid.now new.now next (due.1 d refl refl) (holds.1 d refl) still added)
     (subst (λ fs. OnOk c.add_files.result (Becomes new.now (with_files (pos a.number) fs (tables_of mid.now)))) c.files.ensures.whole (c.add_files.ensures.becomes clean added.office))
+    (c.add_files.ensures.once clean added.office (c.in_ok-put_row.ensures.once clean2 still.office still.once))
 
 pub returns-in_err-row_count-clause-stays : goal.returns-in_err-row_count-clause-stays
-returns-in_err-row_count-clause-stays g c = stays_still (state g.S.Store c.args.tx.now.conn.now)
+returns-in_err-row_count-clause-stays g c = c.beside_row.ensures.stays
 
 pub returns-in_err-row_count-2-clause-stays : goal.returns-in_err-row_count-2-clause-stays
-returns-in_err-row_count-2-clause-stays g c = stays_still (state g.S.Store c.args.tx.now.conn.now)
+returns-in_err-row_count-2-clause-stays g c = c.beside_row.ensures.stays
+
+pub returns-in_err-put_row-clause-stays : goal.returns-in_err-put_row-clause-stays
+returns-in_err-put_row-clause-stays g c =
+    stays_then (state g.S.Store c.args.tx.now.conn.now) (state g.S.Store c.beside_row.new.tx.conn.now) (state g.S.Store c.put_row.new.tx.conn.now) c.beside_row.ensures.stays c.in_ok-beside.ensures.goes_on c.put_row.ensures.stays
+
+pub returns-clause-stays : goal.returns-clause-stays
+returns-clause-stays g c =
+    let s0 = state g.S.Store c.args.tx.now.conn.now in
+    let s1 = state g.S.Store c.beside_row.new.tx.conn.now in
+    let s2 = state g.S.Store c.put_row.new.tx.conn.now in
+    stays_then s0 s2 (state g.S.Store c.add_files.new.tx.conn.now) (stays_then s0 s1 s2 c.beside_row.ensures.stays c.in_ok-beside.ensures.goes_on c.put_row.ensures.stays) (goes_twice s0 s1 s2 c.put_row.ensures.stays c.in_ok-beside.ensures.goes_on c.in_ok-put_row.ensures.goes_on) c.add_files.ensures.stays
+
+pub returns-clause-goes_on : goal.returns-clause-goes_on
+returns-clause-goes_on g c clean =
+    let s0 = state g.S.Store c.args.tx.now.conn.now in
+    let s1 = state g.S.Store c.beside_row.new.tx.conn.now in
+    let s2 = state g.S.Store c.put_row.new.tx.conn.now in
+    let early : HasCleanDisk s2 = clean_before s2 (state g.S.Store c.add_files.new.tx.conn.now) c.add_files.ensures.stays clean in
+    let p : GoesOn s0 s2 = goes_twice s0 s1 s2 c.put_row.ensures.stays c.in_ok-beside.ensures.goes_on c.in_ok-put_row.ensures.goes_on early in
+    on_ok_weaker c.add_files.result (λ s. record { was_open = p.was_open; is_open = s.is_open p.is_open; inside = λ i. s.inside (p.inside i) }) (c.add_files.ensures.goes_on clean)

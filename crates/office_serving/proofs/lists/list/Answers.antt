@@ -2,6 +2,7 @@ use Rattle.std.proofs.Common.{rules, ◌≡◌, refl, ap, ◌∙◌, option_copi
 use Rattle.sqlite.specs.State.{HasCleanDisk}
 use Rattle.sqlite.specs.Held.{state}
 use Rattle.office_core.specs.declared.answer.Answer.TheVariants as answers
+use Rattle.office_rows.specs.Rows.{beside}
 use Rattle.office_core.specs.declared.request.Request.TheVariants as requests
 use Rattle.office_asking.proofs.Readings.{in_picture, pictured_still}
 use Rattle.office_asking.proofs.Serving.{read_serves}
@@ -14,31 +15,31 @@ pub returns-clause-decides : goal.returns-clause-decides
 returns-clause-decides g c clean h legal pictured =
     let a = c.args in
     let s1 = state g.S.Store c.read.new.tx.conn.now in
-    let s2 = state g.S.Store c.deposit_rows.new.tx.conn.now in
+    let s2 = state g.S.Store c.deposits_and_dues.new.tx.conn.now in
     let s3 = state g.S.Store c.shown_among.new.tx.conn.now in
     let clean2 : HasCleanDisk s2 = clean_before s2 s3 c.shown_among.ensures.stays clean in
-    let clean1 : HasCleanDisk s1 = clean_before s1 s2 c.deposit_rows.ensures.stays clean2 in
+    let clean1 : HasCleanDisk s1 = clean_before s1 s2 c.deposits_and_dues.ensures.stays clean2 in
     let asked = c.in_ok-asker.ensures.asker clean1 h legal pictured in
     let still = pictured_still h s1.now asked.0 s2.now (c.in_ok-rows.ensures.same clean2 asked.0.office) in
-    let rows_are = c.deref.ensures.value ∙ c.in_ok-rows.ensures.found clean2 asked.0.office ∙ in_picture h s1.now asked.0 (λ t. t.deposits) in
+    let rows_are = c.deref.ensures.value ∙ c.in_ok-rows.ensures.found clean2 asked.0.office ∙ in_picture h s1.now asked.0 (λ t. beside t.deposits t.dues) in
     let found = c.in_ok-told.ensures.listed clean h legal still in
     let given : c.of.result ≡ c.in_ok-told.told.items = search rules in
     read_serves h a.day a.caller.now (requests.List (option_copied a.collection) (option_copied a.class)) s3.now (answers.List c.of.result) refl (ap answers.List (given ∙ found.1 a.caller.now asked.1 rows_are)) refl found.0
 
 pub returns-in_err-rows-clause-stays : goal.returns-in_err-rows-clause-stays
-returns-in_err-rows-clause-stays g c = stays_then (state g.S.Store c.args.tx.now.conn.now) (state g.S.Store c.read.new.tx.conn.now) (state g.S.Store c.deposit_rows.new.tx.conn.now) c.read.ensures.stays c.in_ok-asker.ensures.goes_on c.deposit_rows.ensures.stays
+returns-in_err-rows-clause-stays g c = stays_then (state g.S.Store c.args.tx.now.conn.now) (state g.S.Store c.read.new.tx.conn.now) (state g.S.Store c.deposits_and_dues.new.tx.conn.now) c.read.ensures.stays c.in_ok-asker.ensures.goes_on c.deposits_and_dues.ensures.stays
 
 pub returns-in_err-told-clause-stays : goal.returns-in_err-told-clause-stays
-returns-in_err-told-clause-stays g c = stays_thrice (state g.S.Store c.args.tx.now.conn.now) (state g.S.Store c.read.new.tx.conn.now) (state g.S.Store c.deposit_rows.new.tx.conn.now) (state g.S.Store c.shown_among.new.tx.conn.now) c.read.ensures.stays c.in_ok-asker.ensures.goes_on c.deposit_rows.ensures.stays c.in_ok-rows.ensures.goes_on c.shown_among.ensures.stays
+returns-in_err-told-clause-stays g c = stays_thrice (state g.S.Store c.args.tx.now.conn.now) (state g.S.Store c.read.new.tx.conn.now) (state g.S.Store c.deposits_and_dues.new.tx.conn.now) (state g.S.Store c.shown_among.new.tx.conn.now) c.read.ensures.stays c.in_ok-asker.ensures.goes_on c.deposits_and_dues.ensures.stays c.in_ok-rows.ensures.goes_on c.shown_among.ensures.stays
 
 pub returns-clause-stays : goal.returns-clause-stays
-returns-clause-stays g c = stays_thrice (state g.S.Store c.args.tx.now.conn.now) (state g.S.Store c.read.new.tx.conn.now) (state g.S.Store c.deposit_rows.new.tx.conn.now) (state g.S.Store c.shown_among.new.tx.conn.now) c.read.ensures.stays c.in_ok-asker.ensures.goes_on c.deposit_rows.ensures.stays c.in_ok-rows.ensures.goes_on c.shown_among.ensures.stays
+returns-clause-stays g c = stays_thrice (state g.S.Store c.args.tx.now.conn.now) (state g.S.Store c.read.new.tx.conn.now) (state g.S.Store c.deposits_and_dues.new.tx.conn.now) (state g.S.Store c.shown_among.new.tx.conn.now) c.read.ensures.stays c.in_ok-asker.ensures.goes_on c.deposits_and_dues.ensures.stays c.in_ok-rows.ensures.goes_on c.shown_among.ensures.stays
 
 pub returns-clause-goes_on : goal.returns-clause-goes_on
 returns-clause-goes_on g c clean =
     let s0 = state g.S.Store c.args.tx.now.conn.now in
     let s1 = state g.S.Store c.read.new.tx.conn.now in
-    let s2 = state g.S.Store c.deposit_rows.new.tx.conn.now in
+    let s2 = state g.S.Store c.deposits_and_dues.new.tx.conn.now in
     let s3 = state g.S.Store c.shown_among.new.tx.conn.now in
-    let p = goes_twice s0 s1 s2 c.deposit_rows.ensures.stays c.in_ok-asker.ensures.goes_on c.in_ok-rows.ensures.goes_on (clean_before s2 s3 c.shown_among.ensures.stays clean) in
+    let p = goes_twice s0 s1 s2 c.deposits_and_dues.ensures.stays c.in_ok-asker.ensures.goes_on c.in_ok-rows.ensures.goes_on (clean_before s2 s3 c.shown_among.ensures.stays clean) in
     goes_still s0 s2 s3 p (c.in_ok-told.ensures.goes_on clean)

@@ -31,11 +31,15 @@ loop-row-preserved g c =
           let found = c.in_ok-record.ensures.shown clean h legal there.0 in (
             found.0,
             λ caller is rows_are.
-                let next = shown_next h caller (option_copied a.collection) (option_copied a.class) a.rows.now rows_are place row c.loop-row-test.true c.loop-row.told.items (there.1 caller is rows_are) c.in_ok-record.field-0 (λ n f at row_is. found.1 caller is n f at (item ∙ row_is)) in
-                elim c.match-branch-2.branch [
-                  | in-Some+in_ok-push w ↦ ap (λ v. v.items) w.told-is ∙ w.in_ok-push.ensures.items ∙ next.0 w.in-Some.record w.in-Some.is
-                  | in_default w ↦ ap (λ v. v.items) w.told-is ∙ next.1 w.in_default.is
-                ],
+                let before = there.1 caller is rows_are in
+                let said = found.1 caller before.0 in
+                let next = shown_next h caller (option_copied a.collection) (option_copied a.class) a.rows.now rows_are place row c.loop-row-test.true c.loop-row.told.items before.1 c.in_ok-record.field-0 (λ n f at row_is. said.1 n f at (item ∙ row_is)) in (
+                  said.0,
+                  elim c.match-branch-2.branch [
+                    | in-Some+in_ok-push w ↦ ap (λ v. v.items) w.told-is ∙ w.in_ok-push.ensures.items ∙ next.0 w.in-Some.record w.in-Some.is
+                    | in_default w ↦ ap (λ v. v.items) w.told-is ∙ next.1 w.in_default.is
+                  ],
+                ),
           );
     }
 
@@ -46,7 +50,7 @@ returns-clause-listed g c clean h legal pictured =
     let finished : c.loop-row.row-index ≡ length a.rows.now = omega (arith, c.loop-row-test.false, c.loop-row.auto.row-index-end) in (
       there.0,
       λ caller is rows_are. shown_of_rows h caller (option_copied a.collection) (option_copied a.class) a.rows.now rows_are c.loop-row.told.items
-          (there.1 caller is rows_are ∙ ap (λ k. filter_map (shown_record h caller (option_copied a.collection) (option_copied a.class)) (numbers k)) finished),
+          ((there.1 caller is rows_are).1 ∙ ap (λ k. filter_map (shown_record h caller (option_copied a.collection) (option_copied a.class)) (numbers k)) finished),
     )
 
 pub returns-in_err-record-clause-stays : goal.returns-in_err-record-clause-stays
@@ -60,5 +64,5 @@ loop-row-init g c = record {
   same_reference = refl;
   stays = stays_still (state g.S.Store c.args.tx.now.conn.now);
   goes_on = λ _. stands_still (state g.S.Store c.args.tx.now.conn.now);
-  told = λ clean h legal pictured. (pictured, λ caller is rows_are. c.new-told.ensures.items);
+  told = λ clean h legal pictured. (pictured, λ caller is rows_are. (c.new-allowances.ensures h caller is, c.new-told.ensures.items));
 }

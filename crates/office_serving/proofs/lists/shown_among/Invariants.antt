@@ -3,12 +3,15 @@ use Rattle.std.specs.List.{filter_map}
 use Rattle.sqlite.specs.State.{HasCleanDisk}
 use Rattle.sqlite.specs.Held.{state}
 use Rattle.sql_meaning.specs.Inside.{Stays, Stands}
+use Rattle.office_core.specs.declared.action.Action.TheVariants as acts
+use Rattle.office_rows.specs.Rows.{beside}
 use Rattle.office_history.specs.Lists.{numbers}
 use Rattle.office_history.specs.Histories.{History}
-use Rattle.office_history.specs.Pictures.{deposit_rows}
+use Rattle.office_history.specs.Pictures.{deposit_rows, due_rows}
 use Rattle.office_history.specs.Runs.{IsLegal}
 use Rattle.office_asking.specs.Asking.{IsAsker}
 use Rattle.office_asking.specs.Pictures.{Pictures}
+use Rattle.office_serving.specs.Allowances.{AreOf}
 use Rattle.office_serving.specs.Listing.{shown_record}
 use Rattle.office_serving.proofs.lists.shown_among.Given as goal
 
@@ -21,6 +24,7 @@ invariant-loop-row g l =
       stays : Stays old now;
       goes_on : HasCleanDisk now → Stands old now;
       told : HasCleanDisk now → (h : History) → IsLegal h → Pictures h old.now → Pictures h now.now
-          × ((caller : List ℕ) → IsAsker h caller l.asker → l.rows ≡ deposit_rows h
-          → l.told.items ≡ filter_map (shown_record h caller (option_copied l.collection) (option_copied l.class)) (numbers l.row-index));
+          × ((caller : List ℕ) → IsAsker h caller l.asker → l.rows ≡ beside (deposit_rows h) (due_rows h)
+          → AreOf h caller acts.List l.allowances
+          × (l.told.items ≡ filter_map (shown_record h caller (option_copied l.collection) (option_copied l.class)) (numbers l.row-index)));
     }

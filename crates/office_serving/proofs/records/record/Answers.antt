@@ -17,7 +17,7 @@ returns-in_ok-record_of-in-Ok-clause-decides g c clean h legal pictured =
     let asked = rw c.in-Ok.is at c.in_ok-row.ensures.asked (clean_before mid new c.record_of.ensures.stays clean) h legal pictured in
     let it = asked.1 in
     let told = c.in_ok-record_of-in-Ok.ensures.told clean h legal asked.0 in
-    told_serves a.caller.now acts.Record it refl (λ found. answers.Record (record_of h a.number found)) refl refl (ap answers.Record (told.1 a.number it.found it.row_is)) told.0
+    told_serves a.caller.now acts.Record it refl (λ found. answers.Record (record_of h a.number found)) refl refl (ap answers.Record (told.1 a.number it.found it.there it.row_is)) told.0
 
 pub returns-in-Err-clause-decides : goal.returns-in-Err-clause-decides
 returns-in-Err-clause-decides g c clean h legal pictured =

@@ -1,14 +1,14 @@
-use Rattle.std.proofs.Common.{pos}
+use Rattle.std.proofs.Common.{◌≡◌, List, ℕ, pos, rules, subst}
+use Rattle.sha2.specs.Sha256.{sha256}
 use Rattle.sqlite.specs.Held.{state}
-use Rattle.office_tables.proofs.FileLemmas.{puts_file, path_was_new}
+use Rattle.office_tables.specs.Contents.{IsMarkedPut}
+use Rattle.office_tables.proofs.ContentLemmas.{put_once}
 use Rattle.office_tables.proofs.files.put_file.Goals as goal
 
-pub returns-clause-becomes : goal.returns-clause-becomes
-returns-clause-becomes g c clean office =
-    let ran = rw (c.params-to_sql.ensures, c.params-to_sql-2.ensures, c.params-to_sql-3.ensures) at (c.in_ok-change.ensures.ran clean) in
-    puts_file (state g.S.Store c.args.tx.now.conn.now) (state g.S.Store c.change.new.tx.conn.now) (pos c.args.number) c.args.path.now c.args.content.now c.in_ok-change.field-0 office ran
-
-pub returns-clause-new_path : goal.returns-clause-new_path
-returns-clause-new_path g c clean office =
-    let ran = rw (c.params-to_sql.ensures, c.params-to_sql-2.ensures, c.params-to_sql-3.ensures) at (c.in_ok-change.ensures.ran clean) in
-    path_was_new (state g.S.Store c.args.tx.now.conn.now) (state g.S.Store c.change.new.tx.conn.now) (pos c.args.number) c.args.path.now c.args.content.now c.in_ok-change.field-0 office ran
+pub returns-clause-once : goal.returns-clause-once
+returns-clause-once g c clean office kept =
+    let old = (state g.S.Store c.args.tx.now.conn.now).now in
+    let new = (state g.S.Store c.put_kept.new.tx.conn.now).now in
+    let mark : c.digest-mark.result ≡ sha256 c.args.content.now = search rules in
+    let put = subst (λ (m : List ℕ). IsMarkedPut (pos c.args.number) c.args.path.now m c.args.content.now old new) mark (c.in_ok-put_kept.ensures.put clean office) in
+    put_once c.args.path.now c.args.content.now (pos c.args.number) old new put kept

@@ -10,8 +10,8 @@ returns-then-not-has_office-clause-unknown g c clean office told = absurd (
     let missing = c.if-not-has_office.true in
     cc)
 
-pub returns-in-Ok-Some-eq1-clause-known : goal.returns-in-Ok-Some-eq1-clause-known
-returns-in-Ok-Some-eq1-clause-known g c clean office = tells_version _ office (Some (pos 1)) (search rules)
+pub returns-in-Ok-Some-eq3-clause-known : goal.returns-in-Ok-Some-eq3-clause-known
+returns-in-Ok-Some-eq3-clause-known g c clean office = tells_version _ office (Some (pos 3)) (search rules)
 
 pub returns-in-Ok-Some-clause-known_as_other : goal.returns-in-Ok-Some-clause-known_as_other
 returns-in-Ok-Some-clause-known_as_other g c clean office told = (c.in-Ok-Some.field-0-0, search rules, tells_version _ office (Some c.in-Ok-Some.field-0-0) (search rules))

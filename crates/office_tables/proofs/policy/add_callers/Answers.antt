@@ -24,4 +24,5 @@ loop-caller-preserved g c =
           let named = rw (c.deref.ensures, c.deref-in-loop-caller.ensures) at (c.in_ok-add_caller.ensures.becomes clean there.0) in
           let added : Becomes new.now (with_caller x (tables_of now.now)) = subst (λ (y : CallerRow). Becomes new.now (with_caller y (tables_of now.now))) c.caller.view_is named in
           next_added with_caller with_callers (λ x xs t. refl) c.args.callers.now c.loop-caller.caller-index x c.caller-item.is (search rules) (tables_of old.now) now.now new.now added there.1;
+      once = λ clean office kept. c.in_ok-add_caller.ensures.once clean (inv.becomes (early clean) office).0 (inv.once (early clean) office kept);
     }

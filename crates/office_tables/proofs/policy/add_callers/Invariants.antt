@@ -4,6 +4,7 @@ use Rattle.sqlite.specs.Held.{state}
 use Rattle.sql_meaning.specs.Inside.{Stays, Stands}
 use Rattle.office_rows.specs.Rows.{with_callers}
 use Rattle.office_tables.specs.Tables.{IsOffice, tables_of}
+use Rattle.office_tables.specs.Contents.{KeepsOnce}
 use Rattle.office_tables.proofs.policy.add_callers.Given as goal
 
 abbrev pub invariant-loop-caller : goal.invariant-loop-caller
@@ -15,4 +16,5 @@ invariant-loop-caller g l =
       stays : Stays old now;
       goes_on : HasCleanDisk now → Stands old now;
       becomes : HasCleanDisk now → IsOffice old.now → IsOffice now.now × (with_callers (drop l.caller-index l.callers) (tables_of now.now) ≡ with_callers l.callers (tables_of old.now));
+      once : HasCleanDisk now → IsOffice old.now → KeepsOnce old.now → KeepsOnce now.now;
     }

@@ -4,6 +4,7 @@ use Rattle.sqlite.specs.Held.{state}
 use Rattle.sql_meaning.proofs.Results.{on_ok}
 use Rattle.office_rows.specs.Rows.{RuleRow}
 use Rattle.office_tables.proofs.PolicyLemmas.{adds_rule}
+use Rattle.office_tables.proofs.OnceLemmas.{add_rule_once}
 use Rattle.office_tables.proofs.policy.add_rule.Goals as goal
 
 pub returns-clause-becomes : goal.returns-clause-becomes
@@ -14,3 +15,6 @@ returns-clause-becomes g c clean office =
     let effect = to_z-of_z w64 a.effect c.ranges.effect in
     let ran = rw (c.params-to_sql.ensures, c.params-to_sql-2.ensures, c.params-to_sql-3.ensures, c.params-to_sql-4.ensures, c.params-to_sql-5.ensures, c.params-to_sql-6.ensures, place, effect) at (c.change.ensures.ran clean) in
     on_ok c.change.result (λ count h. adds_rule (state g.S.Store a.tx.now.conn.now) (state g.S.Store c.change.new.tx.conn.now) rule count office h) ran
+
+pub returns-clause-once : goal.returns-clause-once
+returns-clause-once g c clean office kept = on_ok c.change.result (λ count h. add_rule_once _ (state g.S.Store c.args.tx.now.conn.now) (state g.S.Store c.change.new.tx.conn.now) count office h kept) (c.change.ensures.ran clean)

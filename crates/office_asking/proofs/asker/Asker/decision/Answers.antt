@@ -1,10 +1,24 @@
-use Rattle.std.proofs.Common.{rules, option_copied}
-use Rattle.std.proofs.lemmas.Result.{IfOk-weaker}
-use Rattle.office_asking.proofs.Readings.{asker_decides}
+use Rattle.std.proofs.Common.{option_copied, rules}
+use Rattle.sqlite.specs.Held.{state}
+use Rattle.office_asking.proofs.Readings.{pictured_still, none_found, rule_found}
 use Rattle.office_asking.proofs.asker.Asker.decision.Goals as goal
 
-pub returns-clause-decided : goal.returns-clause-decided
-returns-clause-decided c h caller legal is =
+pub returns-in_ok-decision_in-in-Some-clause-decided : goal.returns-in_ok-decision_in-in-Some-clause-decided
+returns-in_ok-decision_in-in-Some-clause-decided g c clean h legal pictured =
     let a = c.args in
-    let asker = a.self.now in
-    IfOk-weaker c.decide.result _ _ (λ decision e. asker_decides h caller asker legal is a.action (option_copied a.collection) (option_copied a.class) decision (search (rules, e))) c.decide.ensures.decided
+    let old = state g.S.Store a.tx.now.conn.now in
+    let new = state g.S.Store c.match_rule.new.tx.conn.now in
+    let found = c.in_ok-found.ensures.found clean pictured.office in (
+      pictured_still h old.now pictured new.now (c.in_ok-found.ensures.same clean pictured.office),
+      λ caller is. rule_found h old.now legal pictured caller a.self.now is a.action (option_copied a.collection) (option_copied a.class) c.in-Some.row (search (rules, found)) c.in_ok-decision_in-in-Some.field-0 (search rules),
+    )
+
+pub returns-in-None-clause-decided : goal.returns-in-None-clause-decided
+returns-in-None-clause-decided g c clean h legal pictured =
+    let a = c.args in
+    let old = state g.S.Store a.tx.now.conn.now in
+    let new = state g.S.Store c.match_rule.new.tx.conn.now in
+    let found = c.in_ok-found.ensures.found clean pictured.office in (
+      pictured_still h old.now pictured new.now (c.in_ok-found.ensures.same clean pictured.office),
+      λ caller is. none_found h old.now legal pictured caller a.self.now is a.action (option_copied a.collection) (option_copied a.class) (search (rules, found)),
+    )

@@ -1,0 +1,12 @@
+use Rattle.std.proofs.Common.{rules}
+use Rattle.office_asking.proofs.asker.Asker.denial.Goals as goal
+
+pub returns-in-Some-clause-denied : goal.returns-in-Some-clause-denied
+returns-in-Some-clause-denied g c clean h legal pictured =
+    let decided = c.in_ok-decision.ensures.decided clean h legal pictured in
+    (decided.0, λ caller is. let e = decided.1 caller is in search (rules, e))
+
+pub returns-in-None-clause-denied : goal.returns-in-None-clause-denied
+returns-in-None-clause-denied g c clean h legal pictured =
+    let decided = c.in_ok-decision.ensures.decided clean h legal pictured in
+    (decided.0, λ caller is. let e = decided.1 caller is in search (rules, e))

@@ -1,0 +1,24 @@
+use Rattle.std.proofs.lemmas.Result.{IfOk-weaker}
+use Rattle.sqlite.specs.State.{HasCleanDisk}
+use Rattle.sqlite.specs.Held.{state}
+use Rattle.sql_meaning.proofs.Inside.{stays_then}
+use Rattle.office_asking.proofs.InTurn.{clean_before, on_after}
+use Rattle.sql_meaning.proofs.Inside.{goes_then}
+use Rattle.office_asking.proofs.asker.denial.Goals as goal
+
+pub returns-clause-denied : goal.returns-clause-denied
+returns-clause-denied g c clean h legal pictured =
+    let mid = state g.S.Store c.read.new.tx.conn.now in
+    let early : HasCleanDisk mid = clean_before mid (state g.S.Store c.denial.new.tx.conn.now) c.denial.ensures.stays clean in
+    let asked = c.in_ok-asker.ensures.asker early h legal pictured in
+    IfOk-weaker c.denial.result _ _ (λ why says. (says.0, says.1 c.args.caller.now asked.1)) (c.denial.ensures.denied clean h legal asked.0)
+
+pub returns-clause-stays : goal.returns-clause-stays
+returns-clause-stays g c = stays_then (state g.S.Store c.args.tx.now.conn.now) (state g.S.Store c.read.new.tx.conn.now) (state g.S.Store c.denial.new.tx.conn.now) c.read.ensures.stays c.in_ok-asker.ensures.goes_on c.denial.ensures.stays
+
+pub returns-clause-goes_on : goal.returns-clause-goes_on
+returns-clause-goes_on g c =
+    let s0 = state g.S.Store c.args.tx.now.conn.now in
+    let s1 = state g.S.Store c.read.new.tx.conn.now in
+    let s2 = state g.S.Store c.denial.new.tx.conn.now in
+    on_after s0 s1 s2 c.denial.ensures.stays c.denial.result (goes_then s0 s1 s2) c.in_ok-asker.ensures.goes_on c.denial.ensures.goes_on

@@ -1,0 +1,40 @@
+use Rattle.std.proofs.Common.{rules, w64, ◌≡◌}
+use mir.Val.{SFits}
+use Rattle.std.proofs.lemmas.Int.{to_z-of_z}
+use Rattle.std.proofs.lemmas.Result.{on_ok_weaker}
+use Rattle.sqlite.specs.State.{HasCleanDisk}
+use Rattle.sqlite.specs.Held.{state}
+use Rattle.sql_meaning.proofs.Inside.{stays_then, goes_then}
+use Rattle.office_rows.specs.Rows.{with_class}
+use Rattle.office_tables.specs.Tables.{Becomes, tables_of}
+use Rattle.office_tables.specs.Contents.{KeepsOnce}
+use Rattle.office_history.specs.Pictures.{years_number}
+use Rattle.office_asking.proofs.InTurn.{clean_before}
+use Rattle.office_defining.proofs.ClassTold.{those, closings_read, class_defined}
+use Rattle.office_defining.proofs.classes.put_years.Goals as goal
+
+pub returns-clause-stays : goal.returns-clause-stays
+returns-clause-stays g c =
+    stays_then (state g.S.Store c.args.tx.now.conn.now) (state g.S.Store c.put_class.new.tx.conn.now) (state g.S.Store c.set_days_of_class.new.tx.conn.now) c.put_class.ensures.stays c.in_ok-put_class.ensures.goes_on c.set_days_of_class.ensures.stays
+
+pub returns-clause-goes_on : goal.returns-clause-goes_on
+returns-clause-goes_on g c clean =
+    let old = state g.S.Store c.args.tx.now.conn.now in
+    let mid = state g.S.Store c.put_class.new.tx.conn.now in
+    let new = state g.S.Store c.set_days_of_class.new.tx.conn.now in
+    let early : HasCleanDisk mid = clean_before mid new c.set_days_of_class.ensures.stays clean in
+    on_ok_weaker c.set_days_of_class.result (goes_then old mid new (c.in_ok-put_class.ensures.goes_on early)) (c.set_days_of_class.ensures.goes_on clean)
+
+pub returns-clause-defined : goal.returns-clause-defined
+returns-clause-defined g c day clean h legal pictured _ =
+    let a = c.args in
+    let old = state g.S.Store a.tx.now.conn.now in
+    let mid = state g.S.Store c.put_class.new.tx.conn.now in
+    let new = state g.S.Store c.set_days_of_class.new.tx.conn.now in
+    let early : HasCleanDisk mid = clean_before mid new c.set_days_of_class.ensures.stays clean in
+    let years : c.years_number.result ≡ years_number a.years = search rules in
+    let fits : SFits w64 c.years_number.result = search rules in
+    let put : Becomes mid.now (with_class a.name.now (years_number a.years) (tables_of old.now)) = rw (to_z-of_z w64 c.years_number.result fits, years) at (c.in_ok-put_class.ensures.becomes early pictured.office) in
+    let kept : KeepsOnce mid.now = c.in_ok-put_class.ensures.once early pictured.office pictured.once in
+    on_ok_weaker c.set_days_of_class.result (class_defined h day a.name.now a.years old.now mid.now pictured put new.now kept)
+    (c.set_days_of_class.ensures.set (those h day a.name.now a.years) (closings_read h day a.name.now a.years old.now mid.now pictured put) clean put.office)

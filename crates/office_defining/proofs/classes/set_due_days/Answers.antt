@@ -1,0 +1,49 @@
+use Rattle.std.proofs.Common.{rules, refl, sym, ap, subst, ◌∙◌, ◌≤◌, length, map}
+use Rattle.sqlite.specs.State.{HasCleanDisk}
+use Rattle.sqlite.specs.Held.{state}
+use Rattle.sql_meaning.proofs.Inside.{stays_on}
+use Rattle.office_tables.specs.Tables.{tables_of}
+use Rattle.office_asking.proofs.InTurn.{clean_before, stays_still}
+use Rattle.office_defining.specs.Revising.{closing_row, with_due_days}
+use Rattle.office_defining.proofs.DueDays.{sets_next, none_left}
+use Rattle.office_defining.proofs.classes.set_due_days.Goals as goal
+
+pub loop-row-init : goal.loop-row-init
+loop-row-init g c = record {
+  same_reference = refl;
+  stays = stays_still (state g.S.Store c.args.tx.now.conn.now);
+  goes_on = λ _. record { is_open = λ is_open. is_open; inside = λ inside. inside };
+  set = λ deposits are clean office. (office, refl, λ kept. kept);
+}
+
+pub loop-row-preserved : goal.loop-row-preserved
+loop-row-preserved g c =
+    let old = state g.S.Store c.args.tx.now.conn.now in
+    let now = state g.S.Store c.loop-row.tx.conn.now in
+    let new = state g.S.Store c.set_due_day.new.tx.conn.now in
+    let inv = c.loop-row.invariant in
+    let early = λ (clean : HasCleanDisk new). let e : HasCleanDisk now = clean_before now new c.set_due_day.ensures.stays clean in e in
+    record {
+      same_reference = search rules;
+      stays = stays_on old now new inv.stays inv.goes_on c.set_due_day.ensures.stays;
+      goes_on = λ clean. let p = inv.goes_on (early clean) in let q = c.in_ok-set_due_day.ensures.goes_on clean in record { is_open = λ _. q.is_open; inside = λ i. q.inside (p.inside i) };
+      set = λ deposits are clean office.
+          let there = inv.set deposits are (early clean) office in
+          let next = sets_next c.args.years c.args.rows.now deposits c.loop-row.row-index _ c.loop-row-test.true c.row-item.is are old.now now.now new.now
+          (λ closed e. c.in_ok-set_due_day.ensures.becomes closed e clean there.0) there.1 in
+          (next.0, next.1, λ kept. c.in_ok-set_due_day.ensures.once clean there.0 (there.2 kept));
+    }
+
+pub returns-in_err-set_due_day-clause-stays : goal.returns-in_err-set_due_day-clause-stays
+returns-in_err-set_due_day-clause-stays g c = stays_on (state g.S.Store c.args.tx.now.conn.now) (state g.S.Store c.loop-row.tx.conn.now) (state g.S.Store c.set_due_day.new.tx.conn.now) c.loop-row.invariant.stays c.loop-row.invariant.goes_on c.set_due_day.ensures.stays
+
+pub returns-clause-set : goal.returns-clause-set
+returns-clause-set g c deposits are clean office =
+    let old = state g.S.Store c.args.tx.now.conn.now in
+    let now = state g.S.Store c.loop-row.tx.conn.now in
+    let there = c.loop-row.invariant.set deposits are clean office in
+    let past : length (map closing_row deposits) ≤ c.loop-row.row-index = subst (λ rows. length rows ≤ c.loop-row.row-index) are c.loop-row-test.false in
+    record {
+      becomes = record { office = there.0; are = sym (ap (λ rest. with_due_days c.args.years rest (tables_of now.now)) (none_left deposits c.loop-row.row-index past)) ∙ there.1 };
+      once = there.2;
+    }

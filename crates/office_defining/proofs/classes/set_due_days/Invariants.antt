@@ -1,0 +1,21 @@
+use Rattle.std.proofs.Common.{◌≡◌, ℤ, List, map, drop}
+use Rattle.jiff.specs.Types.{Date}
+use Rattle.sqlite.specs.State.{HasCleanDisk}
+use Rattle.sqlite.specs.Held.{state}
+use Rattle.sql_meaning.specs.Inside.{Stays, Stands}
+use Rattle.office_tables.specs.Tables.{IsOffice, tables_of}
+use Rattle.office_tables.specs.Contents.{KeepsOnce}
+use Rattle.office_defining.specs.Revising.{closing_row, with_due_days}
+use Rattle.office_defining.proofs.classes.set_due_days.Given as goal
+
+abbrev pub invariant-loop-row : goal.invariant-loop-row
+invariant-loop-row g l =
+    let old = state g.S.Store l.fn.tx.conn.now in
+    let now = state g.S.Store l.tx.conn.now in
+    record {
+      same_reference : l.tx.conn.ghost_name ≡ l.fn.tx.conn.ghost_name;
+      stays : Stays old now;
+      goes_on : HasCleanDisk now → Stands old now;
+      set : (deposits : List (ℤ × Date)) → l.rows ≡ map closing_row deposits → HasCleanDisk now → IsOffice old.now
+          → IsOffice now.now × (with_due_days l.years (drop l.row-index deposits) (tables_of now.now) ≡ with_due_days l.years deposits (tables_of old.now)) × (KeepsOnce old.now → KeepsOnce now.now);
+    }

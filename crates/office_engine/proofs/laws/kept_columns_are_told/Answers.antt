@@ -1,0 +1,10 @@
+use Rattle.std.proofs.Common.{ap}
+use Rattle.office_serving.proofs.StockTold.{contents_held}
+use Rattle.office_engine.proofs.laws.kept_columns_are_told.Goals as goal
+
+pub returns : goal.returns
+returns c = record {
+  contents = λ db h pictured. contents_held h db pictured (c.contents_are_those_of_files.ensures db pictured.office pictured.once);
+  marked = λ db h pictured. (c.contents_are_those_of_files.ensures db pictured.office pictured.once).marked;
+  dues = λ db h pictured. ap (λ t. t.dues) pictured.are;
+}

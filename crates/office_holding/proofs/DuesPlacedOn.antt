@@ -1,0 +1,78 @@
+-- What is kept of deposits, after a hold was placed on one of them.
+use Rattle.std.proofs.Common.{◌≡◌, ℕ, suc, ◌+◌, ℤ, pos, ◌+ℤ◌, Bool, true, false, List, [], ◌∷◌, map, length, Some, slice_get, refl, sym, ap, ap₂, subst, ◌∙◌, arith, if◌then◌else◌, None}
+use Rattle.std.specs.Option.{option_map_or}
+use Rattle.std.specs.Ordering.{int_eq}
+use Rattle.std.proofs.lemmas.Option.{same_Some}
+use Rattle.std.proofs.lemmas.Bool.Decides.{Decides-eqb}
+use Rattle.std.proofs.lemmas.Int.{ints}
+use Rattle.jiff.specs.Types.{Date}
+use Rattle.office_core.specs.RetentionReading.{due_of}
+use Rattle.office_core.specs.declared.retention.Due.TheVariants.{Never}
+use Rattle.office_rows.specs.Rows.{DueRow, is_due_of}
+use Rattle.office_history.specs.Histories.{History, Change, Deposit, Hold, OnDeposit, PlacedHold, with_changes, deposits, deposit_numbered, due, holds, release_day, reaches, live_holds}
+use Rattle.office_history.specs.Pictures.{due_number, due_row, due_rows}
+use Rattle.office_asking.proofs.NumberedRows.{rows_from, same_number, eqb-sym}
+use Rattle.office_asking.proofs.Unchanged.{same_years, same_deposits}
+use Rattle.office_asking.proofs.DuesGrown.{due_rows_are}
+use Rattle.office_asking.proofs.DuesPlaced.{count_more}
+
+-- a change that makes each item's row what is said after, at the number where the item stands
+changed_there : {A : Type 0} (change : DueRow → DueRow) (before after : ℕ → A → DueRow) (xs : List A) (start : ℕ) → ((i : ℕ) (x : A) → slice_get xs i ≡ Some x → change (before (start + i) x) ≡ after (start + i) x)
+    → map change (rows_from before start xs) ≡ rows_from after start xs
+changed_there change before after [] start same = refl
+changed_there change before after (x ∷ xs) start same =
+    let none : start + 0 ≡ start = omega arith in
+    ap₂ (λ r rs. r ∷ rs) (subst (λ k. change (before k x) ≡ after k x) none (same 0 x refl))
+    (changed_there change before after xs (start + 1) (λ i y e. let one : start + suc i ≡ start + 1 + i = omega arith in subst (λ k. change (before k y) ≡ after k y) one (same (suc i) y e)))
+
+module _ (h : History) (day : Date) (hold : Hold) (not_yet : release_day h (1 + length (holds h)) ≡ None) (n : ℕ) (is : hold.target ≡ OnDeposit n) (deposit : Date × Deposit) (at : deposit_numbered h n ≡ Some deposit) where
+  abbrev more : List Change
+  more = PlacedHold day hold ∷ []
+
+  abbrev longer : History
+  longer = with_changes h more
+
+  abbrev one_more : ℤ
+  one_more = pos (length (live_holds h n deposit.1)) +ℤ pos 1
+
+  abbrev counted_there : DueRow → DueRow
+  counted_there d = if is_due_of (pos n) d then record d { holds = one_more } else d
+
+  up : (a b : ℕ) → b ≡ a + 1 → pos a +ℤ pos 1 ≡ pos b
+  up a b e = omega (arith, ints, e)
+
+  same_due : (x : Date × Deposit) → due h x.1 ≡ due longer x.1
+  same_due x = λ i. option_map_or (due_of x.1.closed) (sym (same_years h more (λ name. refl) x.1.class) i) Never
+
+  placed_at : (m : ℕ) (x : Date × Deposit) → deposit_numbered h m ≡ Some x → counted_there (due_row h m x) ≡ due_row longer m x
+  placed_at m x there = by (int_eq (pos m) (pos n)) refl
+    where
+      counted : (b : Bool) → int_eq (pos m) (pos n) ≡ b → length (live_holds longer m x.1) ≡ length (live_holds h m x.1) + (if b then 1 else 0)
+      counted b e =
+          count_more h day hold not_yet m x.1
+          ∙ ap (λ c. length (live_holds h m x.1) + (if c then 1 else 0)) (ap (λ t. reaches t m x.1) is ∙ eqb-sym n m ∙ sym (same_number m n) ∙ e)
+
+      it : int_eq (pos m) (pos n) ≡ true → length (live_holds h m x.1) ≡ length (live_holds h n deposit.1)
+      it e =
+          let same : m ≡ n = (Decides-eqb m n).0 (sym (same_number m n) ∙ e) in
+          let found : x ≡ deposit = same_Some x deposit (sym there ∙ ap (deposit_numbered h) same ∙ at) in
+          λ i. length (live_holds h (same i) (found i).1)
+
+      by : (b : Bool) → int_eq (pos m) (pos n) ≡ b → (if b then record (due_row h m x) { holds = one_more } else due_row h m x) ≡ due_row longer m x
+      by true e = λ i. record {
+        number = pos m;
+        due = due_number (same_due x i);
+        holds = up (length (live_holds h n deposit.1)) (length (live_holds longer m x.1)) (counted true e ∙ ap (λ k. k + 1) (it e)) i;
+      }
+      by false e =
+          let same : length (live_holds h m x.1) ≡ length (live_holds longer m x.1) = omega (arith, counted false e) in
+          λ i. record { number = pos m; due = due_number (same_due x i); holds = pos (same i) }
+
+  -- a hold on a deposit counts over that deposit
+  pub dues_placed_on : map counted_there (due_rows h) ≡ due_rows longer
+  dues_placed_on =
+      ap (map counted_there) (due_rows_are h)
+      ∙ changed_there counted_there (due_row h) (due_row longer) (deposits h) 1
+      (λ i x e. let one : suc i ≡ 1 + i = omega arith in placed_at (1 + i) x (subst (λ k. deposit_numbered h k ≡ Some x) one e))
+      ∙ ap (rows_from (due_row longer) 1) (sym (same_deposits h more refl))
+      ∙ sym (due_rows_are longer)

@@ -1,0 +1,50 @@
+use Rattle.std.proofs.Common.{rules, ◌≡◌, sym, ◌∙◌, Some, None, option_map}
+use Rattle.std.proofs.lemmas.Result.{IfOk-weaker}
+use Rattle.sqlite.specs.State.{HasCleanDisk}
+use Rattle.sqlite.specs.Held.{state}
+use Rattle.office_tables.specs.ShownHolds as shown
+use Rattle.office_history.specs.Histories.{hold_numbered}
+use Rattle.office_history.specs.Pictures.{hold_row}
+use Rattle.office_asking.proofs.Readings.{pictured_still}
+use Rattle.office_asking.proofs.HoldTold.{hold_read}
+use Rattle.office_holding.proofs.HoldAsked.{no_hold, release_asked}
+use Rattle.office_asking.proofs.InTurn.{clean_before, goes_twice}
+use Rattle.sql_meaning.proofs.Inside.{stays_then}
+use Rattle.sql_meaning.proofs.Results.{on_ok}
+use Rattle.office_holding.proofs.releasing.releasable_hold.Goals as goal
+
+pub returns-in_default-clause-asked : goal.returns-in_default-clause-asked
+returns-in_default-clause-asked g c clean h legal pictured =
+    let a = c.args in
+    let old = state g.S.Store a.tx.now.conn.now in
+    let new = state g.S.Store c.hold_row.new.tx.conn.now in
+    let read = hold_read h old.now pictured a.number c.in_ok-hold.field-0 (c.in_ok-hold.ensures.found clean pictured.office) in
+    let none : None ≡ option_map (hold_row h a.number) (hold_numbered h a.number) = search (rules, read) in
+    (pictured_still h old.now pictured new.now (c.in_ok-hold.ensures.same clean pictured.office), no_hold h a.number a.caller.now none)
+
+pub returns-clause-asked : goal.returns-clause-asked
+returns-clause-asked g c clean h legal pictured =
+    let a = c.args in
+    let old = state g.S.Store a.tx.now.conn.now in
+    let mid = state g.S.Store c.hold_row.new.tx.conn.now in
+    let early : HasCleanDisk mid = clean_before mid (state g.S.Store c.release_denial.new.tx.conn.now) c.release_denial.ensures.stays clean in
+    let read = hold_read h old.now pictured a.number c.in_ok-hold.field-0 (c.in_ok-hold.ensures.found early pictured.office) in
+    let still = pictured_still h old.now pictured mid.now (c.in_ok-hold.ensures.same early pictured.office) in
+    let row = c.in-Some.hold in
+    let some : Some row ≡ option_map (hold_row h a.number) (hold_numbered h a.number) = sym c.in-Some.is ∙ read in
+    let denied = c.in_ok-denied.ensures.denied clean h legal still in
+    let target = c.in_ok-target.target in
+    let deposit : shown.held_deposit target ≡ row.deposit = search rules in
+    let collection : shown.held_collection target ≡ row.collection = search rules in
+    IfOk-weaker c.unless_refused.result _ _ (λ found first. (denied.0, release_asked h a.number row some a.caller.now target c.in_ok-denied.denied found deposit collection denied.1 first)) c.unless_refused.ensures.first
+
+pub returns-in_err-denied-clause-stays : goal.returns-in_err-denied-clause-stays
+returns-in_err-denied-clause-stays g c = stays_then (state g.S.Store c.args.tx.now.conn.now) (state g.S.Store c.hold_row.new.tx.conn.now) (state g.S.Store c.release_denial.new.tx.conn.now) c.hold_row.ensures.stays c.in_ok-hold.ensures.goes_on c.release_denial.ensures.stays
+
+pub returns-clause-stays : goal.returns-clause-stays
+returns-clause-stays g c = stays_then (state g.S.Store c.args.tx.now.conn.now) (state g.S.Store c.hold_row.new.tx.conn.now) (state g.S.Store c.release_denial.new.tx.conn.now) c.hold_row.ensures.stays c.in_ok-hold.ensures.goes_on c.release_denial.ensures.stays
+
+pub returns-clause-goes_on : goal.returns-clause-goes_on
+returns-clause-goes_on g c clean =
+    let goes = goes_twice (state g.S.Store c.args.tx.now.conn.now) (state g.S.Store c.hold_row.new.tx.conn.now) (state g.S.Store c.release_denial.new.tx.conn.now) c.release_denial.ensures.stays c.in_ok-hold.ensures.goes_on c.in_ok-denied.ensures.goes_on clean in
+    on_ok c.unless_refused.result (λ _ _. goes) c.unless_refused.ensures.first

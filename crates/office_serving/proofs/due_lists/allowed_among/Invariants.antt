@@ -1,0 +1,26 @@
+use Rattle.std.proofs.Common.{◌≡◌, List, ℕ, pos, map, filter, take}
+use Rattle.sqlite.specs.State.{HasCleanDisk}
+use Rattle.sqlite.specs.Held.{state}
+use Rattle.sql_meaning.specs.Inside.{Stays, Stands}
+use Rattle.office_core.specs.declared.action.Action.TheVariants as acts
+use Rattle.office_rows.specs.Told.{PlaceRow}
+use Rattle.office_history.specs.Histories.{History}
+use Rattle.office_history.specs.Runs.{IsLegal}
+use Rattle.office_asking.specs.Asking.{IsAsker}
+use Rattle.office_asking.specs.Pictures.{Pictures}
+use Rattle.office_serving.specs.Allowances.{AreOf}
+use Rattle.office_serving.specs.Listing.{may_destroy}
+use Rattle.office_serving.proofs.due_lists.allowed_among.Given as goal
+
+abbrev pub invariant-loop-place : goal.invariant-loop-place
+invariant-loop-place g l =
+    let old = state g.S.Store l.fn.tx.conn.now in
+    let now = state g.S.Store l.tx.conn.now in
+    record {
+      same_reference : l.tx.conn.ghost_name ≡ l.fn.tx.conn.ghost_name;
+      stays : Stays old now;
+      goes_on : HasCleanDisk now → Stands old now;
+      told : HasCleanDisk now → (h : History) → IsLegal h → Pictures h old.now → Pictures h now.now
+          × ((caller : List ℕ) → IsAsker h caller l.asker → AreOf h caller acts.Dispose l.allowances
+          × (map pos l.numbers.items ≡ map (λ (p : PlaceRow). p.number) (filter (may_destroy h caller) (take l.place-index l.places))));
+    }

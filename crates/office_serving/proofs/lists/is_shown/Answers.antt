@@ -1,0 +1,24 @@
+use Rattle.std.proofs.Common.{rules, ◌≡◌, true, ◌&&◌, is_none, option_copied, ◌∙◌}
+use Rattle.std.proofs.lemmas.Result.{IfOk-weaker}
+use Rattle.office_core.specs.declared.action.Action.TheVariants as acts
+use Rattle.office_history.specs.Answers.{is_asked}
+use Rattle.office_serving.specs.Allowances.{is_allowed}
+use Rattle.office_serving.proofs.ShownTold.{rules_asked}
+use Rattle.office_serving.proofs.lists.is_shown.Goals as goal
+
+pub returns-clause-shown : goal.returns-clause-shown
+returns-clause-shown g c clean h legal pictured =
+    let a = c.args in
+    let row = a.row.now in
+    let collection = option_copied a.collection in
+    let class = option_copied a.class in
+    let of_collection : c.deref.result.now ≡ row.collection = search rules in
+    let of_class : c.deref-2.result.now ≡ row.class = search rules in
+    let wanted : true ≡ (is_none row.gone && (is_asked collection row.collection && is_asked class row.class)) = search rules in
+    IfOk-weaker c.allows.result _ _ (λ is says. (
+      says.0,
+      λ caller these.
+          let said = says.1 caller acts.List these in
+          (said.0, λ n found row_is. rules_asked h caller collection class n found row row_is wanted is (said.1 ∙ (λ i. is_allowed h caller acts.List (of_collection i) (of_class i)))),
+    ))
+    (c.allows.ensures.allowed clean h legal pictured)

@@ -1,0 +1,26 @@
+-- What the rules let a caller do with the deposits of a collection and a class, and what is known of it.
+use Rattle.std.specs.Prelude.{◌≡◌, ℕ, ◌&&◌, Bool, List, Some, IfSome, is_none, bytes_eq}
+use Rattle.std.specs.HashMap.{get}
+use denote.Ref.{Bor}
+use Rattle.office_core.specs.declared.action.Action.{Action}
+use Rattle.office_history.specs.Histories.{History}
+use Rattle.office_history.specs.Refusals.{denial}
+use Rattle.office_asking.specs.Asking.{IsAsker}
+use Rattle.office_serving.specs.declared.allowances.Allowances.{Allowances}
+
+-- a collection and a class
+abbrev pub Pair : Type 0
+Pair = Bor (List ℕ) × Bor (List ℕ)
+
+abbrev pub same_pair : Pair → Pair → Bool
+same_pair a b = bytes_eq a.0.now b.0.now && bytes_eq a.1.now b.1.now
+
+-- the rules let the caller do that with the deposits of this collection and this class
+abbrev pub is_allowed : History → List ℕ → Action → List ℕ → List ℕ → Bool
+is_allowed h caller action collection class = is_none (denial h caller action (Some collection) (Some class))
+
+-- they are those of this caller and this action, and what is known of a pair is what the rules say of it
+pub record AreOf (h : History) (caller : List ℕ) (action : Action) (these : Allowances) : Type 0 where
+  pub asker : IsAsker h caller these.asker.now
+  pub action_is : these.action ≡ action
+  pub right : (pair : Pair) → IfSome (get same_pair these.known pair) (λ is. is ≡ is_allowed h caller action pair.0.now pair.1.now)

@@ -1,0 +1,68 @@
+//! What the rules let a caller do with the deposits of a collection and a class, asked once for each
+//! pair that comes up.
+
+ghost use Rattle.std.specs.Prelude.{◌≡◌, IfErr, List, ℕ};
+ghost use Rattle.office_core.specs.declared.action.Action.{Action};
+ghost use Rattle.office_tables.specs.Faults.{IsFailure};
+ghost use Rattle.office_tables.specs.Calls.{CommitsNothing, ContinuesInTurn};
+ghost use Rattle.office_history.specs.Histories.{History};
+ghost use Rattle.office_asking.specs.Asking.{IsAsker};
+ghost use Rattle.office_asking.specs.Serving.{Finds};
+ghost use Rattle.office_serving.specs.Allowances.{AreOf, is_allowed};
+
+use office_asking::Asker;
+use office_core::Action;
+use office_tables::TableFault;
+use sqlite::{Alter, Transaction};
+use std::alloc::Global;
+use std::collections::HashMap;
+
+/// What a caller may do with deposits, by the pairs of collection and class of which the rules were
+/// asked. The texts of a pair are lent by the rows.
+#[derive(Drop)]
+pub struct Allowances<'a> {
+    asker: &'a Asker,
+    action: Action,
+    known: HashMap<(&'a str, &'a str), bool>,
+}
+
+impl<'a> Allowances<'a> {
+    /// Those of a caller and an action, of no pair yet.
+    pub fn new(alloc: Global, asker: &'a Asker, action: Action) -> Allowances<'a>
+        ensures { (h : History) (caller : List ℕ) → IsAsker h caller asker.now → AreOf h caller action result }
+    {
+        Allowances {
+            asker,
+            action,
+            known: HashMap::new(alloc),
+        }
+    }
+
+    /// Whether the rules let the caller do that with the deposits of this collection and this class.
+    ///
+    /// Fails with `Memory` or `Store`.
+    pub fn allows<S: Alter>(
+        &mut self,
+        tx: &mut Transaction<'_, S>,
+        collection: &'a str,
+        class: &'a str,
+    ) -> Result<bool, TableFault>
+        ensures same_reference { tx.new.conn.ghost_name ≡ tx.old.conn.ghost_name }
+        ensures stays { CommitsNothing S.Store tx.old.conn.now tx.new.conn.now }
+        ensures goes_on { ContinuesInTurn S.Store tx.old.conn.now tx.new.conn.now result }
+        ensures failure { IfErr result IsFailure }
+        ensures allowed { Finds S.Store tx.old.conn.now tx.new.conn.now result (λ h is.
+            (caller : List ℕ) (action : Action) → AreOf h caller action self.old
+            → AreOf h caller action self.new × (is ≡ is_allowed h caller action collection.now class.now)) }
+    {
+        if let Some(is) = self.known.get(&(collection, class)).copied() {
+            return Ok(is);
+        }
+        let denied = self
+            .asker
+            .denial(tx, self.action, Some(collection), Some(class))?;
+        let is = denied.is_none();
+        self.known.insert((collection, class), is)?;
+        Ok(is)
+    }
+}

@@ -1,0 +1,72 @@
+//! The stock of an office: the contents that it keeps, each once.
+
+ghost use Rattle.std.specs.Prelude.{◌≡◌, ℕ, List, IfErr, IfSome, map, pos, sum};
+ghost use Rattle.office_tables.specs.Faults.{IsFailure};
+ghost use Rattle.office_tables.specs.Calls.{CommitsNothing, Continues};
+ghost use Rattle.office_history.specs.Stocks.{stock};
+ghost use Rattle.office_asking.specs.Serving.{Finds};
+
+use office_tables::laws::contents_are_those_of_files;
+use office_tables::{ContentSize, TableFault, contents};
+use sqlite::{Alter, Transaction};
+use std::alloc::Global;
+use std::marker::Model;
+
+/// What an office keeps: the different contents of the files of its kept deposits.
+#[derive(Clone, Copy, Debug, PartialEq, Eq)]
+pub struct Stock {
+    /// How many there are.
+    pub contents: usize,
+    /// How many bytes they have together.
+    pub bytes: usize,
+}
+
+impl Model for Stock {
+    ghost use Rattle.std.specs.Prelude.{ℕ, refl};
+    ghost use Rattle.std.specs.Coded.{code_by, coded×, coded_ℕ};
+    ghost use Rattle.office_history.specs.Stocks.{Stock as Kept};
+
+    ghost Value = { Kept };
+
+    ghost coded = { code_by (ℕ × ℕ) (coded× coded_ℕ coded_ℕ) (λ (s : Kept). (s.contents, s.bytes)) (λ p. record { contents = p.0; bytes = p.1 }) (λ _. refl) };
+
+    ghost view = { λ s. record { contents = s.contents; bytes = s.bytes } };
+
+    ghost inverse = { λ s. record { contents = s.contents; bytes = s.bytes } };
+}
+
+/// How many bytes the contents have together, where memory could hold as many.
+fn total_of(sizes: &[ContentSize]) -> Option<usize>
+    ensures { IfSome result (λ bytes. (parts : List ℕ) × (map (λ s. s.size) sizes.now ≡ map pos parts) × (bytes ≡ sum parts)) }
+{
+    let mut bytes: usize = 0;
+    for size in sizes {
+        let Ok(more) = usize::try_from(size.size) else {
+            return None;
+        };
+        bytes = bytes.checked_add(more)?;
+    }
+    Some(bytes)
+}
+
+/// The stock of the office, by the sizes of the contents that its tables hold.
+///
+/// Fails with `Memory` or `Store`.
+pub fn stock_of<S: Alter>(alloc: Global, tx: &mut Transaction<'_, S>) -> Result<Stock, TableFault>
+    ensures same_reference { tx.new.conn.ghost_name ≡ tx.old.conn.ghost_name }
+    ensures stays { CommitsNothing S.Store tx.old.conn.now tx.new.conn.now }
+    ensures goes_on { Continues S.Store tx.old.conn.now tx.new.conn.now result }
+    ensures failure { IfErr result IsFailure }
+    ensures stock { Finds S.Store tx.old.conn.now tx.new.conn.now result (λ h found. found ≡ stock h) }
+{
+    // Where contents are kept once, they are those of the files.
+    contents_are_those_of_files();
+    let sizes = contents(alloc, tx)?;
+    match total_of(&sizes) {
+        Some(bytes) => Ok(Stock {
+            contents: sizes.len(),
+            bytes,
+        }),
+        None => Err(TableFault::Store),
+    }
+}

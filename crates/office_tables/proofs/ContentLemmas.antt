@@ -1,0 +1,568 @@
+-- What the statements on contents do to the rows of an office.
+use Rattle.std.proofs.Common.{arith, ◌≡◌, ◌&&◌, ◌||◌, ◌⊎◌, ◌==◌, ap₂, not, bytes_eq, ℕ, ℤ, pos, ◌+ℤ◌, List, [], ◌∷◌, ◌++◌, map, filter, fold, length, slice_get, option_map, unwrap_or, codes, Bool, true, false, Option, None, Some, Ok, refl, sym, ap, subst, subst₂, ◌∙◌, inl, inr}
+use Rattle.std.specs.List.{AllByRecursion, IsDistinct, list_any}
+use Rattle.std.proofs.lemmas.Slice.Eq.{bytes_eq-Decides}
+use Rattle.sha2.specs.Sha256.{sha256}
+use Rattle.std.specs.Ordering.{int_eq}
+use Rattle.std.proofs.lemmas.List.{map-append}
+use Rattle.std.proofs.lemmas.Option.{same_Some}
+use Rattle.std.proofs.Math.Bool.{and-true}
+use Rattle.std.proofs.lemmas.Bool.{cases_Bool, and_parts, or_parts}
+use Rattle.std.proofs.lemmas.Bool.Decides.{nat_tests}
+use Rattle.sqlite.specs.declared.types.Value.TheVariants.{Null, Int, Blob}
+use Rattle.sqlite.specs.Order.{Row, column}
+use Rattle.sqlite.specs.Edit.{Edit, edit_of, id_in}
+use Rattle.sqlite.specs.Rowids.TheVariants.{Chosen, Given}
+use Rattle.sqlite.specs.Cast.{cast_row}
+use Rattle.sqlite.specs.Kind.TheVariants as kind
+use Rattle.sqlite.specs.Ops.{binary, is_true, is_null}
+use Rattle.sqlite.specs.Collation.TheVariants.{Binary}
+use Rattle.sqlite.specs.Tree.{rowid}
+use Rattle.sqlite.specs.Effect.{Database}
+use Rattle.sqlite.specs.State.{State, Shown, Executes}
+use Rattle.sqlite_sql.specs.declared.ops.BinaryOp.TheVariants.{Compare}
+use Rattle.sqlite_sql.specs.declared.ops.CompareOp.TheVariants.{Eq}
+use Rattle.sqlite_value.specs.Keys.{first_key, plain, joined}
+use Rattle.sqlite_keyed.proofs.ListLemmas.{ascending_weaker, map-map, filter-map}
+use Rattle.sqlite_keyed.proofs.KeyedLemmas.{same_int as same_number}
+use Rattle.sqlite_catalog.proofs.ListFacts.{filter_all}
+use Rattle.sqlite_rules.specs.Lists.{Has}
+use Rattle.sqlite_rules.specs.Calls.{ids_of}
+use Rattle.sqlite_rules.proofs.ListLemmas.{all_has, all_from, has_filtered, has_kept, some_has, some_from}
+use Rattle.sqlite_rules.proofs.ProbeLemmas.{has_mapped, mapped_has}
+use Rattle.sqlite_rules.proofs.TableLemmas.{int_is}
+use Rattle.sqlite_schema.specs.declared.schema.Constraint.TheVariants.{Datatype, NotNull, ForeignKey}
+use Rattle.sqlite_schema.specs.Names.{same_name}
+use Rattle.sqlite_schema.specs.Rules.{agree, has_null}
+use Rattle.sqlite_trees.specs.View.{IsShaped}
+use Rattle.sqlite_trees.specs.declared.store.Shape.TheVariants as shape
+use Rattle.sql_meaning.specs.Columns.{int_at, bytes_at}
+use Rattle.sql_meaning.proofs.Writing.{Changes, inserts}
+use Rattle.sql_meaning.proofs.Scanning.{passes, shown_of, answer_sound, answer_complete}
+use Rattle.sql_meaning.proofs.Reading.{reads_same, reads_one, reads_scan, reads_rising, finds_part}
+use Rattle.sql_meaning.proofs.Limited.{reads_some}
+use Rattle.sql_meaning.proofs.Keys.{found_by, int_itself, same_int, same_blob}
+use Rattle.sql_meaning.proofs.RowidKeys.{by_number, has_number, each_numbered, few_numbered, one_numbered, rising}
+use Rattle.sql_meaning.proofs.Typed.{int_in, blob_at, all_both}
+use Rattle.sql_meaning.proofs.Edits.{appended, cast_null, cast_int, map_alike}
+use Rattle.sql_meaning.proofs.Whole.{keeps_rule}
+use Rattle.sql_meaning.proofs.Changing.{drops}
+use Rattle.office_tables.specs.Schema.{office_schema, content_table, file_table, needed}
+use Rattle.office_rows.specs.Rows.{FileRow, ContentRow, is_content, content_numbered, bytes_under, is_alike, next_id, last_number, with_content, with_file, file_at, Tables}
+use Rattle.office_tables.specs.Tables.{IsOffice, tables_of, contents_of, content_in, file_in}
+use Rattle.office_tables.specs.Contents.{references_of, StandOnce, IsMarked, AreUsed, KeepsOnce, KeepsFiles, content_after, IsContentAdded, IsContentThere, IsNewContent, IsContentKept, IsFileAdded, IsMarkedPut, AreFilesDropped, AreUsedOr, IsTidied}
+use Rattle.office_tables.proofs.Frames.{idle, becomes, with_edit, contents_after, references_after, file_rows_after}
+use Rattle.office_tables.proofs.LastRow.{reads_last}
+use Rattle.office_tables.proofs.ContentTexts.{bytes_text, bytes_column, asks_bytes, by_likeness, alike_text, id_column, asks_alike, last_text, asks_last, contents_text, size_columns, asks_contents, by_content, users_text, deposit_column, asks_users, add_text, add_terms, add_means, remove_text, remove_means}
+
+-- a stored content, as the rules of its table leave it
+abbrev IsContentRow : Row → Type 0
+IsContentRow r = (column r 2 ≡ Blob (bytes_at r 2)) × (column r 3 ≡ Int (int_at r 3)) × (column r 4 ≡ Blob (bytes_at r 4))
+
+content_rows : (db : Database) → IsOffice db → AllByRecursion IsContentRow (db.trees 13)
+content_rows db office = all_both (λ r t p. (
+  blob_at office_schema db.trees content_table r t p 1 (needed (codes "mark") kind.Blob) refl refl refl refl refl,
+  int_in office_schema db.trees content_table r t p 2 (needed (codes "size") kind.Integer) refl refl refl refl refl,
+  blob_at office_schema db.trees content_table r t p 3 (needed (codes "bytes") kind.Blob) refl refl refl refl refl,
+)) (db.trees 13) (keeps_rule office Datatype).1.1.1.1.1.1.1.1.0 (keeps_rule office NotNull).1.1.1.1.1.1.1.1.0
+
+-- the reference of a stored file
+pub file_references : (db : Database) → IsOffice db → AllByRecursion (λ r. column r 3 ≡ Int (int_at r 3)) (db.trees 10)
+file_references db office = all_both (λ r t p. int_in office_schema db.trees file_table r t p 2 (needed (codes "content") kind.Integer) refl refl refl refl refl)
+    (db.trees 10) (keeps_rule office Datatype).1.1.1.1.1.1.0 (keeps_rule office NotNull).1.1.1.1.1.1.0
+
+-- ---- the content of a number
+
+module _ (db : Database) (office : IsOffice db) where
+  abbrev stored : List Row
+  stored = db.trees 13
+
+  shaped : IsShaped shape.Table stored
+  shaped = office.shaped.1.1.1.1.1.1.1.1.0
+
+  -- the content that has a number is the one of that number
+  pub row_numbered : (n : ℤ) (r : Row) → Has stored r → has_number n r ≡ true → content_numbered n (contents_of db) ≡ Some (content_in r)
+  row_numbered n r there is =
+      let first = found_by (is_content n) (has_number n) content_in stored (all_from _ stored (λ r there. refl)) in
+      elim (few_numbered n stored shaped) [
+        | inl none ↦ absurd (subst (λ rs. Has rs r) none (has_kept (has_number n) stored r there is))
+        | inr (other, kept, passes, only) ↦ first ∙ ap (λ rs. option_map content_in (slice_get rs 0)) only ∙ ap (λ x. Some (content_in x)) (one_numbered stored shaped n other r kept there passes is)
+      ]
+
+  pub content_there : (c : ContentRow) → Has (contents_of db) c → content_numbered c.id (contents_of db) ≡ Some c
+  content_there c there =
+      let it = has_mapped content_in stored c there in
+      let number : has_number c.id it.0 ≡ true = subst (λ (d : ContentRow). has_number d.id it.0 ≡ true) (sym it.2) (int_itself (int_at it.0 0)) in
+      row_numbered c.id it.0 it.1 number ∙ ap Some (sym it.2)
+
+  -- the parent of a file is there
+  abbrev parents : Row → Bool
+  parents row = list_any (λ parent. agree plain (0 ∷ []) parent (3 ∷ []) row) stored
+
+  held : (row : Row) → Has (db.trees 10) row → parents row ≡ true
+  unfolding joined same_name
+  held row there =
+      let each = all_has _ (db.trees 10) row (keeps_rule office ForeignKey).1.1.1.1.1.1.0 there in
+      let typed : column row 3 ≡ Int (int_at row 3) = all_has _ (db.trees 10) row (file_references db office) there in
+      let one : (has_null (3 ∷ []) row || parents row) && true ≡ true = each in
+      let either : has_null (3 ∷ []) row || parents row ≡ true = (and_parts _ _ one).0 in
+      let filled : has_null (3 ∷ []) row ≡ false = ap (λ v. is_null v || false) typed in
+      rw filled at either
+
+  parent_is : (row parent : Row) → column row 3 ≡ Int (int_at row 3) → Has stored parent → agree plain (0 ∷ []) parent (3 ∷ []) row ≡ has_number (int_at row 3) parent
+  unfolding first_key
+  parent_is row parent names there =
+      and-true _ ∙ ap₂ (λ a b. is_true (binary (Compare Eq Binary) a b)) (int_is (rowid parent) (all_has _ stored parent shaped.1 there)) names ∙ same_int (int_at parent 0) (int_at row 3)
+
+  pub parent_of : (row : Row) → Has (db.trees 10) row → (p : Row) × Has stored p × (has_number (int_at row 3) p ≡ true)
+  parent_of row there =
+      let it = some_has (λ parent. agree plain (0 ∷ []) parent (3 ∷ []) row) stored (held row there) in
+      let names : column row 3 ≡ Int (int_at row 3) = all_has _ (db.trees 10) row (file_references db office) there in
+      (it.0, it.1, sym (parent_is row it.0 names it.1) ∙ it.2)
+
+  -- the content of a file is there
+  pub fetched : (row : Row) → Has (db.trees 10) row → (c : ContentRow) × (content_numbered (int_at row 3) (contents_of db) ≡ Some c) × Has (contents_of db) c
+  fetched row there =
+      let p = parent_of row there in
+      (content_in p.0, row_numbered (int_at row 3) p.0 p.1 p.2, mapped_has content_in stored p.0 p.1)
+
+-- ---- finding among more or fewer contents
+
+found_before : (n : ℤ) (cs more : List ContentRow) (c : ContentRow) → content_numbered n cs ≡ Some c → content_numbered n (cs ++ more) ≡ Some c
+found_before n [] more c is = absurd cc
+found_before n (d ∷ cs) more c is = elim (cases_Bool (is_content n d)) [
+  | inl here ↦ rw here (rw here at is)
+  | inr isnt ↦ rw isnt (found_before n cs more c (rw isnt at is))
+]
+
+found_kept : (n : ℤ) (keep : ContentRow → Bool) (cs : List ContentRow) → ((c : ContentRow) → is_content n c ≡ true → keep c ≡ true) → content_numbered n (filter keep cs) ≡ content_numbered n cs
+found_kept n keep [] all = refl
+found_kept n keep (c ∷ cs) all = elim (cases_Bool (is_content n c)) [
+  | inl here ↦ let kept : keep c ≡ true = all c here in rw (kept, here) refl
+  | inr isnt ↦ elim (cases_Bool (keep c)) [
+    | inl kept ↦ rw (kept, isnt) (found_kept n keep cs all)
+    | inr left ↦ rw (left, isnt) (found_kept n keep cs all)
+  ]
+]
+
+-- files whose contents are found alike are alike
+same_files : (cs ds : List ContentRow) (rows : List Row) → ((r : Row) → Has rows r → content_numbered (int_at r 3) cs ≡ content_numbered (int_at r 3) ds) → map (file_in cs) rows ≡ map (file_in ds) rows
+same_files cs ds rows alike = map_alike (file_in cs) (file_in ds) rows (λ r there. ap (λ (o : Option ContentRow). record { deposit = int_at r 1; path = bytes_at r 2; content = unwrap_or (option_map (λ c. c.bytes) o) [] }) (alike r there))
+
+-- ---- reads
+
+pub finds_bytes : (old new : State) (id : ℤ) (rows : List Row) → IsOffice old.now → Shown bytes_text (Int id ∷ []) old new rows
+    → (new.now ≡ old.now) × (option_map (λ (c : ContentRow). c.bytes) (content_numbered id (contents_of old.now)) ≡ option_map (λ row. bytes_at row 0) (slice_get rows 0))
+finds_bytes old new id rows office h =
+    let params : Row = Int id ∷ [] in
+    let stored = old.now.trees 13 in
+    let shaped = office.shaped.1.1.1.1.1.1.1.1.0 in
+    let is = reads_one office_schema bytes_text 13 by_number bytes_column [] asks_bytes params old new office.schema_is rows h (has_number id) (each_numbered id [] stored shaped) (few_numbered id stored shaped) in (
+      reads_same office_schema bytes_text 13 by_number bytes_column [] asks_bytes params old new office.schema_is rows h,
+      finds_part stored rows (has_number id) (shown_of params bytes_column) content_in (is_content id) (λ r. refl) is (λ (c : ContentRow). c.bytes) (λ row. bytes_at row 0) (λ r. refl),
+    )
+
+abbrev is_like : List ℕ → List ℕ → Row → Bool
+is_like mark bytes r = bytes_eq (bytes_at r 2) mark && bytes_eq (bytes_at r 4) bytes
+
+passes_likeness : (mark bytes : List ℕ) (r : Row) → IsContentRow r → passes (Blob mark ∷ Blob bytes ∷ []) by_likeness r ≡ is_like mark bytes r
+passes_likeness mark bytes r it = ap₂ ◌&&◌
+    (ap (λ v. is_true (binary (Compare Eq Binary) v (Blob mark))) it.0 ∙ same_blob (bytes_at r 2) mark)
+    (and-true _ ∙ ap (λ v. is_true (binary (Compare Eq Binary) v (Blob bytes))) it.2 ∙ same_blob (bytes_at r 4) bytes)
+
+each_like : (db : Database) → IsOffice db → (mark bytes : List ℕ) → AllByRecursion (λ r. passes (Blob mark ∷ Blob bytes ∷ []) by_likeness r ≡ is_like mark bytes r) (db.trees 13)
+each_like db office mark bytes = all_from _ (db.trees 13) (λ r there. passes_likeness mark bytes r (all_has IsContentRow (db.trees 13) r (content_rows db office) there))
+
+-- the number that a row shows is that of a content with the mark and the bytes
+pub finds_alike : (old new : State) (mark bytes : List ℕ) (rows : List Row) → IsOffice old.now → Shown alike_text (Blob mark ∷ Blob bytes ∷ []) old new rows
+    → (new.now ≡ old.now) × (rows ≡ [] → list_any (is_alike mark bytes) (contents_of old.now) ≡ false)
+    × ((x : Row) → slice_get rows 0 ≡ Some x → (c : ContentRow) × Has (contents_of old.now) c × (int_at x 0 ≡ c.id) × (is_alike mark bytes c ≡ true))
+finds_alike old new mark bytes rows office h =
+    let params : Row = Blob mark ∷ Blob bytes ∷ [] in
+    let db = old.now.trees in
+    let each = each_like old.now office mark bytes in
+    let found = reads_scan office_schema alike_text 13 by_likeness id_column [] asks_alike params old new office.schema_is rows h in (
+      reads_same office_schema alike_text 13 by_likeness id_column [] asks_alike params old new office.schema_is rows h,
+      λ none. elim (cases_Bool (list_any (is_alike mark bytes) (contents_of old.now))) [
+        | inl some ↦ absurd (
+            let c = some_has (is_alike mark bytes) (contents_of old.now) some in
+            let r = has_mapped content_in (db 13) c.0 c.1 in
+            let keeps : is_like mark bytes r.0 ≡ true = ap (is_alike mark bytes) (sym r.2) ∙ c.2 in
+            let x = answer_complete db params 13 by_likeness id_column [] rows (is_like mark bytes) found each r.0 r.1 keeps in
+            subst (λ rs. Has rs (shown_of params id_column r.0)) none x)
+        | inr isnt ↦ isnt
+      ],
+      λ x first.
+          let r = answer_sound db params 13 by_likeness id_column [] rows (is_like mark bytes) found each x (first_has rows x first) in
+          (content_in r.0, mapped_has content_in (db 13) r.0 r.1, ap (λ row. int_at row 0) r.3, r.2),
+    )
+  where
+    first_has : (rs : List Row) (x : Row) → slice_get rs 0 ≡ Some x → Has rs x
+    first_has [] x is = absurd cc
+    first_has (r ∷ rs) x is = let same : r ≡ x = cc in inl (sym same)
+
+pub finds_last : (old new : State) (rows : List Row) → IsOffice old.now → Shown last_text [] old new rows
+    → (new.now ≡ old.now) × (last_number (λ (c : ContentRow). c.id) (contents_of old.now) ≡ option_map (λ row. int_at row 0) (slice_get rows 0))
+finds_last old new rows office h = reads_last 13 content_in (λ (c : ContentRow). c.id) (λ r. refl) office_schema last_text asks_last old new office.schema_is office.shaped.1.1.1.1.1.1.1.1.0.0 rows h
+
+abbrev shown_size : Row → ℤ × ℤ
+shown_size row = (int_at row 0, int_at row 1)
+
+pub lists_contents : (old new : State) (rows : List Row) → IsOffice old.now → Shown contents_text [] old new rows
+    → (new.now ≡ old.now) × (map (λ (c : ContentRow). (c.id, c.size)) (contents_of old.now) ≡ map shown_size rows)
+lists_contents old new rows office h =
+    let stored = old.now.trees 13 in
+    let up = ascending_weaker _ _ (λ a b lower. rw lower refl) stored office.shaped.1.1.1.1.1.1.1.1.0.0 in
+    let is = reads_rising office_schema contents_text 13 [] size_columns rising asks_contents [] old new office.schema_is rows h (λ r. true) (all_from _ stored (λ r there. refl)) up in
+    let whole : rows ≡ map (shown_of [] size_columns) stored = is ∙ ap (map (shown_of [] size_columns)) (filter_all (λ r. true) stored (λ r there. refl)) in
+    let shows : map shown_size (map (shown_of [] size_columns) stored) ≡ map (λ r. (int_at r 0, int_at r 3)) stored = map-map shown_size (shown_of [] size_columns) stored in
+    let typed : map (λ (c : ContentRow). (c.id, c.size)) (map content_in stored) ≡ map (λ r. (int_at r 0, int_at r 3)) stored = map-map (λ (c : ContentRow). (c.id, c.size)) content_in stored in (
+      reads_same office_schema contents_text 13 [] size_columns rising asks_contents [] old new office.schema_is rows h,
+      typed ∙ sym shows ∙ sym (ap (map shown_size) whole),
+    )
+
+abbrev refers_to : ℤ → Row → Bool
+refers_to id r = int_eq (int_at r 3) id
+
+passes_content : (id : ℤ) (r : Row) → column r 3 ≡ Int (int_at r 3) → passes (Int id ∷ []) by_content r ≡ refers_to id r
+passes_content id r it = and-true _ ∙ ap (λ v. is_true (binary (Compare Eq Binary) v (Int id))) it ∙ same_int (int_at r 3) id
+
+-- a row stands exactly where some file has the content of that number
+pub finds_users : (old new : State) (id : ℤ) (rows : List Row) → IsOffice old.now → Shown users_text (Int id ∷ []) old new rows
+    → (new.now ≡ old.now) × (list_any (refers_to id) (old.now.trees 10) ≡ list_any (λ r. true) rows)
+finds_users old new id rows office h =
+    reads_some office_schema users_text 10 by_content deposit_column asks_users (Int id ∷ []) old new office.schema_is rows h (refers_to id)
+    (all_from _ (old.now.trees 10) (λ r there. passes_content id r (all_has _ (old.now.trees 10) r (file_references old.now office) there)))
+
+-- ---- one content more
+
+next_is : (rows : List Row) (n : ℤ) → fold (λ _ r. id_in (rowid r) +ℤ pos 1) n rows ≡ fold (λ _ (c : ContentRow). c.id +ℤ pos 1) n (map content_in rows)
+next_is [] n = refl
+next_is (r ∷ rows) n = next_is rows (id_in (rowid r) +ℤ pos 1)
+
+module _ (old new : State) (mark bytes : List ℕ) (count : ℕ) (office : IsOffice old.now) (h : Executes add_text (Blob mark ∷ Int (pos (length bytes)) ∷ Blob bytes ∷ []) old new (Ok count)) where
+  abbrev added_params : Row
+  added_params = Blob mark ∷ Int (pos (length bytes)) ∷ Blob bytes ∷ []
+
+  abbrev added_columns : Row
+  added_columns = Null ∷ added_params
+
+  abbrev added_edit : Edit
+  added_edit = edit_of old.now.trees content_table [] Chosen 0 ((Null ∷ added_columns) ∷ [])
+
+  added_change : Changes office_schema old new added_edit count added_edit.news
+  added_change = inserts add_text added_params old new office_schema office.schema_is 8 content_table refl idle add_terms 5 add_means refl refl count h
+
+  added_cast : cast_row content_table (Null ∷ added_columns) ≡ Null ∷ added_columns
+  added_cast = rw (cast_null, cast_int (pos (length bytes))) refl
+
+  abbrev added_content : ContentRow
+  added_content = record { id = next_id (contents_of old.now); mark = mark; size = pos (length bytes); bytes = bytes }
+
+  -- the contents are one more
+  added_at_end : contents_of (with_edit added_edit old.now) ≡ contents_of old.now ++ added_content ∷ []
+  added_at_end =
+      ap (map content_in) (appended old.now.trees content_table (Null ∷ added_columns) added_columns office.shaped.1.1.1.1.1.1.1.1.0 added_cast) ∙ map-append content_in (old.now.trees 13) _
+      ∙ ap (λ n. contents_of old.now ++ record { id = n; mark = mark; size = pos (length bytes); bytes = bytes } ∷ []) (next_is (old.now.trees 13) (pos 1))
+
+  pub adds_content : IsContentAdded mark bytes old.now new.now
+  adds_content =
+      let rows = old.now.trees 10 in
+      let cs = contents_of old.now in
+      let files : map (file_in (contents_of (with_edit added_edit old.now))) rows ≡ map (file_in cs) rows =
+      ap (λ all. map (file_in all) rows) added_at_end ∙ same_files (cs ++ added_content ∷ []) cs rows (λ r there. let it = fetched old.now office r there in found_before (int_at r 3) cs (added_content ∷ []) it.0 it.1 ∙ sym it.1) in
+      record {
+        keeps = record {
+          becomes = becomes old new added_edit count added_edit.news office.shaped added_change _ (ap (λ (fs : List FileRow). record (tables_of old.now) { files = fs }) files);
+          references = references_after old new added_edit count added_edit.news added_change;
+        };
+        contents = contents_after old new added_edit count added_edit.news added_change ∙ added_at_end;
+      }
+
+-- ---- one content less
+
+id_found : (n : ℤ) (cs : List ContentRow) (c : ContentRow) → content_numbered n cs ≡ Some c → c.id ≡ n
+id_found n [] c is = absurd cc
+id_found n (d ∷ cs) c is = elim (cases_Bool (is_content n d)) [
+  | inl here ↦ let same : d ≡ c = let e : Some d ≡ Some c = rw here at is in cc in ap (λ (x : ContentRow). x.id) (sym same) ∙ same_number d.id n here
+  | inr isnt ↦ id_found n cs c (rw isnt at is)
+]
+
+pub removes_content : (old new : State) (id : ℤ) (count : ℕ) → IsOffice old.now → Executes remove_text (Int id ∷ []) old new (Ok count)
+    → KeepsFiles old.now new.now × (contents_of new.now ≡ filter (λ c. not (is_content id c)) (contents_of old.now))
+removes_content old new id count office h =
+    let db = old.now.trees in
+    let shaped = office.shaped.1.1.1.1.1.1.1.1.0 in
+    let done = drops remove_text (Int id ∷ []) old new office_schema office.schema_is 8 content_table refl idle shaped by_number id_column
+    (has_number id) (each_numbered id [] (db 13) shaped) remove_means (λ r. refl) count h in
+    let edit = edit_of db content_table (ids_of done.answer) Given 0 [] in
+    let cs = contents_of old.now in
+    let fewer : contents_of (with_edit edit old.now) ≡ filter (λ c. not (is_content id c)) cs = ap (map content_in) done.made ∙ sym (filter-map (λ c. not (is_content id c)) content_in (db 13)) in
+    let contents = contents_after old new edit count _ done.change ∙ fewer in
+    let references = references_after old new edit count _ done.change in
+    let whole = becomes old new edit count _ office.shaped done.change _ refl in
+    let rows : new.now.trees 10 ≡ db 10 = file_rows_after old new edit count _ done.change in
+    let files : map (file_in (contents_of (with_edit edit old.now))) (db 10) ≡ map (file_in cs) (db 10) =
+    ap (λ all. map (file_in all) (db 10)) fewer ∙ same_files (filter (λ c. not (is_content id c)) cs) cs (db 10)
+    (λ r there. found_kept (int_at r 3) (λ c. not (is_content id c)) cs (stays new.now whole.office contents r (subst (λ rs. Has rs r) (sym rows) there))) in (
+      record {
+        becomes = becomes old new edit count _ office.shaped done.change _ (ap (λ (fs : List FileRow). record (tables_of old.now) { files = fs }) files);
+        references = references;
+      },
+      contents,
+    )
+  where
+    -- no file refers to what was taken out
+    stays : (after : Database) → IsOffice after → contents_of after ≡ filter (λ c. not (is_content id c)) (contents_of old.now) → (r : Row) → Has (after.trees 10) r
+        → (c : ContentRow) → is_content (int_at r 3) c ≡ true → not (is_content id c) ≡ true
+    stays after whole is r there c same =
+        let it = fetched after whole r there in
+        let within = has_filtered (λ c. not (is_content id c)) (contents_of old.now) it.0 (subst (λ cs. Has cs it.0) is it.2) in
+        let numbered : it.0.id ≡ int_at r 3 = id_found (int_at r 3) (contents_of after) it.0 it.1 in
+        let same_id : c.id ≡ int_at r 3 = same_number c.id (int_at r 3) same in
+        ap (λ n. not (int_eq n id)) (same_id ∙ sym numbered) ∙ within.1
+
+-- ---- what the calls in turn say
+
+-- a row that shows a content with the mark and the bytes
+pub found_alike : (mark bytes : List ℕ) (db : Database) → IsOffice db → (x : Row) → (c : ContentRow) → Has (contents_of db) c → int_at x 0 ≡ c.id → is_alike mark bytes c ≡ true → IsContentThere mark bytes (int_at x 0) db
+found_alike mark bytes db office x c there is alike = record { content = c; there = there; numbered = ap (λ n. content_numbered n (contents_of db)) is ∙ content_there db office c there; alike = alike }
+
+last_is : (cs : List ContentRow) (c : ContentRow) → last_number (λ (d : ContentRow). d.id) (cs ++ c ∷ []) ≡ Some c.id
+last_is [] c = refl
+last_is (d ∷ cs) c = rw (last_is cs c) refl
+
+-- the number that is shown last is that of the content that came
+pub is_new_content : (mark bytes : List ℕ) (old mid new : Database) (id : ℤ) → IsContentAdded mark bytes old mid → new ≡ mid
+    → last_number (λ (c : ContentRow). c.id) (contents_of mid) ≡ Some id → IsNewContent mark bytes id old new
+is_new_content mark bytes old mid new id added same last =
+    let shown : Some (next_id (contents_of old)) ≡ Some id =
+    sym (last_is (contents_of old) (content_after (contents_of old) mark bytes)) ∙ sym (ap (last_number (λ (c : ContentRow). c.id)) added.contents) ∙ last in
+    subst (λ db. IsNewContent mark bytes id old db) (sym same) (record { keeps = added.keeps; numbered = sym (same_Some _ _ shown); contents = added.contents })
+
+pub any_is : (xs : List Row) → list_any (λ (r : Row). true) xs ≡ not (length xs == 0)
+any_is [] = refl
+any_is (x ∷ xs) = elim (cases_Bool (length (x ∷ xs) == 0)) [
+  | inl is ↦ absurd (let none : length (x ∷ xs) ≡ 0 = grind (arith, nat_tests) in omega arith)
+  | inr isnt ↦ sym (ap not isnt)
+]
+
+pub all_push : {X : Type 0} (P : X → Type 0) (xs : List X) (x : X) → AllByRecursion P xs → P x → AllByRecursion P (xs ++ x ∷ [])
+all_push P [] x all here = (here, tt)
+all_push P (y ∷ xs) x all here = (all.0, all_push P xs x all.1 here)
+
+pub has_pushed : {X : Type 0} (xs : List X) (x : X) → Has (xs ++ x ∷ []) x
+has_pushed [] x = inl refl
+has_pushed (y ∷ xs) x = inr (has_pushed xs x)
+
+pub has_before : {X : Type 0} (xs : List X) (x y : X) → Has xs y → Has (xs ++ x ∷ []) y
+has_before [] x y there = absurd there
+has_before (z ∷ xs) x y (inl same) = inl same
+has_before (z ∷ xs) x y (inr more) = inr (has_before xs x y more)
+
+with_bytes : (n : ℤ) (path : List ℕ) (b c : List ℕ) (s t : Tables) → b ≡ c → s ≡ t → with_file (record { deposit = n; path = path; content = b }) s ≡ with_file (record { deposit = n; path = path; content = c }) t
+with_bytes n path b c s t same tables = rw (same, tables) refl
+
+-- each content is some file's, by place
+abbrev AreHeld : List ℤ → List ContentRow → Type 0
+AreHeld refs = AllByRecursion (λ c. Has refs c.id)
+
+pub used_held : (refs : List ℤ) (cs : List ContentRow) → AreUsed refs cs → AreHeld refs cs
+used_held refs [] used = tt
+used_held refs (c ∷ cs) used = (
+  let it = some_has (λ id. int_eq id c.id) refs used.0 in subst (Has refs) (same_number it.0 c.id it.2) it.1,
+  used_held refs cs used.1,
+)
+
+held_used : (refs : List ℤ) (cs : List ContentRow) → AreHeld refs cs → AreUsed refs cs
+held_used refs [] held = tt
+held_used refs (c ∷ cs) held = (some_from (λ id. int_eq id c.id) refs c.id held.0 (int_itself c.id), held_used refs cs held.1)
+
+used_after : (refs : List ℤ) (id : ℤ) (cs : List ContentRow) → AreHeld refs cs → AreHeld (refs ++ id ∷ []) cs
+used_after refs id [] used = tt
+used_after refs id (c ∷ cs) used = (has_before refs id c.id used.0, used_after refs id cs used.1)
+
+-- keeping a content leaves an office
+pub kept_office : (mark bytes : List ℕ) (old new : Database) (id : ℤ) → IsOffice old → IsContentKept mark bytes old new id → IsOffice new
+kept_office mark bytes old new id office (inl reused) = subst IsOffice (sym reused.same) office
+kept_office mark bytes old new id office (inr (lacked, fresh)) = fresh.keeps.becomes.office
+
+-- a file whose content is kept under the number that it was given
+pub is_marked_put : (n : ℤ) (path mark bytes : List ℕ) (id : ℤ) (old mid new : Database) → IsOffice mid → IsContentKept mark bytes old mid id → IsFileAdded n path id mid new → IsMarkedPut n path mark bytes old new
+is_marked_put n path mark bytes id old mid new office (inl reused) added =
+    let cs = contents_of old in
+    let there = reused.there in
+    let same_contents : contents_of new ≡ cs = added.contents ∙ ap contents_of reused.same in
+    let has_bytes : there.content.bytes ≡ bytes = (bytes_eq-Decides there.content.bytes bytes).0 (and_parts _ _ there.alike).1 in
+    let under : bytes_under (contents_of mid) id ≡ bytes = ap (λ db. bytes_under (contents_of db) id) reused.same ∙ ap (λ (o : Option ContentRow). unwrap_or (option_map (λ c. c.bytes) o) []) there.numbered ∙ has_bytes in
+    let found : list_any (is_alike mark bytes) cs ≡ true = some_from (is_alike mark bytes) cs there.content there.there there.alike in
+    record {
+      becomes = record { office = added.becomes.office; are = added.becomes.are ∙ with_bytes n path (bytes_under (contents_of mid) id) bytes (tables_of mid) (tables_of old) under (ap tables_of reused.same) };
+      new_path = subst (λ db. file_at n path (tables_of db).files ≡ None) reused.same added.new_path;
+      contents = same_contents ∙ let kept : cs ≡ with_content mark bytes cs = rw found refl in kept;
+      used = λ used. subst₂ AreUsed (sym (added.references ∙ ap (λ db. references_of db ++ id ∷ []) reused.same)) (sym same_contents) (held_used (references_of old ++ id ∷ []) cs (used_after (references_of old) id cs (used_held (references_of old) cs used)));
+    }
+is_marked_put n path mark bytes id old mid new office (inr (lacked, fresh)) added =
+    let cs = contents_of old in
+    let c = content_after cs mark bytes in
+    let all = cs ++ c ∷ [] in
+    let here : Has (contents_of mid) c = subst (λ xs. Has xs c) (sym fresh.contents) (has_pushed cs c) in
+    let under : bytes_under (contents_of mid) id ≡ bytes = ap (λ m. bytes_under (contents_of mid) m) fresh.numbered ∙ ap (λ (o : Option ContentRow). unwrap_or (option_map (λ c. c.bytes) o) []) (content_there mid office c here) in
+    let refs : references_of new ≡ references_of old ++ id ∷ [] = added.references ∙ ap (λ rs. rs ++ id ∷ []) fresh.keeps.references in
+    let is_last : Has (references_of old ++ id ∷ []) c.id = subst (Has (references_of old ++ id ∷ [])) fresh.numbered (has_pushed (references_of old) id) in
+    record {
+      becomes = record { office = added.becomes.office; are = added.becomes.are ∙ with_bytes n path (bytes_under (contents_of mid) id) bytes (tables_of mid) (tables_of old) under fresh.keeps.becomes.are };
+      new_path = subst (λ t. file_at n path t.files ≡ None) fresh.keeps.becomes.are added.new_path;
+      contents = added.contents ∙ fresh.contents ∙ let more : all ≡ with_content mark bytes cs = rw lacked refl in more;
+      used = λ used. subst₂ AreUsed (sym refs) (sym (added.contents ∙ fresh.contents)) (held_used (references_of old ++ id ∷ []) all (all_push (λ (d : ContentRow). Has (references_of old ++ id ∷ []) d.id) cs c (used_after (references_of old) id cs (used_held (references_of old) cs used)) is_last));
+    }
+
+-- ---- contents that nobody keeps go
+
+sym_tidied : (id : ℤ) (ids : List ℤ) (refs : List ℤ) (cs : List ContentRow) → Has refs id → AreUsedOr (id ∷ ids) refs cs → AreUsedOr ids refs cs
+sym_tidied id ids refs [] there used = tt
+sym_tidied id ids refs (c ∷ cs) there used = (
+  elim used.0 [ inl his ↦ inl his | inr (inl same) ↦ inl (subst (Has refs) (sym same) there) | inr (inr more) ↦ inr more ],
+  sym_tidied id ids refs cs there used.1,
+)
+
+-- a content that some file has stays
+pub tidies_used : (id : ℤ) (ids : List ℤ) (old new : Database) → IsOffice old → new ≡ old → list_any (λ r. int_eq (int_at r 3) id) (old.trees 10) ≡ true → IsTidied (id ∷ ids) ids old new
+tidies_used id ids old new office same some =
+    let it = some_has (λ r. int_eq (int_at r 3) id) (old.trees 10) some in
+    let there : Has (references_of old) id = subst (Has (references_of old)) (same_number (int_at it.0 3) id it.2) (mapped_has (λ row. int_at row 3) (old.trees 10) it.0 it.1) in
+    subst (λ db. IsTidied (id ∷ ids) ids old db) (sym same) (record {
+      keeps = record { becomes = record { office = office; are = refl }; references = refl };
+      once = λ once. once;
+      marked = λ marked. marked;
+      used = λ used. sym_tidied id ids (references_of old) (contents_of old) there used;
+    })
+
+all_filtered : {X : Type 0} (P : X → Type 0) (keep : X → Bool) (xs : List X) → AllByRecursion P xs → AllByRecursion P (filter keep xs)
+all_filtered P keep xs all = all_from P (filter keep xs) (λ x there. all_has P xs x all (has_filtered keep xs x there).0)
+
+once_filtered : (keep : ContentRow → Bool) (cs : List ContentRow) → StandOnce cs → StandOnce (filter keep cs)
+unfolding IsDistinct
+once_filtered keep [] once = tt
+once_filtered keep (c ∷ cs) once = elim (cases_Bool (keep c)) [
+  | inl kept ↦ rw kept (all_bytes cs once.0, once_filtered keep cs once.1)
+  | inr left ↦ rw left (once_filtered keep cs once.1)
+]
+  where
+    all_bytes : (ds : List ContentRow) → AllByRecursion (λ y. bytes_eq c.bytes y ≡ false) (map (λ (d : ContentRow). d.bytes) ds) → AllByRecursion (λ y. bytes_eq c.bytes y ≡ false) (map (λ (d : ContentRow). d.bytes) (filter keep ds))
+    all_bytes [] all = tt
+    all_bytes (d ∷ ds) all = elim (cases_Bool (keep d)) [
+      | inl kept ↦ rw kept (all.0, all_bytes ds all.1)
+      | inr left ↦ rw left (all_bytes ds all.1)
+    ]
+
+-- a content that no file has is taken out
+pub tidies_removed : (id : ℤ) (ids : List ℤ) (old new : Database) → KeepsFiles old new → contents_of new ≡ filter (λ c. not (is_content id c)) (contents_of old) → IsTidied (id ∷ ids) ids old new
+tidies_removed id ids old new keeps fewer =
+    let cs = contents_of old in
+    let others : ContentRow → Bool = λ c. not (is_content id c) in
+    record {
+      keeps = keeps;
+      once = λ once. subst StandOnce (sym fewer) (once_filtered others cs once);
+      marked = λ marked. subst (AllByRecursion IsMarked) (sym fewer) (all_filtered IsMarked others cs marked);
+      used = λ used. subst₂ (AreUsedOr ids) (sym keeps.references) (sym fewer) (all_from (λ (c : ContentRow). Has (references_of old) c.id ⊎ Has ids c.id) (filter others cs) (λ c there.
+          let it = has_filtered others cs c there in
+          elim (all_has (λ (c : ContentRow). Has (references_of old) c.id ⊎ Has (id ∷ ids) c.id) cs c used it.0) [
+            | inl his ↦ inl his
+            | inr (inl same) ↦ absurd (let is : is_content id c ≡ true = subst (λ n. int_eq n id ≡ true) (sym same) (int_itself id) in let no = it.1 in cc)
+            | inr (inr more) ↦ inr more
+          ]));
+    }
+
+-- one after another
+pub tidied_then : (a b c : List ℤ) (old mid new : Database) → IsTidied a b old mid → IsTidied b c mid new → IsTidied a c old new
+tidied_then a b c old mid new first second = record {
+  keeps = record {
+    becomes = record { office = second.keeps.becomes.office; are = second.keeps.becomes.are ∙ first.keeps.becomes.are };
+    references = second.keeps.references ∙ first.keeps.references;
+  };
+  once = λ once. second.once (first.once once);
+  marked = λ marked. second.marked (first.marked marked);
+  used = λ used. second.used (first.used used);
+}
+
+-- ---- kept once
+
+once_pushed : (cs : List ContentRow) (c : ContentRow) → StandOnce cs → AllByRecursion (λ (d : ContentRow). bytes_eq d.bytes c.bytes ≡ false) cs → StandOnce (cs ++ c ∷ [])
+unfolding IsDistinct
+once_pushed [] c once apart = (tt, tt)
+once_pushed (d ∷ cs) c once apart = (more cs once.0, once_pushed cs c once.1 apart.1)
+  where
+    more : (ds : List ContentRow) → AllByRecursion (λ y. bytes_eq d.bytes y ≡ false) (map (λ (e : ContentRow). e.bytes) ds) → AllByRecursion (λ y. bytes_eq d.bytes y ≡ false) (map (λ (e : ContentRow). e.bytes) (ds ++ c ∷ []))
+    more [] all = (apart.0, tt)
+    more (e ∷ ds) all = (all.0, more ds all.1)
+
+-- none has these bytes under another mark
+abbrev AreNamed : List ℕ → List ℕ → List ContentRow → Type 0
+AreNamed mark bytes = AllByRecursion (λ c. c.bytes ≡ bytes → c.mark ≡ mark)
+
+unlike : (mark bytes : List ℕ) (cs : List ContentRow) → AreNamed mark bytes cs → list_any (is_alike mark bytes) cs ≡ false → AllByRecursion (λ (d : ContentRow). bytes_eq d.bytes bytes ≡ false) cs
+unlike mark bytes [] named none = tt
+unlike mark bytes (c ∷ cs) named none =
+    let parts = or_parts (is_alike mark bytes c) (list_any (is_alike mark bytes) cs) none in (
+      elim (cases_Bool (bytes_eq c.bytes bytes)) [
+        | inl same ↦ absurd (
+            let marked : bytes_eq c.mark mark ≡ true = (bytes_eq-Decides c.mark mark).1 (named.0 ((bytes_eq-Decides c.bytes bytes).0 same)) in
+            let both : is_alike mark bytes c ≡ true = rw (marked, same) refl in
+            let no = parts.0 in cc)
+        | inr other ↦ other
+      ],
+      unlike mark bytes cs named.1 parts.1,
+    )
+
+-- contents that stood once still do, where none has these bytes under another mark
+pub stands_once : (mark bytes : List ℕ) (cs : List ContentRow) → AreNamed mark bytes cs → StandOnce cs → StandOnce (with_content mark bytes cs)
+stands_once mark bytes cs named once = elim (cases_Bool (list_any (is_alike mark bytes) cs)) [
+  | inl there ↦ rw there once
+  | inr lacked ↦ rw lacked (once_pushed cs (content_after cs mark bytes) once (unlike mark bytes cs named lacked))
+]
+
+all_named : (bytes : List ℕ) (cs : List ContentRow) → AllByRecursion IsMarked cs → AreNamed (sha256 bytes) bytes cs
+all_named bytes [] marked = tt
+all_named bytes (c ∷ cs) marked = (λ same. marked.0.mark ∙ ap sha256 same, all_named bytes cs marked.1)
+
+-- contents that were kept once still are after a file was put under the SHA-256 of its bytes
+pub put_once : (path bytes : List ℕ) (n : ℤ) (old new : Database) → IsMarkedPut n path (sha256 bytes) bytes old new → KeepsOnce old → KeepsOnce new
+put_once path bytes n old new put kept = by (list_any (is_alike (sha256 bytes) bytes) (contents_of old)) refl
+  where
+    by : (found : Bool) → list_any (is_alike (sha256 bytes) bytes) (contents_of old) ≡ found → KeepsOnce new
+    by true is =
+        let same : contents_of new ≡ contents_of old = put.contents ∙ let e : with_content (sha256 bytes) bytes (contents_of old) ≡ contents_of old = rw is refl in e in
+        record { once = subst StandOnce (sym same) kept.once; marked = subst (AllByRecursion IsMarked) (sym same) kept.marked; used = put.used kept.used }
+    by false is =
+        let c = content_after (contents_of old) (sha256 bytes) bytes in
+        let more : contents_of new ≡ contents_of old ++ c ∷ [] = put.contents ∙ let e : with_content (sha256 bytes) bytes (contents_of old) ≡ contents_of old ++ c ∷ [] = rw is refl in e in
+        record {
+          once = subst StandOnce (sym put.contents) (stands_once (sha256 bytes) bytes (contents_of old) (all_named bytes (contents_of old) kept.marked) kept.once);
+          marked = subst (AllByRecursion IsMarked) (sym more) (all_push IsMarked (contents_of old) c kept.marked (record { mark = refl; size = refl }));
+          used = put.used kept.used;
+        }
+
+-- after the files of a deposit were dropped, and then their contents that nobody else has, each content is some file's if each was before
+module _ (n : ℤ) (ids : List ℤ) (old mid new : Database) (theirs : (r : Row) → Has (old.trees 10) r → int_eq (int_at r 1) n ≡ true → Has ids (int_at r 3)) (dropped : AreFilesDropped n old mid) (tidied : IsTidied ids [] mid new) where
+  none_left : (cs : List ContentRow) → AreUsedOr [] (references_of new) cs → AreHeld (references_of new) cs
+  none_left [] used = tt
+  none_left (c ∷ cs) used = (elim used.0 [ inl his ↦ his | inr none ↦ absurd none ], none_left cs used.1)
+
+  pub drop_used : AreUsed (references_of old) (contents_of old) → AreUsed (references_of new) (contents_of new)
+  drop_used used =
+      let cs = contents_of old in
+      let before : AreUsedOr ids (references_of mid) (contents_of mid) = subst (AreUsedOr ids (references_of mid)) (sym dropped.contents) (all_from (λ (c : ContentRow). Has (references_of mid) c.id ⊎ Has ids c.id) cs (λ c there.
+      elim (dropped.references c.id (all_has (λ (c : ContentRow). Has (references_of old) c.id) cs c (used_held (references_of old) cs used) there)) [
+        | inl still ↦ inl still
+        | inr (r, within, his, is) ↦ inr (subst (Has ids) is (theirs r within his))
+      ])) in
+      held_used (references_of new) (contents_of new) (none_left (contents_of new) (tidied.used before))
+
+  -- so contents that were kept once still are
+  pub drop_once : KeepsOnce old → KeepsOnce new
+  drop_once kept = record {
+    once = tidied.once (subst StandOnce (sym dropped.contents) kept.once);
+    marked = tidied.marked (subst (AllByRecursion IsMarked) (sym dropped.contents) kept.marked);
+    used = drop_used kept.used;
+  }

@@ -1,0 +1,267 @@
+-- What the statements on due days and on counts of holds do to the rows of an office.
+use Rattle.std.proofs.Common.{IsTrue, ◌≡◌, ◌⊎◌, ◌&&◌, not, is_some, ℕ, ℤ, pos, ◌+ℤ◌, List, [], ◌∷◌, map, filter, slice_get, option_map, Bool, true, false, Some, None, Ok, Greater, refl, sym, ap, ap₂, subst, ◌∙◌, inl, inr, if◌then◌else◌}
+use Rattle.std.specs.List.{AllByRecursion}
+use Rattle.std.specs.Ordering.{int_cmp, is_le, is_ge}
+use Rattle.sqlite.specs.declared.types.Value.{Value}
+use Rattle.sqlite.specs.declared.types.Value.TheVariants.{Null, Int, Text}
+use Rattle.sqlite.specs.Order.{Row, column, value_cmp}
+use Rattle.sqlite.specs.Edit.{id_in, edit_of, edited}
+use Rattle.sqlite.specs.Rowids.TheVariants.{Given}
+use Rattle.sqlite.specs.Cast.{cast, cast_row}
+use Rattle.sqlite.specs.Kind.TheVariants as kind
+use Rattle.sqlite.specs.Tree.{rowid}
+use Rattle.sqlite.specs.Collation.TheVariants.{Binary}
+use Rattle.sqlite.specs.Ops.{binary, is_true, fits_i64, from_truth}
+use Rattle.sqlite.specs.State.{State, Shown, Executes}
+use Rattle.sqlite_sql.specs.declared.ops.BinaryOp.TheVariants.{Compare, Is, Arith}
+use Rattle.sqlite_sql.specs.declared.ops.CompareOp.TheVariants.{Eq, Ge, Le}
+use Rattle.sqlite_sql.specs.declared.ops.ArithOp.TheVariants.{Add}
+use Rattle.sqlite_value.proofs.OrderLemmas.{value_cmp-Int, value_cmp-Null, value_cmp-apart}
+use Rattle.sqlite_trees.specs.View.{is_int}
+use Rattle.sqlite_rules.specs.Calls.{ids_of}
+use Rattle.sqlite_rules.proofs.ListLemmas.{all_has, all_from}
+use Rattle.sqlite_rules.proofs.TableLemmas.{int_is}
+use Rattle.sqlite_keyed.proofs.ListLemmas.{ascending_weaker, map-map, filter-map}
+use Rattle.sqlite_catalog.proofs.ListFacts.{filter_all}
+use Rattle.sql_meaning.specs.Columns.{int_at, bytes_at, maybe_int}
+use Rattle.sql_meaning.proofs.Keys.{same_int}
+use Rattle.sql_meaning.proofs.Scanning.{passes, shown_of, finds_one}
+use Rattle.sql_meaning.proofs.Reading.{reads_same, reads_one, reads_rising}
+use Rattle.sql_meaning.proofs.TextKeys.{has_text, by_text, each_passes}
+use Rattle.sql_meaning.proofs.RowidKeys.{by_number, has_number, each_numbered, few_numbered, rising}
+use Rattle.sql_meaning.proofs.Edits.{decoded, cast_null, cast_int}
+use Rattle.sql_meaning.proofs.Changing.{revises}
+use Rattle.sql_meaning.proofs.ManyRows.{revises_all}
+use Rattle.office_tables.specs.Schema.{office_schema, deposit_table}
+use Rattle.office_rows.specs.Rows.{DepositRow, DueRow, is_due_of, due_numbered, with_due, with_holds, beside, more_holds, with_more_holds, is_within, is_of_class, of_class, least_number, is_by, is_disposable, due_rows}
+use Rattle.office_rows.specs.Told.{place_of, closing_of, due_places, class_closings}
+use Rattle.office_tables.specs.Dues.{shown_due, shown_beside, shown_place, shown_closing, FitMore}
+use Rattle.office_tables.specs.Tables.{IsOffice, Becomes, tables_of, deposit_in, due_in}
+use Rattle.office_tables.proofs.Frames.{idle, becomes}
+use Rattle.office_tables.proofs.DepositLemmas.{IsDepositRow, deposit_rows, kept_alike, keeps_int}
+use Rattle.office_tables.proofs.DueTexts.{class_rows_text, class_rows_columns, asks_class_rows, due_of_text, due_of_columns, asks_due_of, set_due_text, set_due_columns, set_due_means, clear_due_text, clear_due_columns, clear_due_means, set_holds_text, set_holds_columns, set_holds_means, add_holds_text, more_columns, add_holds_means, due_rows_text, is_due, due_rows_columns, asks_due_rows, beside_text, beside_columns, asks_beside}
+
+-- ---- a stored deposit with other last columns
+
+abbrev with_last : Value → Value → Value → Row → Row
+with_last gone due holds r =
+    rowid r ∷ Null ∷ Text (bytes_at r 2) ∷ Text (bytes_at r 3) ∷ Text (bytes_at r 4) ∷ Int (int_at r 5) ∷ Int (int_at r 6) ∷ Int (int_at r 7) ∷ Int (int_at r 8) ∷ gone ∷ due ∷ holds ∷ []
+
+cast_last : (gone due holds : Value) (r : Row) → IsDepositRow r → IsTrue (is_int (rowid r)) → cast kind.Integer gone ≡ gone → cast kind.Integer due ≡ due → cast kind.Integer holds ≡ holds
+    → cast_row deposit_table (rowid r ∷ Null ∷ column r 2 ∷ column r 3 ∷ column r 4 ∷ column r 5 ∷ column r 6 ∷ column r 7 ∷ column r 8 ∷ gone ∷ due ∷ holds ∷ []) ≡ with_last gone due holds r
+cast_last gone due holds r it whole is_gone is_due is_holds =
+    let id : cast kind.Integer (rowid r) ≡ rowid r = keeps_int (rowid r) (inr (int_is (rowid r) whole)) in
+    rw (id, cast_null, it.0, it.1, it.2, it.3, it.4, it.5, it.6, cast_int (int_at r 5), cast_int (int_at r 6), cast_int (int_at r 7), cast_int (int_at r 8), is_gone, is_due, is_holds) refl
+
+-- ---- one deposit
+
+pub finds_due : (old new : State) (n : ℤ) (rows : List Row) → IsOffice old.now → Shown due_of_text (Int n ∷ []) old new rows
+    → (new.now ≡ old.now) × (due_numbered n (tables_of old.now).dues ≡ option_map shown_due (slice_get rows 0))
+finds_due old new n rows office h =
+    let params : Row = Int n ∷ [] in
+    let stored = old.now.trees 8 in
+    let shaped = office.shaped.1.1.1.1.1.0 in
+    let is = reads_one office_schema due_of_text 8 by_number due_of_columns [] asks_due_of params old new office.schema_is rows h (has_number n)
+    (each_numbered n [] stored shaped) (few_numbered n stored shaped) in (
+      reads_same office_schema due_of_text 8 by_number due_of_columns [] asks_due_of params old new office.schema_is rows h,
+      finds_one stored rows (has_number n) (shown_of params due_of_columns) due_in shown_due (is_due_of n) (λ r. refl) (λ r. refl) is,
+    )
+
+pub sets_due : (old new : State) (n day : ℤ) (count : ℕ) → IsOffice old.now → Executes set_due_text (Int n ∷ Int day ∷ []) old new (Ok count)
+    → Becomes new.now (with_due n (Some day) (tables_of old.now))
+sets_due old new n day count office h =
+    let db = old.now.trees in
+    let shaped = office.shaped.1.1.1.1.1.0 in
+    let set : Row → Row = λ r. with_last (column r 9) (Int day) (Int (int_at r 11)) r in
+    let done = revises set_due_text (Int n ∷ Int day ∷ []) old new office_schema office.schema_is 5 deposit_table refl idle shaped by_number set_due_columns
+    (has_number n) (each_numbered n (Int day ∷ []) (db 8) shaped) set_due_means set (few_numbered n (db 8) shaped)
+    (λ r there.
+    let it = all_has IsDepositRow (db 8) r (deposit_rows old.now office) there in (
+      refl,
+      ap (λ v. cast_row deposit_table (rowid r ∷ Null ∷ column r 2 ∷ column r 3 ∷ column r 4 ∷ column r 5 ∷ column r 6 ∷ column r 7 ∷ column r 8 ∷ column r 9 ∷ Int day ∷ v ∷ [])) it.8
+          ∙ cast_last (column r 9) (Int day) (Int (int_at r 11)) r it (all_has _ (db 8) r shaped.1 there) (keeps_int (column r 9) it.9) (cast_int day) (cast_int (int_at r 11)),
+      refl,
+    )) count h in
+    let edit = edit_of db deposit_table (ids_of done.answer) Given 1 done.answer in
+    let deposits_are : map deposit_in (edited db edit) ≡ map deposit_in (db 8) = ap (map deposit_in) done.made ∙ kept_alike deposit_in (has_number n) set (λ r. refl) (db 8) in
+    let dues_are = decoded due_in (has_number n) set (is_due_of n) (λ d. record d { due = Some day }) (λ r. refl) (λ r. refl) (db 8) in
+    becomes old new edit count edit.news office.shaped done.change _ (ap₂ (λ rows dues. record (tables_of old.now) { deposits = rows; dues = dues }) deposits_are (ap (map due_in) done.made ∙ dues_are))
+
+pub clears_due : (old new : State) (n : ℤ) (count : ℕ) → IsOffice old.now → Executes clear_due_text (Int n ∷ []) old new (Ok count)
+    → Becomes new.now (with_due n (None) (tables_of old.now))
+clears_due old new n count office h =
+    let db = old.now.trees in
+    let shaped = office.shaped.1.1.1.1.1.0 in
+    let set : Row → Row = λ r. with_last (column r 9) (Null) (Int (int_at r 11)) r in
+    let done = revises clear_due_text (Int n ∷ []) old new office_schema office.schema_is 5 deposit_table refl idle shaped by_number clear_due_columns
+    (has_number n) (each_numbered n [] (db 8) shaped) clear_due_means set (few_numbered n (db 8) shaped)
+    (λ r there.
+    let it = all_has IsDepositRow (db 8) r (deposit_rows old.now office) there in (
+      refl,
+      ap (λ v. cast_row deposit_table (rowid r ∷ Null ∷ column r 2 ∷ column r 3 ∷ column r 4 ∷ column r 5 ∷ column r 6 ∷ column r 7 ∷ column r 8 ∷ column r 9 ∷ Null ∷ v ∷ [])) it.8
+          ∙ cast_last (column r 9) (Null) (Int (int_at r 11)) r it (all_has _ (db 8) r shaped.1 there) (keeps_int (column r 9) it.9) cast_null (cast_int (int_at r 11)),
+      refl,
+    )) count h in
+    let edit = edit_of db deposit_table (ids_of done.answer) Given 1 done.answer in
+    let deposits_are : map deposit_in (edited db edit) ≡ map deposit_in (db 8) = ap (map deposit_in) done.made ∙ kept_alike deposit_in (has_number n) set (λ r. refl) (db 8) in
+    let dues_are = decoded due_in (has_number n) set (is_due_of n) (λ d. record d { due = None }) (λ r. refl) (λ r. refl) (db 8) in
+    becomes old new edit count edit.news office.shaped done.change _ (ap₂ (λ rows dues. record (tables_of old.now) { deposits = rows; dues = dues }) deposits_are (ap (map due_in) done.made ∙ dues_are))
+
+pub sets_holds : (old new : State) (n holds : ℤ) (count : ℕ) → IsOffice old.now → Executes set_holds_text (Int n ∷ Int holds ∷ []) old new (Ok count)
+    → Becomes new.now (with_holds n holds (tables_of old.now))
+sets_holds old new n holds count office h =
+    let db = old.now.trees in
+    let shaped = office.shaped.1.1.1.1.1.0 in
+    let set : Row → Row = λ r. with_last (column r 9) (column r 10) (Int holds) r in
+    let done = revises set_holds_text (Int n ∷ Int holds ∷ []) old new office_schema office.schema_is 5 deposit_table refl idle shaped by_number set_holds_columns
+    (has_number n) (each_numbered n (Int holds ∷ []) (db 8) shaped) set_holds_means set (few_numbered n (db 8) shaped)
+    (λ r there.
+    let it = all_has IsDepositRow (db 8) r (deposit_rows old.now office) there in
+    (refl, cast_last (column r 9) (column r 10) (Int holds) r it (all_has _ (db 8) r shaped.1 there) (keeps_int (column r 9) it.9) (keeps_int (column r 10) it.7) (cast_int holds), refl)) count h in
+    let edit = edit_of db deposit_table (ids_of done.answer) Given 1 done.answer in
+    let deposits_are : map deposit_in (edited db edit) ≡ map deposit_in (db 8) = ap (map deposit_in) done.made ∙ kept_alike deposit_in (has_number n) set (λ r. refl) (db 8) in
+    let dues_are = decoded due_in (has_number n) set (is_due_of n) (λ d. record d { holds = holds }) (λ r. refl) (λ r. refl) (db 8) in
+    becomes old new edit count edit.news office.shaped done.change _ (ap₂ (λ rows dues. record (tables_of old.now) { deposits = rows; dues = dues }) deposits_are (ap (map due_in) done.made ∙ dues_are))
+
+-- ---- more holds over those that pass
+
+sum_is : (m n : ℤ) → fits_i64 (m +ℤ n) ≡ true → binary (Arith Add) (Int m) (Int n) ≡ Int (m +ℤ n)
+unfolding binary
+sum_is m n fits = rw fits refl
+
+fit_at : (by : ℤ) (rows : List Row) → FitMore by (map due_in rows) → AllByRecursion (λ r. fits_i64 (int_at r 11 +ℤ by) ≡ true) rows
+fit_at by [] fit = tt
+fit_at by (r ∷ rows) fit = (fit.0, fit_at by rows fit.1)
+
+abbrev set_more : ℤ → Row → Row
+set_more by r = with_last (column r 9) (column r 10) (Int (int_at r 11 +ℤ by)) r
+
+-- the typed rows, in two lists beside one another
+more_decoded : (those : DepositRow → Bool) (by : ℤ) (keep : Row → Bool) → ((r : Row) → those (deposit_in r) ≡ keep r) → (rows : List Row)
+    → map due_in (map (λ r. if keep r then set_more by r else r) rows) ≡ more_holds those by (map deposit_in rows) (map due_in rows)
+more_decoded those by keep tests [] = refl
+more_decoded those by keep tests (r ∷ rows) = rw (tests r) (ap₂ (λ y more. y ∷ more) (one (keep r)) (more_decoded those by keep tests rows))
+  where
+    one : (b : Bool) → due_in (if b then set_more by r else r) ≡ (if b then record (due_in r) { holds = (due_in r).holds +ℤ by } else due_in r)
+    one true = refl
+    one false = refl
+
+pub adds_holds : (old new : State) (collection : List ℕ) (by : ℤ) (count : ℕ) → IsOffice old.now → FitMore by (tables_of old.now).dues → Executes add_holds_text (Text collection ∷ Int by ∷ []) old new (Ok count)
+    → Becomes new.now (with_more_holds collection by (tables_of old.now))
+adds_holds old new collection by count office fit h =
+    let db = old.now.trees in
+    let shaped = office.shaped.1.1.1.1.1.0 in
+    let params : Row = Text collection ∷ Int by ∷ [] in
+    let keep : Row → Bool = has_text 3 collection in
+    let rows_are = deposit_rows old.now office in
+    let texts = all_from (λ r. column r 3 ≡ Text (bytes_at r 3)) (db 8) (λ r there. (all_has IsDepositRow (db 8) r rows_are there).1) in
+    let done = revises_all add_holds_text params old new office_schema office.schema_is 5 deposit_table refl idle shaped (by_text 3) more_columns keep (each_passes 3 collection (Int by ∷ []) (db 8) texts)
+    add_holds_means (set_more by) (λ r. refl) (λ r there kept.
+    let it = all_has IsDepositRow (db 8) r rows_are there in
+    let fits = all_has _ (db 8) r (fit_at by (db 8) fit) there in
+    let sum : binary (Arith Add) (column r 11) (Int by) ≡ Int (int_at r 11 +ℤ by) = ap (λ v. binary (Arith Add) v (Int by)) it.8 ∙ sum_is (int_at r 11) by fits in (
+      ap (λ v. cast_row deposit_table (rowid r ∷ Null ∷ column r 2 ∷ column r 3 ∷ column r 4 ∷ column r 5 ∷ column r 6 ∷ column r 7 ∷ column r 8 ∷ column r 9 ∷ column r 10 ∷ v ∷ [])) sum
+          ∙ cast_last (column r 9) (column r 10) (Int (int_at r 11 +ℤ by)) r it (all_has _ (db 8) r shaped.1 there) (keeps_int (column r 9) it.9) (keeps_int (column r 10) it.7) (cast_int (int_at r 11 +ℤ by)),
+      refl,
+    )) count h in
+    let edit = edit_of db deposit_table (ids_of done.answer) Given 1 done.answer in
+    let deposits_are : map deposit_in (edited db edit) ≡ map deposit_in (db 8) = ap (map deposit_in) done.made ∙ kept_alike deposit_in keep (set_more by) (λ r. refl) (db 8) in
+    let dues_are = more_decoded (is_within collection) by keep (λ r. refl) (db 8) in
+    becomes old new edit count edit.news office.shaped done.change _ (ap₂ (λ rows dues. record (tables_of old.now) { deposits = rows; dues = dues }) deposits_are (ap (map due_in) done.made ∙ dues_are))
+
+-- ---- what may be destroyed
+
+null_is : (v : Value) → (v ≡ Null) ⊎ (v ≡ Int (id_in v)) → is_true (binary (Is Binary) v Null) ≡ not (is_some (maybe_int v))
+unfolding binary
+null_is v (inl is) = rw (is, value_cmp-Null Null) refl
+null_is v (inr is) = rw is (let apart : value_cmp (Int (id_in v)) Null ≡ Greater = value_cmp-apart (Int (id_in v)) Null (λ e. cc) in rw apart refl)
+
+truth_back : (b : Bool) → is_true (from_truth (Some b)) ≡ b
+truth_back true = refl
+truth_back false = refl
+
+not_before : (m n : ℤ) → is_true (binary (Compare Ge Binary) (Int m) (Int n)) ≡ is_ge (int_cmp m n)
+unfolding binary
+not_before m n = truth_back (is_ge (value_cmp (Int m) (Int n))) ∙ ap is_ge (value_cmp-Int m n)
+
+by_day : (m n : ℤ) → is_true (binary (Compare Le Binary) (Int m) (Int n)) ≡ is_le (int_cmp m n)
+unfolding binary
+by_day m n = truth_back (is_le (value_cmp (Int m) (Int n))) ∙ ap is_le (value_cmp-Int m n)
+
+-- from that number on and by that day
+abbrev within : ℤ → ℤ → Value → Bool
+within least day v = is_true (binary (Compare Ge Binary) v (Int least)) && is_true (binary (Compare Le Binary) v (Int day))
+
+never_within : (least day : ℤ) → within least day Null ≡ false
+unfolding binary
+never_within least day = refl
+
+day_is : (v : Value) (day : ℤ) → (v ≡ Null) ⊎ (v ≡ Int (id_in v)) → within least_number day v ≡ is_by day (maybe_int v)
+day_is v day (inl is) = subst (λ w. within least_number day w ≡ is_by day (maybe_int w)) (sym is) (never_within least_number day)
+day_is v day (inr is) = subst (λ w. within least_number day w ≡ is_by day (maybe_int w)) (sym is) (ap₂ (λ a b. a && b) (not_before (id_in v) least_number) (by_day (id_in v) day))
+
+and_end : (a b : Bool) → (a && (b && true)) ≡ (a && b)
+and_end true true = refl
+and_end true false = refl
+and_end false b = refl
+
+passes_due : (day : ℤ) (r : Row) → IsDepositRow r → passes (Int day ∷ Int least_number ∷ []) is_due r ≡ is_disposable day (deposit_in r, due_in r)
+passes_due day r it =
+    ap₂ (λ a b. a && b) (null_is (column r 9) it.9)
+    (ap₂ (λ a b. a && b) (ap (λ v. is_true (binary (Compare Eq Binary) v (Int (pos 0)))) it.8 ∙ same_int (int_at r 11) (pos 0))
+    (and_end (is_true (binary (Compare Ge Binary) (column r 10) (Int least_number))) (is_true (binary (Compare Le Binary) (column r 10) (Int day))) ∙ day_is (column r 10) day it.7))
+
+beside_is : (rows : List Row) → beside (map deposit_in rows) (map due_in rows) ≡ map (λ r. (deposit_in r, due_in r)) rows
+beside_is [] = refl
+beside_is (r ∷ rows) = ap (λ more. (deposit_in r, due_in r) ∷ more) (beside_is rows)
+
+pub lists_beside : (old new : State) (rows : List Row) → IsOffice old.now → Shown beside_text [] old new rows
+    → (new.now ≡ old.now) × (beside (tables_of old.now).deposits (tables_of old.now).dues ≡ map shown_beside rows)
+lists_beside old new rows office h =
+    let stored = old.now.trees 8 in
+    let up = ascending_weaker _ _ (λ a b lower. rw lower refl) stored office.shaped.1.1.1.1.1.0.0 in
+    let is = reads_rising office_schema beside_text 8 [] beside_columns rising asks_beside [] old new office.schema_is rows h (λ r. true) (all_from _ stored (λ r there. refl)) up in
+    let whole : rows ≡ map (shown_of [] beside_columns) stored = is ∙ ap (map (shown_of [] beside_columns)) (filter_all (λ r. true) stored (λ r there. refl)) in
+    let shows : map shown_beside (map (shown_of [] beside_columns) stored) ≡ map (λ r. (deposit_in r, due_in r)) stored = map-map shown_beside (shown_of [] beside_columns) stored in (
+      reads_same office_schema beside_text 8 [] beside_columns rising asks_beside [] old new office.schema_is rows h,
+      beside_is stored ∙ sym shows ∙ ap (map shown_beside) (sym whole),
+    )
+
+pub lists_due : (old new : State) (day : ℤ) (rows : List Row) → IsOffice old.now → Shown due_rows_text (Int day ∷ Int least_number ∷ []) old new rows
+    → (new.now ≡ old.now) × (due_places day (tables_of old.now) ≡ map shown_place rows)
+lists_due old new day rows office h =
+    let db = old.now.trees in
+    let params : Row = Int day ∷ Int least_number ∷ [] in
+    let typed = deposit_rows old.now office in
+    let pair : Row → DepositRow × DueRow = λ r. (deposit_in r, due_in r) in
+    let keep : Row → Bool = λ r. is_disposable day (pair r) in
+    let up = ascending_weaker _ _ (λ a b lower. rw lower refl) (db 8) office.shaped.1.1.1.1.1.0.0 in
+    let each = all_from (λ r. passes params is_due r ≡ keep r) (db 8) (λ r there. passes_due day r (all_has IsDepositRow (db 8) r typed there)) in
+    let is = reads_rising office_schema due_rows_text 8 is_due due_rows_columns rising asks_due_rows params old new office.schema_is rows h keep each up in
+    let shows : map shown_place (map (shown_of params due_rows_columns) (filter keep (db 8))) ≡ map (λ r. place_of (deposit_in r)) (filter keep (db 8)) = map-map shown_place (shown_of params due_rows_columns) (filter keep (db 8)) in
+    let found : due_rows day (tables_of old.now) ≡ map (λ (p : DepositRow × DueRow). p.0) (map pair (filter keep (db 8))) =
+    ap (λ ps. map (λ (p : DepositRow × DueRow). p.0) (filter (is_disposable day) ps)) (beside_is (db 8)) ∙ ap (map (λ (p : DepositRow × DueRow). p.0)) (filter-map (is_disposable day) pair (db 8)) in
+    let places : map place_of (due_rows day (tables_of old.now)) ≡ map (λ r. place_of (deposit_in r)) (filter keep (db 8)) =
+    ap (map place_of) found ∙ map-map place_of (λ (p : DepositRow × DueRow). p.0) (map pair (filter keep (db 8))) ∙ map-map (λ (p : DepositRow × DueRow). place_of p.0) pair (filter keep (db 8)) in (
+      reads_same office_schema due_rows_text 8 is_due due_rows_columns rising asks_due_rows params old new office.schema_is rows h,
+      places ∙ sym shows ∙ ap (map shown_place) (sym is),
+    )
+
+-- ---- the deposits of a class
+
+pub lists_class : (old new : State) (class : List ℕ) (rows : List Row) → IsOffice old.now → Shown class_rows_text (Text class ∷ []) old new rows
+    → (new.now ≡ old.now) × (class_closings class (tables_of old.now) ≡ map shown_closing rows)
+lists_class old new class rows office h =
+    let db = old.now.trees in
+    let params : Row = Text class ∷ [] in
+    let typed = deposit_rows old.now office in
+    let keep : Row → Bool = has_text 4 class in
+    let up = ascending_weaker _ _ (λ a b lower. rw lower refl) (db 8) office.shaped.1.1.1.1.1.0.0 in
+    let texts = all_from (λ r. column r 4 ≡ Text (bytes_at r 4)) (db 8) (λ r there. (all_has IsDepositRow (db 8) r typed there).2) in
+    let is = reads_rising office_schema class_rows_text 8 (by_text 4) class_rows_columns rising asks_class_rows params old new office.schema_is rows h keep (each_passes 4 class [] (db 8) texts) up in
+    let shows : map shown_closing (map (shown_of params class_rows_columns) (filter keep (db 8))) ≡ map (λ r. closing_of (deposit_in r)) (filter keep (db 8)) = map-map shown_closing (shown_of params class_rows_columns) (filter keep (db 8)) in
+    let found : map closing_of (of_class class (tables_of old.now)) ≡ map (λ r. closing_of (deposit_in r)) (filter keep (db 8)) =
+    ap (map closing_of) (filter-map (is_of_class class) deposit_in (db 8)) ∙ map-map closing_of deposit_in (filter keep (db 8)) in (
+      reads_same office_schema class_rows_text 8 (by_text 4) class_rows_columns rising asks_class_rows params old new office.schema_is rows h,
+      found ∙ sym shows ∙ ap (map shown_closing) (sym is),
+    )

@@ -1,0 +1,122 @@
+-- What the statements on due days, counts of holds and deciding rules mean under the schema of an office.
+use Rattle.std.proofs.Common.{ℕ, pos, List, [], ◌∷◌, codes, refl}
+use Rattle.sqlite.specs.declared.types.Value.TheVariants.{Null, Int}
+use Rattle.sqlite.specs.Term.{Term, lit, col, op2}
+use Rattle.sqlite.specs.Collation.TheVariants.{Binary}
+use Rattle.sqlite.specs.Command.TheVariants.{Update}
+use Rattle.sqlite.specs.Listing.{understood}
+use Rattle.sqlite_tied.specs.Compute.{everything}
+use Rattle.sqlite_sql.specs.declared.ops.BinaryOp.TheVariants.{Compare, Is, Arith}
+use Rattle.sqlite_sql.specs.declared.ops.CompareOp.TheVariants.{Eq, Ge, Le}
+use Rattle.sqlite_sql.specs.declared.ops.ArithOp.TheVariants.{Add}
+use Rattle.sql_meaning.proofs.Scanning.{scan, as_program}
+use Rattle.sql_meaning.proofs.Reading.{Asks}
+use Rattle.sql_meaning.proofs.RowidKeys.{by_number, rising}
+use Rattle.sql_meaning.proofs.TextKeys.{by_text}
+use Rattle.sql_meaning.proofs.Writing.{Means}
+use Rattle.office_tables.specs.Schema.{office_schema}
+
+-- ---- the deposits of a class
+
+abbrev pub class_rows_text : List ℕ
+class_rows_text = codes "SELECT number, closed FROM deposit WHERE class = ?1 ORDER BY number"
+
+abbrev pub class_rows_columns : List Term
+class_rows_columns = col 1 0 ∷ col 1 5 ∷ []
+
+pub asks_class_rows : Asks office_schema class_rows_text 8 (by_text 4) class_rows_columns rising
+unfolding understood everything
+asks_class_rows = record { names = codes "number" ∷ codes "closed" ∷ []; command = refl; unlisted = refl; plain = (refl, refl) }
+
+-- ---- what is kept of one deposit
+
+abbrev pub due_of_text : List ℕ
+due_of_text = codes "SELECT number, due, holds FROM deposit WHERE number = ?1"
+
+abbrev pub due_of_columns : List Term
+due_of_columns = col 1 0 ∷ col 1 10 ∷ col 1 11 ∷ []
+
+pub asks_due_of : Asks office_schema due_of_text 8 by_number due_of_columns []
+unfolding understood everything
+asks_due_of = record { names = codes "number" ∷ codes "due" ∷ codes "holds" ∷ []; command = refl; unlisted = refl; plain = (refl, refl) }
+
+abbrev pub set_due_text : List ℕ
+set_due_text = codes "UPDATE deposit SET due = ?2 WHERE number = ?1"
+
+abbrev pub set_due_columns : List Term
+set_due_columns = col 1 0 ∷ col 1 0 ∷ lit Null ∷ col 1 2 ∷ col 1 3 ∷ col 1 4 ∷ col 1 5 ∷ col 1 6 ∷ col 1 7 ∷ col 1 8 ∷ col 1 9 ∷ col 0 1 ∷ col 1 11 ∷ []
+
+pub set_due_means : Means office_schema set_due_text (Update 5 (as_program (scan 8 by_number set_due_columns [])))
+unfolding understood everything
+set_due_means = record { is = refl; plain = (refl, refl) }
+
+abbrev pub clear_due_text : List ℕ
+clear_due_text = codes "UPDATE deposit SET due = NULL WHERE number = ?1"
+
+abbrev pub clear_due_columns : List Term
+clear_due_columns = col 1 0 ∷ col 1 0 ∷ lit Null ∷ col 1 2 ∷ col 1 3 ∷ col 1 4 ∷ col 1 5 ∷ col 1 6 ∷ col 1 7 ∷ col 1 8 ∷ col 1 9 ∷ lit Null ∷ col 1 11 ∷ []
+
+pub clear_due_means : Means office_schema clear_due_text (Update 5 (as_program (scan 8 by_number clear_due_columns [])))
+unfolding understood everything
+clear_due_means = record { is = refl; plain = (refl, refl) }
+
+abbrev pub set_holds_text : List ℕ
+set_holds_text = codes "UPDATE deposit SET holds = ?2 WHERE number = ?1"
+
+abbrev pub set_holds_columns : List Term
+set_holds_columns = col 1 0 ∷ col 1 0 ∷ lit Null ∷ col 1 2 ∷ col 1 3 ∷ col 1 4 ∷ col 1 5 ∷ col 1 6 ∷ col 1 7 ∷ col 1 8 ∷ col 1 9 ∷ col 1 10 ∷ col 0 1 ∷ []
+
+pub set_holds_means : Means office_schema set_holds_text (Update 5 (as_program (scan 8 by_number set_holds_columns [])))
+unfolding understood everything
+set_holds_means = record { is = refl; plain = (refl, refl) }
+
+-- ---- every deposit with what is kept beside it
+
+abbrev pub beside_text : List ℕ
+beside_text = codes "SELECT number, accession, collection, class, closed, deposited, files, bytes, gone, due, holds FROM deposit ORDER BY number"
+
+abbrev pub beside_columns : List Term
+beside_columns = col 1 0 ∷ col 1 2 ∷ col 1 3 ∷ col 1 4 ∷ col 1 5 ∷ col 1 6 ∷ col 1 7 ∷ col 1 8 ∷ col 1 9 ∷ col 1 10 ∷ col 1 11 ∷ []
+
+pub asks_beside : Asks office_schema beside_text 8 [] beside_columns rising
+unfolding understood everything
+asks_beside = record {
+  names = codes "number" ∷ codes "accession" ∷ codes "collection" ∷ codes "class" ∷ codes "closed" ∷ codes "deposited" ∷ codes "files" ∷ codes "bytes" ∷ codes "gone" ∷ codes "due" ∷ codes "holds" ∷ [];
+  command = refl;
+  unlisted = refl;
+  plain = (refl, refl);
+}
+
+-- ---- more holds over a collection, or over a class
+
+abbrev pub more_columns : List Term
+more_columns = col 1 0 ∷ col 1 0 ∷ lit Null ∷ col 1 2 ∷ col 1 3 ∷ col 1 4 ∷ col 1 5 ∷ col 1 6 ∷ col 1 7 ∷ col 1 8 ∷ col 1 9 ∷ col 1 10 ∷ op2 (Arith Add) (col 1 11) (col 0 1) ∷ []
+
+abbrev pub add_holds_text : List ℕ
+add_holds_text = codes "UPDATE deposit SET holds = holds + ?2 WHERE collection = ?1"
+
+pub add_holds_means : Means office_schema add_holds_text (Update 5 (as_program (scan 8 (by_text 3) more_columns [])))
+unfolding understood everything
+add_holds_means = record { is = refl; plain = (refl, refl) }
+
+abbrev pub add_holds_class_text : List ℕ
+add_holds_class_text = codes "UPDATE deposit SET holds = holds + ?2 WHERE class = ?1"
+
+pub add_holds_class_means : Means office_schema add_holds_class_text (Update 5 (as_program (scan 8 (by_text 4) more_columns [])))
+unfolding understood everything
+add_holds_class_means = record { is = refl; plain = (refl, refl) }
+
+-- ---- what may be destroyed
+
+abbrev pub due_rows_text : List ℕ
+due_rows_text = codes "SELECT number, collection, class FROM deposit WHERE gone IS NULL AND holds = 0 AND due >= ?2 AND due <= ?1 ORDER BY number"
+
+abbrev pub is_due : List Term
+is_due = op2 (Is Binary) (col 1 9) (lit Null) ∷ op2 (Compare Eq Binary) (col 1 11) (lit (Int (pos 0))) ∷ op2 (Compare Ge Binary) (col 1 10) (col 0 1) ∷ op2 (Compare Le Binary) (col 1 10) (col 0 0) ∷ []
+
+abbrev pub due_rows_columns : List Term
+due_rows_columns = col 1 0 ∷ col 1 3 ∷ col 1 4 ∷ []
+
+pub asks_due_rows : Asks office_schema due_rows_text 8 is_due due_rows_columns rising
+unfolding understood everything
+asks_due_rows = record { names = codes "number" ∷ codes "collection" ∷ codes "class" ∷ []; command = refl; unlisted = refl; plain = (refl, refl) }

@@ -1,0 +1,120 @@
+-- What the statement on the deciding rule answers.
+use Rattle.std.proofs.Common.{◌≡◌, ◌&&◌, ◌||◌, ℕ, List, [], ◌∷◌, map, filter, take, slice_get, option_map, Bool, true, false, codes, Some, Less, refl, sym, ap, ap₂, ◌∙◌, bytes_eq}
+use Rattle.std.specs.List.{AllByRecursion}
+use Rattle.std.specs.Ordering.{is_eq}
+use Rattle.std.proofs.lemmas.Map.Text.{is_eq-slice_cmp}
+use Rattle.sqlite.specs.declared.types.Value.{Value}
+use Rattle.sqlite.specs.declared.types.Value.TheVariants.{Null, Text}
+use Rattle.sqlite.specs.Order.{Row, column}
+use Rattle.sqlite.specs.Term.{Term}
+use Rattle.sqlite.specs.Kind.TheVariants as kind
+use Rattle.sqlite.specs.Collation.TheVariants.{Binary}
+use Rattle.sqlite.specs.Ops.{binary, is_true, from_truth}
+use Rattle.sqlite.specs.Query.{IsSureAnswer, output, output_cmp, Output}
+use Rattle.sqlite.specs.Tree.{IsAscending}
+use Rattle.sqlite.specs.Schema.{Schema}
+use Rattle.sqlite.specs.Effect.{Database}
+use Rattle.sqlite.specs.State.{State, Shown}
+use Rattle.sqlite.proofs.Callers.{reads_as}
+use Rattle.sqlite_sql.specs.Program.{overlay}
+use Rattle.sqlite_sql.specs.declared.ops.BinaryOp.TheVariants.{Compare, Or}
+use Rattle.sqlite_sql.specs.declared.ops.CompareOp.TheVariants.{Eq}
+use Rattle.sqlite_value.specs.declared.keys.Key.{Key}
+use Rattle.sqlite_schema.specs.declared.schema.Constraint.TheVariants.{Datatype, NotNull}
+use Rattle.sqlite_value.proofs.OrderLemmas.{value_cmp-Text}
+use Rattle.sqlite_rules.proofs.ListLemmas.{all_has, all_from}
+use Rattle.sqlite_keyed.proofs.ListLemmas.{first_taken, ascending_weaker}
+use Rattle.sql_meaning.specs.Columns.{bytes_at}
+use Rattle.sql_meaning.proofs.Scanning.{Scans, scan, passes, shown_of, scanned, answers_rising, shown_same, finds_one}
+use Rattle.sql_meaning.proofs.Typed.{text_at, all_both}
+use Rattle.sql_meaning.proofs.Whole.{keeps_rule}
+use Rattle.office_tables.specs.Schema.{office_schema, rule_table, needed}
+use Rattle.office_tables.specs.Tables.{IsOffice, tables_of, rule_in}
+use Rattle.office_tables.specs.ShownPolicy.{shown_rule}
+use Rattle.office_tables.proofs.PolicyTexts.{rule_columns}
+use Rattle.office_tables.proofs.MatchTexts.{AsksFirst, match_text, matching, match_order, asks_match}
+use Rattle.office_rows.specs.Matching.{matching_rule, fits_name, rule_fits}
+
+-- ---- ORDER BY, LIMIT 1
+
+module _ (schema : Schema) (text : List ℕ) (tree : ℕ) (test project : List Term) (order : List (Term × Key)) (asks : AsksFirst schema text tree test project order)
+    (params : Row) (old new : State) (has : old.now.schema ≡ schema) (rows : List Row) (shown : Shown text params old new rows) where
+  pub first_same : new.now ≡ old.now
+  first_same = (shown_same text params old new schema has asks.plain rows shown).0.now_is
+
+  -- the first of the rows that pass, in an order that ORDER BY allows
+  pub scans_first : (all : List Row) × Scans old.now.trees params tree test project order all × (rows ≡ take 1 all)
+  scans_first =
+      let db = old.now.trees in
+      let a = (reads_as text params old new schema has _ asks.command asks.plain asks.unlisted rows shown).answer Null in
+      let all = map (λ (o : Output). o.1) a.ordered in
+      let whole : IsSureAnswer (scan tree test project order) (overlay db []) params all = λ lost. record { staged = a.staged; grouped = a.grouped; kept = a.kept; distinct = a.distinct; ordered = a.ordered; same = a.same; sorted = a.sorted; shown = refl } in
+      (all, scanned db params tree test project order all whole, a.shown)
+
+  -- a key that rises over the table: what is shown of the first row that passes
+  pub reads_first : (keep : Row → Bool) → AllByRecursion (λ r. passes params test r ≡ keep r) (old.now.trees tree)
+      → IsAscending (λ a b. output_cmp (scan tree test project order) (output (scan tree test project order) (params ∷ a ∷ [])) (output (scan tree test project order) (params ∷ b ∷ [])) ≡ Less) (old.now.trees tree)
+      → rows ≡ take 1 (map (shown_of params project) (filter keep (old.now.trees tree)))
+  reads_first keep each up =
+      let first = scans_first in
+      first.2 ∙ ap (take 1) (answers_rising old.now.trees params tree test project order first.0 keep first.1 each up)
+
+-- ---- `column IN ('*', parameter)`
+
+or_back : (p q : Bool) → is_true (binary Or (from_truth (Some p)) (from_truth (Some q))) ≡ (p || q)
+unfolding binary
+or_back true true = refl
+or_back true false = refl
+or_back false true = refl
+or_back false false = refl
+
+text_is : (a b : List ℕ) → binary (Compare Eq Binary) (Text a) (Text b) ≡ from_truth (Some (bytes_eq a b))
+unfolding binary
+text_is a b = ap (λ o. from_truth (Some o)) (ap is_eq (value_cmp-Text a b) ∙ is_eq-slice_cmp a b)
+
+abbrev either_text : Value → List ℕ → Value
+either_text v b = binary Or (binary (Compare Eq Binary) v (Text (codes "*"))) (binary (Compare Eq Binary) v (Text b))
+
+star_is : (v : Value) (a b : List ℕ) → v ≡ Text a → is_true (either_text v b) ≡ fits_name a b
+star_is v a b is = ap (λ w. is_true (either_text w b)) is ∙ ap₂ (λ x y. is_true (binary Or x y)) (text_is a (codes "*")) (text_is a b) ∙ or_back (bytes_eq a (codes "*")) (bytes_eq a b)
+
+-- ---- the rules
+
+abbrev IsRuleRow : Row → Type 0
+IsRuleRow r = (column r 3 ≡ Text (bytes_at r 3)) × (column r 4 ≡ Text (bytes_at r 4)) × (column r 5 ≡ Text (bytes_at r 5)) × (column r 6 ≡ Text (bytes_at r 6))
+
+pub rule_rows : (db : Database) → IsOffice db → AllByRecursion IsRuleRow (db.trees 3)
+rule_rows db office = all_both (λ r t p. (
+  text_at office_schema db.trees rule_table r t p 2 (needed (codes "role") kind.Text) refl refl refl refl refl,
+  text_at office_schema db.trees rule_table r t p 3 (needed (codes "action") kind.Text) refl refl refl refl refl,
+  text_at office_schema db.trees rule_table r t p 4 (needed (codes "collection") kind.Text) refl refl refl refl refl,
+  text_at office_schema db.trees rule_table r t p 5 (needed (codes "class") kind.Text) refl refl refl refl refl,
+)) (db.trees 3) (keeps_rule office Datatype).1.1.0 (keeps_rule office NotNull).1.1.0
+
+and_end : (a b c d : Bool) → (a && (b && (c && (d && true)))) ≡ (a && (b && (c && d)))
+and_end true true true true = refl
+and_end true true true false = refl
+and_end true true false d = refl
+and_end true false c d = refl
+and_end false b c d = refl
+
+passes_match : (role action collection class : List ℕ) (r : Row) → IsRuleRow r → passes (Text role ∷ Text action ∷ Text collection ∷ Text class ∷ []) matching r ≡ rule_fits role action collection class (rule_in r)
+passes_match role action collection class r it =
+    ap₂ (λ a b. a && b) (star_is (column r 3) (bytes_at r 3) role it.0) (ap₂ (λ a b. a && b) (star_is (column r 4) (bytes_at r 4) action it.1)
+    (ap₂ (λ a b. a && (b && true)) (star_is (column r 5) (bytes_at r 5) collection it.2) (star_is (column r 6) (bytes_at r 6) class it.3)))
+    ∙ and_end (fits_name (bytes_at r 3) role) (fits_name (bytes_at r 4) action) (fits_name (bytes_at r 5) collection) (fits_name (bytes_at r 6) class)
+
+pub finds_match : (old new : State) (role action collection class : List ℕ) (rows : List Row) → IsOffice old.now → Shown match_text (Text role ∷ Text action ∷ Text collection ∷ Text class ∷ []) old new rows
+    → (new.now ≡ old.now) × (matching_rule role action collection class (tables_of old.now).rules ≡ option_map shown_rule (slice_get rows 0))
+finds_match old new role action collection class rows office h =
+    let params : Row = Text role ∷ Text action ∷ Text collection ∷ Text class ∷ [] in
+    let stored = old.now.trees 3 in
+    let keep : Row → Bool = λ r. rule_fits role action collection class (rule_in r) in
+    let up = ascending_weaker _ _ (λ a b lower. rw lower refl) stored office.shaped.1.1.0.0 in
+    let each = all_from (λ r. passes params matching r ≡ keep r) stored (λ r there. passes_match role action collection class r (all_has IsRuleRow stored r (rule_rows old.now office) there)) in
+    let is = reads_first office_schema match_text 3 matching rule_columns match_order asks_match params old new office.schema_is rows h keep each up in
+    let all = map (shown_of params rule_columns) (filter keep stored) in
+    let one = finds_one stored all keep (shown_of params rule_columns) rule_in shown_rule (rule_fits role action collection class) (λ r. refl) (λ r. refl) refl in (
+      first_same office_schema match_text 3 matching rule_columns match_order asks_match params old new office.schema_is rows h,
+      one ∙ ap (option_map shown_rule) (sym (first_taken all) ∙ ap (λ rs. slice_get rs 0) (sym is)),
+    )

@@ -1,0 +1,50 @@
+-- What the statements on the deciding rule mean under the schema of an office.
+use Rattle.std.proofs.Common.{◌≡◌, ℕ, pos, List, [], ◌∷◌, codes, false, refl}
+use Rattle.sqlite.specs.declared.types.Value.TheVariants.{Int, Text}
+use Rattle.sqlite.specs.Term.{Term, lit, col, op2}
+use Rattle.sqlite.specs.Query.{Query}
+use Rattle.sqlite.specs.Schema.{Schema}
+use Rattle.sqlite.specs.Collation.TheVariants.{Binary}
+use Rattle.sqlite.specs.Command.TheVariants.{Select}
+use Rattle.sqlite.specs.Listing.{understood, reads_listing}
+use Rattle.sqlite.proofs.Callers.{IsPlain, command_of}
+use Rattle.sqlite_tied.specs.Compute.{everything}
+use Rattle.sqlite_value.specs.declared.keys.Key.{Key}
+use Rattle.sqlite_sql.specs.declared.ops.BinaryOp.TheVariants.{Compare, Or}
+use Rattle.sqlite_sql.specs.declared.ops.CompareOp.TheVariants.{Eq}
+use Rattle.sql_meaning.proofs.Scanning.{scan, as_program}
+use Rattle.sql_meaning.proofs.RowidKeys.{rising}
+use Rattle.office_tables.specs.Schema.{office_schema}
+use Rattle.office_tables.proofs.PolicyTexts.{rule_columns}
+
+-- SELECT project FROM table WHERE test ORDER BY order LIMIT 1
+abbrev pub first_scan : ℕ → List Term → List Term → List (Term × Key) → Query
+first_scan tree test project order = record (scan tree test project order) { limit = lit (Int (pos 1)) }
+
+pub record AsksFirst (schema : Schema) (text : List ℕ) (tree : ℕ) (test project : List Term) (order : List (Term × Key)) : Type 0 where
+  pub names : List (List ℕ)
+  pub command : command_of (understood schema text) ≡ Select (as_program (first_scan tree test project order)) names
+  pub unlisted : reads_listing schema text ≡ false
+  pub plain : IsPlain (understood schema text)
+
+-- the column has `*`, or the parameter
+abbrev pub star_or : ℕ → ℕ → Term
+star_or place param = op2 Or (op2 (Compare Eq Binary) (col 1 place) (lit (Text (codes "*")))) (op2 (Compare Eq Binary) (col 1 place) (col 0 param))
+
+abbrev pub match_text : List ℕ
+match_text = codes "SELECT place, effect, role, action, collection, class FROM rule WHERE role IN ('*', ?1) AND action IN ('*', ?2) AND collection IN ('*', ?3) AND class IN ('*', ?4) ORDER BY place LIMIT 1"
+
+abbrev pub matching : List Term
+matching = star_or 3 0 ∷ star_or 4 1 ∷ star_or 5 2 ∷ star_or 6 3 ∷ []
+
+abbrev pub match_order : List (Term × Key)
+match_order = rising
+
+pub asks_match : AsksFirst office_schema match_text 3 matching rule_columns match_order
+unfolding understood everything
+asks_match = record {
+  names = codes "place" ∷ codes "effect" ∷ codes "role" ∷ codes "action" ∷ codes "collection" ∷ codes "class" ∷ [];
+  command = refl;
+  unlisted = refl;
+  plain = (refl, refl);
+}

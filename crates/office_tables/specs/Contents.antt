@@ -1,0 +1,139 @@
+-- The contents that are kept once, and what the calls on them say. `old` is the database before a call and `new` the one after it.
+use Rattle.std.specs.Prelude.{◌≡◌, ℕ, ℤ, pos, List, [], ◌∷◌, ◌++◌, map, length, true, false, bytes_eq, Option, Some, None, ◌⊎◌, Result, IfOk, OnOk}
+use Rattle.std.specs.List.{AllByRecursion, IsDistinct, list_any}
+use Rattle.sha2.specs.Sha256.{sha256}
+use Rattle.sqlite.specs.Store.{Ghosts}
+use Rattle.sqlite.specs.State.{HasCleanDisk}
+use Rattle.sqlite.specs.Held.{Held, state}
+use Rattle.std.specs.Ordering.{int_eq}
+use Rattle.sqlite.specs.Order.{Row}
+use Rattle.sqlite.specs.Effect.{Database}
+use Rattle.sqlite_rules.specs.Lists.{Has}
+use Rattle.sql_meaning.specs.Columns.{int_at}
+use Rattle.office_rows.specs.Rows.{ContentRow, content_numbered, bytes_under, next_id, with_content, is_alike, file_at, with_file, without_files}
+use Rattle.office_tables.specs.Tables.{IsOffice, Becomes, tables_of, contents_of}
+
+-- the number of the content of each file
+abbrev pub references_of : Database → List ℤ
+references_of db = map (λ row. int_at row 3) (db.trees 10)
+
+-- ---- kept once
+
+-- no two contents have the same bytes
+abbrev pub StandOnce : List ContentRow → Type 0
+StandOnce contents = IsDistinct bytes_eq (map (λ c. c.bytes) contents)
+
+-- the mark is the SHA-256 of the bytes, and the size their number
+pub record IsMarked (c : ContentRow) : Type 0 where
+  pub mark : c.mark ≡ sha256 c.bytes
+  pub size : c.size ≡ pos (length c.bytes)
+
+-- each content is some file's
+abbrev pub AreUsed : List ℤ → List ContentRow → Type 0
+AreUsed references = AllByRecursion (λ c. list_any (λ id. int_eq id c.id) references ≡ true)
+
+pub record AreKeptOnce (references : List ℤ) (contents : List ContentRow) : Type 0 where
+  pub once : StandOnce contents
+  pub marked : AllByRecursion IsMarked contents
+  pub used : AreUsed references contents
+
+-- each content of the database once, under its own SHA-256 and with its size, and none that is no file's
+abbrev pub KeepsOnce : Database → Type 0
+KeepsOnce db = AreKeptOnce (references_of db) (contents_of db)
+
+-- ---- what a call makes of them
+
+-- contents that were kept once still are
+abbrev pub LeavesOnce : {S T E : Type 0} → Ghosts S → Held S → Held S → Result T E → Type 0
+LeavesOnce g old new result = HasCleanDisk (state g new) → IsOffice (state g old).now → KeepsOnce (state g old).now → OnOk result (KeepsOnce (state g new).now)
+
+-- this is so of the database before and after, and of what is answered
+abbrev pub Does : {S T E : Type 0} → Ghosts S → Held S → Held S → Result T E → (Database → Database → T → Type 0) → Type 0
+Does g old new result is_so = HasCleanDisk (state g new) → IsOffice (state g old).now → IfOk result (is_so (state g old).now (state g new).now)
+
+-- no row of the office changes, nor which content a file has
+pub record KeepsFiles (old new : Database) : Type 0 where
+  pub becomes : Becomes new (tables_of old)
+  pub references : references_of new ≡ references_of old
+
+-- the content of that mark and these bytes that comes after these
+abbrev pub content_after : List ContentRow → List ℕ → List ℕ → ContentRow
+content_after contents mark bytes = record { id = next_id contents; mark = mark; size = pos (length bytes); bytes = bytes }
+
+-- a content came at the end, under the next number
+pub record IsContentAdded (mark bytes : List ℕ) (old new : Database) : Type 0 where
+  pub keeps : KeepsFiles old new
+  pub contents : contents_of new ≡ contents_of old ++ content_after (contents_of old) mark bytes ∷ []
+
+-- the content under this number is there, with this mark and these bytes
+pub record IsContentThere (mark bytes : List ℕ) (id : ℤ) (db : Database) : Type 0 where
+  pub content : ContentRow
+  pub there : Has (contents_of db) content
+  pub numbered : content_numbered id (contents_of db) ≡ Some content
+  pub alike : is_alike mark bytes content ≡ true
+
+-- none has this mark and these bytes
+abbrev pub LacksContent : List ℕ → List ℕ → Database → Type 0
+LacksContent mark bytes db = list_any (is_alike mark bytes) (contents_of db) ≡ false
+
+abbrev pub IsFoundContent : List ℕ → List ℕ → Database → Option ℤ → Type 0
+IsFoundContent mark bytes db None = LacksContent mark bytes db
+IsFoundContent mark bytes db (Some id) = IsContentThere mark bytes id db
+
+-- one that has them was there already, and nothing changed
+pub record IsReused (mark bytes : List ℕ) (id : ℤ) (old new : Database) : Type 0 where
+  pub there : IsContentThere mark bytes id old
+  pub same : new ≡ old
+
+-- it came at the end under this number
+pub record IsNewContent (mark bytes : List ℕ) (id : ℤ) (old new : Database) : Type 0 where
+  pub keeps : KeepsFiles old new
+  pub numbered : id ≡ next_id (contents_of old)
+  pub contents : contents_of new ≡ contents_of old ++ content_after (contents_of old) mark bytes ∷ []
+
+-- a content with this mark and these bytes is there now under this number, and was added only where none was
+abbrev pub IsContentKept : List ℕ → List ℕ → Database → Database → ℤ → Type 0
+IsContentKept mark bytes old new id = IsReused mark bytes id old new ⊎ (LacksContent mark bytes old × IsNewContent mark bytes id old new)
+
+-- a file came at the end, whose content is the one under this number
+pub record IsFileAdded (n : ℤ) (path : List ℕ) (id : ℤ) (old new : Database) : Type 0 where
+  pub becomes : Becomes new (with_file (record { deposit = n; path = path; content = bytes_under (contents_of old) id }) (tables_of old))
+  pub contents : contents_of new ≡ contents_of old
+  pub references : references_of new ≡ references_of old ++ id ∷ []
+  pub new_path : file_at n path (tables_of old).files ≡ None
+
+-- the files of the deposit are gone, and a reference that was there is one of those that still are or was one of theirs
+pub record AreFilesDropped (n : ℤ) (old new : Database) : Type 0 where
+  pub becomes : Becomes new (without_files n (tables_of old))
+  pub contents : contents_of new ≡ contents_of old
+  pub references : (id : ℤ) → Has (references_of old) id → Has (references_of new) id ⊎ ((row : Row) × Has (old.trees 10) row × (int_eq (int_at row 1) n ≡ true) × (int_at row 3 ≡ id))
+
+-- a file came at the end; its content was there or came at the end too
+pub record IsMarkedPut (n : ℤ) (path mark bytes : List ℕ) (old new : Database) : Type 0 where
+  pub becomes : Becomes new (with_file (record { deposit = n; path = path; content = bytes }) (tables_of old))
+  pub new_path : file_at n path (tables_of old).files ≡ None
+  pub contents : contents_of new ≡ with_content mark bytes (contents_of old)
+  pub used : AreUsed (references_of old) (contents_of old) → AreUsed (references_of new) (contents_of new)
+
+-- ---- contents that nobody keeps
+
+-- each content is some file's, or one of these
+abbrev pub AreUsedOr : List ℤ → List ℤ → List ContentRow → Type 0
+AreUsedOr ids references = AllByRecursion (λ c. Has references c.id ⊎ Has ids c.id)
+
+-- no file changed; contents went, which of these numbers only those go on to stand that are these or some file's
+pub record IsTidied (ids rest : List ℤ) (old new : Database) : Type 0 where
+  pub keeps : KeepsFiles old new
+  pub once : StandOnce (contents_of old) → StandOnce (contents_of new)
+  pub marked : AllByRecursion IsMarked (contents_of old) → AllByRecursion IsMarked (contents_of new)
+  pub used : AreUsedOr ids (references_of old) (contents_of old) → AreUsedOr rest (references_of new) (contents_of new)
+
+-- ---- what kept once comes to
+
+-- the contents that are held are exactly these texts, each once, marked by its SHA-256 and with its length as its size
+pub record AreContents (texts : List (List ℕ)) (contents : List ContentRow) : Type 0 where
+  pub once : StandOnce contents
+  pub marked : AllByRecursion IsMarked contents
+  pub held : (x : List ℕ) → Has texts x → Has (map (λ c. c.bytes) contents) x
+  pub used : (x : List ℕ) → Has (map (λ c. c.bytes) contents) x → Has texts x
+  pub sizes : map (λ c. c.size) contents ≡ map (λ b. pos (length b)) (map (λ c. c.bytes) contents)

@@ -1,0 +1,25 @@
+-- The rows that queries on due days show, and the counts of holds that stay in range.
+use Rattle.std.specs.Prelude.{◌≡◌, ℤ, ◌+ℤ◌, true, List}
+use Rattle.std.specs.List.{AllByRecursion}
+use Rattle.sqlite.specs.Order.{Row}
+use Rattle.sqlite.specs.Ops.{fits_i64}
+use Rattle.sql_meaning.specs.Columns.{int_at, bytes_at, maybe_int_at}
+use Rattle.office_rows.specs.Rows.{DepositRow, DueRow}
+use Rattle.office_rows.specs.Told.{PlaceRow, ClosingRow}
+use Rattle.office_tables.specs.Deposits.{shown_deposit}
+
+abbrev pub shown_due : Row → DueRow
+shown_due row = record { number = int_at row 0; due = maybe_int_at row 1; holds = int_at row 2 }
+
+abbrev pub shown_beside : Row → DepositRow × DueRow
+shown_beside row = (shown_deposit row, record { number = int_at row 0; due = maybe_int_at row 9; holds = int_at row 10 })
+
+abbrev pub shown_place : Row → PlaceRow
+shown_place row = record { number = int_at row 0; collection = bytes_at row 1; class = bytes_at row 2 }
+
+abbrev pub shown_closing : Row → ClosingRow
+shown_closing row = record { number = int_at row 0; closed = int_at row 1 }
+
+-- as many more still fit 64 bits, of whichever deposit
+abbrev pub FitMore : ℤ → List DueRow → Type 0
+FitMore by = AllByRecursion (λ (d : DueRow). fits_i64 (d.holds +ℤ by) ≡ true)

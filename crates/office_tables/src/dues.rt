@@ -1,0 +1,426 @@
+//! When deposits fall due, and how many live holds cover each.
+
+ghost use Rattle.std.specs.Prelude.{◌≡◌, Some, None, IfOk, IfErr, OnOk, pos, option_map, slice_get, map};
+ghost use Rattle.sqlite.specs.State.{HasCleanDisk};
+ghost use Rattle.sqlite.specs.Held.{state};
+ghost use Rattle.office_tables.specs.Faults.{IsFailure};
+ghost use Rattle.office_rows.specs.Rows.{beside, due_numbered, with_due, with_holds, with_more_holds};
+ghost use Rattle.office_rows.specs.Told.{due_places, class_closings};
+ghost use Rattle.office_tables.specs.Tables.{IsOffice, Becomes, tables_of};
+ghost use Rattle.office_tables.specs.Calls.{CommitsNothing, Continues, Keeps, Tells, Shows, Writes};
+ghost use Rattle.office_tables.specs.Contents.{LeavesOnce};
+ghost use Rattle.office_tables.specs.Dues.{shown_due, shown_beside, shown_place, shown_closing, FitMore};
+
+use crate::deposits::{DepositRow, deposit_in};
+use crate::fault::TableFault;
+use crate::run::{ask, change};
+use sqlite::{Alter, Row, Transaction, params};
+use std::alloc::Global;
+use std::marker::Model;
+
+/// What is kept of a deposit beside its row.
+#[derive(Debug, Drop)]
+pub struct DueRow {
+    pub number: u32,
+    /// The day from which it may be destroyed; `None` where it is kept for good.
+    pub due: Option<i64>,
+    /// How many live holds cover it.
+    pub holds: i64,
+}
+
+impl Model for DueRow {
+    ghost use Rattle.std.specs.Prelude.{ℤ, Option, refl, pos};
+    ghost use Rattle.std.specs.Coded.{code_by, coded×, coded_option, coded_ℤ};
+    ghost use Rattle.office_rows.specs.Rows.{DueRow as Due};
+
+    ghost Value = { Due };
+
+    ghost coded = { code_by (ℤ × (Option ℤ × ℤ)) (coded× coded_ℤ (coded× (coded_option coded_ℤ) coded_ℤ)) (λ (d : Due). (d.number, (d.due, d.holds))) (λ p. record { number = p.0; due = p.1.0; holds = p.1.1 }) (λ _. refl) };
+
+    ghost view = { λ d. record { number = pos d.number; due = d.due; holds = d.holds } };
+}
+
+/// The row of a deposit, and what is kept beside it.
+#[derive(Debug, Drop)]
+pub struct DepositAndDue {
+    pub deposit: DepositRow,
+    pub kept: DueRow,
+}
+
+impl Model for DepositAndDue {
+    ghost use Rattle.office_rows.specs.Rows.{DepositRow as Deposit, DueRow as Due};
+
+    ghost Value = { Deposit × Due };
+
+    ghost view = { λ d. (d.deposit, d.kept) };
+}
+
+/// Where a deposit stands.
+#[derive(Debug, Drop)]
+pub struct PlaceRow {
+    pub number: u32,
+    pub collection: String,
+    pub class: String,
+}
+
+impl Model for PlaceRow {
+    ghost use Rattle.std.specs.Prelude.{List, ℕ, ℤ, string_bytes, refl, pos};
+    ghost use Rattle.std.specs.Coded.{code_by, coded×, coded_list, coded_ℕ, coded_ℤ};
+    ghost use Rattle.office_rows.specs.Told.{PlaceRow as Place};
+
+    ghost Value = { Place };
+
+    ghost coded = { code_by (ℤ × (List ℕ × List ℕ)) (coded× coded_ℤ (coded× (coded_list coded_ℕ) (coded_list coded_ℕ))) (λ (d : Place). (d.number, (d.collection, d.class))) (λ p. record { number = p.0; collection = p.1.0; class = p.1.1 }) (λ _. refl) };
+
+    ghost view = { λ d. record { number = pos d.number; collection = string_bytes d.collection; class = string_bytes d.class } };
+}
+
+/// When the records of a deposit were closed.
+#[derive(Debug, Drop)]
+pub struct ClosingRow {
+    pub number: u32,
+    pub closed: i64,
+}
+
+impl Model for ClosingRow {
+    ghost use Rattle.std.specs.Prelude.{ℤ, refl, pos};
+    ghost use Rattle.std.specs.Coded.{code_by, coded×, coded_ℤ};
+    ghost use Rattle.office_rows.specs.Told.{ClosingRow as Closing};
+
+    ghost Value = { Closing };
+
+    ghost coded = { code_by (ℤ × ℤ) (coded× coded_ℤ coded_ℤ) (λ (d : Closing). (d.number, d.closed)) (λ p. record { number = p.0; closed = p.1 }) (λ _. refl) };
+
+    ghost view = { λ d. record { number = pos d.number; closed = d.closed } };
+}
+
+/// The row that shows what is kept of the deposit of that number, if there is one.
+fn rows_of_due<S: Alter>(tx: &mut Transaction<'_, S>, number: u32) -> Result<Vec<Row>, TableFault>
+    ensures same_reference { tx.new.conn.ghost_name ≡ tx.old.conn.ghost_name }
+    ensures stays { CommitsNothing S.Store tx.old.conn.now tx.new.conn.now }
+    ensures goes_on { Continues S.Store tx.old.conn.now tx.new.conn.now result }
+    ensures failure { IfErr result IsFailure }
+    ensures found { Shows S.Store tx.old.conn.now tx.new.conn.now result (λ tables rows.
+        due_numbered (pos number) tables.dues ≡ option_map shown_due (slice_get rows.items 0)) }
+{
+    ask(
+        tx,
+        "SELECT number, due, holds FROM deposit WHERE number = ?1",
+        params![number],
+    )
+}
+
+fn due_in(row: &Row) -> Result<DueRow, TableFault>
+    ensures shown { IfOk result (λ due. due ≡ shown_due row.now) }
+    ensures failure { IfErr result IsFailure }
+{
+    Ok(DueRow {
+        number: row.get(0)?,
+        due: row.get(1)?,
+        holds: row.get(2)?,
+    })
+}
+
+/// What is kept of the deposit of that number; `None` where there is no such deposit.
+///
+/// Fails with `Memory` or `Store`.
+pub fn due_row<S: Alter>(
+    tx: &mut Transaction<'_, S>,
+    number: u32,
+) -> Result<Option<DueRow>, TableFault>
+    ensures same_reference { tx.new.conn.ghost_name ≡ tx.old.conn.ghost_name }
+    ensures stays { CommitsNothing S.Store tx.old.conn.now tx.new.conn.now }
+    ensures goes_on { Continues S.Store tx.old.conn.now tx.new.conn.now result }
+    ensures failure { IfErr result IsFailure }
+    ensures same { Keeps S.Store tx.old.conn.now tx.new.conn.now result }
+    ensures found { Tells S.Store tx.old.conn.now tx.new.conn.now result (λ tables found.
+        found ≡ due_numbered (pos number) tables.dues) }
+{
+    let rows = rows_of_due(tx, number)?;
+    match rows.first() {
+        Some(row) => Ok(Some(due_in(row)?)),
+        None => Ok(None),
+    }
+}
+
+/// The rows that show every deposit with what is kept beside it, by number.
+fn rows_beside<S: Alter>(tx: &mut Transaction<'_, S>) -> Result<Vec<Row>, TableFault>
+    ensures same_reference { tx.new.conn.ghost_name ≡ tx.old.conn.ghost_name }
+    ensures stays { CommitsNothing S.Store tx.old.conn.now tx.new.conn.now }
+    ensures goes_on { Continues S.Store tx.old.conn.now tx.new.conn.now result }
+    ensures failure { IfErr result IsFailure }
+    ensures found { Shows S.Store tx.old.conn.now tx.new.conn.now result (λ tables rows.
+        beside tables.deposits tables.dues ≡ map shown_beside rows.items) }
+{
+    ask(
+        tx,
+        "SELECT number, accession, collection, class, closed, deposited, files, bytes, gone, due, holds FROM deposit ORDER BY number",
+        &[],
+    )
+}
+
+/// The deposit that a row shows, with what is kept beside it.
+fn both_in(row: &Row) -> Result<DepositAndDue, TableFault>
+    ensures shown { IfOk result (λ both. both ≡ shown_beside row.now) }
+    ensures failure { IfErr result IsFailure }
+{
+    Ok(DepositAndDue {
+        deposit: deposit_in(row)?,
+        kept: DueRow {
+            number: row.get(0)?,
+            due: row.get(9)?,
+            holds: row.get(10)?,
+        },
+    })
+}
+
+/// The deposits that the rows show, each with what is kept beside it.
+fn all_in(alloc: Global, rows: &[Row]) -> Result<Vec<DepositAndDue>, TableFault>
+    ensures shown { IfOk result (λ all. all.items ≡ map shown_beside rows.now) }
+    ensures failure { IfErr result IsFailure }
+{
+    let mut all = Vec::new(alloc);
+    for row in rows {
+        all.push(both_in(row)?)?;
+    }
+    Ok(all)
+}
+
+/// The rows of all deposits, each with what is kept beside it, by number.
+///
+/// Fails with `Memory` or `Store`.
+pub fn deposits_and_dues<S: Alter>(
+    alloc: Global,
+    tx: &mut Transaction<'_, S>,
+) -> Result<Vec<DepositAndDue>, TableFault>
+    ensures same_reference { tx.new.conn.ghost_name ≡ tx.old.conn.ghost_name }
+    ensures stays { CommitsNothing S.Store tx.old.conn.now tx.new.conn.now }
+    ensures goes_on { Continues S.Store tx.old.conn.now tx.new.conn.now result }
+    ensures failure { IfErr result IsFailure }
+    ensures same { Keeps S.Store tx.old.conn.now tx.new.conn.now result }
+    ensures found { Tells S.Store tx.old.conn.now tx.new.conn.now result (λ tables rows.
+        rows.items ≡ beside tables.deposits tables.dues) }
+{
+    let rows = rows_beside(tx)?;
+    all_in(alloc, &rows)
+}
+
+/// Sets the day from which the deposit of that number may be destroyed.
+fn set_day<S: Alter>(tx: &mut Transaction<'_, S>, number: u32, day: i64) -> Result<(), TableFault>
+    ensures same_reference { tx.new.conn.ghost_name ≡ tx.old.conn.ghost_name }
+    ensures stays { CommitsNothing S.Store tx.old.conn.now tx.new.conn.now }
+    ensures goes_on { Continues S.Store tx.old.conn.now tx.new.conn.now result }
+    ensures failure { IfErr result IsFailure }
+    ensures becomes { Writes S.Store tx.old.conn.now tx.new.conn.now result (with_due (pos number) (Some day)) }
+    ensures once { LeavesOnce S.Store tx.old.conn.now tx.new.conn.now result }
+{
+    change(
+        tx,
+        "UPDATE deposit SET due = ?2 WHERE number = ?1",
+        params![number, day],
+    )?;
+    Ok(())
+}
+
+/// Notes that the deposit of that number is kept for good.
+fn clear_day<S: Alter>(tx: &mut Transaction<'_, S>, number: u32) -> Result<(), TableFault>
+    ensures same_reference { tx.new.conn.ghost_name ≡ tx.old.conn.ghost_name }
+    ensures stays { CommitsNothing S.Store tx.old.conn.now tx.new.conn.now }
+    ensures goes_on { Continues S.Store tx.old.conn.now tx.new.conn.now result }
+    ensures failure { IfErr result IsFailure }
+    ensures becomes { Writes S.Store tx.old.conn.now tx.new.conn.now result (with_due (pos number) None) }
+    ensures once { LeavesOnce S.Store tx.old.conn.now tx.new.conn.now result }
+{
+    change(
+        tx,
+        "UPDATE deposit SET due = NULL WHERE number = ?1",
+        params![number],
+    )?;
+    Ok(())
+}
+
+/// Sets the day from which the deposit of that number may be destroyed, or that it is kept for good; where
+/// there is no such deposit, nothing changes.
+///
+/// Fails with `Memory` or `Store`.
+pub fn set_due<S: Alter>(
+    tx: &mut Transaction<'_, S>,
+    number: u32,
+    due: Option<i64>,
+) -> Result<(), TableFault>
+    ensures same_reference { tx.new.conn.ghost_name ≡ tx.old.conn.ghost_name }
+    ensures stays { CommitsNothing S.Store tx.old.conn.now tx.new.conn.now }
+    ensures goes_on { Continues S.Store tx.old.conn.now tx.new.conn.now result }
+    ensures failure { IfErr result IsFailure }
+    ensures becomes { Writes S.Store tx.old.conn.now tx.new.conn.now result (with_due (pos number) due) }
+    ensures once { LeavesOnce S.Store tx.old.conn.now tx.new.conn.now result }
+{
+    match due {
+        Some(day) => set_day(tx, number, day),
+        None => clear_day(tx, number),
+    }
+}
+
+/// Sets how many live holds cover the deposit of that number; where there is no such deposit, nothing
+/// changes.
+///
+/// Fails with `Memory` or `Store`.
+pub fn set_holds<S: Alter>(
+    tx: &mut Transaction<'_, S>,
+    number: u32,
+    holds: i64,
+) -> Result<(), TableFault>
+    ensures same_reference { tx.new.conn.ghost_name ≡ tx.old.conn.ghost_name }
+    ensures stays { CommitsNothing S.Store tx.old.conn.now tx.new.conn.now }
+    ensures goes_on { Continues S.Store tx.old.conn.now tx.new.conn.now result }
+    ensures failure { IfErr result IsFailure }
+    ensures becomes { Writes S.Store tx.old.conn.now tx.new.conn.now result (with_holds (pos number) holds) }
+    ensures once { LeavesOnce S.Store tx.old.conn.now tx.new.conn.now result }
+{
+    change(
+        tx,
+        "UPDATE deposit SET holds = ?2 WHERE number = ?1",
+        params![number, holds],
+    )?;
+    Ok(())
+}
+
+/// Counts as many more live holds over each deposit of the collection.
+///
+/// Fails with `Memory` or `Store`, and with `Store` where a count would leave 64 bits.
+pub fn add_holds<S: Alter>(
+    tx: &mut Transaction<'_, S>,
+    collection: &str,
+    by: i64,
+) -> Result<(), TableFault>
+    ensures same_reference { tx.new.conn.ghost_name ≡ tx.old.conn.ghost_name }
+    ensures stays { CommitsNothing S.Store tx.old.conn.now tx.new.conn.now }
+    ensures goes_on { Continues S.Store tx.old.conn.now tx.new.conn.now result }
+    ensures failure { IfErr result IsFailure }
+    ensures becomes { HasCleanDisk (state S.Store tx.new.conn.now) → IsOffice (state S.Store tx.old.conn.now).now
+        → FitMore by (tables_of (state S.Store tx.old.conn.now).now).dues
+        → OnOk result (Becomes (state S.Store tx.new.conn.now).now (with_more_holds collection.now by (tables_of (state S.Store tx.old.conn.now).now))) }
+    ensures once { LeavesOnce S.Store tx.old.conn.now tx.new.conn.now result }
+{
+    change(
+        tx,
+        "UPDATE deposit SET holds = holds + ?2 WHERE collection = ?1",
+        params![collection, by],
+    )?;
+    Ok(())
+}
+
+/// The rows that show the deposits that may be destroyed on that day, by the rules aside.
+fn rows_due<S: Alter>(tx: &mut Transaction<'_, S>, day: i64) -> Result<Vec<Row>, TableFault>
+    ensures same_reference { tx.new.conn.ghost_name ≡ tx.old.conn.ghost_name }
+    ensures stays { CommitsNothing S.Store tx.old.conn.now tx.new.conn.now }
+    ensures goes_on { Continues S.Store tx.old.conn.now tx.new.conn.now result }
+    ensures failure { IfErr result IsFailure }
+    ensures found { Shows S.Store tx.old.conn.now tx.new.conn.now result (λ tables rows.
+        due_places day tables ≡ map shown_place rows.items) }
+{
+    ask(
+        tx,
+        "SELECT number, collection, class FROM deposit WHERE gone IS NULL AND holds = 0 AND due >= ?2 AND due <= ?1 ORDER BY number",
+        params![day, i64::MIN],
+    )
+}
+
+fn place_in(row: &Row) -> Result<PlaceRow, TableFault>
+    ensures shown { IfOk result (λ place. place ≡ shown_place row.now) }
+    ensures failure { IfErr result IsFailure }
+{
+    Ok(PlaceRow {
+        number: row.get(0)?,
+        collection: row.get(1)?,
+        class: row.get(2)?,
+    })
+}
+
+fn places_in(alloc: Global, rows: &[Row]) -> Result<Vec<PlaceRow>, TableFault>
+    ensures shown { IfOk result (λ places. places.items ≡ map shown_place rows.now) }
+    ensures failure { IfErr result IsFailure }
+{
+    let mut places = Vec::new(alloc);
+    for row in rows {
+        places.push(place_in(row)?)?;
+    }
+    Ok(places)
+}
+
+/// The kept deposits that no live hold covers and that have fallen due by that day, by number.
+///
+/// Fails with `Memory` or `Store`.
+pub fn due_rows<S: Alter>(
+    alloc: Global,
+    tx: &mut Transaction<'_, S>,
+    day: i64,
+) -> Result<Vec<PlaceRow>, TableFault>
+    ensures same_reference { tx.new.conn.ghost_name ≡ tx.old.conn.ghost_name }
+    ensures stays { CommitsNothing S.Store tx.old.conn.now tx.new.conn.now }
+    ensures goes_on { Continues S.Store tx.old.conn.now tx.new.conn.now result }
+    ensures failure { IfErr result IsFailure }
+    ensures same { Keeps S.Store tx.old.conn.now tx.new.conn.now result }
+    ensures found { Tells S.Store tx.old.conn.now tx.new.conn.now result (λ tables places.
+        places.items ≡ due_places day tables) }
+{
+    let rows = rows_due(tx, day)?;
+    places_in(alloc, &rows)
+}
+
+/// The rows that show the deposits of the class.
+fn rows_closed<S: Alter>(tx: &mut Transaction<'_, S>, class: &str) -> Result<Vec<Row>, TableFault>
+    ensures same_reference { tx.new.conn.ghost_name ≡ tx.old.conn.ghost_name }
+    ensures stays { CommitsNothing S.Store tx.old.conn.now tx.new.conn.now }
+    ensures goes_on { Continues S.Store tx.old.conn.now tx.new.conn.now result }
+    ensures failure { IfErr result IsFailure }
+    ensures found { Shows S.Store tx.old.conn.now tx.new.conn.now result (λ tables rows.
+        class_closings class.now tables ≡ map shown_closing rows.items) }
+{
+    ask(
+        tx,
+        "SELECT number, closed FROM deposit WHERE class = ?1 ORDER BY number",
+        params![class],
+    )
+}
+
+fn closing_in(row: &Row) -> Result<ClosingRow, TableFault>
+    ensures shown { IfOk result (λ closing. closing ≡ shown_closing row.now) }
+    ensures failure { IfErr result IsFailure }
+{
+    Ok(ClosingRow {
+        number: row.get(0)?,
+        closed: row.get(1)?,
+    })
+}
+
+fn closings_in(alloc: Global, rows: &[Row]) -> Result<Vec<ClosingRow>, TableFault>
+    ensures shown { IfOk result (λ closings. closings.items ≡ map shown_closing rows.now) }
+    ensures failure { IfErr result IsFailure }
+{
+    let mut closings = Vec::new(alloc);
+    for row in rows {
+        closings.push(closing_in(row)?)?;
+    }
+    Ok(closings)
+}
+
+/// The deposits of the class with their closing days, by number.
+///
+/// Fails with `Memory` or `Store`.
+pub fn rows_of_class<S: Alter>(
+    alloc: Global,
+    tx: &mut Transaction<'_, S>,
+    class: &str,
+) -> Result<Vec<ClosingRow>, TableFault>
+    ensures same_reference { tx.new.conn.ghost_name ≡ tx.old.conn.ghost_name }
+    ensures stays { CommitsNothing S.Store tx.old.conn.now tx.new.conn.now }
+    ensures goes_on { Continues S.Store tx.old.conn.now tx.new.conn.now result }
+    ensures failure { IfErr result IsFailure }
+    ensures same { Keeps S.Store tx.old.conn.now tx.new.conn.now result }
+    ensures found { Tells S.Store tx.old.conn.now tx.new.conn.now result (λ tables closings.
+        closings.items ≡ class_closings class.now tables) }
+{
+    let rows = rows_closed(tx, class)?;
+    closings_in(alloc, &rows)
+}

@@ -1,0 +1,296 @@
+//! The contents of files, each kept once.
+
+ghost use Rattle.std.specs.Prelude.{◌≡◌, ℤ, List, [], ◌∷◌, true, false, IfErr, IfOk, Some, map, filter, not, pos, length, slice_get, option_map};
+ghost use Rattle.std.specs.List.{list_any};
+ghost use Rattle.std.specs.Ordering.{int_eq};
+ghost use Rattle.sqlite_rules.specs.Lists.{Has};
+ghost use Rattle.sql_meaning.specs.Columns.{int_at, bytes_at};
+ghost use Rattle.office_rows.specs.Rows.{content_numbered, is_content, is_alike, last_number};
+ghost use Rattle.office_tables.specs.Faults.{IsFailure};
+ghost use Rattle.office_tables.specs.Tables.{contents_of};
+ghost use Rattle.office_tables.specs.Calls.{CommitsNothing, Continues, ContinuesInTurn, Keeps};
+ghost use Rattle.office_tables.specs.Contents.{Does, KeepsFiles, IsContentAdded, IsNewContent, IsContentKept, IsFoundContent, IsTidied};
+
+use crate::fault::TableFault;
+use crate::run::{ask, change, number_in};
+use sqlite::{Alter, Row, Transaction, params};
+use std::alloc::Global;
+
+/// The row that shows the bytes of the content of that number, if there is one.
+fn rows_of_content<S: Alter>(tx: &mut Transaction<'_, S>, id: i64) -> Result<Vec<Row>, TableFault>
+    ensures same_reference { tx.new.conn.ghost_name ≡ tx.old.conn.ghost_name }
+    ensures stays { CommitsNothing S.Store tx.old.conn.now tx.new.conn.now }
+    ensures goes_on { Continues S.Store tx.old.conn.now tx.new.conn.now result }
+    ensures failure { IfErr result IsFailure }
+    ensures found { Does S.Store tx.old.conn.now tx.new.conn.now result (λ old new rows. (new ≡ old)
+        × (option_map (λ c. c.bytes) (content_numbered id (contents_of old)) ≡ option_map (λ row. bytes_at row 0) (slice_get rows.items 0))) }
+{
+    ask(tx, "SELECT bytes FROM content WHERE id = ?1", params![id])
+}
+
+/// Rows that show the numbers of the contents with that mark and these bytes; the store compares the bytes.
+fn rows_alike<S: Alter>(
+    tx: &mut Transaction<'_, S>,
+    mark: &[u8],
+    bytes: &[u8],
+) -> Result<Vec<Row>, TableFault>
+    ensures same_reference { tx.new.conn.ghost_name ≡ tx.old.conn.ghost_name }
+    ensures stays { CommitsNothing S.Store tx.old.conn.now tx.new.conn.now }
+    ensures goes_on { Continues S.Store tx.old.conn.now tx.new.conn.now result }
+    ensures failure { IfErr result IsFailure }
+    ensures found { Does S.Store tx.old.conn.now tx.new.conn.now result (λ old new rows. (new ≡ old)
+        × (rows.items ≡ [] → list_any (is_alike mark.now bytes.now) (contents_of old) ≡ false)
+        × ((x : _) → slice_get rows.items 0 ≡ Some x → (c : _) × Has (contents_of old) c × (int_at x 0 ≡ c.id) × (is_alike mark.now bytes.now c ≡ true))) }
+{
+    ask(
+        tx,
+        "SELECT id FROM content WHERE mark = ?1 AND bytes = ?2",
+        params![mark, bytes],
+    )
+}
+
+/// Adds a content at the end, under the next number.
+fn add_content<S: Alter>(
+    tx: &mut Transaction<'_, S>,
+    mark: &[u8],
+    size: i64,
+    bytes: &[u8],
+) -> Result<usize, TableFault>
+    requires sized { size ≡ pos (length bytes.now) }
+    ensures same_reference { tx.new.conn.ghost_name ≡ tx.old.conn.ghost_name }
+    ensures stays { CommitsNothing S.Store tx.old.conn.now tx.new.conn.now }
+    ensures goes_on { Continues S.Store tx.old.conn.now tx.new.conn.now result }
+    ensures failure { IfErr result IsFailure }
+    ensures added { Does S.Store tx.old.conn.now tx.new.conn.now result (λ old new _. IsContentAdded mark.now bytes.now old new) }
+{
+    change(
+        tx,
+        "INSERT INTO content (mark, size, bytes) VALUES (?1, ?2, ?3)",
+        params![mark, size, bytes],
+    )
+}
+
+/// The row that shows the number of the last content, if there is one.
+fn rows_of_last<S: Alter>(tx: &mut Transaction<'_, S>) -> Result<Vec<Row>, TableFault>
+    ensures same_reference { tx.new.conn.ghost_name ≡ tx.old.conn.ghost_name }
+    ensures stays { CommitsNothing S.Store tx.old.conn.now tx.new.conn.now }
+    ensures goes_on { Continues S.Store tx.old.conn.now tx.new.conn.now result }
+    ensures failure { IfErr result IsFailure }
+    ensures found { Does S.Store tx.old.conn.now tx.new.conn.now result (λ old new rows. (new ≡ old)
+        × (last_number (λ c. c.id) (contents_of old) ≡ option_map (λ row. int_at row 0) (slice_get rows.items 0))) }
+{
+    ask(tx, "SELECT id FROM content ORDER BY id DESC LIMIT 1", &[])
+}
+
+/// A row where some file has the content of that number, and else none.
+fn rows_of_users<S: Alter>(tx: &mut Transaction<'_, S>, id: i64) -> Result<Vec<Row>, TableFault>
+    ensures same_reference { tx.new.conn.ghost_name ≡ tx.old.conn.ghost_name }
+    ensures stays { CommitsNothing S.Store tx.old.conn.now tx.new.conn.now }
+    ensures goes_on { Continues S.Store tx.old.conn.now tx.new.conn.now result }
+    ensures failure { IfErr result IsFailure }
+    ensures found { Does S.Store tx.old.conn.now tx.new.conn.now result (λ old new rows. (new ≡ old)
+        × (list_any (λ r. int_eq (int_at r 3) id) (old.trees 10) ≡ list_any (λ r. true) rows.items)) }
+{
+    ask(
+        tx,
+        "SELECT deposit FROM file WHERE content = ?1 LIMIT 1",
+        params![id],
+    )
+}
+
+/// Takes out the content of that number.
+fn remove_content<S: Alter>(tx: &mut Transaction<'_, S>, id: i64) -> Result<usize, TableFault>
+    ensures same_reference { tx.new.conn.ghost_name ≡ tx.old.conn.ghost_name }
+    ensures stays { CommitsNothing S.Store tx.old.conn.now tx.new.conn.now }
+    ensures goes_on { Continues S.Store tx.old.conn.now tx.new.conn.now result }
+    ensures failure { IfErr result IsFailure }
+    ensures removed { Does S.Store tx.old.conn.now tx.new.conn.now result (λ old new _. KeepsFiles old new × (contents_of new ≡ filter (λ c. not (is_content id c)) (contents_of old))) }
+{
+    change(tx, "DELETE FROM content WHERE id = ?1", params![id])
+}
+
+/// The rows that show the number and the size of each content, ascending.
+fn rows_of_contents<S: Alter>(tx: &mut Transaction<'_, S>) -> Result<Vec<Row>, TableFault>
+    ensures same_reference { tx.new.conn.ghost_name ≡ tx.old.conn.ghost_name }
+    ensures stays { CommitsNothing S.Store tx.old.conn.now tx.new.conn.now }
+    ensures goes_on { Continues S.Store tx.old.conn.now tx.new.conn.now result }
+    ensures failure { IfErr result IsFailure }
+    ensures found { Does S.Store tx.old.conn.now tx.new.conn.now result (λ old new rows. (new ≡ old)
+        × (map {B = ℤ × ℤ} (λ c. (c.id, c.size)) (contents_of old) ≡ map {B = ℤ × ℤ} (λ row. (int_at row 0, int_at row 1)) rows.items)) }
+{
+    ask(tx, "SELECT id, size FROM content ORDER BY id", &[])
+}
+
+/// The bytes of the content of that number; `None` where there is no such content.
+pub(crate) fn content_of<S: Alter>(
+    tx: &mut Transaction<'_, S>,
+    id: i64,
+) -> Result<Option<Vec<u8>>, TableFault>
+    ensures same_reference { tx.new.conn.ghost_name ≡ tx.old.conn.ghost_name }
+    ensures stays { CommitsNothing S.Store tx.old.conn.now tx.new.conn.now }
+    ensures goes_on { Continues S.Store tx.old.conn.now tx.new.conn.now result }
+    ensures failure { IfErr result IsFailure }
+    ensures found { Does S.Store tx.old.conn.now tx.new.conn.now result (λ old new found. (new ≡ old)
+        × (option_map (λ content. content.items) found ≡ option_map (λ c. c.bytes) (content_numbered id (contents_of old)))) }
+{
+    let rows = rows_of_content(tx, id)?;
+    match rows.first() {
+        Some(row) => Ok(Some(row.get(0)?)),
+        None => Ok(None),
+    }
+}
+
+/// The number of a content with that mark and these bytes, if there is one.
+fn content_alike<S: Alter>(
+    tx: &mut Transaction<'_, S>,
+    mark: &[u8],
+    bytes: &[u8],
+) -> Result<Option<i64>, TableFault>
+    ensures same_reference { tx.new.conn.ghost_name ≡ tx.old.conn.ghost_name }
+    ensures stays { CommitsNothing S.Store tx.old.conn.now tx.new.conn.now }
+    ensures goes_on { Continues S.Store tx.old.conn.now tx.new.conn.now result }
+    ensures failure { IfErr result IsFailure }
+    ensures found { Does S.Store tx.old.conn.now tx.new.conn.now result (λ old new found. (new ≡ old) × IsFoundContent mark.now bytes.now old found) }
+{
+    let rows = rows_alike(tx, mark, bytes)?;
+    match rows.first() {
+        Some(row) => Ok(Some(number_in(row, 0)?)),
+        None => Ok(None),
+    }
+}
+
+/// The number of the last content.
+fn last_content<S: Alter>(tx: &mut Transaction<'_, S>) -> Result<i64, TableFault>
+    ensures same_reference { tx.new.conn.ghost_name ≡ tx.old.conn.ghost_name }
+    ensures stays { CommitsNothing S.Store tx.old.conn.now tx.new.conn.now }
+    ensures goes_on { Continues S.Store tx.old.conn.now tx.new.conn.now result }
+    ensures failure { IfErr result IsFailure }
+    ensures found { Does S.Store tx.old.conn.now tx.new.conn.now result (λ old new id. (new ≡ old) × (last_number (λ c. c.id) (contents_of old) ≡ Some id)) }
+{
+    let rows = rows_of_last(tx)?;
+    match rows.first() {
+        Some(row) => Ok(number_in(row, 0)?),
+        None => Err(TableFault::Store),
+    }
+}
+
+/// Adds a content at the end, and tells its number.
+fn new_content<S: Alter>(
+    tx: &mut Transaction<'_, S>,
+    mark: &[u8],
+    bytes: &[u8],
+) -> Result<i64, TableFault>
+    ensures same_reference { tx.new.conn.ghost_name ≡ tx.old.conn.ghost_name }
+    ensures stays { CommitsNothing S.Store tx.old.conn.now tx.new.conn.now }
+    ensures goes_on { Continues S.Store tx.old.conn.now tx.new.conn.now result }
+    ensures failure { IfErr result IsFailure }
+    ensures kept { Does S.Store tx.old.conn.now tx.new.conn.now result (λ old new id. IsNewContent mark.now bytes.now id old new) }
+{
+    let Ok(size) = i64::try_from(bytes.len()) else {
+        return Err(TableFault::Store);
+    };
+    add_content(tx, mark, size, bytes)?;
+    last_content(tx)
+}
+
+/// The number of a content with that mark and these bytes, which is added at the end where there is none.
+pub(crate) fn keep_content<S: Alter>(
+    tx: &mut Transaction<'_, S>,
+    mark: &[u8],
+    bytes: &[u8],
+) -> Result<i64, TableFault>
+    ensures same_reference { tx.new.conn.ghost_name ≡ tx.old.conn.ghost_name }
+    ensures stays { CommitsNothing S.Store tx.old.conn.now tx.new.conn.now }
+    ensures goes_on { Continues S.Store tx.old.conn.now tx.new.conn.now result }
+    ensures failure { IfErr result IsFailure }
+    ensures kept { Does S.Store tx.old.conn.now tx.new.conn.now result (IsContentKept mark.now bytes.now) }
+{
+    match content_alike(tx, mark, bytes)? {
+        Some(id) => Ok(id),
+        None => new_content(tx, mark, bytes),
+    }
+}
+
+/// Whether some file has the content of that number.
+fn is_used<S: Alter>(tx: &mut Transaction<'_, S>, id: i64) -> Result<bool, TableFault>
+    ensures same_reference { tx.new.conn.ghost_name ≡ tx.old.conn.ghost_name }
+    ensures stays { CommitsNothing S.Store tx.old.conn.now tx.new.conn.now }
+    ensures goes_on { Continues S.Store tx.old.conn.now tx.new.conn.now result }
+    ensures failure { IfErr result IsFailure }
+    ensures found { Does S.Store tx.old.conn.now tx.new.conn.now result (λ old new used. (new ≡ old) × (list_any (λ r. int_eq (int_at r 3) id) (old.trees 10) ≡ used)) }
+{
+    let rows = rows_of_users(tx, id)?;
+    Ok(!rows.is_empty())
+}
+
+/// Takes out the content of that number unless some file has it.
+fn drop_unused<S: Alter>(tx: &mut Transaction<'_, S>, id: i64) -> Result<(), TableFault>
+    ensures same_reference { tx.new.conn.ghost_name ≡ tx.old.conn.ghost_name }
+    ensures stays { CommitsNothing S.Store tx.old.conn.now tx.new.conn.now }
+    ensures goes_on { Continues S.Store tx.old.conn.now tx.new.conn.now result }
+    ensures failure { IfErr result IsFailure }
+    ensures tidied { Does S.Store tx.old.conn.now tx.new.conn.now result (λ old new _. (ids : List ℤ) → IsTidied (id ∷ ids) ids old new) }
+{
+    if !is_used(tx, id)? {
+        remove_content(tx, id)?;
+    }
+    Ok(())
+}
+
+/// Takes out each content whose number a row shows and which no file has.
+pub(crate) fn drop_each_unused<S: Alter>(
+    tx: &mut Transaction<'_, S>,
+    rows: &[Row],
+) -> Result<(), TableFault>
+    ensures same_reference { tx.new.conn.ghost_name ≡ tx.old.conn.ghost_name }
+    ensures stays { CommitsNothing S.Store tx.old.conn.now tx.new.conn.now }
+    ensures goes_on { ContinuesInTurn S.Store tx.old.conn.now tx.new.conn.now result }
+    ensures failure { IfErr result IsFailure }
+    ensures tidied { Does S.Store tx.old.conn.now tx.new.conn.now result (λ old new _. IsTidied (map (λ row. int_at row 0) rows.now) [] old new) }
+{
+    for row in rows {
+        let id = number_in(row, 0)?;
+        drop_unused(tx, id)?;
+    }
+    Ok(())
+}
+
+/// How large the content of a number is.
+#[derive(Clone, Copy, Debug, PartialEq, Eq)]
+pub struct ContentSize {
+    pub id: i64,
+    pub size: i64,
+}
+
+/// The sizes in the rows that a query shows.
+fn sizes_in(alloc: Global, rows: &[Row]) -> Result<Vec<ContentSize>, TableFault>
+    ensures shown { IfOk result (λ sizes. map {B = ℤ × ℤ} (λ s. (s.id, s.size)) sizes.items ≡ map {B = ℤ × ℤ} (λ row. (int_at row 0, int_at row 1)) rows.now) }
+    ensures failure { IfErr result IsFailure }
+{
+    let mut sizes = Vec::new(alloc);
+    for row in rows {
+        sizes.push(ContentSize {
+            id: number_in(row, 0)?,
+            size: number_in(row, 1)?,
+        })?;
+    }
+    Ok(sizes)
+}
+
+/// The number and the size of each content, ascending.
+///
+/// Fails with `Memory` or `Store`.
+pub fn contents<S: Alter>(
+    alloc: Global,
+    tx: &mut Transaction<'_, S>,
+) -> Result<Vec<ContentSize>, TableFault>
+    ensures same_reference { tx.new.conn.ghost_name ≡ tx.old.conn.ghost_name }
+    ensures stays { CommitsNothing S.Store tx.old.conn.now tx.new.conn.now }
+    ensures goes_on { Continues S.Store tx.old.conn.now tx.new.conn.now result }
+    ensures failure { IfErr result IsFailure }
+    ensures found { Does S.Store tx.old.conn.now tx.new.conn.now result (λ old new sizes. (new ≡ old)
+        × (map {B = ℤ × ℤ} (λ s. (s.id, s.size)) sizes.items ≡ map {B = ℤ × ℤ} (λ c. (c.id, c.size)) (contents_of old))) }
+{
+    let rows = rows_of_contents(tx)?;
+    sizes_in(alloc, &rows)
+}
