@@ -23,15 +23,29 @@ RECORD = b"r" * 10_108
 MANIFEST = hashlib.sha256(RECORD).hexdigest().encode() + b"  data/record\n"
 FILES = [("bagit.txt", DECLARATION), ("data/record", RECORD), ("manifest-sha256.txt", MANIFEST)]
 PUT_DEPOSIT = (
-    "INSERT INTO deposit (number, accession, collection, class, closed, deposited, files, bytes)"
-    " VALUES (?1, ?2, ?3, ?4, ?5, ?6, ?7, ?8)"
+    "INSERT INTO deposit (number, accession, collection, class, closed, deposited, files, bytes, holds)"
+    " VALUES (?1, ?2, ?3, ?4, ?5, ?6, ?7, ?8, 0)"
 )
+SET_DUE = "UPDATE deposit SET due = ?2 WHERE number = ?1"
+SET_HOLDS = "UPDATE deposit SET holds = ?2 WHERE number = ?1"
+# Each deposit's count of the live holds that cover it.
+COUNT_HOLDS = (
+    "UPDATE deposit SET holds ="
+    " (SELECT count(*) FROM hold WHERE hold.deposit = deposit.number AND released IS NULL)"
+    " + (SELECT count(*) FROM hold WHERE hold.collection = deposit.collection AND released IS NULL)"
+)
+# The due day of a bag: ten years after its closing day.
+DUE = 24106
+CONTENT_ALIKE = "SELECT id FROM content WHERE mark = ?1 AND bytes = ?2"
+PUT_CONTENT = "INSERT INTO content (mark, size, bytes) VALUES (?1, ?2, ?3)"
+LAST_CONTENT = "SELECT id FROM content ORDER BY id DESC LIMIT 1"
 PUT_FILE = "INSERT INTO file (deposit, path, content) VALUES (?1, ?2, ?3)"
 PUT_HOLD = (
     "INSERT INTO hold (number, deposit, collection, matter, placed, released)"
     " VALUES (?1, ?2, ?3, ?4, ?5, ?6)"
 )
-FILE_OF = "SELECT content FROM file WHERE deposit = ?1 AND path = ?2"
+CONTENT_ID = "SELECT content FROM file WHERE deposit = ?1 AND path = ?2"
+CONTENT_OF = "SELECT bytes FROM content WHERE id = ?1"
 
 
 def ours(*words):
@@ -51,15 +65,49 @@ def opened(file):
     return conn
 
 
+def put_file(conn, number, path, content):
+    """A file of a deposit, whose content is kept once."""
+    mark = hashlib.sha256(content).digest()
+    found = conn.execute(CONTENT_ALIKE, (mark, content)).fetchone()
+    if not found:
+        conn.execute(PUT_CONTENT, (mark, len(content), content))
+        found = conn.execute(LAST_CONTENT).fetchone()
+    conn.execute(PUT_FILE, (number, path, found[0]))
+
+
+def file_of(conn, number, path):
+    """The content of a file."""
+    found = conn.execute(CONTENT_ID, (number, path)).fetchone()
+    return conn.execute(CONTENT_OF, found).fetchone()[0]
+
+
+def put_row(conn, number):
+    """The row of a deposit of a bag of 10 KiB."""
+    conn.execute(PUT_DEPOSIT, (number, f"2026-{number:07}", "tax", "y10", 20454, 20500, 1, 10108))
+
+
+def put_files(conn, number, files):
+    """The files of a deposit."""
+    for path, content in files:
+        put_file(conn, number, path, content)
+
+
 def put_bag(conn, number):
     """A deposit of the bag and its three files."""
-    conn.execute(PUT_DEPOSIT, (number, f"2026-{number:07}", "tax", "y10", 20454, 20500, 1, 10108))
-    for path, content in FILES:
-        conn.execute(PUT_FILE, (number, path, content))
+    put_row(conn, number)
+    put_files(conn, number, FILES)
+
+
+def own_files(number):
+    """The files of a bag of the same size, whose record and manifest no other deposit has."""
+    record = b"%010d" % number + RECORD[10:]
+    manifest = hashlib.sha256(record).hexdigest().encode() + b"  data/record\n"
+    return [("bagit.txt", DECLARATION), ("data/record", record), ("manifest-sha256.txt", manifest)]
 
 
 def filled(folder, rows):
-    """An office with so many deposits and holds; three live holds are over deposit 1."""
+    """An office with so many deposits, each of a bag of its own, and holds; three live holds are over
+    deposit 1."""
     file = pathlib.Path(folder) / f"{rows}.db"
     if file.exists():
         return file
@@ -67,7 +115,9 @@ def filled(folder, rows):
     conn = opened(file)
     conn.execute("BEGIN")
     for number in range(1, rows + 1):
-        put_bag(conn, number)
+        put_row(conn, number)
+        conn.execute(SET_DUE, (number, DUE))
+        put_files(conn, number, own_files(number))
     few = {rows // 4: (1, None), rows // 2: (None, "tax"), rows: (1, None)}
     for number in range(1, rows + 1):
         if number in few:
@@ -76,6 +126,7 @@ def filled(folder, rows):
             other = (number + 1, None) if number % 2 else (None, f"other {number % 50}")
             held, released = other, (20_700 if number % 3 else None)
         conn.execute(PUT_HOLD, (number, *held, "suit", 20_600, released))
+    conn.execute(COUNT_HOLDS)
     conn.execute("COMMIT")
     conn.execute("PRAGMA wal_checkpoint(TRUNCATE)").fetchall()
     conn.close()

@@ -21,8 +21,8 @@ from statistics import median
 
 from bench import DEPOT, TOP, bag, form
 from desk import record as request_record
-from office_file import FILES, PUT_HOLD, copy, filled, main, opened, put_bag, say, turns
-from requests import HOLD, Statements
+from office_file import FILES, PUT_HOLD, SET_HOLDS, copy, filled, main, opened, put_file, say, turns
+from requests import DUE_ROW, HOLD, Statements
 
 SERVING = TOP / "bench" / "serving.py"
 DAY = "2026-02-16"
@@ -98,18 +98,24 @@ class Mixed(Statements):
         super().__init__(file)
         self.day = 20_500
 
+    def count(self, number, by):
+        """So many more live holds over the deposit."""
+        self.rows(SET_HOLDS, number, self.rows(DUE_ROW, number)[0][2] + by)
+
     def hold(self, number, other):
         self.row(other)
-        self.asker()
+        self.asker("hold")
         self.rows("SELECT max_deposits, max_holds FROM office WHERE id = ?1", 1)
         self.rows("SELECT number FROM hold ORDER BY number DESC LIMIT 1")
         self.rows(PUT_HOLD, number, other, None, "suit", self.day, None)
+        self.count(other, 1)
 
     def release(self, number):
         found = self.rows(HOLD + " WHERE number = ?1", number)
         self.row(found[0][1])
-        self.asker()
+        self.asker("release")
         self.rows("UPDATE hold SET released = ?2 WHERE number = ?1", number, self.day)
+        self.count(found[0][1], -1)
 
 
 # What each of the mixed requests is answered: the disposal is refused for a hold.
@@ -186,10 +192,8 @@ def opening(folder):
         large = copy(file, f"large-{size}.db")
         conn = opened(large)
         conn.execute("BEGIN")
-        conn.executemany(
-            "INSERT INTO file (deposit, path, content) VALUES (1, ?1, ?2)",
-            ((f"data/large{n}", b"r" * 2**20) for n in range(size)),
-        )
+        for n in range(size):
+            put_file(conn, 1, f"data/large{n}", b"%04d" % n + b"r" * (2**20 - 4))
         conn.execute("COMMIT")
         conn.execute("PRAGMA wal_checkpoint(TRUNCATE)").fetchall()
         conn.close()

@@ -12,10 +12,15 @@ import subprocess
 import sys
 import time
 
-from office_file import FILE_OF, FILES, PROGRAM, PUT_DEPOSIT, PUT_FILE
-from office_file import copy, filled, main, opened, ours, put_bag, say, turns
+from office_file import DUE, FILES, PROGRAM, PUT_DEPOSIT, SET_DUE, SET_HOLDS
+from office_file import copy, file_of, filled, main, opened, ours, put_file, put_files, put_row, say, turns
 
 DEPOSIT = "SELECT number, accession, collection, class, closed, deposited, files, bytes, gone FROM deposit"
+MATCH_RULE = (
+    "SELECT place, effect, role, action, collection, class FROM rule WHERE role IN ('*', ?1)"
+    " AND action IN ('*', ?2) AND collection IN ('*', ?3) AND class IN ('*', ?4) ORDER BY place LIMIT 1"
+)
+DUE_ROW = "SELECT number, due, holds FROM deposit WHERE number = ?1"
 HOLD = "SELECT number, deposit, collection, matter, placed, released FROM hold"
 HOLDS_ON_DEPOSIT = (
     "SELECT number FROM hold WHERE deposit = ?1 AND released IS NULL ORDER BY number"
@@ -35,9 +40,14 @@ class Statements:
     def rows(self, text, *values):
         return self.conn.execute(text, values).fetchall()
 
-    def asker(self):
-        self.rows("SELECT role FROM caller WHERE name = ?1", "anna")
-        self.rows("SELECT place, effect, role, action, collection, class FROM rule ORDER BY place")
+    def role(self):
+        return self.rows("SELECT role FROM caller WHERE name = ?1", "anna")[0][0]
+
+    def may(self, role, action):
+        self.rows(MATCH_RULE, role, action, "tax", "y10")
+
+    def asker(self, action):
+        self.may(self.role(), action)
 
     def row(self, number):
         return self.rows(DEPOSIT + " WHERE number = ?1", number)[0]
@@ -45,37 +55,48 @@ class Statements:
     def years(self):
         return self.rows("SELECT years FROM class WHERE name = ?1", "y10")[0][0]
 
+    def holds(self, number):
+        return self.rows(HOLDS_ON_DEPOSIT, number) + self.rows(HOLDS_ON_COLLECTION, number, "tax")
+
     def deposit(self, number):
         self.rows("SELECT name FROM collection WHERE name = ?1", "tax")
         self.years()
-        self.asker()
+        self.asker("deposit")
         self.rows(DEPOSIT + " WHERE accession = ?1", f"2026-{number:07}")
         self.rows("SELECT max_deposits, max_holds FROM office WHERE id = ?1", 1)
         self.rows("SELECT number FROM deposit ORDER BY number DESC LIMIT 1")
-        put_bag(self.conn, number)
+        self.years()
+        count = len(self.holds(number))
+        put_row(self.conn, number)
+        self.rows(SET_DUE, number, DUE)
+        self.rows(SET_HOLDS, number, count)
+        put_files(self.conn, number, FILES)
 
     def record(self, number):
         self.row(number)
-        self.asker()
-        self.years()
+        self.asker("record")
+        self.rows(DUE_ROW, number)
 
     def disposal(self, number):
         self.row(number)
-        self.asker()
-        holds = self.rows(HOLDS_ON_DEPOSIT, number) + self.rows(HOLDS_ON_COLLECTION, number, "tax")
-        self.rows(HOLD + " WHERE number = ?1", min(holds)[0])
-        self.years()
+        self.asker("dispose")
+        if self.rows(DUE_ROW, number)[0][2] == 0:
+            sys.exit("no hold")
+        self.rows(HOLD + " WHERE number = ?1", min(self.holds(number))[0])
 
     def bag(self, number):
         self.row(number)
-        self.asker()
+        self.asker("download")
         for (path,) in self.rows("SELECT path FROM file WHERE deposit = ?1 ORDER BY path", number):
-            self.rows(FILE_OF, number, path)
+            file_of(self.conn, number, path)
 
     def list(self, _number):
-        self.asker()
-        for _row in self.rows(DEPOSIT + " ORDER BY number"):
-            self.years()
+        role = self.role()
+        rows = self.rows(DEPOSIT + " ORDER BY number")
+        # The rule is asked for once, since all have one collection and one class.
+        self.may(role, "list")
+        for row in rows:
+            self.rows(DUE_ROW, row[0])
 
 
 def theirs(file, name, last, count, end):
@@ -175,16 +196,16 @@ def peak_of(folder, name, count):
     tags = [it for it in FILES if it[0] != "data/record"]
     # What is left for the contents of the payload, with some room for the headers of the form.
     left = size - sum(len(path) + len(it) for path, it in tags) - 200 - 40 * count
-    content = b"r" * (left // count)
+    each = left // count
     conn = opened(file)
     conn.execute("DELETE FROM file")
+    conn.execute("DELETE FROM content")
     conn.execute("DELETE FROM deposit")
-    conn.execute(
-        PUT_DEPOSIT,
-        (1, "2026-0000001", "tax", "y10", 20454, 20500, count, count * len(content)),
-    )
-    for path, it in tags + [(f"data/record{n:04}", content) for n in range(count)]:
-        conn.execute(PUT_FILE, (1, path, it))
+    conn.execute(PUT_DEPOSIT, (1, "2026-0000001", "tax", "y10", 20454, 20500, count, count * each))
+    # No two have the same content, which would be kept once.
+    records = [(f"data/record{n:04}", b"%04d" % n + b"r" * (each - 4)) for n in range(count)]
+    for path, it in tags + records:
+        put_file(conn, 1, path, it)
     conn.execute("PRAGMA wal_checkpoint(TRUNCATE)").fetchall()
     conn.close()
     opening = peak("ask-records", file, 0)

@@ -12,9 +12,12 @@ from datetime import date, timedelta
 from http.server import BaseHTTPRequestHandler, HTTPServer
 from urllib.parse import parse_qs, urlsplit
 
-from office_file import PUT_DEPOSIT, PUT_FILE, opened
+from office_file import PUT_DEPOSIT, SET_DUE, SET_HOLDS, opened, put_files
 
 BEGINNING = date(1970, 1, 1)
+LIVE_HOLDS = (
+    "SELECT count(*) FROM hold WHERE (deposit = ?1 OR collection = ?2) AND released IS NULL"
+)
 
 
 def number_of(day):
@@ -95,7 +98,7 @@ class Desk(BaseHTTPRequestHandler):
         number = int(self.path.rsplit("/", 1)[1])
         self.rows("BEGIN")
         row = self.rows("SELECT * FROM deposit WHERE number = ?1", number)
-        number, accession, collection, kind, closed, deposited, files, count, _ = row[0]
+        number, accession, collection, kind, closed, deposited, files, count, *_ = row[0]
         may = self.may(self.headers["Depot-Caller"], "record", collection, kind)
         years = self.rows("SELECT years FROM class WHERE name = ?1", kind)[0][0]
         self.rows("ROLLBACK")
@@ -136,9 +139,12 @@ class Desk(BaseHTTPRequestHandler):
             return self.answer(409, {"error": "refused"})
         closed = number_of(asked["closed"])
         row = (number, asked["accession"], collection, kind, closed, self.server.day, count, size)
+        due_day = due(closed, self.rows("SELECT years FROM class WHERE name = ?1", kind)[0][0])
+        live = self.rows(LIVE_HOLDS, number, collection)[0][0]
         self.rows(PUT_DEPOSIT, *row)
-        for path, content in files:
-            self.rows(PUT_FILE, number, path, content)
+        self.rows(SET_DUE, number, None if due_day == "permanent" else number_of(due_day))
+        self.rows(SET_HOLDS, number, live)
+        put_files(self.server.office, number, files)
         self.rows("COMMIT")
         self.answer(201, {"deposit": number})
 

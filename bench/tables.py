@@ -10,7 +10,7 @@ side. Words behind `tables.py` name the cases that are run; with none, all are.
 import sys
 import time
 
-from office_file import FILE_OF, copy, filled, main, opened, ours, put_bag, say, turns
+from office_file import copy, file_of, filled, main, opened, ours, put_bag, say, turns
 
 
 def their_deposits(file, count):
@@ -33,7 +33,7 @@ def their_reads(file, last, count):
     begin = time.perf_counter()
     for turn in range(1, count + 1):
         number = (turn * 7919) % 2**32 % last + 1
-        if len(conn.execute(FILE_OF, (number, "data/record")).fetchone()[0]) != 10_108:
+        if len(file_of(conn, number, "data/record")) != 10_108:
             sys.exit("another content")
     took = time.perf_counter() - begin
     conn.close()
