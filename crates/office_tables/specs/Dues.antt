@@ -9,10 +9,10 @@ use Rattle.office_rows.specs.Told.{PlaceRow, ClosingRow}
 use Rattle.office_tables.specs.Deposits.{shown_deposit}
 
 abbrev pub shown_due : Row → DueRow
-shown_due row = record { number = int_at row 0; due = maybe_int_at row 1; holds = int_at row 2 }
+shown_due shown = record { number = int_at shown 0; due = maybe_int_at shown 1; holds = int_at shown 2 }
 
 abbrev pub shown_beside : Row → DepositRow × DueRow
-shown_beside row = (shown_deposit row, record { number = int_at row 0; due = maybe_int_at row 9; holds = int_at row 10 })
+shown_beside shown = (shown_deposit shown, record { number = int_at shown 0; due = maybe_int_at shown 9; holds = int_at shown 10 })
 
 abbrev pub shown_place : Row → PlaceRow
 shown_place row = record { number = int_at row 0; collection = bytes_at row 1; class = bytes_at row 2 }

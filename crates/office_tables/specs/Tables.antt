@@ -45,7 +45,7 @@ deposit_in row = record {
 }
 
 abbrev pub due_in : Row → DueRow
-due_in row = record { number = int_at row 0; due = maybe_int_at row 10; holds = int_at row 11 }
+due_in stored = record { number = int_at stored 0; due = maybe_int_at stored 10; holds = int_at stored 11 }
 
 abbrev pub content_in : Row → ContentRow
 content_in row = record { id = int_at row 0; mark = bytes_at row 2; size = int_at row 3; bytes = bytes_at row 4 }
