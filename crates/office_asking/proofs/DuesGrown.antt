@@ -32,7 +32,7 @@ more_from those by tell before after same [] start = refl
 more_from those by tell before after same (x ∷ xs) start = ap₂ (λ r rs. r ∷ rs) (same start x) (more_from those by tell before after same xs (start + 1))
 
 -- a change of the row of one number, of which one item stands there
-changed_there : {A : Type 0} (change : DueRow → DueRow) (before after : ℕ → A → DueRow) (xs : List A) (start : ℕ) → ((i : ℕ) (x : A) → slice_get xs i ≡ Some x → change (before (start + i) x) ≡ after (start + i) x)
+pub changed_there : {A : Type 0} (change : DueRow → DueRow) (before after : ℕ → A → DueRow) (xs : List A) (start : ℕ) → ((i : ℕ) (x : A) → slice_get xs i ≡ Some x → change (before (start + i) x) ≡ after (start + i) x)
     → map change (rows_from before start xs) ≡ rows_from after start xs
 changed_there change before after [] start same = refl
 changed_there change before after (x ∷ xs) start same =

@@ -1,24 +1,19 @@
 -- What is kept of a deposit, as it is read for its disposal; and the due days of a class that is revised.
-use Rattle.std.proofs.Common.{◌≡◌, ℕ, suc, ◌&&◌, ℤ, pos, Bool, true, false, List, [], ◌∷◌, map, filter, length, Option, Some, None, option_map, slice_get, is_none, bytes_eq, refl, sym, ap, ap₂, ◌∙◌, arith, if◌then◌else◌, true≢false}
-use Rattle.std.specs.Option.{option_or, option_map_or}
+use Rattle.std.proofs.Common.{◌≡◌, ℕ, suc, ◌&&◌, ℤ, pos, true, false, List, [], ◌∷◌, filter, length, Option, Some, None, option_map, slice_get, is_none, refl, sym, ap, ◌∙◌, arith, if◌then◌else◌, true≢false}
+use Rattle.std.specs.Option.{option_map_or}
 use Rattle.std.specs.Ordering.{int_eq}
 use Rattle.std.proofs.lemmas.Option.{same_Some}
 use Rattle.jiff.specs.Types.{Date}
-use Rattle.jiff.specs.Words.{epoch_day}
-use Rattle.office_core.specs.RetentionReading.{due_of}
 use Rattle.office_core.specs.declared.retention.Due.{Due}
 use Rattle.office_core.specs.declared.retention.Due.TheVariants.{On, Never}
-use Rattle.office_rows.specs.Rows.{DueRow, due_numbered, is_of_class}
-use Rattle.office_rows.specs.Told.{closing_of}
+use Rattle.office_rows.specs.Rows.{DueRow, due_numbered}
 use Rattle.office_history.specs.Lists.{item_numbered, numbers}
-use Rattle.office_history.specs.Histories.{History, Change, Deposit, DefinedClass, with_changes, years_of, deposits, deposit_numbered, due, reaches, live_holds, least_hold}
-use Rattle.office_history.specs.Pictures.{deposit_row, deposit_rows, due_number, due_row, due_rows}
+use Rattle.office_history.specs.Histories.{History, Change, Deposit, DefinedClass, with_changes, deposits, deposit_numbered, due, reaches, live_holds, least_hold}
+use Rattle.office_history.specs.Pictures.{due_number, due_row, due_rows}
 use Rattle.office_history.proofs.Pictured.{same_day, different}
-use Rattle.office_asking.proofs.NumberedRows.{rows_from, found_at}
-use Rattle.office_asking.proofs.DepositTold.{deposit_rows_are}
-use Rattle.office_asking.proofs.Unchanged.{years_grown, same_deposits, same_holds, same_released}
-use Rattle.office_asking.proofs.DuesGrown.{due_rows_are, bytes_alike}
-use Rattle.office_asking.proofs.DuesRevised.{set_all, revised_from}
+use Rattle.office_asking.proofs.NumberedRows.{found_at}
+use Rattle.office_asking.proofs.Unchanged.{same_holds, same_released}
+use Rattle.office_asking.proofs.DuesGrown.{due_rows_are}
 use Rattle.office_asking.proofs.Readings.{in_picture}
 use Rattle.office_asking.specs.Pictures.{Pictures}
 use Rattle.office_tables.specs.Tables.{tables_of}
@@ -57,30 +52,10 @@ module _ (h : History) (day : Date) (name : List ℕ) (years : Option ℕ) where
   abbrev longer : History
   longer = with_changes h more
 
-  years_then : (class : List ℕ) → years_of longer class ≡ option_or (if bytes_eq name class then Some years else None) (years_of h class)
-  years_then class = years_grown h more class
-
-  row_then : (m : ℕ) (x : Date × Deposit) (due_is : Option ℤ) → due_is ≡ due_number (due longer x.1) → record (due_row h m x) { due = due_is } ≡ due_row longer m x
+  -- a row with the due day of the longer history is that history's
+  pub row_then : (m : ℕ) (x : Date × Deposit) (due_is : Option ℤ) → due_is ≡ due_number (due longer x.1) → record (due_row h m x) { due = due_is } ≡ due_row longer m x
   row_then m x due_is e = λ i. record {
     number = pos m;
     due = e i;
     holds = pos (length (filter (λ k. is_none (sym (same_released h more (λ j. refl) k) i) && option_map_or (λ hold. reaches hold.1.target m x.1) (item_numbered (sym (same_holds h more refl) i) k) false) (numbers (length (sym (same_holds h more refl) i)))));
   }
-
-  -- the days that are set are those of these years
-  pub dues_revised : (days : ℤ → Option ℤ) → ((closed : Date) → days (epoch_day closed) ≡ due_number (due_of closed years))
-      → set_all days (map closing_of (filter (is_of_class name) (deposit_rows h))) (due_rows h) ≡ due_rows longer
-  dues_revised days are =
-      ap₂ (λ ds ks. set_all days (map closing_of (filter (is_of_class name) ds)) ks) (deposit_rows_are h) (due_rows_are h)
-      ∙ revised_from days (is_of_class name) (deposit_row h) (due_row h) (due_row longer) (λ m x. refl) (λ m x. refl) sets keeps (deposits h) 1
-      ∙ ap (rows_from (due_row longer) 1) (sym (same_deposits h more refl))
-      ∙ sym (due_rows_are longer)
-    where
-      now : (x : Date × Deposit) (b : Bool) → bytes_eq x.1.class name ≡ b → years_of longer x.1.class ≡ option_or (if b then Some years else None) (years_of h x.1.class)
-      now x b e = years_then x.1.class ∙ ap (λ c. option_or (if c then Some years else None) (years_of h x.1.class)) (bytes_alike name x.1.class ∙ e)
-
-      sets : (m : ℕ) (x : Date × Deposit) → is_of_class name (deposit_row h m x) ≡ true → record (due_row h m x) { due = days (deposit_row h m x).closed } ≡ due_row longer m x
-      sets m x e = row_then m x (days (epoch_day x.1.closed)) (are x.1.closed ∙ ap (λ o. due_number (option_map_or (due_of x.1.closed) o Never)) (sym (now x true e)))
-
-      keeps : (m : ℕ) (x : Date × Deposit) → is_of_class name (deposit_row h m x) ≡ false → due_row h m x ≡ due_row longer m x
-      keeps m x e = row_then m x (due_number (due h x.1)) (ap (λ o. due_number (option_map_or (due_of x.1.closed) o Never)) (sym (now x false e)))

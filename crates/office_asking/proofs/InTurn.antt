@@ -1,6 +1,6 @@
 -- Two calls inside a transaction, one after the other.
 use Rattle.std.proofs.Common.{◌≡◌, refl, sym, subst, ◌∙◌, inl, arith}
-use Rattle.std.specs.Prelude.{Result, OnOk}
+use Rattle.std.specs.Prelude.{Result, Ok, Err, OnOk}
 use Rattle.std.proofs.lemmas.Result.{on_ok_weaker}
 use Rattle.sqlite.specs.State.{State, HasCleanDisk}
 use Rattle.sql_meaning.specs.Inside.{Stays, GoesOn, Stands}
@@ -50,3 +50,8 @@ stays_still a = record {
   };
   kept = λ _ _. record { was_open = λ is_open. is_open; committed = λ _. refl };
 }
+
+-- two things that are so where a call is Ok are so together
+pub on_both : {E V P Q R : Type 0} (result : Result V E) → (P → Q → R) → OnOk result P → OnOk result Q → OnOk result R
+on_both (Ok value) both first second = both first second
+on_both (Err fault) both first second = tt

@@ -2,6 +2,7 @@ pub mod NumberedRows
 pub mod FileRows
 pub mod PolicyTold
 pub mod Readings
+pub mod RowsTold
 pub mod DepositTold
 pub mod DepositAsked
 pub mod DueTold

@@ -1,5 +1,5 @@
 -- Who asks, by the rows of the callers, and the rule that decides, by its row.
-use Rattle.std.specs.Prelude.{◌≡◌, ℕ, ℤ, pos, List, [], Option, unwrap_or, option_map, string_bytes}
+use Rattle.std.specs.Prelude.{◌≡◌, ◌≤◌, ℕ, ℤ, pos, List, [], Option, unwrap_or, option_map, string_bytes}
 use Rattle.office_core.specs.Policies.{or_stranger, role_of}
 use Rattle.office_core.specs.declared.rule.Decision.{Decision}
 use Rattle.office_rows.specs.Rows.{RuleRow}
@@ -11,9 +11,10 @@ use Rattle.office_asking.specs.declared.asker.Asker.{Asker}
 abbrev pub or_empty : Option (List ℕ) → List ℕ
 or_empty name = unwrap_or name []
 
--- the decision is what the row of its rule says
+-- the decision is what the row of its rule says, whose place is counted from 1
 pub record IsDecisionOf (row : RuleRow) (decision : Decision) : Type 0 where
   pub rule : pos decision.rule ≡ row.place
+  pub from_one : 1 ≤ decision.rule
   pub effect : effect_number decision.effect ≡ row.effect
 
 -- the role is the caller's

@@ -4,3 +4,4 @@ pub mod Asking
 pub mod Deposits
 pub mod Holds
 pub mod Limits
+pub mod ByRows

@@ -3,10 +3,11 @@
 ghost use Rattle.std.specs.Prelude.{◌≡◌, ℕ, List, IfErr, IfOk, option_copied, option_map, string_bytes};
 ghost use Rattle.office_core.specs.Policies.{or_stranger};
 ghost use Rattle.office_tables.specs.Faults.{IsFailure};
-ghost use Rattle.office_tables.specs.Calls.{CommitsNothing, Continues, Keeps};
+ghost use Rattle.office_tables.specs.Calls.{CommitsNothing, Continues, Keeps, Tells};
 ghost use Rattle.office_history.specs.Pictures.{effect_number};
 ghost use Rattle.office_history.specs.Refusals.{deciding_rule, denial};
 ghost use Rattle.office_asking.specs.Asking.{IsAsker, IsDecisionOf, or_empty};
+ghost use Rattle.office_asking.specs.ByRows.{IsAskerIn, IsDecisionBy, IsDenialIn, deciding_row};
 ghost use Rattle.office_asking.specs.Serving.{Finds};
 
 use office_core::{Action, Decision, Effect, Refusal, denial_verdict, or_stranger};
@@ -34,11 +35,11 @@ fn decision_in(row: &RuleRow) -> Result<Decision, TableFault>
     ensures store { IfErr result (λ fault. fault ≡ TableFault.Store) }
 {
     match usize::try_from(row.place) {
-        Ok(rule) => Ok(Decision {
+        Ok(rule) if 1 <= rule => Ok(Decision {
             rule,
             effect: effect_of(row)?,
         }),
-        Err(_) => Err(TableFault::Store),
+        _ => Err(TableFault::Store),
     }
 }
 
@@ -66,6 +67,7 @@ impl Asker {
         ensures failure { IfErr result IsFailure }
         ensures same { Keeps S.Store tx.old.conn.now tx.new.conn.now result }
         ensures asker { Finds S.Store tx.old.conn.now tx.new.conn.now result (λ h asker. IsAsker h caller.now asker) }
+        ensures rows { Tells S.Store tx.old.conn.now tx.new.conn.now result (λ tables asker. IsAskerIn tables caller.now asker) }
     {
         Ok(Asker {
             role: role_of(tx, caller)?,
@@ -96,6 +98,8 @@ impl Asker {
         ensures same { Keeps S.Store tx.old.conn.now tx.new.conn.now result }
         ensures decided { Finds S.Store tx.old.conn.now tx.new.conn.now result (λ h decision. (caller : List ℕ) → IsAsker h caller self.now
             → decision ≡ deciding_rule h caller action (option_copied collection.entry) (option_copied class.entry)) }
+        ensures rows { Tells S.Store tx.old.conn.now tx.new.conn.now result (λ tables decision. (caller : List ℕ) → IsAskerIn tables caller self.now
+            → IsDecisionBy (deciding_row tables caller action (option_copied collection.entry) (option_copied class.entry)) decision) }
     {
         let found = match_rule(
             tx,
@@ -127,6 +131,8 @@ impl Asker {
         ensures same { Keeps S.Store tx.old.conn.now tx.new.conn.now result }
         ensures denied { Finds S.Store tx.old.conn.now tx.new.conn.now result (λ h why. (caller : List ℕ) → IsAsker h caller self.now
             → why ≡ denial h caller action (option_copied collection.entry) (option_copied class.entry)) }
+        ensures rows { Tells S.Store tx.old.conn.now tx.new.conn.now result (λ tables why. (caller : List ℕ) → IsAskerIn tables caller self.now
+            → IsDenialIn tables caller action (option_copied collection.entry) (option_copied class.entry) why) }
     {
         match denial_verdict(self.decision(tx, action, collection, class)?) {
             Some(verdict) => Ok(refusal_of(verdict)),
@@ -152,6 +158,8 @@ pub fn denial<S: Alter>(
     ensures same { Keeps S.Store tx.old.conn.now tx.new.conn.now result }
     ensures denied { Finds S.Store tx.old.conn.now tx.new.conn.now result (λ h why.
         why ≡ denial h caller.now action (option_copied collection.entry) (option_copied class.entry)) }
+    ensures rows { Tells S.Store tx.old.conn.now tx.new.conn.now result (λ tables why.
+        IsDenialIn tables caller.now action (option_copied collection.entry) (option_copied class.entry) why) }
 {
     let asker = Asker::read(tx, caller)?;
     asker.denial(tx, action, collection, class)

@@ -3,13 +3,14 @@
 ghost use Rattle.std.specs.Prelude.{◌≡◌, ℕ, IfErr, IfOk, List, Some, option_map};
 ghost use Rattle.jiff.specs.Words.{epoch_day};
 ghost use Rattle.office_tables.specs.Faults.{IsFailure};
-ghost use Rattle.office_tables.specs.Calls.{CommitsNothing, Continues, Keeps};
+ghost use Rattle.office_tables.specs.Calls.{CommitsNothing, Continues, Keeps, Tells};
 ghost use Rattle.office_history.specs.Histories.{History, deposit_numbered};
 ghost use Rattle.office_history.specs.Pictures as pictures;
 ghost use Rattle.office_history.specs.Refusals as refusals;
 ghost use Rattle.office_history.specs.Refusals.{kept_refusals};
 ghost use Rattle.office_asking.specs.Serving.{Finds};
 ghost use Rattle.office_asking.specs.Deposits.{IsAsked};
+ghost use Rattle.office_asking.specs.ByRows.{AreDaysOf, IsAskedIn, IsFirst};
 
 use crate::asker::denial;
 use crate::rows::{day_numbered, optional_day_numbered};
@@ -29,15 +30,20 @@ pub struct DepositDays {
 }
 
 /// The days that the row of a deposit tells, which are read together: no deposit has a row of which one
-/// is no day.
+/// is no day, or whose records were closed after it was deposited.
 ///
 /// Fails with `Store`.
 pub fn days_in(row: &DepositRow) -> Result<DepositDays, TableFault>
     ensures closed { IfOk result (λ days. epoch_day days.closed ≡ row.now.closed) }
     ensures deposited { IfOk result (λ days. epoch_day days.deposited ≡ row.now.deposited) }
     ensures gone { IfOk result (λ days. option_map epoch_day days.gone ≡ row.now.gone) }
+    ensures days { IfOk result (AreDaysOf row.now) }
     ensures failure { IfErr result IsFailure }
+    ensures store { IfErr result (λ fault. fault ≡ TableFault.Store) }
 {
+    if row.deposited < row.closed {
+        return Err(TableFault::Store);
+    }
     Ok(DepositDays {
         closed: day_numbered(row.closed)?,
         deposited: day_numbered(row.deposited)?,
@@ -56,11 +62,15 @@ fn unless_refused(
         → Some deposit ≡ option_map (pictures.deposit_row h n) (deposit_numbered h n)
         → denied ≡ refusals.denial h caller action (Some deposit.collection) (Some deposit.class)
         → IsAsked h n (kept_refusals h caller action n) asked) }
+    ensures kept { IfOk result (λ asked. IfOk asked (λ row. (row ≡ deposit) × IsFirst denied deposit None)) }
+    ensures refused { IfOk result (λ asked. IfErr asked (λ why. IsFirst denied deposit (Some why))) }
+    ensures store { IfErr result (λ fault. fault ≡ TableFault.Store) }
 {
     if let Some(why) = denied {
         return Ok(Err(why));
     }
-    match days_in(&deposit)?.gone {
+    let days = days_in(&deposit)?;
+    match days.gone {
         Some(day) => Ok(Err(Refusal::Gone(day))),
         None => Ok(Ok(deposit)),
     }
@@ -83,6 +93,7 @@ pub fn kept_deposit<S: Alter>(
     ensures same { Keeps S.Store tx.old.conn.now tx.new.conn.now result }
     ensures asked { Finds S.Store tx.old.conn.now tx.new.conn.now result (λ h asked.
         IsAsked h number (kept_refusals h caller.now action number) asked) }
+    ensures rows { Tells S.Store tx.old.conn.now tx.new.conn.now result (λ tables asked. IsAskedIn tables caller.now action number asked) }
 {
     let Some(deposit) = deposit_row(tx, number)? else {
         return Ok(Err(Refusal::NoSuch(Subject::Deposit)));

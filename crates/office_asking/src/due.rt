@@ -1,22 +1,24 @@
 //! What stands against the destruction of a deposit: its due day, and the holds that cover it.
 
-ghost use Rattle.std.specs.Prelude.{◌≡◌, IfErr, List, ℕ, Some, length, pos};
+ghost use Rattle.std.specs.Prelude.{◌≡◌, IfErr, IfSome, List, ℕ, Some, length, pos};
 ghost use Rattle.jiff.specs.Types.{Date};
 ghost use Rattle.office_core.specs.declared.action.Action.TheVariants as acts;
 ghost use Rattle.office_tables.specs.Faults.{IsFailure};
-ghost use Rattle.office_tables.specs.Calls.{CommitsNothing, Continues, ContinuesInTurn};
+ghost use Rattle.office_rows.specs.Rows.{due_numbered};
+ghost use Rattle.office_tables.specs.Calls.{CommitsNothing, Continues, ContinuesInTurn, Keeps, Tells};
 ghost use Rattle.office_history.specs.Histories.{Deposit, deposit_numbered, due, least_hold, live_holds};
 ghost use Rattle.office_history.specs.Pictures.{deposit_row, due_row};
 ghost use Rattle.office_history.specs.Refusals.{facts_of};
 ghost use Rattle.office_asking.specs.Asking.{IsAsker};
+ghost use Rattle.office_asking.specs.ByRows.{AreFactsIn, IsAskerIn, IsCountIn, IsCountedIn, IsDueIn, IsLeastIn};
 ghost use Rattle.office_asking.specs.Serving.{Finds};
 
 use crate::asker::Asker;
 use crate::deposits::days_in;
 use crate::holds::told_hold;
-use crate::rows::{due_numbered, years_numbered};
+use crate::rows::{due_numbered, there, years_numbered};
 use office_core::{Action, Day, Due, Facts};
-use office_tables::{DepositRow, DueRow, TableFault, class_of, due_row, live_holds};
+use office_tables::{DepositRow, DueRow, TableFault, class_of, due_row, limits, live_holds};
 use sqlite::{Alter, Transaction};
 use std::alloc::Global;
 
@@ -35,11 +37,12 @@ pub fn due_day<S: Alter>(
     ensures failure { IfErr result IsFailure }
     ensures due { Finds S.Store tx.old.conn.now tx.new.conn.now result (λ h found.
         (deposit : Deposit) → deposit.class ≡ class.now → deposit.closed ≡ closed → found ≡ due h deposit) }
+    ensures same { Keeps S.Store tx.old.conn.now tx.new.conn.now result }
+    ensures rows { Tells S.Store tx.old.conn.now tx.new.conn.now result (λ tables found. IsDueIn tables class.now closed found) }
 {
-    match class_of(tx, class)? {
-        Some(years) => Ok(office_core::due(closed, years_numbered(years)?)),
-        None => Err(TableFault::Store),
-    }
+    let found = class_of(tx, class)?;
+    let years = there(found)?;
+    Ok(office_core::due(closed, years_numbered(years)?))
 }
 
 /// The least live hold that covers the deposit of that number, which is of that collection. Its row is
@@ -58,6 +61,7 @@ pub fn least_hold<S: Alter>(
     ensures failure { IfErr result IsFailure }
     ensures least { Finds S.Store tx.old.conn.now tx.new.conn.now result (λ h found.
         (deposit : Deposit) → deposit.collection ≡ collection.now → found ≡ least_hold h number deposit) }
+    ensures rows { Tells S.Store tx.old.conn.now tx.new.conn.now result (λ tables found. IfSome found (λ k. IsLeastIn tables number collection.now k)) }
 {
     let holds = live_holds(alloc, tx, number, collection)?;
     let Some(least) = holds.first().copied() else {
@@ -77,11 +81,28 @@ pub fn kept_of<S: Alter>(tx: &mut Transaction<'_, S>, number: u32) -> Result<Due
     ensures failure { IfErr result IsFailure }
     ensures kept { Finds S.Store tx.old.conn.now tx.new.conn.now result (λ h kept.
         (found : Date × Deposit) → deposit_numbered h number ≡ Some found → kept ≡ due_row h number found) }
+    ensures same { Keeps S.Store tx.old.conn.now tx.new.conn.now result }
+    ensures rows { Tells S.Store tx.old.conn.now tx.new.conn.now result (λ tables kept. Some kept ≡ due_numbered (pos number) tables.dues) }
 {
-    match due_row(tx, number)? {
-        Some(kept) => Ok(kept),
-        None => Err(TableFault::Store),
+    let found = due_row(tx, number)?;
+    there(found)
+}
+
+/// Refuses a count of live holds that no office keeps of a deposit that is held: one below 1, or of more holds
+/// than it takes.
+fn check_count<S: Alter>(tx: &mut Transaction<'_, S>, count: i64) -> Result<(), TableFault>
+    ensures same_reference { tx.new.conn.ghost_name ≡ tx.old.conn.ghost_name }
+    ensures stays { CommitsNothing S.Store tx.old.conn.now tx.new.conn.now }
+    ensures goes_on { Continues S.Store tx.old.conn.now tx.new.conn.now result }
+    ensures failure { IfErr result IsFailure }
+    ensures same { Keeps S.Store tx.old.conn.now tx.new.conn.now result }
+    ensures rows { Tells S.Store tx.old.conn.now tx.new.conn.now result (λ tables _. IsCountIn tables count) }
+{
+    let most = limits(tx)?.max_holds as i64;
+    if count < 1 || most < count {
+        return Err(TableFault::Store);
     }
+    Ok(())
 }
 
 /// The least live hold that covers the deposit of that number, which is of that collection and covered by so
@@ -99,14 +120,15 @@ fn counted_hold<S: Alter>(
     ensures failure { IfErr result IsFailure }
     ensures least { Finds S.Store tx.old.conn.now tx.new.conn.now result (λ h found.
         (deposit : Deposit) → deposit.collection ≡ collection.now → count ≡ pos (length (live_holds h number deposit)) → found ≡ least_hold h number deposit) }
+    ensures rows { Tells S.Store tx.old.conn.now tx.new.conn.now result (λ tables found. IsCountedIn tables count number collection.now found) }
 {
     if count == 0 {
         return Ok(None);
     }
-    match least_hold(alloc, tx, number, collection)? {
-        Some(hold) => Ok(Some(hold)),
-        None => Err(TableFault::Store),
-    }
+    check_count(tx, count)?;
+    let found = least_hold(alloc, tx, number, collection)?;
+    let hold = there(found)?;
+    Ok(Some(hold))
 }
 
 /// What is known of the disposal of the deposit that has this row.
@@ -124,6 +146,8 @@ pub fn disposal_facts<S: Alter>(
     ensures failure { IfErr result IsFailure }
     ensures facts { Finds S.Store tx.old.conn.now tx.new.conn.now result (λ h facts.
         (caller : List ℕ) → IsAsker h caller asker.now → (n : ℕ) (found : Date × Deposit) → deposit_numbered h n ≡ Some found → row.now ≡ deposit_row h n found → facts ≡ facts_of h caller acts.Dispose n found.1) }
+    ensures rows { Tells S.Store tx.old.conn.now tx.new.conn.now result (λ tables facts.
+        (caller : List ℕ) → IsAskerIn tables caller asker.now → (n : ℕ) → pos n ≡ row.now.number → AreFactsIn tables caller n row.now facts) }
 {
     let days = days_in(row)?;
     let decision = asker.decision(tx, Action::Dispose, Some(&row.collection), Some(&row.class))?;

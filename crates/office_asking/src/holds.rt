@@ -2,13 +2,16 @@
 
 ghost use Rattle.std.specs.Prelude.{◌≡◌, IfErr, IfOk, Some, length, pos};
 ghost use Rattle.office_tables.specs.Faults.{IsFailure};
-ghost use Rattle.office_tables.specs.Calls.{CommitsNothing, Continues};
+ghost use Rattle.office_rows.specs.Rows as rows;
+ghost use Rattle.office_tables.specs.Calls.{CommitsNothing, Continues, Keeps, Tells};
 ghost use Rattle.office_history.specs.Histories.{Deposit, live_holds};
 ghost use Rattle.office_history.specs.Answers.{told_hold};
 ghost use Rattle.office_asking.specs.Serving.{Finds};
 ghost use Rattle.office_asking.specs.Holds.{IsHoldOf, scope_in};
+ghost use Rattle.office_asking.specs.ByRows.{IsHoldIn};
+ghost use Rattle.office_core.specs.declared.answer.LiveHold.{LiveHold};
 
-use crate::rows::{day_numbered, text_of_kind};
+use crate::rows::{day_numbered, text_of_kind, there};
 use office_core::{LiveHold, Scope};
 use office_tables::{HoldRow, TableFault, hold_row, live_holds};
 use sqlite::{Alter, Transaction};
@@ -33,12 +36,16 @@ fn scope_of(row: &HoldRow) -> Result<Scope, TableFault>
 pub fn hold_in(alloc: Global, row: &HoldRow) -> Result<LiveHold, TableFault>
     ensures told { IfOk result (λ told. IsHoldOf row.now told) }
     ensures failure { IfErr result IsFailure }
+    // It wants memory only for a hold: a row that tells of none is a fault of the store.
+    ensures memory { IfErr result (λ fault. fault ≡ TableFault.Memory → (told : LiveHold) × IsHoldOf row.now told) }
 {
+    let on = scope_of(row)?;
+    let placed = day_numbered(row.placed)?;
     Ok(LiveHold {
         number: row.number,
         matter: text_of_kind(alloc, &row.matter)?,
-        on: scope_of(row)?,
-        placed: day_numbered(row.placed)?,
+        on,
+        placed,
     })
 }
 
@@ -55,11 +62,12 @@ pub fn told_hold<S: Alter>(
     ensures goes_on { Continues S.Store tx.old.conn.now tx.new.conn.now result }
     ensures failure { IfErr result IsFailure }
     ensures told { Finds S.Store tx.old.conn.now tx.new.conn.now result (λ h told. Some told ≡ told_hold h number) }
+    ensures same { Keeps S.Store tx.old.conn.now tx.new.conn.now result }
+    ensures rows { Tells S.Store tx.old.conn.now tx.new.conn.now result (λ tables told. IsHoldIn tables number told) }
 {
-    match hold_row(tx, number)? {
-        Some(row) => hold_in(alloc, &row),
-        None => Err(TableFault::Store),
-    }
+    let found = hold_row(tx, number)?;
+    let row = there(found)?;
+    hold_in(alloc, &row)
 }
 
 /// How many live holds cover the deposit of that number, which is of that collection, by the rows of the holds.
@@ -77,6 +85,8 @@ pub fn live_count<S: Alter>(
     ensures failure { IfErr result IsFailure }
     ensures count { Finds S.Store tx.old.conn.now tx.new.conn.now result (λ h count.
         (deposit : Deposit) → deposit.collection ≡ collection.now → count ≡ pos (length (live_holds h number deposit))) }
+    ensures same { Keeps S.Store tx.old.conn.now tx.new.conn.now result }
+    ensures rows { Tells S.Store tx.old.conn.now tx.new.conn.now result (λ tables count. count ≡ pos (length (rows.live_holds (pos number) collection.now tables))) }
 {
     let holds = live_holds(alloc, tx, number, collection)?;
     match i64::try_from(holds.len()) {

@@ -15,4 +15,6 @@ pub use deposits::{DepositDays, days_in, kept_deposit};
 pub use due::{disposal_facts, due_day, kept_of, least_hold};
 pub use holds::{hold_in, live_count, told_hold};
 pub use limits::number_after;
-pub use rows::{day_numbered, due_numbered, optional_day_numbered, text_of_kind, years_numbered};
+pub use rows::{
+    day_numbered, due_numbered, optional_day_numbered, text_of_kind, there, years_numbered,
+};

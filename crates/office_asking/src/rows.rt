@@ -1,8 +1,11 @@
 //! What the numbers and texts of rows stand for. What stands for nothing is of a row that no accepted
 //! change writes, which is a fault of the store.
 
-ghost use Rattle.std.specs.Prelude.{◌≡◌, Err, IfErr, IfOk, option_map, true};
+ghost use Rattle.std.specs.Prelude.{◌≡◌, Err, IfErr, IfOk, IfSome, OnOk, option_map, true};
+ghost use Rattle.std.specs.Option.{ok_or};
 ghost use Rattle.jiff.specs.Words.{epoch_day};
+ghost use Rattle.office_core.specs.Days.{IsDayNumber};
+ghost use Rattle.office_core.specs.Retention.{IsDueNumber};
 ghost use Rattle.office_tables.specs.Faults.{IsFailure};
 ghost use Rattle.office_tables.specs.declared.fault.TableFault.TheVariants.{Memory, Store};
 ghost use Rattle.office_history.specs.Pictures.{due_number, years_back, years_number};
@@ -11,9 +14,20 @@ use office_core::{Day, Due, OwnedText, Text, TextKind, Years, due_date};
 use office_tables::TableFault;
 use std::alloc::Global;
 
+/// What is there. Where nothing is that has to be, it is a fault of the store.
+pub fn there<T>(found: Option<T>) -> Result<T, TableFault>
+    ensures { result ≡ ok_or found TableFault.Store }
+{
+    match found {
+        Some(value) => Ok(value),
+        None => Err(TableFault::Store),
+    }
+}
+
 /// The day with that number.
 pub fn day_numbered(number: i64) -> Result<Day, TableFault>
     ensures day { IfOk result (λ day. epoch_day day ≡ number) }
+    ensures range { OnOk result (IsDayNumber number) }
     ensures failure { IfErr result IsFailure }
     ensures store { IfErr result (λ fault. fault ≡ TableFault.Store) }
 {
@@ -29,7 +43,9 @@ pub fn day_numbered(number: i64) -> Result<Day, TableFault>
 /// The day with that number, where there is a number.
 pub fn optional_day_numbered(number: Option<i64>) -> Result<Option<Day>, TableFault>
     ensures day { IfOk result (λ day. option_map epoch_day day ≡ number) }
+    ensures range { OnOk result (IfSome number IsDayNumber) }
     ensures failure { IfErr result IsFailure }
+    ensures store { IfErr result (λ fault. fault ≡ TableFault.Store) }
 {
     match number {
         Some(number) => Ok(Some(day_numbered(number)?)),
@@ -40,6 +56,7 @@ pub fn optional_day_numbered(number: Option<i64>) -> Result<Option<Day>, TableFa
 /// The day from which a deposit may be destroyed, by the number that is kept of it; never where there is none.
 pub fn due_numbered(number: Option<i64>) -> Result<Due, TableFault>
     ensures due { IfOk result (λ due. due_number due ≡ number) }
+    ensures range { OnOk result (IfSome number IsDueNumber) }
     ensures failure { IfErr result IsFailure }
     ensures store { IfErr result (λ fault. fault ≡ TableFault.Store) }
 {
@@ -74,6 +91,7 @@ pub fn years_numbered(number: i64) -> Result<Years, TableFault>
 /// The name, accession number or matter that a text is.
 pub fn text_of_kind<K: TextKind>(alloc: Global, text: &str) -> Result<OwnedText<K>, TableFault>
     ensures text { IfOk result (λ owned. owned ≡ text.now) }
+    ensures kind { OnOk result (K.is_of_kind text.now ≡ true) }
     ensures failure { IfErr result IsFailure }
     // A text of the kind fails for want of memory alone, and what is none is a fault of the store.
     ensures memory { K.is_of_kind text.now ≡ true → IfErr result (λ fault. fault ≡ Memory) }

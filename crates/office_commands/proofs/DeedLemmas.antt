@@ -9,7 +9,7 @@ use Rattle.office_history.specs.Histories.{History}
 use Rattle.office_core.specs.declared.answer.Answer.{Answer}
 use Rattle.office_history.specs.Runs.{IsLegal, Item, Run}
 use Rattle.office_asking.specs.Pictures.{Pictures}
-use Rattle.office_engine.specs.Keeping.{IsKeptBy, IsReached, IsUnchanged, after_policy}
+use Rattle.office_engine.specs.Keeping.{IsKeptBy, IsReached, KeepsTables, after_policy}
 use Rattle.desk_listening.specs.Listening.{Connection, IsAfterAll, lost, refused, served}
 use Rattle.desk_records.specs.RecordLists.{RequestRecord}
 use Rattle.http_desk.specs.Serving.{IsAnswered}
@@ -36,7 +36,7 @@ deeds_clean g (deed ∷ deeds) old new are clean = deed_cleans g deed old are.0 
 
 -- ---- the history
 
-unchanged : (h : History) (old new : State) → IsLegal h → IsUnchanged old new → IsKeptBy h old → IsReached h new
+unchanged : (h : History) (old new : State) → IsLegal h → KeepsTables old new → IsKeptBy h old → IsReached h new
 unchanged h old new legal same kept = record {
   legal = legal;
   kept = λ is_open. let it = same is_open in let keeps = kept it.0 in (subst (Pictures h) (sym it.1) keeps.0, it.2 ∙ sym it.1);

@@ -1,5 +1,5 @@
 -- The due days of a class's deposits, set one after another: those of the history in which the class was defined or revised.
-use Rattle.std.proofs.Common.{◌≡◌, ℕ, zero, suc, ◌+◌, ◌<◌, ◌≤◌, ℤ, pos, negsuc, Bool, true, false, List, [], ◌∷◌, map, filter, length, drop, get_or, Option, Some, None, ◌&&◌, is_none, bytes_eq, refl, sym, ap, ap₂, subst, ◌∙◌, arith, cond, if◌then◌else◌}
+use Rattle.std.proofs.Common.{◌≡◌, ℕ, zero, suc, ◌+◌, ◌<◌, ◌≤◌, ℤ, pos, negsuc, Bool, true, false, List, [], ◌∷◌, map, filter, length, drop, get_or, Option, Some, None, bytes_eq, refl, sym, ap, ap₂, subst, ◌∙◌, arith, cond, if◌then◌else◌}
 use Rattle.std.specs.Option.{option_or, option_map_or}
 use Rattle.jiff.specs.Types.{Date}
 use Rattle.jiff.specs.Words.{epoch_day}
@@ -10,13 +10,13 @@ use Rattle.office_core.specs.declared.retention.Due.TheVariants.{Never}
 use Rattle.office_rows.specs.Rows.{Tables, DepositRow, with_due, is_of_class}
 use Rattle.office_rows.specs.Told.{ClosingRow, closing_of}
 use Rattle.office_tables.specs.Tables.{IsOffice, Becomes, tables_of}
-use Rattle.office_history.specs.Lists.{item_numbered, numbers}
-use Rattle.office_history.specs.Histories.{History, Change, Deposit, DefinedClass, with_changes, years_of, deposits, due, reaches}
+use Rattle.office_history.specs.Histories.{History, Change, Deposit, DefinedClass, with_changes, years_of, deposits, due}
 use Rattle.office_history.specs.Pictures.{deposit_row, due_row, due_rows}
 use Rattle.office_asking.proofs.NumberedRows.{rows_from}
-use Rattle.office_asking.proofs.Unchanged.{years_grown, same_deposits, same_holds, same_released}
+use Rattle.office_asking.proofs.Unchanged.{years_grown, same_deposits}
 use Rattle.office_asking.proofs.DuesGrown.{due_rows_are, bytes_alike}
 use Rattle.office_asking.proofs.DuesRevised.{with_dues, with_dues_is, set_all, revised_from}
+use Rattle.office_asking.proofs.DuesTold.{row_then}
 use Rattle.office_defining.specs.Revising.{closing_row, with_due_days}
 
 -- ---- one deposit after another
@@ -115,13 +115,6 @@ module _ (h : History) (day : Date) (name : List ℕ) (years : Option ℕ) where
   abbrev longer : History
   longer = with_changes h more
 
-  row_then : (m : ℕ) (x : Date × Deposit) (due_is : Option ℤ) → due_is ≡ due_number (due longer x.1) → record (due_row h m x) { due = due_is } ≡ due_row longer m x
-  row_then m x due_is e = λ i. record {
-    number = pos m;
-    due = e i;
-    holds = pos (length (filter (λ k. is_none (sym (same_released h more (λ j. refl) k) i) && option_map_or (λ hold. reaches hold.1.target m x.1) (item_numbered (sym (same_holds h more refl) i) k) false) (numbers (length (sym (same_holds h more refl) i)))));
-  }
-
   -- the days that are set are those of these years
   pub days_revised : set_all decoded (map (row_coded (due_code years)) (closed_from name 1 (deposits h))) (due_rows h) ≡ due_rows longer
   days_revised =
@@ -135,8 +128,8 @@ module _ (h : History) (day : Date) (name : List ℕ) (years : Option ℕ) where
 
       sets : (m : ℕ) (x : Date × Deposit) → is_of_class name (tell h name (due_code years) m x) ≡ true → record (due_row h m x) { due = decoded (tell h name (due_code years) m x).closed } ≡ due_row longer m x
       sets m x e =
-          row_then m x (decoded (due_code years x.1.closed))
+          row_then h day name years m x (decoded (due_code years x.1.closed))
           (decoded_back (due_number (due_of x.1.closed years)) ∙ ap (λ o. due_number (option_map_or (due_of x.1.closed) o Never)) (sym (now x true e)))
 
       keeps : (m : ℕ) (x : Date × Deposit) → is_of_class name (tell h name (due_code years) m x) ≡ false → due_row h m x ≡ due_row longer m x
-      keeps m x e = row_then m x (due_number (due h x.1)) (ap (λ o. due_number (option_map_or (due_of x.1.closed) o Never)) (sym (now x false e)))
+      keeps m x e = row_then h day name years m x (due_number (due h x.1)) (ap (λ o. due_number (option_map_or (due_of x.1.closed) o Never)) (sym (now x false e)))

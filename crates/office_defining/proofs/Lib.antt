@@ -3,3 +3,4 @@ pub mod DueDays
 pub mod ClassTold
 pub mod CollectionTold
 pub mod InstallTold
+pub mod DefinedByRows

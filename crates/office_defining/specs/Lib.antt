@@ -1,1 +1,2 @@
 pub mod Revising
+pub mod ByRows

@@ -1,9 +1,10 @@
 //! Classes.
 
-ghost use Rattle.std.specs.Prelude.{◌≡◌, ⊤, IfErr, [], ◌∷◌};
+ghost use Rattle.std.specs.Prelude.{◌≡◌, ⊤, IfErr, OnOk, [], ◌∷◌};
 ghost use Rattle.jiff.specs.Types.{Date};
 ghost use Rattle.jiff.specs.Words.{epoch_day};
 ghost use Rattle.sqlite.specs.Held.{state};
+ghost use Rattle.office_core.specs.Days.{IsDayNumber};
 ghost use Rattle.office_core.specs.Retention.{due_number};
 ghost use Rattle.office_core.specs.RetentionReading.{due_of};
 ghost use Rattle.office_core.specs.declared.request.Request.TheVariants as requests;
@@ -11,11 +12,12 @@ ghost use Rattle.office_rows.specs.Rows.{with_due};
 ghost use Rattle.office_rows.specs.Told.{class_closings};
 ghost use Rattle.office_tables.specs.Faults.{IsFailure};
 ghost use Rattle.office_tables.specs.Tables.{tables_of};
-ghost use Rattle.office_tables.specs.Calls.{CommitsNothing, Continues, ContinuesInTurn, Writes};
+ghost use Rattle.office_tables.specs.Calls.{CommitsNothing, Continues, ContinuesInTurn, Tells, Writes};
 ghost use Rattle.office_tables.specs.Contents.{LeavesOnce};
 ghost use Rattle.office_history.specs.Histories.{DefinedClass};
 ghost use Rattle.office_history.specs.Pictures.{years_number};
 ghost use Rattle.office_asking.specs.Serving.{Accepts, Decides};
+ghost use Rattle.office_defining.specs.ByRows.{AreClosedOnDays, IsClassDefinedIn};
 ghost use Rattle.office_defining.specs.Revising.{SetsDueDays};
 
 use office_asking::{day_numbered, denial};
@@ -46,6 +48,7 @@ fn set_due_day<S: Alter>(
     ensures failure { IfErr result IsFailure }
     ensures becomes { (closed : Date) → epoch_day closed ≡ row.now.closed → Writes S.Store tx.old.conn.now tx.new.conn.now result (with_due row.now.number (due_number (due_of closed years))) }
     ensures once { LeavesOnce S.Store tx.old.conn.now tx.new.conn.now result }
+    ensures closed { OnOk result (IsDayNumber row.now.closed) }
 {
     let closed = day_numbered(row.closed)?;
     set_due(tx, row.number, due(closed, years).number())
@@ -62,6 +65,7 @@ fn set_due_days<S: Alter>(
     ensures goes_on { ContinuesInTurn S.Store tx.old.conn.now tx.new.conn.now result }
     ensures failure { IfErr result IsFailure }
     ensures set { SetsDueDays S.Store tx.old.conn.now tx.new.conn.now result years rows.now }
+    ensures closed { OnOk result (AreClosedOnDays rows.now) }
 {
     for row in rows {
         set_due_day(tx, row, years)?;
@@ -81,6 +85,7 @@ fn set_days_of_class<S: Alter>(
     ensures goes_on { Continues S.Store tx.old.conn.now tx.new.conn.now result }
     ensures failure { IfErr result IsFailure }
     ensures set { SetsDueDays S.Store tx.old.conn.now tx.new.conn.now result years (class_closings class.now (tables_of (state S.Store tx.old.conn.now).now)) }
+    ensures rows { Tells S.Store tx.old.conn.now tx.new.conn.now result (λ tables _. AreClosedOnDays (class_closings class.now tables)) }
 {
     let rows = rows_of_class(alloc, tx, class)?;
     set_due_days(tx, &rows, years)
@@ -98,6 +103,7 @@ fn put_years<S: Alter>(
     ensures goes_on { Continues S.Store tx.old.conn.now tx.new.conn.now result }
     ensures failure { IfErr result IsFailure }
     ensures defined { (day : Date) → Accepts S.Store tx.old.conn.now tx.new.conn.now result (λ _. ⊤) (DefinedClass day name.now years ∷ []) }
+    ensures rows { Tells S.Store tx.old.conn.now tx.new.conn.now result (λ tables _. AreClosedOnDays (class_closings name.now tables)) }
 {
     put_class(tx, name, years_number(years))?;
     set_days_of_class(alloc, tx, name, years)
@@ -120,6 +126,7 @@ pub fn define_class<S: Alter>(
     ensures goes_on { Continues S.Store tx.old.conn.now tx.new.conn.now result }
     ensures failure { IfErr result IsFailure }
     ensures decides { Decides S.Store tx.old.conn.now tx.new.conn.now result day caller.now (requests.DefineClass name.now years) }
+    ensures rows { Tells S.Store tx.old.conn.now tx.new.conn.now result (λ tables given. IsClassDefinedIn tables caller.now name.now years given) }
 {
     if let Some(why) = denial(tx, caller, Action::Class, None, Some(name.as_str()))? {
         return Ok(Answer::Refused(why));

@@ -3,8 +3,9 @@
 ghost use Rattle.std.specs.Prelude.{◌≡◌, IfErr};
 ghost use Rattle.office_core.specs.declared.request.Request.TheVariants as requests;
 ghost use Rattle.office_tables.specs.Faults.{IsFailure};
-ghost use Rattle.office_tables.specs.Calls.{CommitsNothing, Continues};
+ghost use Rattle.office_tables.specs.Calls.{CommitsNothing, Continues, Tells};
 ghost use Rattle.office_asking.specs.Serving.{Decides};
+ghost use Rattle.office_defining.specs.ByRows.{IsCollectionDefinedIn};
 
 use office_asking::denial;
 use office_core::{Action, Answer, Day, Name};
@@ -27,6 +28,7 @@ pub fn define_collection<S: Alter>(
     ensures goes_on { Continues S.Store tx.old.conn.now tx.new.conn.now result }
     ensures failure { IfErr result IsFailure }
     ensures decides { Decides S.Store tx.old.conn.now tx.new.conn.now result day caller.now (requests.DefineCollection name.now) }
+    ensures rows { Tells S.Store tx.old.conn.now tx.new.conn.now result (λ tables given. IsCollectionDefinedIn tables caller.now name.now given) }
 {
     if let Some(why) = denial(tx, caller, Action::Collection, Some(name.as_str()), None)? {
         return Ok(Answer::Refused(why));

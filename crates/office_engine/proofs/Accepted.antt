@@ -2,16 +2,12 @@
 use Rattle.std.proofs.Common.{◌≡◌, ℕ, false, List, [], Option, Some, None, refl, sym, ap, ◌∙◌, true≢false}
 use Rattle.jiff.specs.Types.{Date}
 use Rattle.office_core.specs.declared.answer.Answer.{Answer}
-use Rattle.office_core.specs.declared.answer.Answer.TheVariants as answers
 use Rattle.office_core.specs.declared.refusal.Refusal.{Refusal}
 use Rattle.office_core.specs.declared.request.Request.{Request}
 use Rattle.office_core.specs.declared.request.Request.TheVariants.{DefineClass, DefineCollection, Deposit as MakeDeposit, List as ListDeposits, Record, Holds, DownloadBag, DownloadFile, Audit, HoldDeposit, HoldCollection, Release, Dispose, DueList}
 use Rattle.office_history.specs.Histories.{History, Change}
 use Rattle.office_history.specs.Refusals.{refusal}
 use Rattle.office_history.specs.Answers.{answer_unless, changes_unless, allowed_answer, allowed_change, answer, change}
-use Rattle.office_history.specs.Runs.{IsFailure}
-use Rattle.office_rows.specs.Rows.{Tables}
-use Rattle.office_serving.specs.Audits.{IsAuditOf}
 use Rattle.office_engine.specs.Keeping.{is_accepted}
 
 none_allowed : (h : History) (day : Date) (caller : List ℕ) (request : Request) → is_accepted (allowed_answer h day caller request) ≡ false → allowed_change h day request ≡ []
@@ -38,8 +34,3 @@ unless_none (Some why) given changes none e = refl
 pub no_change : (h : History) (day : Date) (caller : List ℕ) (request : Request) (given : Answer) → given ≡ answer h day caller request → is_accepted given ≡ false → change h day caller request ≡ []
 no_change h day caller request given is e =
     unless_none (refusal h day caller request) (allowed_answer h day caller request) (allowed_change h day request) (none_allowed h day caller request) (ap is_accepted (sym is) ∙ e)
-
--- a failure is a refusal
-pub failure_audits : (tables : Tables) (number : ℕ) (given : Answer) → IsFailure given → IsAuditOf tables number given
-failure_audits tables number (answers.Refused why) fails = tt
-failure_audits tables number _ fails = absurd fails

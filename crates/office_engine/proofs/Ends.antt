@@ -1,5 +1,5 @@
 -- How a transaction ends.
-use Rattle.std.proofs.Common.{◌≡◌, ◌⊎◌, inl, inr, ℕ, [], Bool, true, false, Result, Ok, Err, IfOk, OnOk, IsOkAnd, IsTrue, refl, sym, subst, ap, ◌∙◌, true≢false, arith}
+use Rattle.std.proofs.Common.{◌≡◌, ◌⊎◌, inl, inr, [], Bool, true, false, Result, Ok, Err, IfOk, OnOk, IsOkAnd, IsTrue, refl, sym, subst, ap, ◌∙◌, true≢false, arith}
 use Rattle.sqlite.specs.Store.{Ghosts}
 use Rattle.sqlite.specs.Tree.{Trees}
 use Rattle.sqlite.specs.Effect.{Database}
@@ -11,19 +11,17 @@ use Rattle.sqlite.proofs.StateLemmas.{survives_then}
 use Rattle.sqlite.proofs.Callers.{survives_begin}
 use Rattle.sql_meaning.specs.Inside.{GoesOn}
 use Rattle.office_tables.specs.Calls.{CommitsNothing, Continues, Tells}
-use Rattle.office_tables.specs.Tables.{tables_of}
 use Rattle.office_tables.specs.declared.fault.TableFault.{TableFault}
 use Rattle.office_core.specs.declared.answer.Answer.{Answer}
-use Rattle.office_core.specs.declared.request.Request.TheVariants.{Audit}
 use Rattle.office_history.specs.Histories.{History, with_changes}
 use Rattle.office_history.specs.Answers.{change}
 use Rattle.office_history.specs.Runs.{IsLegal, IsFailure, Item, IsItem, serve}
 use Rattle.office_history.proofs.Accepted.{grown_by_none}
 use Rattle.office_asking.specs.Pictures.{Pictures}
 use Rattle.office_asking.specs.Serving.{Decides, Finds, IsServed}
-use Rattle.office_serving.specs.Audits.{IsAuditOf}
-use Rattle.office_engine.specs.Keeping.{Audits, CommitsTo, IsKeptBy, IsLeftOf, IsReached, IsTurn, IsUnchanged, LeavesEither, StaysShut, after_item, is_accepted}
-use Rattle.office_engine.proofs.Accepted.{failure_audits, no_change}
+use Rattle.office_engine.specs.ByRows.{RowsTell}
+use Rattle.office_engine.specs.Keeping.{CommitsTo, IsKeptBy, IsLeftOf, IsReached, IsToldByRows, IsTurn, KeepsTables, LeavesAlso, LeavesEither, StaysShut, after_item, is_accepted}
+use Rattle.office_engine.proofs.Accepted.{no_change}
 
 -- while the store is open, a crash leaves what is committed
 abbrev pub IsSettled : State → Type 0
@@ -75,7 +73,7 @@ module _ {S T E : Type 0} {g : Ghosts S} {first last : Held S} {next : History �
     inside = inside_ok (state g (record first { in_transaction = true })) (state g last) done refl (it.goes_on clean)
 
     -- rolled back: the tables are as they were
-    pub unchanged : IsRolledBack (state g last) (state g end) → IsUnchanged (state g first) (state g end)
+    pub unchanged : IsRolledBack (state g last) (state g end) → KeepsTables (state g first) (state g end)
     unchanged back is_open =
         let kept = it.stays.kept clean refl in
         let was = back.was_open is_open in
@@ -122,6 +120,24 @@ on_committed P shows done (Err e) f how = tt
 
 -- ---- one request
 
+-- the trees are those inside the transaction, where what was decided tells of a change
+abbrev pub Makes : State → Result Answer TableFault → Trees → Type 0
+Makes last decided left = IsOkAnd decided (λ given. IsTrue (is_accepted given) × (left ≡ last.now.trees))
+
+pub makes_left : (last : State) (decided : Result Answer TableFault) (left : Trees) → Makes last decided left → IsOkAnd decided (λ _. left ≡ last.now.trees)
+makes_left last (Ok given) left makes = makes.1
+makes_left last (Err stopped) left none = none
+
+-- what is so of an Ok, whatever its value
+pub of_ok : {T E P : Type 0} (done : Result T E) → IsOkAnd done (λ _. P) → P
+of_ok (Ok x) so = so
+of_ok (Err e) none = absurd none
+
+-- what a premise gives of an Ok is so of it under that premise
+pub under : {T E Premise : Type 0} (is_so : T → Type 0) (result : Result T E) → (Premise → IfOk result is_so) → IfOk result (λ x. Premise → is_so x)
+under is_so (Ok x) told = told
+under is_so (Err e) told = tt
+
 -- a request was decided inside a transaction
 pub record IsDecided {S : Type 0} (g : Ghosts S) (first last : Held S) (item : Item) (decided : Result Answer TableFault) : Type 0 where
   pub ranged : IsItem item
@@ -129,7 +145,7 @@ pub record IsDecided {S : Type 0} (g : Ghosts S) (first last : Held S) (item : I
   pub stays : CommitsNothing g (record first { in_transaction = true }) last
   pub goes_on : Continues g (record first { in_transaction = true }) last decided
   pub decides : Decides g (record first { in_transaction = true }) last decided item.0 item.1.now item.2
-  pub audited : (number : ℕ) → item.2 ≡ Audit number → Tells g (record first { in_transaction = true }) last decided (λ tables answer. IsAuditOf tables number answer)
+  pub rows : Tells g (record first { in_transaction = true }) last decided (λ tables answer. RowsTell tables item.0 item.1.now item.2 answer)
 
 served_after : (decided : Result Answer TableFault) (h : History) (item : Item) (db : Database) → IfOk decided (λ given. IsServed h item.0 item.1.now item.2 given db) → OnOk decided (Pictures (after_item item h) db)
 served_after (Ok given) h item db served = served.after
@@ -141,19 +157,26 @@ decided_made g first last item decided it =
 
 module _ {S : Type 0} {g : Ghosts S} {first last : Held S} {item : Item} {decided : Result Answer TableFault} (it : IsDecided g first last item decided) (end : Held S) (given : Answer)
     (settled : (s : Held S) → IsSettled (state g s)) (survives : Survives (state g first) (state g end) (CommitsTo (state g first) (after_item item)))
-    (clean : HasCleanDisk (state g end)) (early : HasCleanDisk (state g last)) where
+    (clean : HasCleanDisk (state g end)) (early : HasCleanDisk (state g last))
+    (crash : (left : Trees) → (state g end).may_leave left → (state g first).may_leave left ⊎ Makes (state g last) decided left) where
   made_it : IsMade g first last (after_item item) decided
   made_it = decided_made g first last item decided it
 
   leaves : LeavesEither (state g first) (state g end) (after_item item)
   leaves = left_by (state g first) (state g end) (after_item item) (settled first) survives clean
 
+  also_made : LeavesAlso (state g first) (state g end) (state g last).now.trees
+  also_made left may = elim (crash left may) [
+    | inl was ↦ inl was
+    | inr makes ↦ inr (of_ok decided (makes_left (state g last) decided left makes))
+  ]
+
   module _ (is : decided ≡ Ok given) where
     shuts : StaysShut (state g first) (state g end) given
     shuts shut = absurd (true≢false (sym (was_open made_it end early given is) ∙ shut))
 
-    audits : Audits (state g first) item.2 given
-    audits number asks office = rw is at (it.audited number asks early office)
+    told : IsToldByRows (state g first) item given
+    told answered office = rw is at (it.rows early office)
 
     module _ (h : History) (legal : IsLegal h) (keeps : IsKeptBy h (state g first)) where
       served : IsServed h item.0 item.1.now item.2 given (state g last).now
@@ -174,11 +197,17 @@ module _ {S : Type 0} {g : Ghosts S} {first last : Held S} {item : Item} {decide
         record { legal = serve h item.0 item.1.now item.2 it.ranged.0 it.ranged.1 legal; kept = made_kept made_it end early given is shows h legal keeps },
       );
       kept = λ none. absurd (true≢false (sym accepted ∙ none));
-      audited = audits;
+      rows = told;
       shut = shuts;
       survives = survives;
       durable = λ h legal keeps answered changes. made_lasting made_it end early given is shows h legal keeps (settled end);
       leaves = leaves;
+      made = record {
+        made = (state g last).now.trees;
+        also = also_made;
+        accepted = λ _. ap (λ (d : Database). d.trees) (sym shows.now_is);
+        none = λ none. absurd (true≢false (sym accepted ∙ none));
+      };
     }
 
   module _ (none : is_accepted given ≡ false) (back : IsRolledBack (state g last) (state g end)) where
@@ -191,11 +220,20 @@ module _ {S : Type 0} {g : Ghosts S} {first last : Held S} {item : Item} {decide
         record { legal = legal; kept = still_kept made_it end early back h keeps },
       );
       kept = λ _. unchanged made_it end early back;
-      audited = audits is;
+      rows = told is;
       shut = shuts is;
       survives = survives;
       durable = λ h legal keeps answered changes. absurd (changes (none_changed is h legal keeps none));
       leaves = leaves;
+      made = record {
+        made = (state g last).now.trees;
+        also = also_made;
+        accepted = λ accepted. absurd (true≢false (sym accepted ∙ none));
+        none = λ _ _ left may. elim (crash left may) [
+          | inl was ↦ was
+          | inr makes ↦ let is_made : IsTrue (is_accepted given) × (left ≡ (state g last).now.trees) = rw is at makes in absurd (true≢false (sym is_made.0 ∙ none))
+        ];
+      };
     }
 
     -- it is a failure
@@ -203,11 +241,17 @@ module _ {S : Type 0} {g : Ghosts S} {first last : Held S} {item : Item} {decide
     turn_failed fails = record {
       served = λ h legal keeps. (h, inl (fails, refl), record { legal = legal; kept = still_kept made_it end early back h keeps });
       kept = λ _. unchanged made_it end early back;
-      audited = λ number asks office. failure_audits (tables_of (state g first).now) number given fails;
+      rows = λ answered. absurd (answered fails);
       shut = λ shut. (fails, shut_still (state g end).is_open (state g first).is_open (λ is_open. (unchanged made_it end early back is_open).0) shut);
       survives = survives;
       durable = λ h legal keeps answered. absurd (answered fails);
       leaves = leaves;
+      made = record {
+        made = (state g last).now.trees;
+        also = also_made;
+        accepted = λ accepted. absurd (true≢false (sym accepted ∙ none));
+        none = λ _ answered. absurd (answered fails);
+      };
     }
 
   module _ (told : (decided ≡ Ok given) ⊎ IsFailure given) (committed : IsTrue (is_accepted given) → (decided ≡ Ok given) × Shows (state g last) (state g end) (state g last).now (state g last).now false)

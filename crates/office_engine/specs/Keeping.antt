@@ -1,6 +1,6 @@
 -- What an office keeps over its connection, what a request does to it, and what a crash may leave. `old` is the store before a call
 -- and `new` the store after it.
-use Rattle.std.specs.Prelude.{◌⊎◌, ◌≡◌, ◌≢◌, List, [], ◌∷◌, ℕ, Bool, true, false, IsTrue, All, drop}
+use Rattle.std.specs.Prelude.{◌⊎◌, ◌≡◌, ◌≢◌, List, [], ◌∷◌, ℕ, Bool, true, false, Result, OnOk, IsTrue, All, drop}
 use Rattle.jiff.specs.Types.{Date}
 use Rattle.sqlite.specs.Tree.{Trees}
 use Rattle.sqlite.specs.Effect.{Database}
@@ -10,25 +10,21 @@ use Rattle.sqlite.specs.Held.{Held, state}
 use Rattle.office_core.specs.Policies.{PolicyValue}
 use Rattle.office_core.specs.declared.answer.Answer.{Answer}
 use Rattle.office_core.specs.declared.answer.Answer.TheVariants as answers
-use Rattle.office_core.specs.declared.request.Request.{Request}
-use Rattle.office_core.specs.declared.request.Request.TheVariants.{Audit}
 use Rattle.office_tables.specs.Tables.{IsOffice, tables_of}
+pub use Rattle.office_tables.specs.Opening.{KeepsTables}
 use Rattle.office_history.specs.Histories.{History, Installed, with_changes}
 use Rattle.office_history.specs.Answers.{change, after, due_list}
 use Rattle.office_history.specs.Runs.{IsLegal, IsFailure, Item, Step, Run}
 use Rattle.office_history.specs.Stocks.{Stock, stock}
 use Rattle.office_asking.specs.Pictures.{Pictures}
-use Rattle.office_serving.specs.Audits.{IsAuditOf}
+use Rattle.office_serving.specs.ListsByRows.{AreDueIn, IsStockIn}
+use Rattle.office_engine.specs.ByRows.{RowsTell}
 
 -- ---- what is kept, and what is left
 
 -- while the store is open its tables picture the history, and all of it is committed
 abbrev pub IsKeptBy : History → State → Type 0
 IsKeptBy h s = IsTrue s.is_open → Pictures h s.now × (s.committed ≡ s.now)
-
--- the tables are as they were, and all of it is committed
-abbrev pub IsUnchanged : State → State → Type 0
-IsUnchanged old new = IsTrue new.is_open → IsTrue old.is_open × (new.now ≡ old.now) × (new.committed ≡ old.now)
 
 -- what a crash leaves pictures the history
 abbrev pub IsLeftOf : History → Trees → Type 0
@@ -82,9 +78,26 @@ is_accepted (answers.HoldReleased k day) = true
 is_accepted (answers.Destroyed n day) = true
 is_accepted _ = false
 
--- whatever the tables of an office held, the answer to an audit is the report on the files that stood there
-abbrev pub Audits : State → Request → Answer → Type 0
-Audits old request given = (number : ℕ) → request ≡ Audit number → IsOffice old.now → IsAuditOf (tables_of old.now) number given
+-- what a crash may leave, beside what it could leave before, are these trees
+abbrev pub LeavesAlso : State → State → Trees → Type 0
+LeavesAlso old new made = (left : Trees) → new.may_leave left → old.may_leave left ⊎ (left ≡ made)
+
+-- what a crash may leave, beside what it could leave before, are the trees that the request made: those of the store after it where the
+-- answer tells of a change, and none where it tells of none and is no failure
+pub record LeavesMade (old new : State) (given : Answer) : Type 0 where
+  pub made : Trees
+  pub also : LeavesAlso old new made
+  pub accepted : IsTrue (is_accepted given) → made ≡ new.now.trees
+  pub none : is_accepted given ≡ false → (IsFailure given → ⊥) → (left : Trees) → new.may_leave left → old.may_leave left
+
+-- the same of an install: the trees of the store after an Ok
+abbrev pub LeavesInstalled : {T E : Type 0} → State → State → Result T E → Type 0
+LeavesInstalled old new result = (made : Trees) × LeavesAlso old new made × OnOk result (made ≡ new.now.trees)
+
+-- whatever rows the tables of an office held, an answer that is no failure is the one that they told: an audit is the report on the
+-- files that stood there, and no answer rests on a row that tells nothing
+abbrev pub IsToldByRows : State → Item → Answer → Type 0
+IsToldByRows old item given = (IsFailure given → ⊥) → IsOffice old.now → RowsTell (tables_of old.now) item.0 item.1.now item.2 given
 
 -- once a fault has shut the store, the answer is E11 or E12, and the store stays shut
 abbrev pub StaysShut : State → State → Answer → Type 0
@@ -95,12 +108,13 @@ StaysShut old new given = old.is_open ≡ false → IsFailure given × (new.is_o
 -- what one request does and is answered, as each of a run is
 pub record IsTurn (old new : State) (item : Item) (given : Answer) : Type 0 where
   pub served : Serves old new item given
-  pub kept : is_accepted given ≡ false → IsUnchanged old new
-  pub audited : Audits old item.2 given
+  pub kept : is_accepted given ≡ false → KeepsTables old new
+  pub rows : IsToldByRows old item given
   pub shut : StaysShut old new given
   pub survives : Survives old new (CommitsTo old (after_item item))
   pub durable : Lasts old new item given
   pub leaves : LeavesEither old new (after_item item)
+  pub made : LeavesMade old new given
 
 -- the requests were served one after the other, each over the store that the one before it left
 abbrev pub InTurn : {S : Type 0} → Ghosts S → Held S → Held S → List Item → List Answer → Type 0
@@ -169,8 +183,16 @@ InstallLasts old new policy = (h : History) → IsLegal h → IsKeptBy h old →
 abbrev pub ListsDue : State → State → Date → List ℕ → List ℕ → Type 0
 ListsDue old new day caller numbers = (h : History) → IsLegal h → IsKeptBy h old → IsReached h new × (numbers ≡ due_list h day caller)
 
+-- whatever rows the tables of an office held, these are the numbers that they told
+abbrev pub AreToldDue : State → Date → List ℕ → List ℕ → Type 0
+AreToldDue old day caller numbers = IsOffice old.now → AreDueIn (tables_of old.now) day caller numbers
+
 -- ---- the stock
 
 -- whichever legal history was kept, it still is, and this is its stock
 abbrev pub CountsStock : State → State → Stock → Type 0
 CountsStock old new found = (h : History) → IsLegal h → IsKeptBy h old → IsReached h new × (found ≡ stock h)
+
+-- whatever contents the tables of an office held, it is the count of them
+abbrev pub IsToldStock : State → Stock → Type 0
+IsToldStock old found = IsOffice old.now → IsStockIn old.now found

@@ -1,1 +1,2 @@
+pub mod ByRows
 pub mod Keeping

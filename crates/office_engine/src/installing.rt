@@ -4,7 +4,7 @@ ghost use Rattle.std.specs.Prelude.{◌≡◌, IfErr, IfOk, IsOkAnd, IsTrue, Ok,
 ghost use Rattle.sqlite.specs.State.{HasCleanDisk, IsRolledBack, Shows, Survives};
 ghost use Rattle.sqlite.specs.Held.{state};
 ghost use Rattle.office_tables.specs.Faults.{IsFailure};
-ghost use Rattle.office_engine.specs.Keeping.{CommitsTo, InstallLasts, Installs, IsUnchanged, LeavesEither, after_policy};
+ghost use Rattle.office_engine.specs.Keeping.{CommitsTo, InstallLasts, Installs, KeepsTables, LeavesEither, LeavesInstalled, after_policy};
 
 use office_core::Policy;
 use office_tables::TableFault;
@@ -47,13 +47,15 @@ pub fn install<S: Alter>(
         → OnOk result (Installs (state S.Store conn.old) (state S.Store conn.new) policy.now) }
     ensures open { HasCleanDisk (state S.Store conn.new) → OnOk result (IsTrue (state S.Store conn.old).is_open) }
     ensures kept { HasCleanDisk (state S.Store conn.new)
-        → OnErr result (IsUnchanged (state S.Store conn.old) (state S.Store conn.new)) }
+        → OnErr result (KeepsTables (state S.Store conn.old) (state S.Store conn.new)) }
     ensures survives { Survives (state S.Store conn.old) (state S.Store conn.new)
         (CommitsTo (state S.Store conn.old) (after_policy policy.now)) }
     ensures durable { HasCleanDisk (state S.Store conn.new)
         → OnOk result (InstallLasts (state S.Store conn.old) (state S.Store conn.new) policy.now) }
     ensures leaves { HasCleanDisk (state S.Store conn.new)
         → LeavesEither (state S.Store conn.old) (state S.Store conn.new) (after_policy policy.now) }
+    ensures made { HasCleanDisk (state S.Store conn.new)
+        → LeavesInstalled (state S.Store conn.old) (state S.Store conn.new) result }
 {
     // What the type of a policy says of its callers and rules, and the connection of its state.
     let _rules = policy.rules();

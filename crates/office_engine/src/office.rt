@@ -19,8 +19,8 @@ ghost use Rattle.office_rows.specs.Rows.{this_version, version_of};
 ghost use Rattle.office_history.specs.Histories.{History};
 ghost use Rattle.office_history.specs.Answers.{after};
 ghost use Rattle.office_history.specs.Runs.{IsLegal, Item, new_history};
-ghost use Rattle.office_recovery.specs.Found.{HoldsWhere};
-ghost use Rattle.office_engine.specs.Keeping.{AllStayShut, Audits, CommitsRun, CommitsTo, CountsStock, InTurn, InstallLasts, Installs, IsKeptBy, IsKeptOfRun, IsLeftOf, IsLeftOfEither, IsLeftOfRun, IsUnchanged, Lasts, LeavesEither, LeavesKept, LeavesRun, ListsDue, Runs, Serves, StaysShut, after_item, is_accepted, after_policy};
+ghost use Rattle.office_recovery.specs.Found.{HoldsWhere, PicksUp};
+ghost use Rattle.office_engine.specs.Keeping.{AllStayShut, AreToldDue, CommitsRun, CommitsTo, CountsStock, InTurn, InstallLasts, Installs, IsKeptBy, IsKeptOfRun, IsLeftOf, IsLeftOfEither, IsLeftOfRun, IsToldByRows, IsToldStock, Lasts, LeavesEither, LeavesInstalled, LeavesKept, LeavesMade, LeavesRun, ListsDue, Runs, Serves, StaysShut, after_item, is_accepted, after_policy};
 
 use crate::installing::install;
 use crate::listing::{due_list, stock};
@@ -139,13 +139,15 @@ impl<S: Alter> Office<S> {
             → OnOk result (Installs (state S.Store self.old) (state S.Store self.new) policy.now) }
         ensures open { HasCleanDisk (state S.Store self.new) → OnOk result (IsTrue (state S.Store self.old).is_open) }
         ensures kept { HasCleanDisk (state S.Store self.new)
-            → OnErr result (IsUnchanged (state S.Store self.old) (state S.Store self.new)) }
+            → OnErr result (KeepsTables (state S.Store self.old) (state S.Store self.new)) }
         ensures survives { Survives (state S.Store self.old) (state S.Store self.new)
             (CommitsTo (state S.Store self.old) (after_policy policy.now)) }
         ensures durable { HasCleanDisk (state S.Store self.new)
             → OnOk result (InstallLasts (state S.Store self.old) (state S.Store self.new) policy.now) }
         ensures leaves { HasCleanDisk (state S.Store self.new)
             → LeavesEither (state S.Store self.old) (state S.Store self.new) (after_policy policy.now) }
+        ensures made { HasCleanDisk (state S.Store self.new)
+            → LeavesInstalled (state S.Store self.old) (state S.Store self.new) result }
     {
         install(alloc, &mut self.conn, policy)
     }
@@ -156,9 +158,9 @@ impl<S: Alter> Office<S> {
         ensures served { HasCleanDisk (state S.Store self.new)
             → Serves (state S.Store self.old) (state S.Store self.new) (day, caller.entry, request.now) result }
         ensures kept { HasCleanDisk (state S.Store self.new) → is_accepted result ≡ false
-            → IsUnchanged (state S.Store self.old) (state S.Store self.new) }
-        // Whatever the tables of the office hold, an audit is the report on what stands there.
-        ensures audited { HasCleanDisk (state S.Store self.new) → Audits (state S.Store self.old) request.now result }
+            → KeepsTables (state S.Store self.old) (state S.Store self.new) }
+        // Whatever rows the tables of the office hold, no answer rests on one that tells nothing.
+        ensures rows { HasCleanDisk (state S.Store self.new) → IsToldByRows (state S.Store self.old) (day, caller.entry, request.now) result }
         // Over a store that a fault has shut, it is a failure.
         ensures shut { HasCleanDisk (state S.Store self.new) → StaysShut (state S.Store self.old) (state S.Store self.new) result }
         ensures survives { Survives (state S.Store self.old) (state S.Store self.new)
@@ -167,6 +169,8 @@ impl<S: Alter> Office<S> {
             → Lasts (state S.Store self.old) (state S.Store self.new) (day, caller.entry, request.now) result }
         ensures leaves { HasCleanDisk (state S.Store self.new)
             → LeavesEither (state S.Store self.old) (state S.Store self.new) (after_item (day, caller.entry, request.now)) }
+        // Whatever was kept, it leaves no other trees than those that were there and those that the request made.
+        ensures made { HasCleanDisk (state S.Store self.new) → LeavesMade (state S.Store self.old) (state S.Store self.new) result }
     {
         serve(alloc, &mut self.conn, day, caller, request)
     }
@@ -211,8 +215,9 @@ impl<S: Alter> Office<S> {
         ensures failure { IfErr result faults.IsFailure }
         ensures listed { HasCleanDisk (state S.Store self.new) → IfOk result (λ numbers.
             ListsDue (state S.Store self.old) (state S.Store self.new) day caller.now numbers.items) }
+        ensures rows { HasCleanDisk (state S.Store self.new) → IfOk result (λ numbers. AreToldDue (state S.Store self.old) day caller.now numbers.items) }
         ensures open { HasCleanDisk (state S.Store self.new) → OnOk result (IsTrue (state S.Store self.old).is_open) }
-        ensures kept { HasCleanDisk (state S.Store self.new) → IsUnchanged (state S.Store self.old) (state S.Store self.new) }
+        ensures kept { HasCleanDisk (state S.Store self.new) → KeepsTables (state S.Store self.old) (state S.Store self.new) }
         ensures survives { Survives (state S.Store self.old) (state S.Store self.new) (λ _. ⊥) }
     {
         due_list(alloc, &mut self.conn, day, caller)
@@ -225,8 +230,9 @@ impl<S: Alter> Office<S> {
         ensures failure { IfErr result faults.IsFailure }
         ensures counted { HasCleanDisk (state S.Store self.new) → IfOk result (λ found.
             CountsStock (state S.Store self.old) (state S.Store self.new) found) }
+        ensures rows { HasCleanDisk (state S.Store self.new) → IfOk result (λ found. IsToldStock (state S.Store self.old) found) }
         ensures open { HasCleanDisk (state S.Store self.new) → OnOk result (IsTrue (state S.Store self.old).is_open) }
-        ensures kept { HasCleanDisk (state S.Store self.new) → IsUnchanged (state S.Store self.old) (state S.Store self.new) }
+        ensures kept { HasCleanDisk (state S.Store self.new) → KeepsTables (state S.Store self.old) (state S.Store self.new) }
         ensures survives { Survives (state S.Store self.old) (state S.Store self.new) (λ _. ⊥) }
     {
         stock(alloc, &mut self.conn)
@@ -324,6 +330,8 @@ pub fn reopen<D: Disk + Drop>(
 ) -> Option<Office<FileStore<D>>>
     requires log { IsTrue (D.Disk.is_usable files.log) }
     requires db { IsTrue (D.Disk.is_usable files.db) }
+    // It shows the database that the files hold, and makes none.
+    ensures found { IfSome result (λ office. HasCleanDisk (file_state office) → PicksUp (image_of D.Disk files) (file_state office)) }
     // It is an office of this version, and never any other database.
     ensures version { IfSome result (λ office. HasCleanDisk (file_state office) → IsTrue (file_state office).is_open → HasVersion (file_state office).now this_version) }
     // Where they hold one of two offices, it is one of them.

@@ -1,14 +1,13 @@
 //! One request in one transaction.
 
-ghost use Rattle.std.specs.Prelude.{◌≡◌, ◌≢◌, ◌⊎◌, ℕ, IfErr, IsOkAnd, IsTrue, Ok, OnOk, false};
+ghost use Rattle.std.specs.Prelude.{◌≡◌, ◌≢◌, ◌⊎◌, IfErr, IsOkAnd, IsTrue, Ok, OnOk, false};
 ghost use Rattle.sqlite.specs.State.{HasCleanDisk, IsRolledBack, Shows, Survives};
 ghost use Rattle.sqlite.specs.Held.{state};
-ghost use Rattle.office_core.specs.declared.request.Request.TheVariants as requests;
 ghost use Rattle.office_tables.specs.Calls.{CommitsNothing, Continues, Tells};
 ghost use Rattle.office_tables.specs.Faults as faults;
 ghost use Rattle.office_history.specs.Runs.{IsFailure};
 ghost use Rattle.office_asking.specs.Serving.{Decides};
-ghost use Rattle.office_serving.specs.Audits.{IsAuditOf};
+ghost use Rattle.office_engine.specs.ByRows.{RowsTell};
 ghost use Rattle.office_engine.specs.Keeping.{CommitsTo, IsTurn, after_item, is_accepted};
 
 use office_core::{Answer, Day, Refusal, Request};
@@ -61,8 +60,7 @@ fn decide<S: Alter>(
     ensures goes_on { Continues S.Store tx.old.conn.now tx.new.conn.now result }
     ensures failure { IfErr result faults.IsFailure }
     ensures decides { Decides S.Store tx.old.conn.now tx.new.conn.now result day caller.now request.now }
-    ensures audited { (number : ℕ) → request.now ≡ requests.Audit number
-        → Tells S.Store tx.old.conn.now tx.new.conn.now result (λ tables answer. IsAuditOf tables number answer) }
+    ensures rows { Tells S.Store tx.old.conn.now tx.new.conn.now result (λ tables answer. RowsTell tables day caller.now request.now answer) }
 {
     match request {
         Request::DefineClass { name, years } => define_class(alloc, tx, day, caller, name, *years),
@@ -113,7 +111,7 @@ fn end<S: Alter>(tx: Transaction<'_, S>, decided: Result<Answer, TableFault>) ->
     ensures undone { HasCleanDisk (state S.Store tx.exit.0.now) → OnOk decided (IsTrue (state S.Store tx.entry.conn.now).in_transaction)
         → is_accepted result ≡ false → IsRolledBack (state S.Store tx.entry.conn.now) (state S.Store tx.exit.0.now) }
     ensures survives { Survives (state S.Store tx.entry.conn.now) (state S.Store tx.exit.0.now)
-        (λ db. IsOkAnd decided (λ _. db ≡ (state S.Store tx.entry.conn.now).now.trees)) }
+        (λ db. IsOkAnd decided (λ answer. IsTrue (is_accepted answer) × (db ≡ (state S.Store tx.entry.conn.now).now.trees))) }
 {
     match decided {
         Ok(answer) => {

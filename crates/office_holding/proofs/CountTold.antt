@@ -1,5 +1,5 @@
 -- The count of live holds over a deposit, by the row that was read of it.
-use Rattle.std.proofs.Common.{◌≡◌, ℕ, ℤ, pos, ◌+ℤ◌, length, Result, Ok, Err, OnOk, Option, Some, None, option_map, refl, sym, ap, subst, ◌∙◌}
+use Rattle.std.proofs.Common.{◌≡◌, ℕ, ℤ, pos, ◌+ℤ◌, length, Option, Some, None, option_map, refl, sym, ap, subst, ◌∙◌}
 use Rattle.std.proofs.lemmas.Option.{same_Some}
 use Rattle.jiff.specs.Types.{Date}
 use Rattle.sqlite.specs.Effect.{Database}
@@ -9,11 +9,6 @@ use Rattle.office_history.specs.Histories.{History, Deposit, deposit_numbered, l
 use Rattle.office_history.specs.Pictures.{due_row, due_rows}
 use Rattle.office_asking.proofs.DuesTold.{due_told}
 use Rattle.office_holding.specs.Holds.{IsCounted}
-
--- what two clauses say of an Ok is said together
-pub on_both : {T E P Q R : Type 0} (r : Result T E) → (P → Q → R) → OnOk r P → OnOk r Q → OnOk r R
-on_both (Ok x) next p q = next p q
-on_both (Err e) next p q = tt
 
 -- where the rows were those of the history, the count goes on from that of its live holds
 pub counted_from : (h : History) (n : ℕ) (by : ℤ) (old new : Database) → (tables_of old).dues ≡ due_rows h → IsCounted n by old new

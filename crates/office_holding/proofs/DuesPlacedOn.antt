@@ -1,5 +1,5 @@
 -- What is kept of deposits, after a hold was placed on one of them.
-use Rattle.std.proofs.Common.{◌≡◌, ℕ, suc, ◌+◌, ℤ, pos, ◌+ℤ◌, Bool, true, false, List, [], ◌∷◌, map, length, Some, slice_get, refl, sym, ap, ap₂, subst, ◌∙◌, arith, if◌then◌else◌, None}
+use Rattle.std.proofs.Common.{◌≡◌, ℕ, suc, ◌+◌, ℤ, pos, ◌+ℤ◌, Bool, true, false, List, [], ◌∷◌, map, length, Some, refl, sym, ap, subst, ◌∙◌, arith, if◌then◌else◌, None}
 use Rattle.std.specs.Option.{option_map_or}
 use Rattle.std.specs.Ordering.{int_eq}
 use Rattle.std.proofs.lemmas.Option.{same_Some}
@@ -13,17 +13,8 @@ use Rattle.office_history.specs.Histories.{History, Change, Deposit, Hold, OnDep
 use Rattle.office_history.specs.Pictures.{due_number, due_row, due_rows}
 use Rattle.office_asking.proofs.NumberedRows.{rows_from, same_number, eqb-sym}
 use Rattle.office_asking.proofs.Unchanged.{same_years, same_deposits}
-use Rattle.office_asking.proofs.DuesGrown.{due_rows_are}
+use Rattle.office_asking.proofs.DuesGrown.{due_rows_are, changed_there}
 use Rattle.office_asking.proofs.DuesPlaced.{count_more}
-
--- a change that makes each item's row what is said after, at the number where the item stands
-changed_there : {A : Type 0} (change : DueRow → DueRow) (before after : ℕ → A → DueRow) (xs : List A) (start : ℕ) → ((i : ℕ) (x : A) → slice_get xs i ≡ Some x → change (before (start + i) x) ≡ after (start + i) x)
-    → map change (rows_from before start xs) ≡ rows_from after start xs
-changed_there change before after [] start same = refl
-changed_there change before after (x ∷ xs) start same =
-    let none : start + 0 ≡ start = omega arith in
-    ap₂ (λ r rs. r ∷ rs) (subst (λ k. change (before k x) ≡ after k x) none (same 0 x refl))
-    (changed_there change before after xs (start + 1) (λ i y e. let one : start + suc i ≡ start + 1 + i = omega arith in subst (λ k. change (before k y) ≡ after k y) one (same (suc i) y e)))
 
 module _ (h : History) (day : Date) (hold : Hold) (not_yet : release_day h (1 + length (holds h)) ≡ None) (n : ℕ) (is : hold.target ≡ OnDeposit n) (deposit : Date × Deposit) (at : deposit_numbered h n ≡ Some deposit) where
   abbrev more : List Change

@@ -5,3 +5,4 @@ pub mod DuesPlacedOn
 pub mod PlacedTold
 pub mod HoldAsked
 pub mod ReleasedTold
+pub mod HoldsByRows

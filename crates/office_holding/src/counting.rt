@@ -1,21 +1,43 @@
 //! How many live holds cover a deposit, where one more or one fewer does.
 
-ghost use Rattle.std.specs.Prelude.{◌≡◌, IfErr, OnOk};
+ghost use Rattle.std.specs.Prelude.{◌≡◌, ◌+ℤ◌, IfErr, IfOk, OnOk, pos};
 ghost use Rattle.sqlite.specs.State.{HasCleanDisk};
 ghost use Rattle.sqlite.specs.Held.{state};
+ghost use Rattle.jiff.specs.Words.{IsBetween};
+ghost use Rattle.office_rows.specs.Rows.{limits_of};
 ghost use Rattle.office_tables.specs.Faults.{IsFailure};
 ghost use Rattle.office_tables.specs.Tables.{IsOffice};
-ghost use Rattle.office_tables.specs.Calls.{CommitsNothing, Continues};
+ghost use Rattle.office_tables.specs.Calls.{CommitsNothing, Continues, Tells};
 ghost use Rattle.office_tables.specs.Contents.{LeavesOnce};
+ghost use Rattle.office_holding.specs.ByRows.{IsCountable};
 ghost use Rattle.office_holding.specs.Holds.{IsCounted};
 
-use office_tables::{TableFault, due_row, set_holds};
+use office_asking::there;
+use office_tables::{TableFault, due_row, limits, set_holds};
 use sqlite::{Alter, Transaction};
+
+/// A count with as many more. Neither is below 0, or above the most that there may be: no office keeps such
+/// a count.
+///
+/// Fails with `Store`.
+fn count_with(count: i64, by: i64, most: u32) -> Result<i64, TableFault>
+    ensures sum { IfOk result (λ sum. sum ≡ count +ℤ by) }
+    ensures before { OnOk result (IsBetween (pos 0) (pos most) count) }
+    ensures after { IfOk result (IsBetween (pos 0) (pos most)) }
+    ensures failure { IfErr result IsFailure }
+    ensures store { IfErr result (λ fault. fault ≡ TableFault.Store) }
+{
+    let most = most as i64;
+    match count.checked_add(by) {
+        Some(sum) if 0 <= count && count <= most && 0 <= sum && sum <= most => Ok(sum),
+        _ => Err(TableFault::Store),
+    }
+}
 
 /// Counts as many more live holds over the deposit of that number.
 ///
-/// Fails with `Memory` or `Store`: with `Store` where there is no such deposit, or its count would leave
-/// 64 bits.
+/// Fails with `Memory` or `Store`: with `Store` where there is no such deposit, or its count is or would
+/// be below 0, or above the holds that the office takes.
 pub(crate) fn count_over_deposit<S: Alter>(
     tx: &mut Transaction<'_, S>,
     number: u32,
@@ -27,13 +49,12 @@ pub(crate) fn count_over_deposit<S: Alter>(
     ensures failure { IfErr result IsFailure }
     ensures counted { HasCleanDisk (state S.Store tx.new.conn.now) → IsOffice (state S.Store tx.old.conn.now).now
         → OnOk result (IsCounted number by (state S.Store tx.old.conn.now).now (state S.Store tx.new.conn.now).now) }
+    ensures rows { Tells S.Store tx.old.conn.now tx.new.conn.now result (λ tables _. IsCountable (limits_of tables) tables.dues (pos number) by) }
     ensures once { LeavesOnce S.Store tx.old.conn.now tx.new.conn.now result }
 {
-    let Some(row) = due_row(tx, number)? else {
-        return Err(TableFault::Store);
-    };
-    let Some(holds) = row.holds.checked_add(by) else {
-        return Err(TableFault::Store);
-    };
+    let limits = limits(tx)?;
+    let found = due_row(tx, number)?;
+    let row = there(found)?;
+    let holds = count_with(row.holds, by, limits.max_holds)?;
     set_holds(tx, number, holds)
 }

@@ -1,14 +1,16 @@
 //! Holds that are placed on deposits and collections.
 
-ghost use Rattle.std.specs.Prelude.{◌≡◌, IfErr, [], ◌∷◌};
+ghost use Rattle.std.specs.Prelude.{◌≡◌, IfErr, pos, [], ◌∷◌};
 ghost use Rattle.office_core.specs.FirstOf.{first_some};
 ghost use Rattle.office_core.specs.declared.request.Request.TheVariants as requests;
+ghost use Rattle.office_rows.specs.Rows.{limits_of};
 ghost use Rattle.office_tables.specs.Faults.{IsFailure};
-ghost use Rattle.office_tables.specs.Calls.{CommitsNothing, Continues};
+ghost use Rattle.office_tables.specs.Calls.{CommitsNothing, Continues, Keeps, Tells};
 ghost use Rattle.office_history.specs.Histories.{OnCollection, OnDeposit, PlacedHold, deposit_numbered};
 ghost use Rattle.office_history.specs.Refusals.{collection_denials, collection_hold_refusals, full_of_holds, hold_refusals, of_deposit};
 ghost use Rattle.office_asking.specs.Serving.{Accepts, Decides, Finds};
 ghost use Rattle.office_holding.specs.Holds.{IsNext, IsPlace};
+ghost use Rattle.office_holding.specs.ByRows.{IsCollectionDenialIn, IsCollectionHeldIn, IsCollectionPlaceIn, IsDepositHeldIn, IsDepositPlaceIn, IsCountable, IsNextIn};
 
 use crate::counting::count_over_deposit;
 use office_asking::{denial, kept_deposit, number_after};
@@ -24,7 +26,9 @@ fn next_hold<S: Alter>(tx: &mut Transaction<'_, S>) -> Result<Result<u32, Refusa
     ensures stays { CommitsNothing S.Store tx.old.conn.now tx.new.conn.now }
     ensures goes_on { Continues S.Store tx.old.conn.now tx.new.conn.now result }
     ensures failure { IfErr result IsFailure }
+    ensures same { Keeps S.Store tx.old.conn.now tx.new.conn.now result }
     ensures next { Finds S.Store tx.old.conn.now tx.new.conn.now result (λ h place. IsPlace h (full_of_holds h ∷ []) place) }
+    ensures rows { Tells S.Store tx.old.conn.now tx.new.conn.now result (λ tables place. IsNextIn tables place) }
 {
     let limits = limits(tx)?;
     let last = last_hold(tx)?;
@@ -66,6 +70,7 @@ fn place_on_deposit<S: Alter>(
     ensures failure { IfErr result IsFailure }
     ensures placed { Accepts S.Store tx.old.conn.now tx.new.conn.now result (λ h. IsNext h number)
         (PlacedHold day (record { target = OnDeposit deposit; matter = matter.now }) ∷ []) }
+    ensures rows { Tells S.Store tx.old.conn.now tx.new.conn.now result (λ tables _. IsCountable (limits_of tables) tables.dues (pos deposit) (pos 1)) }
 {
     let target = HoldTarget::Deposit(deposit);
     put_hold(tx, number, target, matter, day.number() as i64)?;
@@ -82,8 +87,10 @@ fn collection_denial<S: Alter>(
     ensures stays { CommitsNothing S.Store tx.old.conn.now tx.new.conn.now }
     ensures goes_on { Continues S.Store tx.old.conn.now tx.new.conn.now result }
     ensures failure { IfErr result IsFailure }
+    ensures same { Keeps S.Store tx.old.conn.now tx.new.conn.now result }
     ensures denied { Finds S.Store tx.old.conn.now tx.new.conn.now result (λ h why.
         why ≡ first_some (collection_denials h caller.now collection.now)) }
+    ensures rows { Tells S.Store tx.old.conn.now tx.new.conn.now result (λ tables why. IsCollectionDenialIn tables caller.now collection.now why) }
 {
     if !has_collection(tx, collection)? {
         return Ok(Some(Refusal::NoSuch(Subject::Collection)));
@@ -101,8 +108,10 @@ fn place_for_collection<S: Alter>(
     ensures stays { CommitsNothing S.Store tx.old.conn.now tx.new.conn.now }
     ensures goes_on { Continues S.Store tx.old.conn.now tx.new.conn.now result }
     ensures failure { IfErr result IsFailure }
+    ensures same { Keeps S.Store tx.old.conn.now tx.new.conn.now result }
     ensures found { Finds S.Store tx.old.conn.now tx.new.conn.now result (λ h place.
         IsPlace h (collection_hold_refusals h caller.now collection.now) place) }
+    ensures rows { Tells S.Store tx.old.conn.now tx.new.conn.now result (λ tables place. IsCollectionPlaceIn tables caller.now collection.now place) }
 {
     if let Some(why) = collection_denial(tx, caller, collection)? {
         return Ok(Err(why));
@@ -120,8 +129,10 @@ fn place_for_deposit<S: Alter>(
     ensures stays { CommitsNothing S.Store tx.old.conn.now tx.new.conn.now }
     ensures goes_on { Continues S.Store tx.old.conn.now tx.new.conn.now result }
     ensures failure { IfErr result IsFailure }
+    ensures same { Keeps S.Store tx.old.conn.now tx.new.conn.now result }
     ensures found { Finds S.Store tx.old.conn.now tx.new.conn.now result (λ h place.
         IsPlace h (of_deposit (deposit_numbered h number) (hold_refusals h caller.now number)) place) }
+    ensures rows { Tells S.Store tx.old.conn.now tx.new.conn.now result (λ tables place. IsDepositPlaceIn tables caller.now number place) }
 {
     match kept_deposit(tx, caller, Action::Hold, number)? {
         Ok(_) => next_hold(tx),
@@ -144,6 +155,7 @@ pub fn hold_collection<S: Alter>(
     ensures goes_on { Continues S.Store tx.old.conn.now tx.new.conn.now result }
     ensures failure { IfErr result IsFailure }
     ensures decides { Decides S.Store tx.old.conn.now tx.new.conn.now result day caller.now (requests.HoldCollection name.now matter.now) }
+    ensures rows { Tells S.Store tx.old.conn.now tx.new.conn.now result (λ tables answer. IsCollectionHeldIn tables caller.now name.now answer) }
 {
     match place_for_collection(tx, caller, name.as_str())? {
         Ok(hold) => {
@@ -169,6 +181,7 @@ pub fn hold_deposit<S: Alter>(
     ensures goes_on { Continues S.Store tx.old.conn.now tx.new.conn.now result }
     ensures failure { IfErr result IsFailure }
     ensures decides { Decides S.Store tx.old.conn.now tx.new.conn.now result day caller.now (requests.HoldDeposit number matter.now) }
+    ensures rows { Tells S.Store tx.old.conn.now tx.new.conn.now result (λ tables answer. IsDepositHeldIn tables caller.now number answer) }
 {
     match place_for_deposit(tx, caller, number)? {
         Ok(hold) => {

@@ -1,16 +1,20 @@
 //! Holds that are released.
 
-ghost use Rattle.std.specs.Prelude.{◌≡◌, IfErr, IfOk, Option, option_map, [], ◌∷◌};
+ghost use Rattle.std.specs.Prelude.{◌≡◌, IfErr, IfOk, Option, negsuc, option_map, pos, [], ◌∷◌};
 ghost use Rattle.jiff.specs.Words.{epoch_day};
 ghost use Rattle.office_core.specs.FirstOf.{first_some};
+ghost use Rattle.office_core.specs.declared.answer.LiveHold.{LiveHold};
 ghost use Rattle.office_core.specs.declared.refusal.Refusal.TheVariants.{Released};
 ghost use Rattle.office_core.specs.declared.request.Request.TheVariants as requests;
+ghost use Rattle.office_rows.specs.Rows.{limits_of};
 ghost use Rattle.office_tables.specs.Faults.{IsFailure};
-ghost use Rattle.office_tables.specs.Calls.{CommitsNothing, Continues};
+ghost use Rattle.office_tables.specs.Calls.{CommitsNothing, Continues, Keeps, Tells};
 ghost use Rattle.office_tables.specs.ShownHolds.{held_collection, held_deposit};
 ghost use Rattle.office_history.specs.Histories.{OnCollection, OnDeposit, ReleasedHold};
 ghost use Rattle.office_history.specs.Refusals.{release_denial};
 ghost use Rattle.office_asking.specs.Serving.{Accepts, Decides, Finds};
+ghost use Rattle.office_asking.specs.Holds.{IsHoldOf};
+ghost use Rattle.office_holding.specs.ByRows.{CountsFewer, IsCollectionReleaseIn, IsCountable, IsDepositReleaseIn, IsReleasableIn, IsReleaseDenialIn, IsReleasedIn, IsRowUnless};
 ghost use Rattle.office_holding.specs.Holds.{IsLiveOn, IsReleaseAsked, IsUnless, target_of};
 
 use crate::counting::count_over_deposit;
@@ -38,6 +42,8 @@ fn named_in(hold: &HoldRow) -> Result<HoldTarget<'_>, TableFault>
 
 /// The refusal where the caller may not release a hold of the deposit of that number, kept or
 /// destroyed.
+///
+/// Fails with `Memory` or `Store`: with `Store` where there is no such deposit.
 fn deposit_release_denial<S: Alter>(
     tx: &mut Transaction<'_, S>,
     caller: &str,
@@ -47,22 +53,26 @@ fn deposit_release_denial<S: Alter>(
     ensures stays { CommitsNothing S.Store tx.old.conn.now tx.new.conn.now }
     ensures goes_on { Continues S.Store tx.old.conn.now tx.new.conn.now result }
     ensures failure { IfErr result IsFailure }
+    ensures same { Keeps S.Store tx.old.conn.now tx.new.conn.now result }
     ensures denied { Finds S.Store tx.old.conn.now tx.new.conn.now result (λ h why.
         why ≡ release_denial h caller.now (OnDeposit number)) }
+    ensures rows { Tells S.Store tx.old.conn.now tx.new.conn.now result (λ tables why. IsDepositReleaseIn tables caller.now (pos number) why) }
 {
-    let Some(deposit) = deposit_row(tx, number)? else {
-        return Err(TableFault::Store);
-    };
-    denial(
-        tx,
-        caller,
-        Action::Release,
-        Some(&deposit.collection),
-        Some(&deposit.class),
-    )
+    match deposit_row(tx, number)? {
+        Some(deposit) => denial(
+            tx,
+            caller,
+            Action::Release,
+            Some(&deposit.collection),
+            Some(&deposit.class),
+        ),
+        None => Err(TableFault::Store),
+    }
 }
 
 /// The refusal where the caller may not release a hold of the collection of that name.
+///
+/// Fails with `Memory` or `Store`: with `Store` where there is no such collection.
 fn collection_release_denial<S: Alter>(
     tx: &mut Transaction<'_, S>,
     caller: &str,
@@ -72,8 +82,10 @@ fn collection_release_denial<S: Alter>(
     ensures stays { CommitsNothing S.Store tx.old.conn.now tx.new.conn.now }
     ensures goes_on { Continues S.Store tx.old.conn.now tx.new.conn.now result }
     ensures failure { IfErr result IsFailure }
+    ensures same { Keeps S.Store tx.old.conn.now tx.new.conn.now result }
     ensures denied { Finds S.Store tx.old.conn.now tx.new.conn.now result (λ h why.
         why ≡ release_denial h caller.now (OnCollection collection.now)) }
+    ensures rows { Tells S.Store tx.old.conn.now tx.new.conn.now result (λ tables why. IsCollectionReleaseIn tables caller.now collection.now why) }
 {
     if !has_collection(tx, collection)? {
         return Err(TableFault::Store);
@@ -91,8 +103,11 @@ fn release_denial<S: Alter>(
     ensures stays { CommitsNothing S.Store tx.old.conn.now tx.new.conn.now }
     ensures goes_on { Continues S.Store tx.old.conn.now tx.new.conn.now result }
     ensures failure { IfErr result IsFailure }
+    ensures same { Keeps S.Store tx.old.conn.now tx.new.conn.now result }
     ensures denied { Finds S.Store tx.old.conn.now tx.new.conn.now result (λ h why.
         why ≡ release_denial h caller.now (target_of target.entry)) }
+    ensures rows { Tells S.Store tx.old.conn.now tx.new.conn.now result (λ tables why.
+        IsReleaseDenialIn tables caller.now (held_deposit target.entry) (held_collection target.entry) why) }
 {
     match target {
         HoldTarget::Deposit(number) => deposit_release_denial(tx, caller, number),
@@ -111,6 +126,9 @@ fn unless_refused(
     ensures failure { IfErr result IsFailure }
     ensures first { IfOk result (λ found. (day : Option Day) → option_map epoch_day day ≡ hold.released
         → IsUnless hold (first_some (denied ∷ option_map Released day ∷ [])) found) }
+    ensures rows { IfOk result (λ found. IsRowUnless denied hold found) }
+    // It wants memory only for a hold: a row that tells of none is a fault of the store.
+    ensures memory { IfErr result (λ fault. fault ≡ TableFault.Memory → (told : LiveHold) × IsHoldOf hold told) }
 {
     if let Some(why) = denied {
         return Ok(Err(why));
@@ -133,7 +151,9 @@ fn releasable_hold<S: Alter>(
     ensures stays { CommitsNothing S.Store tx.old.conn.now tx.new.conn.now }
     ensures goes_on { Continues S.Store tx.old.conn.now tx.new.conn.now result }
     ensures failure { IfErr result IsFailure }
+    ensures same { Keeps S.Store tx.old.conn.now tx.new.conn.now result }
     ensures asked { Finds S.Store tx.old.conn.now tx.new.conn.now result (λ h found. IsReleaseAsked h caller.now number found) }
+    ensures rows { Tells S.Store tx.old.conn.now tx.new.conn.now result (λ tables found. IsReleasableIn tables caller.now number found) }
 {
     let Some(hold) = hold_row(tx, number)? else {
         return Ok(Err(Refusal::NoSuch(Subject::Hold)));
@@ -173,6 +193,7 @@ fn end_deposit<S: Alter>(
     ensures goes_on { Continues S.Store tx.old.conn.now tx.new.conn.now result }
     ensures failure { IfErr result IsFailure }
     ensures ended { Accepts S.Store tx.old.conn.now tx.new.conn.now result (λ h. IsLiveOn h number (OnDeposit deposit)) (ReleasedHold day number ∷ []) }
+    ensures rows { Tells S.Store tx.old.conn.now tx.new.conn.now result (λ tables _. IsCountable (limits_of tables) tables.dues (pos deposit) (negsuc 0)) }
 {
     end_hold(tx, number, day.number() as i64)?;
     count_over_deposit(tx, deposit, -1)
@@ -190,6 +211,7 @@ fn end<S: Alter>(
     ensures goes_on { Continues S.Store tx.old.conn.now tx.new.conn.now result }
     ensures failure { IfErr result IsFailure }
     ensures ended { Accepts S.Store tx.old.conn.now tx.new.conn.now result (λ h. IsLiveOn h number (target_of target.entry)) (ReleasedHold day number ∷ []) }
+    ensures rows { Tells S.Store tx.old.conn.now tx.new.conn.now result (λ tables _. CountsFewer tables (held_deposit target.entry)) }
 {
     match target {
         HoldTarget::Deposit(deposit) => end_deposit(tx, day, number, deposit),
@@ -212,6 +234,7 @@ pub fn release<S: Alter>(
     ensures goes_on { Continues S.Store tx.old.conn.now tx.new.conn.now result }
     ensures failure { IfErr result IsFailure }
     ensures decides { Decides S.Store tx.old.conn.now tx.new.conn.now result day caller.now (requests.Release hold) }
+    ensures rows { Tells S.Store tx.old.conn.now tx.new.conn.now result (λ tables answer. IsReleasedIn tables day caller.now hold answer) }
 {
     match releasable_hold(alloc, tx, caller, hold)? {
         Ok(row) => {

@@ -1,6 +1,6 @@
-pub mod BothOk
 pub mod GoneTold
 pub mod AccessionTold
 pub mod Placing
 pub mod DepositedTold
 pub mod AskedFor
+pub mod RowsTold

@@ -26,6 +26,11 @@ abbrev pub IsAskedFor : History → List ℕ → List (Option Refusal) → Resul
 IsAskedFor h text these (Ok new) = IsNext h text these new
 IsAskedFor h text these (Err why) = Some why ≡ first_some these
 
+-- the number of the bag that is to be kept, or the refusal
+abbrev pub number_of : Result NewBag Refusal → Result ℕ Refusal
+number_of (Ok new) = Ok new.number
+number_of (Err why) = Err why
+
 -- the deposit is in its place by number; it falls due on that day or never, and so many live holds cover it
 abbrev pub with_kept : DepositRow → Option ℤ → ℤ → Tables → Tables
 with_kept d due holds t = with_holds d.number holds (with_due d.number due (with_deposit d t))

@@ -1,1 +1,2 @@
 pub mod Depositing
+pub mod ByRows

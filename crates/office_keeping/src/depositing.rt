@@ -4,13 +4,14 @@ ghost use Rattle.std.specs.Prelude.{◌≡◌, IfErr, IfOk, [], ◌∷◌, lengt
 ghost use Rattle.office_core.specs.FirstOf.{first_some};
 ghost use Rattle.office_core.specs.declared.request.Request.TheVariants as requests;
 ghost use Rattle.office_tables.specs.Faults.{IsFailure};
-ghost use Rattle.office_tables.specs.Calls.{CommitsNothing, Continues};
+ghost use Rattle.office_tables.specs.Calls.{CommitsNothing, Continues, Keeps, Tells};
 ghost use Rattle.office_history.specs.Histories.{History, deposits};
 ghost use Rattle.office_history.specs.Refusals as refusals;
 ghost use Rattle.office_history.specs.Refusals.{place_refusals, bad_bag, closed_ahead_refusal, full_of_deposits};
 ghost use Rattle.office_asking.specs.Limits.{IsNumberAfter};
 ghost use Rattle.office_asking.specs.Serving.{Finds, Decides};
-ghost use Rattle.office_keeping.specs.Depositing.{IsAskedFor, refusals_before_the_bag};
+ghost use Rattle.office_keeping.specs.ByRows.{IsAskedOfDeposit, IsDepositedIn, IsNextIn, IsPlaceRefusalIn, IsRefusalBeforeTheBag, IsRefusedOr, IsTakenIn};
+ghost use Rattle.office_keeping.specs.Depositing.{IsAskedFor, number_of, refusals_before_the_bag};
 
 use crate::keeping::keep;
 use bag_text::BagSet;
@@ -34,6 +35,8 @@ fn place_refusal<S: Alter>(
     ensures goes_on { Continues S.Store tx.old.conn.now tx.new.conn.now result }
     ensures failure { IfErr result IsFailure }
     ensures refusal { Finds S.Store tx.old.conn.now tx.new.conn.now result (λ h why. why ≡ first_some (place_refusals h caller.now collection.now class.now)) }
+    ensures same { Keeps S.Store tx.old.conn.now tx.new.conn.now result }
+    ensures rows { Tells S.Store tx.old.conn.now tx.new.conn.now result (λ tables why. IsPlaceRefusalIn tables caller.now collection.now class.now why) }
 {
     if !has_collection(tx, collection)? {
         return Ok(Some(Refusal::NoSuch(Subject::Collection)));
@@ -54,6 +57,8 @@ fn taken_refusal<S: Alter>(
     ensures goes_on { Continues S.Store tx.old.conn.now tx.new.conn.now result }
     ensures failure { IfErr result IsFailure }
     ensures taken { Finds S.Store tx.old.conn.now tx.new.conn.now result (λ h why. why ≡ refusals.taken_refusal h accession.now) }
+    ensures same { Keeps S.Store tx.old.conn.now tx.new.conn.now result }
+    ensures rows { Tells S.Store tx.old.conn.now tx.new.conn.now result (λ tables why. IsTakenIn tables accession.now why) }
 {
     match by_accession(tx, accession)? {
         Some(deposit) => Ok(Some(Refusal::Taken(deposit.number))),
@@ -87,6 +92,9 @@ fn refusal_before_the_bag<S: Alter>(
     ensures failure { IfErr result IsFailure }
     ensures refusal { Finds S.Store tx.old.conn.now tx.new.conn.now result (λ h why.
         why ≡ first_some (refusals_before_the_bag h day caller.now collection.now class.now accession.now closed)) }
+    ensures same { Keeps S.Store tx.old.conn.now tx.new.conn.now result }
+    ensures rows { Tells S.Store tx.old.conn.now tx.new.conn.now result (λ tables why.
+        IsRefusalBeforeTheBag tables day caller.now collection.now class.now accession.now closed why) }
 {
     if let Some(why) = place_refusal(tx, caller, collection, class)? {
         return Ok(Some(why));
@@ -105,6 +113,8 @@ fn next_number<S: Alter>(tx: &mut Transaction<'_, S>) -> Result<Result<u32, Refu
     ensures failure { IfErr result IsFailure }
     ensures next { Finds S.Store tx.old.conn.now tx.new.conn.now result (λ h next.
         IsNumberAfter (length (deposits h)) h.max_deposits next) }
+    ensures same { Keeps S.Store tx.old.conn.now tx.new.conn.now result }
+    ensures rows { Tells S.Store tx.old.conn.now tx.new.conn.now result IsNextIn }
 {
     let limits = limits(tx)?;
     let last = last_deposit(tx)?;
@@ -129,6 +139,7 @@ fn judged_bag<'a>(
     ensures judged { IfOk result (λ asked. (h : History)
         → IsNumberAfter (length (deposits h)) h.max_deposits number
         → IsAskedFor h text.entry.now (bad_bag text.entry.now ∷ full_of_deposits h ∷ []) asked) }
+    ensures numbered { IfOk result (λ asked. IsRefusedOr (bad_bag text.entry.now) (λ next. next ≡ number) (number_of asked)) }
 {
     let bag = match valid_bag(alloc, text)? {
         Ok(bag) => bag,
@@ -153,6 +164,9 @@ fn numbered_bag<'a, S: Alter>(
     ensures failure { IfErr result IsFailure }
     ensures numbered { Finds S.Store tx.old.conn.now tx.new.conn.now result (λ h asked.
         IsAskedFor h text.entry.now (bad_bag text.entry.now ∷ full_of_deposits h ∷ []) asked) }
+    ensures same { Keeps S.Store tx.old.conn.now tx.new.conn.now result }
+    ensures rows { Tells S.Store tx.old.conn.now tx.new.conn.now result (λ tables asked.
+        IsRefusedOr (bad_bag text.entry.now) (IsNextIn tables) (number_of asked)) }
 {
     let number = next_number(tx)?;
     judged_bag(alloc, text, number)
@@ -176,6 +190,9 @@ fn new_bag<'a, S: Alter>(
     ensures failure { IfErr result IsFailure }
     ensures asked { Finds S.Store tx.old.conn.now tx.new.conn.now result (λ h asked.
         IsAskedFor h text.entry.now (refusals.refusals h day caller.now (requests.Deposit collection.now class.now accession.now closed text.entry)) asked) }
+    ensures same { Keeps S.Store tx.old.conn.now tx.new.conn.now result }
+    ensures rows { Tells S.Store tx.old.conn.now tx.new.conn.now result (λ tables asked.
+        IsAskedOfDeposit tables day caller.now collection.now class.now accession.now closed text.entry.now (number_of asked)) }
 {
     if let Some(why) = refusal_before_the_bag(
         tx, day, caller, collection, class, accession, closed,
@@ -207,6 +224,8 @@ pub fn deposit<S: Alter>(
     ensures failure { IfErr result IsFailure }
     ensures decides { Decides S.Store tx.old.conn.now tx.new.conn.now result day caller.now
         (requests.Deposit collection.now class.now accession.now closed bag.entry) }
+    ensures rows { Tells S.Store tx.old.conn.now tx.new.conn.now result (λ tables given.
+        IsDepositedIn tables day caller.now collection.now class.now accession.now closed bag.entry.now given) }
 {
     let collection = collection.as_str();
     let class = class.as_str();

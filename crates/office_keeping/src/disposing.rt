@@ -3,10 +3,11 @@
 ghost use Rattle.std.specs.Prelude.{◌≡◌, IfErr, [], ◌∷◌, None};
 ghost use Rattle.office_core.specs.declared.request.Request.TheVariants as requests;
 ghost use Rattle.office_tables.specs.Faults.{IsFailure};
-ghost use Rattle.office_tables.specs.Calls.{CommitsNothing, Continues};
+ghost use Rattle.office_tables.specs.Calls.{CommitsNothing, Continues, Tells};
 ghost use Rattle.office_history.specs.Histories.{Destroyed, destruction_day};
 ghost use Rattle.office_history.specs.Refusals.{refusal};
 ghost use Rattle.office_asking.specs.Serving.{Finds, Accepts, Decides};
+ghost use Rattle.office_keeping.specs.ByRows.{IsDisposalRefusalIn, IsDisposedIn};
 
 use office_asking::{Asker, disposal_facts};
 use office_core::{Answer, Day, Refusal, Subject, verdict};
@@ -29,6 +30,7 @@ fn disposal_refusal<S: Alter>(
     ensures goes_on { Continues S.Store tx.old.conn.now tx.new.conn.now result }
     ensures failure { IfErr result IsFailure }
     ensures refusal { Finds S.Store tx.old.conn.now tx.new.conn.now result (λ h why. why ≡ refusal h day caller.now (requests.Dispose number)) }
+    ensures rows { Tells S.Store tx.old.conn.now tx.new.conn.now result (λ tables why. IsDisposalRefusalIn tables day caller.now number why) }
 {
     verdicts_decide();
     let Some(deposit) = deposit_row(tx, number)? else {
@@ -67,6 +69,7 @@ pub fn dispose<S: Alter>(
     ensures goes_on { Continues S.Store tx.old.conn.now tx.new.conn.now result }
     ensures failure { IfErr result IsFailure }
     ensures decides { Decides S.Store tx.old.conn.now tx.new.conn.now result day caller.now (requests.Dispose number) }
+    ensures rows { Tells S.Store tx.old.conn.now tx.new.conn.now result (λ tables given. IsDisposedIn tables day caller.now number given) }
 {
     if let Some(why) = disposal_refusal(alloc, tx, day, caller, number)? {
         return Ok(Answer::Refused(why));

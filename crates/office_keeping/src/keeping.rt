@@ -2,13 +2,16 @@
 
 ghost use Rattle.std.specs.Prelude.{◌≡◌, IfErr, IfOk, [], ◌∷◌, ◌+◌, length, pos};
 ghost use Rattle.bag_text.specs.TransferReading.{files_of};
+ghost use Rattle.office_rows.specs.Rows as rows;
 ghost use Rattle.office_rows.specs.Rows.{with_file};
 ghost use Rattle.office_tables.specs.Faults.{IsFailure};
-ghost use Rattle.office_tables.specs.Calls.{CommitsNothing, Continues, ContinuesInTurn, Writes};
+ghost use Rattle.office_tables.specs.Calls.{CommitsNothing, Continues, ContinuesInTurn, Tells, Writes};
 ghost use Rattle.office_tables.specs.Contents.{LeavesOnce};
 ghost use Rattle.office_tables.specs.Deposits.{added_row};
 ghost use Rattle.office_core.specs.Retention.{due_number};
+ghost use Rattle.office_core.specs.declared.retention.Due.{Due};
 ghost use Rattle.office_history.specs.Histories.{Deposit, Deposited, deposits, due, live_holds};
+ghost use Rattle.office_asking.specs.ByRows.{IsDueIn};
 ghost use Rattle.office_asking.specs.Serving.{Accepts, Finds};
 ghost use Rattle.office_keeping.specs.Depositing.{with_files, with_kept};
 
@@ -59,6 +62,7 @@ fn add_files<S: Alter>(
 fn row_count(count: usize) -> Result<i64, TableFault>
     ensures same { IfOk result (λ number. number ≡ pos count) }
     ensures failure { IfErr result IsFailure }
+    ensures store { IfErr result (λ fault. fault ≡ TableFault.Store) }
 {
     match i64::try_from(count) {
         Ok(number) => Ok(number),
@@ -92,6 +96,10 @@ fn beside_row<S: Alter>(
         (deposit : Deposit) → deposit.class ≡ class.now → deposit.closed ≡ closed → beside.due ≡ due_number (due h deposit)) }
     ensures holds { Finds S.Store tx.old.conn.now tx.new.conn.now result (λ h beside.
         (deposit : Deposit) → deposit.collection ≡ collection.now → beside.holds ≡ pos (length (live_holds h number deposit))) }
+    ensures rows { Tells S.Store tx.old.conn.now tx.new.conn.now result (λ tables beside.
+        (due : Due) × IsDueIn tables class.now closed due × (beside.due ≡ due_number due)) }
+    ensures counted { Tells S.Store tx.old.conn.now tx.new.conn.now result (λ tables beside.
+        beside.holds ≡ pos (length (rows.live_holds (pos number) collection.now tables))) }
 {
     let due = due_day(tx, class, closed)?;
     let holds = live_count(alloc, tx, number, collection)?;
@@ -140,6 +148,7 @@ pub(crate) fn keep<S: Alter>(
     ensures failure { IfErr result IsFailure }
     ensures kept { Accepts S.Store tx.old.conn.now tx.new.conn.now result (λ h. number ≡ length (deposits h) + 1)
         (Deposited day (record { collection = collection.now; class = class.now; accession = accession.now; closed = closed; bag = bag.now }) ∷ []) }
+    ensures rows { Tells S.Store tx.old.conn.now tx.new.conn.now result (λ tables _. (due : Due) × IsDueIn tables class.now closed due) }
 {
     let beside = beside_row(alloc, tx, number, collection, class, closed)?;
     let payload = count_payload(bag);

@@ -37,11 +37,10 @@ pub becomes_again : (tables : Tables) (left : Trees) (b : Database) → IsLeft t
 becomes_again tables left b h q e = found_again (λ d. Becomes d tables) h.0 b h.1.office.listed q (e ∙ h.2) h.1
 
 -- a call that keeps what the connection shows keeps the database whose trees it holds
-pub goes_on : (old new : State) → IsLive old → (IsTrue old.is_open → old.now ≡ old.committed) → KeepsTables old new → GoesOnAs old new
-goes_on old new live settled kept db whole left is_open =
-    let was_open = (kept is_open).0 in
-    let same = (kept is_open).1 (sym (settled was_open)) in
-    (same.0 ∙ same_database old.now db (live was_open).0 whole left, same.1 ∙ sym same.0)
+pub goes_on : (old new : State) → IsLive old → KeepsTables old new → GoesOnAs old new
+goes_on old new live kept db whole left is_open =
+    let same = kept is_open in
+    (same.1 ∙ same_database old.now db (live same.0).0 whole left, same.2 ∙ sym same.1)
 
 -- what was left of an office of this version is known as one
 pub is_known : (tables : Tables) (s : State) → IsLive s → IsTrue s.is_open → IsLeft tables s.now.trees → IsOffice s.now × (tables_of s.now ≡ tables)

@@ -36,7 +36,5 @@ picks_up image first last survives finds opens on clean left held db whole is =
     on clean db whole (ap (λ (d : Database). d.trees) (opens early).clean ∙ finds early left held ∙ is)
 
 -- and shows the version that it was found to have
-pub shows_version : (first last : State) (version : ℤ) → Survives first last (λ _. ⊥) → (HasCleanDisk first → Opens first) → (HasCleanDisk last → KeepsTables first last)
-    → (HasCleanDisk last → HasVersion first.now version) → HasCleanDisk last → IsTrue last.is_open → HasVersion last.now version
-shows_version first last version survives opens kept has clean is_open =
-    let same = (kept clean is_open).1 (sym (opens (clean_before first last survives clean)).clean) in subst (λ (d : Database). HasVersion d version) (sym same.0) (has clean)
+pub shows_version : (first last : State) (version : ℤ) → (HasCleanDisk last → KeepsTables first last) → (HasCleanDisk last → HasVersion first.now version) → HasCleanDisk last → IsTrue last.is_open → HasVersion last.now version
+shows_version first last version kept has clean is_open = subst (λ (d : Database). HasVersion d version) (sym (kept clean is_open).1) (has clean)

@@ -314,10 +314,6 @@ is_by day (Some due) = is_ge (int_cmp due least_number) && is_le (int_cmp due da
 abbrev pub is_disposable : ℤ → DepositRow × DueRow → Bool
 is_disposable day p = not (is_some p.0.gone) && (int_eq p.1.holds (pos 0) && is_by day p.1.due)
 
--- the deposits that may be destroyed on that day, by the rules aside
-abbrev pub due_rows : ℤ → Tables → List DepositRow
-due_rows day t = map (λ p. p.0) (filter (is_disposable day) (beside t.deposits t.dues))
-
 -- ---- files
 
 abbrev pub is_file_of : ℤ → FileRow → Bool

@@ -1,15 +1,18 @@
 -- Parts of the rows of deposits, as they are told.
-use Rattle.std.specs.Prelude.{ℕ, ℤ, List, map}
-use Rattle.office_rows.specs.Rows.{DepositRow, Tables, of_class, due_rows}
+use Rattle.std.specs.Prelude.{ℕ, ℤ, List, Option, map, filter}
+use Rattle.office_rows.specs.Rows.{DepositRow, DueRow, Tables, of_class, beside, is_disposable}
 
--- where a deposit stands
+-- where a deposit stands, and when it falls due
 pub record PlaceRow : Type 0 where
   pub number : ℤ
   pub collection : List ℕ
   pub class : List ℕ
+  -- the number of the day from which it may be destroyed
+  pub due : Option ℤ
 
-abbrev pub place_of : DepositRow → PlaceRow
-place_of d = record { number = d.number; collection = d.collection; class = d.class }
+-- of a deposit's row beside what is kept of it
+abbrev pub place_of : DepositRow × DueRow → PlaceRow
+place_of p = record { number = p.0.number; collection = p.0.collection; class = p.0.class; due = p.1.due }
 
 -- when its records were closed
 pub record ClosingRow : Type 0 where
@@ -21,7 +24,7 @@ closing_of d = record { number = d.number; closed = d.closed }
 
 -- the deposits that may be destroyed on that day, by the rules aside
 abbrev pub due_places : ℤ → Tables → List PlaceRow
-due_places day t = map place_of (due_rows day t)
+due_places day t = map place_of (filter (is_disposable day) (beside t.deposits t.dues))
 
 abbrev pub class_closings : List ℕ → Tables → List ClosingRow
 class_closings class t = map closing_of (of_class class t)

@@ -1,35 +1,36 @@
 -- What is known of pairs of collection and class, as more of them are asked.
-use Rattle.std.proofs.Common.{◌≡◌, ℕ, ◌+◌, ◌<◌, pos, ◌&&◌, Bool, true, false, List, [], ◌∷◌, ◌++◌, length, map, filter, take, get_or, Some, refl, sym, ap, ap₂, subst, ◌∙◌, append-nil, cond, bytes_eq}
+use Rattle.std.proofs.Common.{◌≡◌, ℕ, ◌+◌, ◌<◌, pos, ◌&&◌, Bool, true, false, List, [], ◌∷◌, ◌++◌, length, map, filter, take, get_or, Some, refl, sym, ap, subst, ◌∙◌, append-nil, cond, bytes_eq}
 use Rattle.std.specs.Prelude.{IfSome}
 use Rattle.std.specs.HashMap.{HashMap, get, Updates}
 use Rattle.std.proofs.lemmas.List.{map-append, take_more}
 use Rattle.std.proofs.lemmas.List.Elements.{filter-append}
 use Rattle.std.proofs.lemmas.Slice.Eq.{bytes_eq-Decides}
-use Rattle.office_core.specs.declared.action.Action.{Action}
 use Rattle.office_rows.specs.Told.{PlaceRow}
-use Rattle.office_history.specs.Histories.{History}
-use Rattle.office_serving.specs.Allowances.{Pair, same_pair, is_allowed}
+use Rattle.office_serving.specs.Allowances.{Pair, same_pair}
 
 both : (a b : Bool) → (a && b) ≡ true → (a ≡ true) × (b ≡ true)
 both true b e = (refl, e)
 both false b e = absurd cc
 
-module _ (h : History) (caller : List ℕ) (action : Action) {S : Type 0} where
+-- whichever thing is known of a pair by its texts
+module _ (IsSo : List ℕ → List ℕ → Bool → Type 0) {S : Type 0} where
   abbrev pub AreRight : HashMap Pair Bool S → Type 0
-  AreRight known = (pair : Pair) → IfSome (get same_pair known pair) (λ is. is ≡ is_allowed h caller action pair.0.now pair.1.now)
+  AreRight known = (pair : Pair) → IfSome (get same_pair known pair) (IsSo pair.0.now pair.1.now)
 
   -- of a pair that is known
-  pub known_right : (known : HashMap Pair Bool S) → AreRight known → (pair : Pair) (is : Bool) → Some is ≡ get same_pair known pair → is ≡ is_allowed h caller action pair.0.now pair.1.now
-  known_right known right pair is e = subst (λ o. IfSome o (λ x. x ≡ is_allowed h caller action pair.0.now pair.1.now)) (sym e) (right pair)
+  pub known_right : (known : HashMap Pair Bool S) → AreRight known → (pair : Pair) (is : Bool) → Some is ≡ get same_pair known pair → IsSo pair.0.now pair.1.now is
+  known_right known right pair is e = subst (λ o. IfSome o (IsSo pair.0.now pair.1.now)) (sym e) (right pair)
 
   -- one pair more
-  pub more_right : (known more : HashMap Pair Bool S) → AreRight known → (pair : Pair) (is : Bool) → Updates same_pair known more pair (Some is) → is ≡ is_allowed h caller action pair.0.now pair.1.now → AreRight more
-  more_right known more right pair is updates answer q = subst (λ o. IfSome o (λ x. x ≡ is_allowed h caller action q.0.now q.1.now)) (sym (updates.0 q)) (by (same_pair pair q) refl)
+  pub more_right : (known more : HashMap Pair Bool S) → AreRight known → (pair : Pair) (is : Bool) → Updates same_pair known more pair (Some is) → IsSo pair.0.now pair.1.now is → AreRight more
+  more_right known more right pair is updates answer q = subst (λ o. IfSome o (IsSo q.0.now q.1.now)) (sym (updates.0 q)) (by (same_pair pair q) refl)
     where
-      by : (b : Bool) → same_pair pair q ≡ b → IfSome (cond b (Some is) (get same_pair known q)) (λ x. x ≡ is_allowed h caller action q.0.now q.1.now)
+      by : (b : Bool) → same_pair pair q ≡ b → IfSome (cond b (Some is) (get same_pair known q)) (IsSo q.0.now q.1.now)
       by true e =
           let parts = both (bytes_eq pair.0.now q.0.now) (bytes_eq pair.1.now q.1.now) e in
-          answer ∙ ap₂ (is_allowed h caller action) ((bytes_eq-Decides pair.0.now q.0.now).0 parts.0) ((bytes_eq-Decides pair.1.now q.1.now).0 parts.1)
+          let first : pair.0.now ≡ q.0.now = (bytes_eq-Decides pair.0.now q.0.now).0 parts.0 in
+          let second : pair.1.now ≡ q.1.now = (bytes_eq-Decides pair.1.now q.1.now).0 parts.1 in
+          subst (λ text. IsSo text q.1.now is) first (subst (λ text. IsSo pair.0.now text is) second answer)
       by false e = right q
 
 -- ---- places, one after another

@@ -11,3 +11,4 @@ pub mod DueListLaw
 pub mod SameOnce
 pub mod StockTold
 pub mod AllowedTold
+pub mod ByRows

@@ -14,6 +14,10 @@ pub spelled : (b : Bool) (text bytes : List ℕ) → Some text ≡ cond b (Some 
 spelled true text bytes e = same_Some _ _ e
 spelled false text bytes e = absurd cc
 
+pub is_spelled : (b : Bool) (text bytes : List ℕ) → Some text ≡ cond b (Some bytes) None → b ≡ true
+is_spelled true text bytes e = refl
+is_spelled false text bytes e = absurd cc
+
 pub unspelled : (b : Bool) (bytes : List ℕ) → None ≡ cond b (Some bytes) None → b ≡ false
 unspelled true bytes e = absurd cc
 unspelled false bytes e = refl

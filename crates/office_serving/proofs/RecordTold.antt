@@ -1,5 +1,6 @@
 -- What is told of a deposit, by its row.
-use Rattle.std.proofs.Common.{◌≡◌, ℕ, ap, ◌∙◌}
+use Rattle.std.proofs.Common.{◌≡◌, ℕ, Result, Ok, Err, ap, ◌∙◌}
+use Rattle.std.specs.Prelude.{IfErr}
 use Rattle.jiff.specs.Types.{Date}
 use Rattle.office_core.specs.declared.answer.DepositRecord.{DepositRecord}
 use Rattle.office_rows.specs.Rows.{DepositRow, DueRow}
@@ -24,3 +25,8 @@ record_is h n found row is kept kept_is told e = λ i. record {
   bytes = same_count told.bytes (payload_bytes found.1.bag) (e.bytes ∙ ap (λ (r : DepositRow). r.bytes) is) i;
   due = due_back told.due (due h found.1) (e.due_is ∙ ap (λ (k : DueRow). k.due) kept_is) i;
 }
+
+-- what is so anyway is so where a call fails
+pub whichever : {T E X : Type 0} (r : Result T E) (is_so : E → Type 0) → X → IfErr r (λ e. is_so e → X)
+whichever (Ok value) is_so x = tt
+whichever (Err fault) is_so x = λ _. x

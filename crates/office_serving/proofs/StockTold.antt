@@ -21,6 +21,7 @@ use Rattle.sqlite_rules.specs.Lists.{Has}
 use Rattle.bag_text.proofs.ElementLemmas as texts
 use Rattle.office_history.specs.Lists.{in_first_places}
 use Rattle.office_history.proofs.MemberLemmas.{first_places_once, first_places_have, has_in_places}
+use Rattle.office_serving.specs.ListsByRows.{IsStockIn}
 use Rattle.office_serving.proofs.SameOnce.{same_once}
 
 to_texts : {X : Type 0} (xs : List X) (x : X) → Has xs x → texts.Has xs x
@@ -73,6 +74,21 @@ one_more size xs i x parts more total next low are is added here = (
   added ∙ ap (λ n. n + more) is ∙ sym (sum_by_push (λ (n : ℕ). n) parts more),
 )
 
+-- the sizes that are told, by the numbers of the contents
+module _ (db : Database) (sizes : List ContentSize) (same : map {B = ℤ × ℤ} (λ (s : ContentSize). (s.id, s.size)) sizes ≡ map {B = ℤ × ℤ} (λ (c : ContentRow). (c.id, c.size)) (contents_of db)) where
+  pub sizes_told : map (λ (s : ContentSize). s.size) sizes ≡ map (λ (c : ContentRow). c.size) (contents_of db)
+  sizes_told =
+      sym (map-map {B = ℤ × ℤ} (λ p. p.1) (λ (s : ContentSize). (s.id, s.size)) sizes)
+      ∙ ap (map {A = ℤ × ℤ} (λ p. p.1)) same
+      ∙ map-map {B = ℤ × ℤ} (λ p. p.1) (λ (c : ContentRow). (c.id, c.size)) (contents_of db)
+
+  pub count_told : length sizes ≡ length (contents_of db)
+  count_told = sym (length-map sizes (λ (s : ContentSize). s.size)) ∙ ap length sizes_told ∙ length-map (contents_of db) (λ (c : ContentRow). c.size)
+
+  -- so the stock is theirs, whichever contents they are
+  pub stock_by_rows : (count bytes : ℕ) → count ≡ length sizes → (parts : List ℕ) × (map (λ (s : ContentSize). s.size) sizes ≡ map pos parts) × (bytes ≡ sum parts) → IsStockIn db (record { contents = count; bytes = bytes })
+  stock_by_rows count bytes is summed = record { contents = is ∙ count_told; sizes = summed.0; are = sym sizes_told ∙ summed.1; bytes = summed.2 }
+
 -- ---- what a pictured database holds
 
 abbrev bytes_of : ContentRow → List ℕ
@@ -100,22 +116,14 @@ module _ (h : History) (db : Database) (pictured : Pictures h db) (are : AreCont
       → ◌≡◌ {A = Stock} (record { contents = count; bytes = bytes }) (stock h)
   stock_told sizes same count bytes is summed = λ i. record { contents = counted i; bytes = totalled i }
     where
-      same_sizes_told : map (λ (s : ContentSize). s.size) sizes ≡ map (λ (c : ContentRow). c.size) (contents_of db)
-      same_sizes_told =
-          sym (map-map {B = ℤ × ℤ} (λ p. p.1) (λ (s : ContentSize). (s.id, s.size)) sizes)
-          ∙ ap (map {A = ℤ × ℤ} (λ p. p.1)) same
-          ∙ map-map {B = ℤ × ℤ} (λ p. p.1) (λ (c : ContentRow). (c.id, c.size)) (contents_of db)
-
       equal : (length (map bytes_of (contents_of db)) ≡ length (contents h)) × (sum (map length (map bytes_of (contents_of db))) ≡ sum (map length (contents h)))
       equal = same_stock (texts_of h) (map bytes_of (contents_of db)) contents_held
 
       counted : count ≡ length (contents h)
-      counted =
-          is ∙ sym (length-map sizes (λ (s : ContentSize). s.size)) ∙ ap length same_sizes_told
-          ∙ length-map (contents_of db) (λ (c : ContentRow). c.size) ∙ sym (length-map (contents_of db) bytes_of) ∙ equal.0
+      counted = is ∙ count_told db sizes same ∙ sym (length-map (contents_of db) bytes_of) ∙ equal.0
 
       lengths : map (λ (c : ContentRow). c.size) (contents_of db) ≡ map pos (map length (map bytes_of (contents_of db)))
       lengths = held.sizes ∙ sym (map-map pos length (map bytes_of (contents_of db)))
 
       totalled : bytes ≡ sum (map length (contents h))
-      totalled = summed.2 ∙ same_sizes summed.0 (map length (map bytes_of (contents_of db))) (sym summed.1 ∙ same_sizes_told ∙ lengths) ∙ equal.1
+      totalled = summed.2 ∙ same_sizes summed.0 (map length (map bytes_of (contents_of db))) (sym summed.1 ∙ sizes_told db sizes same ∙ lengths) ∙ equal.1

@@ -4,11 +4,14 @@
 ghost use Rattle.std.specs.Prelude.{◌≡◌, IfErr, List, ℕ};
 ghost use Rattle.office_core.specs.declared.action.Action.{Action};
 ghost use Rattle.office_tables.specs.Faults.{IsFailure};
-ghost use Rattle.office_tables.specs.Calls.{CommitsNothing, ContinuesInTurn};
+ghost use Rattle.office_tables.specs.Calls.{CommitsNothing, ContinuesInTurn, Keeps, Tells};
+ghost use Rattle.office_rows.specs.Rows.{Tables};
 ghost use Rattle.office_history.specs.Histories.{History};
 ghost use Rattle.office_asking.specs.Asking.{IsAsker};
+ghost use Rattle.office_asking.specs.ByRows.{IsAskerIn};
 ghost use Rattle.office_asking.specs.Serving.{Finds};
 ghost use Rattle.office_serving.specs.Allowances.{AreOf, is_allowed};
+ghost use Rattle.office_serving.specs.ListsByRows.{AreIn, IsAllowedIn};
 
 use office_asking::Asker;
 use office_core::Action;
@@ -29,7 +32,8 @@ pub struct Allowances<'a> {
 impl<'a> Allowances<'a> {
     /// Those of a caller and an action, of no pair yet.
     pub fn new(alloc: Global, asker: &'a Asker, action: Action) -> Allowances<'a>
-        ensures { (h : History) (caller : List ℕ) → IsAsker h caller asker.now → AreOf h caller action result }
+        ensures those { (h : History) (caller : List ℕ) → IsAsker h caller asker.now → AreOf h caller action result }
+        ensures rows { (tables : Tables) (caller : List ℕ) → IsAskerIn tables caller asker.now → AreIn tables caller action result }
     {
         Allowances {
             asker,
@@ -54,6 +58,10 @@ impl<'a> Allowances<'a> {
         ensures allowed { Finds S.Store tx.old.conn.now tx.new.conn.now result (λ h is.
             (caller : List ℕ) (action : Action) → AreOf h caller action self.old
             → AreOf h caller action self.new × (is ≡ is_allowed h caller action collection.now class.now)) }
+        ensures same { Keeps S.Store tx.old.conn.now tx.new.conn.now result }
+        ensures rows { Tells S.Store tx.old.conn.now tx.new.conn.now result (λ tables is.
+            (caller : List ℕ) (action : Action) → AreIn tables caller action self.old
+            → AreIn tables caller action self.new × IsAllowedIn tables caller action collection.now class.now is) }
     {
         if let Some(is) = self.known.get(&(collection, class)).copied() {
             return Ok(is);

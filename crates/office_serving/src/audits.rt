@@ -3,7 +3,7 @@
 ghost use Rattle.std.specs.Prelude.{◌≡◌, IfErr, IfOk, map};
 ghost use Rattle.office_core.specs.declared.request.Request.TheVariants as requests;
 ghost use Rattle.office_tables.specs.Faults.{IsFailure};
-ghost use Rattle.office_tables.specs.Calls.{CommitsNothing, Continues, Tells};
+ghost use Rattle.office_tables.specs.Calls.{CommitsNothing, Continues, Keeps, Tells};
 ghost use Rattle.office_asking.specs.Serving.{Decides};
 ghost use Rattle.office_serving.specs.Files.{file_in};
 ghost use Rattle.office_serving.specs.Audits.{audit_of, IsAuditOf};
@@ -17,10 +17,13 @@ use office_tables::{FileRow, TableFault};
 use sqlite::{Alter, Transaction};
 use std::alloc::Global;
 
-/// The audit of the files of the rows.
+/// The audit of the files of the rows, which never fails for what they are.
+///
+/// Fails with `Memory`.
 fn audit_of(alloc: Global, rows: &[FileRow]) -> Result<AuditReport, TableFault>
     ensures report { IfOk result (λ report. report ≡ audit_of (map file_in rows.now)) }
     ensures failure { IfErr result IsFailure }
+    ensures memory { IfErr result (λ fault. fault ≡ TableFault.Memory) }
 {
     one_list_fault();
     let pairs = pairs_of(alloc, rows)?;
@@ -46,8 +49,9 @@ pub fn audit<S: Alter>(
     ensures goes_on { Continues S.Store tx.old.conn.now tx.new.conn.now result }
     ensures failure { IfErr result IsFailure }
     ensures decides { Decides S.Store tx.old.conn.now tx.new.conn.now result day caller.now (requests.Audit number) }
+    ensures same { Keeps S.Store tx.old.conn.now tx.new.conn.now result }
     // Whatever the tables of the office hold, the report is that of what stands there.
-    ensures audited { Tells S.Store tx.old.conn.now tx.new.conn.now result (λ tables answer. IsAuditOf tables number answer) }
+    ensures audited { Tells S.Store tx.old.conn.now tx.new.conn.now result (λ tables answer. IsAuditOf tables caller.now number answer) }
 {
     one_list_fault();
     match kept_files(alloc, tx, caller, Action::Audit, number)? {

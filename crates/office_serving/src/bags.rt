@@ -1,15 +1,17 @@
 //! Downloads of bags.
 
-ghost use Rattle.std.specs.Prelude.{◌≡◌, IfErr, IfOk, map, pos};
-ghost use Rattle.bag_text.specs.TransferForm.{set_text};
+ghost use Rattle.std.specs.Prelude.{◌≡◌, ◌≢◌, Err, IfErr, IfOk, map, pos};
+ghost use Rattle.bag_text.specs.BagList.{ListFault};
+ghost use Rattle.bag_text.specs.TransferForm.{IsBag, set_text};
 ghost use Rattle.bag_text.specs.TransferReading as reading;
 ghost use Rattle.office_core.specs.declared.request.Request.TheVariants as requests;
 ghost use Rattle.office_tables.specs.Faults.{IsFailure};
-ghost use Rattle.office_tables.specs.Calls.{CommitsNothing, Continues, Tells};
+ghost use Rattle.office_tables.specs.Calls.{CommitsNothing, Continues, Keeps, Tells};
 ghost use Rattle.office_tables.specs.Deposits.{files_by_path};
 ghost use Rattle.office_history.specs.Refusals.{kept_refusals};
 ghost use Rattle.office_asking.specs.Serving.{Finds, Decides};
 ghost use Rattle.office_serving.specs.Files.{file_in, AreAsked};
+ghost use Rattle.office_serving.specs.FilesByRows.{AreAskedIn, IsBagIn};
 
 use bag_text::{BagSet, SetFault, write_bagset};
 use office_asking::kept_deposit;
@@ -20,9 +22,12 @@ use sqlite::{Alter, Transaction};
 use std::alloc::Global;
 
 /// The paths and contents of the rows, lent.
+///
+/// Fails with `Memory`.
 pub fn pairs_of(alloc: Global, rows: &[FileRow]) -> Result<Vec<(&str, &[u8])>, TableFault>
     ensures pairs { IfOk result (λ pairs. reading.files_of pairs.items ≡ map file_in rows.now) }
     ensures failure { IfErr result IsFailure }
+    ensures memory { IfErr result (λ fault. fault ≡ TableFault.Memory) }
 {
     let mut pairs = Vec::new(alloc);
     for row in rows {
@@ -31,17 +36,46 @@ pub fn pairs_of(alloc: Global, rows: &[FileRow]) -> Result<Vec<(&str, &[u8])>, T
     Ok(pairs)
 }
 
+/// Why there is no transfer form, in the words of the tables: files that are no bag are a fault of the
+/// store.
+fn fault_of(fault: SetFault) -> TableFault
+    ensures memory { fault ≡ SetFault.Memory → result ≡ TableFault.Memory }
+    ensures store { fault ≢ SetFault.Memory → result ≡ TableFault.Store }
+{
+    match fault {
+        SetFault::Memory => TableFault::Memory,
+        _ => TableFault::Store,
+    }
+}
+
+/// The transfer form of the bag that a list of files is.
+///
+/// Fails with `Store` where it is none, and with `Memory`.
+fn form_of(alloc: Global, files: &[(&str, &[u8])]) -> Result<Vec<u8>, TableFault>
+    ensures form { IfOk result (λ text. text.items ≡ set_text (reading.files_of files.now)) }
+    ensures bag { IfOk result (λ text. IsBag (reading.files_of files.now)) }
+    ensures failure { IfErr result IsFailure }
+    // Files that are no bag are a fault of the store, and a bag wants nothing but memory.
+    ensures store { (fault : SetFault) → ListFault (reading.files_of files.now) fault → result ≡ Err TableFault.Store }
+    ensures memory { IsBag (reading.files_of files.now) → IfErr result (λ fault. fault ≡ TableFault.Memory) }
+{
+    match BagSet::of(alloc, files) {
+        Ok(bag) => Ok(write_bagset(alloc, &bag)?),
+        Err(fault) => Err(fault_of(fault)),
+    }
+}
+
 /// The transfer form of the bag whose files the rows have.
+///
+/// Fails with `Store` where they are no bag, and with `Memory`.
 fn text_of(alloc: Global, rows: &[FileRow]) -> Result<Vec<u8>, TableFault>
     ensures text { IfOk result (λ text. text.items ≡ set_text (map file_in rows.now)) }
+    ensures bag { IfOk result (λ text. IsBag (map file_in rows.now)) }
     ensures failure { IfErr result IsFailure }
+    ensures memory { IsBag (map file_in rows.now) → IfErr result (λ fault. fault ≡ TableFault.Memory) }
 {
     let pairs = pairs_of(alloc, rows)?;
-    match BagSet::of(alloc, &pairs) {
-        Ok(bag) => Ok(write_bagset(alloc, &bag)?),
-        Err(SetFault::Memory) => Err(TableFault::Memory),
-        Err(_) => Err(TableFault::Store),
-    }
+    form_of(alloc, &pairs)
 }
 
 /// The rows of the files of the deposit of that number, where the caller may do that with it and it is
@@ -62,6 +96,8 @@ pub fn kept_files<S: Alter>(
     // Whatever the tables of the office hold, these are the rows that stand there.
     ensures stored { Tells S.Store tx.old.conn.now tx.new.conn.now result (λ tables asked.
         IfOk asked (λ rows. rows.items ≡ files_by_path (pos number) tables)) }
+    ensures same { Keeps S.Store tx.old.conn.now tx.new.conn.now result }
+    ensures rows { Tells S.Store tx.old.conn.now tx.new.conn.now result (λ tables asked. AreAskedIn tables caller.now action number asked) }
 {
     // A bag that is kept is a bag.
     sound_bags();
@@ -86,6 +122,8 @@ pub fn download_bag<S: Alter>(
     ensures goes_on { Continues S.Store tx.old.conn.now tx.new.conn.now result }
     ensures failure { IfErr result IsFailure }
     ensures decides { Decides S.Store tx.old.conn.now tx.new.conn.now result day caller.now (requests.DownloadBag number) }
+    ensures same { Keeps S.Store tx.old.conn.now tx.new.conn.now result }
+    ensures rows { Tells S.Store tx.old.conn.now tx.new.conn.now result (λ tables answer. IsBagIn tables caller.now number answer) }
 {
     match kept_files(alloc, tx, caller, Action::Download, number)? {
         Ok(rows) => Ok(Answer::Bag {

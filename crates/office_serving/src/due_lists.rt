@@ -3,21 +3,24 @@
 ghost use Rattle.std.specs.Prelude.{◌≡◌, IfErr, List, ℕ, pos, map, filter};
 ghost use Rattle.office_core.specs.declared.request.Request.TheVariants as requests;
 ghost use Rattle.office_tables.specs.Faults.{IsFailure};
-ghost use Rattle.office_tables.specs.Calls.{CommitsNothing, Continues, ContinuesInTurn};
+ghost use Rattle.office_tables.specs.Calls.{CommitsNothing, Continues, ContinuesInTurn, Keeps, Tells};
 ghost use Rattle.office_rows.specs.Told.{PlaceRow as Place};
 ghost use Rattle.office_history.specs.Answers.{due_list};
 ghost use Rattle.office_asking.specs.Asking.{IsAsker};
+ghost use Rattle.office_asking.specs.ByRows.{IsAskerIn};
 ghost use Rattle.office_asking.specs.Serving.{Finds, Decides};
 ghost use Rattle.office_serving.specs.Listing.{may_destroy};
+ghost use Rattle.office_serving.specs.ListsByRows.{AreAllowedIn, AreDueIn, IsDueListIn};
 
 use crate::allowances::Allowances;
-use office_asking::Asker;
+use office_asking::{Asker, due_numbered};
 use office_core::{Action, Answer, Day, Sequence};
 use office_tables::{PlaceRow, TableFault, due_rows};
 use sqlite::{Alter, Transaction};
 use std::alloc::Global;
 
-/// The numbers of those that the rules let the caller destroy.
+/// The numbers of those that the rules let the caller destroy. Each due day is read, allowed or not, so that
+/// none stands that isn't one.
 fn allowed_among<S: Alter>(
     alloc: Global,
     tx: &mut Transaction<'_, S>,
@@ -30,10 +33,14 @@ fn allowed_among<S: Alter>(
     ensures failure { IfErr result IsFailure }
     ensures allowed { Finds S.Store tx.old.conn.now tx.new.conn.now result (λ h numbers. (caller : List ℕ) → IsAsker h caller asker.now
         → map pos numbers.items ≡ map (λ (p : Place). p.number) (filter (may_destroy h caller) places.now)) }
+    ensures same { Keeps S.Store tx.old.conn.now tx.new.conn.now result }
+    ensures rows { Tells S.Store tx.old.conn.now tx.new.conn.now result (λ tables numbers. (caller : List ℕ) → IsAskerIn tables caller asker.now
+        → AreAllowedIn tables caller places.now numbers.items) }
 {
     let mut allowances = Allowances::new(alloc, asker, Action::Dispose);
     let mut numbers = Vec::new(alloc);
     for place in places {
+        due_numbered(place.due)?;
         let allowed = allowances.allows(tx, &place.collection, &place.class)?;
         if allowed {
             numbers.push(place.number)?;
@@ -57,6 +64,8 @@ pub fn due_numbers<S: Alter>(
     ensures goes_on { Continues S.Store tx.old.conn.now tx.new.conn.now result }
     ensures failure { IfErr result IsFailure }
     ensures due { Finds S.Store tx.old.conn.now tx.new.conn.now result (λ h numbers. numbers.items ≡ due_list h day caller.now) }
+    ensures same { Keeps S.Store tx.old.conn.now tx.new.conn.now result }
+    ensures rows { Tells S.Store tx.old.conn.now tx.new.conn.now result (λ tables numbers. AreDueIn tables day caller.now numbers.items) }
 {
     let asker = Asker::read(tx, caller)?;
     let places = due_rows(alloc, tx, day.number() as i64)?;
@@ -77,6 +86,8 @@ pub fn due_list<S: Alter>(
     ensures goes_on { Continues S.Store tx.old.conn.now tx.new.conn.now result }
     ensures failure { IfErr result IsFailure }
     ensures decides { Decides S.Store tx.old.conn.now tx.new.conn.now result day caller.now requests.DueList }
+    ensures same { Keeps S.Store tx.old.conn.now tx.new.conn.now result }
+    ensures rows { Tells S.Store tx.old.conn.now tx.new.conn.now result (λ tables given. IsDueListIn tables day caller.now given) }
 {
     let numbers = due_numbers(alloc, tx, day, caller)?;
     Ok(Answer::DueList {

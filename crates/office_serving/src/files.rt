@@ -5,10 +5,11 @@ ghost use Rattle.jiff.specs.Types.{Date};
 ghost use Rattle.bag_text.specs.TransferForm.{content_at};
 ghost use Rattle.office_core.specs.declared.request.Request.TheVariants as requests;
 ghost use Rattle.office_tables.specs.Faults.{IsFailure};
-ghost use Rattle.office_tables.specs.Calls.{CommitsNothing, Continues, ContinuesInTurn};
+ghost use Rattle.office_tables.specs.Calls.{CommitsNothing, Continues, ContinuesInTurn, Keeps, Tells};
 ghost use Rattle.office_history.specs.Histories.{Deposit, deposit_numbered, destruction_day};
 ghost use Rattle.office_history.specs.Answers.{file_answer};
 ghost use Rattle.office_asking.specs.Serving.{Finds, Decides};
+ghost use Rattle.office_serving.specs.FilesByRows.{IsFileIn, content_stored};
 
 use bag_text::as_text;
 use office_asking::kept_deposit;
@@ -31,6 +32,8 @@ fn content_of<S: Alter>(
     ensures content { Finds S.Store tx.old.conn.now tx.new.conn.now result (λ h content.
         (found : Date × Deposit) → deposit_numbered h number ≡ Some found → destruction_day h number ≡ None
         → option_map (λ bytes. bytes.items) content ≡ content_at found.1.bag path.now) }
+    ensures same { Keeps S.Store tx.old.conn.now tx.new.conn.now result }
+    ensures rows { Tells S.Store tx.old.conn.now tx.new.conn.now result (λ tables content. option_map (λ bytes. bytes.items) content ≡ content_stored number path.now tables) }
 {
     // A bag that is kept is a bag, so its paths are texts.
     sound_bags();
@@ -67,6 +70,8 @@ pub fn download_file<S: Alter>(
     ensures goes_on { Continues S.Store tx.old.conn.now tx.new.conn.now result }
     ensures failure { IfErr result IsFailure }
     ensures decides { Decides S.Store tx.old.conn.now tx.new.conn.now result day caller.now (requests.DownloadFile number path.entry) }
+    ensures same { Keeps S.Store tx.old.conn.now tx.new.conn.now result }
+    ensures rows { Tells S.Store tx.old.conn.now tx.new.conn.now result (λ tables answer. IsFileIn tables caller.now number path.now answer) }
 {
     match kept_deposit(tx, caller, Action::Download, number)? {
         Ok(_) => Ok(file_answer(content_of(tx, number, path)?)),

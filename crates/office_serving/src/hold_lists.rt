@@ -1,13 +1,15 @@
 //! The live holds that cover a deposit.
 
-ghost use Rattle.std.specs.Prelude.{◌≡◌, IfErr};
+ghost use Rattle.std.specs.Prelude.{◌≡◌, IfErr, map, pos};
 ghost use Rattle.std.specs.List.{filter_map};
 ghost use Rattle.office_core.specs.declared.request.Request.TheVariants as requests;
+ghost use Rattle.office_rows.specs.Rows as rows;
 ghost use Rattle.office_tables.specs.Faults.{IsFailure};
-ghost use Rattle.office_tables.specs.Calls.{CommitsNothing, Continues, ContinuesInTurn};
+ghost use Rattle.office_tables.specs.Calls.{CommitsNothing, Continues, ContinuesInTurn, Keeps, Tells};
 ghost use Rattle.office_history.specs.Histories.{Deposit};
 ghost use Rattle.office_history.specs.Answers.{told_hold, told_holds};
 ghost use Rattle.office_asking.specs.Serving.{Finds, Decides};
+ghost use Rattle.office_serving.specs.FilesByRows.{AreHoldsIn, AreHoldsOf};
 
 use office_asking::{kept_deposit, told_hold};
 use office_core::{Action, Answer, Day, LiveHold, Sequence};
@@ -26,6 +28,8 @@ fn told_each<S: Alter>(
     ensures goes_on { ContinuesInTurn S.Store tx.old.conn.now tx.new.conn.now result }
     ensures failure { IfErr result IsFailure }
     ensures told { Finds S.Store tx.old.conn.now tx.new.conn.now result (λ h told. told.items ≡ filter_map (told_hold h) numbers.now) }
+    ensures same { Keeps S.Store tx.old.conn.now tx.new.conn.now result }
+    ensures rows { Tells S.Store tx.old.conn.now tx.new.conn.now result (λ tables told. AreHoldsOf tables (map pos numbers.now) told.items) }
 {
     let mut told = Vec::new(alloc);
     for number in numbers {
@@ -47,6 +51,8 @@ fn told_holds<S: Alter>(
     ensures failure { IfErr result IsFailure }
     ensures told { Finds S.Store tx.old.conn.now tx.new.conn.now result (λ h told.
         (deposit : Deposit) → deposit.collection ≡ collection.now → told.items ≡ told_holds h number deposit) }
+    ensures same { Keeps S.Store tx.old.conn.now tx.new.conn.now result }
+    ensures rows { Tells S.Store tx.old.conn.now tx.new.conn.now result (λ tables told. AreHoldsOf tables (rows.live_holds (pos number) collection.now tables) told.items) }
 {
     let numbers = live_holds(alloc, tx, number, collection)?;
     told_each(alloc, tx, &numbers)
@@ -67,6 +73,8 @@ pub fn holds<S: Alter>(
     ensures goes_on { Continues S.Store tx.old.conn.now tx.new.conn.now result }
     ensures failure { IfErr result IsFailure }
     ensures decides { Decides S.Store tx.old.conn.now tx.new.conn.now result day caller.now (requests.Holds number) }
+    ensures same { Keeps S.Store tx.old.conn.now tx.new.conn.now result }
+    ensures rows { Tells S.Store tx.old.conn.now tx.new.conn.now result (λ tables answer. AreHoldsIn tables caller.now number answer) }
 {
     match kept_deposit(tx, caller, Action::Holds, number)? {
         Ok(row) => Ok(Answer::Holds {

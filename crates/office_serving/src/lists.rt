@@ -6,14 +6,16 @@ ghost use Rattle.office_core.specs.declared.action.Action.TheVariants as acts;
 ghost use Rattle.office_core.specs.declared.request.Request.TheVariants as requests;
 ghost use Rattle.office_rows.specs.Rows.{beside};
 ghost use Rattle.office_tables.specs.Faults.{IsFailure};
-ghost use Rattle.office_tables.specs.Calls.{CommitsNothing, Continues, ContinuesInTurn};
+ghost use Rattle.office_tables.specs.Calls.{CommitsNothing, Continues, ContinuesInTurn, Keeps, Tells};
 ghost use Rattle.office_history.specs.Histories.{Deposit, deposit_numbered};
 ghost use Rattle.office_history.specs.Pictures.{deposit_row, deposit_rows, due_row, due_rows};
 ghost use Rattle.office_history.specs.Answers.{is_asked, listed_records};
 ghost use Rattle.office_asking.specs.Asking.{IsAsker};
+ghost use Rattle.office_asking.specs.ByRows.{IsAskerIn};
 ghost use Rattle.office_asking.specs.Serving.{Finds, Decides};
 ghost use Rattle.office_serving.specs.Allowances.{AreOf};
 ghost use Rattle.office_serving.specs.Listing.{is_shown, shown_record};
+ghost use Rattle.office_serving.specs.ListsByRows.{AreIn, AreListedIn, IsListIn, IsShownIn, IsToldIn};
 
 use crate::allowances::Allowances;
 use crate::records::record_in;
@@ -55,6 +57,9 @@ fn is_shown<'a, S: Alter>(
     ensures shown { Finds S.Store tx.old.conn.now tx.new.conn.now result (λ h is. (caller : List ℕ) → AreOf h caller acts.List allowances.old
         → AreOf h caller acts.List allowances.new × ((n : ℕ) (found : Date × Deposit) → row.now ≡ deposit_row h n found
         → is ≡ is_shown h caller (option_copied collection.entry) (option_copied class.entry) n found.1)) }
+    ensures same { Keeps S.Store tx.old.conn.now tx.new.conn.now result }
+    ensures rows { Tells S.Store tx.old.conn.now tx.new.conn.now result (λ tables is. (caller : List ℕ) → AreIn tables caller acts.List allowances.old
+        → AreIn tables caller acts.List allowances.new × IsShownIn tables caller (option_copied collection.entry) (option_copied class.entry) row.now is) }
 {
     if !is_wanted(row, collection, class) {
         return Ok(false);
@@ -78,6 +83,9 @@ fn shown_record<'a, S: Alter>(
     ensures shown { Finds S.Store tx.old.conn.now tx.new.conn.now result (λ h told. (caller : List ℕ) → AreOf h caller acts.List allowances.old
         → AreOf h caller acts.List allowances.new × ((n : ℕ) (found : Date × Deposit) → deposit_numbered h n ≡ Some found → row.now ≡ (deposit_row h n found, due_row h n found)
         → told ≡ shown_record h caller (option_copied collection.entry) (option_copied class.entry) n)) }
+    ensures same { Keeps S.Store tx.old.conn.now tx.new.conn.now result }
+    ensures rows { Tells S.Store tx.old.conn.now tx.new.conn.now result (λ tables told. (caller : List ℕ) → AreIn tables caller acts.List allowances.old
+        → AreIn tables caller acts.List allowances.new × IsToldIn tables caller (option_copied collection.entry) (option_copied class.entry) row.now told) }
 {
     if is_shown(tx, allowances, collection, class, &row.deposit)? {
         Ok(Some(record_in(alloc, &row.deposit, &row.kept)?))
@@ -102,6 +110,9 @@ fn shown_among<S: Alter>(
     ensures listed { Finds S.Store tx.old.conn.now tx.new.conn.now result (λ h told.
         (caller : List ℕ) → IsAsker h caller asker.now → rows.now ≡ beside (deposit_rows h) (due_rows h)
         → told.items ≡ listed_records h caller (option_copied collection.entry) (option_copied class.entry)) }
+    ensures same { Keeps S.Store tx.old.conn.now tx.new.conn.now result }
+    ensures rows { Tells S.Store tx.old.conn.now tx.new.conn.now result (λ tables told. (caller : List ℕ) → IsAskerIn tables caller asker.now
+        → AreListedIn tables caller (option_copied collection.entry) (option_copied class.entry) rows.now told.items) }
 {
     let mut allowances = Allowances::new(alloc, asker, Action::List);
     let mut told = Vec::new(alloc);
@@ -130,6 +141,8 @@ pub fn list<S: Alter>(
     ensures goes_on { Continues S.Store tx.old.conn.now tx.new.conn.now result }
     ensures failure { IfErr result IsFailure }
     ensures decides { Decides S.Store tx.old.conn.now tx.new.conn.now result day caller.now (requests.List (option_copied collection.entry) (option_copied class.entry)) }
+    ensures same { Keeps S.Store tx.old.conn.now tx.new.conn.now result }
+    ensures rows { Tells S.Store tx.old.conn.now tx.new.conn.now result (λ tables given. IsListIn tables caller.now (option_copied collection.entry) (option_copied class.entry) given) }
 {
     let asker = Asker::read(tx, caller)?;
     let rows = deposits_and_dues(alloc, tx)?;

@@ -1,24 +1,32 @@
 //! Records of deposits.
 
-ghost use Rattle.std.specs.Prelude.{◌≡◌, IfErr, IfOk, Some, ℕ};
+ghost use Rattle.std.specs.Prelude.{◌≡◌, IfErr, IfOk, Some, ℕ, pos};
 ghost use Rattle.jiff.specs.Types.{Date};
+ghost use Rattle.office_core.specs.declared.answer.DepositRecord.{DepositRecord};
 ghost use Rattle.office_core.specs.declared.request.Request.TheVariants as requests;
 ghost use Rattle.office_tables.specs.Faults.{IsFailure};
-ghost use Rattle.office_tables.specs.Calls.{CommitsNothing, Continues};
+ghost use Rattle.office_tables.specs.Calls.{CommitsNothing, Continues, Keeps, Tells};
+ghost use Rattle.office_tables.specs.declared.fault.TableFault.TheVariants.{Memory};
 ghost use Rattle.office_history.specs.Histories.{Deposit, deposit_numbered};
 ghost use Rattle.office_history.specs.Pictures.{deposit_row};
 ghost use Rattle.office_history.specs.Answers.{record_of};
 ghost use Rattle.office_asking.specs.Serving.{Finds, Decides};
+ghost use Rattle.office_serving.specs.ListsByRows.{IsRecordBy, IsRecordIn};
 ghost use Rattle.office_serving.specs.Told.{IsRecordOf};
 
-use crate::counts::count_in;
-use office_asking::{day_numbered, due_numbered, kept_deposit, kept_of, text_of_kind};
+use crate::counts::{count_in, text_read};
+use bag_text::{MAX_CONTENT, MAX_FILES};
+use office_asking::{days_in, due_numbered, kept_deposit, kept_of};
 use office_core::{Action, Answer, Day, DepositRecord};
 use office_tables::{DepositRow, DueRow, TableFault};
 use sqlite::{Alter, Transaction};
 use std::alloc::Global;
 
-/// What the row of a deposit tells, with what is kept beside it.
+/// How many bytes the files of a bag have at most.
+const MAX_BYTES: usize = MAX_FILES * MAX_CONTENT;
+
+/// What the row of a deposit tells, with what is kept beside it. A row that tells no record is a fault of
+/// the store, and memory is wanted for a record alone.
 ///
 /// Fails with `Memory` or `Store`.
 pub fn record_in(
@@ -28,21 +36,25 @@ pub fn record_in(
 ) -> Result<DepositRecord, TableFault>
     ensures told { IfOk result (λ told. IsRecordOf row.now kept.now told) }
     ensures failure { IfErr result IsFailure }
+    ensures memory { IfErr result (λ fault. fault ≡ TableFault.Memory → (told : DepositRecord) × IsRecordOf row.now kept.now told) }
 {
-    let closed = day_numbered(row.closed)?;
-    let deposited = day_numbered(row.deposited)?;
-    let files = count_in(row.files)?;
-    let bytes = count_in(row.bytes)?;
+    let days = days_in(row)?;
+    let files = count_in(row.files, MAX_FILES)?;
+    let bytes = count_in(row.bytes, MAX_BYTES)?;
+    let due = due_numbered(kept.due)?;
+    let accession = text_read(&row.accession)?;
+    let collection = text_read(&row.collection)?;
+    let class = text_read(&row.class)?;
     Ok(DepositRecord {
         number: row.number,
-        accession: text_of_kind(alloc, &row.accession)?,
-        collection: text_of_kind(alloc, &row.collection)?,
-        class: text_of_kind(alloc, &row.class)?,
-        closed,
-        deposited,
+        accession: accession.to_owned(alloc)?,
+        collection: collection.to_owned(alloc)?,
+        class: class.to_owned(alloc)?,
+        closed: days.closed,
+        deposited: days.deposited,
         files,
         bytes,
-        due: due_numbered(kept.due)?,
+        due,
     })
 }
 
@@ -60,6 +72,8 @@ fn record_of<S: Alter>(
     ensures failure { IfErr result IsFailure }
     ensures told { Finds S.Store tx.old.conn.now tx.new.conn.now result (λ h told.
         (n : ℕ) (found : Date × Deposit) → deposit_numbered h n ≡ Some found → row.now ≡ deposit_row h n found → told ≡ record_of h n found) }
+    ensures same { Keeps S.Store tx.old.conn.now tx.new.conn.now result }
+    ensures rows { Tells S.Store tx.old.conn.now tx.new.conn.now result (λ tables told. (n : ℕ) → pos n ≡ row.now.number → IsRecordBy tables n row.now told) }
 {
     let kept = kept_of(tx, row.number)?;
     record_in(alloc, row, &kept)
@@ -80,6 +94,8 @@ pub fn record<S: Alter>(
     ensures goes_on { Continues S.Store tx.old.conn.now tx.new.conn.now result }
     ensures failure { IfErr result IsFailure }
     ensures decides { Decides S.Store tx.old.conn.now tx.new.conn.now result day caller.now (requests.Record number) }
+    ensures same { Keeps S.Store tx.old.conn.now tx.new.conn.now result }
+    ensures rows { Tells S.Store tx.old.conn.now tx.new.conn.now result (λ tables given. IsRecordIn tables caller.now number given) }
 {
     match kept_deposit(tx, caller, Action::Record, number)? {
         Ok(row) => Ok(Answer::Record(record_of(alloc, tx, &row)?)),

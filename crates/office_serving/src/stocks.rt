@@ -2,9 +2,11 @@
 
 ghost use Rattle.std.specs.Prelude.{◌≡◌, ℕ, List, IfErr, IfSome, map, pos, sum};
 ghost use Rattle.office_tables.specs.Faults.{IsFailure};
-ghost use Rattle.office_tables.specs.Calls.{CommitsNothing, Continues};
+ghost use Rattle.office_tables.specs.Calls.{CommitsNothing, Continues, Keeps};
+ghost use Rattle.office_tables.specs.Contents.{Does};
 ghost use Rattle.office_history.specs.Stocks.{stock};
 ghost use Rattle.office_asking.specs.Serving.{Finds};
+ghost use Rattle.office_serving.specs.ListsByRows.{IsStockIn};
 
 use office_tables::laws::contents_are_those_of_files;
 use office_tables::{ContentSize, TableFault, contents};
@@ -58,6 +60,8 @@ pub fn stock_of<S: Alter>(alloc: Global, tx: &mut Transaction<'_, S>) -> Result<
     ensures goes_on { Continues S.Store tx.old.conn.now tx.new.conn.now result }
     ensures failure { IfErr result IsFailure }
     ensures stock { Finds S.Store tx.old.conn.now tx.new.conn.now result (λ h found. found ≡ stock h) }
+    ensures same { Keeps S.Store tx.old.conn.now tx.new.conn.now result }
+    ensures rows { Does S.Store tx.old.conn.now tx.new.conn.now result (λ old _ found. IsStockIn old found) }
 {
     // Where contents are kept once, they are those of the files.
     contents_are_those_of_files();

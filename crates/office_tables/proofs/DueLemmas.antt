@@ -33,7 +33,7 @@ use Rattle.sql_meaning.proofs.Edits.{decoded, cast_null, cast_int}
 use Rattle.sql_meaning.proofs.Changing.{revises}
 use Rattle.sql_meaning.proofs.ManyRows.{revises_all}
 use Rattle.office_tables.specs.Schema.{office_schema, deposit_table}
-use Rattle.office_rows.specs.Rows.{DepositRow, DueRow, is_due_of, due_numbered, with_due, with_holds, beside, more_holds, with_more_holds, is_within, is_of_class, of_class, least_number, is_by, is_disposable, due_rows}
+use Rattle.office_rows.specs.Rows.{DepositRow, DueRow, is_due_of, due_numbered, with_due, with_holds, beside, more_holds, with_more_holds, is_within, is_of_class, of_class, least_number, is_by, is_disposable}
 use Rattle.office_rows.specs.Told.{place_of, closing_of, due_places, class_closings}
 use Rattle.office_tables.specs.Dues.{shown_due, shown_beside, shown_place, shown_closing, FitMore}
 use Rattle.office_tables.specs.Tables.{IsOffice, Becomes, tables_of, deposit_in, due_in}
@@ -238,11 +238,9 @@ lists_due old new day rows office h =
     let up = ascending_weaker _ _ (λ a b lower. rw lower refl) (db 8) office.shaped.1.1.1.1.1.0.0 in
     let each = all_from (λ r. passes params is_due r ≡ keep r) (db 8) (λ r there. passes_due day r (all_has IsDepositRow (db 8) r typed there)) in
     let is = reads_rising office_schema due_rows_text 8 is_due due_rows_columns rising asks_due_rows params old new office.schema_is rows h keep each up in
-    let shows : map shown_place (map (shown_of params due_rows_columns) (filter keep (db 8))) ≡ map (λ r. place_of (deposit_in r)) (filter keep (db 8)) = map-map shown_place (shown_of params due_rows_columns) (filter keep (db 8)) in
-    let found : due_rows day (tables_of old.now) ≡ map (λ (p : DepositRow × DueRow). p.0) (map pair (filter keep (db 8))) =
-    ap (λ ps. map (λ (p : DepositRow × DueRow). p.0) (filter (is_disposable day) ps)) (beside_is (db 8)) ∙ ap (map (λ (p : DepositRow × DueRow). p.0)) (filter-map (is_disposable day) pair (db 8)) in
-    let places : map place_of (due_rows day (tables_of old.now)) ≡ map (λ r. place_of (deposit_in r)) (filter keep (db 8)) =
-    ap (map place_of) found ∙ map-map place_of (λ (p : DepositRow × DueRow). p.0) (map pair (filter keep (db 8))) ∙ map-map (λ (p : DepositRow × DueRow). place_of p.0) pair (filter keep (db 8)) in (
+    let shows : map shown_place (map (shown_of params due_rows_columns) (filter keep (db 8))) ≡ map (λ r. place_of (pair r)) (filter keep (db 8)) = map-map shown_place (shown_of params due_rows_columns) (filter keep (db 8)) in
+    let places : due_places day (tables_of old.now) ≡ map (λ r. place_of (pair r)) (filter keep (db 8)) =
+    ap (λ ps. map place_of (filter (is_disposable day) ps)) (beside_is (db 8)) ∙ ap (map place_of) (filter-map (is_disposable day) pair (db 8)) ∙ map-map place_of pair (filter keep (db 8)) in (
       reads_same office_schema due_rows_text 8 is_due due_rows_columns rising asks_due_rows params old new office.schema_is rows h,
       places ∙ sym shows ∙ ap (map shown_place) (sym is),
     )

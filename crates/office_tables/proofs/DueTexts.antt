@@ -109,14 +109,14 @@ add_holds_class_means = record { is = refl; plain = (refl, refl) }
 -- ---- what may be destroyed
 
 abbrev pub due_rows_text : List ℕ
-due_rows_text = codes "SELECT number, collection, class FROM deposit WHERE gone IS NULL AND holds = 0 AND due >= ?2 AND due <= ?1 ORDER BY number"
+due_rows_text = codes "SELECT number, collection, class, due FROM deposit WHERE gone IS NULL AND holds = 0 AND due >= ?2 AND due <= ?1 ORDER BY number"
 
 abbrev pub is_due : List Term
 is_due = op2 (Is Binary) (col 1 9) (lit Null) ∷ op2 (Compare Eq Binary) (col 1 11) (lit (Int (pos 0))) ∷ op2 (Compare Ge Binary) (col 1 10) (col 0 1) ∷ op2 (Compare Le Binary) (col 1 10) (col 0 0) ∷ []
 
 abbrev pub due_rows_columns : List Term
-due_rows_columns = col 1 0 ∷ col 1 3 ∷ col 1 4 ∷ []
+due_rows_columns = col 1 0 ∷ col 1 3 ∷ col 1 4 ∷ col 1 10 ∷ []
 
 pub asks_due_rows : Asks office_schema due_rows_text 8 is_due due_rows_columns rising
 unfolding understood everything
-asks_due_rows = record { names = codes "number" ∷ codes "collection" ∷ codes "class" ∷ []; command = refl; unlisted = refl; plain = (refl, refl) }
+asks_due_rows = record { names = codes "number" ∷ codes "collection" ∷ codes "class" ∷ codes "due" ∷ []; command = refl; unlisted = refl; plain = (refl, refl) }

@@ -1,5 +1,5 @@
 -- What the query on the office's row means under any schema.
-use Rattle.std.proofs.Common.{◌≡◌, ℤ, MatchOption, List, [], ◌∷◌, Bool, true, false, cond, Option, None, Some, Ok, Err, refl, sym, ap, subst, ◌∙◌, inl, inr}
+use Rattle.std.proofs.Common.{◌≡◌, ℤ, IsTrue, MatchOption, List, [], ◌∷◌, Bool, true, false, cond, Option, None, Some, Ok, Err, refl, sym, ap, subst, ◌∙◌, inl, inr}
 use Rattle.std.specs.List.{AllByRecursion}
 use Rattle.std.proofs.lemmas.Bool.{cases_Bool}
 use Rattle.sqlite_rules.specs.Lists.{Has}
@@ -90,9 +90,11 @@ known_there (r ∷ rows) row known = elim (cases_Bool (shows_office r)) [
 ]
 
 -- what was read and rolled back
-pub kept_back : {S : Type 0} (g : Ghosts S) (first : Held S) (last end : State) → Stays (state g (record first { in_transaction = true })) last → HasCleanDisk last → IsRolledBack last end → KeepsTables (state g first) end
-kept_back g first last end stays clean back is_open =
+pub kept_back : {S : Type 0} (g : Ghosts S) (first : Held S) (last end : State) → (IsTrue (state g first).is_open → (state g first).now ≡ (state g first).committed)
+    → Stays (state g (record first { in_transaction = true })) last → HasCleanDisk last → IsRolledBack last end → KeepsTables (state g first) end
+kept_back g first last end settled stays clean back is_open =
     let kept = stays.kept clean refl in
     let was = back.was_open is_open in
     let u = back.undone is_open in
-    (kept.was_open was, λ settled. (u.0 ∙ kept.committed was ∙ settled, u.1 ∙ kept.committed was ∙ settled))
+    let opened = kept.was_open was in
+    (opened, u.0 ∙ kept.committed was ∙ sym (settled opened), u.1 ∙ kept.committed was ∙ sym (settled opened))

@@ -17,9 +17,9 @@ use Rattle.office_tables.specs.Contents.{KeepsOnce}
 
 -- ---- what is left
 
--- the tables are as they were, where nothing was left uncommitted
+-- the tables are as they were, and all of them are committed
 abbrev pub KeepsTables : State → State → Type 0
-KeepsTables old new = IsTrue new.is_open → IsTrue old.is_open × (old.committed ≡ old.now → (new.now ≡ old.now) × (new.committed ≡ old.now))
+KeepsTables old new = IsTrue new.is_open → IsTrue old.is_open × (new.now ≡ old.now) × (new.committed ≡ old.now)
 
 -- an office with these rows, and all of it is committed
 pub record IsMade (new : State) (tables : Tables) : Type 0 where

@@ -138,6 +138,8 @@ pub fn create<S: Alter>(
     ensures not_empty { (state S.Store conn.old).now.schema ≢ no_schema → result ≡ Err TableFault.Store }
     ensures untouched { (state S.Store conn.old).now.schema ≢ no_schema → conn.new ≡ conn.old }
 {
+    // What the connection says of its state.
+    let _is_settled = conn.is_autocommit();
     if !is_empty(conn.schema()) {
         return Err(TableFault::Store);
     }

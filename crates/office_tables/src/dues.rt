@@ -55,24 +55,26 @@ impl Model for DepositAndDue {
     ghost view = { λ d. (d.deposit, d.kept) };
 }
 
-/// Where a deposit stands.
+/// Where a deposit stands, and when it falls due.
 #[derive(Debug, Drop)]
 pub struct PlaceRow {
     pub number: u32,
     pub collection: String,
     pub class: String,
+    /// The day from which it may be destroyed; `None` where it is kept for good.
+    pub due: Option<i64>,
 }
 
 impl Model for PlaceRow {
-    ghost use Rattle.std.specs.Prelude.{List, ℕ, ℤ, string_bytes, refl, pos};
-    ghost use Rattle.std.specs.Coded.{code_by, coded×, coded_list, coded_ℕ, coded_ℤ};
+    ghost use Rattle.std.specs.Prelude.{List, ℕ, ℤ, Option, string_bytes, refl, pos};
+    ghost use Rattle.std.specs.Coded.{code_by, coded×, coded_list, coded_option, coded_ℕ, coded_ℤ};
     ghost use Rattle.office_rows.specs.Told.{PlaceRow as Place};
 
     ghost Value = { Place };
 
-    ghost coded = { code_by (ℤ × (List ℕ × List ℕ)) (coded× coded_ℤ (coded× (coded_list coded_ℕ) (coded_list coded_ℕ))) (λ (d : Place). (d.number, (d.collection, d.class))) (λ p. record { number = p.0; collection = p.1.0; class = p.1.1 }) (λ _. refl) };
+    ghost coded = { code_by (ℤ × (List ℕ × (List ℕ × Option ℤ))) (coded× coded_ℤ (coded× (coded_list coded_ℕ) (coded× (coded_list coded_ℕ) (coded_option coded_ℤ)))) (λ (d : Place). (d.number, (d.collection, (d.class, d.due)))) (λ p. record { number = p.0; collection = p.1.0; class = p.1.1.0; due = p.1.1.1 }) (λ _. refl) };
 
-    ghost view = { λ d. record { number = pos d.number; collection = string_bytes d.collection; class = string_bytes d.class } };
+    ghost view = { λ d. record { number = pos d.number; collection = string_bytes d.collection; class = string_bytes d.class; due = d.due } };
 }
 
 /// When the records of a deposit were closed.
@@ -321,7 +323,7 @@ fn rows_due<S: Alter>(tx: &mut Transaction<'_, S>, day: i64) -> Result<Vec<Row>,
 {
     ask(
         tx,
-        "SELECT number, collection, class FROM deposit WHERE gone IS NULL AND holds = 0 AND due >= ?2 AND due <= ?1 ORDER BY number",
+        "SELECT number, collection, class, due FROM deposit WHERE gone IS NULL AND holds = 0 AND due >= ?2 AND due <= ?1 ORDER BY number",
         params![day, i64::MIN],
     )
 }
@@ -334,6 +336,7 @@ fn place_in(row: &Row) -> Result<PlaceRow, TableFault>
         number: row.get(0)?,
         collection: row.get(1)?,
         class: row.get(2)?,
+        due: row.get(3)?,
     })
 }
 

@@ -106,6 +106,8 @@ pub fn open_tables<S: Alter>(conn: &mut Connection<S>) -> Result<(), TableFault>
     ensures known_as_other { HasCleanDisk (state S.Store conn.new) → IsOffice (state S.Store conn.old).now → result ≡ Err TableFault.OtherVersion
         → IsKnownAsOther (tables_of (state S.Store conn.old).now) this_version }
 {
+    // What the connection says of its state.
+    let _is_settled = conn.is_autocommit();
     if !has_office(conn.schema()) {
         return Err(TableFault::NotAnOffice);
     }

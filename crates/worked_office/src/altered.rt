@@ -205,10 +205,11 @@ pub static CLASSES: [Part; 4] = [
     ),
 ];
 
-/// Days that are none, of deposit 1 as it was closed and deposited, of deposit 4 as it was destroyed;
-/// counts and an accession that no deposit has. Day 2859849 would be 9800-01-01 and day -25568
-/// 1899-12-31; day 19782 is 2024-02-29, 19783 the next, 20147 2025-02-28.
-pub static DEPOSITS: [Part; 9] = [
+/// Days that are none, of deposit 1 as it was closed and deposited, of deposit 4 as it was destroyed; a
+/// deposit whose records were closed after it; counts and an accession that no deposit has. Day 2859849
+/// would be 9800-01-01 and day -25568 1899-12-31; day 19782 is 2024-02-29, 19783 the next, 20147
+/// 2025-02-28. A bag has up to 2,000 files, of up to 16,777,216 bytes each.
+pub static DEPOSITS: [Part; 12] = [
     (
         "",
         "UPDATE deposit SET closed = 2859849 WHERE number = 1\n\
@@ -298,6 +299,34 @@ pub static DEPOSITS: [Part; 9] = [
     ),
     (
         "",
+        "UPDATE deposit SET closed = 19784 WHERE number = 1\n\
+         UPDATE deposit SET closed = 19782 WHERE number = 1\n\
+         record 1 > Store\n\
+         list > Store\n\
+         dispose 1 > Store\n\
+         bag 1 > Store\n\
+         audit 1 > Store\n\
+         hold 1 > Store\n\
+         list-of tax > list: 2\n\
+         due > due on 2030-01-01: 1",
+    ),
+    (
+        "",
+        "UPDATE deposit SET files = 2001 WHERE number = 1\n\
+         UPDATE deposit SET files = 1 WHERE number = 1\n\
+         record 1 > Store\n\
+         list > Store\n\
+         bag 1 > whole",
+    ),
+    (
+        "",
+        "UPDATE deposit SET bytes = 33554432001 WHERE number = 1\n\
+         UPDATE deposit SET bytes = 3 WHERE number = 1\n\
+         record 1 > Store\n\
+         bag 1 > whole",
+    ),
+    (
+        "",
         "UPDATE deposit SET accession = 'A 1' WHERE number = 1\n\
          UPDATE deposit SET accession = 'A-1' WHERE number = 1\n\
          record 1 > Store\n\
@@ -308,9 +337,10 @@ pub static DEPOSITS: [Part; 9] = [
 
 /// The due day of a deposit is another, none, or no day of a deposit; holds are counted that there are
 /// not, or those that there are aren't. A disposal and the due list rest on them, and a record on the due
-/// day: where a hold is counted and none is found, a disposal is answered by `Store`. Day 20512 is
-/// 2026-02-28, and day 2932897 would be 10000-01-01.
-pub static DUES: [Part; 7] = [
+/// day: where a hold is counted and none is found, a disposal is answered by `Store`. A hold, and a
+/// release, rest on the count that they change. Day 20512 is 2026-02-28, and day 2932897 would be
+/// 10000-01-01.
+pub static DUES: [Part; 8] = [
     (
         "",
         "UPDATE deposit SET due = 20512 WHERE number = 1\n\
@@ -350,7 +380,10 @@ pub static DUES: [Part; 7] = [
          UPDATE deposit SET due = 20147 WHERE number = 1\n\
          dispose 1 > Store\n\
          record 1 > Store\n\
-         due > due on 2030-01-01: 1",
+         2030-01-01 carl\n\
+         due > Store\n\
+         2030-01-01 anna\n\
+         due > Store",
     ),
     (
         "",
@@ -365,6 +398,7 @@ pub static DUES: [Part; 7] = [
         "UPDATE deposit SET holds = -1 WHERE number = 1\n\
          UPDATE deposit SET holds = 0 WHERE number = 1\n\
          dispose 1 > Store\n\
+         hold 1 > Store\n\
          due > due on 2030-01-01:",
     ),
     (
@@ -372,9 +406,21 @@ pub static DUES: [Part; 7] = [
         "UPDATE deposit SET holds = 0 WHERE number = 3\n\
          UPDATE deposit SET holds = 1 WHERE number = 3\n\
          dispose 3 > NotDue 2034-02-28\n\
+         release 1 > Store\n\
          holds 3 > holds: 1 on deposit placed 2024-03-02 for Case 7;\n\
          2040-01-01 anna\n\
          due > due on 2040-01-01: 1 3",
+    ),
+    (
+        "",
+        "UPDATE deposit SET holds = 1000001 WHERE number = 3\n\
+         UPDATE deposit SET holds = 1 WHERE number = 3\n\
+         hold 3 > Store\n\
+         release 1 > Store\n\
+         2040-01-01 anna\n\
+         dispose 3 > Store\n\
+         holds 3 > holds: 1 on deposit placed 2024-03-02 for Case 7;\n\
+         due > due on 2040-01-01: 1",
     ),
 ];
 

@@ -1,4 +1,4 @@
-use Rattle.std.proofs.Common.{rules, ◌≡◌, IsTrue, ap, subst, None, Err}
+use Rattle.std.proofs.Common.{◌≡◌, ap, subst, None, Err}
 use Rattle.office_rows.specs.Rows.{version_of, this_version}
 use Rattle.office_tables.specs.Opening.{IsKnownAsOther}
 use Rattle.sqlite.specs.Held.{state}
@@ -8,14 +8,12 @@ use Rattle.office_recovery.proofs.adopt.Goals as goal
 pub returns-in-Ok-clause-found : goal.returns-in-Ok-clause-found
 returns-in-Ok-clause-found g c clean =
     let before = state g.S.Store c.args.conn in
-    let settled : IsTrue before.is_open → before.now ≡ before.committed = search rules in
-    goes_on before (state g.S.Store c.open_tables.new.conn) c.schema-schema.ensures.live settled (c.open_tables.ensures.same clean)
+    goes_on before (state g.S.Store c.open_tables.new.conn) c.schema-schema.ensures.live (c.open_tables.ensures.same clean)
 
 pub returns-in-Err-clause-refused : goal.returns-in-Err-clause-refused
 returns-in-Err-clause-refused g c clean =
     let before = state g.S.Store c.args.conn in
-    let settled : IsTrue before.is_open → before.now ≡ before.committed = search rules in
-    goes_on before (state g.S.Store c.open_tables.new.conn) c.schema-schema.ensures.live settled (c.open_tables.ensures.same clean)
+    goes_on before (state g.S.Store c.open_tables.new.conn) c.schema-schema.ensures.live (c.open_tables.ensures.same clean)
 
 pub returns-in-Err-clause-failure : goal.returns-in-Err-clause-failure
 returns-in-Err-clause-failure g c clean is_open tables left version =

@@ -9,4 +9,4 @@ returns-in-Ok-adopt-clause-goes_on g c =
 
 pub returns-in-Ok-adopt-clause-version : goal.returns-in-Ok-adopt-clause-version
 returns-in-Ok-adopt-clause-version g c =
-    shows_version (file_state c.in-Ok.conn) (file_state c.in-Ok-adopt.office) this_version c.in-Ok-adopt.ensures.survives (λ early. (c.in-Ok.ensures.opened early).0) c.in-Ok-adopt.ensures.same c.in-Ok-adopt.ensures.version
+    shows_version (file_state c.in-Ok.conn) (file_state c.in-Ok-adopt.office) this_version c.in-Ok-adopt.ensures.same c.in-Ok-adopt.ensures.version

@@ -178,9 +178,11 @@ pub static CALLS: [&[Part]; 9] = [
              read|due|4 > Some(DueRow { number: 4, due: None, holds: 0 })\n\
              read|due|9 > None\n\
              read|due rows|739 > []\n\
-             read|due rows|740 > [PlaceRow { number: 1, collection: \"maps\", class: \"y2\" }]\n\
-             read|due rows|741 > [PlaceRow { number: 1, collection: \"maps\", class: \"y2\" }, \
-             PlaceRow { number: 2, collection: \"tax\", class: \"y2\" }]\n\
+             read|due rows|740 > [PlaceRow { number: 1, collection: \"maps\", class: \"y2\", due: \
+             Some(740) }]\n\
+             read|due rows|741 > [PlaceRow { number: 1, collection: \"maps\", class: \"y2\", due: \
+             Some(740) }, PlaceRow { number: 2, collection: \"tax\", class: \"y2\", due: Some(741) \
+             }]\n\
              read|closings|y2 > [ClosingRow { number: 1, closed: 10 }, ClosingRow { number: 2, \
              closed: 10 }, ClosingRow { number: 3, closed: 10 }, ClosingRow { number: 5, closed: \
              10 }]\n\
@@ -195,7 +197,8 @@ pub static CALLS: [&[Part]; 9] = [
              read|due|2 > Some(DueRow { number: 2, due: Some(741), holds: 0 })\n\
              read|due|3 > Some(DueRow { number: 3, due: Some(740), holds: 4 })\n\
              read|due|5 > Some(DueRow { number: 5, due: Some(739), holds: 2 })\n\
-             read|due rows|741 > [PlaceRow { number: 2, collection: \"tax\", class: \"y2\" }]\n\
+             read|due rows|741 > [PlaceRow { number: 2, collection: \"tax\", class: \"y2\", due: \
+             Some(741) }]\n\
              do|drop files|1",
         ),
     ],

@@ -12,11 +12,12 @@ returns g c = (
     turn = λ honest. record {
       served = c.step-answer.ensures.served honest;
       kept = c.step-answer.ensures.kept honest;
-      audited = c.step-answer.ensures.audited honest;
+      rows = c.step-answer.ensures.rows honest;
       shut = c.step-answer.ensures.shut honest;
       survives = c.step-answer.ensures.survives;
       durable = c.step-answer.ensures.durable honest;
       leaves = c.step-answer.ensures.leaves honest;
+      made = c.step-answer.ensures.made honest;
     };
   },
   c.answer_bytes.ensures,

@@ -4,6 +4,9 @@ use Rattle.sqlite.specs.Held.{state}
 use Rattle.sql_meaning.proofs.Inside.{stays_then}
 use Rattle.office_asking.proofs.InTurn.{clean_before, on_after}
 use Rattle.sql_meaning.proofs.Inside.{goes_then}
+use Rattle.std.proofs.Common.{option_copied, sym}
+use Rattle.office_asking.specs.ByRows.{IsAskerIn, IsDenialIn}
+use Rattle.office_asking.proofs.RowsTold.{office_still, told_before}
 use Rattle.office_asking.proofs.asker.denial.Goals as goal
 
 pub returns-clause-denied : goal.returns-clause-denied
@@ -22,3 +25,13 @@ returns-clause-goes_on g c =
     let s1 = state g.S.Store c.read.new.tx.conn.now in
     let s2 = state g.S.Store c.denial.new.tx.conn.now in
     on_after s0 s1 s2 c.denial.ensures.stays c.denial.result (goes_then s0 s1 s2) c.in_ok-asker.ensures.goes_on c.denial.ensures.goes_on
+
+pub returns-clause-rows : goal.returns-clause-rows
+returns-clause-rows g c clean office =
+    let a = c.args in
+    let old = state g.S.Store a.tx.now.conn.now in
+    let mid = state g.S.Store c.read.new.tx.conn.now in
+    let early : HasCleanDisk mid = clean_before mid (state g.S.Store c.denial.new.tx.conn.now) c.denial.ensures.stays clean in
+    let same = c.in_ok-asker.ensures.same early office in
+    let is = told_before mid.now old.now (sym same) (λ t. IsAskerIn t a.caller.now c.in_ok-asker.asker) (c.in_ok-asker.ensures.rows early office) in
+    IfOk-weaker c.denial.result _ _ (λ why says. told_before old.now mid.now same (λ t. IsDenialIn t a.caller.now a.action (option_copied a.collection) (option_copied a.class) why) (says a.caller.now is)) (c.denial.ensures.rows clean (office_still old.now mid.now same office))

@@ -10,6 +10,9 @@ use Rattle.office_asking.proofs.DepositAsked.{deposit_read, none_there}
 use Rattle.office_asking.proofs.InTurn.{clean_before, goes_twice, same_twice}
 use Rattle.sql_meaning.proofs.Inside.{stays_then}
 use Rattle.sql_meaning.proofs.Results.{on_ok}
+use Rattle.office_tables.specs.Tables.{tables_of}
+use Rattle.office_asking.specs.ByRows.{IsDenialIn}
+use Rattle.office_asking.proofs.RowsTold.{office_still, told_before, none_asked, row_asked}
 use Rattle.office_asking.proofs.deposits.kept_deposit.Goals as goal
 
 pub returns-in_default-clause-asked : goal.returns-in_default-clause-asked
@@ -52,3 +55,25 @@ pub returns-clause-same : goal.returns-clause-same
 returns-clause-same g c clean office =
     let same = same_twice (state g.S.Store c.args.tx.now.conn.now) (state g.S.Store c.deposit_row.new.tx.conn.now) (state g.S.Store c.denial.new.tx.conn.now) c.denial.ensures.stays c.in_ok-deposit.ensures.same c.in_ok-denied.ensures.same clean office in
     on_ok c.unless_refused.result (λ _ _. same) c.unless_refused.ensures.asked
+
+pub returns-in_default-clause-rows : goal.returns-in_default-clause-rows
+returns-in_default-clause-rows g c clean office =
+    let a = c.args in
+    let old = state g.S.Store a.tx.now.conn.now in
+    let found = c.in_ok-deposit.ensures.found clean office in
+    none_asked (tables_of old.now) a.caller.now a.action a.number (search (rules, found))
+
+pub returns-clause-rows : goal.returns-clause-rows
+returns-clause-rows g c clean office =
+    let a = c.args in
+    let old = state g.S.Store a.tx.now.conn.now in
+    let mid = state g.S.Store c.deposit_row.new.tx.conn.now in
+    let early : HasCleanDisk mid = clean_before mid (state g.S.Store c.denial.new.tx.conn.now) c.denial.ensures.stays clean in
+    let same = c.in_ok-deposit.ensures.same early office in
+    let row = c.in-Some.deposit in
+    let there = sym c.in-Some.is ∙ c.in_ok-deposit.ensures.found early office in
+    let collection : c.deref.result.now ≡ row.collection = search rules in
+    let class : c.deref-2.result.now ≡ row.class = search rules in
+    let told = told_before old.now mid.now same (λ t. IsDenialIn t a.caller.now a.action (Some c.deref.result.now) (Some c.deref-2.result.now) c.in_ok-denied.denied) (c.in_ok-denied.ensures.rows clean (office_still old.now mid.now same office)) in
+    let denial : IsDenialIn (tables_of old.now) a.caller.now a.action (Some row.collection) (Some row.class) c.in_ok-denied.denied = rw (collection, class) at told in
+    row_asked (tables_of old.now) a.caller.now a.action a.number row there c.in_ok-denied.denied denial c.unless_refused.result c.unless_refused.ensures.kept c.unless_refused.ensures.refused

@@ -1,7 +1,15 @@
-use Rattle.std.proofs.Common.{rules, ◌≡◌, sym, ◌∙◌, pos}
+use Rattle.std.proofs.Common.{rules, ◌≡◌, sym, subst, ◌∙◌, pos, IfSome, Some, w64}
+use mir.Val.{SFits}
+use Rattle.std.proofs.lemmas.Int.{to_z-of_z}
+use Rattle.sqlite.specs.State.{HasCleanDisk}
 use Rattle.sqlite.specs.Held.{state}
-use Rattle.sql_meaning.proofs.Inside.{stands_then}
-use Rattle.office_asking.proofs.InTurn.{stands_still, stays_still}
+use Rattle.sql_meaning.proofs.Inside.{stands_then, stays_then}
+use Rattle.office_tables.specs.Tables.{tables_of}
+use Rattle.office_tables.specs.declared.fault.TableFault.TheVariants.{Store}
+use Rattle.office_asking.specs.ByRows.{IsLeastIn}
+use Rattle.office_asking.proofs.InTurn.{clean_before, goes_twice, stands_still, stays_still}
+use Rattle.office_asking.proofs.Readings.{pictured_still}
+use Rattle.office_asking.proofs.RowsTold.{office_still, there_is, told_before}
 use Rattle.office_asking.proofs.DuesTold.{unheld}
 use Rattle.office_asking.proofs.due.counted_hold.Goals as goal
 
@@ -10,18 +18,43 @@ returns-then-count-eq0-clause-least g c clean h legal pictured =
     let none : c.args.count ≡ pos 0 = search rules in
     (pictured, λ deposit is counted. sym (unheld h c.args.number deposit (sym counted ∙ none)))
 
+pub returns-then-count-eq0-clause-rows : goal.returns-then-count-eq0-clause-rows
+returns-then-count-eq0-clause-rows g c clean office = search rules
+
 pub returns-then-count-eq0-clause-goes_on : goal.returns-then-count-eq0-clause-goes_on
 returns-then-count-eq0-clause-goes_on g c clean = stands_still (state g.S.Store c.args.tx.now.conn.now)
 
 pub returns-then-count-eq0-clause-stays : goal.returns-then-count-eq0-clause-stays
 returns-then-count-eq0-clause-stays g c = stays_still (state g.S.Store c.args.tx.now.conn.now)
 
-pub returns-in-Some-clause-least : goal.returns-in-Some-clause-least
-returns-in-Some-clause-least g c clean h legal pictured =
-    let found = c.in_ok-hold.ensures.least clean h legal pictured in
-    (found.0, λ deposit is counted. sym c.in-Some.is ∙ found.1 deposit is)
-
-pub returns-in-Some-clause-goes_on : goal.returns-in-Some-clause-goes_on
-returns-in-Some-clause-goes_on g c clean =
+pub returns-clause-least : goal.returns-clause-least
+returns-clause-least g c clean h legal pictured =
     let old = state g.S.Store c.args.tx.now.conn.now in
-    stands_then old old (state g.S.Store c.least_hold.new.tx.conn.now) (stands_still old) (c.in_ok-hold.ensures.goes_on clean)
+    let mid = state g.S.Store c.check_count.new.tx.conn.now in
+    let early : HasCleanDisk mid = clean_before mid (state g.S.Store c.least_hold.new.tx.conn.now) c.least_hold.ensures.stays clean in
+    let still = pictured_still h old.now pictured mid.now (c.in_ok-check_count.ensures.same early pictured.office) in
+    let found = c.in_ok-found.ensures.least clean h legal still in
+    let some : Some c.in_ok-hold.hold ≡ c.in_ok-found.found = there_is c.in_ok-found.found Store c.in_ok-hold.hold c.in_ok-hold.ensures in
+    (found.0, λ deposit is counted. some ∙ found.1 deposit is)
+
+pub returns-clause-rows : goal.returns-clause-rows
+returns-clause-rows g c clean office =
+    let old = state g.S.Store c.args.tx.now.conn.now in
+    let mid = state g.S.Store c.check_count.new.tx.conn.now in
+    let early : HasCleanDisk mid = clean_before mid (state g.S.Store c.least_hold.new.tx.conn.now) c.least_hold.ensures.stays clean in
+    let same = c.in_ok-check_count.ensures.same early office in
+    let some : Some c.in_ok-hold.hold ≡ c.in_ok-found.found = there_is c.in_ok-found.found Store c.in_ok-hold.hold c.in_ok-hold.ensures in
+    let least = c.in_ok-found.ensures.rows clean (office_still old.now mid.now same office) in
+    let is : IsLeastIn (tables_of mid.now) c.args.number c.args.collection.now c.in_ok-hold.hold = subst (λ o. IfSome o (λ k. IsLeastIn (tables_of mid.now) c.args.number c.args.collection.now k)) (sym some) least in
+    let fits : SFits w64 c.args.count = search rules in
+    (rw (to_z-of_z w64 c.args.count fits) at c.in_ok-check_count.ensures.rows early office, told_before old.now mid.now same (λ t. IsLeastIn t c.args.number c.args.collection.now c.in_ok-hold.hold) is)
+
+pub returns-clause-goes_on : goal.returns-clause-goes_on
+returns-clause-goes_on g c clean =
+    let old = state g.S.Store c.args.tx.now.conn.now in
+    let mid = state g.S.Store c.check_count.new.tx.conn.now in
+    let new = state g.S.Store c.least_hold.new.tx.conn.now in
+    stands_then old old new (stands_still old) (goes_twice old mid new c.least_hold.ensures.stays c.in_ok-check_count.ensures.goes_on c.in_ok-found.ensures.goes_on clean)
+
+pub returns-clause-stays : goal.returns-clause-stays
+returns-clause-stays g c = stays_then (state g.S.Store c.args.tx.now.conn.now) (state g.S.Store c.check_count.new.tx.conn.now) (state g.S.Store c.least_hold.new.tx.conn.now) c.check_count.ensures.stays c.in_ok-check_count.ensures.goes_on c.least_hold.ensures.stays

@@ -1,5 +1,5 @@
 use Rattle.std.proofs.Common.{rules, ◌≡◌, ap, sym, ◌∙◌, pos, Some, option_map, w64}
-use mir.Val.{SFits}
+use mir.Val.{SFits, of_z, to_z}
 use Rattle.std.proofs.lemmas.Int.{to_z-of_z}
 use Rattle.sqlite.specs.State.{HasCleanDisk}
 use Rattle.sqlite.specs.Held.{state}
@@ -14,6 +14,12 @@ use Rattle.office_asking.proofs.NumberedRows.{same_count}
 use Rattle.office_asking.proofs.DuesTold.{due_back}
 use Rattle.office_asking.proofs.InTurn.{clean_before, goes_still, goes_twice, stays_still, stays_thrice}
 use Rattle.sql_meaning.proofs.Inside.{stays_then}
+use Rattle.std.proofs.Common.{refl, subst}
+use Rattle.office_tables.specs.Tables.{tables_of}
+use Rattle.office_rows.specs.Rows.{due_numbered}
+use Rattle.office_asking.specs.ByRows.{IsCountedIn}
+use Rattle.office_asking.proofs.InTurn.{same_twice}
+use Rattle.office_asking.proofs.RowsTold.{office_still, told_before}
 use Rattle.office_asking.proofs.due.disposal_facts.Goals as goal
 
 pub returns-clause-facts : goal.returns-clause-facts
@@ -70,3 +76,37 @@ returns-clause-goes_on g c clean =
 
 pub returns-in_err-days-clause-stays : goal.returns-in_err-days-clause-stays
 returns-in_err-days-clause-stays g c = stays_still (state g.S.Store c.args.tx.now.conn.now)
+
+pub returns-clause-rows : goal.returns-clause-rows
+returns-clause-rows g c clean office caller is n numbered =
+    let a = c.args in
+    let s0 = state g.S.Store a.tx.now.conn.now in
+    let s1 = state g.S.Store c.decision.new.tx.conn.now in
+    let s2 = state g.S.Store c.kept_of.new.tx.conn.now in
+    let before_last : HasCleanDisk s2 = clean_before s2 (state g.S.Store c.counted_hold.new.tx.conn.now) c.counted_hold.ensures.stays clean in
+    let early : HasCleanDisk s1 = clean_before s1 s2 c.kept_of.ensures.stays before_last in
+    let same1 = c.in_ok-decision.ensures.same early office in
+    let office1 = office_still s0.now s1.now same1 office in
+    let same2 = same_twice s0 s1 s2 c.kept_of.ensures.stays c.in_ok-decision.ensures.same c.in_ok-kept.ensures.same before_last office in
+    let row = a.row.now in
+    let number : c.row.inside.number ≡ n = same_count c.row.inside.number n ((search rules) ∙ sym numbered) in
+    let collection : c.deref.result.now ≡ row.collection = search rules in
+    let class : c.deref-2.result.now ≡ row.class = search rules in
+    let covered : c.deref-3.result.now ≡ row.collection = search rules in
+    let fits : SFits w64 c.kept.inside.holds = search rules in
+    let counts : c.kept.inside.holds ≡ c.in_ok-kept.kept.holds = search rules in
+    let kept = c.in_ok-kept.kept in
+    let there = told_before s0.now s1.now same1 (λ t. Some kept ≡ due_numbered (pos c.row.inside.number) t.dues) (c.in_ok-kept.ensures.rows before_last office1) in
+    let held = told_before s0.now s2.now same2 (λ t. IsCountedIn t (to_z w64 (of_z w64 c.kept.inside.holds)) c.row.inside.number c.deref-3.result.now c.in_ok-hold.hold) (c.in_ok-hold.ensures.rows clean (office_still s0.now s2.now same2 office)) in
+    record {
+      action = refl;
+      decided = rw (collection, class) at (c.in_ok-decision.ensures.rows early office caller is);
+      days = c.in_ok-days.days;
+      are_days = c.in_ok-days.ensures.days;
+      gone = refl;
+      kept = kept;
+      there = subst (λ m. Some kept ≡ due_numbered (pos m) (tables_of s0.now).dues) number there;
+      due = search rules;
+      is_due = search rules;
+      hold = rw (to_z-of_z w64 c.kept.inside.holds fits ∙ counts, number, covered) at held;
+    }

@@ -5,6 +5,8 @@ use Rattle.sql_meaning.proofs.Inside.{stays_then}
 use Rattle.office_asking.proofs.Readings.{pictured_still}
 use Rattle.office_asking.proofs.HoldTold.{first_live}
 use Rattle.office_asking.proofs.InTurn.{clean_before, goes_twice}
+use Rattle.office_asking.specs.ByRows.{IsHoldIn}
+use Rattle.office_asking.proofs.RowsTold.{first_of, office_still, told_before}
 use Rattle.office_asking.proofs.due.least_hold.Goals as goal
 
 pub returns-in_default-clause-least : goal.returns-in_default-clause-least
@@ -40,3 +42,13 @@ returns-clause-stays g c = stays_then (state g.S.Store c.args.tx.now.conn.now) (
 
 pub returns-clause-goes_on : goal.returns-clause-goes_on
 returns-clause-goes_on g c = goes_twice (state g.S.Store c.args.tx.now.conn.now) (state g.S.Store c.live_holds.new.tx.conn.now) (state g.S.Store c.told_hold.new.tx.conn.now) c.told_hold.ensures.stays c.in_ok-holds.ensures.goes_on c.in_ok-told_hold.ensures.goes_on
+
+pub returns-clause-rows : goal.returns-clause-rows
+returns-clause-rows g c clean office =
+    let old = state g.S.Store c.args.tx.now.conn.now in
+    let mid = state g.S.Store c.live_holds.new.tx.conn.now in
+    let early : HasCleanDisk mid = clean_before mid (state g.S.Store c.told_hold.new.tx.conn.now) c.told_hold.ensures.stays clean in
+    let same = c.in_ok-holds.ensures.same early office in
+    let told = c.in_ok-told_hold.ensures.rows clean (office_still old.now mid.now same office) in
+    let first = first_of c.in-Some.least c.in_ok-holds.holds.items _ (c.in_ok-holds.ensures.found early office) (search rules) in
+    record { others = first.0; live = first.1; told = c.in_ok-told_hold.field-0; is = told_before old.now mid.now same (λ t. IsHoldIn t c.in-Some.least c.in_ok-told_hold.field-0) told }

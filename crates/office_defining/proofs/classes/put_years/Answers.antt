@@ -11,6 +11,7 @@ use Rattle.office_tables.specs.Contents.{KeepsOnce}
 use Rattle.office_history.specs.Pictures.{years_number}
 use Rattle.office_asking.proofs.InTurn.{clean_before}
 use Rattle.office_defining.proofs.ClassTold.{those, closings_read, class_defined}
+use Rattle.office_defining.proofs.DefinedByRows.{closed_before}
 use Rattle.office_defining.proofs.classes.put_years.Goals as goal
 
 pub returns-clause-stays : goal.returns-clause-stays
@@ -38,3 +39,13 @@ returns-clause-defined g c day clean h legal pictured _ =
     let kept : KeepsOnce mid.now = c.in_ok-put_class.ensures.once early pictured.office pictured.once in
     on_ok_weaker c.set_days_of_class.result (class_defined h day a.name.now a.years old.now mid.now pictured put new.now kept)
     (c.set_days_of_class.ensures.set (those h day a.name.now a.years) (closings_read h day a.name.now a.years old.now mid.now pictured put) clean put.office)
+
+pub returns-clause-rows : goal.returns-clause-rows
+returns-clause-rows g c clean office =
+    let a = c.args in
+    let old = state g.S.Store a.tx.now.conn.now in
+    let mid = state g.S.Store c.put_class.new.tx.conn.now in
+    let new = state g.S.Store c.set_days_of_class.new.tx.conn.now in
+    let early : HasCleanDisk mid = clean_before mid new c.set_days_of_class.ensures.stays clean in
+    let put = c.in_ok-put_class.ensures.becomes early office in
+    on_ok_weaker c.set_days_of_class.result (closed_before a.name.now _ old.now mid.now put) (c.set_days_of_class.ensures.rows clean put.office)

@@ -5,7 +5,8 @@ use Rattle.sqlite.specs.Held.{state}
 use Rattle.sql_meaning.proofs.Inside.{stays_then}
 use Rattle.office_rows.specs.Told.{class_closings}
 use Rattle.office_tables.specs.Tables.{IsOffice, tables_of}
-use Rattle.office_asking.proofs.InTurn.{clean_before}
+use Rattle.office_asking.proofs.InTurn.{clean_before, goes_still}
+use Rattle.office_defining.specs.ByRows.{AreClosedOnDays}
 use Rattle.office_defining.specs.Revising.{AreDueDaysSet}
 use Rattle.office_defining.proofs.classes.set_days_of_class.Goals as goal
 
@@ -15,10 +16,11 @@ returns-clause-stays g c =
 
 pub returns-clause-goes_on : goal.returns-clause-goes_on
 returns-clause-goes_on g c clean =
+    let old = state g.S.Store c.args.tx.now.conn.now in
     let mid = state g.S.Store c.rows_of_class.new.tx.conn.now in
-    let early : HasCleanDisk mid = clean_before mid (state g.S.Store c.set_due_days.new.tx.conn.now) c.set_due_days.ensures.stays clean in
-    let p = c.in_ok-rows.ensures.goes_on early in
-    on_ok_weaker c.set_due_days.result (λ s. record { was_open = p.was_open; is_open = s.is_open p.is_open; inside = λ i. s.inside (p.inside i) }) (c.set_due_days.ensures.goes_on clean)
+    let new = state g.S.Store c.set_due_days.new.tx.conn.now in
+    let early : HasCleanDisk mid = clean_before mid new c.set_due_days.ensures.stays clean in
+    on_ok_weaker c.set_due_days.result (goes_still old mid new (c.in_ok-rows.ensures.goes_on early)) (c.set_due_days.ensures.goes_on clean)
 
 pub returns-clause-set : goal.returns-clause-set
 returns-clause-set g c deposits are clean office =
@@ -31,3 +33,13 @@ returns-clause-set g c deposits are clean office =
     let found : c.deref.result.now ≡ class_closings a.class.now (tables_of old.now) = search (rules, c.in_ok-rows.ensures.found early office) in
     on_ok_weaker c.set_due_days.result (subst (λ db. AreDueDaysSet a.years deposits db new.now) same)
     (c.set_due_days.ensures.set deposits (found ∙ are) clean (subst IsOffice (sym same) office))
+
+pub returns-clause-rows : goal.returns-clause-rows
+returns-clause-rows g c clean office =
+    let a = c.args in
+    let old = state g.S.Store a.tx.now.conn.now in
+    let mid = state g.S.Store c.rows_of_class.new.tx.conn.now in
+    let new = state g.S.Store c.set_due_days.new.tx.conn.now in
+    let early : HasCleanDisk mid = clean_before mid new c.set_due_days.ensures.stays clean in
+    let found : c.deref.result.now ≡ class_closings a.class.now (tables_of old.now) = search (rules, c.in_ok-rows.ensures.found early office) in
+    on_ok_weaker c.set_due_days.result (subst AreClosedOnDays found) c.set_due_days.ensures.closed

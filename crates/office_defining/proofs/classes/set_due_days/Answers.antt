@@ -1,10 +1,13 @@
 use Rattle.std.proofs.Common.{rules, refl, sym, ap, subst, ◌∙◌, ◌≤◌, length, map}
+use Rattle.std.proofs.lemmas.List.{take_all}
 use Rattle.sqlite.specs.State.{HasCleanDisk}
 use Rattle.sqlite.specs.Held.{state}
 use Rattle.sql_meaning.proofs.Inside.{stays_on}
 use Rattle.office_tables.specs.Tables.{tables_of}
-use Rattle.office_asking.proofs.InTurn.{clean_before, stays_still}
+use Rattle.office_asking.proofs.InTurn.{clean_before, stands_still, stays_still}
 use Rattle.office_defining.specs.Revising.{closing_row, with_due_days}
+use Rattle.office_defining.specs.ByRows.{AreClosedOnDays}
+use Rattle.office_defining.proofs.DefinedByRows.{closed_next}
 use Rattle.office_defining.proofs.DueDays.{sets_next, none_left}
 use Rattle.office_defining.proofs.classes.set_due_days.Goals as goal
 
@@ -12,8 +15,9 @@ pub loop-row-init : goal.loop-row-init
 loop-row-init g c = record {
   same_reference = refl;
   stays = stays_still (state g.S.Store c.args.tx.now.conn.now);
-  goes_on = λ _. record { is_open = λ is_open. is_open; inside = λ inside. inside };
+  goes_on = λ _. stands_still (state g.S.Store c.args.tx.now.conn.now);
   set = λ deposits are clean office. (office, refl, λ kept. kept);
+  closed = tt;
 }
 
 pub loop-row-preserved : goal.loop-row-preserved
@@ -32,6 +36,7 @@ loop-row-preserved g c =
           let next = sets_next c.args.years c.args.rows.now deposits c.loop-row.row-index _ c.loop-row-test.true c.row-item.is are old.now now.now new.now
           (λ closed e. c.in_ok-set_due_day.ensures.becomes closed e clean there.0) there.1 in
           (next.0, next.1, λ kept. c.in_ok-set_due_day.ensures.once clean there.0 (there.2 kept));
+      closed = closed_next c.args.rows.now c.loop-row.row-index _ c.loop-row-test.true c.row-item.is c.in_ok-set_due_day.ensures.closed inv.closed;
     }
 
 pub returns-in_err-set_due_day-clause-stays : goal.returns-in_err-set_due_day-clause-stays
@@ -47,3 +52,6 @@ returns-clause-set g c deposits are clean office =
       becomes = record { office = there.0; are = sym (ap (λ rest. with_due_days c.args.years rest (tables_of now.now)) (none_left deposits c.loop-row.row-index past)) ∙ there.1 };
       once = there.2;
     }
+
+pub returns-clause-closed : goal.returns-clause-closed
+returns-clause-closed g c = subst AreClosedOnDays (take_all c.loop-row.row-index c.args.rows.now c.loop-row-test.false) c.loop-row.invariant.closed

@@ -1,10 +1,11 @@
-use Rattle.std.proofs.Common.{◌≡◌, ℤ, List, map, drop}
+use Rattle.std.proofs.Common.{◌≡◌, ℤ, List, map, drop, take}
 use Rattle.jiff.specs.Types.{Date}
 use Rattle.sqlite.specs.State.{HasCleanDisk}
 use Rattle.sqlite.specs.Held.{state}
 use Rattle.sql_meaning.specs.Inside.{Stays, Stands}
 use Rattle.office_tables.specs.Tables.{IsOffice, tables_of}
 use Rattle.office_tables.specs.Contents.{KeepsOnce}
+use Rattle.office_defining.specs.ByRows.{AreClosedOnDays}
 use Rattle.office_defining.specs.Revising.{closing_row, with_due_days}
 use Rattle.office_defining.proofs.classes.set_due_days.Given as goal
 
@@ -18,4 +19,5 @@ invariant-loop-row g l =
       goes_on : HasCleanDisk now → Stands old now;
       set : (deposits : List (ℤ × Date)) → l.rows ≡ map closing_row deposits → HasCleanDisk now → IsOffice old.now
           → IsOffice now.now × (with_due_days l.years (drop l.row-index deposits) (tables_of now.now) ≡ with_due_days l.years deposits (tables_of old.now)) × (KeepsOnce old.now → KeepsOnce now.now);
+      closed : AreClosedOnDays (take l.row-index l.rows);
     }

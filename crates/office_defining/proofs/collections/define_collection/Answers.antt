@@ -1,4 +1,4 @@
-use Rattle.std.proofs.Common.{rules, ◌≡◌, ap, ◌∙◌, Some, None}
+use Rattle.std.proofs.Common.{rules, ◌≡◌, ℕ, List, ap, sym, subst, ◌∙◌, Some, None}
 use Rattle.sqlite.specs.State.{HasCleanDisk}
 use Rattle.sqlite.specs.Held.{state}
 use Rattle.sql_meaning.proofs.Inside.{stays_then}
@@ -13,6 +13,9 @@ use Rattle.office_history.specs.Refusals.{denial}
 use Rattle.office_defining.proofs.CollectionTold.{collection_told}
 use Rattle.office_asking.proofs.Serving.{refused_serves, allowed_serves, one_refusal, pictures_grown}
 use Rattle.office_asking.proofs.InTurn.{clean_before, goes_twice}
+use Rattle.office_asking.specs.ByRows.{IsDenialIn}
+use Rattle.office_defining.specs.ByRows.{IsCollectionDefinedIn}
+use Rattle.office_defining.proofs.DefinedByRows.{collection_denied, collection_allowed}
 use Rattle.office_defining.proofs.collections.define_collection.Goals as goal
 
 pub returns-in-Some-clause-decides : goal.returns-in-Some-clause-decides
@@ -45,3 +48,20 @@ returns-clause-decides g c clean h legal pictured =
 
 pub returns-clause-goes_on : goal.returns-clause-goes_on
 returns-clause-goes_on g c = goes_twice (state g.S.Store c.args.tx.now.conn.now) (state g.S.Store c.denial.new.tx.conn.now) (state g.S.Store c.put_collection.new.tx.conn.now) c.put_collection.ensures.stays c.in_ok-why.ensures.goes_on c.in_ok-put_collection.ensures.goes_on
+
+pub returns-in-Some-clause-rows : goal.returns-in-Some-clause-rows
+returns-in-Some-clause-rows g c clean office =
+    let a = c.args in
+    let t = tables_of (state g.S.Store a.tx.now.conn.now).now in
+    let denied = subst (λ (n : List ℕ). IsDenialIn t a.caller.now acts.Collection (Some n) None c.in_ok-why.field-0) c.as_str.ensures.text (c.in_ok-why.ensures.rows clean office) in
+    collection_denied t a.caller.now a.name.now c.in_ok-why.field-0 c.in-Some.why c.in-Some.is denied
+
+pub returns-clause-rows : goal.returns-clause-rows
+returns-clause-rows g c clean office =
+    let a = c.args in
+    let old = state g.S.Store a.tx.now.conn.now in
+    let mid = state g.S.Store c.denial.new.tx.conn.now in
+    let early : HasCleanDisk mid = clean_before mid (state g.S.Store c.put_collection.new.tx.conn.now) c.put_collection.ensures.stays clean in
+    let none : c.in_ok-why.field-0 ≡ None = search rules in
+    let denied = subst (λ (n : List ℕ). IsDenialIn (tables_of old.now) a.caller.now acts.Collection (Some n) None c.in_ok-why.field-0) c.as_str.ensures.text (c.in_ok-why.ensures.rows early office) in
+    subst (λ (n : List ℕ). IsCollectionDefinedIn (tables_of old.now) a.caller.now a.name.now (answers.Collection n)) (sym c.in_ok-defined.ensures) (collection_allowed (tables_of old.now) a.caller.now a.name.now c.in_ok-why.field-0 none denied)

@@ -1,15 +1,12 @@
-use Rattle.std.proofs.Common.{rules, ◌≡◌, map, ◌∷◌, [], Ok, Err, Result, OnOk}
+use Rattle.std.proofs.Common.{rules, ◌≡◌, map, ◌∷◌, []}
 use Rattle.sqlite.specs.Held.{state}
 use Rattle.office_rows.specs.Rows.{with_policy}
 use Rattle.office_history.specs.Histories.{with_changes, Installed}
 use Rattle.office_history.specs.Pictures.{caller_row, rule_rows}
+use Rattle.office_asking.proofs.InTurn.{on_both}
 use Rattle.office_asking.proofs.Serving.{pictures_grown}
 use Rattle.office_defining.proofs.InstallTold.{install_told}
 use Rattle.office_defining.proofs.policy.install.Goals as goal
-
-on_both : {E V P Q R : Type 0} (r : Result V E) → (P → Q → R) → OnOk r P → OnOk r Q → OnOk r R
-on_both (Ok v) next p q = next p q
-on_both (Err e) next p q = tt
 
 pub returns-clause-installed : goal.returns-clause-installed
 returns-clause-installed g c clean h legal pictured _ =

@@ -1,10 +1,13 @@
-use Rattle.std.proofs.Common.{◌≡◌, ◌∙◌, IsTrue, not, ap, arith, rules}
+use Rattle.std.proofs.Common.{◌≡◌, ◌∙◌, inl, inr, IsOkAnd, IsTrue, not, ap, sym, arith, rules}
 use Rattle.std.proofs.lemmas.Result.{on_err_weaker}
 use Rattle.sqlite.specs.State.{HasCleanDisk, Survives}
 use Rattle.sqlite.specs.Held.{state}
+use Rattle.sqlite.specs.Effect.{Database}
+use Rattle.sqlite.proofs.Callers.{survives_begin}
+use Rattle.sqlite.proofs.StateLemmas.{survives_then}
 use Rattle.office_history.specs.Runs as runs
 use Rattle.office_engine.specs.Keeping.{CommitsTo, InstallLasts, Installs, after_policy}
-use Rattle.office_engine.proofs.Ends.{IsMade, inside, left_by, made_kept, made_lasting, made_survives, on_committed, unchanged, was_open}
+use Rattle.office_engine.proofs.Ends.{IsMade, inside, left_by, made_kept, made_lasting, made_survives, of_ok, on_committed, unchanged, was_open}
 use Rattle.office_engine.proofs.installing.install.Goals as goal
 
 pub returns : goal.returns
@@ -22,6 +25,8 @@ returns g c =
       makes = λ clean h legal pictured. let accepted = rw begun at (c.install-done.ensures.installed clean) in accepted h legal pictured tt;
     } in
     let survives : Survives (state g.S.Store first) (state g.S.Store end) (CommitsTo (state g.S.Store first) (after_policy policy)) = made_survives made end c.end.ensures.survives in
+    let crash : Survives (state g.S.Store first) (state g.S.Store end) (λ left. IsOkAnd c.install-done.result (λ _. left ≡ (state g.S.Store last).now.trees)) =
+    survives_then (state g.S.Store first) (state g.S.Store last) (state g.S.Store end) _ _ _ (λ _ db none. absurd none) (λ _ db makes. makes) (survives_begin g.S.Store first (state g.S.Store last) _ made.stays.survives) c.end.ensures.survives in
     let early = λ (late : HasCleanDisk (state g.S.Store end)). let clean : HasCleanDisk (state g.S.Store last) = omega (arith, late, c.end.ensures.survives.clean) in clean in
     rw (← same) (record {
       outside = c.end.ensures.outside;
@@ -36,4 +41,12 @@ returns g c =
           on_committed (InstallLasts (state g.S.Store first) (state g.S.Store end) policy) _ c.install-done.result c.end.result
           (λ x is shows h legal keeps. made_lasting made end (early late) x is shows h legal keeps (λ db is_open left. g.met.S.Store.settled end.store db is_open left)) (c.end.ensures.committed late);
       leaves = λ late. left_by (state g.S.Store first) (state g.S.Store end) (after_policy policy) (λ db is_open left. g.met.S.Store.settled first.store db is_open left) survives late;
+      made = λ late. (
+        (state g.S.Store last).now.trees,
+        λ left may. elim (crash.crash late left may) [
+          | inl was ↦ inl was
+          | inr makes ↦ inr (of_ok c.install-done.result makes)
+        ],
+        on_committed ((state g.S.Store last).now.trees ≡ (state g.S.Store end).now.trees) _ c.install-done.result c.end.result (λ x is shows. ap (λ (d : Database). d.trees) (sym shows.now_is)) (c.end.ensures.committed late),
+      );
     })

@@ -2,7 +2,7 @@ use Rattle.std.proofs.Common.{◌≡◌, ◌∙◌, not, ap, arith, rules}
 use Rattle.sqlite.specs.State.{HasCleanDisk}
 use Rattle.sqlite.specs.Held.{state}
 use Rattle.office_history.specs.Stocks.{stock}
-use Rattle.office_engine.proofs.Ends.{found_kept}
+use Rattle.office_engine.proofs.Ends.{found_kept, under}
 use Rattle.office_engine.proofs.listing.stock.Goals as goal
 
 pub returns-clause-counted : goal.returns-clause-counted
@@ -17,3 +17,14 @@ returns-clause-counted g c =
     let early : HasCleanDisk (state g.S.Store last) = omega (arith, late, c.rollback.ensures.survives.clean) in
     found_kept g.S.Store first last end (λ h found. found ≡ stock h) settled (rw begun at c.stock_of-found.ensures.stays) c.stock_of-found.result
     (rw begun at c.stock_of-found.ensures.goes_on) (rw begun at c.stock_of-found.ensures.stock) early (c.rollback.ensures.undone late))
+
+pub returns-clause-rows : goal.returns-clause-rows
+returns-clause-rows g c =
+    let last = c.stock_of-found.new.tx.conn.now in
+    let end = c.rollback.new.self.0 in
+    let begun = c.transaction-tx.ensures.begun in
+    let same : end ≡ c.conn-1.given.0 = search rules in
+    rw (← same) (λ (late : HasCleanDisk (state g.S.Store end)).
+    let early : HasCleanDisk (state g.S.Store last) = omega (arith, late, c.rollback.ensures.survives.clean) in
+    let told = rw begun at c.stock_of-found.ensures.rows in
+    under _ c.stock_of-found.result (told early))

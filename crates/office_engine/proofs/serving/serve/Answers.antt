@@ -3,7 +3,9 @@ use Rattle.sqlite.specs.State.{HasCleanDisk, Survives}
 use Rattle.sqlite.specs.Held.{state}
 use Rattle.office_history.specs.Runs.{Item}
 use Rattle.office_engine.specs.Keeping.{CommitsTo, IsTurn, after_item}
-use Rattle.office_engine.proofs.Ends.{IsDecided, decided_made, made_survives, turn}
+use Rattle.sqlite.proofs.Callers.{survives_begin}
+use Rattle.sqlite.proofs.StateLemmas.{survives_then, survives_weaker}
+use Rattle.office_engine.proofs.Ends.{IsDecided, Makes, decided_made, made_survives, makes_left, turn}
 use Rattle.office_engine.proofs.serving.serve.Goals as goal
 
 pub returns : goal.returns
@@ -20,15 +22,18 @@ returns g c =
       stays = rw begun at c.decide-decided.ensures.stays;
       goes_on = rw begun at c.decide-decided.ensures.goes_on;
       decides = rw begun at c.decide-decided.ensures.decides;
-      audited = rw begun at c.decide-decided.ensures.audited;
+      rows = rw begun at c.decide-decided.ensures.rows;
     } in
-    let survives = made_survives (decided_made g.S.Store first last item c.decide-decided.result decided) end c.end.ensures.survives in
+    let made = decided_made g.S.Store first last item c.decide-decided.result decided in
+    let survives = made_survives made end (survives_weaker (state g.S.Store last) (state g.S.Store end) _ _ (λ _ db. makes_left (state g.S.Store last) c.decide-decided.result db) c.end.ensures.survives) in
+    let crash = survives_then (state g.S.Store first) (state g.S.Store last) (state g.S.Store end) _ _ (Makes (state g.S.Store last) c.decide-decided.result) (λ _ db none. absurd none) (λ _ db makes. makes)
+    (survives_begin g.S.Store first (state g.S.Store last) _ made.stays.survives) c.end.ensures.survives in
     record {
       outside = subst (λ x. (state g.S.Store x).in_transaction ≡ false) same c.end.ensures.outside;
       turn = λ clean.
           let late : HasCleanDisk (state g.S.Store end) = rw same clean in
           let early : HasCleanDisk (state g.S.Store last) = omega (arith, late, c.end.ensures.survives.clean) in
           subst (λ x. IsTurn (state g.S.Store first) (state g.S.Store x) item c.end.result) same
-          (turn decided end c.end.result (λ s db is_open left. g.met.S.Store.settled s.store db is_open left) survives late early c.end.ensures.told (c.end.ensures.committed late) (c.end.ensures.undone late));
+          (turn decided end c.end.result (λ s db is_open left. g.met.S.Store.settled s.store db is_open left) survives late early (crash.crash late) c.end.ensures.told (c.end.ensures.committed late) (c.end.ensures.undone late));
       survives = subst (λ x. Survives (state g.S.Store first) (state g.S.Store x) (CommitsTo (state g.S.Store first) (after_item item))) same survives;
     }

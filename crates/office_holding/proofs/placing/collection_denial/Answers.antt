@@ -1,5 +1,5 @@
-use Rattle.std.proofs.Common.{rules, ◌≡◌, true, false, ◌∙◌}
-use Rattle.std.proofs.lemmas.Result.{IfOk-weaker}
+use Rattle.std.proofs.Common.{rules, ◌≡◌, true, false, ◌∙◌, Some, None}
+use Rattle.std.proofs.lemmas.Result.{IfOk-weaker, on_ok_weaker}
 use Rattle.sqlite.specs.State.{HasCleanDisk}
 use Rattle.sqlite.specs.Held.{state}
 use Rattle.office_asking.proofs.Readings.{pictured_still}
@@ -7,6 +7,11 @@ use Rattle.office_asking.proofs.CollectionTold.{collection_told}
 use Rattle.office_holding.proofs.HoldPlaces.{not_there, is_there}
 use Rattle.office_asking.proofs.InTurn.{clean_before, on_after}
 use Rattle.sql_meaning.proofs.Inside.{stays_then, goes_then}
+use Rattle.office_tables.specs.Tables.{tables_of}
+use Rattle.office_core.specs.declared.action.Action.TheVariants as acts
+use Rattle.office_asking.specs.ByRows.{IsDenialIn}
+use Rattle.office_holding.proofs.HoldsByRows.{none_there, asked_there}
+use Rattle.office_asking.proofs.RowsTold.{office_still, told_before}
 use Rattle.office_holding.proofs.placing.collection_denial.Goals as goal
 
 pub returns-then-not-branch-clause-denied : goal.returns-then-not-branch-clause-denied
@@ -39,3 +44,30 @@ returns-clause-goes_on g c =
     let s1 = state g.S.Store c.has_collection.new.tx.conn.now in
     let s2 = state g.S.Store c.denial.new.tx.conn.now in
     on_after s0 s1 s2 c.denial.ensures.stays c.denial.result (goes_then s0 s1 s2) c.in_ok-has_collection.ensures.goes_on c.denial.ensures.goes_on
+
+pub returns-clause-same : goal.returns-clause-same
+returns-clause-same g c clean office =
+    let old = state g.S.Store c.args.tx.now.conn.now in
+    let mid = state g.S.Store c.has_collection.new.tx.conn.now in
+    let early : HasCleanDisk mid = clean_before mid (state g.S.Store c.denial.new.tx.conn.now) c.denial.ensures.stays clean in
+    let same : mid.now ≡ old.now = c.in_ok-has_collection.ensures.same early office in
+    on_ok_weaker c.denial.result (λ e. e ∙ same) (c.denial.ensures.same clean (office_still old.now mid.now same office))
+
+pub returns-then-not-branch-clause-rows : goal.returns-then-not-branch-clause-rows
+returns-then-not-branch-clause-rows g c clean office =
+    let a = c.args in
+    let old = state g.S.Store a.tx.now.conn.now in
+    let none : false ≡ c.in_ok-has_collection.field-0 = search rules in
+    none_there (tables_of old.now) a.caller.now a.collection.now (none ∙ c.in_ok-has_collection.ensures.found clean office)
+
+pub returns-clause-rows : goal.returns-clause-rows
+returns-clause-rows g c clean office =
+    let a = c.args in
+    let old = state g.S.Store a.tx.now.conn.now in
+    let mid = state g.S.Store c.has_collection.new.tx.conn.now in
+    let early : HasCleanDisk mid = clean_before mid (state g.S.Store c.denial.new.tx.conn.now) c.denial.ensures.stays clean in
+    let same : mid.now ≡ old.now = c.in_ok-has_collection.ensures.same early office in
+    let some : true ≡ c.in_ok-has_collection.field-0 = search rules in
+    let there = some ∙ c.in_ok-has_collection.ensures.found early office in
+    IfOk-weaker c.denial.result _ _ (λ why is. asked_there (tables_of old.now) a.caller.now a.collection.now there why (told_before old.now mid.now same (λ t. IsDenialIn t a.caller.now acts.Hold (Some a.collection.now) None why) is))
+    (c.denial.ensures.rows clean (office_still old.now mid.now same office))

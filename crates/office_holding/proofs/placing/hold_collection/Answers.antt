@@ -1,4 +1,4 @@
-use Rattle.std.proofs.Common.{ap, subst, Ok, Err, [], ◌∷◌}
+use Rattle.std.proofs.Common.{ap, subst, Ok, Err, [], ◌∷◌, refl}
 use Rattle.sqlite.specs.State.{HasCleanDisk}
 use Rattle.sqlite.specs.Held.{state}
 use Rattle.office_core.specs.declared.answer.Answer.TheVariants as answers
@@ -10,6 +10,8 @@ use Rattle.office_asking.proofs.Serving.{allowed_serves, refused_serves}
 use Rattle.office_holding.specs.Holds.{IsPlace}
 use Rattle.office_asking.proofs.InTurn.{clean_before, goes_twice}
 use Rattle.sql_meaning.proofs.Inside.{stays_then}
+use Rattle.office_tables.specs.Tables.{tables_of}
+use Rattle.office_holding.specs.ByRows.{IsCollectionPlaceIn}
 use Rattle.office_holding.proofs.placing.hold_collection.Goals as goal
 
 pub returns-in_ok-place_on_collection-in-Ok-clause-decides : goal.returns-in_ok-place_on_collection-in-Ok-clause-decides
@@ -40,3 +42,19 @@ returns-in_ok-place_on_collection-in-Ok-clause-stays g c = stays_then (state g.S
 
 pub returns-in_ok-place_on_collection-in-Ok-clause-goes_on : goal.returns-in_ok-place_on_collection-in-Ok-clause-goes_on
 returns-in_ok-place_on_collection-in-Ok-clause-goes_on g c = goes_twice (state g.S.Store c.args.tx.now.conn.now) (state g.S.Store c.place_for_collection.new.tx.conn.now) (state g.S.Store c.place_on_collection.new.tx.conn.now) c.place_on_collection.ensures.stays c.in_ok-hold.ensures.goes_on c.in_ok-place_on_collection-in-Ok.ensures.goes_on
+
+pub returns-in_ok-place_on_collection-in-Ok-clause-rows : goal.returns-in_ok-place_on_collection-in-Ok-clause-rows
+returns-in_ok-place_on_collection-in-Ok-clause-rows g c clean office =
+    let a = c.args in
+    let t = tables_of (state g.S.Store a.tx.now.conn.now).now in
+    let mid = state g.S.Store c.place_for_collection.new.tx.conn.now in
+    let early : HasCleanDisk mid = clean_before mid (state g.S.Store c.place_on_collection.new.tx.conn.now) c.place_on_collection.ensures.stays clean in
+    let found = subst (IsCollectionPlaceIn t a.caller.now c.as_str.result.now) c.in-Ok.is (c.in_ok-hold.ensures.rows early office) in
+    record { place = Ok c.in-Ok.hold; is_place = subst (λ name. IsCollectionPlaceIn t a.caller.now name (Ok c.in-Ok.hold)) c.as_str.ensures.text found; is = refl }
+
+pub returns-in-Err-clause-rows : goal.returns-in-Err-clause-rows
+returns-in-Err-clause-rows g c clean office =
+    let a = c.args in
+    let t = tables_of (state g.S.Store a.tx.now.conn.now).now in
+    let found = subst (IsCollectionPlaceIn t a.caller.now c.as_str.result.now) c.in-Err.is (c.in_ok-hold.ensures.rows clean office) in
+    record { place = Err c.in-Err.why; is_place = subst (λ name. IsCollectionPlaceIn t a.caller.now name (Err c.in-Err.why)) c.as_str.ensures.text found; is = refl }

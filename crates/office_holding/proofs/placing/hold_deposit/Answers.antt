@@ -1,4 +1,4 @@
-use Rattle.std.proofs.Common.{ap, subst, [], ◌∷◌}
+use Rattle.std.proofs.Common.{ap, subst, [], ◌∷◌, Ok, Err, refl, ◌≡◌, pos}
 use Rattle.sqlite.specs.State.{HasCleanDisk}
 use Rattle.sqlite.specs.Held.{state}
 use Rattle.office_core.specs.declared.answer.Answer.TheVariants as answers
@@ -10,6 +10,10 @@ use Rattle.office_asking.proofs.Serving.{allowed_serves, refused_serves}
 use Rattle.office_holding.specs.Holds.{IsPlace}
 use Rattle.sql_meaning.proofs.Inside.{stays_then}
 use Rattle.office_asking.proofs.InTurn.{clean_before, goes_twice}
+use Rattle.office_tables.specs.Tables.{tables_of}
+use Rattle.office_rows.specs.Rows.{limits_of}
+use Rattle.office_holding.specs.ByRows.{IsDepositPlaceIn, IsCountable}
+use Rattle.office_asking.proofs.RowsTold.{office_still, told_before}
 use Rattle.office_holding.proofs.placing.hold_deposit.Goals as goal
 
 pub returns-in_ok-place_on_deposit-in-Ok-clause-decides : goal.returns-in_ok-place_on_deposit-in-Ok-clause-decides
@@ -40,3 +44,22 @@ returns-in_ok-place_on_deposit-in-Ok-clause-stays g c = stays_then (state g.S.St
 
 pub returns-in_ok-place_on_deposit-in-Ok-clause-goes_on : goal.returns-in_ok-place_on_deposit-in-Ok-clause-goes_on
 returns-in_ok-place_on_deposit-in-Ok-clause-goes_on g c = goes_twice (state g.S.Store c.args.tx.now.conn.now) (state g.S.Store c.place_for_deposit.new.tx.conn.now) (state g.S.Store c.place_on_deposit.new.tx.conn.now) c.place_on_deposit.ensures.stays c.in_ok-hold.ensures.goes_on c.in_ok-place_on_deposit-in-Ok.ensures.goes_on
+
+pub returns-in_ok-place_on_deposit-in-Ok-clause-rows : goal.returns-in_ok-place_on_deposit-in-Ok-clause-rows
+returns-in_ok-place_on_deposit-in-Ok-clause-rows g c clean office =
+    let a = c.args in
+    let old = state g.S.Store a.tx.now.conn.now in
+    let mid = state g.S.Store c.place_for_deposit.new.tx.conn.now in
+    let early : HasCleanDisk mid = clean_before mid (state g.S.Store c.place_on_deposit.new.tx.conn.now) c.place_on_deposit.ensures.stays clean in
+    let same : mid.now ≡ old.now = c.in_ok-hold.ensures.same early office in record {
+      place = Ok c.in-Ok.hold;
+      is_place = subst (IsDepositPlaceIn (tables_of old.now) a.caller.now a.number) c.in-Ok.is (c.in_ok-hold.ensures.rows early office);
+      counts = told_before old.now mid.now same (λ t. IsCountable (limits_of t) t.dues (pos a.number) (pos 1)) (c.in_ok-place_on_deposit-in-Ok.ensures.rows clean (office_still old.now mid.now same office));
+      is = refl;
+    }
+
+pub returns-in-Err-clause-rows : goal.returns-in-Err-clause-rows
+returns-in-Err-clause-rows g c clean office =
+    let a = c.args in
+    let t = tables_of (state g.S.Store a.tx.now.conn.now).now in
+    record { place = Err c.in-Err.why; is_place = subst (IsDepositPlaceIn t a.caller.now a.number) c.in-Err.is (c.in_ok-hold.ensures.rows clean office); counts = tt; is = refl }

@@ -1,4 +1,4 @@
-use Rattle.std.proofs.Common.{length, unwrap_or}
+use Rattle.std.proofs.Common.{length, unwrap_or, ◌≡◌, pos, option_map}
 use Rattle.sqlite.specs.State.{HasCleanDisk}
 use Rattle.sqlite.specs.Held.{state}
 use Rattle.office_history.specs.Histories.{holds}
@@ -6,8 +6,12 @@ use Rattle.office_asking.proofs.LimitsTold.{limits_told, number_told}
 use Rattle.office_asking.proofs.Readings.{pictured_still}
 use Rattle.office_holding.proofs.HoldCount.{count_told}
 use Rattle.office_holding.proofs.HoldPlaces.{next_placed}
-use Rattle.office_asking.proofs.InTurn.{clean_before, goes_twice}
+use Rattle.office_asking.proofs.InTurn.{clean_before, goes_twice, same_twice}
 use Rattle.sql_meaning.proofs.Inside.{stays_then}
+use Rattle.office_tables.specs.Tables.{tables_of}
+use Rattle.office_rows.specs.Rows.{HoldRow, last_number}
+use Rattle.office_holding.proofs.HoldsByRows.{next_told}
+use Rattle.office_asking.proofs.RowsTold.{office_still, told_before}
 use Rattle.office_holding.proofs.placing.next_hold.Goals as goal
 
 pub returns-clause-next : goal.returns-clause-next
@@ -34,3 +38,17 @@ returns-clause-stays g c = stays_then (state g.S.Store c.args.tx.now.conn.now) (
 
 pub returns-clause-goes_on : goal.returns-clause-goes_on
 returns-clause-goes_on g c = goes_twice (state g.S.Store c.args.tx.now.conn.now) (state g.S.Store c.limits.new.tx.conn.now) (state g.S.Store c.last_hold.new.tx.conn.now) c.last_hold.ensures.stays c.in_ok-limits.ensures.goes_on c.in_ok-last.ensures.goes_on
+
+pub returns-clause-rows : goal.returns-clause-rows
+returns-clause-rows g c clean office =
+    let old = state g.S.Store c.args.tx.now.conn.now in
+    let mid = state g.S.Store c.limits.new.tx.conn.now in
+    let early : HasCleanDisk mid = clean_before mid (state g.S.Store c.last_hold.new.tx.conn.now) c.last_hold.ensures.stays clean in
+    let same : mid.now ≡ old.now = c.in_ok-limits.ensures.same early office in
+    let most = c.in_ok-limits.limits in
+    let last = c.in_ok-last.last in
+    let told = told_before old.now mid.now same (λ t. option_map pos last ≡ last_number (λ (h : HoldRow). h.number) t.holds) (c.in_ok-last.ensures.found clean (office_still old.now mid.now same office)) in
+    next_told (tables_of old.now) most.max_deposits most.max_holds (c.in_ok-limits.ensures.found early office) last told c.number_after.result c.number_after.ensures
+
+pub returns-clause-same : goal.returns-clause-same
+returns-clause-same g c = same_twice (state g.S.Store c.args.tx.now.conn.now) (state g.S.Store c.limits.new.tx.conn.now) (state g.S.Store c.last_hold.new.tx.conn.now) c.last_hold.ensures.stays c.in_ok-limits.ensures.same c.in_ok-last.ensures.same

@@ -9,9 +9,8 @@ use Rattle.office_tables.specs.Tables.{Becomes, tables_of}
 use Rattle.office_tables.specs.Contents.{KeepsOnce}
 use Rattle.office_tables.specs.Dues.{FitMore}
 use Rattle.office_history.specs.Histories.{Hold, OnCollection}
-use Rattle.office_asking.proofs.InTurn.{clean_before, on_after}
+use Rattle.office_asking.proofs.InTurn.{clean_before, on_after, on_both}
 use Rattle.office_asking.proofs.Counts.{fit_more}
-use Rattle.office_holding.proofs.CountTold.{on_both}
 use Rattle.office_holding.proofs.PlacedTold.{new_hold, dues_between, placed_on_collection}
 use Rattle.office_holding.proofs.placing.place_on_collection.Goals as goal
 

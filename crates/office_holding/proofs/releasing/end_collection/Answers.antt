@@ -9,9 +9,8 @@ use Rattle.office_rows.specs.Rows.{with_released}
 use Rattle.office_tables.specs.Tables.{Becomes, tables_of}
 use Rattle.office_tables.specs.Contents.{KeepsOnce}
 use Rattle.office_tables.specs.Dues.{FitMore}
-use Rattle.office_asking.proofs.InTurn.{clean_before, on_after}
+use Rattle.office_asking.proofs.InTurn.{clean_before, on_after, on_both}
 use Rattle.office_asking.proofs.Counts.{fit_fewer}
-use Rattle.office_holding.proofs.CountTold.{on_both}
 use Rattle.office_holding.proofs.ReleasedTold.{dues_between, released_collection}
 use Rattle.office_holding.proofs.releasing.end_collection.Goals as goal
 

@@ -1,4 +1,4 @@
-use Rattle.std.proofs.Common.{rules, w32, w64, pos}
+use Rattle.std.proofs.Common.{rules, w32, w64, pos, negsuc}
 use mir.Val.{SFits}
 use Rattle.std.proofs.lemmas.Int.{to_z-of_z}
 use Rattle.jiff.specs.Words.{epoch_day}
@@ -8,9 +8,10 @@ use Rattle.sql_meaning.proofs.Inside.{stays_then, goes_then}
 use Rattle.office_rows.specs.Rows.{with_released}
 use Rattle.office_tables.specs.Tables.{Becomes, tables_of}
 use Rattle.office_tables.specs.Contents.{KeepsOnce}
-use Rattle.office_asking.proofs.InTurn.{clean_before, on_after}
-use Rattle.office_holding.proofs.CountTold.{on_both}
+use Rattle.office_asking.proofs.InTurn.{clean_before, on_after, on_both}
+use Rattle.office_holding.proofs.HoldsByRows.{countable_after_end}
 use Rattle.office_holding.proofs.ReleasedTold.{released_deposit}
+use Rattle.std.proofs.lemmas.Result.{on_ok_weaker}
 use Rattle.office_holding.proofs.releasing.end_deposit.Goals as goal
 
 pub returns-clause-ended : goal.returns-clause-ended
@@ -37,3 +38,12 @@ returns-clause-goes_on g c =
     let s1 = state g.S.Store c.end_hold.new.tx.conn.now in
     let s2 = state g.S.Store c.count_over_deposit.new.tx.conn.now in
     on_after s0 s1 s2 c.count_over_deposit.ensures.stays c.count_over_deposit.result (goes_then s0 s1 s2) c.in_ok-end_hold.ensures.goes_on c.count_over_deposit.ensures.goes_on
+
+pub returns-clause-rows : goal.returns-clause-rows
+returns-clause-rows g c clean office =
+    let a = c.args in
+    let old = state g.S.Store a.tx.now.conn.now in
+    let mid = state g.S.Store c.end_hold.new.tx.conn.now in
+    let early : HasCleanDisk mid = clean_before mid (state g.S.Store c.count_over_deposit.new.tx.conn.now) c.count_over_deposit.ensures.stays clean in
+    let ended = c.in_ok-end_hold.ensures.becomes early office in
+    on_ok_weaker c.count_over_deposit.result (countable_after_end (tables_of old.now) mid.now (pos a.deposit) (negsuc 0) _ _ ended) (c.count_over_deposit.ensures.rows clean ended.office)

@@ -8,9 +8,13 @@ use Rattle.office_history.specs.Pictures.{hold_row}
 use Rattle.office_asking.proofs.Readings.{pictured_still}
 use Rattle.office_asking.proofs.HoldTold.{hold_read}
 use Rattle.office_holding.proofs.HoldAsked.{no_hold, release_asked}
-use Rattle.office_asking.proofs.InTurn.{clean_before, goes_twice}
+use Rattle.office_asking.proofs.InTurn.{clean_before, goes_twice, same_twice}
 use Rattle.sql_meaning.proofs.Inside.{stays_then}
 use Rattle.sql_meaning.proofs.Results.{on_ok}
+use Rattle.office_tables.specs.Tables.{tables_of}
+use Rattle.office_holding.specs.ByRows.{IsReleaseDenialIn}
+use Rattle.office_holding.proofs.HoldsByRows.{no_row, row_asked}
+use Rattle.office_asking.proofs.RowsTold.{office_still, told_before}
 use Rattle.office_holding.proofs.releasing.releasable_hold.Goals as goal
 
 pub returns-in_default-clause-asked : goal.returns-in_default-clause-asked
@@ -48,3 +52,31 @@ pub returns-clause-goes_on : goal.returns-clause-goes_on
 returns-clause-goes_on g c clean =
     let goes = goes_twice (state g.S.Store c.args.tx.now.conn.now) (state g.S.Store c.hold_row.new.tx.conn.now) (state g.S.Store c.release_denial.new.tx.conn.now) c.release_denial.ensures.stays c.in_ok-hold.ensures.goes_on c.in_ok-denied.ensures.goes_on clean in
     on_ok c.unless_refused.result (λ _ _. goes) c.unless_refused.ensures.first
+
+pub returns-in_default-clause-rows : goal.returns-in_default-clause-rows
+returns-in_default-clause-rows g c clean office =
+    let a = c.args in
+    let t = tables_of (state g.S.Store a.tx.now.conn.now).now in
+    let none : None ≡ c.in_ok-hold.field-0 = search rules in
+    no_row t a.caller.now a.number (none ∙ c.in_ok-hold.ensures.found clean office)
+
+pub returns-clause-rows : goal.returns-clause-rows
+returns-clause-rows g c clean office =
+    let a = c.args in
+    let old = state g.S.Store a.tx.now.conn.now in
+    let mid = state g.S.Store c.hold_row.new.tx.conn.now in
+    let early : HasCleanDisk mid = clean_before mid (state g.S.Store c.release_denial.new.tx.conn.now) c.release_denial.ensures.stays clean in
+    let same : mid.now ≡ old.now = c.in_ok-hold.ensures.same early office in
+    let row = c.in-Some.hold in
+    let there = sym c.in-Some.is ∙ c.in_ok-hold.ensures.found early office in
+    let target = c.in_ok-target.target in
+    let denied = c.in_ok-denied.denied in
+    let deposit : shown.held_deposit target ≡ row.deposit = search rules in
+    let collection : shown.held_collection target ≡ row.collection = search rules in
+    let denial = told_before old.now mid.now same (λ t. IsReleaseDenialIn t a.caller.now (shown.held_deposit target) (shown.held_collection target) denied) (c.in_ok-denied.ensures.rows clean (office_still old.now mid.now same office)) in
+    IfOk-weaker c.unless_refused.result _ _ (row_asked (tables_of old.now) a.caller.now a.number row there target denied deposit collection denial) c.unless_refused.ensures.rows
+
+pub returns-clause-same : goal.returns-clause-same
+returns-clause-same g c clean office =
+    let same = same_twice (state g.S.Store c.args.tx.now.conn.now) (state g.S.Store c.hold_row.new.tx.conn.now) (state g.S.Store c.release_denial.new.tx.conn.now) c.release_denial.ensures.stays c.in_ok-hold.ensures.same c.in_ok-denied.ensures.same clean office in
+    on_ok c.unless_refused.result (λ _ _. same) c.unless_refused.ensures.first

@@ -1,4 +1,4 @@
-use Rattle.std.proofs.Common.{rules, ◌≡◌, refl, sym, subst}
+use Rattle.std.proofs.Common.{rules, ◌≡◌, refl, sym, subst, Ok, Err}
 use Rattle.sqlite.specs.State.{HasCleanDisk}
 use Rattle.sqlite.specs.Held.{state}
 use Rattle.office_core.specs.declared.answer.Answer.TheVariants as answers
@@ -10,6 +10,9 @@ use Rattle.office_asking.proofs.InTurn.{clean_before, goes_twice}
 use Rattle.sql_meaning.proofs.Inside.{stays_then}
 use Rattle.office_holding.specs.Holds.{IsReleaseAsked}
 use Rattle.office_holding.proofs.HoldAsked.{live_on}
+use Rattle.office_tables.specs.Tables.{tables_of}
+use Rattle.office_holding.specs.ByRows.{IsReleasableIn, CountsFewer}
+use Rattle.office_asking.proofs.RowsTold.{office_still, told_before}
 use Rattle.office_holding.proofs.releasing.release.Goals as goal
 
 pub returns-in-Err-clause-decides : goal.returns-in-Err-clause-decides
@@ -43,3 +46,25 @@ returns-in_ok-end-in-Ok-clause-stays g c = stays_then (state g.S.Store c.args.tx
 
 pub returns-in_ok-end-in-Ok-clause-goes_on : goal.returns-in_ok-end-in-Ok-clause-goes_on
 returns-in_ok-end-in-Ok-clause-goes_on g c = goes_twice (state g.S.Store c.args.tx.now.conn.now) (state g.S.Store c.releasable_hold.new.tx.conn.now) (state g.S.Store c.end.new.tx.conn.now) c.end.ensures.stays c.in_ok-row.ensures.goes_on c.in_ok-end-in-Ok.ensures.goes_on
+
+pub returns-in-Err-clause-rows : goal.returns-in-Err-clause-rows
+returns-in-Err-clause-rows g c clean office =
+    let a = c.args in
+    let t = tables_of (state g.S.Store a.tx.now.conn.now).now in
+    record { asked = Err c.in-Err.why; is_asked = subst (IsReleasableIn t a.caller.now a.hold) c.in-Err.is (c.in_ok-row.ensures.rows clean office); counts = tt; is = refl }
+
+pub returns-in_ok-end-in-Ok-clause-rows : goal.returns-in_ok-end-in-Ok-clause-rows
+returns-in_ok-end-in-Ok-clause-rows g c clean office =
+    let a = c.args in
+    let old = state g.S.Store a.tx.now.conn.now in
+    let mid = state g.S.Store c.releasable_hold.new.tx.conn.now in
+    let early : HasCleanDisk mid = clean_before mid (state g.S.Store c.end.new.tx.conn.now) c.end.ensures.stays clean in
+    let same : mid.now ≡ old.now = c.in_ok-row.ensures.same early office in
+    let row = c.in-Ok.row in
+    let target = c.in_ok-target-in-Ok.target in
+    let deposit : shown.held_deposit target ≡ row.deposit = search rules in record {
+      asked = Ok row;
+      is_asked = subst (IsReleasableIn (tables_of old.now) a.caller.now a.hold) c.in-Ok.is (c.in_ok-row.ensures.rows early office);
+      counts = subst (CountsFewer (tables_of old.now)) deposit (told_before old.now mid.now same (λ t. CountsFewer t (shown.held_deposit target)) (c.in_ok-end-in-Ok.ensures.rows clean (office_still old.now mid.now same office)));
+      is = refl;
+    }

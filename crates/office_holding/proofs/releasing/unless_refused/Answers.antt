@@ -1,4 +1,4 @@
-use Rattle.std.proofs.Common.{rules, ◌≡◌, [], ◌∷◌, Option, None, option_map, refl, sym, ap, ◌∙◌}
+use Rattle.std.proofs.Common.{rules, ◌≡◌, [], ◌∷◌, Option, None, option_map, refl, sym, ap, ◌∙◌, Some, subst}
 use Rattle.jiff.specs.Types.{Date}
 use Rattle.jiff.specs.Words.{epoch_day}
 use Rattle.office_core.specs.FirstOf.{first_some}
@@ -6,6 +6,7 @@ use Rattle.office_core.specs.declared.refusal.Refusal.{Refusal}
 use Rattle.office_core.specs.declared.refusal.Refusal.TheVariants.{Released}
 use Rattle.office_history.proofs.Pictured.{same_days}
 use Rattle.office_asking.proofs.Serving.{one_refusal}
+use Rattle.office_holding.specs.ByRows.{IsReleaseDayOf, IsFirstOfRelease}
 use Rattle.office_holding.proofs.releasing.unless_refused.Goals as goal
 
 -- where the rules allow it, the release stands first that was read
@@ -26,3 +27,18 @@ returns-in-None-clause-first c day said =
     let allowed : None ≡ c.args.denied = search rules in
     let read : option_map epoch_day c.in_ok-day.field-0 ≡ c.args.hold.released = search rules in
     (ap (option_map Released) (sym c.in-None.is) ∙ read_first c.args.denied allowed c.in_ok-day.field-0 day (read ∙ sym said), refl)
+
+pub returns-in-Some-clause-rows : goal.returns-in-Some-clause-rows
+returns-in-Some-clause-rows c = subst (λ denied. IsFirstOfRelease denied c.args.hold (Some c.in-Some.why)) (sym c.in-Some.is) refl
+
+pub returns-in-Some-2-clause-rows : goal.returns-in-Some-2-clause-rows
+returns-in-Some-2-clause-rows c =
+    let allowed : None ≡ c.args.denied = search rules in
+    let told : IsReleaseDayOf c.args.hold c.in_ok-day.field-0 = record { told = c.in_ok-hold_in.field-0; is = c.in_ok-hold_in.ensures.told; released = search rules; is_day = search rules } in
+    subst (λ denied. IsFirstOfRelease denied c.args.hold (Some (Released c.in-Some-2.day))) allowed (c.in_ok-day.field-0, told, ap (option_map Released) (sym c.in-Some-2.is))
+
+pub returns-in-None-clause-rows : goal.returns-in-None-clause-rows
+returns-in-None-clause-rows c =
+    let allowed : None ≡ c.args.denied = search rules in
+    let told : IsReleaseDayOf c.args.hold c.in_ok-day.field-0 = record { told = c.in_ok-hold_in.field-0; is = c.in_ok-hold_in.ensures.told; released = search rules; is_day = search rules } in
+    (refl, subst (λ denied. IsFirstOfRelease denied c.args.hold None) allowed (c.in_ok-day.field-0, told, ap (option_map Released) (sym c.in-None.is)))

@@ -1,4 +1,4 @@
-use Rattle.std.proofs.Common.{◌≡◌, Some, sym, ap, subst, ◌∙◌}
+use Rattle.std.proofs.Common.{◌≡◌, ℕ, List, Some, Ok, Err, refl, sym, ap, subst, ◌∙◌}
 use Rattle.sqlite.specs.State.{HasCleanDisk}
 use Rattle.sqlite.specs.Held.{state}
 use Rattle.office_core.specs.FirstOf.{first_some}
@@ -7,9 +7,14 @@ use Rattle.office_core.specs.declared.request.Request.TheVariants as requests
 use Rattle.office_history.specs.Histories.{History, with_changes}
 use Rattle.office_history.specs.Answers.{deposit_change}
 use Rattle.office_history.specs.Refusals.{refusals}
+use Rattle.office_core.specs.declared.retention.Due.{Due}
+use Rattle.office_tables.specs.Tables.{tables_of}
+use Rattle.office_asking.specs.ByRows.{IsDueIn}
 use Rattle.office_asking.specs.Pictures.{Pictures}
+use Rattle.office_asking.proofs.RowsTold.{office_still, told_before}
 use Rattle.office_asking.proofs.Serving.{refused_serves, allowed_serves}
-use Rattle.office_keeping.specs.Depositing.{IsAskedFor, IsNext}
+use Rattle.office_keeping.specs.ByRows.{IsAskedOfDeposit}
+use Rattle.office_keeping.specs.Depositing.{IsAskedFor, IsNext, number_of}
 use Rattle.office_asking.proofs.InTurn.{clean_before, goes_twice}
 use Rattle.sql_meaning.proofs.Inside.{stays_then}
 use Rattle.office_keeping.proofs.depositing.deposit.Goals as goal
@@ -53,3 +58,38 @@ returns-clause-stays g c = stays_then (state g.S.Store c.args.tx.now.conn.now) (
 
 pub returns-clause-goes_on : goal.returns-clause-goes_on
 returns-clause-goes_on g c = goes_twice (state g.S.Store c.args.tx.now.conn.now) (state g.S.Store c.new_bag.new.tx.conn.now) (state g.S.Store c.keep.new.tx.conn.now) c.keep.ensures.stays c.in_ok-new.ensures.goes_on c.in_ok-keep.ensures.goes_on
+
+pub returns-in-Err-clause-rows : goal.returns-in-Err-clause-rows
+returns-in-Err-clause-rows g c clean office =
+    let a = c.args in
+    let t = tables_of (state g.S.Store a.tx.now.conn.now).now in
+    let collection = c.as_str-collection.ensures.text in
+    let class = c.as_str-class.ensures.text in
+    let accession = c.as_str-accession.ensures.text in
+    let asked = subst (λ asked. IsAskedOfDeposit t a.day a.caller.now c.as_str-collection.result.now c.as_str-class.result.now c.as_str-accession.result.now a.closed a.bag.now (number_of asked)) c.in-Err.is (c.in_ok-new.ensures.rows clean office) in
+    record {
+      next = Err c.in-Err.why;
+      asked = subst (λ (x : List ℕ × List ℕ × List ℕ). IsAskedOfDeposit t a.day a.caller.now x.0 x.1 x.2 a.closed a.bag.now (Err c.in-Err.why)) (λ i. (collection i, class i, accession i)) asked;
+      due = tt;
+      answer = refl;
+    }
+
+pub returns-clause-rows : goal.returns-clause-rows
+returns-clause-rows g c clean office =
+    let a = c.args in
+    let old = state g.S.Store a.tx.now.conn.now in
+    let mid = state g.S.Store c.new_bag.new.tx.conn.now in
+    let new = state g.S.Store c.keep.new.tx.conn.now in
+    let early : HasCleanDisk mid = clean_before mid new c.keep.ensures.stays clean in
+    let same : mid.now ≡ old.now = c.in_ok-new.ensures.same early office in
+    let collection = c.as_str-collection.ensures.text in
+    let class = c.as_str-class.ensures.text in
+    let accession = c.as_str-accession.ensures.text in
+    let asked = subst (λ asked. IsAskedOfDeposit (tables_of old.now) a.day a.caller.now c.as_str-collection.result.now c.as_str-class.result.now c.as_str-accession.result.now a.closed a.bag.now (number_of asked)) c.in-Ok.is (c.in_ok-new.ensures.rows early office) in
+    let due = told_before old.now mid.now same (λ t. (due : Due) × IsDueIn t c.as_str-class.result.now a.closed due) (c.in_ok-keep.ensures.rows clean (office_still old.now mid.now same office)) in
+    record {
+      next = Ok c.in-Ok.new.number;
+      asked = subst (λ (x : List ℕ × List ℕ × List ℕ). IsAskedOfDeposit (tables_of old.now) a.day a.caller.now x.0 x.1 x.2 a.closed a.bag.now (Ok c.in-Ok.new.number)) (λ i. (collection i, class i, accession i)) asked;
+      due = subst (λ name. (due : Due) × IsDueIn (tables_of old.now) name a.closed due) class due;
+      answer = refl;
+    }

@@ -1,11 +1,13 @@
-use Rattle.std.proofs.Common.{length, unwrap_or}
+use Rattle.std.proofs.Common.{◌≡◌, length, pos, option_map, unwrap_or, refl}
 use Rattle.sqlite.specs.State.{HasCleanDisk}
 use Rattle.sqlite.specs.Held.{state}
 use Rattle.office_history.specs.Histories.{deposits}
 use Rattle.office_asking.proofs.LimitsTold.{limits_told, number_told}
 use Rattle.office_asking.proofs.Readings.{pictured_still}
 use Rattle.office_keeping.proofs.AccessionTold.{count_told}
-use Rattle.office_asking.proofs.InTurn.{clean_before, goes_twice}
+use Rattle.office_rows.specs.Rows.{DepositRow, last_number}
+use Rattle.office_asking.proofs.InTurn.{clean_before, goes_twice, same_twice}
+use Rattle.office_asking.proofs.RowsTold.{office_still, told_before}
 use Rattle.sql_meaning.proofs.Inside.{stays_then}
 use Rattle.office_keeping.proofs.depositing.next_number.Goals as goal
 
@@ -32,3 +34,23 @@ returns-clause-stays g c = stays_then (state g.S.Store c.args.tx.now.conn.now) (
 
 pub returns-clause-goes_on : goal.returns-clause-goes_on
 returns-clause-goes_on g c = goes_twice (state g.S.Store c.args.tx.now.conn.now) (state g.S.Store c.limits.new.tx.conn.now) (state g.S.Store c.last_deposit.new.tx.conn.now) c.last_deposit.ensures.stays c.in_ok-limits.ensures.goes_on c.in_ok-last.ensures.goes_on
+
+pub returns-clause-same : goal.returns-clause-same
+returns-clause-same g c = same_twice (state g.S.Store c.args.tx.now.conn.now) (state g.S.Store c.limits.new.tx.conn.now) (state g.S.Store c.last_deposit.new.tx.conn.now) c.last_deposit.ensures.stays c.in_ok-limits.ensures.same c.in_ok-last.ensures.same
+
+pub returns-clause-rows : goal.returns-clause-rows
+returns-clause-rows g c clean office =
+    let old = state g.S.Store c.args.tx.now.conn.now in
+    let mid = state g.S.Store c.limits.new.tx.conn.now in
+    let early : HasCleanDisk mid = clean_before mid (state g.S.Store c.last_deposit.new.tx.conn.now) c.last_deposit.ensures.stays clean in
+    let same : mid.now ≡ old.now = c.in_ok-limits.ensures.same early office in
+    let last = told_before old.now mid.now same (λ t. option_map pos c.in_ok-last.last ≡ last_number (λ (d : DepositRow). d.number) t.deposits) (c.in_ok-last.ensures.found clean (office_still old.now mid.now same office)) in
+    record {
+      limits = record { max_deposits = pos c.in_ok-limits.limits.max_deposits; max_holds = pos c.in_ok-limits.limits.max_holds };
+      are = c.in_ok-limits.ensures.found early office;
+      most = c.in_ok-limits.limits.max_deposits;
+      is_most = refl;
+      last = c.in_ok-last.last;
+      is_last = last;
+      comes_to = c.number_after.ensures;
+    }

@@ -1,4 +1,4 @@
-use Rattle.std.proofs.Common.{rules, ◌≡◌, true, false, ◌∙◌, is_some}
+use Rattle.std.proofs.Common.{rules, ◌≡◌, true, false, ◌∙◌, is_some, Some, option_map}
 use Rattle.std.proofs.lemmas.Result.{IfOk-weaker}
 use Rattle.sqlite.specs.State.{HasCleanDisk}
 use Rattle.sqlite.specs.Held.{state}
@@ -6,7 +6,13 @@ use Rattle.office_asking.proofs.Readings.{pictured_still}
 use Rattle.office_asking.proofs.DueTold.{years_read_back}
 use Rattle.office_asking.proofs.CollectionTold.{collection_told}
 use Rattle.office_keeping.proofs.Placing.{class_there, no_collection, no_class, both_there}
-use Rattle.office_asking.proofs.InTurn.{clean_before, goes_twice, on_after}
+use Rattle.office_rows.specs.Rows.{ClassRow, class_named}
+use Rattle.office_tables.specs.Tables.{tables_of}
+use Rattle.office_asking.proofs.InTurn.{clean_before, goes_twice, on_after, same_twice, stays_thrice}
+use Rattle.office_core.specs.declared.action.Action.TheVariants as acts
+use Rattle.office_asking.specs.ByRows.{IsDenialIn}
+use Rattle.office_asking.proofs.RowsTold.{office_still, told_before}
+use Rattle.office_keeping.proofs.RowsTold.{same_after, collection_missing, class_missing, both_there as both_there_in}
 use Rattle.sql_meaning.proofs.Inside.{stays_then, goes_then}
 use Rattle.office_keeping.proofs.depositing.place_refusal.Goals as goal
 
@@ -65,7 +71,7 @@ returns-clause-stays g c =
     let s0 = state g.S.Store c.args.tx.now.conn.now in
     let s1 = state g.S.Store c.has_collection.new.tx.conn.now in
     let s2 = state g.S.Store c.class_of.new.tx.conn.now in
-    stays_then s0 s2 (state g.S.Store c.denial.new.tx.conn.now) (stays_then s0 s1 s2 c.has_collection.ensures.stays c.in_ok-has_collection.ensures.goes_on c.class_of.ensures.stays) (goes_twice s0 s1 s2 c.class_of.ensures.stays c.in_ok-has_collection.ensures.goes_on c.in_ok-class_of.ensures.goes_on) c.denial.ensures.stays
+    stays_thrice s0 s1 s2 (state g.S.Store c.denial.new.tx.conn.now) c.has_collection.ensures.stays c.in_ok-has_collection.ensures.goes_on c.class_of.ensures.stays c.in_ok-class_of.ensures.goes_on c.denial.ensures.stays
 
 pub returns-clause-goes_on : goal.returns-clause-goes_on
 returns-clause-goes_on g c =
@@ -74,3 +80,51 @@ returns-clause-goes_on g c =
     let s2 = state g.S.Store c.class_of.new.tx.conn.now in
     let s3 = state g.S.Store c.denial.new.tx.conn.now in
     on_after s0 s2 s3 c.denial.ensures.stays c.denial.result (goes_then s0 s2 s3) (goes_twice s0 s1 s2 c.class_of.ensures.stays c.in_ok-has_collection.ensures.goes_on c.in_ok-class_of.ensures.goes_on) c.denial.ensures.goes_on
+
+pub returns-then-is_none-clause-same : goal.returns-then-is_none-clause-same
+returns-then-is_none-clause-same g c = same_twice (state g.S.Store c.args.tx.now.conn.now) (state g.S.Store c.has_collection.new.tx.conn.now) (state g.S.Store c.class_of.new.tx.conn.now) c.class_of.ensures.stays c.in_ok-has_collection.ensures.same c.in_ok-class_of.ensures.same
+
+pub returns-clause-same : goal.returns-clause-same
+returns-clause-same g c =
+    let s0 = state g.S.Store c.args.tx.now.conn.now in
+    let s1 = state g.S.Store c.has_collection.new.tx.conn.now in
+    let s2 = state g.S.Store c.class_of.new.tx.conn.now in
+    let s3 = state g.S.Store c.denial.new.tx.conn.now in
+    same_after s0 s2 s3 c.denial.ensures.stays (same_twice s0 s1 s2 c.class_of.ensures.stays c.in_ok-has_collection.ensures.same c.in_ok-class_of.ensures.same) c.denial.result c.denial.ensures.same
+
+pub returns-then-not-branch-clause-rows : goal.returns-then-not-branch-clause-rows
+returns-then-not-branch-clause-rows g c clean office =
+    let a = c.args in
+    let none : false ≡ c.in_ok-has_collection.field-0 = search rules in
+    collection_missing (tables_of (state g.S.Store a.tx.now.conn.now).now) a.caller.now a.collection.now a.class.now (none ∙ c.in_ok-has_collection.ensures.found clean office)
+
+pub returns-then-is_none-clause-rows : goal.returns-then-is_none-clause-rows
+returns-then-is_none-clause-rows g c clean office =
+    let a = c.args in
+    let old = state g.S.Store a.tx.now.conn.now in
+    let mid = state g.S.Store c.has_collection.new.tx.conn.now in
+    let early : HasCleanDisk mid = clean_before mid (state g.S.Store c.class_of.new.tx.conn.now) c.class_of.ensures.stays clean in
+    let same : mid.now ≡ old.now = c.in_ok-has_collection.ensures.same early office in
+    let some : true ≡ c.in_ok-has_collection.field-0 = search rules in
+    let none : false ≡ is_some c.in_ok-class_of.field-0 = search rules in
+    let read = told_before old.now mid.now same (λ t. c.in_ok-class_of.field-0 ≡ option_map (λ (r : ClassRow). r.years) (class_named a.class.now t.classes)) (c.in_ok-class_of.ensures.found clean (office_still old.now mid.now same office)) in
+    class_missing (tables_of old.now) a.caller.now a.collection.now a.class.now (some ∙ c.in_ok-has_collection.ensures.found early office) c.in_ok-class_of.field-0 read none
+
+pub returns-clause-rows : goal.returns-clause-rows
+returns-clause-rows g c clean office =
+    let a = c.args in
+    let old = state g.S.Store a.tx.now.conn.now in
+    let s1 = state g.S.Store c.has_collection.new.tx.conn.now in
+    let s2 = state g.S.Store c.class_of.new.tx.conn.now in
+    let clean2 : HasCleanDisk s2 = clean_before s2 (state g.S.Store c.denial.new.tx.conn.now) c.denial.ensures.stays clean in
+    let clean1 : HasCleanDisk s1 = clean_before s1 s2 c.class_of.ensures.stays clean2 in
+    let same1 : s1.now ≡ old.now = c.in_ok-has_collection.ensures.same clean1 office in
+    let office1 = office_still old.now s1.now same1 office in
+    let same2 : s2.now ≡ old.now = c.in_ok-class_of.ensures.same clean2 office1 ∙ same1 in
+    let there : true ≡ c.in_ok-has_collection.field-0 = search rules in
+    let some : true ≡ is_some c.in_ok-class_of.field-0 = search rules in
+    let read = told_before old.now s1.now same1 (λ t. c.in_ok-class_of.field-0 ≡ option_map (λ (r : ClassRow). r.years) (class_named a.class.now t.classes)) (c.in_ok-class_of.ensures.found clean2 office1) in
+    IfOk-weaker c.denial.result _ _
+    (λ why denial. both_there_in (tables_of old.now) a.caller.now a.collection.now a.class.now (there ∙ c.in_ok-has_collection.ensures.found clean1 office) c.in_ok-class_of.field-0 read some why
+    (told_before old.now s2.now same2 (λ t. IsDenialIn t a.caller.now acts.Deposit (Some a.collection.now) (Some a.class.now) why) denial))
+    (c.denial.ensures.rows clean (office_still old.now s2.now same2 office))

@@ -1,4 +1,4 @@
-use Rattle.std.proofs.Common.{◌≡◌, pos, sym, ap, ◌∙◌, Some, option_map}
+use Rattle.std.proofs.Common.{◌≡◌, pos, refl, sym, ap, ◌∙◌, Some, None, option_map}
 use Rattle.sqlite.specs.Held.{state}
 use Rattle.office_rows.specs.Rows.{DepositRow, deposit_by}
 use Rattle.office_history.specs.Histories.{accession_of}
@@ -25,3 +25,13 @@ returns-in-None-clause-taken g c clean h legal pictured =
     let told = ap (option_map (λ (d : DepositRow). d.number)) (sym c.in-None.is ∙ c.in_ok-deposit.ensures.found clean pictured.office)
     ∙ in_picture h old.now pictured (λ t. option_map (λ (d : DepositRow). d.number) (deposit_by a.accession.now t.deposits)) ∙ accession_told h a.accession.now in
     (pictured_still h old.now pictured new.now (c.in_ok-deposit.ensures.same clean pictured.office), taken_none (accession_of h a.accession.now) told)
+
+pub returns-in-Some-clause-rows : goal.returns-in-Some-clause-rows
+returns-in-Some-clause-rows g c clean office =
+    let found = ap (option_map (λ (d : DepositRow). d.number)) (sym (sym c.in-Some.is ∙ c.in_ok-deposit.ensures.found clean office)) in
+    let number : Some c.in-Some.deposit.number ≡ Some (pos c.deposit.inside.number) = sym (ap (λ (d : DepositRow). Some d.number) c.deposit.view_is) in
+    record { number = Some c.deposit.inside.number; is = found ∙ number; comes_to = refl }
+
+pub returns-in-None-clause-rows : goal.returns-in-None-clause-rows
+returns-in-None-clause-rows g c clean office =
+    record { number = None; is = ap (option_map (λ (d : DepositRow). d.number)) (sym (sym c.in-None.is ∙ c.in_ok-deposit.ensures.found clean office)); comes_to = refl }

@@ -7,9 +7,8 @@ use Rattle.sqlite.specs.Held.{state}
 use Rattle.sql_meaning.proofs.Inside.{stays_then, goes_then}
 use Rattle.office_rows.specs.Rows.{with_gone}
 use Rattle.office_tables.specs.Tables.{Becomes, tables_of}
-use Rattle.office_keeping.proofs.BothOk.{on_ok_both}
 use Rattle.office_keeping.proofs.GoneTold.{destroyed}
-use Rattle.office_asking.proofs.InTurn.{clean_before, on_after}
+use Rattle.office_asking.proofs.InTurn.{clean_before, on_after, on_both}
 use Rattle.office_keeping.proofs.disposing.destroy.Goals as goal
 
 pub returns-clause-stays : goal.returns-clause-stays
@@ -26,7 +25,7 @@ returns-clause-destroyed g c clean h legal pictured kept =
     let small : SFits w32 c.number.result = search rules in
     let fits : SFits w64 c.number.result = search rules in
     let marked : Becomes mid.now (with_gone (pos a.number) (epoch_day a.day) (tables_of old.now)) = rw (to_z-of_z w32 c.number.result small, to_z-of_z w64 c.number.result fits, c.number.ensures.value) at (c.in_ok-mark_gone.ensures.becomes early pictured.office) in
-    on_ok_both c.drop_files.result (destroyed h a.day a.number kept old.now mid.now new.now pictured marked) (c.drop_files.ensures.becomes clean marked.office)
+    on_both c.drop_files.result (destroyed h a.day a.number kept old.now mid.now new.now pictured marked) (c.drop_files.ensures.becomes clean marked.office)
     (c.drop_files.ensures.once clean marked.office (c.in_ok-mark_gone.ensures.once early pictured.office pictured.once))
 
 pub returns-clause-goes_on : goal.returns-clause-goes_on

@@ -1,4 +1,4 @@
-use Rattle.std.proofs.Common.{rules, ◌≡◌, ap, sym, ◌∙◌, Some, None, option_map}
+use Rattle.std.proofs.Common.{rules, ◌≡◌, pos, ap, refl, sym, subst, ◌∙◌, Some, None, option_map}
 use Rattle.sqlite.specs.State.{HasCleanDisk}
 use Rattle.sqlite.specs.Held.{state}
 use Rattle.office_core.specs.Verdicts.{verdict_of}
@@ -8,7 +8,15 @@ use Rattle.office_history.specs.Pictures.{deposit_row}
 use Rattle.office_history.specs.Refusals.{refusal_of, disposal_refusals}
 use Rattle.office_asking.proofs.Readings.{pictured_still}
 use Rattle.office_asking.proofs.DepositAsked.{deposit_read, none_there, there}
-use Rattle.office_asking.proofs.InTurn.{clean_before, goes_twice}
+use Rattle.office_core.specs.declared.refusal.Refusal.TheVariants.{NoSuch}
+use Rattle.office_core.specs.declared.refusal.Subject.TheVariants as subjects
+use Rattle.office_rows.specs.Rows.{deposit_numbered}
+use Rattle.office_tables.specs.Tables.{tables_of}
+use Rattle.office_asking.specs.ByRows.{AreFactsIn, IsAskerIn}
+use Rattle.office_asking.proofs.InTurn.{clean_before, goes_twice, stays_thrice}
+use Rattle.office_asking.proofs.RowsTold.{office_still, told_before}
+use Rattle.office_keeping.specs.ByRows.{IsDisposalRefusalOf, IsVerdictIn}
+use Rattle.office_keeping.proofs.RowsTold.{row_number}
 use Rattle.sql_meaning.proofs.Inside.{stays_then}
 use Rattle.office_keeping.proofs.disposing.disposal_refusal.Goals as goal
 
@@ -48,14 +56,14 @@ returns-in_err-facts-clause-stays g c =
     let s0 = state g.S.Store c.args.tx.now.conn.now in
     let s1 = state g.S.Store c.deposit_row.new.tx.conn.now in
     let s2 = state g.S.Store c.read.new.tx.conn.now in
-    stays_then s0 s2 (state g.S.Store c.disposal_facts.new.tx.conn.now) (stays_then s0 s1 s2 c.deposit_row.ensures.stays c.in_ok-deposit.ensures.goes_on c.read.ensures.stays) (goes_twice s0 s1 s2 c.read.ensures.stays c.in_ok-deposit.ensures.goes_on c.in_ok-asker.ensures.goes_on) c.disposal_facts.ensures.stays
+    stays_thrice s0 s1 s2 (state g.S.Store c.disposal_facts.new.tx.conn.now) c.deposit_row.ensures.stays c.in_ok-deposit.ensures.goes_on c.read.ensures.stays c.in_ok-asker.ensures.goes_on c.disposal_facts.ensures.stays
 
 pub returns-clause-stays : goal.returns-clause-stays
 returns-clause-stays g c =
     let s0 = state g.S.Store c.args.tx.now.conn.now in
     let s1 = state g.S.Store c.deposit_row.new.tx.conn.now in
     let s2 = state g.S.Store c.read.new.tx.conn.now in
-    stays_then s0 s2 (state g.S.Store c.disposal_facts.new.tx.conn.now) (stays_then s0 s1 s2 c.deposit_row.ensures.stays c.in_ok-deposit.ensures.goes_on c.read.ensures.stays) (goes_twice s0 s1 s2 c.read.ensures.stays c.in_ok-deposit.ensures.goes_on c.in_ok-asker.ensures.goes_on) c.disposal_facts.ensures.stays
+    stays_thrice s0 s1 s2 (state g.S.Store c.disposal_facts.new.tx.conn.now) c.deposit_row.ensures.stays c.in_ok-deposit.ensures.goes_on c.read.ensures.stays c.in_ok-asker.ensures.goes_on c.disposal_facts.ensures.stays
 
 pub returns-clause-goes_on : goal.returns-clause-goes_on
 returns-clause-goes_on g c =
@@ -63,3 +71,29 @@ returns-clause-goes_on g c =
     let s1 = state g.S.Store c.deposit_row.new.tx.conn.now in
     let s2 = state g.S.Store c.read.new.tx.conn.now in
     goes_twice s0 s2 (state g.S.Store c.disposal_facts.new.tx.conn.now) c.disposal_facts.ensures.stays (goes_twice s0 s1 s2 c.read.ensures.stays c.in_ok-deposit.ensures.goes_on c.in_ok-asker.ensures.goes_on) c.in_ok-facts.ensures.goes_on
+
+pub returns-in_default-clause-rows : goal.returns-in_default-clause-rows
+returns-in_default-clause-rows g c clean office =
+    let a = c.args in
+    let t = tables_of (state g.S.Store a.tx.now.conn.now).now in
+    let none : None ≡ c.in_ok-deposit.field-0 = search rules in
+    subst (λ row. IsDisposalRefusalOf t a.day a.caller.now a.number row (Some (NoSuch subjects.Deposit))) (none ∙ c.in_ok-deposit.ensures.found clean office) refl
+
+pub returns-clause-rows : goal.returns-clause-rows
+returns-clause-rows g c clean office =
+    let a = c.args in
+    let old = state g.S.Store a.tx.now.conn.now in
+    let s1 = state g.S.Store c.deposit_row.new.tx.conn.now in
+    let s2 = state g.S.Store c.read.new.tx.conn.now in
+    let clean2 : HasCleanDisk s2 = clean_before s2 (state g.S.Store c.disposal_facts.new.tx.conn.now) c.disposal_facts.ensures.stays clean in
+    let clean1 : HasCleanDisk s1 = clean_before s1 s2 c.read.ensures.stays clean2 in
+    let same1 : s1.now ≡ old.now = c.in_ok-deposit.ensures.same clean1 office in
+    let office1 = office_still old.now s1.now same1 office in
+    let same2 : s2.now ≡ s1.now = c.in_ok-asker.ensures.same clean2 office1 in
+    let row = c.in-Some.deposit in
+    let found : Some row ≡ deposit_numbered (pos a.number) (tables_of old.now).deposits = sym c.in-Some.is ∙ c.in_ok-deposit.ensures.found clean1 office in
+    let asker = subst (λ db. IsAskerIn (tables_of db) a.caller.now c.in_ok-asker.asker) (sym same2) (c.in_ok-asker.ensures.rows clean2 office1) in
+    let facts = c.in_ok-facts.ensures.rows clean (office_still s1.now s2.now same2 office1) a.caller.now asker a.number (row_number (tables_of old.now) a.number row found) in
+    let told : c.refusal_of.result ≡ refusal_of (verdict_of c.in_ok-facts.facts a.day) = search rules in
+    let verdict : IsVerdictIn (tables_of old.now) a.day a.caller.now a.number row c.refusal_of.result = record { facts = c.in_ok-facts.facts; are = told_before old.now s2.now (same2 ∙ same1) (λ t. AreFactsIn t a.caller.now a.number row c.in_ok-facts.facts) facts; comes_to = told } in
+    subst (λ o. IsDisposalRefusalOf (tables_of old.now) a.day a.caller.now a.number o c.refusal_of.result) found verdict

@@ -1,4 +1,4 @@
-use Rattle.std.proofs.Common.{rules, ◌≡◌, refl, sym, ◌∙◌, None}
+use Rattle.std.proofs.Common.{rules, ◌≡◌, refl, sym, subst, ◌∙◌, Some, None}
 use Rattle.sqlite.specs.State.{HasCleanDisk}
 use Rattle.sqlite.specs.Held.{state}
 use Rattle.office_core.specs.declared.answer.Answer.TheVariants as answers
@@ -6,7 +6,9 @@ use Rattle.office_core.specs.declared.request.Request.TheVariants as requests
 use Rattle.office_history.specs.Refusals.{refusal}
 use Rattle.office_history.proofs.Accepted.{disposable}
 use Rattle.office_asking.proofs.Serving.{refused_serves, allowed_serves}
+use Rattle.office_tables.specs.Tables.{tables_of}
 use Rattle.office_asking.proofs.InTurn.{clean_before, goes_twice}
+use Rattle.office_keeping.specs.ByRows.{IsDisposalRefusalIn}
 use Rattle.sql_meaning.proofs.Inside.{stays_then}
 use Rattle.office_keeping.proofs.disposing.dispose.Goals as goal
 
@@ -36,3 +38,18 @@ returns-clause-stays g c = stays_then (state g.S.Store c.args.tx.now.conn.now) (
 
 pub returns-clause-goes_on : goal.returns-clause-goes_on
 returns-clause-goes_on g c = goes_twice (state g.S.Store c.args.tx.now.conn.now) (state g.S.Store c.disposal_refusal.new.tx.conn.now) (state g.S.Store c.destroy.new.tx.conn.now) c.destroy.ensures.stays c.in_ok-why.ensures.goes_on c.in_ok-destroy.ensures.goes_on
+
+pub returns-in-Some-clause-rows : goal.returns-in-Some-clause-rows
+returns-in-Some-clause-rows g c clean office =
+    let a = c.args in
+    let t = tables_of (state g.S.Store a.tx.now.conn.now).now in
+    record { refused = Some c.in-Some.why; refusal = subst (IsDisposalRefusalIn t a.day a.caller.now a.number) c.in-Some.is (c.in_ok-why.ensures.rows clean office); answer = refl }
+
+pub returns-clause-rows : goal.returns-clause-rows
+returns-clause-rows g c clean office =
+    let a = c.args in
+    let t = tables_of (state g.S.Store a.tx.now.conn.now).now in
+    let mid = state g.S.Store c.disposal_refusal.new.tx.conn.now in
+    let early : HasCleanDisk mid = clean_before mid (state g.S.Store c.destroy.new.tx.conn.now) c.destroy.ensures.stays clean in
+    let none : c.in_ok-why.field-0 ≡ None = search rules in
+    record { refused = None; refusal = subst (IsDisposalRefusalIn t a.day a.caller.now a.number) none (c.in_ok-why.ensures.rows early office); answer = refl }

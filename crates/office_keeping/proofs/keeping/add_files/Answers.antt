@@ -4,7 +4,7 @@ use Rattle.sqlite.specs.Held.{state}
 use Rattle.sql_meaning.proofs.Inside.{stays_on}
 use Rattle.office_tables.specs.Tables.{tables_of}
 use Rattle.office_keeping.proofs.DepositedTold.{next_file}
-use Rattle.office_asking.proofs.InTurn.{clean_before, stays_still}
+use Rattle.office_asking.proofs.InTurn.{clean_before, stands_still, stays_still}
 use Rattle.office_keeping.proofs.keeping.add_files.Goals as goal
 
 pub loop-file-preserved : goal.loop-file-preserved
@@ -31,7 +31,7 @@ pub loop-file-init : goal.loop-file-init
 loop-file-init g c = record {
   same_reference = refl;
   stays = stays_still (state g.S.Store c.args.tx.now.conn.now);
-  goes_on = λ _. record { is_open = λ is_open. is_open; inside = λ inside. inside };
+  goes_on = λ _. stands_still (state g.S.Store c.args.tx.now.conn.now);
   becomes = λ clean office. (office, refl);
   once = λ clean office kept. kept;
 }

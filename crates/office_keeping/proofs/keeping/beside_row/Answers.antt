@@ -1,10 +1,13 @@
-use Rattle.std.proofs.Common.{rules, w64, ap, ◌∙◌}
+use Rattle.std.proofs.Common.{rules, w64, ◌≡◌, pos, length, ap, ◌∙◌}
 use mir.Val.{SFits}
 use Rattle.std.proofs.lemmas.Int.{to_z-of_z}
 use Rattle.sqlite.specs.State.{HasCleanDisk}
 use Rattle.sqlite.specs.Held.{state}
 use Rattle.office_core.specs.Retention.{due_number}
+use Rattle.office_rows.specs.Rows.{live_holds}
+use Rattle.office_tables.specs.Tables.{tables_of}
 use Rattle.office_asking.proofs.InTurn.{clean_before, goes_twice}
+use Rattle.office_asking.proofs.RowsTold.{office_still}
 use Rattle.sql_meaning.proofs.Inside.{stays_then}
 use Rattle.office_keeping.proofs.keeping.beside_row.Goals as goal
 
@@ -35,3 +38,19 @@ returns-clause-stays g c = stays_then (state g.S.Store c.args.tx.now.conn.now) (
 
 pub returns-clause-goes_on : goal.returns-clause-goes_on
 returns-clause-goes_on g c = goes_twice (state g.S.Store c.args.tx.now.conn.now) (state g.S.Store c.due_day.new.tx.conn.now) (state g.S.Store c.live_count.new.tx.conn.now) c.live_count.ensures.stays c.in_ok-due.ensures.goes_on c.in_ok-holds.ensures.goes_on
+
+pub returns-clause-rows : goal.returns-clause-rows
+returns-clause-rows g c clean office =
+    let mid = state g.S.Store c.due_day.new.tx.conn.now in
+    let early : HasCleanDisk mid = clean_before mid (state g.S.Store c.live_count.new.tx.conn.now) c.live_count.ensures.stays clean in
+    (c.in_ok-due.due, c.in_ok-due.ensures.rows early office, c.number.ensures)
+
+pub returns-clause-counted : goal.returns-clause-counted
+returns-clause-counted g c clean office =
+    let a = c.args in
+    let old = state g.S.Store a.tx.now.conn.now in
+    let mid = state g.S.Store c.due_day.new.tx.conn.now in
+    let early : HasCleanDisk mid = clean_before mid (state g.S.Store c.live_count.new.tx.conn.now) c.live_count.ensures.stays clean in
+    let same : mid.now ≡ old.now = c.in_ok-due.ensures.same early office in
+    let fits : SFits w64 c.in_ok-holds.holds = search rules in
+    to_z-of_z w64 c.in_ok-holds.holds fits ∙ c.in_ok-holds.ensures.rows clean (office_still old.now mid.now same office) ∙ ap (λ db. pos (length (live_holds (pos a.number) a.collection.now (tables_of db)))) same

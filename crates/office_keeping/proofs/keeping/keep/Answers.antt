@@ -8,9 +8,8 @@ use Rattle.std.proofs.lemmas.Result.{on_ok_weaker}
 use Rattle.office_tables.specs.Tables.{Becomes, tables_of}
 use Rattle.office_history.specs.Histories.{Deposit}
 use Rattle.office_history.specs.Pictures.{row_by_gone}
-use Rattle.office_keeping.proofs.BothOk.{on_ok_both}
 use Rattle.office_keeping.proofs.DepositedTold.{kept_deposit}
-use Rattle.office_asking.proofs.InTurn.{clean_before, goes_twice}
+use Rattle.office_asking.proofs.InTurn.{clean_before, goes_still, goes_twice, on_both, stays_thrice}
 use Rattle.office_keeping.proofs.keeping.keep.Goals as goal
 
 pub returns-clause-kept : goal.returns-clause-kept
@@ -28,7 +27,7 @@ returns-clause-kept g c clean h legal pictured next =
     let still = due.0 in
     let put = c.in_ok-put_row.ensures.becomes clean2 still.office in
     let added : Becomes mid.now (with_kept (row_by_gone a.number None (a.day, d)) beside.due beside.holds (tables_of old.now)) = search (rules, put) in
-    on_ok_both c.add_files.result (kept_deposit h legal a.day d a.number beside.due beside.holds old.now mid.now new.now next (due.1 d refl refl) (holds.1 d refl) still added)
+    on_both c.add_files.result (kept_deposit h legal a.day d a.number beside.due beside.holds old.now mid.now new.now next (due.1 d refl refl) (holds.1 d refl) still added)
     (subst (λ fs. OnOk c.add_files.result (Becomes new.now (with_files (pos a.number) fs (tables_of mid.now)))) c.files.ensures.whole (c.add_files.ensures.becomes clean added.office))
     (c.add_files.ensures.once clean added.office (c.in_ok-put_row.ensures.once clean2 still.office still.once))
 
@@ -47,13 +46,23 @@ returns-clause-stays g c =
     let s0 = state g.S.Store c.args.tx.now.conn.now in
     let s1 = state g.S.Store c.beside_row.new.tx.conn.now in
     let s2 = state g.S.Store c.put_row.new.tx.conn.now in
-    stays_then s0 s2 (state g.S.Store c.add_files.new.tx.conn.now) (stays_then s0 s1 s2 c.beside_row.ensures.stays c.in_ok-beside.ensures.goes_on c.put_row.ensures.stays) (goes_twice s0 s1 s2 c.put_row.ensures.stays c.in_ok-beside.ensures.goes_on c.in_ok-put_row.ensures.goes_on) c.add_files.ensures.stays
+    stays_thrice s0 s1 s2 (state g.S.Store c.add_files.new.tx.conn.now) c.beside_row.ensures.stays c.in_ok-beside.ensures.goes_on c.put_row.ensures.stays c.in_ok-put_row.ensures.goes_on c.add_files.ensures.stays
 
 pub returns-clause-goes_on : goal.returns-clause-goes_on
 returns-clause-goes_on g c clean =
     let s0 = state g.S.Store c.args.tx.now.conn.now in
     let s1 = state g.S.Store c.beside_row.new.tx.conn.now in
     let s2 = state g.S.Store c.put_row.new.tx.conn.now in
-    let early : HasCleanDisk s2 = clean_before s2 (state g.S.Store c.add_files.new.tx.conn.now) c.add_files.ensures.stays clean in
-    let p : GoesOn s0 s2 = goes_twice s0 s1 s2 c.put_row.ensures.stays c.in_ok-beside.ensures.goes_on c.in_ok-put_row.ensures.goes_on early in
-    on_ok_weaker c.add_files.result (λ s. record { was_open = p.was_open; is_open = s.is_open p.is_open; inside = λ i. s.inside (p.inside i) }) (c.add_files.ensures.goes_on clean)
+    let s3 = state g.S.Store c.add_files.new.tx.conn.now in
+    let early : HasCleanDisk s2 = clean_before s2 s3 c.add_files.ensures.stays clean in
+    let before : GoesOn s0 s2 = goes_twice s0 s1 s2 c.put_row.ensures.stays c.in_ok-beside.ensures.goes_on c.in_ok-put_row.ensures.goes_on early in
+    on_ok_weaker c.add_files.result (goes_still s0 s2 s3 before) (c.add_files.ensures.goes_on clean)
+
+pub returns-clause-rows : goal.returns-clause-rows
+returns-clause-rows g c clean office =
+    let first = state g.S.Store c.beside_row.new.tx.conn.now in
+    let mid = state g.S.Store c.put_row.new.tx.conn.now in
+    let new = state g.S.Store c.add_files.new.tx.conn.now in
+    let early : HasCleanDisk first = clean_before first mid c.put_row.ensures.stays (clean_before mid new c.add_files.ensures.stays clean) in
+    let beside = c.in_ok-beside.ensures.rows early office in
+    on_ok_weaker c.add_files.result (λ _. (beside.0, beside.1)) (c.add_files.ensures.goes_on clean)

@@ -6,7 +6,7 @@ use Rattle.sqlite.specs.State.{HasCleanDisk}
 use Rattle.sqlite.specs.Held.{state}
 use Rattle.sql_meaning.proofs.Inside.{stays_then, goes_then}
 use Rattle.office_tables.specs.Deposits.{added_row}
-use Rattle.office_asking.proofs.InTurn.{clean_before, goes_twice, on_after}
+use Rattle.office_asking.proofs.InTurn.{clean_before, goes_twice, on_after, stays_thrice}
 use Rattle.office_keeping.proofs.DepositedTold.{row_put}
 use Rattle.office_keeping.proofs.keeping.put_row.Goals as goal
 
@@ -45,7 +45,7 @@ returns-clause-stays g c =
     let s0 = state g.S.Store c.args.tx.now.conn.now in
     let s1 = state g.S.Store c.put_deposit.new.tx.conn.now in
     let s2 = state g.S.Store c.set_due.new.tx.conn.now in
-    stays_then s0 s2 (state g.S.Store c.set_holds.new.tx.conn.now) (stays_then s0 s1 s2 c.put_deposit.ensures.stays c.in_ok-put_deposit.ensures.goes_on c.set_due.ensures.stays) (goes_twice s0 s1 s2 c.set_due.ensures.stays c.in_ok-put_deposit.ensures.goes_on c.in_ok-set_due.ensures.goes_on) c.set_holds.ensures.stays
+    stays_thrice s0 s1 s2 (state g.S.Store c.set_holds.new.tx.conn.now) c.put_deposit.ensures.stays c.in_ok-put_deposit.ensures.goes_on c.set_due.ensures.stays c.in_ok-set_due.ensures.goes_on c.set_holds.ensures.stays
 
 pub returns-clause-goes_on : goal.returns-clause-goes_on
 returns-clause-goes_on g c =

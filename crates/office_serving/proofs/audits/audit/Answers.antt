@@ -1,4 +1,4 @@
-use Rattle.std.proofs.Common.{rules, ◌≡◌, refl, ap, ◌∙◌, map}
+use Rattle.std.proofs.Common.{rules, ◌≡◌, refl, ap, ◌∙◌, map, Ok, Err}
 use Rattle.office_core.specs.declared.action.Action.TheVariants as acts
 use Rattle.office_core.specs.declared.answer.Answer.TheVariants as answers
 use Rattle.office_history.specs.Bags.{report_on}
@@ -29,4 +29,9 @@ returns-in-Err-clause-decides g c clean h legal pictured =
 pub returns-in_ok-audit_of-in-Ok-clause-audited : goal.returns-in_ok-audit_of-in-Ok-clause-audited
 returns-in_ok-audit_of-in-Ok-clause-audited g c clean office =
     let verdict : c.in_ok-audit_of-in-Ok.field-0 ≡ audit_of (map file_in c.in-Ok.rows.items) = search rules in
-    (refl, verdict ∙ ap (λ rs. audit_of (map file_in rs)) (rw c.in-Ok.is at c.in_ok-rows.ensures.stored clean office))
+    let asked = rw c.in-Ok.is at c.in_ok-rows.ensures.rows clean office in
+    let stored = rw c.in-Ok.is at c.in_ok-rows.ensures.stored clean office in
+    record { asked = Ok asked.0; is_asked = asked.1; answers = ap (answers.Audit c.args.number) (verdict ∙ ap (λ rs. audit_of (map file_in rs)) stored) }
+
+pub returns-in-Err-clause-audited : goal.returns-in-Err-clause-audited
+returns-in-Err-clause-audited g c clean office = record { asked = Err _; is_asked = rw c.in-Err.is at c.in_ok-rows.ensures.rows clean office; answers = refl }

@@ -2,7 +2,7 @@ use Rattle.std.proofs.Common.{ap, subst, ◌∙◌, sym, pos}
 use Rattle.sqlite.specs.Held.{state}
 use Rattle.office_tables.specs.Tables.{IsOffice, tables_of}
 use Rattle.office_tables.specs.Deposits.{files_by_path}
-use Rattle.office_asking.proofs.InTurn.{clean_before}
+use Rattle.office_asking.proofs.InTurn.{clean_before, same_twice}
 use Rattle.office_asking.proofs.Readings.{pictured_still}
 use Rattle.office_serving.proofs.FilesTold.{bag_read}
 use Rattle.office_serving.proofs.Told.{is_kept}
@@ -35,3 +35,15 @@ returns-in-Ok-clause-stored g c clean office =
     let new = state g.S.Store c.files_of.new.tx.conn.now in
     let same = c.in_ok-kept_deposit.ensures.same (clean_before mid new c.files_of.ensures.stays clean) office in
     c.in_ok-files_of-in-Ok.ensures.found clean (subst IsOffice (sym same) office) ∙ ap (λ db. files_by_path (pos c.args.number) (tables_of db)) same
+
+pub returns-in-Ok-clause-rows : goal.returns-in-Ok-clause-rows
+returns-in-Ok-clause-rows g c clean office =
+    let early = clean_before (state g.S.Store c.kept_deposit.new.tx.conn.now) (state g.S.Store c.files_of.new.tx.conn.now) c.files_of.ensures.stays clean in
+    (_, rw c.in-Ok.is at c.in_ok-kept_deposit.ensures.rows early office)
+
+pub returns-clause-rows : goal.returns-clause-rows
+returns-clause-rows g c clean office = rw c.in-Err.is at c.in_ok-kept_deposit.ensures.rows clean office
+
+pub returns-in-Ok-clause-same : goal.returns-in-Ok-clause-same
+returns-in-Ok-clause-same g c =
+    same_twice (state g.S.Store c.args.tx.now.conn.now) (state g.S.Store c.kept_deposit.new.tx.conn.now) (state g.S.Store c.files_of.new.tx.conn.now) c.files_of.ensures.stays c.in_ok-kept_deposit.ensures.same c.in_ok-files_of-in-Ok.ensures.same

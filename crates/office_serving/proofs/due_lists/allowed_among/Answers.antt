@@ -1,13 +1,19 @@
-use Rattle.std.proofs.Common.{arith, rules, ◌≡◌, pos, map, filter, take, get_or, ap, sym, ◌∙◌}
+use Rattle.std.proofs.Common.{arith, rules, ◌≡◌, ℕ, Option, Some, None, true, false, pos, length, map, filter, take, get_or, refl, ap, sym, subst, ◌∙◌, append-nil}
+use Rattle.std.specs.Prelude.{IfSome}
 use Rattle.std.proofs.lemmas.List.{take_all}
 use Rattle.sqlite.specs.State.{HasCleanDisk}
 use Rattle.sqlite.specs.Held.{state}
 use Rattle.sql_meaning.proofs.Inside.{stays_on}
 use Rattle.office_core.specs.declared.action.Action.TheVariants as acts
+use Rattle.office_core.specs.Retention.{IsDueNumber, due_number}
 use Rattle.office_rows.specs.Told.{PlaceRow}
+use Rattle.office_tables.specs.Tables.{tables_of}
+use Rattle.office_asking.proofs.RowsTold.{office_still, told_before}
 use Rattle.office_serving.specs.Listing.{may_destroy}
-use Rattle.office_asking.proofs.InTurn.{clean_before}
-use Rattle.office_serving.proofs.InTurn.{stands_on}
+use Rattle.office_serving.specs.ListsByRows.{AreIn, IsAllowedIn, IsPlaceToldIn, TellsIf}
+use Rattle.office_serving.proofs.ByRows.{tells_next, tells_all}
+use Rattle.office_asking.proofs.InTurn.{clean_before, stays_still}
+use Rattle.office_serving.proofs.InTurn.{stands_still, stands_on}
 use Rattle.office_serving.proofs.AllowedTold.{next_passes, next_fails}
 use Rattle.office_serving.proofs.due_lists.allowed_among.Goals.{then-allowed+in_ok-push, else-allowed}
 use Rattle.office_serving.proofs.due_lists.allowed_among.Goals as goal
@@ -37,7 +43,7 @@ loop-place-preserved g c =
             λ caller is.
                 let before = there.1 caller is in
                 let said = found.1 caller acts.Dispose before.0 in
-                let test : c.in_ok-allowed.allowed ≡ may_destroy h caller (get_or a.places.now i item) = said.1 ∙ (λ j. may_destroy h caller (record { number = item.number; collection = collection j; class = class j })) ∙ ap (may_destroy h caller) at in (
+                let test : c.in_ok-allowed.allowed ≡ may_destroy h caller (get_or a.places.now i item) = said.1 ∙ (λ j. may_destroy h caller (record { number = item.number; collection = collection j; class = class j; due = item.due })) ∙ ap (may_destroy h caller) at in (
                   said.0,
                   elim c.if-allowed.branch [
                     | then-allowed+in_ok-push w ↦ ap (λ v. map pos v.items) w.numbers-is ∙ ap (map pos) w.in_ok-push.ensures.items
@@ -47,6 +53,30 @@ loop-place-preserved g c =
                   ],
                 ),
           );
+      same = λ clean office.
+          let before = inv.same (early clean) office in
+          c.in_ok-allowed.ensures.same clean (office_still old.now now.now before office) ∙ before;
+      by_rows = λ clean office caller is.
+          let before = inv.same (early clean) office in
+          let known = inv.by_rows (early clean) office caller is in
+          let said = told_before old.now now.now before (λ t. AreIn t caller acts.Dispose c.loop-place.allowances → AreIn t caller acts.Dispose c.allows.new.self × IsAllowedIn t caller acts.Dispose c.deref.result.now c.deref-in-loop-place.result.now c.in_ok-allowed.allowed)
+          (c.in_ok-allowed.ensures.rows clean (office_still old.now now.now before office) caller acts.Dispose) known.0 in
+          let t = tables_of old.now in
+          let falls : due_number c.in_ok-due_numbered.field-0 ≡ item.due = search rules in
+          let ranged : IfSome item.due IsDueNumber = search rules in
+          let allowed : IsAllowedIn t caller acts.Dispose item.collection item.class c.in_ok-allowed.allowed =
+          subst (λ text. IsAllowedIn t caller acts.Dispose item.collection text c.in_ok-allowed.allowed) class (subst (λ text. IsAllowedIn t caller acts.Dispose text c.deref-in-loop-place.result.now c.in_ok-allowed.allowed) collection said.1) in
+          let told : (one : Option ℕ) → TellsIf c.in_ok-allowed.allowed (λ (n : ℕ). pos n ≡ item.number) one → IsPlaceToldIn t caller (get_or a.places.now i item) one =
+          λ one says. subst (λ p. IsPlaceToldIn t caller p one) at (record { due = c.in_ok-due_numbered.field-0; is = falls; is_due = ranged; allowed = c.in_ok-allowed.allowed; is_allowed = allowed; tells = says }) in
+          let before_it = c.loop-place.numbers.items in (
+            said.0,
+            elim c.if-allowed.branch [
+              | then-allowed+in_ok-push w ↦ tells_next (IsPlaceToldIn t caller) a.places.now i item c.loop-place-test.true before_it known.1 (Some c.place.inside.number)
+                  (told (Some c.place.inside.number) (subst (λ b. TellsIf b (λ (n : ℕ). pos n ≡ item.number) (Some c.place.inside.number)) (sym w.if-allowed.true) number)) _ (ap (λ v. v.items) w.numbers-is ∙ w.in_ok-push.ensures.items)
+              | else-allowed w ↦ tells_next (IsPlaceToldIn t caller) a.places.now i item c.loop-place-test.true before_it known.1 None
+                  (told None (subst (λ b. TellsIf b (λ (n : ℕ). pos n ≡ item.number) None) (sym w.if-allowed.false) tt)) _ (ap (λ v. v.items) w.numbers-is ∙ sym (append-nil before_it))
+            ],
+          );
     }
 
 pub returns-clause-allowed : goal.returns-clause-allowed
@@ -55,3 +85,23 @@ returns-clause-allowed g c clean h legal pictured =
     let there = c.loop-place.invariant.told clean h legal pictured in
     let finished : take c.loop-place.place-index a.places.now ≡ a.places.now = take_all c.loop-place.place-index a.places.now (omega (arith, c.loop-place-test.false)) in
     (there.0, λ caller is. (there.1 caller is).1 ∙ ap (λ ps. map (λ (p : PlaceRow). p.number) (filter (may_destroy h caller) ps)) finished)
+
+pub returns-clause-rows : goal.returns-clause-rows
+returns-clause-rows g c clean office caller is =
+    let a = c.args in
+    let t = tables_of (state g.S.Store a.tx.now.conn.now).now in
+    let finished : c.loop-place.place-index ≡ length a.places.now = omega (arith, c.loop-place-test.false, c.loop-place.auto.place-index-end) in
+    tells_all (IsPlaceToldIn t caller) a.places.now c.loop-place.place-index finished c.loop-place.numbers.items (c.loop-place.invariant.by_rows clean office caller is).1
+
+pub loop-place-init : goal.loop-place-init
+loop-place-init g c = record {
+  same_reference = refl;
+  stays = stays_still (state g.S.Store c.args.tx.now.conn.now);
+  goes_on = λ _. stands_still (state g.S.Store c.args.tx.now.conn.now);
+  told = λ clean h legal pictured. (pictured, λ caller is. (c.new-allowances.ensures.those h caller is, ap (map pos) c.new-numbers.ensures.items));
+  same = λ clean office. refl;
+  by_rows = λ clean office caller is. (c.new-allowances.ensures.rows (tables_of (state g.S.Store c.args.tx.now.conn.now).now) caller is, c.new-numbers.ensures.items);
+}
+
+pub returns-clause-same : goal.returns-clause-same
+returns-clause-same g c = c.loop-place.invariant.same

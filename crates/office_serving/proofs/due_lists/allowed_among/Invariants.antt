@@ -4,12 +4,15 @@ use Rattle.sqlite.specs.Held.{state}
 use Rattle.sql_meaning.specs.Inside.{Stays, Stands}
 use Rattle.office_core.specs.declared.action.Action.TheVariants as acts
 use Rattle.office_rows.specs.Told.{PlaceRow}
+use Rattle.office_tables.specs.Tables.{IsOffice, tables_of}
 use Rattle.office_history.specs.Histories.{History}
 use Rattle.office_history.specs.Runs.{IsLegal}
 use Rattle.office_asking.specs.Asking.{IsAsker}
+use Rattle.office_asking.specs.ByRows.{IsAskerIn}
 use Rattle.office_asking.specs.Pictures.{Pictures}
 use Rattle.office_serving.specs.Allowances.{AreOf}
 use Rattle.office_serving.specs.Listing.{may_destroy}
+use Rattle.office_serving.specs.ListsByRows.{AreAllowedIn, AreIn}
 use Rattle.office_serving.proofs.due_lists.allowed_among.Given as goal
 
 abbrev pub invariant-loop-place : goal.invariant-loop-place
@@ -23,4 +26,7 @@ invariant-loop-place g l =
       told : HasCleanDisk now → (h : History) → IsLegal h → Pictures h old.now → Pictures h now.now
           × ((caller : List ℕ) → IsAsker h caller l.asker → AreOf h caller acts.Dispose l.allowances
           × (map pos l.numbers.items ≡ map (λ (p : PlaceRow). p.number) (filter (may_destroy h caller) (take l.place-index l.places))));
+      same : HasCleanDisk now → IsOffice old.now → now.now ≡ old.now;
+      by_rows : HasCleanDisk now → IsOffice old.now → (caller : List ℕ) → IsAskerIn (tables_of old.now) caller l.asker
+          → AreIn (tables_of old.now) caller acts.Dispose l.allowances × AreAllowedIn (tables_of old.now) caller (take l.place-index l.places) l.numbers.items;
     }

@@ -1,14 +1,16 @@
-use Rattle.std.proofs.Common.{Result, Ok, Err, OnOk, IfOk, ap, sym, ◌∙◌, option_copied}
+use Rattle.std.proofs.Common.{Result, Ok, Err, List, ℕ, Bool, Option, None, OnOk, IfOk, ap, sym, ◌∙◌, pos, option_copied, option_map, if◌then◌else◌}
 use Rattle.std.specs.Str.{is_utf8}
-use Rattle.std.proofs.lemmas.Result.{on_ok_weaker}
+use Rattle.std.proofs.lemmas.Result.{IfOk-weaker, on_ok_weaker}
 use Rattle.sqlite.specs.Held.{state}
 use Rattle.sql_meaning.proofs.Inside.{stands_then}
 use Rattle.bag_text.specs.TransferForm.{content_at}
+use Rattle.office_rows.specs.Rows.{FileRow, file_at}
+use Rattle.office_tables.specs.Tables.{tables_of}
 use Rattle.office_asking.proofs.InTurn.{stays_still}
 use Rattle.office_asking.proofs.Readings.{pictured_still}
 use Rattle.office_serving.proofs.FilesTold.{content_read}
 use Rattle.office_serving.proofs.InTurn.{stands_still}
-use Rattle.office_serving.proofs.PathsTold.{spelled, unspelled, no_file_there}
+use Rattle.office_serving.proofs.PathsTold.{spelled, is_spelled, unspelled, no_file_there}
 use Rattle.office_serving.proofs.files.content_of.Goals as goal
 
 -- what is so of an Ok, and of its value
@@ -41,3 +43,21 @@ returns-in-Some-clause-goes_on g c clean =
 
 pub returns-in-None-clause-stays : goal.returns-in-None-clause-stays
 returns-in-None-clause-stays g c = stays_still (state g.S.Store c.args.tx.now.conn.now)
+
+pub returns-in-Some-clause-rows : goal.returns-in-Some-clause-rows
+returns-in-Some-clause-rows g c clean office =
+    let a = c.args in
+    let files = (tables_of (state g.S.Store a.tx.now.conn.now).now).files in
+    let stored : List ℕ → Option (List ℕ) = λ path. option_map (λ (f : FileRow). f.content) (file_at (pos a.number) path files) in
+    let text = c.in-Some.text in
+    let read = ap option_copied (sym c.in-Some.is) ∙ c.as_text.ensures in
+    let same = spelled (is_utf8 a.path.now) text.now a.path.now read in
+    let is_text = is_spelled (is_utf8 a.path.now) text.now a.path.now read in
+    IfOk-weaker c.file_of.result _ _ (λ content says. says ∙ ap stored same ∙ ap (λ (b : Bool). if b then stored a.path.now else None) (sym is_text)) (c.file_of.ensures.found clean office)
+
+pub returns-in-None-clause-rows : goal.returns-in-None-clause-rows
+returns-in-None-clause-rows g c clean office =
+    let a = c.args in
+    let files = (tables_of (state g.S.Store a.tx.now.conn.now).now).files in
+    let bad = unspelled (is_utf8 a.path.now) a.path.now (ap option_copied (sym c.in-None.is) ∙ c.as_text.ensures) in
+    ap (λ (b : Bool). if b then option_map (λ (f : FileRow). f.content) (file_at (pos a.number) a.path.now files) else None) (sym bad)

@@ -1,6 +1,11 @@
+use Rattle.std.proofs.Common.{ap, refl, ◌∙◌, Ok, Err}
 use Rattle.sqlite.specs.Held.{state}
 use Rattle.office_core.specs.declared.action.Action.TheVariants as acts
-use Rattle.office_asking.proofs.InTurn.{clean_before}
+use Rattle.office_tables.specs.Tables.{tables_of}
+use Rattle.office_history.specs.Answers.{file_answer}
+use Rattle.office_asking.proofs.InTurn.{clean_before, same_twice}
+use Rattle.office_asking.proofs.RowsTold.{office_still}
+use Rattle.office_serving.specs.FilesByRows.{content_stored}
 use Rattle.office_serving.proofs.Told.{is_kept, file_told, file_not_asked}
 use Rattle.office_serving.proofs.files.download_file.Goals as goal
 
@@ -18,3 +23,24 @@ pub returns-clause-decides : goal.returns-clause-decides
 returns-clause-decides g c clean h legal pictured =
     let asked = rw c.in-Err.is at c.in_ok-kept_deposit.ensures.asked clean h legal pictured in
     file_not_asked _ _ _ _ _ _ _ asked.1 asked.0
+
+pub returns-in-Ok-clause-rows : goal.returns-in-Ok-clause-rows
+returns-in-Ok-clause-rows g c clean office =
+    let a = c.args in
+    let old = state g.S.Store a.tx.now.conn.now in
+    let mid = state g.S.Store c.kept_deposit.new.tx.conn.now in
+    let early = clean_before mid (state g.S.Store c.content_of.new.tx.conn.now) c.content_of.ensures.stays clean in
+    let same = c.in_ok-kept_deposit.ensures.same early office in
+    let read = c.in_ok-content_of-in-Ok.ensures.rows clean (office_still old.now mid.now same office) in
+    record {
+      asked = Ok _;
+      is_asked = rw c.in-Ok.is at c.in_ok-kept_deposit.ensures.rows early office;
+      answers = c.file_answer.ensures ∙ ap file_answer (read ∙ ap (λ db. content_stored a.number a.path.now (tables_of db)) same);
+    }
+
+pub returns-clause-rows : goal.returns-clause-rows
+returns-clause-rows g c clean office = record { asked = Err _; is_asked = rw c.in-Err.is at c.in_ok-kept_deposit.ensures.rows clean office; answers = refl }
+
+pub returns-in-Ok-clause-same : goal.returns-in-Ok-clause-same
+returns-in-Ok-clause-same g c =
+    same_twice (state g.S.Store c.args.tx.now.conn.now) (state g.S.Store c.kept_deposit.new.tx.conn.now) (state g.S.Store c.content_of.new.tx.conn.now) c.content_of.ensures.stays c.in_ok-kept_deposit.ensures.same c.in_ok-content_of-in-Ok.ensures.same

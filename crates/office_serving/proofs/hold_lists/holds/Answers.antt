@@ -1,12 +1,15 @@
-use Rattle.std.proofs.Common.{rules, ◌≡◌, refl, ap, sym, ◌∙◌}
+use Rattle.std.proofs.Common.{rules, ◌≡◌, refl, ap, sym, subst, ◌∙◌, pos, Ok, Err}
 use Rattle.sqlite.specs.Held.{state}
 use Rattle.office_core.specs.declared.action.Action.TheVariants as acts
 use Rattle.office_core.specs.declared.answer.Answer.TheVariants as answers
-use Rattle.office_rows.specs.Rows.{DepositRow}
+use Rattle.office_rows.specs.Rows.{DepositRow, live_holds}
+use Rattle.office_tables.specs.Tables.{tables_of}
 use Rattle.office_history.specs.Answers.{told_holds}
 use Rattle.office_asking.proofs.Serving.{refused_serves}
+use Rattle.office_asking.proofs.RowsTold.{office_still, told_before}
+use Rattle.office_serving.specs.FilesByRows.{AreHoldsOf}
 use Rattle.office_serving.proofs.Told.{told_serves}
-use Rattle.office_asking.proofs.InTurn.{clean_before, goes_twice}
+use Rattle.office_asking.proofs.InTurn.{clean_before, goes_twice, same_twice}
 use Rattle.sql_meaning.proofs.Inside.{stays_then}
 use Rattle.office_serving.proofs.hold_lists.holds.Goals as goal
 
@@ -36,3 +39,28 @@ returns-in_ok-told_holds-in-Ok-clause-stays g c = stays_then (state g.S.Store c.
 
 pub returns-in_ok-told_holds-in-Ok-clause-goes_on : goal.returns-in_ok-told_holds-in-Ok-clause-goes_on
 returns-in_ok-told_holds-in-Ok-clause-goes_on g c = goes_twice (state g.S.Store c.args.tx.now.conn.now) (state g.S.Store c.kept_deposit.new.tx.conn.now) (state g.S.Store c.told_holds.new.tx.conn.now) c.told_holds.ensures.stays c.in_ok-row.ensures.goes_on c.in_ok-told_holds-in-Ok.ensures.goes_on
+
+pub returns-in_ok-told_holds-in-Ok-clause-rows : goal.returns-in_ok-told_holds-in-Ok-clause-rows
+returns-in_ok-told_holds-in-Ok-clause-rows g c clean office =
+    let a = c.args in
+    let old = state g.S.Store a.tx.now.conn.now in
+    let mid = state g.S.Store c.kept_deposit.new.tx.conn.now in
+    let early = clean_before mid (state g.S.Store c.told_holds.new.tx.conn.now) c.told_holds.ensures.stays clean in
+    let same = c.in_ok-row.ensures.same early office in
+    let row = c.in-Ok.row in
+    let told = c.in_ok-told_holds-in-Ok.field-0.items in
+    let collection : c.deref.result.now ≡ row.collection = search rules in
+    let given : c.of.result ≡ told = search rules in
+    let says = told_before old.now mid.now same (λ t. AreHoldsOf t (live_holds (pos a.number) c.deref.result.now t) told) (c.in_ok-told_holds-in-Ok.ensures.rows clean (office_still old.now mid.now same office)) in
+    record {
+      asked = Ok row;
+      is_asked = rw c.in-Ok.is at c.in_ok-row.ensures.rows early office;
+      answers = (told, subst (λ name. AreHoldsOf (tables_of old.now) (live_holds (pos a.number) name (tables_of old.now)) told) collection says, ap answers.Holds given);
+    }
+
+pub returns-in-Err-clause-rows : goal.returns-in-Err-clause-rows
+returns-in-Err-clause-rows g c clean office = record { asked = Err _; is_asked = rw c.in-Err.is at c.in_ok-row.ensures.rows clean office; answers = refl }
+
+pub returns-in_ok-told_holds-in-Ok-clause-same : goal.returns-in_ok-told_holds-in-Ok-clause-same
+returns-in_ok-told_holds-in-Ok-clause-same g c =
+    same_twice (state g.S.Store c.args.tx.now.conn.now) (state g.S.Store c.kept_deposit.new.tx.conn.now) (state g.S.Store c.told_holds.new.tx.conn.now) c.told_holds.ensures.stays c.in_ok-row.ensures.same c.in_ok-told_holds-in-Ok.ensures.same

@@ -1,9 +1,12 @@
-use Rattle.std.proofs.Common.{rules, ◌∙◌, refl}
+use Rattle.std.proofs.Common.{rules, ◌∙◌, refl, sym, ap, subst, []}
 use Rattle.sqlite.specs.State.{HasCleanDisk}
 use Rattle.sqlite.specs.Held.{state}
 use Rattle.sql_meaning.proofs.Inside.{stays_on, stands_then}
 use Rattle.office_history.specs.Answers.{told_hold}
-use Rattle.office_serving.proofs.HoldsTold.{next_told}
+use Rattle.office_tables.specs.Tables.{tables_of}
+use Rattle.office_asking.proofs.RowsTold.{office_still}
+use Rattle.office_serving.specs.FilesByRows.{AreHoldsOf}
+use Rattle.office_serving.proofs.HoldsTold.{next_told, next_by_row}
 use Rattle.office_asking.proofs.InTurn.{clean_before, stays_still}
 use Rattle.office_serving.proofs.InTurn.{stands_still}
 use Rattle.office_serving.proofs.hold_lists.told_each.Goals as goal
@@ -24,6 +27,14 @@ loop-number-preserved g c =
           let there = inv.told (early clean) h legal pictured in
           let found = c.in_ok-told_hold.ensures.told clean h legal there.0 in
           (found.0, c.in_ok-push.ensures.items ∙ next_told (told_hold h) a.numbers.now c.loop-number.number-index _ c.loop-number-test.true c.loop-number.told.items c.in_ok-told_hold.field-0 there.1 found.1);
+      same = λ clean office.
+          let same = inv.same (early clean) office in
+          c.in_ok-told_hold.ensures.same clean (office_still old.now now.now same office) ∙ same;
+      rows = λ clean office.
+          let same = inv.same (early clean) office in
+          let read = c.in_ok-told_hold.ensures.rows clean (office_still old.now now.now same office) in
+          let more = next_by_row (tables_of old.now) (tables_of now.now) (ap tables_of same) a.numbers.now c.loop-number.number-index _ c.loop-number-test.true c.loop-number.told.items c.in_ok-told_hold.field-0 (inv.rows (early clean) office) read in
+          subst (AreHoldsOf (tables_of old.now) _) (sym c.in_ok-push.ensures.items) more;
     }
 
 pub returns-in_err-told_hold-clause-stays : goal.returns-in_err-told_hold-clause-stays
@@ -38,4 +49,6 @@ loop-number-init g c = record {
   stays = stays_still (state g.S.Store c.args.tx.now.conn.now);
   goes_on = λ _. stands_still (state g.S.Store c.args.tx.now.conn.now);
   told = λ clean h legal pictured. (pictured, c.new-told.ensures.items);
+  same = λ _ _. refl;
+  rows = λ clean office. subst (AreHoldsOf _ []) (sym c.new-told.ensures.items) (record { one_each = refl; each = tt });
 }

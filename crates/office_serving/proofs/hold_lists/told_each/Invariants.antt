@@ -1,4 +1,4 @@
-use Rattle.std.proofs.Common.{◌≡◌, take}
+use Rattle.std.proofs.Common.{◌≡◌, map, pos, take}
 use Rattle.std.specs.List.{filter_map}
 use Rattle.sqlite.specs.State.{HasCleanDisk}
 use Rattle.sqlite.specs.Held.{state}
@@ -6,7 +6,9 @@ use Rattle.sql_meaning.specs.Inside.{Stays, Stands}
 use Rattle.office_history.specs.Histories.{History}
 use Rattle.office_history.specs.Answers.{told_hold}
 use Rattle.office_history.specs.Runs.{IsLegal}
+use Rattle.office_tables.specs.Tables.{IsOffice, tables_of}
 use Rattle.office_asking.specs.Pictures.{Pictures}
+use Rattle.office_serving.specs.FilesByRows.{AreHoldsOf}
 use Rattle.office_serving.proofs.hold_lists.told_each.Given as goal
 
 abbrev pub invariant-loop-number : goal.invariant-loop-number
@@ -18,4 +20,6 @@ invariant-loop-number g l =
       stays : Stays old now;
       goes_on : HasCleanDisk now → Stands old now;
       told : HasCleanDisk now → (h : History) → IsLegal h → Pictures h old.now → Pictures h now.now × (l.told.items ≡ filter_map (told_hold h) (take l.number-index l.numbers));
+      same : HasCleanDisk now → IsOffice old.now → now.now ≡ old.now;
+      rows : HasCleanDisk now → IsOffice old.now → AreHoldsOf (tables_of old.now) (map pos (take l.number-index l.numbers)) l.told.items;
     }

@@ -1,14 +1,19 @@
-use Rattle.std.proofs.Common.{rules, ◌≡◌, refl, ap, ◌∙◌, option_copied}
+use Rattle.std.proofs.Common.{rules, ◌≡◌, List, ℕ, refl, ap, subst, ◌∙◌, option_copied}
 use Rattle.sqlite.specs.State.{HasCleanDisk}
 use Rattle.sqlite.specs.Held.{state}
 use Rattle.office_core.specs.declared.answer.Answer.TheVariants as answers
 use Rattle.office_rows.specs.Rows.{beside}
 use Rattle.office_core.specs.declared.request.Request.TheVariants as requests
+use Rattle.office_tables.specs.Tables.{tables_of}
+use Rattle.office_asking.specs.ByRows.{IsAskerIn}
+use Rattle.office_asking.proofs.RowsTold.{office_still, told_before}
 use Rattle.office_asking.proofs.Readings.{in_picture, pictured_still}
 use Rattle.office_asking.proofs.Serving.{read_serves}
 use Rattle.sql_meaning.proofs.Inside.{stays_then}
 use Rattle.office_asking.proofs.InTurn.{clean_before, goes_twice}
 use Rattle.office_serving.proofs.InTurn.{goes_still, stays_thrice}
+use Rattle.office_serving.specs.ListsByRows.{AreListedIn}
+use Rattle.office_serving.proofs.ByRows.{same_thrice}
 use Rattle.office_serving.proofs.lists.list.Goals as goal
 
 pub returns-clause-decides : goal.returns-clause-decides
@@ -25,6 +30,34 @@ returns-clause-decides g c clean h legal pictured =
     let found = c.in_ok-told.ensures.listed clean h legal still in
     let given : c.of.result ≡ c.in_ok-told.told.items = search rules in
     read_serves h a.day a.caller.now (requests.List (option_copied a.collection) (option_copied a.class)) s3.now (answers.List c.of.result) refl (ap answers.List (given ∙ found.1 a.caller.now asked.1 rows_are)) refl found.0
+
+pub returns-clause-rows : goal.returns-clause-rows
+returns-clause-rows g c clean office =
+    let a = c.args in
+    let s0 = state g.S.Store a.tx.now.conn.now in
+    let s1 = state g.S.Store c.read.new.tx.conn.now in
+    let s2 = state g.S.Store c.deposits_and_dues.new.tx.conn.now in
+    let s3 = state g.S.Store c.shown_among.new.tx.conn.now in
+    let collection = option_copied a.collection in
+    let class = option_copied a.class in
+    let clean2 : HasCleanDisk s2 = clean_before s2 s3 c.shown_among.ensures.stays clean in
+    let clean1 : HasCleanDisk s1 = clean_before s1 s2 c.deposits_and_dues.ensures.stays clean2 in
+    let first = c.in_ok-asker.ensures.same clean1 office in
+    let still = office_still s0.now s1.now first office in
+    let same : s2.now ≡ s0.now = c.in_ok-rows.ensures.same clean2 still ∙ first in
+    let rows_are = c.deref.ensures.value ∙ c.in_ok-rows.ensures.found clean2 still ∙ ap (λ db. beside (tables_of db).deposits (tables_of db).dues) first in
+    let found = told_before s0.now s2.now same (λ t. (caller : List ℕ) → IsAskerIn t caller c.in_ok-asker.asker → AreListedIn t caller collection class c.deref.result.now c.in_ok-told.told.items)
+    (c.in_ok-told.ensures.rows clean (office_still s0.now s2.now same office)) a.caller.now (c.in_ok-asker.ensures.rows clean1 office) in
+    let given : c.of.result ≡ c.in_ok-told.told.items = search rules in
+    (c.in_ok-told.told.items, subst (λ rows. AreListedIn (tables_of s0.now) a.caller.now collection class rows c.in_ok-told.told.items) rows_are found, ap answers.List given)
+
+pub returns-clause-same : goal.returns-clause-same
+returns-clause-same g c =
+    let s0 = state g.S.Store c.args.tx.now.conn.now in
+    let s1 = state g.S.Store c.read.new.tx.conn.now in
+    let s2 = state g.S.Store c.deposits_and_dues.new.tx.conn.now in
+    let s3 = state g.S.Store c.shown_among.new.tx.conn.now in
+    same_thrice s0 s1 s2 s3 c.deposits_and_dues.ensures.stays c.shown_among.ensures.stays c.in_ok-asker.ensures.same c.in_ok-rows.ensures.same c.in_ok-told.ensures.same
 
 pub returns-in_err-rows-clause-stays : goal.returns-in_err-rows-clause-stays
 returns-in_err-rows-clause-stays g c = stays_then (state g.S.Store c.args.tx.now.conn.now) (state g.S.Store c.read.new.tx.conn.now) (state g.S.Store c.deposits_and_dues.new.tx.conn.now) c.read.ensures.stays c.in_ok-asker.ensures.goes_on c.deposits_and_dues.ensures.stays

@@ -1,10 +1,15 @@
-use Rattle.std.proofs.Common.{arith, rules, ◌≡◌, length, get_or, ap, ◌∙◌, option_copied, refl}
-use Rattle.std.specs.List.{filter_map}
+use Rattle.std.proofs.Common.{arith, rules, ◌≡◌, ◌++◌, [], List, length, get_or, ap, sym, subst, ◌∙◌, append-nil, option_copied, refl}
+use Rattle.std.specs.List.{cons_option, filter_map}
 use Rattle.sqlite.specs.State.{HasCleanDisk}
 use Rattle.sqlite.specs.Held.{state}
 use Rattle.sql_meaning.proofs.Inside.{stays_on}
+use Rattle.office_core.specs.declared.action.Action.TheVariants as acts
+use Rattle.office_tables.specs.Tables.{tables_of}
 use Rattle.office_history.specs.Lists.{numbers}
+use Rattle.office_asking.proofs.RowsTold.{office_still, told_before}
 use Rattle.office_serving.specs.Listing.{shown_record}
+use Rattle.office_serving.specs.ListsByRows.{AreIn, IsToldIn}
+use Rattle.office_serving.proofs.ByRows.{tells_next, tells_all}
 use Rattle.office_serving.proofs.ShownTold.{shown_next, shown_of_rows}
 use Rattle.office_serving.proofs.lists.shown_among.Goals.{in-Some+in_ok-push, in_default}
 use Rattle.office_asking.proofs.InTurn.{clean_before, stays_still}
@@ -41,6 +46,21 @@ loop-row-preserved g c =
                   ],
                 ),
           );
+      same = λ clean office.
+          let before = inv.same (early clean) office in
+          c.in_ok-record.ensures.same clean (office_still old.now now.now before office) ∙ before;
+      by_rows = λ clean office caller is.
+          let before = inv.same (early clean) office in
+          let known = inv.by_rows (early clean) office caller is in
+          let said = told_before old.now now.now before (λ t. AreIn t caller acts.List c.loop-row.allowances → AreIn t caller acts.List c.shown_record.new.allowances × IsToldIn t caller (option_copied a.collection) (option_copied a.class) row c.in_ok-record.field-0)
+          (c.in_ok-record.ensures.rows clean (office_still old.now now.now before office) caller) known.0 in
+          let told = IsToldIn (tables_of old.now) caller (option_copied a.collection) (option_copied a.class) in (
+            said.0,
+            tells_next told a.rows.now place row c.loop-row-test.true c.loop-row.told.items known.1 c.in_ok-record.field-0 (subst (λ r. told r c.in_ok-record.field-0) item said.1) _ (elim c.match-branch-2.branch [
+              | in-Some+in_ok-push w ↦ ap (λ v. v.items) w.told-is ∙ w.in_ok-push.ensures.items ∙ ap (λ o. c.loop-row.told.items ++ cons_option o []) (sym w.in-Some.is)
+              | in_default w ↦ ap (λ v. v.items) w.told-is ∙ sym (append-nil c.loop-row.told.items) ∙ ap (λ o. c.loop-row.told.items ++ cons_option o []) (sym w.in_default.is)
+            ]),
+          );
     }
 
 pub returns-clause-listed : goal.returns-clause-listed
@@ -53,6 +73,13 @@ returns-clause-listed g c clean h legal pictured =
           ((there.1 caller is rows_are).1 ∙ ap (λ k. filter_map (shown_record h caller (option_copied a.collection) (option_copied a.class)) (numbers k)) finished),
     )
 
+pub returns-clause-rows : goal.returns-clause-rows
+returns-clause-rows g c clean office caller is =
+    let a = c.args in
+    let t = tables_of (state g.S.Store a.tx.now.conn.now).now in
+    let finished : c.loop-row.row-index ≡ length a.rows.now = omega (arith, c.loop-row-test.false, c.loop-row.auto.row-index-end) in
+    tells_all (IsToldIn t caller (option_copied a.collection) (option_copied a.class)) a.rows.now c.loop-row.row-index finished c.loop-row.told.items (c.loop-row.invariant.by_rows clean office caller is).1
+
 pub returns-in_err-record-clause-stays : goal.returns-in_err-record-clause-stays
 returns-in_err-record-clause-stays g c = stays_on (state g.S.Store c.args.tx.now.conn.now) (state g.S.Store c.loop-row.tx.conn.now) (state g.S.Store c.shown_record.new.tx.conn.now) c.loop-row.invariant.stays c.loop-row.invariant.goes_on c.shown_record.ensures.stays
 
@@ -64,5 +91,10 @@ loop-row-init g c = record {
   same_reference = refl;
   stays = stays_still (state g.S.Store c.args.tx.now.conn.now);
   goes_on = λ _. stands_still (state g.S.Store c.args.tx.now.conn.now);
-  told = λ clean h legal pictured. (pictured, λ caller is rows_are. (c.new-allowances.ensures h caller is, c.new-told.ensures.items));
+  told = λ clean h legal pictured. (pictured, λ caller is rows_are. (c.new-allowances.ensures.those h caller is, c.new-told.ensures.items));
+  same = λ clean office. refl;
+  by_rows = λ clean office caller is. (c.new-allowances.ensures.rows (tables_of (state g.S.Store c.args.tx.now.conn.now).now) caller is, c.new-told.ensures.items);
 }
+
+pub returns-clause-same : goal.returns-clause-same
+returns-clause-same g c = c.loop-row.invariant.same

@@ -1,11 +1,16 @@
-use Rattle.std.proofs.Common.{refl, ap}
+use Rattle.std.proofs.Common.{ℕ, Ok, Err, pos, refl, ap, sym, ◌≡◌}
 use Rattle.sqlite.specs.Held.{state}
 use Rattle.office_core.specs.declared.action.Action.TheVariants as acts
 use Rattle.office_core.specs.declared.answer.Answer.TheVariants as answers
+use Rattle.office_tables.specs.Tables.{tables_of}
 use Rattle.office_history.specs.Answers.{record_of}
+use Rattle.office_asking.specs.ByRows.{IsAskedIn}
+use Rattle.office_asking.proofs.RowsTold.{office_still, told_before}
 use Rattle.office_asking.proofs.Serving.{refused_serves}
+use Rattle.office_serving.specs.ListsByRows.{IsRecordBy}
+use Rattle.office_serving.proofs.ByRows.{found_number}
 use Rattle.office_serving.proofs.Told.{told_serves}
-use Rattle.office_asking.proofs.InTurn.{clean_before, goes_twice}
+use Rattle.office_asking.proofs.InTurn.{clean_before, goes_twice, same_twice}
 use Rattle.sql_meaning.proofs.Inside.{stays_then}
 use Rattle.office_serving.proofs.records.record.Goals as goal
 
@@ -32,3 +37,25 @@ returns-in_ok-record_of-in-Ok-clause-stays g c = stays_then (state g.S.Store c.a
 
 pub returns-in_ok-record_of-in-Ok-clause-goes_on : goal.returns-in_ok-record_of-in-Ok-clause-goes_on
 returns-in_ok-record_of-in-Ok-clause-goes_on g c = goes_twice (state g.S.Store c.args.tx.now.conn.now) (state g.S.Store c.kept_deposit.new.tx.conn.now) (state g.S.Store c.record_of.new.tx.conn.now) c.record_of.ensures.stays c.in_ok-row.ensures.goes_on c.in_ok-record_of-in-Ok.ensures.goes_on
+
+pub returns-in_ok-record_of-in-Ok-clause-rows : goal.returns-in_ok-record_of-in-Ok-clause-rows
+returns-in_ok-record_of-in-Ok-clause-rows g c clean office =
+    let a = c.args in
+    let old = state g.S.Store a.tx.now.conn.now in
+    let mid = state g.S.Store c.kept_deposit.new.tx.conn.now in
+    let new = state g.S.Store c.record_of.new.tx.conn.now in
+    let early = clean_before mid new c.record_of.ensures.stays clean in
+    let asked : IsAskedIn (tables_of old.now) a.caller.now acts.Record a.number (Ok c.in-Ok.row) = rw c.in-Ok.is at c.in_ok-row.ensures.rows early office in
+    let same = c.in_ok-row.ensures.same early office in
+    let told = told_before old.now mid.now same (λ t. (n : ℕ) → pos n ≡ c.in-Ok.row.number → IsRecordBy t n c.in-Ok.row c.in_ok-record_of-in-Ok.field-0) (c.in_ok-record_of-in-Ok.ensures.rows clean (office_still old.now mid.now same office)) in
+    let number = sym (found_number (pos a.number) (tables_of old.now).deposits c.in-Ok.row asked.0) in
+    record { asked = Ok c.in-Ok.row; is_asked = asked; tells = (c.in_ok-record_of-in-Ok.field-0, told a.number number, refl) }
+
+pub returns-in-Err-clause-rows : goal.returns-in-Err-clause-rows
+returns-in-Err-clause-rows g c clean office =
+    let asked : IsAskedIn (tables_of (state g.S.Store c.args.tx.now.conn.now).now) c.args.caller.now acts.Record c.args.number (Err c.in-Err.why) = rw c.in-Err.is at c.in_ok-row.ensures.rows clean office in
+    record { asked = Err c.in-Err.why; is_asked = asked; tells = refl }
+
+pub returns-in_ok-record_of-in-Ok-clause-same : goal.returns-in_ok-record_of-in-Ok-clause-same
+returns-in_ok-record_of-in-Ok-clause-same g c =
+    same_twice (state g.S.Store c.args.tx.now.conn.now) (state g.S.Store c.kept_deposit.new.tx.conn.now) (state g.S.Store c.record_of.new.tx.conn.now) c.record_of.ensures.stays c.in_ok-row.ensures.same c.in_ok-record_of-in-Ok.ensures.same

@@ -1,6 +1,9 @@
-use Rattle.std.proofs.Common.{rules, ◌≡◌, pos, ap, ◌∙◌}
+use Rattle.std.proofs.Common.{rules, ◌≡◌, pos, ap, sym, ◌∙◌}
 use Rattle.std.proofs.lemmas.Result.{IfOk-weaker}
-use Rattle.office_rows.specs.Rows.{DepositRow}
+use Rattle.sqlite.specs.Held.{state}
+use Rattle.sql_meaning.proofs.Results.{on_ok}
+use Rattle.office_rows.specs.Rows.{DepositRow, due_numbered}
+use Rattle.office_tables.specs.Tables.{tables_of}
 use Rattle.office_history.specs.Histories.{deposit_numbered}
 use Rattle.office_history.specs.Pictures.{due_row}
 use Rattle.office_asking.proofs.NumberedRows.{same_count}
@@ -19,3 +22,13 @@ returns-clause-told g c clean h legal pictured =
           record_is h n found row is c.in_ok-kept.kept (kept.1 found (ap (deposit_numbered h) same ∙ there) ∙ ap (λ m. due_row h m found) same) told says,
     ))
     c.record_in.ensures.told
+
+pub returns-clause-rows : goal.returns-clause-rows
+returns-clause-rows g c clean office =
+    let t = tables_of (state g.S.Store c.args.tx.now.conn.now).now in
+    let number : pos c.row.inside.number ≡ c.args.row.now.number = search rules in
+    let kept = c.in_ok-kept.ensures.rows clean office in
+    IfOk-weaker c.record_in.result _ _ (λ told says n is. record { kept = c.in_ok-kept.kept; there = kept ∙ ap (λ m. due_numbered m t.dues) (number ∙ sym is); is = says }) c.record_in.ensures.told
+
+pub returns-clause-same : goal.returns-clause-same
+returns-clause-same g c clean office = on_ok c.record_in.result (λ _ _. c.in_ok-kept.ensures.same clean office) c.record_in.ensures.told

@@ -1,6 +1,8 @@
 use Rattle.std.proofs.Common.{option_copied, rules}
 use Rattle.sqlite.specs.Held.{state}
 use Rattle.office_asking.proofs.Readings.{pictured_still, none_found, rule_found}
+use Rattle.office_tables.specs.Tables.{tables_of}
+use Rattle.office_asking.proofs.RowsTold.{decided_by_row, none_by_row}
 use Rattle.office_asking.proofs.asker.Asker.decision.Goals as goal
 
 pub returns-in_ok-decision_in-in-Some-clause-decided : goal.returns-in_ok-decision_in-in-Some-clause-decided
@@ -22,3 +24,17 @@ returns-in-None-clause-decided g c clean h legal pictured =
       pictured_still h old.now pictured new.now (c.in_ok-found.ensures.same clean pictured.office),
       λ caller is. none_found h old.now legal pictured caller a.self.now is a.action (option_copied a.collection) (option_copied a.class) (search (rules, found)),
     )
+
+pub returns-in_ok-decision_in-in-Some-clause-rows : goal.returns-in_ok-decision_in-in-Some-clause-rows
+returns-in_ok-decision_in-in-Some-clause-rows g c clean office caller is =
+    let a = c.args in
+    let old = state g.S.Store a.tx.now.conn.now in
+    let found = c.in_ok-found.ensures.found clean office in
+    decided_by_row (tables_of old.now) caller a.self.now is a.action (option_copied a.collection) (option_copied a.class) c.in-Some.row (search (rules, found)) c.in_ok-decision_in-in-Some.field-0 (search rules)
+
+pub returns-in-None-clause-rows : goal.returns-in-None-clause-rows
+returns-in-None-clause-rows g c clean office caller is =
+    let a = c.args in
+    let old = state g.S.Store a.tx.now.conn.now in
+    let found = c.in_ok-found.ensures.found clean office in
+    none_by_row (tables_of old.now) caller a.self.now is a.action (option_copied a.collection) (option_copied a.class) (search (rules, found))

@@ -16,11 +16,12 @@ loop-item-preserved g c = record {
       let turn : IsTurn (state g.S.Store c.loop-item.self) (state g.S.Store c.step.new.self) c.item-item.result c.step.result = record {
         served = c.step.ensures.served clean;
         kept = c.step.ensures.kept clean;
-        audited = c.step.ensures.audited clean;
+        rows = c.step.ensures.rows clean;
         shut = c.step.ensures.shut clean;
         survives = c.step.ensures.survives;
         durable = c.step.ensures.durable clean;
         leaves = c.step.ensures.leaves clean;
+        made = c.step.ensures.made clean;
       } in
       rw c.push_reserved.ensures.items (turns_next g.S.Store c.args.self.now c.loop-item.self c.step.new.self c.args.items.now c.loop-item.item-index c.item-item.result c.loop-item.answers.items c.step.result
       c.loop-item-test.true c.item-item.is (c.loop-item.invariant.in_turn early) turn);

@@ -13,9 +13,10 @@ returns g c =
     record {
       served = λ clean. (turn clean).served;
       kept = λ clean. (turn clean).kept;
-      audited = λ clean. (turn clean).audited;
+      rows = λ clean. (turn clean).rows;
       shut = λ clean. (turn clean).shut;
       survives = subst (λ x. Survives (state g.S.Store x) new (CommitsTo (state g.S.Store x) (after_item item))) c.self.view_is c.serve.ensures.survives;
       durable = λ clean. (turn clean).durable;
       leaves = λ clean. (turn clean).leaves;
+      made = λ clean. (turn clean).made;
     }

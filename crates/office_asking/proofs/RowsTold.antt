@@ -1,0 +1,72 @@
+-- What the rows tell by the calls that read them, whichever rows they are.
+use Rattle.std.proofs.Common.{◌≡◌, ℕ, ℤ, pos, List, [], ◌∷◌, map, slice_get, Option, Some, None, IfOk, IfErr, Result, Ok, Err, option_map, string_bytes, sym, ap, subst, ◌∙◌, refl}
+use Rattle.std.proofs.lemmas.Option.{same_Some}
+use Rattle.std.specs.Option.{ok_or}
+use Rattle.sqlite.specs.Effect.{Database}
+use Rattle.office_core.specs.Actions.{action_text}
+use Rattle.office_core.specs.Policies.{or_stranger}
+use Rattle.office_core.specs.declared.action.Action.{Action}
+use Rattle.office_core.specs.declared.rule.Decision.{Decision}
+use Rattle.office_core.specs.declared.refusal.Refusal.{Refusal}
+use Rattle.office_core.specs.declared.refusal.Refusal.TheVariants.{NoSuch}
+use Rattle.office_core.specs.declared.refusal.Subject.TheVariants as subjects
+use Rattle.office_rows.specs.Matching.{matching_rule}
+use Rattle.office_rows.specs.Rows.{DepositRow, RuleRow, Tables, deposit_numbered}
+use Rattle.office_tables.specs.Tables.{IsOffice, tables_of}
+use Rattle.office_tables.specs.declared.fault.TableFault.{TableFault}
+use Rattle.office_asking.specs.Asking.{IsDecisionOf, or_empty}
+use Rattle.office_asking.specs.ByRows.{IsAskedIn, IsAskerIn, IsDecisionBy, IsDenialIn, IsFirst, IsRefusalOf, deciding_row}
+use Rattle.office_asking.specs.declared.asker.Asker.{Asker}
+
+-- a call that changes no row leaves an office, and what is told of the rows after it is told of those before it
+module _ (old mid : Database) (same : mid ≡ old) where
+  pub office_still : IsOffice old → IsOffice mid
+  office_still = subst IsOffice (sym same)
+
+  pub told_before : (is_so : Tables → Type 0) → is_so (tables_of mid) → is_so (tables_of old)
+  told_before is_so = subst (λ (db : Database). is_so (tables_of db)) same
+
+-- what has to be there is what is found
+pub there_is : {T E : Type 0} (found : Option T) (fault : E) (x : T) → Ok x ≡ ok_or found fault → Some x ≡ found
+there_is None fault x e = absurd cc
+there_is (Some y) fault x e = cc
+
+-- what is so of all that may be found is so of what has to be there
+pub there_told : {T E : Type 0} {is_so : T → Type 0} (found : Option T) (fault : E) (result : Result T E) → result ≡ ok_or found fault → ((x : T) → Some x ≡ found → is_so x) → IfOk result is_so
+there_told {is_so = is_so} None fault result is so = subst (λ r. IfOk r is_so) (sym is) tt
+there_told {is_so = is_so} (Some x) fault result is so = subst (λ r. IfOk r is_so) (sym is) (so x refl)
+
+-- what is told of something that is found is told of it
+pub mapped : {A B : Type 0} (tell : A → B) (found : Option A) (told : B) → Some told ≡ option_map tell found → (x : A) × (found ≡ Some x) × (told ≡ tell x)
+mapped tell None told e = absurd cc
+mapped tell (Some x) told e = (x, refl, same_Some _ _ e)
+
+-- the rule that is found for the role that the rows give the caller is the one that decides
+module _ (t : Tables) (caller : List ℕ) (asker : Asker) (is : IsAskerIn t caller asker) (action : Action) (collection class : Option (List ℕ)) where
+  abbrev found_for : List ℕ → Option RuleRow
+  found_for role = matching_rule role (action_text action) (or_empty collection) (or_empty class) t.rules
+
+  pub none_by_row : None ≡ found_for (or_stranger (option_map string_bytes asker.role)) → IsDecisionBy (deciding_row t caller action collection class) None
+  none_by_row none = subst (λ o. IsDecisionBy o None) (none ∙ ap found_for is) tt
+
+  pub decided_by_row : (row : RuleRow) → Some row ≡ found_for (or_stranger (option_map string_bytes asker.role)) → (decision : Decision) → IsDecisionOf row decision → IsDecisionBy (deciding_row t caller action collection class) (Some decision)
+  decided_by_row row there decision says = subst (λ o. IsDecisionBy o (Some decision)) (there ∙ ap found_for is) says
+
+-- the first of some numbers is the first of what they are
+pub first_of : (k : ℕ) (numbers : List ℕ) (live : List ℤ) → map pos numbers ≡ live → Some k ≡ slice_get numbers 0 → (others : List ℤ) × (live ≡ pos k ∷ others)
+first_of k [] live are first = absurd cc
+first_of k (m ∷ numbers) live are first = (map pos numbers, sym are ∙ ap (λ x. pos x ∷ map pos numbers) (same_Some _ _ (sym first)))
+
+-- a deposit that is asked for
+module _ (t : Tables) (caller : List ℕ) (action : Action) (n : ℕ) where
+  pub none_asked : None ≡ deposit_numbered (pos n) t.deposits → IsAskedIn t caller action n (Err (NoSuch subjects.Deposit))
+  none_asked none = subst (λ o. IsRefusalOf t caller action o (NoSuch subjects.Deposit)) none refl
+
+  pub row_asked : (row : DepositRow) → Some row ≡ deposit_numbered (pos n) t.deposits → (denied : Option Refusal) → IsDenialIn t caller action (Some row.collection) (Some row.class) denied
+      → (asked : Result (Result DepositRow Refusal) TableFault) → IfOk asked (λ found. IfOk found (λ r. (r ≡ row) × IsFirst denied row None)) → IfOk asked (λ found. IfErr found (λ why. IsFirst denied row (Some why)))
+      → IfOk asked (IsAskedIn t caller action n)
+  row_asked row there denied denial (Ok (Ok r)) kept refused =
+      subst (λ (x : DepositRow). IsAskedIn t caller action n (Ok x)) (sym kept.0) (there, record { denied = denied; denial = denial; first = kept.1 })
+  row_asked row there denied denial (Ok (Err why)) kept refused =
+      subst (λ o. IsRefusalOf t caller action o why) there (record { denied = denied; denial = denial; first = refused })
+  row_asked row there denied denial (Err fault) kept refused = tt

@@ -1,0 +1,133 @@
+-- What the rows of an office tell, whichever rows they are. A row that no accepted change writes tells nothing, and no answer but a
+-- failure rests on what isn't told.
+use Rattle.std.specs.Prelude.{◌≡◌, ⊤, ℕ, ℤ, pos, ◌≤ℤ◌, List, ◌∷◌, Option, Some, None, IfSome, option_map, string_bytes, Result, Ok, Err}
+use Rattle.jiff.specs.Types.{Date}
+use Rattle.jiff.specs.Words.{epoch_day, IsBetween}
+use Rattle.office_core.specs.Actions.{action_text}
+use Rattle.office_core.specs.Policies.{or_stranger}
+use Rattle.office_core.specs.Requests.{IsYears}
+use Rattle.office_core.specs.Days.{IsDayNumber}
+use Rattle.office_core.specs.Retention.{IsDueNumber, due_number}
+use Rattle.office_core.specs.RetentionReading.{due_of}
+use Rattle.office_core.specs.Verdicts.{denial_verdict}
+use Rattle.office_core.specs.declared.action.Action.{Action}
+use Rattle.office_core.specs.declared.action.Action.TheVariants as acts
+use Rattle.office_core.specs.declared.answer.LiveHold.{LiveHold}
+use Rattle.office_core.specs.declared.facts.Facts.{Facts}
+use Rattle.office_core.specs.declared.retention.Due.{Due}
+use Rattle.office_core.specs.declared.refusal.Refusal.{Refusal}
+use Rattle.office_core.specs.declared.refusal.Refusal.TheVariants.{NoSuch, Gone}
+use Rattle.office_core.specs.declared.refusal.Subject.TheVariants as subjects
+use Rattle.office_core.specs.declared.rule.Decision.{Decision}
+use Rattle.office_rows.specs.Rows.{CallerRow, ClassRow, DepositRow, DueRow, HoldRow, Limits, RuleRow, Tables, caller_named, class_named, deposit_numbered, due_numbered, hold_numbered, limits_of, live_holds}
+use Rattle.office_rows.specs.Matching.{matching_rule}
+use Rattle.office_history.specs.Pictures.{years_number}
+use Rattle.office_history.specs.Refusals.{refusal_in}
+use Rattle.office_asking.specs.Asking.{IsDecisionOf, or_empty}
+use Rattle.office_asking.specs.Holds.{IsHoldOf}
+use Rattle.office_asking.specs.declared.asker.Asker.{Asker}
+use Rattle.office_asking.specs.declared.deposits.DepositDays.{DepositDays}
+
+-- ---- the rules
+
+-- the role that the rows give a caller
+abbrev pub role_in : Tables → List ℕ → List ℕ
+role_in t caller = or_stranger (option_map (λ (c : CallerRow). c.role) (caller_named caller t.callers))
+
+-- the role is that one
+abbrev pub IsAskerIn : Tables → List ℕ → Asker → Type 0
+IsAskerIn t caller asker = or_stranger (option_map string_bytes asker.role) ≡ role_in t caller
+
+-- the row of the rule that decides, if one matches
+abbrev pub deciding_row : Tables → List ℕ → Action → Option (List ℕ) → Option (List ℕ) → Option RuleRow
+deciding_row t caller action collection class = matching_rule (role_in t caller) (action_text action) (or_empty collection) (or_empty class) t.rules
+
+-- the decision is what the row of its rule says, and there is none where there is no row
+abbrev pub IsDecisionBy : Option RuleRow → Option Decision → Type 0
+IsDecisionBy None None = ⊤
+IsDecisionBy (Some row) (Some decision) = IsDecisionOf row decision
+IsDecisionBy _ _ = ⊥
+
+-- the refusal, if any, that the rule comes to which decides
+pub record IsDenialIn (t : Tables) (caller : List ℕ) (action : Action) (collection class : Option (List ℕ)) (why : Option Refusal) : Type 0 where
+  pub decision : Option Decision
+  pub decided : IsDecisionBy (deciding_row t caller action collection class) decision
+  pub comes_to : why ≡ refusal_in (denial_verdict decision)
+
+-- ---- a deposit that is asked for
+
+-- the days of its row, each of which is a day of the office; its records were closed by the day of the deposit
+pub record AreDaysOf (row : DepositRow) (days : DepositDays) : Type 0 where
+  pub closed : epoch_day days.closed ≡ row.closed
+  pub deposited : epoch_day days.deposited ≡ row.deposited
+  pub in_turn : row.closed ≤ℤ row.deposited
+  pub gone : option_map epoch_day days.gone ≡ row.gone
+  pub are_days : IsDayNumber row.closed × IsDayNumber row.deposited × IfSome row.gone IsDayNumber
+
+-- the refusal by the rules, and else that the deposit was destroyed: its days are told where the rules allow
+abbrev pub IsFirst : Option Refusal → DepositRow → Option Refusal → Type 0
+IsFirst (Some denied) row why = why ≡ Some denied
+IsFirst None row why = (days : DepositDays) × AreDaysOf row days × (why ≡ option_map Gone days.gone)
+
+-- what stands first against this, of the deposit with that row
+pub record IsRefusalIn (t : Tables) (caller : List ℕ) (action : Action) (row : DepositRow) (why : Option Refusal) : Type 0 where
+  pub denied : Option Refusal
+  pub denial : IsDenialIn t caller action (Some row.collection) (Some row.class) denied
+  pub first : IsFirst denied row why
+
+-- the same of a deposit that may not be there
+abbrev pub IsRefusalOf : Tables → List ℕ → Action → Option DepositRow → Refusal → Type 0
+IsRefusalOf t caller action None why = why ≡ NoSuch subjects.Deposit
+IsRefusalOf t caller action (Some row) why = IsRefusalIn t caller action row (Some why)
+
+-- the row of the deposit of that number, or what stands first against this
+abbrev pub IsAskedIn : Tables → List ℕ → Action → ℕ → Result DepositRow Refusal → Type 0
+IsAskedIn t caller action n (Ok row) = (Some row ≡ deposit_numbered (pos n) t.deposits) × IsRefusalIn t caller action row None
+IsAskedIn t caller action n (Err why) = IsRefusalOf t caller action (deposit_numbered (pos n) t.deposits) why
+
+-- ---- what stands against its destruction
+
+-- the due day by the years of the class, which are years
+pub record IsDueIn (t : Tables) (class : List ℕ) (closed : Date) (due : Due) : Type 0 where
+  pub row : ClassRow
+  pub there : class_named class t.classes ≡ Some row
+  pub years : Option ℕ
+  pub are_years : IsYears years × (years_number years ≡ row.years)
+  pub is : due ≡ due_of closed years
+
+-- what is told of the hold of that number
+pub record IsHoldIn (t : Tables) (k : ℕ) (told : LiveHold) : Type 0 where
+  pub row : HoldRow
+  pub there : hold_numbered (pos k) t.holds ≡ Some row
+  pub is : IsHoldOf row told
+
+-- this is the least of the live holds over a deposit, and its row tells of a hold
+pub record IsLeastIn (t : Tables) (n : ℕ) (collection : List ℕ) (k : ℕ) : Type 0 where
+  pub others : List ℤ
+  pub live : live_holds (pos n) collection t ≡ pos k ∷ others
+  pub told : LiveHold
+  pub is : IsHoldIn t k told
+
+-- a count of at least one live hold, and of no more than the office takes
+pub record IsCountIn (t : Tables) (count : ℤ) : Type 0 where
+  pub limits : Limits
+  pub are : limits_of t ≡ Some limits
+  pub is : IsBetween (pos 1) limits.max_holds count
+
+-- none exactly where the count is 0; by any other count the least, which has to be there
+abbrev pub IsCountedIn : Tables → ℤ → ℕ → List ℕ → Option ℕ → Type 0
+IsCountedIn t count n collection None = count ≡ pos 0
+IsCountedIn t count n collection (Some k) = IsCountIn t count × IsLeastIn t n collection k
+
+-- what is known of the disposal of the deposit with that row, by the due day and the count that are kept beside it
+pub record AreFactsIn (t : Tables) (caller : List ℕ) (n : ℕ) (row : DepositRow) (facts : Facts) : Type 0 where
+  pub action : facts.action ≡ acts.Dispose
+  pub decided : IsDecisionBy (deciding_row t caller acts.Dispose (Some row.collection) (Some row.class)) facts.decision
+  pub days : DepositDays
+  pub are_days : AreDaysOf row days
+  pub gone : facts.gone ≡ days.gone
+  pub kept : DueRow
+  pub there : Some kept ≡ due_numbered (pos n) t.dues
+  pub due : due_number facts.due ≡ kept.due
+  pub is_due : IfSome kept.due IsDueNumber
+  pub hold : IsCountedIn t kept.holds n row.collection facts.hold

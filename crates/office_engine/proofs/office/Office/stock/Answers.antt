@@ -1,0 +1,10 @@
+use Rattle.std.proofs.Common.{IfOk, subst}
+use Rattle.sqlite.specs.State.{HasCleanDisk}
+use Rattle.sqlite.specs.Held.{state}
+use Rattle.office_engine.specs.Keeping.{IsToldStock}
+use Rattle.office_engine.proofs.office.Office.stock.Goals as goal
+
+pub returns-clause-rows : goal.returns-clause-rows
+returns-clause-rows g c =
+    let new = state g.S.Store c.stock.new.conn in
+    subst (λ x. HasCleanDisk new → IfOk c.stock.result (λ found. IsToldStock (state g.S.Store x) found)) c.self.view_is c.stock.ensures.rows

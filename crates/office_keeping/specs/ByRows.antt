@@ -1,0 +1,120 @@
+-- How bags are deposited, and deposits destroyed, by the rows of an office, whichever rows they are.
+use Rattle.std.specs.Prelude.{◌≡◌, ⊤, ℕ, pos, not, List, Option, Some, None, option_map, unwrap_or, is_none, Result, Ok, Err}
+use Rattle.jiff.specs.Types.{Date}
+use Rattle.office_core.specs.FirstOf.{answer_if}
+use Rattle.office_core.specs.Verdicts.{verdict_of}
+use Rattle.office_core.specs.declared.action.Action.TheVariants as acts
+use Rattle.office_core.specs.declared.answer.Answer.{Answer}
+use Rattle.office_core.specs.declared.answer.Answer.TheVariants as answers
+use Rattle.office_core.specs.declared.facts.Facts.{Facts}
+use Rattle.office_core.specs.declared.retention.Due.{Due}
+use Rattle.office_core.specs.declared.refusal.Refusal.{Refusal}
+use Rattle.office_core.specs.declared.refusal.Refusal.TheVariants.{NoSuch, Taken}
+use Rattle.office_core.specs.declared.refusal.Subject.TheVariants as subjects
+use Rattle.office_rows.specs.Rows.{Tables, DepositRow, Limits, class_named, deposit_by, deposit_numbered, has_collection, last_number, limits_of}
+use Rattle.office_history.specs.Answers.{answer_unless}
+use Rattle.office_history.specs.Refusals.{bad_bag, closed_ahead_refusal, refusal_of}
+use Rattle.office_asking.specs.ByRows.{AreFactsIn, IsDenialIn, IsDueIn}
+use Rattle.office_asking.specs.Limits.{IsNumberAfter}
+
+-- ---- where a bag is deposited
+
+-- this refusal where it stands, and else what is asked next
+abbrev pub IsThisOr : Option Refusal → (Option Refusal → Type 0) → Option Refusal → Type 0
+IsThisOr (Some this) next why = why ≡ Some this
+IsThisOr None next why = next why
+
+abbrev pub no_collection : Tables → List ℕ → Option Refusal
+no_collection t name = answer_if (not (has_collection name t)) (NoSuch subjects.Collection)
+
+abbrev pub no_class : Tables → List ℕ → Option Refusal
+no_class t name = answer_if (is_none (class_named name t.classes)) (NoSuch subjects.Class)
+
+-- of the place: there is no such collection, there is no such class, or the rules deny it
+abbrev pub IsPlaceRefusalIn : Tables → List ℕ → List ℕ → List ℕ → Option Refusal → Type 0
+IsPlaceRefusalIn t caller collection class =
+    IsThisOr (no_collection t collection) (IsThisOr (no_class t class) (IsDenialIn t caller acts.Deposit (Some collection) (Some class)))
+
+-- ---- what is asked before the bag
+
+-- the accession is that of a deposit, kept or destroyed
+pub record IsTakenIn (t : Tables) (accession : List ℕ) (why : Option Refusal) : Type 0 where
+  pub number : Option ℕ
+  pub is : option_map (λ (d : DepositRow). d.number) (deposit_by accession t.deposits) ≡ option_map pos number
+  pub comes_to : why ≡ option_map Taken number
+
+-- of the accession, and else of the closing day, which may come after the day
+pub record IsAccessionRefusalIn (t : Tables) (day : Date) (accession : List ℕ) (closed : Date) (why : Option Refusal) : Type 0 where
+  pub taken : Option Refusal
+  pub is_taken : IsTakenIn t accession taken
+  pub first : IsThisOr taken (λ ahead. ahead ≡ closed_ahead_refusal day closed) why
+
+-- of the place, and else of the accession and the closing day
+pub record IsRefusalBeforeTheBag (t : Tables) (day : Date) (caller collection class accession : List ℕ) (closed : Date) (why : Option Refusal) : Type 0 where
+  pub place : Option Refusal
+  pub of_place : IsPlaceRefusalIn t caller collection class place
+  pub first : IsThisOr place (IsAccessionRefusalIn t day accession closed) why
+
+-- ---- the number of the deposit
+
+-- the number after the highest, where the office takes one more, and else that it is full
+pub record IsNextIn (t : Tables) (next : Result ℕ Refusal) : Type 0 where
+  pub limits : Limits
+  pub are : limits_of t ≡ Some limits
+  pub most : ℕ
+  pub is_most : pos most ≡ limits.max_deposits
+  pub last : Option ℕ
+  pub is_last : option_map pos last ≡ last_number (λ (d : DepositRow). d.number) t.deposits
+  pub comes_to : IsNumberAfter (unwrap_or last 0) most next
+
+-- this refusal where it stands, and else what the number comes to
+abbrev pub IsRefusedOr : Option Refusal → (Result ℕ Refusal → Type 0) → Result ℕ Refusal → Type 0
+IsRefusedOr (Some why) next given = given ≡ Err why
+IsRefusedOr None next given = next given
+
+-- the number that the deposit gets of the bag whose transfer form the text is, or the refusal that stands first
+pub record IsAskedOfDeposit (t : Tables) (day : Date) (caller collection class accession : List ℕ) (closed : Date) (text : List ℕ) (given : Result ℕ Refusal) : Type 0 where
+  pub before : Option Refusal
+  pub is_before : IsRefusalBeforeTheBag t day caller collection class accession closed before
+  pub first : IsRefusedOr before (IsRefusedOr (bad_bag text) (IsNextIn t)) given
+
+-- ---- a deposit
+
+-- the number of the new deposit, or the refusal
+abbrev pub deposit_answer : Result ℕ Refusal → Answer
+deposit_answer (Ok number) = answers.Deposited number
+deposit_answer (Err why) = answers.Refused why
+
+-- a new deposit is given a due day by the years of its class
+abbrev pub FallsDueIn : Tables → List ℕ → Date → Result ℕ Refusal → Type 0
+FallsDueIn t class closed (Ok number) = (due : Due) × IsDueIn t class closed due
+FallsDueIn t class closed (Err why) = ⊤
+
+-- a bag is deposited unless a refusal stands
+pub record IsDepositedIn (t : Tables) (day : Date) (caller collection class accession : List ℕ) (closed : Date) (text : List ℕ) (given : Answer) : Type 0 where
+  pub next : Result ℕ Refusal
+  pub asked : IsAskedOfDeposit t day caller collection class accession closed text next
+  pub due : FallsDueIn t class closed next
+  pub answer : given ≡ deposit_answer next
+
+-- ---- a disposal
+
+-- the refusal that the facts of its disposal come to, if any
+pub record IsVerdictIn (t : Tables) (day : Date) (caller : List ℕ) (n : ℕ) (row : DepositRow) (why : Option Refusal) : Type 0 where
+  pub facts : Facts
+  pub are : AreFactsIn t caller n row facts
+  pub comes_to : why ≡ refusal_of (verdict_of facts day)
+
+-- the same of a deposit that may not be there
+abbrev pub IsDisposalRefusalOf : Tables → Date → List ℕ → ℕ → Option DepositRow → Option Refusal → Type 0
+IsDisposalRefusalOf t day caller n None why = why ≡ Some (NoSuch subjects.Deposit)
+IsDisposalRefusalOf t day caller n (Some row) why = IsVerdictIn t day caller n row why
+
+abbrev pub IsDisposalRefusalIn : Tables → Date → List ℕ → ℕ → Option Refusal → Type 0
+IsDisposalRefusalIn t day caller n why = IsDisposalRefusalOf t day caller n (deposit_numbered (pos n) t.deposits) why
+
+-- a deposit is destroyed unless a refusal stands
+pub record IsDisposedIn (t : Tables) (day : Date) (caller : List ℕ) (n : ℕ) (given : Answer) : Type 0 where
+  pub refused : Option Refusal
+  pub refusal : IsDisposalRefusalIn t day caller n refused
+  pub answer : given ≡ answer_unless refused (answers.Destroyed n day)

@@ -1,0 +1,59 @@
+-- What is answered of a deposit's files and holds by the rows of an office, whichever rows they are.
+use Rattle.std.specs.Prelude.{◌≡◌, ℕ, ℤ, pos, List, Vec, Option, None, Result, Ok, Err, map, option_map, if◌then◌else◌}
+use Rattle.std.specs.List.{AllByRecursion}
+use Rattle.std.specs.Str.{is_utf8}
+use Rattle.bag_text.specs.TransferForm.{IsBag, set_text}
+use Rattle.office_core.specs.declared.action.Action.{Action}
+use Rattle.office_core.specs.declared.action.Action.TheVariants as acts
+use Rattle.office_core.specs.declared.answer.Answer.{Answer}
+use Rattle.office_core.specs.declared.answer.Answer.TheVariants.{Bag, Holds, Refused}
+use Rattle.office_core.specs.declared.answer.LiveHold.{LiveHold}
+use Rattle.office_core.specs.declared.refusal.Refusal.{Refusal}
+use Rattle.office_rows.specs.Rows.{DepositRow, FileRow, Tables, file_at, live_holds}
+use Rattle.office_history.specs.Answers.{file_answer}
+use Rattle.office_asking.specs.ByRows.{IsAskedIn, IsHoldIn}
+use Rattle.office_serving.specs.Files.{stored_files}
+
+-- ---- a deposit that is asked for
+
+-- this is so of the row that is found and of the answer; where there is a refusal, it is the answer
+abbrev pub IsAnswerTo : Result DepositRow Refusal → (DepositRow → Answer → Type 0) → Answer → Type 0
+IsAnswerTo (Ok row) is_so answer = is_so row answer
+IsAnswerTo (Err why) is_so answer = answer ≡ Refused why
+
+-- the caller may ask this of the deposit, and this is so of its row and of the answer; or the answer is the first refusal that the
+-- rows tell
+pub record IsAnswerIn (t : Tables) (caller : List ℕ) (action : Action) (n : ℕ) (is_so : DepositRow → Answer → Type 0) (answer : Answer) : Type 0 where
+  pub asked : Result DepositRow Refusal
+  pub is_asked : IsAskedIn t caller action n asked
+  pub answers : IsAnswerTo asked is_so answer
+
+-- ---- its files
+
+-- the caller may ask this of the deposit, where rows are answered, and else the first refusal that the rows tell
+abbrev pub AreAskedIn : {A : Type 0} → Tables → List ℕ → Action → ℕ → Result (Vec FileRow A) Refusal → Type 0
+AreAskedIn t caller action n (Ok rows) = (row : DepositRow) × IsAskedIn t caller action n (Ok row)
+AreAskedIn t caller action n (Err why) = IsAskedIn t caller action n (Err why)
+
+-- the transfer form of the files that stand there, which are a bag
+abbrev pub IsBagIn : Tables → List ℕ → ℕ → Answer → Type 0
+IsBagIn t caller n = IsAnswerIn t caller acts.Download n (λ row answer. IsBag (stored_files n t) × (answer ≡ Bag (set_text (stored_files n t))))
+
+-- the content of the file that stands there at a path, which is any bytes: a path that is no text is that of no file
+abbrev pub content_stored : ℕ → List ℕ → Tables → Option (List ℕ)
+content_stored n path t = if is_utf8 path then option_map (λ (file : FileRow). file.content) (file_at (pos n) path t.files) else None
+
+-- the file that stands there at that path, or that there is none
+abbrev pub IsFileIn : Tables → List ℕ → ℕ → List ℕ → Answer → Type 0
+IsFileIn t caller n path = IsAnswerIn t caller acts.Download n (λ row answer. answer ≡ file_answer (content_stored n path t))
+
+-- ---- the holds that cover it
+
+-- these are told of the holds of these numbers, one by one, as their rows tell of them
+pub record AreHoldsOf (t : Tables) (numbers : List ℤ) (told : List LiveHold) : Type 0 where
+  pub one_each : map (λ (hold : LiveHold). pos hold.number) told ≡ numbers
+  pub each : AllByRecursion (λ (hold : LiveHold). IsHoldIn t hold.number hold) told
+
+-- the live holds over the deposit, which is of the collection that its row names
+abbrev pub AreHoldsIn : Tables → List ℕ → ℕ → Answer → Type 0
+AreHoldsIn t caller n = IsAnswerIn t caller acts.Holds n (λ row answer. (told : List LiveHold) × AreHoldsOf t (live_holds (pos n) row.collection t) told × (answer ≡ Holds told))

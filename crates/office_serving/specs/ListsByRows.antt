@@ -1,0 +1,131 @@
+-- What is answered of records, lists, due lists and the stock by the rows of an office, whichever rows they are.
+use Rattle.std.specs.Prelude.{◌≡◌, ⊤, ℕ, pos, Bool, true, false, ◌&&◌, List, [], ◌∷◌, map, length, sum, Option, Some, None, IfSome, is_none, Result, Ok, Err}
+use Rattle.std.specs.HashMap.{get}
+use Rattle.std.specs.List.{cons_option}
+use Rattle.jiff.specs.Types.{Date}
+use Rattle.jiff.specs.Words.{epoch_day}
+use Rattle.sqlite.specs.Effect.{Database}
+use Rattle.office_core.specs.Retention.{IsDueNumber, due_number}
+use Rattle.office_core.specs.declared.action.Action.{Action}
+use Rattle.office_core.specs.declared.action.Action.TheVariants as acts
+use Rattle.office_core.specs.declared.answer.Answer.{Answer}
+use Rattle.office_core.specs.declared.answer.Answer.TheVariants as answers
+use Rattle.office_core.specs.declared.answer.DepositRecord.{DepositRecord}
+use Rattle.office_core.specs.declared.refusal.Refusal.{Refusal}
+use Rattle.office_core.specs.declared.retention.Due.{Due}
+use Rattle.office_rows.specs.Rows.{DepositRow, DueRow, Tables, beside, due_numbered}
+use Rattle.office_rows.specs.Told.{PlaceRow, due_places}
+use Rattle.office_tables.specs.Tables.{contents_of}
+use Rattle.office_history.specs.Answers.{is_asked}
+use Rattle.office_history.specs.Stocks.{Stock}
+use Rattle.office_asking.specs.ByRows.{IsAskedIn, IsAskerIn, IsDenialIn}
+use Rattle.office_serving.specs.Allowances.{Pair, same_pair}
+use Rattle.office_serving.specs.Told.{IsRecordOf}
+use Rattle.office_serving.specs.declared.allowances.Allowances.{Allowances}
+
+-- ---- the rules
+
+-- whether the rules, by their rows, let the caller do that with the deposits of this collection and this class
+pub record IsAllowedIn (t : Tables) (caller : List ℕ) (action : Action) (collection class : List ℕ) (is : Bool) : Type 0 where
+  pub why : Option Refusal
+  pub denial : IsDenialIn t caller action (Some collection) (Some class) why
+  pub free : is ≡ is_none why
+
+-- they are those of this caller and this action, and what is known of a pair is what the rows of the rules say of it
+pub record AreIn (t : Tables) (caller : List ℕ) (action : Action) (these : Allowances) : Type 0 where
+  pub asker : IsAskerIn t caller these.asker.now
+  pub action_is : these.action ≡ action
+  pub right : (pair : Pair) → IfSome (get same_pair these.known pair) (IsAllowedIn t caller action pair.0.now pair.1.now)
+
+-- ---- what is told of rows, one after another
+
+-- something that is so where it is to be told, and else nothing
+abbrev pub TellsIf : {B : Type 0} → Bool → (B → Type 0) → Option B → Type 0
+TellsIf true is_so (Some told) = is_so told
+TellsIf false is_so None = ⊤
+TellsIf _ is_so _ = ⊥
+
+-- of each of these, in order, one thing is told or nothing
+abbrev pub TellsEach : {A B : Type 0} → (A → Option B → Type 0) → List A → List B → Type 0
+TellsEach tells [] told = told ≡ []
+TellsEach {B = B} tells (x ∷ xs) told = (one : Option B) × tells x one × (others : List B) × TellsEach tells xs others × (told ≡ cons_option one others)
+
+-- ---- records
+
+-- the record by the deposit's row, and by what is kept of it beside that
+pub record IsRecordBy (t : Tables) (n : ℕ) (row : DepositRow) (told : DepositRecord) : Type 0 where
+  pub kept : DueRow
+  pub there : Some kept ≡ due_numbered (pos n) t.dues
+  pub is : IsRecordOf row kept told
+
+-- the record of the deposit with that row, or the refusal
+abbrev pub IsRecordOrRefusal : Tables → ℕ → Result DepositRow Refusal → Answer → Type 0
+IsRecordOrRefusal t n (Ok row) answer = (told : DepositRecord) × IsRecordBy t n row told × (answer ≡ answers.Record told)
+IsRecordOrRefusal t n (Err why) answer = answer ≡ answers.Refused why
+
+-- the record of the deposit of that number, where the caller may ask for it and it is kept; else the refusal that stands first
+pub record IsRecordIn (t : Tables) (caller : List ℕ) (n : ℕ) (answer : Answer) : Type 0 where
+  pub asked : Result DepositRow Refusal
+  pub is_asked : IsAskedIn t caller acts.Record n asked
+  pub tells : IsRecordOrRefusal t n asked answer
+
+-- ---- lists
+
+-- the deposit of the row is kept, and is of the collection and the class that are asked for
+abbrev pub is_wanted : Option (List ℕ) → Option (List ℕ) → DepositRow → Bool
+is_wanted collection class row = is_none row.gone && (is_asked collection row.collection && is_asked class row.class)
+
+-- a deposit that isn't wanted is not listed, and of one that is the rules are asked
+abbrev pub IsShownIf : Bool → Tables → List ℕ → DepositRow → Bool → Type 0
+IsShownIf true t caller row is = IsAllowedIn t caller acts.List row.collection row.class is
+IsShownIf false t caller row is = is ≡ false
+
+-- whether the deposit of the row is listed
+abbrev pub IsShownIn : Tables → List ℕ → Option (List ℕ) → Option (List ℕ) → DepositRow → Bool → Type 0
+IsShownIn t caller collection class row = IsShownIf (is_wanted collection class row) t caller row
+
+-- the record of the deposit of the row where it is listed, and else nothing
+pub record IsToldIn (t : Tables) (caller : List ℕ) (collection class : Option (List ℕ)) (both : DepositRow × DueRow) (told : Option DepositRecord) : Type 0 where
+  pub shown : Bool
+  pub is_shown : IsShownIn t caller collection class both.0 shown
+  pub tells : TellsIf shown (IsRecordOf both.0 both.1) told
+
+-- the records of the deposits that are kept, asked for and allowed, in the order of the rows
+abbrev pub AreListedIn : Tables → List ℕ → Option (List ℕ) → Option (List ℕ) → List (DepositRow × DueRow) → List DepositRecord → Type 0
+AreListedIn t caller collection class = TellsEach (IsToldIn t caller collection class)
+
+-- these, as an answer, of all rows
+abbrev pub IsListIn : Tables → List ℕ → Option (List ℕ) → Option (List ℕ) → Answer → Type 0
+IsListIn t caller collection class answer = (told : List DepositRecord) × AreListedIn t caller collection class (beside t.deposits t.dues) told × (answer ≡ answers.List told)
+
+-- ---- due lists
+
+-- the number of the deposit that stands there, where the rules let the caller destroy it; and what is kept of its due day is one
+pub record IsPlaceToldIn (t : Tables) (caller : List ℕ) (place : PlaceRow) (told : Option ℕ) : Type 0 where
+  pub due : Due
+  pub is : due_number due ≡ place.due
+  pub is_due : IfSome place.due IsDueNumber
+  pub allowed : Bool
+  pub is_allowed : IsAllowedIn t caller acts.Dispose place.collection place.class allowed
+  pub tells : TellsIf allowed (λ (n : ℕ). pos n ≡ place.number) told
+
+-- the numbers of those that the rules let the caller destroy, in the order of the rows
+abbrev pub AreAllowedIn : Tables → List ℕ → List PlaceRow → List ℕ → Type 0
+AreAllowedIn t caller = TellsEach (IsPlaceToldIn t caller)
+
+-- the numbers of the deposits that have fallen due by that day, are under no hold, and that the rules let the caller destroy
+abbrev pub AreDueIn : Tables → Date → List ℕ → List ℕ → Type 0
+AreDueIn t day caller = AreAllowedIn t caller (due_places (epoch_day day) t)
+
+-- these, as an answer
+abbrev pub IsDueListIn : Tables → Date → List ℕ → Answer → Type 0
+IsDueListIn t day caller answer = (numbers : List ℕ) × AreDueIn t day caller numbers × (answer ≡ answers.DueList day numbers)
+
+-- ---- the stock
+
+-- how many contents are kept, and how many bytes their sizes come to, each of which is at least 0
+pub record IsStockIn (db : Database) (found : Stock) : Type 0 where
+  pub contents : found.contents ≡ length (contents_of db)
+  pub sizes : List ℕ
+  pub are : map (λ c. c.size) (contents_of db) ≡ map pos sizes
+  pub bytes : found.bytes ≡ sum sizes
