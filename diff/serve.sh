@@ -256,7 +256,7 @@ echo "curl: ${#cases[@]} requests answered as worked out"
 
 printf 'PUT /collections/maps HTTP/1.1\r\nDepot-Caller: anna\r\n\r\n' >"$folder/request"
 { echo "REQ $day $(stat -c %s "$folder/request")"; cat "$folder/request"; echo; } >"$folder/record"
-mkdir "$folder/made" "$folder/logged" "$folder/held"
+mkdir "$folder/made" "$folder/logged" "$folder/held" "$folder/taken"
 logged "$folder/made/notes.db" "$folder/logged/notes.db" \
     "CREATE TABLE note (number INTEGER PRIMARY KEY, said TEXT NOT NULL); INSERT INTO note VALUES (1, 'first')" \
     "UPDATE note SET said = 'changed'; INSERT INTO note VALUES (2, 'second')"
@@ -265,6 +265,14 @@ refused_with_log "$folder/logged/notes.db" $'store Q1\ndepot: STORE is another d
 logged "$folder/made/earlier.db" "$folder/logged/earlier.db" "" "UPDATE office SET version = 2"
 refused_with_log "$folder/logged/earlier.db" $'store Q2\ndepot: STORE is an office of another version' '(1,2,1000000,1000000)'
 echo "commits in a log: ${#commands[@]} commands refuse another database and another version's office, and leave both as they were"
+
+taken=$folder/taken/office.db
+cp "$store" "$taken"
+sqlite3 "$taken" 'PRAGMA foreign_keys = OFF; DELETE FROM content WHERE id = (SELECT min(content) FROM file)'
+for command in "${commands[@]}"; do
+    refuses "$command" "$taken" $'store Q4\ndepot: cannot open STORE: file is not a database that obeys its schema'
+done
+echo "a content taken out: ${#commands[@]} commands refuse a store with a file whose content another program took out, and leave it as it was"
 
 held=$folder/held/office.db
 "$program" policy "$held" "$policy" >"$folder/installed"
