@@ -1,6 +1,8 @@
 """What the speed scripts of the office share: the program `crates/office_file`, and files that hold
 an office, which Python fills.
 """
+import datetime
+import functools
 import hashlib
 import os
 import pathlib
@@ -34,8 +36,7 @@ COUNT_HOLDS = (
     " (SELECT count(*) FROM hold WHERE hold.deposit = deposit.number AND released IS NULL)"
     " + (SELECT count(*) FROM hold WHERE hold.collection = deposit.collection AND released IS NULL)"
 )
-# The due day of a bag: ten years after its closing day.
-DUE = 24106
+EPOCH = datetime.date(1970, 1, 1)
 CONTENT_ALIKE = "SELECT id FROM content WHERE mark = ?1 AND bytes = ?2"
 PUT_CONTENT = "INSERT INTO content (mark, size, bytes) VALUES (?1, ?2, ?3)"
 LAST_CONTENT = "SELECT id FROM content ORDER BY id DESC LIMIT 1"
@@ -46,6 +47,17 @@ PUT_HOLD = (
 )
 CONTENT_ID = "SELECT content FROM file WHERE deposit = ?1 AND path = ?2"
 CONTENT_OF = "SELECT bytes FROM content WHERE id = ?1"
+
+
+@functools.cache
+def due_day(closed, years):
+    """The number of the day so many years after the day of this number."""
+    day = EPOCH + datetime.timedelta(closed)
+    return (day.replace(year=day.year + years) - EPOCH).days
+
+
+# The due day of a bag: ten years after its closing day.
+DUE = due_day(20454, 10)
 
 
 def ours(*words):
@@ -98,9 +110,9 @@ def put_bag(conn, number):
     put_files(conn, number, FILES)
 
 
-def own_files(number):
-    """The files of a bag of the same size, whose record and manifest no other deposit has."""
-    record = b"%010d" % number + RECORD[10:]
+def own_files(number, like=RECORD):
+    """The files of a bag with a record as long as `like`, whose record and manifest no other deposit has."""
+    record = b"%010d" % number + like[10:]
     manifest = hashlib.sha256(record).hexdigest().encode() + b"  data/record\n"
     return [("bagit.txt", DECLARATION), ("data/record", record), ("manifest-sha256.txt", manifest)]
 
@@ -147,11 +159,12 @@ def turns(first, second):
     return taking_turns(first, second, RUNS)
 
 
-def say(name, count, ones, others, other, most):
-    """Prints a case."""
+def say(name, count, ones, others, other, most=None):
+    """Prints a case. One with no `most` is a figure."""
     first, second = median(ones), median(others)
+    wanted = f"at most {most}" if most else "the figure"
     each = f"{first / count:.1f} and {second / count:.1f} microseconds each; {spreads(ones, others)}"
-    print(f"{name}: {first / second:.2f} times {other} (at most {most}; {each})", flush=True)
+    print(f"{name}: {first / second:.2f} times {other} ({wanted}; {each})", flush=True)
 
 
 def main(cases):

@@ -22,7 +22,7 @@ from statistics import median
 from bench import DEPOT, TOP, bag, form
 from desk import record as request_record
 from office_file import FILES, PUT_HOLD, SET_HOLDS, copy, filled, main, opened, put_file, say, turns
-from requests import DUE_ROW, HOLD, Statements
+from statements import DUE_ROW, HOLD, Statements
 
 SERVING = TOP / "bench" / "serving.py"
 DAY = "2026-02-16"
@@ -105,8 +105,7 @@ class Mixed(Statements):
     def hold(self, number, other):
         self.row(other)
         self.asker("hold")
-        self.rows("SELECT max_deposits, max_holds FROM office WHERE id = ?1", 1)
-        self.rows("SELECT number FROM hold ORDER BY number DESC LIMIT 1")
+        self.next_hold()
         self.rows(PUT_HOLD, number, other, None, "suit", self.day, None)
         self.count(other, 1)
 

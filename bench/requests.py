@@ -2,161 +2,145 @@
 """Speed of requests to the office over a file.
 
 Each case is measured beside the SQL statements alone that the request makes, in their order and in
-one transaction, through Python's sqlite3 (WAL, synchronous FULL). Prints a ratio for each case: of
-the medians of runs that take turns (RUNS=n, 7 if left out). `due` is a figure alone, and `large`,
-`several` and `many` are ratios of peak memory. The program crates/office_file, which makes the
-requests, has to be built; it doesn't count the opening of the file, and nor does the other side.
-Words behind `requests.py` name the cases that are run; with none, all are.
+one transaction, through Python's sqlite3 (WAL, synchronous FULL, foreign keys on). Prints a ratio for
+each: of the medians of runs that take turns (RUNS=n, 7 if left out). `large`, `several` and `many` are
+ratios of peak memory. The program crates/office_file, which makes the requests, has to be built; it
+doesn't count the opening of the file, and nor does the other side. Words behind `requests.py` name the
+cases that are run; with none, all are.
 """
 import subprocess
 import sys
-import time
 
-from office_file import DUE, FILES, PROGRAM, PUT_DEPOSIT, SET_DUE, SET_HOLDS
-from office_file import copy, file_of, filled, main, opened, ours, put_file, put_files, put_row, say, turns
+from office_file import FILES, PROGRAM, PUT_DEPOSIT
+from office_file import copy, filled, main, opened, ours, own_files, put_file, say, turns
+from statements import scattered, theirs
+from stores import LONG, put_policy, stored
 
-DEPOSIT = "SELECT number, accession, collection, class, closed, deposited, files, bytes, gone FROM deposit"
-MATCH_RULE = (
-    "SELECT place, effect, role, action, collection, class FROM rule WHERE role IN ('*', ?1)"
-    " AND action IN ('*', ?2) AND collection IN ('*', ?3) AND class IN ('*', ?4) ORDER BY place LIMIT 1"
-)
-DUE_ROW = "SELECT number, due, holds FROM deposit WHERE number = ?1"
-HOLD = "SELECT number, deposit, collection, matter, placed, released FROM hold"
-HOLDS_ON_DEPOSIT = (
-    "SELECT number FROM hold WHERE deposit = ?1 AND released IS NULL ORDER BY number"
-)
-HOLDS_ON_COLLECTION = (
-    "SELECT number FROM hold WHERE collection = ?2 AND deposit IS NOT ?1 AND released IS NULL"
-    " ORDER BY number"
-)
+STATEMENTS = "its statements through Python"
+MANY = 100_000
 
 
-class Statements:
-    """The statements of requests, by the caller `anna`."""
-
-    def __init__(self, file):
-        self.conn = opened(file)
-
-    def rows(self, text, *values):
-        return self.conn.execute(text, values).fetchall()
-
-    def role(self):
-        return self.rows("SELECT role FROM caller WHERE name = ?1", "anna")[0][0]
-
-    def may(self, role, action):
-        self.rows(MATCH_RULE, role, action, "tax", "y10")
-
-    def asker(self, action):
-        self.may(self.role(), action)
-
-    def row(self, number):
-        return self.rows(DEPOSIT + " WHERE number = ?1", number)[0]
-
-    def years(self):
-        return self.rows("SELECT years FROM class WHERE name = ?1", "y10")[0][0]
-
-    def holds(self, number):
-        return self.rows(HOLDS_ON_DEPOSIT, number) + self.rows(HOLDS_ON_COLLECTION, number, "tax")
-
-    def deposit(self, number):
-        self.rows("SELECT name FROM collection WHERE name = ?1", "tax")
-        self.years()
-        self.asker("deposit")
-        self.rows(DEPOSIT + " WHERE accession = ?1", f"2026-{number:07}")
-        self.rows("SELECT max_deposits, max_holds FROM office WHERE id = ?1", 1)
-        self.rows("SELECT number FROM deposit ORDER BY number DESC LIMIT 1")
-        self.years()
-        count = len(self.holds(number))
-        put_row(self.conn, number)
-        self.rows(SET_DUE, number, DUE)
-        self.rows(SET_HOLDS, number, count)
-        put_files(self.conn, number, FILES)
-
-    def record(self, number):
-        self.row(number)
-        self.asker("record")
-        self.rows(DUE_ROW, number)
-
-    def disposal(self, number):
-        self.row(number)
-        self.asker("dispose")
-        if self.rows(DUE_ROW, number)[0][2] == 0:
-            sys.exit("no hold")
-        self.rows(HOLD + " WHERE number = ?1", min(self.holds(number))[0])
-
-    def bag(self, number):
-        self.row(number)
-        self.asker("download")
-        for (path,) in self.rows("SELECT path FROM file WHERE deposit = ?1 ORDER BY path", number):
-            file_of(self.conn, number, path)
-
-    def list(self, _number):
-        role = self.role()
-        rows = self.rows(DEPOSIT + " ORDER BY number")
-        # The rule is asked for once, since all have one collection and one class.
-        self.may(role, "list")
-        for row in rows:
-            self.rows(DUE_ROW, row[0])
+def reading(name, file, words, last, count, most=None):
+    """A request that changes nothing. `words` are what the program and the statements call it."""
+    first, second = turns(
+        lambda: ours(words[0], file, count),
+        lambda: theirs(file, words[1], scattered(last, count), "ROLLBACK"),
+    )
+    say(name, count, first, second, STATEMENTS, most)
 
 
-def theirs(file, name, last, count, end):
-    """Microseconds of the statements of so many requests."""
-    statements = Statements(file)
-    ask = getattr(statements, name)
-    begin = time.perf_counter()
-    for turn in range(1, count + 1):
-        number = last + turn if end == "COMMIT" else (turn * 7919) % 2**32 % last + 1
-        statements.conn.execute("BEGIN")
-        ask(number)
-        statements.conn.execute(end)
-    took = time.perf_counter() - begin
-    statements.conn.close()
-    return took * 1e6
+def changing(name, file, words, given, most):
+    """A request that changes the file, each time in a copy."""
+    count = len(given)
+    first, second = turns(
+        lambda: ours(words[0], copy(file, "ours.db"), count),
+        lambda: theirs(copy(file, "theirs.db"), words[1], given, "COMMIT"),
+    )
+    say(name, count, first, second, STATEMENTS, most)
 
 
 def deposit(folder):
-    """Deposits of a bag of 10 KiB with three files, into an office of 100."""
-    file, count = filled(folder, 100), 300
-    first, second = turns(
-        lambda: ours("ask-deposits", copy(file, "ours.db"), count),
-        lambda: theirs(copy(file, "theirs.db"), "deposit", 100, count, "COMMIT"),
-    )
-    say("deposit", count, first, second, "its statements through Python", 1.6)
+    """Deposits of bags of 10 KiB with three files, into an office of 100."""
+    given = [(number, own_files(number)) for number in range(101, 401)]
+    changing("deposit", filled(folder, 100), ("ask-own-deposits", "own_deposit"), given, 1.4)
 
 
-def reading(folder, task, name, count, most):
-    """A request that changes nothing, at 10,000 deposits."""
-    file = filled(folder, 10_000)
-    first, second = turns(
-        lambda: ours(task, file, count), lambda: theirs(file, name, 10_000, count, "ROLLBACK")
-    )
-    say(name, count, first, second, "its statements through Python", most)
+def again(folder):
+    """The same with the same bytes each time, and by how much the file grows, its log folded in."""
+    file, count = filled(folder, 100), 1_000
+    changing("again", file, ("ask-deposits", "deposit"), range(101, 101 + count), 1.4)
+    grown = file.with_name("ours.db").stat().st_size - file.stat().st_size
+    print(f"again: the file grows by {grown / count:.0f} bytes a deposit (less than 1,024)", flush=True)
+
+
+def by_many_rules(file):
+    """The same office by the policy of 200 rules."""
+    to = copy(file, f"{file.stem} by 200 rules.db")
+    conn = opened(to)
+    conn.execute("BEGIN")
+    put_policy(conn, LONG)
+    conn.execute("COMMIT")
+    conn.close()
+    return to
+
+
+def at_many(folder, name, words, count, most):
+    """A request that changes nothing, at 100,000 deposits and as many holds, by the policy of the examples
+    and by one of 200 rules."""
+    file = stored(folder, "held", MANY, lambda number: {"held": True})
+    reading(name, file, words, MANY, count, most)
+    reading(f"{name} by 200 rules", by_many_rules(file), words, MANY, count)
 
 
 def record(folder):
-    """Records, at 10,000 deposits."""
-    reading(folder, "ask-records", "record", 2_000, 1.5)
+    """Records."""
+    at_many(folder, "record", ("ask-records", "record"), 20_000, 0.6)
 
 
 def disposal(folder):
-    """Disposals that are refused, at 10,000 deposits and as many holds."""
-    reading(folder, "ask-disposals", "disposal", 300, 1.5)
+    """Disposals that a hold refuses."""
+    at_many(folder, "disposal", ("ask-disposals", "disposal"), 20_000, 0.6)
 
 
 def bag(folder):
-    """Downloads of a bag of 10 KiB, at 10,000 deposits."""
-    reading(folder, "ask-bags", "bag", 2_000, 1.5)
+    """Downloads of a bag of 10 KiB."""
+    at_many(folder, "bag", ("ask-bags", "bag"), 10_000, 1.0)
 
 
 def whole_list(folder):
-    """A list of 10,000 records."""
-    reading(folder, "ask-lists", "list", 2, 2)
+    """A list of 10,000 records by 200 rules, over 10 pairs of collection and class, and over 5,000."""
+    for pairs in (10, 5_000):
+        of = lambda n: {"collection": f"a{n % pairs // 10}", "klass": f"y{n % 10}"}
+        file = stored(folder, f"{pairs} pairs", 10_000, of, LONG)
+        reading(f"list over {pairs:,} pairs", file, ("ask-lists", "list"), 10_000, 5, 1.5)
+
+
+def past(rows, destroyed=False):
+    """What is special of the deposits of an office: 100 are due, 1,000 more are past their day and held,
+    and half of all, if asked for, are past it and destroyed."""
+
+    def of(number):
+        if number % (rows // 100) == 0:
+            return {"closed": 16_801}
+        if number % (rows // 1_000) == 2:
+            return {"closed": 16_801, "held": True}
+        if destroyed and number % 2:
+            return {"closed": 16_801, "gone": 20_480}
+        return {}
+
+    return of
 
 
 def due(folder):
-    """The due list at 10,000 deposits and as many holds: the figure alone."""
-    took = float(ours("ask-due", filled(folder, 10_000), 1))
-    print(f"due: {took / 1e6:.2f} seconds", flush=True)
+    """The due list at 100,000 deposits, beside its statements and beside the same at 10,000, and with
+    50,000 that are destroyed."""
+    files = {rows: stored(folder, f"due {rows}", rows, past(rows)) for rows in (MANY, 10_000)}
+    words, count = ("ask-due", "due"), 20
+    reading("due", files[MANY], words, MANY, count, 1.5)
+    first, second = turns(*(lambda it=it: ours(words[0], it, count) for it in files.values()))
+    say("due", count, first, second, "the same at 10,000 deposits", 3)
+    gone = stored(folder, "destroyed", MANY, past(MANY, destroyed=True))
+    reading("due with 50,000 destroyed", gone, words, MANY, count)
+
+
+def over_many(folder, name, words, most):
+    """A request that changes 100,000 deposits, 10,000, and 1,000 of 100,000: those of the collection `tax`
+    and the class `y10`."""
+    for rows, among, count in ((MANY, MANY, 2), (10_000, 10_000, 10), (1_000, MANY, 10)):
+        of = lambda n: {"collection": "tax"} if n % (among // rows) == 0 else {"klass": "y5"}
+        file = stored(folder, f"{rows} of {among}", among, of)
+        wanted = most if rows == among else None
+        changing(f"{name} of {rows:,} of {among:,}", file, words, range(1, count + 1), wanted)
+
+
+def hold(folder):
+    """Holds of a collection."""
+    over_many(folder, "hold", ("ask-holds", "hold_collection"), 3)
+
+
+def revision(folder):
+    """A class that is revised."""
+    over_many(folder, "class", ("ask-classes", "revise"), 2)
 
 
 # Runs the program that its words name, and prints the most memory that it took, in bytes.
@@ -234,11 +218,14 @@ def many(folder):
 
 CASES = {
     "deposit": deposit,
+    "again": again,
     "record": record,
     "disposal": disposal,
     "bag": bag,
     "list": whole_list,
     "due": due,
+    "hold": hold,
+    "class": revision,
     "large": large,
     "several": several,
     "many": many,

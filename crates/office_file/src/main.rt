@@ -29,7 +29,7 @@ use std::env::{Env, FillError};
 use tasks::{Report, Task};
 
 const USAGE: &str =
-    "words: none, all POLICY, hear, read-all, write FILE, make FILE, draw COUNT SEED, draw COUNT SEED FILE, or FILE and COUNT behind one of deposits, read, live, last, ask-deposits, ask-records, ask-disposals, ask-bags, ask-lists and ask-due";
+    "words: none, all POLICY, hear, read-all, write FILE, make FILE, draw COUNT SEED, draw COUNT SEED FILE, or FILE and COUNT behind one of deposits, read, live, last, ask-deposits, ask-own-deposits, ask-records, ask-disposals, ask-bags, ask-lists, ask-due, ask-holds and ask-classes";
 
 /// The task and the file that the words after the program's name ask for.
 fn read_words(words: &[String]) -> Result<(Task, &str)> {

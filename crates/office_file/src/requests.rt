@@ -1,10 +1,11 @@
 //! Requests that are timed, over bags of 10 KiB with three files.
 
-use crate::timed::{DECLARATION, MANIFEST, RECORD, RECORD_LENGTH, scattered_number};
+use crate::timed::{DECLARATION, RECORD, RECORD_LENGTH, scattered_number};
 use anyhow::{Context, Result, bail};
 use bag_text::{BagSet, write_bagset};
-use office_core::{Accession, Answer, Day, Name, Refusal, Request};
+use office_core::{Accession, Answer, Day, Matter, Name, Refusal, Request, Years};
 use office_engine::Office;
+use sha2::{Digest, Sha256};
 use sqlite::Alter;
 use std::alloc::Global;
 
@@ -20,8 +21,10 @@ const DAY: &str = "2026-02-16";
 /// there.
 #[derive(Clone, Copy)]
 pub enum Asked {
-    /// A bag is deposited.
+    /// A bag is deposited, the same each time.
     Deposit,
+    /// A bag is deposited, each time one with a record of its own.
+    OwnDeposit,
     Record,
     /// A disposal, refused for a hold or the due day.
     Disposal,
@@ -30,29 +33,60 @@ pub enum Asked {
     /// All deposits are listed.
     List,
     DueList,
+    /// The collection of the deposits is held.
+    Hold,
+    /// The class of the deposits is revised: to eleven years, and then to ten.
+    Class,
 }
 
-/// The transfer form of a bag.
-fn form(alloc: Global) -> Result<Vec<u8>> {
-    let record = vec![in alloc; b'r'; RECORD_LENGTH]?;
+/// The transfer form of a bag, whose record begins with these bytes.
+fn form(alloc: Global, begin: &[u8]) -> Result<Vec<u8>> {
+    let mut record = vec![in alloc; b'r'; RECORD_LENGTH]?;
+    for (to, from) in record.iter_mut().zip(begin) {
+        *to = *from;
+    }
+    let mark = hex::encode(alloc, Sha256::digest(&record))?;
+    let manifest = format!(in alloc; "{mark}  {RECORD}\n")?;
     let files: [(&str, &[u8]); 3] = [
         ("bagit.txt", DECLARATION),
         (RECORD, &record),
-        ("manifest-sha256.txt", MANIFEST),
+        ("manifest-sha256.txt", manifest.as_bytes()),
     ];
     let bag = BagSet::of(alloc, &files)?;
     Ok(write_bagset(alloc, &bag)?)
 }
 
-/// The request, of the deposit of that number.
+/// The forms of the bags that are deposited in so many turns, or none.
+pub fn forms(alloc: Global, asked: Asked, count: u32) -> Result<Vec<Vec<u8>>> {
+    let mut forms = Vec::new(alloc);
+    for turn in 1..=count {
+        match asked {
+            Asked::Deposit => forms.push(form(alloc, b"")?)?,
+            Asked::OwnDeposit => {
+                let begin = format!(in alloc; "new {turn:06}")?;
+                forms.push(form(alloc, begin.as_bytes())?)?;
+            }
+            _ => {}
+        }
+    }
+    Ok(forms)
+}
+
+/// The years of the class, once it is revised in this turn.
+fn years_of(turn: u32) -> Option<Years> {
+    Years::new(if turn % 2 == 1 { 11 } else { 10 })
+}
+
+/// The request of a turn, of the deposit of that number.
 fn request<'a>(
     asked: Asked,
+    turn: u32,
     number: u32,
     accession: &'a str,
     bag: &'a [u8],
 ) -> Option<Request<'a>> {
     match asked {
-        Asked::Deposit => Some(Request::Deposit {
+        Asked::Deposit | Asked::OwnDeposit => Some(Request::Deposit {
             collection: Name::read("tax")?,
             class: Name::read("y10")?,
             accession: Accession::read(accession)?,
@@ -67,18 +101,28 @@ fn request<'a>(
             class: None,
         }),
         Asked::DueList => Some(Request::DueList),
+        Asked::Hold => Some(Request::HoldCollection {
+            collection: Name::read("tax")?,
+            matter: Matter::read("suit")?,
+        }),
+        Asked::Class => Some(Request::DefineClass {
+            name: Name::read("y10")?,
+            years: years_of(turn)?,
+        }),
     }
 }
 
 /// Whether the request is answered as it is to be.
 fn is_answered(asked: Asked, answer: &Answer) -> bool {
     match answer {
-        Answer::Deposited { .. } => matches!(asked, Asked::Deposit),
+        Answer::Deposited { .. } => matches!(asked, Asked::Deposit | Asked::OwnDeposit),
         Answer::Record(_) => matches!(asked, Asked::Record),
         Answer::Refused(Refusal::Held(_) | Refusal::NotDue(_)) => matches!(asked, Asked::Disposal),
         Answer::Bag { .. } => matches!(asked, Asked::Bag),
         Answer::List { .. } => matches!(asked, Asked::List),
         Answer::DueList { .. } => matches!(asked, Asked::DueList),
+        Answer::HoldPlaced { .. } => matches!(asked, Asked::Hold),
+        Answer::Class { .. } => matches!(asked, Asked::Class),
         _ => false,
     }
 }
@@ -99,7 +143,7 @@ fn ask<S: Alter>(
     Ok(())
 }
 
-/// Makes the request for the deposit of a turn, in an office of deposits 1 to `last`.
+/// Makes the request of a turn, in an office of deposits 1 to `last`. `bag` is what is deposited.
 fn ask_in_turn<S: Alter>(
     alloc: Global,
     office: &mut Office<S>,
@@ -111,21 +155,27 @@ fn ask_in_turn<S: Alter>(
     let next = last.wrapping_add(turn);
     let accession = format!(in alloc; "2026-{next:07}")?;
     let number = scattered_number(turn, last);
-    let request = request(asked, number, &accession, bag).context("a request")?;
+    let request = request(asked, turn, number, &accession, bag).context("a request")?;
     ask(alloc, office, asked, turn, &request)
 }
 
-/// Makes the request this many times, in an office of deposits 1 to `last`.
+/// Makes the request this many times, in an office of deposits 1 to `last`. `forms` are those of the
+/// bags that are deposited.
 pub fn repeat<S: Alter>(
     alloc: Global,
     office: &mut Office<S>,
     asked: Asked,
     last: u32,
     count: u32,
+    forms: &[Vec<u8>],
 ) -> Result<()> {
-    let bag = form(alloc)?;
+    let mut bags = forms.iter();
     for turn in 1..=count {
-        ask_in_turn(alloc, office, asked, last, turn, bag.as_slice())?;
+        let bag = match bags.next() {
+            Some(form) => form.as_slice(),
+            None => &[],
+        };
+        ask_in_turn(alloc, office, asked, last, turn, bag)?;
     }
     Ok(())
 }

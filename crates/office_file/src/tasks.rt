@@ -61,8 +61,9 @@ fn ask<S: Alter + Drop>(
     let Ok(mut office) = Office::adopt(conn) else {
         bail!("the file holds no office");
     };
+    let forms = requests::forms(rt.alloc(), asked, count)?;
     let start = Instant::now(rt)?;
-    requests::repeat(rt.alloc(), &mut office, asked, last, count)?;
+    requests::repeat(rt.alloc(), &mut office, asked, last, count, &forms)?;
     let took = start.elapsed(rt)?;
     Ok((office.into_connection(), took))
 }
@@ -110,11 +111,14 @@ impl Task {
             "live" => Some(Task::Time(Call::LiveHolds, count)),
             "last" => Some(Task::Time(Call::LastDeposit, count)),
             "ask-deposits" => Some(Task::Ask(Asked::Deposit, count)),
+            "ask-own-deposits" => Some(Task::Ask(Asked::OwnDeposit, count)),
             "ask-records" => Some(Task::Ask(Asked::Record, count)),
             "ask-disposals" => Some(Task::Ask(Asked::Disposal, count)),
             "ask-bags" => Some(Task::Ask(Asked::Bag, count)),
             "ask-lists" => Some(Task::Ask(Asked::List, count)),
             "ask-due" => Some(Task::Ask(Asked::DueList, count)),
+            "ask-holds" => Some(Task::Ask(Asked::Hold, count)),
+            "ask-classes" => Some(Task::Ask(Asked::Class, count)),
             _ => None,
         }
     }

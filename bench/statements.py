@@ -1,0 +1,147 @@
+"""The SQL statements that the office makes for a request, in their order, through Python's sqlite3."""
+import sys
+import time
+
+from office_file import DUE, FILES, PUT_HOLD, SET_DUE, SET_HOLDS
+from office_file import due_day, file_of, opened, put_files, put_row
+
+DEPOSIT = "SELECT number, accession, collection, class, closed, deposited, files, bytes, gone FROM deposit"
+BESIDE = DEPOSIT.replace("gone", "gone, due, holds") + " ORDER BY number"
+MATCH_RULE = (
+    "SELECT place, effect, role, action, collection, class FROM rule WHERE role IN ('*', ?1)"
+    " AND action IN ('*', ?2) AND collection IN ('*', ?3) AND class IN ('*', ?4) ORDER BY place LIMIT 1"
+)
+DUE_ROW = "SELECT number, due, holds FROM deposit WHERE number = ?1"
+DUE_ROWS = (
+    "SELECT number, collection, class FROM deposit WHERE gone IS NULL AND holds = 0 AND due >= ?2"
+    " AND due <= ?1 ORDER BY number"
+)
+HOLD = "SELECT number, deposit, collection, matter, placed, released FROM hold"
+HOLDS_ON_DEPOSIT = (
+    "SELECT number FROM hold WHERE deposit = ?1 AND released IS NULL ORDER BY number"
+)
+HOLDS_ON_COLLECTION = (
+    "SELECT number FROM hold WHERE collection = ?2 AND deposit IS NOT ?1 AND released IS NULL"
+    " ORDER BY number"
+)
+LIMITS = "SELECT max_deposits, max_holds FROM office WHERE id = ?1"
+# The day of each request.
+DAY = 20_500
+
+
+class Statements:
+    """The statements of requests, by the caller `anna`."""
+
+    def __init__(self, file):
+        self.conn = opened(file)
+
+    def rows(self, text, *values):
+        return self.conn.execute(text, values).fetchall()
+
+    def role(self):
+        return self.rows("SELECT role FROM caller WHERE name = ?1", "anna")[0][0]
+
+    def asker(self, action, collection="tax", klass="y10"):
+        self.rows(MATCH_RULE, self.role(), action, collection, klass)
+
+    def each_pair(self, role, action, pairs):
+        """The rule, asked for once for each pair of collection and class."""
+        for pair in dict.fromkeys(pairs):
+            self.rows(MATCH_RULE, role, action, *pair)
+
+    def row(self, number):
+        return self.rows(DEPOSIT + " WHERE number = ?1", number)[0]
+
+    def kept_row(self, number, action):
+        """The row of a deposit, for a request that the rule of its place decides."""
+        row = self.row(number)
+        self.asker(action, *row[2:4])
+        return row
+
+    def years(self):
+        return self.rows("SELECT years FROM class WHERE name = ?1", "y10")[0][0]
+
+    def holds(self, number, collection):
+        on_deposit = self.rows(HOLDS_ON_DEPOSIT, number)
+        return on_deposit + self.rows(HOLDS_ON_COLLECTION, number, collection)
+
+    def next_hold(self):
+        self.rows(LIMITS, 1)
+        return (self.rows("SELECT number FROM hold ORDER BY number DESC LIMIT 1") or [(0,)])[0][0] + 1
+
+    def deposit(self, number, files=FILES):
+        self.rows("SELECT name FROM collection WHERE name = ?1", "tax")
+        self.years()
+        self.asker("deposit")
+        self.rows(DEPOSIT + " WHERE accession = ?1", f"2026-{number:07}")
+        self.rows(LIMITS, 1)
+        self.rows("SELECT number FROM deposit ORDER BY number DESC LIMIT 1")
+        self.years()
+        count = len(self.holds(number, "tax"))
+        put_row(self.conn, number)
+        self.rows(SET_DUE, number, DUE)
+        self.rows(SET_HOLDS, number, count)
+        put_files(self.conn, number, files)
+
+    def own_deposit(self, given):
+        """A deposit of this number and these files."""
+        self.deposit(*given)
+
+    def record(self, number):
+        self.kept_row(number, "record")
+        self.rows(DUE_ROW, number)
+
+    def disposal(self, number):
+        collection = self.kept_row(number, "dispose")[2]
+        if self.rows(DUE_ROW, number)[0][2] == 0:
+            sys.exit("no hold")
+        self.rows(LIMITS, 1)
+        self.rows(HOLD + " WHERE number = ?1", min(self.holds(number, collection))[0])
+
+    def bag(self, number):
+        self.kept_row(number, "download")
+        for (path,) in self.rows("SELECT path FROM file WHERE deposit = ?1 ORDER BY path", number):
+            file_of(self.conn, number, path)
+
+    def list(self, _number):
+        role = self.role()
+        self.each_pair(role, "list", [row[2:4] for row in self.rows(BESIDE)])
+
+    def due(self, _number):
+        role = self.role()
+        self.each_pair(role, "dispose", [row[1:] for row in self.rows(DUE_ROWS, DAY, -(2**63))])
+
+    def hold_collection(self, _number):
+        self.rows("SELECT name FROM collection WHERE name = ?1", "tax")
+        self.asker("hold", klass="")
+        self.rows(PUT_HOLD, self.next_hold(), None, "tax", "suit", DAY, None)
+        self.rows("UPDATE deposit SET holds = holds + ?2 WHERE collection = ?1", "tax", 1)
+
+    def revise(self, number):
+        """The class has eleven years, and then ten."""
+        years = 10 + number % 2
+        self.asker("class", collection="")
+        self.rows("UPDATE class SET years = ?2 WHERE name = ?1", "y10", years)
+        for deposit, closed in self.rows(
+            "SELECT number, closed FROM deposit WHERE class = ?1 ORDER BY number", "y10"
+        ):
+            self.rows(SET_DUE, deposit, due_day(closed, years))
+
+
+def scattered(last, count):
+    """So many numbers from 1 to `last`, here and there, as the program takes them."""
+    return [turn * 7919 % 2**32 % last + 1 for turn in range(1, count + 1)]
+
+
+def theirs(file, name, given, end):
+    """Microseconds of the statements of requests that are given these numbers."""
+    statements = Statements(file)
+    ask = getattr(statements, name)
+    begin = time.perf_counter()
+    for it in given:
+        statements.conn.execute("BEGIN")
+        ask(it)
+        statements.conn.execute(end)
+    took = time.perf_counter() - begin
+    statements.conn.close()
+    return took * 1e6

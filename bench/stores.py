@@ -1,0 +1,95 @@
+"""Files that hold an office with many deposits: Python puts the rows in, as the office writes them."""
+import hashlib
+import pathlib
+import tomllib
+
+from office_file import PUT_CONTENT, PUT_FILE, PUT_HOLD, RECORD, TOP, due_day, opened, ours, own_files
+
+# The policy of the examples, by which `anna` may do all but dispose in the collection `tax`.
+SMALL = tomllib.loads((TOP / "examples" / "policy.toml").read_text())
+
+
+def rule(effect, collection):
+    """A rule for the role of `anna`."""
+    return dict(effect=effect, role="archivist", action="*", collection=collection, **{"class": "*"})
+
+
+# 200 rules, of which the last alone fits what is asked: the others are of other collections.
+LONG = SMALL | {"rule": [rule("deny", f"c{n}") for n in range(1, 200)] + [rule("allow", "*")]}
+PUT_DEPOSIT = (
+    "INSERT INTO deposit (number, accession, collection, class, closed, deposited, files, bytes, gone,"
+    " due, holds) VALUES (?1, ?2, ?3, ?4, ?5, 20500, 1, ?6, ?7, ?8, ?9)"
+)
+YEARS = 10
+USUAL = {"collection": "maps", "klass": "y10", "closed": 20_454, "gone": None, "held": False}
+
+
+def put_policy(conn, policy):
+    """A policy in the place of the one that is there."""
+    conn.execute("DELETE FROM caller")
+    conn.execute("DELETE FROM rule")
+    conn.executemany("INSERT INTO caller (name, role) VALUES (?1, ?2)", policy["callers"].items())
+    for place, it in enumerate(policy["rule"], 1):
+        row = (place, it["effect"] == "allow", it["role"], it["action"], it["collection"], it["class"])
+        conn.execute("INSERT INTO rule VALUES (?1, ?2, ?3, ?4, ?5, ?6)", row)
+
+
+BAGS = [own_files(number) for number in range(1_000)]
+
+
+def shared_bag(number):
+    """The files of one of 1,000 bags of 10 KiB."""
+    return BAGS[number % len(BAGS)]
+
+
+def small_bag(number):
+    """The files of a bag with a record of 100 bytes, which no other deposit has."""
+    return own_files(number, RECORD[:100])
+
+
+def deposit_row(number, it, files):
+    """The row of a deposit of which `it` says what is special."""
+    place = (f"2026-{number:07}", it["collection"], it["klass"], it["closed"])
+    due = due_day(it["closed"], YEARS)
+    return (number, *place, len(files[1][1]), it["gone"], due, int(it["held"]))
+
+
+def put_contents(conn, bags):
+    """Contents, each kept once. The numbers of their rows."""
+    contents = dict.fromkeys(content for files in bags for _, content in files)
+    marked = ((hashlib.sha256(it).digest(), len(it), it) for it in contents)
+    conn.executemany(PUT_CONTENT, marked)
+    return {content: at for at, content in enumerate(contents, 1)}
+
+
+def put_deposits(conn, deposits, bag):
+    """Deposits, by number what is special of each, into an office that has none."""
+    conn.executemany(
+        "INSERT OR IGNORE INTO collection VALUES (?1)", {(it["collection"],) for it in deposits.values()}
+    )
+    conn.executemany(
+        "INSERT OR IGNORE INTO class VALUES (?1, ?2)", {(it["klass"], YEARS) for it in deposits.values()}
+    )
+    conn.executemany(PUT_DEPOSIT, (deposit_row(n, it, bag(n)) for n, it in deposits.items()))
+    kept = [n for n, it in deposits.items() if it["gone"] is None]
+    ids = put_contents(conn, map(bag, kept))
+    conn.executemany(PUT_FILE, ((n, path, ids[content]) for n in kept for path, content in bag(n)))
+    held = (n for n, it in deposits.items() if it["held"])
+    conn.executemany(PUT_HOLD, ((at, n, None, "suit", 20_500, None) for at, n in enumerate(held, 1)))
+
+
+def stored(folder, name, rows, of=lambda number: {}, policy=SMALL, bag=shared_bag):
+    """The file of this name, an office with so many deposits. `of` says what is special of a deposit: its
+    collection, its class, the days on which it is closed and gone, and whether it has a hold of its own."""
+    file = pathlib.Path(folder) / f"{name}.db"
+    if file.exists():
+        return file
+    ours("make", file)
+    conn = opened(file)
+    conn.execute("BEGIN")
+    put_policy(conn, policy)
+    put_deposits(conn, {number: USUAL | of(number) for number in range(1, rows + 1)}, bag)
+    conn.execute("COMMIT")
+    conn.execute("PRAGMA wal_checkpoint(TRUNCATE)").fetchall()
+    conn.close()
+    return file
