@@ -30,6 +30,7 @@ use crate::working::table_failure;
 use http_desk::Counted;
 use office_core::Limits;
 use office_engine::Office;
+use office_recovery::open_file;
 use office_rows::MAX_LIMIT;
 use sqlite::{Alter, Connection, Error, ErrorCode, FileFrom, FileStore, Files, Start};
 use sqlite_disk::Disk;
@@ -143,7 +144,7 @@ fn open_store<S: Start>(
     ensures failure { IfErr result IsUnopenable }
     ensures not_sought { IfErr result (λ fault. is_sought fault ≡ false) }
 {
-    match Connection::open_from(rt, store, false, start) {
+    match open_file(rt, store, start) {
         Ok(conn) => Ok(conn),
         Err((error, _)) => {
             let cause = opening_cause(rt, store, is_new, error);

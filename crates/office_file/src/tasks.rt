@@ -6,7 +6,8 @@ use crate::requests::{self, Asked};
 use crate::timed::{self, Call};
 use anyhow::{Context, Result, bail};
 use office_engine::Office;
-use sqlite::{Alter, Connection};
+use office_recovery::open_file;
+use sqlite::{Alter, Connection, Error, File, FileStore, Unknown};
 use std::time::{Duration, Instant};
 
 /// What is done with the file.
@@ -93,6 +94,14 @@ fn perform<S: Alter + Drop>(
     Ok((conn, Report::Done))
 }
 
+/// Opens the file as the program does.
+fn open(rt: &HostRuntime, file: &str) -> Result<Connection<FileStore<File>>, Error> {
+    match open_file(rt, file, Unknown) {
+        Ok(conn) => Ok(conn),
+        Err((error, _)) => Err(error),
+    }
+}
+
 impl Task {
     /// The task that a word asks for.
     pub fn read(word: &str) -> Option<Task> {
@@ -125,7 +134,7 @@ impl Task {
 
     /// Does the task over the file.
     pub fn take(self, rt: &HostRuntime, file: &str) -> Result<Report> {
-        let conn = Connection::open(rt, file).context("opening the file")?;
+        let conn = open(rt, file).context("opening the file")?;
         let (conn, report) = perform(rt, conn, self)?;
         conn.close().context("closing the file")?;
         Ok(report)

@@ -1,6 +1,8 @@
 //! An office that is found again: of what was left of one, its rows as they were.
 #![tactic(auto)]
 
+mod file;
+
 ghost use Rattle.std.specs.Prelude.{◌≡◌, ◌≤◌, Err, None, Some, false, IsTrue, IfOk, IfErr, IfSome};
 ghost use Rattle.sqlite.specs.State.{HasCleanDisk, Survives};
 ghost use Rattle.sqlite.specs.Held.{state};
@@ -17,6 +19,7 @@ ghost use Rattle.office_tables.specs.Tables.{IsOffice, tables_of};
 ghost use Rattle.office_tables.specs.declared.fault.TableFault.TheVariants.{NotAnOffice, OtherVersion};
 ghost use Rattle.office_recovery.specs.Found.{GoesOnAs, HoldsWhere, PicksUp};
 
+pub use file::open_file;
 use office_tables::{TableFault, open_tables};
 use sqlite::{Alter, Connection, FileFrom, FileStore, Files, Options, Start};
 use sqlite_disk::Disk;
@@ -80,7 +83,7 @@ pub fn reopen<S: Start>(
     ensures version { IfSome result (λ office. HasCleanDisk (file_state office) → IsTrue (file_state office).is_open → HasVersion (file_state office).now this_version) }
     ensures goes_on { IfSome result (λ office. HasCleanDisk (file_state office) → PicksUp (image_at S.Start) (file_state office)) }
 {
-    let conn = match Connection::open_from(rt, path, false, start) {
+    let conn = match open_file(rt, path, start) {
         Ok(conn) => conn,
         Err(_) => return None,
     };
