@@ -1,5 +1,5 @@
 -- What is kept of a deposit, as it is read for its disposal; and the due days of a class that is revised.
-use Rattle.std.proofs.Common.{◌≡◌, ℕ, suc, ◌&&◌, ℤ, pos, true, false, List, [], ◌∷◌, filter, length, Option, Some, None, option_map, slice_get, is_none, refl, sym, ap, ◌∙◌, arith, if◌then◌else◌, true≢false}
+use Rattle.std.proofs.Common.{◌≡◌, ℕ, suc, ◌&&◌, ℤ, pos, false, List, [], ◌∷◌, filter, length, Option, Some, None, option_map, slice_get, is_none, refl, sym, ap, ◌∙◌, arith, true≢false}
 use Rattle.std.specs.Option.{option_map_or}
 use Rattle.std.specs.Ordering.{int_eq}
 use Rattle.std.proofs.lemmas.Option.{same_Some}

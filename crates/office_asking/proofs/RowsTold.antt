@@ -1,5 +1,5 @@
 -- What the rows tell by the calls that read them, whichever rows they are.
-use Rattle.std.proofs.Common.{◌≡◌, ℕ, ℤ, pos, List, [], ◌∷◌, map, slice_get, Option, Some, None, IfOk, IfErr, Result, Ok, Err, option_map, string_bytes, sym, ap, subst, ◌∙◌, refl}
+use Rattle.std.proofs.Common.{◌≡◌, ℕ, ℤ, pos, Bool, true, false, if◌then◌else◌, List, [], ◌∷◌, map, slice_get, Option, Some, None, IfOk, IfErr, Result, Ok, Err, option_map, string_bytes, sym, ap, subst, ◌∙◌, refl}
 use Rattle.std.proofs.lemmas.Option.{same_Some}
 use Rattle.std.specs.Option.{ok_or}
 use Rattle.sqlite.specs.Effect.{Database}
@@ -30,6 +30,11 @@ module _ (old mid : Database) (same : mid ≡ old) where
 pub there_is : {T E : Type 0} (found : Option T) (fault : E) (x : T) → Ok x ≡ ok_or found fault → Some x ≡ found
 there_is None fault x e = absurd cc
 there_is (Some y) fault x e = cc
+
+-- what is said to be there is
+pub is_there : {E : Type 0} (found : Bool) (fault : E) → ◌≡◌ {A = Result (Unit {0}) E} (Ok tt) (if found then Ok tt else Err fault) → true ≡ found
+is_there true fault e = refl
+is_there false fault e = absurd cc
 
 -- what is so of all that may be found is so of what has to be there
 pub there_told : {T E : Type 0} {is_so : T → Type 0} (found : Option T) (fault : E) (result : Result T E) → result ≡ ok_or found fault → ((x : T) → Some x ≡ found → is_so x) → IfOk result is_so

@@ -16,7 +16,7 @@ ghost use Rattle.office_asking.specs.Serving.{Finds};
 use crate::asker::Asker;
 use crate::deposits::days_in;
 use crate::holds::told_hold;
-use crate::rows::{due_numbered, there, years_numbered};
+use crate::rows::{check_between, due_numbered, there, years_numbered};
 use office_core::{Action, Day, Due, Facts};
 use office_tables::{DepositRow, DueRow, TableFault, class_of, due_row, limits, live_holds};
 use sqlite::{Alter, Transaction};
@@ -36,9 +36,11 @@ pub fn due_day<S: Alter>(
     ensures goes_on { Continues S.Store tx.old.conn.now tx.new.conn.now result }
     ensures failure { IfErr result IsFailure }
     ensures due { Finds S.Store tx.old.conn.now tx.new.conn.now result (λ h found.
-        (deposit : Deposit) → deposit.class ≡ class.now → deposit.closed ≡ closed → found ≡ due h deposit) }
+        (deposit : Deposit) → deposit.class ≡ class.now → deposit.closed ≡ closed
+        → found ≡ due h deposit) }
     ensures same { Keeps S.Store tx.old.conn.now tx.new.conn.now result }
-    ensures rows { Tells S.Store tx.old.conn.now tx.new.conn.now result (λ tables found. IsDueIn tables class.now closed found) }
+    ensures rows { Tells S.Store tx.old.conn.now tx.new.conn.now result (λ tables found.
+        IsDueIn tables class.now closed found) }
 {
     let found = class_of(tx, class)?;
     let years = there(found)?;
@@ -60,8 +62,10 @@ pub fn least_hold<S: Alter>(
     ensures goes_on { Continues S.Store tx.old.conn.now tx.new.conn.now result }
     ensures failure { IfErr result IsFailure }
     ensures least { Finds S.Store tx.old.conn.now tx.new.conn.now result (λ h found.
-        (deposit : Deposit) → deposit.collection ≡ collection.now → found ≡ least_hold h number deposit) }
-    ensures rows { Tells S.Store tx.old.conn.now tx.new.conn.now result (λ tables found. IfSome found (λ k. IsLeastIn tables number collection.now k)) }
+        (deposit : Deposit) → deposit.collection ≡ collection.now
+        → found ≡ least_hold h number deposit) }
+    ensures rows { Tells S.Store tx.old.conn.now tx.new.conn.now result (λ tables found.
+        IfSome found (λ k. IsLeastIn tables number collection.now k)) }
 {
     let holds = live_holds(alloc, tx, number, collection)?;
     let Some(least) = holds.first().copied() else {
@@ -80,15 +84,17 @@ pub fn kept_of<S: Alter>(tx: &mut Transaction<'_, S>, number: u32) -> Result<Due
     ensures goes_on { Continues S.Store tx.old.conn.now tx.new.conn.now result }
     ensures failure { IfErr result IsFailure }
     ensures kept { Finds S.Store tx.old.conn.now tx.new.conn.now result (λ h kept.
-        (found : Date × Deposit) → deposit_numbered h number ≡ Some found → kept ≡ due_row h number found) }
+        (found : Date × Deposit) → deposit_numbered h number ≡ Some found
+        → kept ≡ due_row h number found) }
     ensures same { Keeps S.Store tx.old.conn.now tx.new.conn.now result }
-    ensures rows { Tells S.Store tx.old.conn.now tx.new.conn.now result (λ tables kept. Some kept ≡ due_numbered (pos number) tables.dues) }
+    ensures rows { Tells S.Store tx.old.conn.now tx.new.conn.now result (λ tables kept.
+        Some kept ≡ due_numbered (pos number) tables.dues) }
 {
     let found = due_row(tx, number)?;
     there(found)
 }
 
-/// Refuses a count of live holds that no office keeps of a deposit that is held: one below 1, or of more holds
+/// That a count of live holds is one that an office keeps of a deposit that is held: at least 1, and no more
 /// than it takes.
 fn check_count<S: Alter>(tx: &mut Transaction<'_, S>, count: i64) -> Result<(), TableFault>
     ensures same_reference { tx.new.conn.ghost_name ≡ tx.old.conn.ghost_name }
@@ -96,13 +102,11 @@ fn check_count<S: Alter>(tx: &mut Transaction<'_, S>, count: i64) -> Result<(), 
     ensures goes_on { Continues S.Store tx.old.conn.now tx.new.conn.now result }
     ensures failure { IfErr result IsFailure }
     ensures same { Keeps S.Store tx.old.conn.now tx.new.conn.now result }
-    ensures rows { Tells S.Store tx.old.conn.now tx.new.conn.now result (λ tables _. IsCountIn tables count) }
+    ensures rows { Tells S.Store tx.old.conn.now tx.new.conn.now result (λ tables _.
+        IsCountIn tables count) }
 {
-    let most = limits(tx)?.max_holds as i64;
-    if count < 1 || most < count {
-        return Err(TableFault::Store);
-    }
-    Ok(())
+    let limits = limits(tx)?;
+    check_between(count, 1, limits.max_holds)
 }
 
 /// The least live hold that covers the deposit of that number, which is of that collection and covered by so
@@ -119,8 +123,11 @@ fn counted_hold<S: Alter>(
     ensures goes_on { ContinuesInTurn S.Store tx.old.conn.now tx.new.conn.now result }
     ensures failure { IfErr result IsFailure }
     ensures least { Finds S.Store tx.old.conn.now tx.new.conn.now result (λ h found.
-        (deposit : Deposit) → deposit.collection ≡ collection.now → count ≡ pos (length (live_holds h number deposit)) → found ≡ least_hold h number deposit) }
-    ensures rows { Tells S.Store tx.old.conn.now tx.new.conn.now result (λ tables found. IsCountedIn tables count number collection.now found) }
+        (deposit : Deposit) → deposit.collection ≡ collection.now
+        → count ≡ pos (length (live_holds h number deposit))
+        → found ≡ least_hold h number deposit) }
+    ensures rows { Tells S.Store tx.old.conn.now tx.new.conn.now result (λ tables found.
+        IsCountedIn tables count number collection.now found) }
 {
     if count == 0 {
         return Ok(None);
@@ -145,9 +152,12 @@ pub fn disposal_facts<S: Alter>(
     ensures goes_on { Continues S.Store tx.old.conn.now tx.new.conn.now result }
     ensures failure { IfErr result IsFailure }
     ensures facts { Finds S.Store tx.old.conn.now tx.new.conn.now result (λ h facts.
-        (caller : List ℕ) → IsAsker h caller asker.now → (n : ℕ) (found : Date × Deposit) → deposit_numbered h n ≡ Some found → row.now ≡ deposit_row h n found → facts ≡ facts_of h caller acts.Dispose n found.1) }
+        (caller : List ℕ) → IsAsker h caller asker.now → (n : ℕ) (found : Date × Deposit)
+        → deposit_numbered h n ≡ Some found → row.now ≡ deposit_row h n found
+        → facts ≡ facts_of h caller acts.Dispose n found.1) }
     ensures rows { Tells S.Store tx.old.conn.now tx.new.conn.now result (λ tables facts.
-        (caller : List ℕ) → IsAskerIn tables caller asker.now → (n : ℕ) → pos n ≡ row.now.number → AreFactsIn tables caller n row.now facts) }
+        (caller : List ℕ) → IsAskerIn tables caller asker.now → (n : ℕ) → pos n ≡ row.now.number
+        → AreFactsIn tables caller n row.now facts) }
 {
     let days = days_in(row)?;
     let decision = asker.decision(tx, Action::Dispose, Some(&row.collection), Some(&row.class))?;

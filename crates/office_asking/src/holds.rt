@@ -4,6 +4,7 @@ ghost use Rattle.std.specs.Prelude.{◌≡◌, IfErr, IfOk, Some, length, pos};
 ghost use Rattle.office_tables.specs.Faults.{IsFailure};
 ghost use Rattle.office_rows.specs.Rows as rows;
 ghost use Rattle.office_tables.specs.Calls.{CommitsNothing, Continues, Keeps, Tells};
+ghost use Rattle.office_tables.specs.ShownHolds.{held_collection, held_deposit};
 ghost use Rattle.office_history.specs.Histories.{Deposit, live_holds};
 ghost use Rattle.office_history.specs.Answers.{told_hold};
 ghost use Rattle.office_asking.specs.Serving.{Finds};
@@ -13,20 +14,33 @@ ghost use Rattle.office_core.specs.declared.answer.LiveHold.{LiveHold};
 
 use crate::rows::{day_numbered, text_of_kind, there};
 use office_core::{LiveHold, Scope};
-use office_tables::{HoldRow, TableFault, hold_row, live_holds};
+use office_tables::{HoldRow, HoldTarget, TableFault, hold_row, live_holds};
 use sqlite::{Alter, Transaction};
 use std::alloc::Global;
 
-/// What a row names: a deposit, or a collection.
-fn scope_of(row: &HoldRow) -> Result<Scope, TableFault>
-    ensures scope { IfOk result (λ scope. Some scope ≡ scope_in row.now.deposit row.now.collection) }
+/// What the row of a hold names: a deposit or a collection, and not both.
+///
+/// Fails with `Store`.
+pub fn named_in(row: &HoldRow) -> Result<HoldTarget<'_>, TableFault>
+    ensures deposit { IfOk result (λ named. held_deposit named ≡ row.now.deposit) }
+    ensures collection { IfOk result (λ named. held_collection named ≡ row.now.collection) }
     ensures failure { IfErr result IsFailure }
     ensures store { IfErr result (λ fault. fault ≡ TableFault.Store) }
 {
-    match (&row.deposit, &row.collection) {
-        (Some(_), None) => Ok(Scope::Deposit),
-        (None, Some(_)) => Ok(Scope::Collection),
+    match (row.deposit, &row.collection) {
+        (Some(number), None) => Ok(HoldTarget::Deposit(number)),
+        (None, Some(name)) => Ok(HoldTarget::Collection(name.as_str())),
         _ => Err(TableFault::Store),
+    }
+}
+
+/// Whether what a hold is on is a deposit or a collection.
+fn scope_of(named: HoldTarget<'_>) -> Scope
+    ensures { Some result ≡ scope_in (held_deposit named.entry) (held_collection named.entry) }
+{
+    match named {
+        HoldTarget::Deposit(_) => Scope::Deposit,
+        HoldTarget::Collection(_) => Scope::Collection,
     }
 }
 
@@ -37,9 +51,11 @@ pub fn hold_in(alloc: Global, row: &HoldRow) -> Result<LiveHold, TableFault>
     ensures told { IfOk result (λ told. IsHoldOf row.now told) }
     ensures failure { IfErr result IsFailure }
     // It wants memory only for a hold: a row that tells of none is a fault of the store.
-    ensures memory { IfErr result (λ fault. fault ≡ TableFault.Memory → (told : LiveHold) × IsHoldOf row.now told) }
+    ensures memory { IfErr result (λ fault.
+        fault ≡ TableFault.Memory → (told : LiveHold) × IsHoldOf row.now told) }
 {
-    let on = scope_of(row)?;
+    let named = named_in(row)?;
+    let on = scope_of(named);
     let placed = day_numbered(row.placed)?;
     Ok(LiveHold {
         number: row.number,
@@ -61,9 +77,11 @@ pub fn told_hold<S: Alter>(
     ensures stays { CommitsNothing S.Store tx.old.conn.now tx.new.conn.now }
     ensures goes_on { Continues S.Store tx.old.conn.now tx.new.conn.now result }
     ensures failure { IfErr result IsFailure }
-    ensures told { Finds S.Store tx.old.conn.now tx.new.conn.now result (λ h told. Some told ≡ told_hold h number) }
+    ensures told { Finds S.Store tx.old.conn.now tx.new.conn.now result (λ h told.
+        Some told ≡ told_hold h number) }
     ensures same { Keeps S.Store tx.old.conn.now tx.new.conn.now result }
-    ensures rows { Tells S.Store tx.old.conn.now tx.new.conn.now result (λ tables told. IsHoldIn tables number told) }
+    ensures rows { Tells S.Store tx.old.conn.now tx.new.conn.now result (λ tables told.
+        IsHoldIn tables number told) }
 {
     let found = hold_row(tx, number)?;
     let row = there(found)?;
@@ -84,9 +102,11 @@ pub fn live_count<S: Alter>(
     ensures goes_on { Continues S.Store tx.old.conn.now tx.new.conn.now result }
     ensures failure { IfErr result IsFailure }
     ensures count { Finds S.Store tx.old.conn.now tx.new.conn.now result (λ h count.
-        (deposit : Deposit) → deposit.collection ≡ collection.now → count ≡ pos (length (live_holds h number deposit))) }
+        (deposit : Deposit) → deposit.collection ≡ collection.now
+        → count ≡ pos (length (live_holds h number deposit))) }
     ensures same { Keeps S.Store tx.old.conn.now tx.new.conn.now result }
-    ensures rows { Tells S.Store tx.old.conn.now tx.new.conn.now result (λ tables count. count ≡ pos (length (rows.live_holds (pos number) collection.now tables))) }
+    ensures rows { Tells S.Store tx.old.conn.now tx.new.conn.now result (λ tables count.
+        count ≡ pos (length (rows.live_holds (pos number) collection.now tables))) }
 {
     let holds = live_holds(alloc, tx, number, collection)?;
     match i64::try_from(holds.len()) {

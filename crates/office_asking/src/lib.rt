@@ -13,8 +13,9 @@ mod rows;
 pub use asker::{Asker, denial};
 pub use deposits::{DepositDays, days_in, kept_deposit};
 pub use due::{disposal_facts, due_day, kept_of, least_hold};
-pub use holds::{hold_in, live_count, told_hold};
+pub use holds::{hold_in, live_count, named_in, told_hold};
 pub use limits::number_after;
 pub use rows::{
-    day_numbered, due_numbered, optional_day_numbered, text_of_kind, there, years_numbered,
+    check_between, check_there, day_numbered, due_numbered, optional_day_numbered, text_of_kind,
+    text_read, there, years_numbered,
 };

@@ -1,9 +1,9 @@
 //! What the numbers and texts of rows stand for. What stands for nothing is of a row that no accepted
 //! change writes, which is a fault of the store.
 
-ghost use Rattle.std.specs.Prelude.{◌≡◌, Err, IfErr, IfOk, IfSome, OnOk, option_map, true};
+ghost use Rattle.std.specs.Prelude.{◌≡◌, Err, IfErr, IfOk, IfSome, Ok, OnErr, OnOk, if◌then◌else◌, option_map, pos, true};
 ghost use Rattle.std.specs.Option.{ok_or};
-ghost use Rattle.jiff.specs.Words.{epoch_day};
+ghost use Rattle.jiff.specs.Words.{IsBetween, epoch_day};
 ghost use Rattle.office_core.specs.Days.{IsDayNumber};
 ghost use Rattle.office_core.specs.Retention.{IsDueNumber};
 ghost use Rattle.office_tables.specs.Faults.{IsFailure};
@@ -22,6 +22,33 @@ pub fn there<T>(found: Option<T>) -> Result<T, TableFault>
         Some(value) => Ok(value),
         None => Err(TableFault::Store),
     }
+}
+
+/// That something is there. Where nothing is that has to be, it is a fault of the store.
+pub fn check_there(found: bool) -> Result<(), TableFault>
+    ensures { result ≡ (if found then Ok tt else Err TableFault.Store) }
+{
+    if found {
+        Ok(())
+    } else {
+        Err(TableFault::Store)
+    }
+}
+
+/// That a count is from the least to the most that it may be, both included.
+///
+/// Fails with `Store`.
+pub fn check_between(count: i64, least: u32, most: u32) -> Result<(), TableFault>
+    ensures between { OnOk result (IsBetween (pos least) (pos most) count) }
+    ensures failure { IfErr result IsFailure }
+    ensures store { IfErr result (λ fault. fault ≡ TableFault.Store) }
+{
+    let least = least as i64;
+    let most = most as i64;
+    if count < least || most < count {
+        return Err(TableFault::Store);
+    }
+    Ok(())
 }
 
 /// The day with that number.
@@ -88,6 +115,23 @@ pub fn years_numbered(number: i64) -> Result<Years, TableFault>
     }
 }
 
+/// The name, accession number or matter that a text is, lent.
+///
+/// Fails with `Store`.
+pub fn text_read<K: TextKind>(text: &str) -> Result<Text<'_, K>, TableFault>
+    ensures text { IfOk result (λ found. found ≡ text.now) }
+    ensures kind { IfOk result (λ found. K.is_of_kind found ≡ true) }
+    // Only a text that is none fails.
+    ensures none { OnErr result (K.is_of_kind text.now ≡ true → ⊥) }
+    ensures failure { IfErr result IsFailure }
+    ensures store { IfErr result (λ fault. fault ≡ TableFault.Store) }
+{
+    match Text::<K>::read(text) {
+        Some(found) => Ok(found),
+        None => Err(TableFault::Store),
+    }
+}
+
 /// The name, accession number or matter that a text is.
 pub fn text_of_kind<K: TextKind>(alloc: Global, text: &str) -> Result<OwnedText<K>, TableFault>
     ensures text { IfOk result (λ owned. owned ≡ text.now) }
@@ -97,8 +141,6 @@ pub fn text_of_kind<K: TextKind>(alloc: Global, text: &str) -> Result<OwnedText<
     ensures memory { K.is_of_kind text.now ≡ true → IfErr result (λ fault. fault ≡ Memory) }
     ensures store { (K.is_of_kind text.now ≡ true → ⊥) → result ≡ Err Store }
 {
-    match Text::<K>::read(text) {
-        Some(found) => Ok(found.to_owned(alloc)?),
-        None => Err(TableFault::Store),
-    }
+    let found = text_read::<K>(text)?;
+    Ok(found.to_owned(alloc)?)
 }

@@ -16,7 +16,7 @@ use Rattle.office_serving.specs.ListsByRows.{IsDueListIn, IsListIn, IsRecordIn}
 abbrev pub RowsTell : Tables → Date → List ℕ → Request → Answer → Type 0
 RowsTell t day caller (DefineClass name years) = IsClassDefinedIn t caller name years
 RowsTell t day caller (DefineCollection name) = IsCollectionDefinedIn t caller name
-RowsTell t day caller (Deposit collection class accession closed bag) = IsDepositedIn t day caller collection class accession closed bag.now
+RowsTell t day caller (Deposit collection class accession closed bag) = IsDepositedIn t (record { day = day; caller = caller; collection = collection; class = class; accession = accession; closed = closed }) bag.now
 RowsTell t day caller (ListDeposits collection class) = IsListIn t caller collection class
 RowsTell t day caller (Record n) = IsRecordIn t caller n
 RowsTell t day caller (Holds n) = AreHoldsIn t caller n

@@ -1,5 +1,5 @@
 -- What the rows tell where a hold is placed or released, put together from what each call tells.
-use Rattle.std.proofs.Common.{◌≡◌, ℕ, ℤ, pos, true, false, List, Option, Some, None, option_map, unwrap_or, Result, Ok, Err, refl, sym, ap, subst, ◌∙◌}
+use Rattle.std.proofs.Common.{◌≡◌, ℕ, ℤ, pos, true, false, List, Option, Some, None, option_map, unwrap_or, Result, Ok, Err, refl, sym, subst}
 use Rattle.sqlite.specs.Effect.{Database}
 use Rattle.office_core.specs.declared.action.Action.TheVariants as acts
 use Rattle.office_core.specs.declared.refusal.Refusal.{Refusal}
@@ -11,32 +11,27 @@ use Rattle.office_tables.specs.ShownHolds as shown
 use Rattle.office_tables.specs.declared.holds.HoldTarget.{HoldTarget}
 use Rattle.office_asking.specs.ByRows.{IsAskedIn, IsDenialIn}
 use Rattle.office_asking.specs.Limits.{IsNumberAfter}
-use Rattle.office_holding.specs.ByRows.{IsCountable, IsNextIn, IsDepositPlaceIn, IsCollectionDenial, IsCollectionDenialIn, IsCollectionPlaceIn, IsReleaseDenialIn, IsRowUnless, IsReleaseRefusalOf, IsReleasableIn}
-
--- the last number, or 0, by what the rows tell of it
-last_or_zero : (last : Option ℕ) → pos (unwrap_or last 0) ≡ unwrap_or (option_map pos last) (pos 0)
-last_or_zero None = refl
-last_or_zero (Some k) = refl
+use Rattle.office_holding.specs.ByRows.{IsCountable, IsNextHoldIn, IsDepositPlaceIn, IsCollectionDenial, IsCollectionDenialIn, IsCollectionPlaceIn, IsReleaseDenialIn, IsRowUnless, IsReleaseRefusalOf, IsReleasableIn}
 
 -- the next number, by the limits and the last number that were read
 pub next_told : (t : Tables) (deposits most : ℕ) → limits_of t ≡ Some (record { max_deposits = pos deposits; max_holds = pos most })
     → (last : Option ℕ) → option_map pos last ≡ last_number (λ (h : HoldRow). h.number) t.holds
-    → (place : Result ℕ Refusal) → IsNumberAfter (unwrap_or last 0) most place → IsNextIn t place
+    → (place : Result ℕ Refusal) → IsNumberAfter (unwrap_or last 0) most place → IsNextHoldIn t place
 next_told t deposits most are last told place after = record {
   limits = record { max_deposits = pos deposits; max_holds = pos most };
   are = are;
   most = most;
-  takes = refl;
-  last = unwrap_or last 0;
-  highest = last_or_zero last ∙ ap (λ o. unwrap_or o (pos 0)) told;
-  after = after;
+  is_most = refl;
+  last = last;
+  is_last = told;
+  comes_to = after;
 }
 
 module _ (t : Tables) (caller : List ℕ) (n : ℕ) where
   pub deposit_refused : (why : Refusal) → IsAskedIn t caller acts.Hold n (Err why) → IsDepositPlaceIn t caller n (Err why)
   deposit_refused why asked = record { asked = Err why; is_asked = asked; is = refl }
 
-  pub deposit_next : (row : DepositRow) → IsAskedIn t caller acts.Hold n (Ok row) → (place : Result ℕ Refusal) → IsNextIn t place → IsDepositPlaceIn t caller n place
+  pub deposit_next : (row : DepositRow) → IsAskedIn t caller acts.Hold n (Ok row) → (place : Result ℕ Refusal) → IsNextHoldIn t place → IsDepositPlaceIn t caller n place
   deposit_next row asked place next = record { asked = Ok row; is_asked = asked; is = next }
 
 module _ (t : Tables) (caller name : List ℕ) where
@@ -49,7 +44,7 @@ module _ (t : Tables) (caller name : List ℕ) where
   pub collection_refused : (why : Refusal) → IsCollectionDenialIn t caller name (Some why) → IsCollectionPlaceIn t caller name (Err why)
   collection_refused why denial = record { why = Some why; denial = denial; is = refl }
 
-  pub collection_next : IsCollectionDenialIn t caller name None → (place : Result ℕ Refusal) → IsNextIn t place → IsCollectionPlaceIn t caller name place
+  pub collection_next : IsCollectionDenialIn t caller name None → (place : Result ℕ Refusal) → IsNextHoldIn t place → IsCollectionPlaceIn t caller name place
   collection_next denial place next = record { why = None; denial = denial; is = next }
 
 module _ (t : Tables) (caller : List ℕ) (k : ℕ) where

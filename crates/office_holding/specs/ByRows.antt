@@ -1,6 +1,6 @@
 -- What the rows of an office tell where a hold is placed or released, whichever rows they are. A row that no accepted change writes tells
 -- nothing, and no answer but a failure rests on what isn't told.
-use Rattle.std.specs.Prelude.{◌≡◌, ℕ, ℤ, pos, negsuc, ◌+ℤ◌, Bool, true, false, List, Option, Some, None, IfSome, option_map, unwrap_or, Result, Ok, Err, IfOk, OnOk}
+use Rattle.std.specs.Prelude.{◌≡◌, ℕ, ℤ, pos, negsuc, ◌+ℤ◌, Bool, true, false, List, Option, Some, None, IfSome, option_map, Result, Ok, Err, IfOk, OnOk}
 use Rattle.std.specs.Result.{result_err}
 use Rattle.jiff.specs.Types.{Date}
 use Rattle.jiff.specs.Words.{IsBetween, epoch_day}
@@ -15,29 +15,13 @@ use Rattle.office_core.specs.declared.refusal.Subject.TheVariants as subjects
 use Rattle.office_rows.specs.Rows.{DepositRow, DueRow, HoldRow, Limits, Tables, deposit_numbered, due_numbered, has_collection, hold_numbered, last_number, limits_of}
 use Rattle.office_asking.specs.ByRows.{IsAskedIn, IsDenialIn}
 use Rattle.office_asking.specs.Holds.{IsHoldOf}
-use Rattle.office_asking.specs.Limits.{IsNumberAfter}
+use Rattle.office_asking.specs.Limits.{IsNextIn, IsRefusedOr, answer_of_number}
 
 -- ---- the number of the next hold
 
--- the number after the highest hold, where the limit of the office's row allows one more; else that the office is full
-pub record IsNextIn (t : Tables) (place : Result ℕ Refusal) : Type 0 where
-  pub limits : Limits
-  pub are : limits_of t ≡ Some limits
-  pub most : ℕ
-  pub takes : pos most ≡ limits.max_holds
-  pub last : ℕ
-  pub highest : pos last ≡ unwrap_or (last_number (λ (h : HoldRow). h.number) t.holds) (pos 0)
-  pub after : IsNumberAfter last most place
-
--- the refusal that stands, and else the next number
-abbrev pub IsPlaceUnless : Tables → Option Refusal → Result ℕ Refusal → Type 0
-IsPlaceUnless t (Some why) place = place ≡ Err why
-IsPlaceUnless t None place = IsNextIn t place
-
--- the answer to a hold by its number, or by what stands against it
-abbrev pub answer_of_place : Result ℕ Refusal → Answer
-answer_of_place (Ok number) = answers.HoldPlaced number
-answer_of_place (Err why) = answers.Refused why
+-- the number after the highest hold, where the office takes one more; else that it is full
+abbrev pub IsNextHoldIn : Tables → Result ℕ Refusal → Type 0
+IsNextHoldIn t = IsNextIn t (λ l. l.max_holds) (last_number (λ (h : HoldRow). h.number) t.holds)
 
 -- ---- the count that is kept of a deposit
 
@@ -57,14 +41,14 @@ pub record IsCountable (limits : Option Limits) (dues : List DueRow) (n : ℤ) (
 pub record IsDepositPlaceIn (t : Tables) (caller : List ℕ) (n : ℕ) (place : Result ℕ Refusal) : Type 0 where
   pub asked : Result DepositRow Refusal
   pub is_asked : IsAskedIn t caller acts.Hold n asked
-  pub is : IsPlaceUnless t (result_err asked) place
+  pub is : IsRefusedOr (result_err asked) (IsNextHoldIn t) place
 
 -- the answer to a hold on the deposit of that number, which counts as one more over it
 pub record IsDepositHeldIn (t : Tables) (caller : List ℕ) (n : ℕ) (answer : Answer) : Type 0 where
   pub place : Result ℕ Refusal
   pub is_place : IsDepositPlaceIn t caller n place
   pub counts : OnOk place (IsCountable (limits_of t) t.dues (pos n) (pos 1))
-  pub is : answer ≡ answer_of_place place
+  pub is : answer ≡ answer_of_number answers.HoldPlaced place
 
 -- ---- a hold on a collection
 
@@ -81,13 +65,13 @@ IsCollectionDenialIn t caller name why = IsCollectionDenial (has_collection name
 pub record IsCollectionPlaceIn (t : Tables) (caller name : List ℕ) (place : Result ℕ Refusal) : Type 0 where
   pub why : Option Refusal
   pub denial : IsCollectionDenialIn t caller name why
-  pub is : IsPlaceUnless t why place
+  pub is : IsRefusedOr why (IsNextHoldIn t) place
 
 -- the answer to a hold on the collection of that name
 pub record IsCollectionHeldIn (t : Tables) (caller name : List ℕ) (answer : Answer) : Type 0 where
   pub place : Result ℕ Refusal
   pub is_place : IsCollectionPlaceIn t caller name place
-  pub is : answer ≡ answer_of_place place
+  pub is : answer ≡ answer_of_number answers.HoldPlaced place
 
 -- ---- the rules of a release
 

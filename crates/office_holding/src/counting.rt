@@ -12,7 +12,7 @@ ghost use Rattle.office_tables.specs.Contents.{LeavesOnce};
 ghost use Rattle.office_holding.specs.ByRows.{IsCountable};
 ghost use Rattle.office_holding.specs.Holds.{IsCounted};
 
-use office_asking::there;
+use office_asking::{check_between, there};
 use office_tables::{TableFault, due_row, limits, set_holds};
 use sqlite::{Alter, Transaction};
 
@@ -27,11 +27,12 @@ fn count_with(count: i64, by: i64, most: u32) -> Result<i64, TableFault>
     ensures failure { IfErr result IsFailure }
     ensures store { IfErr result (λ fault. fault ≡ TableFault.Store) }
 {
-    let most = most as i64;
-    match count.checked_add(by) {
-        Some(sum) if 0 <= count && count <= most && 0 <= sum && sum <= most => Ok(sum),
-        _ => Err(TableFault::Store),
-    }
+    check_between(count, 0, most)?;
+    let Some(sum) = count.checked_add(by) else {
+        return Err(TableFault::Store);
+    };
+    check_between(sum, 0, most)?;
+    Ok(sum)
 }
 
 /// Counts as many more live holds over the deposit of that number.
@@ -49,7 +50,8 @@ pub(crate) fn count_over_deposit<S: Alter>(
     ensures failure { IfErr result IsFailure }
     ensures counted { HasCleanDisk (state S.Store tx.new.conn.now) → IsOffice (state S.Store tx.old.conn.now).now
         → OnOk result (IsCounted number by (state S.Store tx.old.conn.now).now (state S.Store tx.new.conn.now).now) }
-    ensures rows { Tells S.Store tx.old.conn.now tx.new.conn.now result (λ tables _. IsCountable (limits_of tables) tables.dues (pos number) by) }
+    ensures rows { Tells S.Store tx.old.conn.now tx.new.conn.now result (λ tables _.
+        IsCountable (limits_of tables) tables.dues (pos number) by) }
     ensures once { LeavesOnce S.Store tx.old.conn.now tx.new.conn.now result }
 {
     let limits = limits(tx)?;

@@ -10,7 +10,7 @@ ghost use Rattle.office_history.specs.Histories.{OnCollection, OnDeposit, Placed
 ghost use Rattle.office_history.specs.Refusals.{collection_denials, collection_hold_refusals, full_of_holds, hold_refusals, of_deposit};
 ghost use Rattle.office_asking.specs.Serving.{Accepts, Decides, Finds};
 ghost use Rattle.office_holding.specs.Holds.{IsNext, IsPlace};
-ghost use Rattle.office_holding.specs.ByRows.{IsCollectionDenialIn, IsCollectionHeldIn, IsCollectionPlaceIn, IsDepositHeldIn, IsDepositPlaceIn, IsCountable, IsNextIn};
+ghost use Rattle.office_holding.specs.ByRows.{IsCollectionDenialIn, IsCollectionHeldIn, IsCollectionPlaceIn, IsDepositHeldIn, IsDepositPlaceIn, IsCountable, IsNextHoldIn};
 
 use crate::counting::count_over_deposit;
 use office_asking::{denial, kept_deposit, number_after};
@@ -27,8 +27,9 @@ fn next_hold<S: Alter>(tx: &mut Transaction<'_, S>) -> Result<Result<u32, Refusa
     ensures goes_on { Continues S.Store tx.old.conn.now tx.new.conn.now result }
     ensures failure { IfErr result IsFailure }
     ensures same { Keeps S.Store tx.old.conn.now tx.new.conn.now result }
-    ensures next { Finds S.Store tx.old.conn.now tx.new.conn.now result (λ h place. IsPlace h (full_of_holds h ∷ []) place) }
-    ensures rows { Tells S.Store tx.old.conn.now tx.new.conn.now result (λ tables place. IsNextIn tables place) }
+    ensures next { Finds S.Store tx.old.conn.now tx.new.conn.now result (λ h place.
+        IsPlace h (full_of_holds h ∷ []) place) }
+    ensures rows { Tells S.Store tx.old.conn.now tx.new.conn.now result IsNextHoldIn }
 {
     let limits = limits(tx)?;
     let last = last_hold(tx)?;
@@ -70,7 +71,8 @@ fn place_on_deposit<S: Alter>(
     ensures failure { IfErr result IsFailure }
     ensures placed { Accepts S.Store tx.old.conn.now tx.new.conn.now result (λ h. IsNext h number)
         (PlacedHold day (record { target = OnDeposit deposit; matter = matter.now }) ∷ []) }
-    ensures rows { Tells S.Store tx.old.conn.now tx.new.conn.now result (λ tables _. IsCountable (limits_of tables) tables.dues (pos deposit) (pos 1)) }
+    ensures rows { Tells S.Store tx.old.conn.now tx.new.conn.now result (λ tables _.
+        IsCountable (limits_of tables) tables.dues (pos deposit) (pos 1)) }
 {
     let target = HoldTarget::Deposit(deposit);
     put_hold(tx, number, target, matter, day.number() as i64)?;
@@ -90,7 +92,8 @@ fn collection_denial<S: Alter>(
     ensures same { Keeps S.Store tx.old.conn.now tx.new.conn.now result }
     ensures denied { Finds S.Store tx.old.conn.now tx.new.conn.now result (λ h why.
         why ≡ first_some (collection_denials h caller.now collection.now)) }
-    ensures rows { Tells S.Store tx.old.conn.now tx.new.conn.now result (λ tables why. IsCollectionDenialIn tables caller.now collection.now why) }
+    ensures rows { Tells S.Store tx.old.conn.now tx.new.conn.now result (λ tables why.
+        IsCollectionDenialIn tables caller.now collection.now why) }
 {
     if !has_collection(tx, collection)? {
         return Ok(Some(Refusal::NoSuch(Subject::Collection)));
@@ -111,7 +114,8 @@ fn place_for_collection<S: Alter>(
     ensures same { Keeps S.Store tx.old.conn.now tx.new.conn.now result }
     ensures found { Finds S.Store tx.old.conn.now tx.new.conn.now result (λ h place.
         IsPlace h (collection_hold_refusals h caller.now collection.now) place) }
-    ensures rows { Tells S.Store tx.old.conn.now tx.new.conn.now result (λ tables place. IsCollectionPlaceIn tables caller.now collection.now place) }
+    ensures rows { Tells S.Store tx.old.conn.now tx.new.conn.now result (λ tables place.
+        IsCollectionPlaceIn tables caller.now collection.now place) }
 {
     if let Some(why) = collection_denial(tx, caller, collection)? {
         return Ok(Err(why));
@@ -132,7 +136,8 @@ fn place_for_deposit<S: Alter>(
     ensures same { Keeps S.Store tx.old.conn.now tx.new.conn.now result }
     ensures found { Finds S.Store tx.old.conn.now tx.new.conn.now result (λ h place.
         IsPlace h (of_deposit (deposit_numbered h number) (hold_refusals h caller.now number)) place) }
-    ensures rows { Tells S.Store tx.old.conn.now tx.new.conn.now result (λ tables place. IsDepositPlaceIn tables caller.now number place) }
+    ensures rows { Tells S.Store tx.old.conn.now tx.new.conn.now result (λ tables place.
+        IsDepositPlaceIn tables caller.now number place) }
 {
     match kept_deposit(tx, caller, Action::Hold, number)? {
         Ok(_) => next_hold(tx),
@@ -154,8 +159,10 @@ pub fn hold_collection<S: Alter>(
     ensures stays { CommitsNothing S.Store tx.old.conn.now tx.new.conn.now }
     ensures goes_on { Continues S.Store tx.old.conn.now tx.new.conn.now result }
     ensures failure { IfErr result IsFailure }
-    ensures decides { Decides S.Store tx.old.conn.now tx.new.conn.now result day caller.now (requests.HoldCollection name.now matter.now) }
-    ensures rows { Tells S.Store tx.old.conn.now tx.new.conn.now result (λ tables answer. IsCollectionHeldIn tables caller.now name.now answer) }
+    ensures decides { Decides S.Store tx.old.conn.now tx.new.conn.now result day caller.now
+        (requests.HoldCollection name.now matter.now) }
+    ensures rows { Tells S.Store tx.old.conn.now tx.new.conn.now result (λ tables answer.
+        IsCollectionHeldIn tables caller.now name.now answer) }
 {
     match place_for_collection(tx, caller, name.as_str())? {
         Ok(hold) => {
@@ -180,8 +187,10 @@ pub fn hold_deposit<S: Alter>(
     ensures stays { CommitsNothing S.Store tx.old.conn.now tx.new.conn.now }
     ensures goes_on { Continues S.Store tx.old.conn.now tx.new.conn.now result }
     ensures failure { IfErr result IsFailure }
-    ensures decides { Decides S.Store tx.old.conn.now tx.new.conn.now result day caller.now (requests.HoldDeposit number matter.now) }
-    ensures rows { Tells S.Store tx.old.conn.now tx.new.conn.now result (λ tables answer. IsDepositHeldIn tables caller.now number answer) }
+    ensures decides { Decides S.Store tx.old.conn.now tx.new.conn.now result day caller.now
+        (requests.HoldDeposit number matter.now) }
+    ensures rows { Tells S.Store tx.old.conn.now tx.new.conn.now result (λ tables answer.
+        IsDepositHeldIn tables caller.now number answer) }
 {
     match place_for_deposit(tx, caller, number)? {
         Ok(hold) => {

@@ -18,27 +18,13 @@ ghost use Rattle.office_holding.specs.ByRows.{CountsFewer, IsCollectionReleaseIn
 ghost use Rattle.office_holding.specs.Holds.{IsLiveOn, IsReleaseAsked, IsUnless, target_of};
 
 use crate::counting::count_over_deposit;
-use office_asking::{denial, hold_in, optional_day_numbered};
+use office_asking::{check_there, denial, hold_in, named_in, optional_day_numbered, there};
 use office_core::{Action, Answer, Day, Refusal, Subject};
 use office_tables::{
     HoldRow, HoldTarget, TableFault, add_holds, deposit_row, end_hold, has_collection, hold_row,
 };
 use sqlite::{Alter, Transaction};
 use std::alloc::Global;
-
-/// What the row of a hold names: a deposit or a collection, and not both.
-fn named_in(hold: &HoldRow) -> Result<HoldTarget<'_>, TableFault>
-    ensures deposit { IfOk result (λ target. held_deposit target ≡ hold.now.deposit) }
-    ensures collection { IfOk result (λ target. held_collection target ≡ hold.now.collection) }
-    ensures failure { IfErr result IsFailure }
-    ensures store { IfErr result (λ fault. fault ≡ TableFault.Store) }
-{
-    match (hold.deposit, &hold.collection) {
-        (Some(number), None) => Ok(HoldTarget::Deposit(number)),
-        (None, Some(name)) => Ok(HoldTarget::Collection(name.as_str())),
-        _ => Err(TableFault::Store),
-    }
-}
 
 /// The refusal where the caller may not release a hold of the deposit of that number, kept or
 /// destroyed.
@@ -56,18 +42,18 @@ fn deposit_release_denial<S: Alter>(
     ensures same { Keeps S.Store tx.old.conn.now tx.new.conn.now result }
     ensures denied { Finds S.Store tx.old.conn.now tx.new.conn.now result (λ h why.
         why ≡ release_denial h caller.now (OnDeposit number)) }
-    ensures rows { Tells S.Store tx.old.conn.now tx.new.conn.now result (λ tables why. IsDepositReleaseIn tables caller.now (pos number) why) }
+    ensures rows { Tells S.Store tx.old.conn.now tx.new.conn.now result (λ tables why.
+        IsDepositReleaseIn tables caller.now (pos number) why) }
 {
-    match deposit_row(tx, number)? {
-        Some(deposit) => denial(
-            tx,
-            caller,
-            Action::Release,
-            Some(&deposit.collection),
-            Some(&deposit.class),
-        ),
-        None => Err(TableFault::Store),
-    }
+    let found = deposit_row(tx, number)?;
+    let deposit = there(found)?;
+    denial(
+        tx,
+        caller,
+        Action::Release,
+        Some(&deposit.collection),
+        Some(&deposit.class),
+    )
 }
 
 /// The refusal where the caller may not release a hold of the collection of that name.
@@ -85,11 +71,11 @@ fn collection_release_denial<S: Alter>(
     ensures same { Keeps S.Store tx.old.conn.now tx.new.conn.now result }
     ensures denied { Finds S.Store tx.old.conn.now tx.new.conn.now result (λ h why.
         why ≡ release_denial h caller.now (OnCollection collection.now)) }
-    ensures rows { Tells S.Store tx.old.conn.now tx.new.conn.now result (λ tables why. IsCollectionReleaseIn tables caller.now collection.now why) }
+    ensures rows { Tells S.Store tx.old.conn.now tx.new.conn.now result (λ tables why.
+        IsCollectionReleaseIn tables caller.now collection.now why) }
 {
-    if !has_collection(tx, collection)? {
-        return Err(TableFault::Store);
-    }
+    let found = has_collection(tx, collection)?;
+    check_there(found)?;
     denial(tx, caller, Action::Release, Some(collection), None)
 }
 
@@ -124,11 +110,13 @@ fn unless_refused(
     denied: Option<Refusal>,
 ) -> Result<Result<HoldRow, Refusal>, TableFault>
     ensures failure { IfErr result IsFailure }
-    ensures first { IfOk result (λ found. (day : Option Day) → option_map epoch_day day ≡ hold.released
+    ensures first { IfOk result (λ found.
+        (day : Option Day) → option_map epoch_day day ≡ hold.released
         → IsUnless hold (first_some (denied ∷ option_map Released day ∷ [])) found) }
     ensures rows { IfOk result (λ found. IsRowUnless denied hold found) }
     // It wants memory only for a hold: a row that tells of none is a fault of the store.
-    ensures memory { IfErr result (λ fault. fault ≡ TableFault.Memory → (told : LiveHold) × IsHoldOf hold told) }
+    ensures memory { IfErr result (λ fault.
+        fault ≡ TableFault.Memory → (told : LiveHold) × IsHoldOf hold told) }
 {
     if let Some(why) = denied {
         return Ok(Err(why));
@@ -152,8 +140,10 @@ fn releasable_hold<S: Alter>(
     ensures goes_on { Continues S.Store tx.old.conn.now tx.new.conn.now result }
     ensures failure { IfErr result IsFailure }
     ensures same { Keeps S.Store tx.old.conn.now tx.new.conn.now result }
-    ensures asked { Finds S.Store tx.old.conn.now tx.new.conn.now result (λ h found. IsReleaseAsked h caller.now number found) }
-    ensures rows { Tells S.Store tx.old.conn.now tx.new.conn.now result (λ tables found. IsReleasableIn tables caller.now number found) }
+    ensures asked { Finds S.Store tx.old.conn.now tx.new.conn.now result (λ h found.
+        IsReleaseAsked h caller.now number found) }
+    ensures rows { Tells S.Store tx.old.conn.now tx.new.conn.now result (λ tables found.
+        IsReleasableIn tables caller.now number found) }
 {
     let Some(hold) = hold_row(tx, number)? else {
         return Ok(Err(Refusal::NoSuch(Subject::Hold)));
@@ -175,7 +165,8 @@ fn end_collection<S: Alter>(
     ensures stays { CommitsNothing S.Store tx.old.conn.now tx.new.conn.now }
     ensures goes_on { Continues S.Store tx.old.conn.now tx.new.conn.now result }
     ensures failure { IfErr result IsFailure }
-    ensures ended { Accepts S.Store tx.old.conn.now tx.new.conn.now result (λ h. IsLiveOn h number (OnCollection collection.now)) (ReleasedHold day number ∷ []) }
+    ensures ended { Accepts S.Store tx.old.conn.now tx.new.conn.now result (λ h.
+        IsLiveOn h number (OnCollection collection.now)) (ReleasedHold day number ∷ []) }
 {
     end_hold(tx, number, day.number() as i64)?;
     add_holds(tx, collection, -1)
@@ -192,8 +183,10 @@ fn end_deposit<S: Alter>(
     ensures stays { CommitsNothing S.Store tx.old.conn.now tx.new.conn.now }
     ensures goes_on { Continues S.Store tx.old.conn.now tx.new.conn.now result }
     ensures failure { IfErr result IsFailure }
-    ensures ended { Accepts S.Store tx.old.conn.now tx.new.conn.now result (λ h. IsLiveOn h number (OnDeposit deposit)) (ReleasedHold day number ∷ []) }
-    ensures rows { Tells S.Store tx.old.conn.now tx.new.conn.now result (λ tables _. IsCountable (limits_of tables) tables.dues (pos deposit) (negsuc 0)) }
+    ensures ended { Accepts S.Store tx.old.conn.now tx.new.conn.now result (λ h.
+        IsLiveOn h number (OnDeposit deposit)) (ReleasedHold day number ∷ []) }
+    ensures rows { Tells S.Store tx.old.conn.now tx.new.conn.now result (λ tables _.
+        IsCountable (limits_of tables) tables.dues (pos deposit) (negsuc 0)) }
 {
     end_hold(tx, number, day.number() as i64)?;
     count_over_deposit(tx, deposit, -1)
@@ -210,8 +203,10 @@ fn end<S: Alter>(
     ensures stays { CommitsNothing S.Store tx.old.conn.now tx.new.conn.now }
     ensures goes_on { Continues S.Store tx.old.conn.now tx.new.conn.now result }
     ensures failure { IfErr result IsFailure }
-    ensures ended { Accepts S.Store tx.old.conn.now tx.new.conn.now result (λ h. IsLiveOn h number (target_of target.entry)) (ReleasedHold day number ∷ []) }
-    ensures rows { Tells S.Store tx.old.conn.now tx.new.conn.now result (λ tables _. CountsFewer tables (held_deposit target.entry)) }
+    ensures ended { Accepts S.Store tx.old.conn.now tx.new.conn.now result (λ h.
+        IsLiveOn h number (target_of target.entry)) (ReleasedHold day number ∷ []) }
+    ensures rows { Tells S.Store tx.old.conn.now tx.new.conn.now result (λ tables _.
+        CountsFewer tables (held_deposit target.entry)) }
 {
     match target {
         HoldTarget::Deposit(deposit) => end_deposit(tx, day, number, deposit),
@@ -233,8 +228,10 @@ pub fn release<S: Alter>(
     ensures stays { CommitsNothing S.Store tx.old.conn.now tx.new.conn.now }
     ensures goes_on { Continues S.Store tx.old.conn.now tx.new.conn.now result }
     ensures failure { IfErr result IsFailure }
-    ensures decides { Decides S.Store tx.old.conn.now tx.new.conn.now result day caller.now (requests.Release hold) }
-    ensures rows { Tells S.Store tx.old.conn.now tx.new.conn.now result (λ tables answer. IsReleasedIn tables day caller.now hold answer) }
+    ensures decides { Decides S.Store tx.old.conn.now tx.new.conn.now result day caller.now
+        (requests.Release hold) }
+    ensures rows { Tells S.Store tx.old.conn.now tx.new.conn.now result (λ tables answer.
+        IsReleasedIn tables day caller.now hold answer) }
 {
     match releasable_hold(alloc, tx, caller, hold)? {
         Ok(row) => {

@@ -13,9 +13,10 @@ use Rattle.office_rows.specs.Rows.{Tables, ClassRow, DepositRow, class_named, de
 use Rattle.office_tables.specs.Tables.{IsOffice, tables_of}
 use Rattle.office_tables.proofs.OrderLemmas.{first_passes}
 use Rattle.office_asking.specs.ByRows.{IsDenialIn}
+use Rattle.office_asking.specs.Limits.{IsRefusedOr}
 use Rattle.office_asking.proofs.InTurn.{clean_before}
 use Rattle.office_asking.proofs.RowsTold.{office_still, told_before}
-use Rattle.office_keeping.specs.ByRows.{IsThisOr, IsPlaceRefusalIn, IsRefusedOr, no_class}
+use Rattle.office_keeping.specs.ByRows.{IsThisOr, IsPlaceRefusalIn, no_class}
 
 -- ---- two calls in turn, of which the first changes no row
 

@@ -1,5 +1,5 @@
 -- How bags are deposited, and deposits destroyed, by the rows of an office, whichever rows they are.
-use Rattle.std.specs.Prelude.{◌≡◌, ⊤, ℕ, pos, not, List, Option, Some, None, option_map, unwrap_or, is_none, Result, Ok, Err}
+use Rattle.std.specs.Prelude.{◌≡◌, ⊤, ℕ, pos, not, List, Option, Some, None, option_map, is_none, Result, Ok, Err}
 use Rattle.jiff.specs.Types.{Date}
 use Rattle.office_core.specs.FirstOf.{answer_if}
 use Rattle.office_core.specs.Verdicts.{verdict_of}
@@ -11,11 +11,20 @@ use Rattle.office_core.specs.declared.retention.Due.{Due}
 use Rattle.office_core.specs.declared.refusal.Refusal.{Refusal}
 use Rattle.office_core.specs.declared.refusal.Refusal.TheVariants.{NoSuch, Taken}
 use Rattle.office_core.specs.declared.refusal.Subject.TheVariants as subjects
-use Rattle.office_rows.specs.Rows.{Tables, DepositRow, Limits, class_named, deposit_by, deposit_numbered, has_collection, last_number, limits_of}
+use Rattle.office_rows.specs.Rows.{Tables, DepositRow, class_named, deposit_by, deposit_numbered, has_collection, last_number}
 use Rattle.office_history.specs.Answers.{answer_unless}
 use Rattle.office_history.specs.Refusals.{bad_bag, closed_ahead_refusal, refusal_of}
 use Rattle.office_asking.specs.ByRows.{AreFactsIn, IsDenialIn, IsDueIn}
-use Rattle.office_asking.specs.Limits.{IsNumberAfter}
+use Rattle.office_asking.specs.Limits.{IsNextIn, IsRefusedOr, answer_of_number}
+
+-- what a deposit is asked for, and by whom, before its bag is looked at
+pub record DepositAsked : Type 0 where
+  pub day : Date
+  pub caller : List ℕ
+  pub collection : List ℕ
+  pub class : List ℕ
+  pub accession : List ℕ
+  pub closed : Date
 
 -- ---- where a bag is deposited
 
@@ -50,40 +59,24 @@ pub record IsAccessionRefusalIn (t : Tables) (day : Date) (accession : List ℕ)
   pub first : IsThisOr taken (λ ahead. ahead ≡ closed_ahead_refusal day closed) why
 
 -- of the place, and else of the accession and the closing day
-pub record IsRefusalBeforeTheBag (t : Tables) (day : Date) (caller collection class accession : List ℕ) (closed : Date) (why : Option Refusal) : Type 0 where
+pub record IsRefusalBeforeTheBag (t : Tables) (asked : DepositAsked) (why : Option Refusal) : Type 0 where
   pub place : Option Refusal
-  pub of_place : IsPlaceRefusalIn t caller collection class place
-  pub first : IsThisOr place (IsAccessionRefusalIn t day accession closed) why
+  pub of_place : IsPlaceRefusalIn t asked.caller asked.collection asked.class place
+  pub first : IsThisOr place (IsAccessionRefusalIn t asked.day asked.accession asked.closed) why
 
 -- ---- the number of the deposit
 
--- the number after the highest, where the office takes one more, and else that it is full
-pub record IsNextIn (t : Tables) (next : Result ℕ Refusal) : Type 0 where
-  pub limits : Limits
-  pub are : limits_of t ≡ Some limits
-  pub most : ℕ
-  pub is_most : pos most ≡ limits.max_deposits
-  pub last : Option ℕ
-  pub is_last : option_map pos last ≡ last_number (λ (d : DepositRow). d.number) t.deposits
-  pub comes_to : IsNumberAfter (unwrap_or last 0) most next
-
--- this refusal where it stands, and else what the number comes to
-abbrev pub IsRefusedOr : Option Refusal → (Result ℕ Refusal → Type 0) → Result ℕ Refusal → Type 0
-IsRefusedOr (Some why) next given = given ≡ Err why
-IsRefusedOr None next given = next given
+-- the number after the highest deposit, where the office takes one more; else that it is full
+abbrev pub IsNextDepositIn : Tables → Result ℕ Refusal → Type 0
+IsNextDepositIn t = IsNextIn t (λ l. l.max_deposits) (last_number (λ (d : DepositRow). d.number) t.deposits)
 
 -- the number that the deposit gets of the bag whose transfer form the text is, or the refusal that stands first
-pub record IsAskedOfDeposit (t : Tables) (day : Date) (caller collection class accession : List ℕ) (closed : Date) (text : List ℕ) (given : Result ℕ Refusal) : Type 0 where
+pub record IsAskedOfDeposit (t : Tables) (asked : DepositAsked) (text : List ℕ) (given : Result ℕ Refusal) : Type 0 where
   pub before : Option Refusal
-  pub is_before : IsRefusalBeforeTheBag t day caller collection class accession closed before
-  pub first : IsRefusedOr before (IsRefusedOr (bad_bag text) (IsNextIn t)) given
+  pub is_before : IsRefusalBeforeTheBag t asked before
+  pub first : IsRefusedOr before (IsRefusedOr (bad_bag text) (IsNextDepositIn t)) given
 
 -- ---- a deposit
-
--- the number of the new deposit, or the refusal
-abbrev pub deposit_answer : Result ℕ Refusal → Answer
-deposit_answer (Ok number) = answers.Deposited number
-deposit_answer (Err why) = answers.Refused why
 
 -- a new deposit is given a due day by the years of its class
 abbrev pub FallsDueIn : Tables → List ℕ → Date → Result ℕ Refusal → Type 0
@@ -91,11 +84,11 @@ FallsDueIn t class closed (Ok number) = (due : Due) × IsDueIn t class closed du
 FallsDueIn t class closed (Err why) = ⊤
 
 -- a bag is deposited unless a refusal stands
-pub record IsDepositedIn (t : Tables) (day : Date) (caller collection class accession : List ℕ) (closed : Date) (text : List ℕ) (given : Answer) : Type 0 where
+pub record IsDepositedIn (t : Tables) (asked : DepositAsked) (text : List ℕ) (given : Answer) : Type 0 where
   pub next : Result ℕ Refusal
-  pub asked : IsAskedOfDeposit t day caller collection class accession closed text next
-  pub due : FallsDueIn t class closed next
-  pub answer : given ≡ deposit_answer next
+  pub is_next : IsAskedOfDeposit t asked text next
+  pub due : FallsDueIn t asked.class asked.closed next
+  pub answer : given ≡ answer_of_number answers.Deposited next
 
 -- ---- a disposal
 

@@ -8,9 +8,9 @@ ghost use Rattle.office_tables.specs.Calls.{CommitsNothing, Continues, Keeps, Te
 ghost use Rattle.office_history.specs.Histories.{History, deposits};
 ghost use Rattle.office_history.specs.Refusals as refusals;
 ghost use Rattle.office_history.specs.Refusals.{place_refusals, bad_bag, closed_ahead_refusal, full_of_deposits};
-ghost use Rattle.office_asking.specs.Limits.{IsNumberAfter};
+ghost use Rattle.office_asking.specs.Limits.{IsNumberAfter, IsRefusedOr};
 ghost use Rattle.office_asking.specs.Serving.{Finds, Decides};
-ghost use Rattle.office_keeping.specs.ByRows.{IsAskedOfDeposit, IsDepositedIn, IsNextIn, IsPlaceRefusalIn, IsRefusalBeforeTheBag, IsRefusedOr, IsTakenIn};
+ghost use Rattle.office_keeping.specs.ByRows.{IsAskedOfDeposit, IsDepositedIn, IsNextDepositIn, IsPlaceRefusalIn, IsRefusalBeforeTheBag, IsTakenIn};
 ghost use Rattle.office_keeping.specs.Depositing.{IsAskedFor, number_of, refusals_before_the_bag};
 
 use crate::keeping::keep;
@@ -34,9 +34,11 @@ fn place_refusal<S: Alter>(
     ensures stays { CommitsNothing S.Store tx.old.conn.now tx.new.conn.now }
     ensures goes_on { Continues S.Store tx.old.conn.now tx.new.conn.now result }
     ensures failure { IfErr result IsFailure }
-    ensures refusal { Finds S.Store tx.old.conn.now tx.new.conn.now result (λ h why. why ≡ first_some (place_refusals h caller.now collection.now class.now)) }
+    ensures refusal { Finds S.Store tx.old.conn.now tx.new.conn.now result (λ h why.
+        why ≡ first_some (place_refusals h caller.now collection.now class.now)) }
     ensures same { Keeps S.Store tx.old.conn.now tx.new.conn.now result }
-    ensures rows { Tells S.Store tx.old.conn.now tx.new.conn.now result (λ tables why. IsPlaceRefusalIn tables caller.now collection.now class.now why) }
+    ensures rows { Tells S.Store tx.old.conn.now tx.new.conn.now result (λ tables why.
+        IsPlaceRefusalIn tables caller.now collection.now class.now why) }
 {
     if !has_collection(tx, collection)? {
         return Ok(Some(Refusal::NoSuch(Subject::Collection)));
@@ -56,9 +58,11 @@ fn taken_refusal<S: Alter>(
     ensures stays { CommitsNothing S.Store tx.old.conn.now tx.new.conn.now }
     ensures goes_on { Continues S.Store tx.old.conn.now tx.new.conn.now result }
     ensures failure { IfErr result IsFailure }
-    ensures taken { Finds S.Store tx.old.conn.now tx.new.conn.now result (λ h why. why ≡ refusals.taken_refusal h accession.now) }
+    ensures taken { Finds S.Store tx.old.conn.now tx.new.conn.now result (λ h why.
+        why ≡ refusals.taken_refusal h accession.now) }
     ensures same { Keeps S.Store tx.old.conn.now tx.new.conn.now result }
-    ensures rows { Tells S.Store tx.old.conn.now tx.new.conn.now result (λ tables why. IsTakenIn tables accession.now why) }
+    ensures rows { Tells S.Store tx.old.conn.now tx.new.conn.now result (λ tables why.
+        IsTakenIn tables accession.now why) }
 {
     match by_accession(tx, accession)? {
         Some(deposit) => Ok(Some(Refusal::Taken(deposit.number))),
@@ -94,7 +98,14 @@ fn refusal_before_the_bag<S: Alter>(
         why ≡ first_some (refusals_before_the_bag h day caller.now collection.now class.now accession.now closed)) }
     ensures same { Keeps S.Store tx.old.conn.now tx.new.conn.now result }
     ensures rows { Tells S.Store tx.old.conn.now tx.new.conn.now result (λ tables why.
-        IsRefusalBeforeTheBag tables day caller.now collection.now class.now accession.now closed why) }
+        IsRefusalBeforeTheBag tables (record {
+          day = day;
+          caller = caller.now;
+          collection = collection.now;
+          class = class.now;
+          accession = accession.now;
+          closed = closed;
+        }) why) }
 {
     if let Some(why) = place_refusal(tx, caller, collection, class)? {
         return Ok(Some(why));
@@ -114,7 +125,7 @@ fn next_number<S: Alter>(tx: &mut Transaction<'_, S>) -> Result<Result<u32, Refu
     ensures next { Finds S.Store tx.old.conn.now tx.new.conn.now result (λ h next.
         IsNumberAfter (length (deposits h)) h.max_deposits next) }
     ensures same { Keeps S.Store tx.old.conn.now tx.new.conn.now result }
-    ensures rows { Tells S.Store tx.old.conn.now tx.new.conn.now result IsNextIn }
+    ensures rows { Tells S.Store tx.old.conn.now tx.new.conn.now result IsNextDepositIn }
 {
     let limits = limits(tx)?;
     let last = last_deposit(tx)?;
@@ -139,7 +150,8 @@ fn judged_bag<'a>(
     ensures judged { IfOk result (λ asked. (h : History)
         → IsNumberAfter (length (deposits h)) h.max_deposits number
         → IsAskedFor h text.entry.now (bad_bag text.entry.now ∷ full_of_deposits h ∷ []) asked) }
-    ensures numbered { IfOk result (λ asked. IsRefusedOr (bad_bag text.entry.now) (λ next. next ≡ number) (number_of asked)) }
+    ensures numbered { IfOk result (λ asked.
+        IsRefusedOr (bad_bag text.entry.now) (λ next. next ≡ number) (number_of asked)) }
 {
     let bag = match valid_bag(alloc, text)? {
         Ok(bag) => bag,
@@ -166,7 +178,7 @@ fn numbered_bag<'a, S: Alter>(
         IsAskedFor h text.entry.now (bad_bag text.entry.now ∷ full_of_deposits h ∷ []) asked) }
     ensures same { Keeps S.Store tx.old.conn.now tx.new.conn.now result }
     ensures rows { Tells S.Store tx.old.conn.now tx.new.conn.now result (λ tables asked.
-        IsRefusedOr (bad_bag text.entry.now) (IsNextIn tables) (number_of asked)) }
+        IsRefusedOr (bad_bag text.entry.now) (IsNextDepositIn tables) (number_of asked)) }
 {
     let number = next_number(tx)?;
     judged_bag(alloc, text, number)
@@ -192,7 +204,14 @@ fn new_bag<'a, S: Alter>(
         IsAskedFor h text.entry.now (refusals.refusals h day caller.now (requests.Deposit collection.now class.now accession.now closed text.entry)) asked) }
     ensures same { Keeps S.Store tx.old.conn.now tx.new.conn.now result }
     ensures rows { Tells S.Store tx.old.conn.now tx.new.conn.now result (λ tables asked.
-        IsAskedOfDeposit tables day caller.now collection.now class.now accession.now closed text.entry.now (number_of asked)) }
+        IsAskedOfDeposit tables (record {
+          day = day;
+          caller = caller.now;
+          collection = collection.now;
+          class = class.now;
+          accession = accession.now;
+          closed = closed;
+        }) text.entry.now (number_of asked)) }
 {
     if let Some(why) = refusal_before_the_bag(
         tx, day, caller, collection, class, accession, closed,
@@ -225,7 +244,14 @@ pub fn deposit<S: Alter>(
     ensures decides { Decides S.Store tx.old.conn.now tx.new.conn.now result day caller.now
         (requests.Deposit collection.now class.now accession.now closed bag.entry) }
     ensures rows { Tells S.Store tx.old.conn.now tx.new.conn.now result (λ tables given.
-        IsDepositedIn tables day caller.now collection.now class.now accession.now closed bag.entry.now given) }
+        IsDepositedIn tables (record {
+          day = day;
+          caller = caller.now;
+          collection = collection.now;
+          class = class.now;
+          accession = accession.now;
+          closed = closed;
+        }) bag.entry.now given) }
 {
     let collection = collection.as_str();
     let class = class.as_str();

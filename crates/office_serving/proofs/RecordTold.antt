@@ -2,6 +2,7 @@
 use Rattle.std.proofs.Common.{◌≡◌, ℕ, Result, Ok, Err, ap, ◌∙◌}
 use Rattle.std.specs.Prelude.{IfErr}
 use Rattle.jiff.specs.Types.{Date}
+use Rattle.jiff.specs.Words.{epoch_day}
 use Rattle.office_core.specs.declared.answer.DepositRecord.{DepositRecord}
 use Rattle.office_rows.specs.Rows.{DepositRow, DueRow}
 use Rattle.office_history.specs.Histories.{History, Deposit, due}
@@ -19,8 +20,8 @@ record_is h n found row is kept kept_is told e = λ i. record {
   accession = (e.accession ∙ ap (λ (r : DepositRow). r.accession) is) i;
   collection = (e.collection ∙ ap (λ (r : DepositRow). r.collection) is) i;
   class = (e.class ∙ ap (λ (r : DepositRow). r.class) is) i;
-  closed = same_day told.closed found.1.closed (e.closed ∙ ap (λ (r : DepositRow). r.closed) is) i;
-  deposited = same_day told.deposited found.0 (e.deposited ∙ ap (λ (r : DepositRow). r.deposited) is) i;
+  closed = same_day told.closed found.1.closed (ap epoch_day e.closed ∙ e.are_days.closed ∙ ap (λ (r : DepositRow). r.closed) is) i;
+  deposited = same_day told.deposited found.0 (ap epoch_day e.deposited ∙ e.are_days.deposited ∙ ap (λ (r : DepositRow). r.deposited) is) i;
   files = same_count told.files (payload_files found.1.bag) (e.files ∙ ap (λ (r : DepositRow). r.files) is) i;
   bytes = same_count told.bytes (payload_bytes found.1.bag) (e.bytes ∙ ap (λ (r : DepositRow). r.bytes) is) i;
   due = due_back told.due (due h found.1) (e.due_is ∙ ap (λ (k : DueRow). k.due) kept_is) i;

@@ -1,5 +1,5 @@
 -- What is answered of records, lists, due lists and the stock by the rows of an office, whichever rows they are.
-use Rattle.std.specs.Prelude.{◌≡◌, ⊤, ℕ, pos, Bool, true, false, ◌&&◌, List, [], ◌∷◌, map, length, sum, Option, Some, None, IfSome, is_none, Result, Ok, Err}
+use Rattle.std.specs.Prelude.{◌≡◌, ⊤, ℕ, pos, Bool, true, false, ◌&&◌, List, [], ◌∷◌, map, length, sum, Option, Some, None, IfSome, is_none}
 use Rattle.std.specs.HashMap.{get}
 use Rattle.std.specs.List.{cons_option}
 use Rattle.jiff.specs.Types.{Date}
@@ -18,8 +18,9 @@ use Rattle.office_rows.specs.Told.{PlaceRow, due_places}
 use Rattle.office_tables.specs.Tables.{contents_of}
 use Rattle.office_history.specs.Answers.{is_asked}
 use Rattle.office_history.specs.Stocks.{Stock}
-use Rattle.office_asking.specs.ByRows.{IsAskedIn, IsAskerIn, IsDenialIn}
+use Rattle.office_asking.specs.ByRows.{IsAskerIn, IsDenialIn}
 use Rattle.office_serving.specs.Allowances.{Pair, same_pair}
+use Rattle.office_serving.specs.FilesByRows.{IsAnswerIn}
 use Rattle.office_serving.specs.Told.{IsRecordOf}
 use Rattle.office_serving.specs.declared.allowances.Allowances.{Allowances}
 
@@ -58,16 +59,9 @@ pub record IsRecordBy (t : Tables) (n : ℕ) (row : DepositRow) (told : DepositR
   pub there : Some kept ≡ due_numbered (pos n) t.dues
   pub is : IsRecordOf row kept told
 
--- the record of the deposit with that row, or the refusal
-abbrev pub IsRecordOrRefusal : Tables → ℕ → Result DepositRow Refusal → Answer → Type 0
-IsRecordOrRefusal t n (Ok row) answer = (told : DepositRecord) × IsRecordBy t n row told × (answer ≡ answers.Record told)
-IsRecordOrRefusal t n (Err why) answer = answer ≡ answers.Refused why
-
 -- the record of the deposit of that number, where the caller may ask for it and it is kept; else the refusal that stands first
-pub record IsRecordIn (t : Tables) (caller : List ℕ) (n : ℕ) (answer : Answer) : Type 0 where
-  pub asked : Result DepositRow Refusal
-  pub is_asked : IsAskedIn t caller acts.Record n asked
-  pub tells : IsRecordOrRefusal t n asked answer
+abbrev pub IsRecordIn : Tables → List ℕ → ℕ → Answer → Type 0
+IsRecordIn t caller n = IsAnswerIn t caller acts.Record n (λ row answer. (told : DepositRecord) × IsRecordBy t n row told × (answer ≡ answers.Record told))
 
 -- ---- lists
 

@@ -48,10 +48,12 @@ pub fn audit<S: Alter>(
     ensures stays { CommitsNothing S.Store tx.old.conn.now tx.new.conn.now }
     ensures goes_on { Continues S.Store tx.old.conn.now tx.new.conn.now result }
     ensures failure { IfErr result IsFailure }
-    ensures decides { Decides S.Store tx.old.conn.now tx.new.conn.now result day caller.now (requests.Audit number) }
+    ensures decides { Decides S.Store tx.old.conn.now tx.new.conn.now result day caller.now
+        (requests.Audit number) }
     ensures same { Keeps S.Store tx.old.conn.now tx.new.conn.now result }
     // Whatever the tables of the office hold, the report is that of what stands there.
-    ensures audited { Tells S.Store tx.old.conn.now tx.new.conn.now result (λ tables answer. IsAuditOf tables caller.now number answer) }
+    ensures rows { Tells S.Store tx.old.conn.now tx.new.conn.now result (λ tables answer.
+        IsAuditOf tables caller.now number answer) }
 {
     one_list_fault();
     match kept_files(alloc, tx, caller, Action::Audit, number)? {

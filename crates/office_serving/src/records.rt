@@ -14,9 +14,9 @@ ghost use Rattle.office_asking.specs.Serving.{Finds, Decides};
 ghost use Rattle.office_serving.specs.ListsByRows.{IsRecordBy, IsRecordIn};
 ghost use Rattle.office_serving.specs.Told.{IsRecordOf};
 
-use crate::counts::{count_in, text_read};
+use crate::counts::count_in;
 use bag_text::{MAX_CONTENT, MAX_FILES};
-use office_asking::{days_in, due_numbered, kept_deposit, kept_of};
+use office_asking::{days_in, due_numbered, kept_deposit, kept_of, text_read};
 use office_core::{Action, Answer, Day, DepositRecord};
 use office_tables::{DepositRow, DueRow, TableFault};
 use sqlite::{Alter, Transaction};
@@ -36,7 +36,8 @@ pub fn record_in(
 ) -> Result<DepositRecord, TableFault>
     ensures told { IfOk result (λ told. IsRecordOf row.now kept.now told) }
     ensures failure { IfErr result IsFailure }
-    ensures memory { IfErr result (λ fault. fault ≡ TableFault.Memory → (told : DepositRecord) × IsRecordOf row.now kept.now told) }
+    ensures memory { IfErr result (λ fault.
+        fault ≡ TableFault.Memory → (told : DepositRecord) × IsRecordOf row.now kept.now told) }
 {
     let days = days_in(row)?;
     let files = count_in(row.files, MAX_FILES)?;
@@ -71,9 +72,11 @@ fn record_of<S: Alter>(
     ensures goes_on { Continues S.Store tx.old.conn.now tx.new.conn.now result }
     ensures failure { IfErr result IsFailure }
     ensures told { Finds S.Store tx.old.conn.now tx.new.conn.now result (λ h told.
-        (n : ℕ) (found : Date × Deposit) → deposit_numbered h n ≡ Some found → row.now ≡ deposit_row h n found → told ≡ record_of h n found) }
+        (n : ℕ) (found : Date × Deposit) → deposit_numbered h n ≡ Some found
+        → row.now ≡ deposit_row h n found → told ≡ record_of h n found) }
     ensures same { Keeps S.Store tx.old.conn.now tx.new.conn.now result }
-    ensures rows { Tells S.Store tx.old.conn.now tx.new.conn.now result (λ tables told. (n : ℕ) → pos n ≡ row.now.number → IsRecordBy tables n row.now told) }
+    ensures rows { Tells S.Store tx.old.conn.now tx.new.conn.now result (λ tables told.
+        (n : ℕ) → pos n ≡ row.now.number → IsRecordBy tables n row.now told) }
 {
     let kept = kept_of(tx, row.number)?;
     record_in(alloc, row, &kept)
@@ -93,9 +96,11 @@ pub fn record<S: Alter>(
     ensures stays { CommitsNothing S.Store tx.old.conn.now tx.new.conn.now }
     ensures goes_on { Continues S.Store tx.old.conn.now tx.new.conn.now result }
     ensures failure { IfErr result IsFailure }
-    ensures decides { Decides S.Store tx.old.conn.now tx.new.conn.now result day caller.now (requests.Record number) }
+    ensures decides { Decides S.Store tx.old.conn.now tx.new.conn.now result day caller.now
+        (requests.Record number) }
     ensures same { Keeps S.Store tx.old.conn.now tx.new.conn.now result }
-    ensures rows { Tells S.Store tx.old.conn.now tx.new.conn.now result (λ tables given. IsRecordIn tables caller.now number given) }
+    ensures rows { Tells S.Store tx.old.conn.now tx.new.conn.now result (λ tables given.
+        IsRecordIn tables caller.now number given) }
 {
     match kept_deposit(tx, caller, Action::Record, number)? {
         Ok(row) => Ok(Answer::Record(record_of(alloc, tx, &row)?)),

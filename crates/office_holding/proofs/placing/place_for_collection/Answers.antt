@@ -8,7 +8,7 @@ use Rattle.office_holding.proofs.HoldPlaces.{collection_denied, collection_place
 use Rattle.office_asking.proofs.InTurn.{clean_before, on_after}
 use Rattle.sql_meaning.proofs.Inside.{stays_then, goes_then}
 use Rattle.office_tables.specs.Tables.{tables_of}
-use Rattle.office_holding.specs.ByRows.{IsCollectionDenialIn, IsNextIn}
+use Rattle.office_holding.specs.ByRows.{IsCollectionDenialIn, IsNextHoldIn}
 use Rattle.office_holding.proofs.HoldsByRows.{collection_refused, collection_next}
 use Rattle.office_asking.proofs.RowsTold.{office_still, told_before}
 use Rattle.office_holding.proofs.placing.place_for_collection.Goals as goal
@@ -53,7 +53,7 @@ returns-clause-rows g c clean office =
     let same : mid.now ≡ old.now = c.in_ok-why.ensures.same early office in
     let none : c.in_ok-why.field-0 ≡ None = search rules in
     let denial = subst (IsCollectionDenialIn (tables_of old.now) a.caller.now a.collection.now) none (c.in_ok-why.ensures.rows early office) in
-    IfOk-weaker c.next_hold.result _ _ (λ place next. collection_next (tables_of old.now) a.caller.now a.collection.now denial place (told_before old.now mid.now same (λ t. IsNextIn t place) next))
+    IfOk-weaker c.next_hold.result _ _ (λ place next. collection_next (tables_of old.now) a.caller.now a.collection.now denial place (told_before old.now mid.now same (λ t. IsNextHoldIn t place) next))
     (c.next_hold.ensures.rows clean (office_still old.now mid.now same office))
 
 pub returns-clause-same : goal.returns-clause-same

@@ -10,7 +10,7 @@ use Rattle.office_asking.proofs.InTurn.{clean_before, on_after}
 use Rattle.sql_meaning.proofs.Inside.{stays_then, goes_then}
 use Rattle.office_tables.specs.Tables.{tables_of}
 use Rattle.office_asking.specs.ByRows.{IsAskedIn}
-use Rattle.office_holding.specs.ByRows.{IsNextIn}
+use Rattle.office_holding.specs.ByRows.{IsNextHoldIn}
 use Rattle.office_holding.proofs.HoldsByRows.{deposit_refused, deposit_next}
 use Rattle.office_asking.proofs.RowsTold.{office_still, told_before}
 use Rattle.office_holding.proofs.placing.place_for_deposit.Goals as goal
@@ -48,7 +48,7 @@ returns-in-Ok-clause-rows g c clean office =
     let early : HasCleanDisk mid = clean_before mid (state g.S.Store c.next_hold.new.tx.conn.now) c.next_hold.ensures.stays clean in
     let same : mid.now ≡ old.now = c.in_ok-kept_deposit.ensures.same early office in
     let asked = subst (IsAskedIn (tables_of old.now) a.caller.now acts.Hold a.number) c.in-Ok.is (c.in_ok-kept_deposit.ensures.rows early office) in
-    IfOk-weaker c.next_hold.result _ _ (λ place next. deposit_next (tables_of old.now) a.caller.now a.number _ asked place (told_before old.now mid.now same (λ t. IsNextIn t place) next))
+    IfOk-weaker c.next_hold.result _ _ (λ place next. deposit_next (tables_of old.now) a.caller.now a.number _ asked place (told_before old.now mid.now same (λ t. IsNextHoldIn t place) next))
     (c.next_hold.ensures.rows clean (office_still old.now mid.now same office))
 
 pub returns-clause-rows : goal.returns-clause-rows

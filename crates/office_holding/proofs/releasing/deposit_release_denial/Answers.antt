@@ -1,8 +1,9 @@
-use Rattle.std.proofs.Common.{rules, ◌≡◌, sym, ◌∙◌, Some, option_map}
+use Rattle.std.proofs.Common.{rules, ◌≡◌, ◌∙◌, Some, option_map}
 use Rattle.std.proofs.lemmas.Result.{IfOk-weaker, on_ok_weaker}
 use Rattle.sqlite.specs.State.{HasCleanDisk}
 use Rattle.sqlite.specs.Held.{state}
 use Rattle.office_core.specs.declared.action.Action.TheVariants as acts
+use Rattle.office_tables.specs.declared.fault.TableFault.TheVariants.{Store}
 use Rattle.office_history.specs.Histories.{deposit_numbered}
 use Rattle.office_history.specs.Pictures.{deposit_row}
 use Rattle.office_history.specs.Refusals.{denial}
@@ -12,51 +13,51 @@ use Rattle.office_holding.proofs.HoldAsked.{asked_of_deposit}
 use Rattle.office_asking.proofs.InTurn.{clean_before, on_after}
 use Rattle.sql_meaning.proofs.Inside.{stays_then, goes_then}
 use Rattle.office_asking.specs.ByRows.{IsDenialIn}
-use Rattle.office_asking.proofs.RowsTold.{office_still, told_before}
+use Rattle.office_asking.proofs.RowsTold.{office_still, there_is, told_before}
 use Rattle.office_holding.proofs.releasing.deposit_release_denial.Goals as goal
 
-pub returns-in-Some-clause-denied : goal.returns-in-Some-clause-denied
-returns-in-Some-clause-denied g c clean h legal pictured =
+pub returns-clause-denied : goal.returns-clause-denied
+returns-clause-denied g c clean h legal pictured =
     let a = c.args in
     let old = state g.S.Store a.tx.now.conn.now in
     let mid = state g.S.Store c.deposit_row.new.tx.conn.now in
     let early : HasCleanDisk mid = clean_before mid (state g.S.Store c.denial.new.tx.conn.now) c.denial.ensures.stays clean in
-    let read = deposit_read h old.now pictured a.number c.in_ok-deposit.field-0 (c.in_ok-deposit.ensures.found early pictured.office) in
-    let still = pictured_still h old.now pictured mid.now (c.in_ok-deposit.ensures.same early pictured.office) in
-    let row = c.in-Some.deposit in
-    let some : Some row ≡ option_map (deposit_row h a.number) (deposit_numbered h a.number) = sym c.in-Some.is ∙ read in
+    let read = deposit_read h old.now pictured a.number c.in_ok-found.found (c.in_ok-found.ensures.found early pictured.office) in
+    let still = pictured_still h old.now pictured mid.now (c.in_ok-found.ensures.same early pictured.office) in
+    let row = c.in_ok-deposit.deposit in
+    let some : Some row ≡ option_map (deposit_row h a.number) (deposit_numbered h a.number) = there_is c.in_ok-found.found Store row c.in_ok-deposit.ensures ∙ read in
     let collection : c.deref.result.now ≡ row.collection = search rules in
-    let class : c.deref-in-Some.result.now ≡ row.class = search rules in
+    let class : c.deref-2.result.now ≡ row.class = search rules in
     IfOk-weaker c.denial.result _ _ (λ why p. (p.0, asked_of_deposit h a.caller.now a.number row some why (p.1 ∙ (λ i. denial h a.caller.now acts.Release (Some (collection i)) (Some (class i)))))) (c.denial.ensures.denied clean h legal still)
 
-pub returns-in-Some-clause-stays : goal.returns-in-Some-clause-stays
-returns-in-Some-clause-stays g c = stays_then (state g.S.Store c.args.tx.now.conn.now) (state g.S.Store c.deposit_row.new.tx.conn.now) (state g.S.Store c.denial.new.tx.conn.now) c.deposit_row.ensures.stays c.in_ok-deposit.ensures.goes_on c.denial.ensures.stays
+pub returns-clause-stays : goal.returns-clause-stays
+returns-clause-stays g c = stays_then (state g.S.Store c.args.tx.now.conn.now) (state g.S.Store c.deposit_row.new.tx.conn.now) (state g.S.Store c.denial.new.tx.conn.now) c.deposit_row.ensures.stays c.in_ok-found.ensures.goes_on c.denial.ensures.stays
 
-pub returns-in-Some-clause-goes_on : goal.returns-in-Some-clause-goes_on
-returns-in-Some-clause-goes_on g c =
+pub returns-clause-goes_on : goal.returns-clause-goes_on
+returns-clause-goes_on g c =
     let s0 = state g.S.Store c.args.tx.now.conn.now in
     let s1 = state g.S.Store c.deposit_row.new.tx.conn.now in
     let s2 = state g.S.Store c.denial.new.tx.conn.now in
-    on_after s0 s1 s2 c.denial.ensures.stays c.denial.result (goes_then s0 s1 s2) c.in_ok-deposit.ensures.goes_on c.denial.ensures.goes_on
+    on_after s0 s1 s2 c.denial.ensures.stays c.denial.result (goes_then s0 s1 s2) c.in_ok-found.ensures.goes_on c.denial.ensures.goes_on
 
-pub returns-in-Some-clause-rows : goal.returns-in-Some-clause-rows
-returns-in-Some-clause-rows g c clean office =
+pub returns-clause-rows : goal.returns-clause-rows
+returns-clause-rows g c clean office =
     let a = c.args in
     let old = state g.S.Store a.tx.now.conn.now in
     let mid = state g.S.Store c.deposit_row.new.tx.conn.now in
     let early : HasCleanDisk mid = clean_before mid (state g.S.Store c.denial.new.tx.conn.now) c.denial.ensures.stays clean in
-    let same : mid.now ≡ old.now = c.in_ok-deposit.ensures.same early office in
-    let row = c.in-Some.deposit in
-    let there = sym c.in-Some.is ∙ c.in_ok-deposit.ensures.found early office in
+    let same : mid.now ≡ old.now = c.in_ok-found.ensures.same early office in
+    let row = c.in_ok-deposit.deposit in
+    let there = there_is c.in_ok-found.found Store row c.in_ok-deposit.ensures ∙ c.in_ok-found.ensures.found early office in
     let collection : c.deref.result.now ≡ row.collection = search rules in
-    let class : c.deref-in-Some.result.now ≡ row.class = search rules in
+    let class : c.deref-2.result.now ≡ row.class = search rules in
     IfOk-weaker c.denial.result _ _ (λ why is. record { row = row; there = there; is = told_before old.now mid.now same (λ t. IsDenialIn t a.caller.now acts.Release (Some row.collection) (Some row.class) why) (rw (collection, class) at is) })
     (c.denial.ensures.rows clean (office_still old.now mid.now same office))
 
-pub returns-in-Some-clause-same : goal.returns-in-Some-clause-same
-returns-in-Some-clause-same g c clean office =
+pub returns-clause-same : goal.returns-clause-same
+returns-clause-same g c clean office =
     let old = state g.S.Store c.args.tx.now.conn.now in
     let mid = state g.S.Store c.deposit_row.new.tx.conn.now in
     let early : HasCleanDisk mid = clean_before mid (state g.S.Store c.denial.new.tx.conn.now) c.denial.ensures.stays clean in
-    let same : mid.now ≡ old.now = c.in_ok-deposit.ensures.same early office in
+    let same : mid.now ≡ old.now = c.in_ok-found.ensures.same early office in
     on_ok_weaker c.denial.result (λ e. e ∙ same) (c.denial.ensures.same clean (office_still old.now mid.now same office))

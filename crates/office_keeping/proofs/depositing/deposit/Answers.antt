@@ -13,7 +13,7 @@ use Rattle.office_asking.specs.ByRows.{IsDueIn}
 use Rattle.office_asking.specs.Pictures.{Pictures}
 use Rattle.office_asking.proofs.RowsTold.{office_still, told_before}
 use Rattle.office_asking.proofs.Serving.{refused_serves, allowed_serves}
-use Rattle.office_keeping.specs.ByRows.{IsAskedOfDeposit}
+use Rattle.office_keeping.specs.ByRows.{DepositAsked, IsAskedOfDeposit}
 use Rattle.office_keeping.specs.Depositing.{IsAskedFor, IsNext, number_of}
 use Rattle.office_asking.proofs.InTurn.{clean_before, goes_twice}
 use Rattle.sql_meaning.proofs.Inside.{stays_then}
@@ -66,10 +66,11 @@ returns-in-Err-clause-rows g c clean office =
     let collection = c.as_str-collection.ensures.text in
     let class = c.as_str-class.ensures.text in
     let accession = c.as_str-accession.ensures.text in
-    let asked = subst (λ asked. IsAskedOfDeposit t a.day a.caller.now c.as_str-collection.result.now c.as_str-class.result.now c.as_str-accession.result.now a.closed a.bag.now (number_of asked)) c.in-Err.is (c.in_ok-new.ensures.rows clean office) in
+    let asking : List ℕ → List ℕ → List ℕ → DepositAsked = λ collection class accession. record { day = a.day; caller = a.caller.now; collection = collection; class = class; accession = accession; closed = a.closed } in
+    let next = subst (λ new. IsAskedOfDeposit t (asking c.as_str-collection.result.now c.as_str-class.result.now c.as_str-accession.result.now) a.bag.now (number_of new)) c.in-Err.is (c.in_ok-new.ensures.rows clean office) in
     record {
       next = Err c.in-Err.why;
-      asked = subst (λ (x : List ℕ × List ℕ × List ℕ). IsAskedOfDeposit t a.day a.caller.now x.0 x.1 x.2 a.closed a.bag.now (Err c.in-Err.why)) (λ i. (collection i, class i, accession i)) asked;
+      is_next = subst (λ asked. IsAskedOfDeposit t asked a.bag.now (Err c.in-Err.why)) (λ i. asking (collection i) (class i) (accession i)) next;
       due = tt;
       answer = refl;
     }
@@ -85,11 +86,12 @@ returns-clause-rows g c clean office =
     let collection = c.as_str-collection.ensures.text in
     let class = c.as_str-class.ensures.text in
     let accession = c.as_str-accession.ensures.text in
-    let asked = subst (λ asked. IsAskedOfDeposit (tables_of old.now) a.day a.caller.now c.as_str-collection.result.now c.as_str-class.result.now c.as_str-accession.result.now a.closed a.bag.now (number_of asked)) c.in-Ok.is (c.in_ok-new.ensures.rows early office) in
+    let asking : List ℕ → List ℕ → List ℕ → DepositAsked = λ collection class accession. record { day = a.day; caller = a.caller.now; collection = collection; class = class; accession = accession; closed = a.closed } in
+    let next = subst (λ new. IsAskedOfDeposit (tables_of old.now) (asking c.as_str-collection.result.now c.as_str-class.result.now c.as_str-accession.result.now) a.bag.now (number_of new)) c.in-Ok.is (c.in_ok-new.ensures.rows early office) in
     let due = told_before old.now mid.now same (λ t. (due : Due) × IsDueIn t c.as_str-class.result.now a.closed due) (c.in_ok-keep.ensures.rows clean (office_still old.now mid.now same office)) in
     record {
       next = Ok c.in-Ok.new.number;
-      asked = subst (λ (x : List ℕ × List ℕ × List ℕ). IsAskedOfDeposit (tables_of old.now) a.day a.caller.now x.0 x.1 x.2 a.closed a.bag.now (Ok c.in-Ok.new.number)) (λ i. (collection i, class i, accession i)) asked;
+      is_next = subst (λ asked. IsAskedOfDeposit (tables_of old.now) asked a.bag.now (Ok c.in-Ok.new.number)) (λ i. asking (collection i) (class i) (accession i)) next;
       due = subst (λ name. (due : Due) × IsDueIn (tables_of old.now) name a.closed due) class due;
       answer = refl;
     }

@@ -5,7 +5,8 @@ use Rattle.sqlite.specs.Held.{state}
 use Rattle.office_core.specs.FirstOf.{first_some}
 use Rattle.office_history.specs.Refusals.{bad_bag, full_of_deposits}
 use Rattle.office_tables.specs.Tables.{tables_of}
-use Rattle.office_keeping.specs.ByRows.{IsNextIn, IsRefusalBeforeTheBag, IsRefusedOr}
+use Rattle.office_asking.specs.Limits.{IsRefusedOr}
+use Rattle.office_keeping.specs.ByRows.{DepositAsked, IsNextDepositIn, IsRefusalBeforeTheBag}
 use Rattle.office_keeping.specs.Depositing.{number_of, refusals_before_the_bag}
 use Rattle.office_history.proofs.PlainLemmas.{first_in_front}
 use Rattle.office_keeping.proofs.AskedFor.{asked_later}
@@ -49,9 +50,10 @@ pub returns-in-Some-clause-rows : goal.returns-in-Some-clause-rows
 returns-in-Some-clause-rows g c clean office =
     let a = c.args in
     let t = tables_of (state g.S.Store a.tx.now.conn.now).now in
+    let asked : DepositAsked = record { day = a.day; caller = a.caller.now; collection = a.collection.now; class = a.class.now; accession = a.accession.now; closed = a.closed } in
     record {
       before = Some c.in-Some.why;
-      is_before = subst (IsRefusalBeforeTheBag t a.day a.caller.now a.collection.now a.class.now a.accession.now a.closed) c.in-Some.is (c.in_ok-why.ensures.rows clean office);
+      is_before = subst (IsRefusalBeforeTheBag t asked) c.in-Some.is (c.in_ok-why.ensures.rows clean office);
       first = refl;
     }
 
@@ -63,6 +65,7 @@ returns-clause-rows g c clean office =
     let new = state g.S.Store c.numbered_bag.new.tx.conn.now in
     let early : HasCleanDisk mid = clean_before mid new c.numbered_bag.ensures.stays clean in
     let none : c.in_ok-why.field-0 ≡ None = search rules in
-    let before = subst (IsRefusalBeforeTheBag (tables_of old.now) a.day a.caller.now a.collection.now a.class.now a.accession.now a.closed) none (c.in_ok-why.ensures.rows early office) in
+    let asked : DepositAsked = record { day = a.day; caller = a.caller.now; collection = a.collection.now; class = a.class.now; accession = a.accession.now; closed = a.closed } in
+    let before = subst (IsRefusalBeforeTheBag (tables_of old.now) asked) none (c.in_ok-why.ensures.rows early office) in
     IfOk-weaker c.numbered_bag.result _ _ (λ asked told. record { before = None; is_before = before; first = told })
-    (told_after old mid new c.numbered_bag.ensures.stays c.in_ok-why.ensures.same c.numbered_bag.result (λ t asked. IsRefusedOr (bad_bag a.text.now) (IsNextIn t) (number_of asked)) c.numbered_bag.ensures.rows clean office)
+    (told_after old mid new c.numbered_bag.ensures.stays c.in_ok-why.ensures.same c.numbered_bag.result (λ t asked. IsRefusedOr (bad_bag a.text.now) (IsNextDepositIn t) (number_of asked)) c.numbered_bag.ensures.rows clean office)

@@ -26,12 +26,12 @@ returns-in-Err-clause-decides g c clean h legal pictured =
     let asked = rw c.in-Err.is at c.in_ok-rows.ensures.asked clean h legal pictured in
     refused_serves _ _ _ _ _ _ asked.1 asked.0
 
-pub returns-in_ok-audit_of-in-Ok-clause-audited : goal.returns-in_ok-audit_of-in-Ok-clause-audited
-returns-in_ok-audit_of-in-Ok-clause-audited g c clean office =
+pub returns-in_ok-audit_of-in-Ok-clause-rows : goal.returns-in_ok-audit_of-in-Ok-clause-rows
+returns-in_ok-audit_of-in-Ok-clause-rows g c clean office =
     let verdict : c.in_ok-audit_of-in-Ok.field-0 ≡ audit_of (map file_in c.in-Ok.rows.items) = search rules in
     let asked = rw c.in-Ok.is at c.in_ok-rows.ensures.rows clean office in
     let stored = rw c.in-Ok.is at c.in_ok-rows.ensures.stored clean office in
     record { asked = Ok asked.0; is_asked = asked.1; answers = ap (answers.Audit c.args.number) (verdict ∙ ap (λ rs. audit_of (map file_in rs)) stored) }
 
-pub returns-in-Err-clause-audited : goal.returns-in-Err-clause-audited
-returns-in-Err-clause-audited g c clean office = record { asked = Err _; is_asked = rw c.in-Err.is at c.in_ok-rows.ensures.rows clean office; answers = refl }
+pub returns-in-Err-clause-rows : goal.returns-in-Err-clause-rows
+returns-in-Err-clause-rows g c clean office = record { asked = Err _; is_asked = rw c.in-Err.is at c.in_ok-rows.ensures.rows clean office; answers = refl }

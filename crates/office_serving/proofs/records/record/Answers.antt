@@ -49,12 +49,12 @@ returns-in_ok-record_of-in-Ok-clause-rows g c clean office =
     let same = c.in_ok-row.ensures.same early office in
     let told = told_before old.now mid.now same (λ t. (n : ℕ) → pos n ≡ c.in-Ok.row.number → IsRecordBy t n c.in-Ok.row c.in_ok-record_of-in-Ok.field-0) (c.in_ok-record_of-in-Ok.ensures.rows clean (office_still old.now mid.now same office)) in
     let number = sym (found_number (pos a.number) (tables_of old.now).deposits c.in-Ok.row asked.0) in
-    record { asked = Ok c.in-Ok.row; is_asked = asked; tells = (c.in_ok-record_of-in-Ok.field-0, told a.number number, refl) }
+    record { asked = Ok c.in-Ok.row; is_asked = asked; answers = (c.in_ok-record_of-in-Ok.field-0, told a.number number, refl) }
 
 pub returns-in-Err-clause-rows : goal.returns-in-Err-clause-rows
 returns-in-Err-clause-rows g c clean office =
     let asked : IsAskedIn (tables_of (state g.S.Store c.args.tx.now.conn.now).now) c.args.caller.now acts.Record c.args.number (Err c.in-Err.why) = rw c.in-Err.is at c.in_ok-row.ensures.rows clean office in
-    record { asked = Err c.in-Err.why; is_asked = asked; tells = refl }
+    record { asked = Err c.in-Err.why; is_asked = asked; answers = refl }
 
 pub returns-in_ok-record_of-in-Ok-clause-same : goal.returns-in_ok-record_of-in-Ok-clause-same
 returns-in_ok-record_of-in-Ok-clause-same g c =

@@ -1,10 +1,31 @@
-use Rattle.std.proofs.Common.{rules, ◌≡◌}
+use Rattle.std.proofs.Common.{rules, ◌≡◌, refl}
 use Rattle.office_core.specs.declared.answer.DepositRecord.{DepositRecord}
 use Rattle.office_tables.specs.declared.fault.TableFault.{TableFault}
 use Rattle.office_tables.specs.declared.fault.TableFault.TheVariants.{Memory}
 use Rattle.office_serving.specs.Told.{IsRecordOf}
 use Rattle.office_serving.proofs.RecordTold.{whichever}
 use Rattle.office_serving.proofs.records.record_in.Goals as goal
+
+pub returns-clause-told : goal.returns-clause-told
+returns-clause-told c = record {
+  number = search rules;
+  accession = search rules;
+  is_accession = search rules;
+  collection = search rules;
+  is_collection = search rules;
+  class = search rules;
+  is_class = search rules;
+  days = c.in_ok-days.days;
+  are_days = c.in_ok-days.ensures.days;
+  closed = refl;
+  deposited = refl;
+  files = search rules;
+  few_files = search rules;
+  bytes = search rules;
+  few_bytes = search rules;
+  due_is = search rules;
+  is_due = search rules;
+}
 
 pub returns-in_err-to_owned-clause-memory : goal.returns-in_err-to_owned-clause-memory
 returns-in_err-to_owned-clause-memory c =
@@ -19,7 +40,25 @@ returns-in_err-to_owned-clause-memory c =
       bytes = c.in_ok-bytes.bytes;
       due = c.in_ok-due.due;
     } in
-    let is : IsRecordOf c.args.row.now c.args.kept.now told = search rules in
+    let is : IsRecordOf c.args.row.now c.args.kept.now told = record {
+      number = search rules;
+      accession = search rules;
+      is_accession = search rules;
+      collection = search rules;
+      is_collection = search rules;
+      class = search rules;
+      is_class = search rules;
+      days = c.in_ok-days.days;
+      are_days = c.in_ok-days.ensures.days;
+      closed = refl;
+      deposited = refl;
+      files = search rules;
+      few_files = search rules;
+      bytes = search rules;
+      few_bytes = search rules;
+      due_is = search rules;
+      is_due = search rules;
+    } in
     whichever c.from_residual-in_err-to_owned.result (λ (fault : TableFault). fault ≡ Memory) (told, is)
 
 pub returns-in_err-to_owned-2-clause-memory : goal.returns-in_err-to_owned-2-clause-memory
@@ -35,7 +74,25 @@ returns-in_err-to_owned-2-clause-memory c =
       bytes = c.in_ok-bytes.bytes;
       due = c.in_ok-due.due;
     } in
-    let is : IsRecordOf c.args.row.now c.args.kept.now told = search rules in
+    let is : IsRecordOf c.args.row.now c.args.kept.now told = record {
+      number = search rules;
+      accession = search rules;
+      is_accession = search rules;
+      collection = search rules;
+      is_collection = search rules;
+      class = search rules;
+      is_class = search rules;
+      days = c.in_ok-days.days;
+      are_days = c.in_ok-days.ensures.days;
+      closed = refl;
+      deposited = refl;
+      files = search rules;
+      few_files = search rules;
+      bytes = search rules;
+      few_bytes = search rules;
+      due_is = search rules;
+      is_due = search rules;
+    } in
     whichever c.from_residual-in_err-to_owned-2.result (λ (fault : TableFault). fault ≡ Memory) (told, is)
 
 pub returns-in_err-to_owned-3-clause-memory : goal.returns-in_err-to_owned-3-clause-memory
@@ -51,5 +108,23 @@ returns-in_err-to_owned-3-clause-memory c =
       bytes = c.in_ok-bytes.bytes;
       due = c.in_ok-due.due;
     } in
-    let is : IsRecordOf c.args.row.now c.args.kept.now told = search rules in
+    let is : IsRecordOf c.args.row.now c.args.kept.now told = record {
+      number = search rules;
+      accession = search rules;
+      is_accession = search rules;
+      collection = search rules;
+      is_collection = search rules;
+      class = search rules;
+      is_class = search rules;
+      days = c.in_ok-days.days;
+      are_days = c.in_ok-days.ensures.days;
+      closed = refl;
+      deposited = refl;
+      files = search rules;
+      few_files = search rules;
+      bytes = search rules;
+      few_bytes = search rules;
+      due_is = search rules;
+      is_due = search rules;
+    } in
     whichever c.from_residual-in_err-to_owned-3.result (λ (fault : TableFault). fault ≡ Memory) (told, is)
