@@ -1,9 +1,12 @@
 -- What the rows tell by the calls that read them, whichever rows they are.
-use Rattle.std.proofs.Common.{◌≡◌, ℕ, ℤ, pos, Bool, true, false, if◌then◌else◌, List, [], ◌∷◌, map, slice_get, Option, Some, None, IfOk, IfErr, Result, Ok, Err, option_map, string_bytes, sym, ap, subst, ◌∙◌, refl}
+use Rattle.std.proofs.Common.{◌≡◌, ℕ, ℤ, pos, Bool, true, false, if◌then◌else◌, List, [], ◌∷◌, map, slice_get, Option, Some, None, IfOk, IfErr, IfSome, Result, Ok, Err, option_map, string_bytes, sym, ap, subst, ◌∙◌, refl}
 use Rattle.std.proofs.lemmas.Option.{same_Some}
+use Rattle.std.proofs.lemmas.Slice.Eq.{bytes_eq-Decides}
 use Rattle.std.specs.Option.{ok_or}
 use Rattle.sqlite.specs.Effect.{Database}
+use Rattle.office_core.proofs.OptionLemmas.{find_some}
 use Rattle.office_core.specs.Actions.{action_text}
+use Rattle.office_core.specs.Names.{IsName}
 use Rattle.office_core.specs.Policies.{or_stranger}
 use Rattle.office_core.specs.declared.action.Action.{Action}
 use Rattle.office_core.specs.declared.rule.Decision.{Decision}
@@ -11,7 +14,8 @@ use Rattle.office_core.specs.declared.refusal.Refusal.{Refusal}
 use Rattle.office_core.specs.declared.refusal.Refusal.TheVariants.{NoSuch}
 use Rattle.office_core.specs.declared.refusal.Subject.TheVariants as subjects
 use Rattle.office_rows.specs.Matching.{matching_rule}
-use Rattle.office_rows.specs.Rows.{DepositRow, RuleRow, Tables, deposit_numbered}
+use Rattle.office_rows.specs.Rows.{CallerRow, DepositRow, RuleRow, Tables, caller_named, deposit_numbered, is_caller}
+use Rattle.office_history.specs.RowRanges.{IsCallerRow}
 use Rattle.office_tables.specs.Tables.{IsOffice, tables_of}
 use Rattle.office_tables.specs.declared.fault.TableFault.{TableFault}
 use Rattle.office_asking.specs.Asking.{IsDecisionOf, or_empty}
@@ -52,10 +56,21 @@ module _ (t : Tables) (caller : List ℕ) (asker : Asker) (is : IsAskerIn t call
   found_for role = matching_rule role (action_text action) (or_empty collection) (or_empty class) t.rules
 
   pub none_by_row : None ≡ found_for (or_stranger (option_map string_bytes asker.role)) → IsDecisionBy (deciding_row t caller action collection class) None
-  none_by_row none = subst (λ o. IsDecisionBy o None) (none ∙ ap found_for is) tt
+  none_by_row none = subst (λ o. IsDecisionBy o None) (none ∙ ap found_for is.role) tt
 
   pub decided_by_row : (row : RuleRow) → Some row ≡ found_for (or_stranger (option_map string_bytes asker.role)) → (decision : Decision) → IsDecisionOf row decision → IsDecisionBy (deciding_row t caller action collection class) (Some decision)
-  decided_by_row row there decision says = subst (λ o. IsDecisionBy o (Some decision)) (there ∙ ap found_for is) says
+  decided_by_row row there decision says = subst (λ o. IsDecisionBy o (Some decision)) (there ∙ ap found_for is.role) says
+
+-- the row of a caller is in its ranges, where the caller and the role that the row gives are names
+pub caller_in_range : (caller : List ℕ) (rows : List CallerRow) (role : Option (List ℕ)) → role ≡ option_map (λ (c : CallerRow). c.role) (caller_named caller rows)
+    → IfSome role (λ r. IsName caller × IsName r) → IfSome (caller_named caller rows) IsCallerRow
+caller_in_range caller rows role found names = by (caller_named caller rows) refl (subst (λ o. IfSome o (λ r. IsName caller × IsName r)) found names)
+  where
+    by : (o : Option CallerRow) → caller_named caller rows ≡ o → IfSome (option_map (λ (c : CallerRow). c.role) o) (λ r. IsName caller × IsName r) → IfSome o IsCallerRow
+    by None is named = tt
+    by (Some row) is named =
+        let same : row.name ≡ caller = (bytes_eq-Decides row.name caller).0 (find_some (is_caller caller) rows row is) in
+        record { name = subst IsName (sym same) named.0; role = named.1 }
 
 -- the first of some numbers is the first of what they are
 pub first_of : (k : ℕ) (numbers : List ℕ) (live : List ℤ) → map pos numbers ≡ live → Some k ≡ slice_get numbers 0 → (others : List ℤ) × (live ≡ pos k ∷ others)

@@ -1,21 +1,25 @@
 -- Who asks, by the rows of the callers, and the rule that decides, by its row.
 use Rattle.std.specs.Prelude.{◌≡◌, ◌≤◌, ℕ, ℤ, pos, List, [], Option, unwrap_or, option_map, string_bytes}
+use Rattle.office_core.specs.Bounds.{max_rules}
 use Rattle.office_core.specs.Policies.{or_stranger, role_of}
 use Rattle.office_core.specs.declared.rule.Decision.{Decision}
 use Rattle.office_rows.specs.Rows.{RuleRow}
 use Rattle.office_history.specs.Histories.{History, policy}
 use Rattle.office_history.specs.Pictures.{effect_number}
+use Rattle.office_history.specs.RowRanges.{IsRuleRow}
 use Rattle.office_asking.specs.declared.asker.Asker.{Asker}
 
 -- a name as the rules are asked for it: an absent one is the empty text
 abbrev pub or_empty : Option (List ℕ) → List ℕ
 or_empty name = unwrap_or name []
 
--- the decision is what the row of its rule says, whose place is counted from 1
+-- the decision is what the row of its rule says, which is a rule's in its ranges, at a place from 1 to the most rules of a policy
 pub record IsDecisionOf (row : RuleRow) (decision : Decision) : Type 0 where
   pub rule : pos decision.rule ≡ row.place
   pub from_one : 1 ≤ decision.rule
+  pub among_few : decision.rule ≤ max_rules
   pub effect : effect_number decision.effect ≡ row.effect
+  pub in_range : IsRuleRow row
 
 -- the role is the caller's
 abbrev pub IsAsker : History → List ℕ → Asker → Type 0

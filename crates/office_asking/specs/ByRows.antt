@@ -23,6 +23,7 @@ use Rattle.office_rows.specs.Rows.{CallerRow, ClassRow, DepositRow, DueRow, Hold
 use Rattle.office_rows.specs.Matching.{matching_rule}
 use Rattle.office_history.specs.Pictures.{years_number}
 use Rattle.office_history.specs.Refusals.{refusal_in}
+use Rattle.office_history.specs.RowRanges.{IsCallerRow}
 use Rattle.office_asking.specs.Asking.{IsDecisionOf, or_empty}
 use Rattle.office_asking.specs.Holds.{IsHoldOf}
 use Rattle.office_asking.specs.declared.asker.Asker.{Asker}
@@ -34,9 +35,10 @@ use Rattle.office_asking.specs.declared.deposits.DepositDays.{DepositDays}
 abbrev pub role_in : Tables → List ℕ → List ℕ
 role_in t caller = or_stranger (option_map (λ (c : CallerRow). c.role) (caller_named caller t.callers))
 
--- the role is that one
-abbrev pub IsAskerIn : Tables → List ℕ → Asker → Type 0
-IsAskerIn t caller asker = or_stranger (option_map string_bytes asker.role) ≡ role_in t caller
+-- the role is that one, and the caller's row, where there is one, is in its ranges
+pub record IsAskerIn (t : Tables) (caller : List ℕ) (asker : Asker) : Type 0 where
+  pub role : or_stranger (option_map string_bytes asker.role) ≡ role_in t caller
+  pub in_range : IfSome (caller_named caller t.callers) IsCallerRow
 
 -- the row of the rule that decides, if one matches
 abbrev pub deciding_row : Tables → List ℕ → Action → Option (List ℕ) → Option (List ℕ) → Option RuleRow

@@ -15,42 +15,28 @@ use Rattle.office_history.specs.Refusals.{denial_at}
 use Rattle.office_history.specs.Answers.{is_asked, is_listed, record_of, listed_record, listed_records}
 use Rattle.office_serving.specs.Allowances.{is_allowed}
 use Rattle.office_serving.specs.Listing.{is_shown, shown_record}
+use Rattle.office_serving.specs.ListsByRows.{is_wanted}
 use Rattle.office_serving.proofs.ListedRows.{both, all_rows, row_at, tells_next, silent_next, told_of_those}
 
--- asked for and not denied
-none_asked : (a b c d : Bool) → false ≡ (a && (b && c)) → false ≡ (a && (b && c && d))
-none_asked true true true d e = absurd cc
-none_asked true true false d e = refl
-none_asked true false c d e = refl
-none_asked false b c d e = refl
+-- kept, asked for and not denied
+all_asked : (a b c d : Bool) → true ≡ a → true ≡ (b && c) → d ≡ (a && (b && c && d))
+all_asked true true true d kept e = refl
+all_asked true true false d kept e = absurd cc
+all_asked true false c d kept e = absurd cc
+all_asked false b c d kept e = absurd cc
 
-all_asked : (a b c d : Bool) → true ≡ (a && (b && c)) → d ≡ (a && (b && c && d))
-all_asked true true true d e = refl
-all_asked true true false d e = absurd cc
-all_asked true false c d e = absurd cc
-all_asked false b c d e = absurd cc
+-- a deposit without a day of destruction is kept
+kept_told : (o : Option Date) → None ≡ option_map epoch_day o → true ≡ is_none o
+kept_told None e = refl
+kept_told (Some day) e = absurd cc
 
 module _ (h : History) (caller : List ℕ) (collection class : Option (List ℕ)) (n : ℕ) (found : Date × Deposit) where
-  abbrev wanted : DepositRow → Bool
-  wanted row = is_none row.gone && (is_asked collection row.collection && is_asked class row.class)
-
-  module _ (row : DepositRow) (is : row ≡ deposit_row h n found) where
-    wanted_is : wanted row ≡ (is_none (destruction_day h n) && (is_asked collection found.1.collection && is_asked class found.1.class))
-    wanted_is = ap wanted is ∙ ap (λ b. b && (is_asked collection found.1.collection && is_asked class found.1.class)) (kept (destruction_day h n))
-      where
-        kept : (o : Option Date) → is_none (option_map epoch_day o) ≡ is_none o
-        kept None = refl
-        kept (Some day) = refl
-
-    -- one that isn't kept, or is of another collection or class than is asked for
-    pub not_wanted : false ≡ wanted row → false ≡ is_shown h caller collection class n found.1
-    not_wanted e = none_asked (is_none (destruction_day h n)) (is_asked collection found.1.collection) (is_asked class found.1.class) (is_none (denial_at h caller acts.List found.1)) (e ∙ wanted_is)
-
-    -- one of which the rules are asked
-    pub rules_asked : true ≡ wanted row → (is : Bool) → is ≡ is_allowed h caller acts.List row.collection row.class → is ≡ is_shown h caller collection class n found.1
-    rules_asked e answer said =
-        said ∙ ap (λ (r : DepositRow). is_allowed h caller acts.List r.collection r.class) is
-        ∙ all_asked (is_none (destruction_day h n)) (is_asked collection found.1.collection) (is_asked class found.1.class) (is_none (denial_at h caller acts.List found.1)) (e ∙ wanted_is)
+  -- one that is kept and asked for: the rules are asked
+  pub rules_asked : (row : DepositRow) → row ≡ deposit_row h n found → true ≡ is_wanted collection class row → row.gone ≡ None → (is : Bool) → is ≡ is_allowed h caller acts.List row.collection row.class → is ≡ is_shown h caller collection class n found.1
+  rules_asked row row_is wanted kept is said =
+      said ∙ ap (λ (r : DepositRow). is_allowed h caller acts.List r.collection r.class) row_is
+      ∙ all_asked (is_none (destruction_day h n)) (is_asked collection found.1.collection) (is_asked class found.1.class) (is_none (denial_at h caller acts.List found.1))
+      (kept_told (destruction_day h n) (sym kept ∙ ap (λ (r : DepositRow). r.gone) row_is)) (wanted ∙ ap (is_wanted collection class) row_is)
 
   module _ (there : deposit_numbered h n ≡ Some found) where
     shown_is : shown_record h caller collection class n ≡ (if is_shown h caller collection class n found.1 then Some (record_of h n found) else None)

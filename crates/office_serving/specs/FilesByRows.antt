@@ -1,7 +1,7 @@
 -- What is answered of a deposit's files and holds by the rows of an office, whichever rows they are.
 use Rattle.std.specs.Prelude.{◌≡◌, ℕ, ℤ, pos, List, Vec, Option, None, Result, Ok, Err, map, option_map, if◌then◌else◌}
 use Rattle.std.specs.List.{AllByRecursion}
-use Rattle.std.specs.Str.{is_utf8}
+use Rattle.bag_text.specs.Paths.{is_good}
 use Rattle.bag_text.specs.TransferForm.{IsBag, set_text}
 use Rattle.office_core.specs.declared.action.Action.{Action}
 use Rattle.office_core.specs.declared.action.Action.TheVariants as acts
@@ -39,9 +39,9 @@ AreAskedIn t caller action n (Err why) = IsAskedIn t caller action n (Err why)
 abbrev pub IsBagIn : Tables → List ℕ → ℕ → Answer → Type 0
 IsBagIn t caller n = IsAnswerIn t caller acts.Download n (λ row answer. IsBag (stored_files n t) × (answer ≡ Bag (set_text (stored_files n t))))
 
--- the content of the file that stands there at a path, which is any bytes: a path that is no text is that of no file
+-- the content of the file that stands there at a path, which is any bytes: a path that no bag may have is that of no file, whatever stands there
 abbrev pub content_stored : ℕ → List ℕ → Tables → Option (List ℕ)
-content_stored n path t = if is_utf8 path then option_map (λ (file : FileRow). file.content) (file_at (pos n) path t.files) else None
+content_stored n path t = if is_good path then option_map (λ (file : FileRow). file.content) (file_at (pos n) path t.files) else None
 
 -- the file that stands there at that path, or that there is none
 abbrev pub IsFileIn : Tables → List ℕ → ℕ → List ℕ → Answer → Type 0

@@ -1,10 +1,11 @@
 -- What is answered of records, lists, due lists and the stock by the rows of an office, whichever rows they are.
-use Rattle.std.specs.Prelude.{◌≡◌, ⊤, ℕ, pos, Bool, true, false, ◌&&◌, List, [], ◌∷◌, map, length, sum, Option, Some, None, IfSome, is_none}
+use Rattle.std.specs.Prelude.{◌≡◌, ⊤, ℕ, ℤ, pos, Bool, true, false, ◌&&◌, List, [], ◌∷◌, map, length, sum, Option, Some, None, IfSome, is_none}
 use Rattle.std.specs.HashMap.{get}
 use Rattle.std.specs.List.{cons_option}
 use Rattle.jiff.specs.Types.{Date}
 use Rattle.jiff.specs.Words.{epoch_day}
 use Rattle.sqlite.specs.Effect.{Database}
+use Rattle.office_core.specs.Days.{IsDayNumber}
 use Rattle.office_core.specs.Retention.{IsDueNumber, due_number}
 use Rattle.office_core.specs.declared.action.Action.{Action}
 use Rattle.office_core.specs.declared.action.Action.TheVariants as acts
@@ -65,13 +66,18 @@ IsRecordIn t caller n = IsAnswerIn t caller acts.Record n (λ row answer. (told 
 
 -- ---- lists
 
--- the deposit of the row is kept, and is of the collection and the class that are asked for
+-- the deposit of the row is of the collection and the class that are asked for
 abbrev pub is_wanted : Option (List ℕ) → Option (List ℕ) → DepositRow → Bool
-is_wanted collection class row = is_none row.gone && (is_asked collection row.collection && is_asked class row.class)
+is_wanted collection class row = is_asked collection row.collection && is_asked class row.class
 
--- a deposit that isn't wanted is not listed, and of one that is the rules are asked
+-- a deposit that was destroyed is not listed, and the day of that is one; where there is no such day, the rules are asked
+abbrev pub IsShownUnless : Option ℤ → Tables → List ℕ → DepositRow → Bool → Type 0
+IsShownUnless (Some gone) t caller row is = IsDayNumber gone × (is ≡ false)
+IsShownUnless None t caller row is = IsAllowedIn t caller acts.List row.collection row.class is
+
+-- a deposit that isn't wanted is not listed, whatever else its row says
 abbrev pub IsShownIf : Bool → Tables → List ℕ → DepositRow → Bool → Type 0
-IsShownIf true t caller row is = IsAllowedIn t caller acts.List row.collection row.class is
+IsShownIf true t caller row is = IsShownUnless row.gone t caller row is
 IsShownIf false t caller row is = is ≡ false
 
 -- whether the deposit of the row is listed

@@ -1,7 +1,8 @@
 //! Downloads of files.
 
-ghost use Rattle.std.specs.Prelude.{◌≡◌, IfErr, None, Some, option_map};
+ghost use Rattle.std.specs.Prelude.{◌≡◌, IfErr, None, Some, if◌then◌else◌, option_copied, option_map};
 ghost use Rattle.jiff.specs.Types.{Date};
+ghost use Rattle.bag_text.specs.Paths.{is_good};
 ghost use Rattle.bag_text.specs.TransferForm.{content_at};
 ghost use Rattle.office_core.specs.declared.request.Request.TheVariants as requests;
 ghost use Rattle.office_tables.specs.Faults.{IsFailure};
@@ -11,15 +12,27 @@ ghost use Rattle.office_history.specs.Answers.{file_answer};
 ghost use Rattle.office_asking.specs.Serving.{Finds, Decides};
 ghost use Rattle.office_serving.specs.FilesByRows.{IsFileIn, content_stored};
 
-use bag_text::as_text;
+use bag_text::laws::good_paths;
+use bag_text::{BagPath, as_text};
 use office_asking::kept_deposit;
 use office_core::{Action, Answer, Day, Refusal, Sequence};
 use office_history::laws::sound_bags;
 use office_tables::{TableFault, file_of};
 use sqlite::{Alter, Transaction};
 
+/// The path that the bytes are, where it is one that a bag may have.
+fn bag_path(bytes: &[u8]) -> Option<&str>
+    ensures { option_copied result ≡ (if is_good bytes.now then Some bytes.now else None) }
+{
+    good_paths();
+    match BagPath::read(as_text(bytes)?) {
+        Ok(path) => Some(path.as_str()),
+        Err(_) => None,
+    }
+}
+
 /// The content of the file at a path of the bag of the deposit of that number, which is kept: a path that
-/// is no text is that of no file.
+/// no bag may have is that of no file.
 fn content_of<S: Alter>(
     tx: &mut Transaction<'_, S>,
     number: u32,
@@ -35,9 +48,9 @@ fn content_of<S: Alter>(
     ensures same { Keeps S.Store tx.old.conn.now tx.new.conn.now result }
     ensures rows { Tells S.Store tx.old.conn.now tx.new.conn.now result (λ tables content. option_map (λ bytes. bytes.items) content ≡ content_stored number path.now tables) }
 {
-    // A bag that is kept is a bag, so its paths are texts.
+    // A bag that is kept is a bag, so its paths are those of one.
     sound_bags();
-    match as_text(path) {
+    match bag_path(path) {
         Some(text) => file_of(tx, number, text),
         None => Ok(None),
     }

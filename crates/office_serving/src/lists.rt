@@ -1,6 +1,6 @@
 //! Lists of deposits.
 
-ghost use Rattle.std.specs.Prelude.{◌≡◌, ◌&&◌, is_none, IfErr, List, Some, ℕ, option_copied};
+ghost use Rattle.std.specs.Prelude.{◌≡◌, IfErr, List, Some, ℕ, option_copied};
 ghost use Rattle.jiff.specs.Types.{Date};
 ghost use Rattle.office_core.specs.declared.action.Action.TheVariants as acts;
 ghost use Rattle.office_core.specs.declared.request.Request.TheVariants as requests;
@@ -15,11 +15,11 @@ ghost use Rattle.office_asking.specs.ByRows.{IsAskerIn};
 ghost use Rattle.office_asking.specs.Serving.{Finds, Decides};
 ghost use Rattle.office_serving.specs.Allowances.{AreOf};
 ghost use Rattle.office_serving.specs.Listing.{is_shown, shown_record};
-ghost use Rattle.office_serving.specs.ListsByRows.{AreIn, AreListedIn, IsListIn, IsShownIn, IsToldIn};
+ghost use Rattle.office_serving.specs.ListsByRows.{AreIn, AreListedIn, IsListIn, IsShownIn, IsToldIn, is_wanted};
 
 use crate::allowances::Allowances;
 use crate::records::record_in;
-use office_asking::Asker;
+use office_asking::{Asker, optional_day_numbered};
 use office_core::{Action, Answer, Day, DepositRecord, Name, Sequence};
 use office_tables::{DepositAndDue, DepositRow, TableFault, deposits_and_dues};
 use sqlite::{Alter, Transaction};
@@ -35,11 +35,11 @@ fn is_asked(only: Option<&Name<'_>>, name: &str) -> bool
     }
 }
 
-/// Whether the deposit of the row is kept, and is of the collection and the class that are asked for.
+/// Whether the deposit of the row is of the collection and the class that are asked for.
 fn is_wanted(row: &DepositRow, collection: Option<&Name<'_>>, class: Option<&Name<'_>>) -> bool
-    ensures { result ≡ (is_none row.now.gone && (is_asked (option_copied collection.entry) row.now.collection && is_asked (option_copied class.entry) row.now.class)) }
+    ensures { result ≡ is_wanted (option_copied collection.entry) (option_copied class.entry) row.now }
 {
-    row.gone.is_none() && (is_asked(collection, &row.collection) && is_asked(class, &row.class))
+    is_asked(collection, &row.collection) && is_asked(class, &row.class)
 }
 
 /// Whether the deposit of the row is kept, and the caller may list it.
@@ -62,6 +62,10 @@ fn is_shown<'a, S: Alter>(
         → AreIn tables caller acts.List allowances.new × IsShownIn tables caller (option_copied collection.entry) (option_copied class.entry) row.now is) }
 {
     if !is_wanted(row, collection, class) {
+        return Ok(false);
+    }
+    // Also of a deposit that was destroyed the day has to be one.
+    if optional_day_numbered(row.gone)?.is_some() {
         return Ok(false);
     }
     allowances.allows(tx, &row.collection, &row.class)

@@ -105,6 +105,7 @@ pub static FILES: [Part; 9] = [
          DELETE FROM file WHERE path = 'data/../x'\n\
          audit 1 > audit 1 invalid S5 1\n\
          bag 1 > Store\n\
+         file 1 data/../x > NoFile\n\
          file 1 data/a > file abc\n\
          record 1 > record 1 A-1 maps y1 closed 2024-02-29 deposited 2024-03-01 due 2025-02-28 \
          files 1 bytes 3\n\
@@ -271,6 +272,9 @@ pub static DEPOSITS: [Part; 12] = [
          audit 4 > Store\n\
          hold 4 > Store\n\
          dispose 4 > Store\n\
+         list > Store\n\
+         list-of maps > Store\n\
+         list-of tax > list: 2\n\
          record 1 > record 1 A-1 maps y1 closed 2024-02-29 deposited 2024-03-01 due 2025-02-28 \
          files 1 bytes 3\n\
          release 3 > Released 2024-03-05",
@@ -424,8 +428,10 @@ pub static DUES: [Part; 8] = [
     ),
 ];
 
-/// Rules that neither allow nor deny.
-pub static RULES: [Part; 4] = [
+/// Rules that neither allow nor deny, or that no policy has: one that asks for the empty name, and one at
+/// a place after the last that a policy may have. Then a role that is no name. The second rule lets `anna`
+/// do everything, the third lets `carl` list.
+pub static RULES: [Part; 7] = [
     (
         "",
         "UPDATE rule SET effect = 2 WHERE place = 2\n\
@@ -485,6 +491,41 @@ pub static RULES: [Part; 4] = [
          2030-01-01 anna\n\
          record 1 > record 1 A-1 maps y1 closed 2024-02-29 deposited 2024-03-01 due 2025-02-28 \
          files 1 bytes 3",
+    ),
+    (
+        "",
+        "UPDATE rule SET collection = '' WHERE place = 2\n\
+         UPDATE rule SET collection = '*' WHERE place = 2\n\
+         class y1 2 > Store\n\
+         record 1 > Denied default\n\
+         dispose 2 > Denied rule 1\n\
+         2030-01-01 carl\n\
+         list > list: 2 3\n\
+         2030-01-01 anna\n\
+         due > due on 2030-01-01:",
+    ),
+    (
+        "",
+        "UPDATE rule SET place = 201 WHERE place = 3\n\
+         UPDATE rule SET place = 3 WHERE place = 201\n\
+         2030-01-01 carl\n\
+         list > Store\n\
+         record 2 > Denied default\n\
+         2030-01-01 anna\n\
+         list > list: 1 2 3\n\
+         due > due on 2030-01-01: 1",
+    ),
+    (
+        "",
+        "UPDATE caller SET role = 'Clerk' WHERE name = 'carl'\n\
+         UPDATE caller SET role = 'clerk' WHERE name = 'carl'\n\
+         2030-01-01 carl\n\
+         list > Store\n\
+         record 1 > Store\n\
+         record 9 > NoSuch deposit\n\
+         2030-01-01 anna\n\
+         list > list: 1 2 3\n\
+         due > due on 2030-01-01: 1",
     ),
 ];
 

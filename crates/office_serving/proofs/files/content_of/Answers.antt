@@ -1,8 +1,8 @@
 use Rattle.std.proofs.Common.{Result, Ok, Err, List, ℕ, Bool, Option, None, OnOk, IfOk, ap, sym, ◌∙◌, pos, option_copied, option_map, if◌then◌else◌}
-use Rattle.std.specs.Str.{is_utf8}
 use Rattle.std.proofs.lemmas.Result.{IfOk-weaker, on_ok_weaker}
 use Rattle.sqlite.specs.Held.{state}
 use Rattle.sql_meaning.proofs.Inside.{stands_then}
+use Rattle.bag_text.specs.Paths.{is_good}
 use Rattle.bag_text.specs.TransferForm.{content_at}
 use Rattle.office_rows.specs.Rows.{FileRow, file_at}
 use Rattle.office_tables.specs.Tables.{tables_of}
@@ -24,7 +24,7 @@ returns-in-Some-clause-content g c clean h legal pictured =
     let old = state g.S.Store a.tx.now.conn.now in
     let new = state g.S.Store c.file_of.new.tx.conn.now in
     let text = c.in-Some.text in
-    let same = spelled (is_utf8 a.path.now) text.now a.path.now (ap option_copied (sym c.in-Some.is) ∙ c.as_text.ensures) in
+    let same = spelled (is_good a.path.now) text.now a.path.now (ap option_copied (sym c.in-Some.is) ∙ c.bag_path.ensures) in
     both c.file_of.result (λ content stands read. (
       pictured_still h old.now pictured new.now stands,
       λ found there kept. content_read h old.now pictured a.number found there kept text.now _ read ∙ ap (content_at found.1.bag) same,
@@ -33,7 +33,7 @@ returns-in-Some-clause-content g c clean h legal pictured =
 pub returns-in-None-clause-content : goal.returns-in-None-clause-content
 returns-in-None-clause-content g c clean h legal pictured =
     let a = c.args in
-    let bad = unspelled (is_utf8 a.path.now) a.path.now (ap option_copied (sym c.in-None.is) ∙ c.as_text.ensures) in
+    let bad = unspelled (is_good a.path.now) a.path.now (ap option_copied (sym c.in-None.is) ∙ c.bag_path.ensures) in
     (pictured, λ found there kept. no_file_there found.1.bag (c.sound_bags.ensures h legal a.number found there).bag.each a.path.now bad)
 
 pub returns-in-Some-clause-goes_on : goal.returns-in-Some-clause-goes_on
@@ -50,14 +50,14 @@ returns-in-Some-clause-rows g c clean office =
     let files = (tables_of (state g.S.Store a.tx.now.conn.now).now).files in
     let stored : List ℕ → Option (List ℕ) = λ path. option_map (λ (f : FileRow). f.content) (file_at (pos a.number) path files) in
     let text = c.in-Some.text in
-    let read = ap option_copied (sym c.in-Some.is) ∙ c.as_text.ensures in
-    let same = spelled (is_utf8 a.path.now) text.now a.path.now read in
-    let is_text = is_spelled (is_utf8 a.path.now) text.now a.path.now read in
-    IfOk-weaker c.file_of.result _ _ (λ content says. says ∙ ap stored same ∙ ap (λ (b : Bool). if b then stored a.path.now else None) (sym is_text)) (c.file_of.ensures.found clean office)
+    let read = ap option_copied (sym c.in-Some.is) ∙ c.bag_path.ensures in
+    let same = spelled (is_good a.path.now) text.now a.path.now read in
+    let good = is_spelled (is_good a.path.now) text.now a.path.now read in
+    IfOk-weaker c.file_of.result _ _ (λ content says. says ∙ ap stored same ∙ ap (λ (b : Bool). if b then stored a.path.now else None) (sym good)) (c.file_of.ensures.found clean office)
 
 pub returns-in-None-clause-rows : goal.returns-in-None-clause-rows
 returns-in-None-clause-rows g c clean office =
     let a = c.args in
     let files = (tables_of (state g.S.Store a.tx.now.conn.now).now).files in
-    let bad = unspelled (is_utf8 a.path.now) a.path.now (ap option_copied (sym c.in-None.is) ∙ c.as_text.ensures) in
+    let bad = unspelled (is_good a.path.now) a.path.now (ap option_copied (sym c.in-None.is) ∙ c.bag_path.ensures) in
     ap (λ (b : Bool). if b then option_map (λ (f : FileRow). f.content) (file_at (pos a.number) a.path.now files) else None) (sym bad)

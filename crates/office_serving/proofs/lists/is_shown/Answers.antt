@@ -1,11 +1,10 @@
-use Rattle.std.proofs.Common.{rules, ◌≡◌, true, ◌&&◌, is_none, option_copied, subst, ◌∙◌}
+use Rattle.std.proofs.Common.{rules, ◌≡◌, true, None, option_copied, sym, subst, ◌∙◌}
 use Rattle.std.proofs.lemmas.Result.{IfOk-weaker}
 use Rattle.sqlite.specs.Held.{state}
 use Rattle.office_core.specs.declared.action.Action.TheVariants as acts
 use Rattle.office_tables.specs.Tables.{tables_of}
-use Rattle.office_history.specs.Answers.{is_asked}
 use Rattle.office_serving.specs.Allowances.{is_allowed}
-use Rattle.office_serving.specs.ListsByRows.{IsAllowedIn, IsShownIf, is_wanted}
+use Rattle.office_serving.specs.ListsByRows.{IsAllowedIn, IsShownIf, IsShownUnless, is_wanted}
 use Rattle.office_serving.proofs.ShownTold.{rules_asked}
 use Rattle.office_serving.proofs.lists.is_shown.Goals as goal
 
@@ -17,12 +16,13 @@ returns-clause-shown g c clean h legal pictured =
     let class = option_copied a.class in
     let of_collection : c.deref.result.now ≡ row.collection = search rules in
     let of_class : c.deref-2.result.now ≡ row.class = search rules in
-    let wanted : true ≡ (is_none row.gone && (is_asked collection row.collection && is_asked class row.class)) = search rules in
+    let wanted : true ≡ is_wanted collection class row = search rules in
+    let kept : row.gone ≡ None = search rules in
     IfOk-weaker c.allows.result _ _ (λ is says. (
       says.0,
       λ caller these.
           let said = says.1 caller acts.List these in
-          (said.0, λ n found row_is. rules_asked h caller collection class n found row row_is wanted is (said.1 ∙ (λ i. is_allowed h caller acts.List (of_collection i) (of_class i)))),
+          (said.0, λ n found row_is. rules_asked h caller collection class n found row row_is wanted kept is (said.1 ∙ (λ i. is_allowed h caller acts.List (of_collection i) (of_class i)))),
     ))
     (c.allows.ensures.allowed clean h legal pictured)
 
@@ -34,8 +34,9 @@ returns-clause-rows g c clean office =
     let of_collection : c.deref.result.now ≡ row.collection = search rules in
     let of_class : c.deref-2.result.now ≡ row.class = search rules in
     let wanted : true ≡ is_wanted (option_copied a.collection) (option_copied a.class) row = search rules in
+    let kept : row.gone ≡ None = search rules in
     IfOk-weaker c.allows.result _ _ (λ is says caller these.
     let said = says caller acts.List these in
     let allowed : IsAllowedIn t caller acts.List row.collection row.class is = subst (λ text. IsAllowedIn t caller acts.List row.collection text is) of_class (subst (λ text. IsAllowedIn t caller acts.List text c.deref-2.result.now is) of_collection said.1) in
-    (said.0, subst (λ b. IsShownIf b t caller row is) wanted allowed))
+    (said.0, subst (λ b. IsShownIf b t caller row is) wanted (subst (λ o. IsShownUnless o t caller row is) (sym kept) allowed)))
     (c.allows.ensures.rows clean office)

@@ -1,17 +1,25 @@
-use Rattle.std.proofs.Common.{option_map, string_bytes}
+use Rattle.std.proofs.Common.{rules, List, ℕ, Option, IfSome, option_map, string_bytes, ap}
 use Rattle.sqlite.specs.Held.{state}
-use Rattle.office_asking.proofs.Readings.{role_read, pictured_still}
-use Rattle.std.proofs.Common.{ap}
+use Rattle.office_core.specs.Names.{IsName}
 use Rattle.office_core.specs.Policies.{or_stranger}
+use Rattle.office_tables.specs.Tables.{tables_of}
+use Rattle.office_asking.proofs.Readings.{role_read, pictured_still}
+use Rattle.office_asking.proofs.RowsTold.{caller_in_range}
 use Rattle.office_asking.proofs.asker.Asker.read.Goals as goal
 
 pub returns-clause-asker : goal.returns-clause-asker
 returns-clause-asker g c clean h legal pictured =
     let old = state g.S.Store c.args.tx.now.conn.now in
     let new = state g.S.Store c.role_of.new.tx.conn.now in (
-      pictured_still h old.now pictured new.now (c.in_ok-role_of.ensures.same clean pictured.office),
-      role_read h old.now pictured c.args.caller.now (option_map string_bytes c.in_ok-role_of.field-0) (c.in_ok-role_of.ensures.found clean pictured.office),
+      pictured_still h old.now pictured new.now (c.in_ok-role.ensures.same clean pictured.office),
+      role_read h old.now pictured c.args.caller.now (option_map string_bytes c.in_ok-role.role) (c.in_ok-role.ensures.found clean pictured.office),
     )
 
 pub returns-clause-rows : goal.returns-clause-rows
-returns-clause-rows g c clean office = ap or_stranger (c.in_ok-role_of.ensures.found clean office)
+returns-clause-rows g c clean office =
+    let caller = c.args.caller.now in
+    let t = tables_of (state g.S.Store c.args.tx.now.conn.now).now in
+    let role : Option (List ℕ) = option_map string_bytes c.in_ok-role.role in
+    let found = c.in_ok-role.ensures.found clean office in
+    let names : IfSome role (λ r. IsName caller × IsName r) = search rules in
+    record { role = ap or_stranger found; in_range = caller_in_range caller t.callers role found names }
