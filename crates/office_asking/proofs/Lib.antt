@@ -19,3 +19,4 @@ pub mod DuesPlaced
 pub mod MatchTold
 pub mod DuesDeposited
 pub mod DuesTold
+pub mod OneAnswer

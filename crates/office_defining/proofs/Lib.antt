@@ -4,3 +4,4 @@ pub mod ClassTold
 pub mod CollectionTold
 pub mod InstallTold
 pub mod DefinedByRows
+pub mod OneAnswer

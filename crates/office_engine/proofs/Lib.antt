@@ -4,3 +4,4 @@ pub mod FoundAfter
 pub mod Kept
 pub mod RunTurns
 pub mod Stopping
+pub mod OneAnswer

@@ -7,16 +7,18 @@ ghost use Rattle.jiff.specs.Types.{Date};
 ghost use Rattle.sqlite.specs.Effect.{Database};
 ghost use Rattle.office_core.specs.declared.answer.Answer.{Answer};
 ghost use Rattle.office_core.specs.declared.request.Request.{Request};
-ghost use Rattle.office_rows.specs.Rows.{empty_office, this_version};
+ghost use Rattle.office_rows.specs.Rows.{Tables, empty_office, this_version};
 ghost use Rattle.office_tables.specs.Tables.{Becomes, contents_of, tables_of};
 ghost use Rattle.office_tables.specs.Contents.{IsMarked, KeepsOnce};
 ghost use Rattle.office_history.specs.Histories.{History};
 ghost use Rattle.office_history.specs.Answers.{answer};
 ghost use Rattle.office_history.specs.Pictures.{due_rows};
-ghost use Rattle.office_history.specs.Stocks.{contents};
+ghost use Rattle.office_history.specs.Stocks.{Stock, contents};
 ghost use Rattle.office_history.specs.RowRanges.{AreInRange};
 ghost use Rattle.office_history.specs.Runs.{IsFailure, IsLater, IsLegal, Item, Run, new_history};
 ghost use Rattle.office_asking.specs.Pictures.{Pictures};
+ghost use Rattle.office_serving.specs.ListsByRows.{AreDueIn, IsStockIn};
+ghost use Rattle.office_engine.specs.ByRows.{RowsTell};
 ghost use Rattle.office_engine.specs.Keeping.{IsFoundAfter};
 
 pub use office_history::laws::{
@@ -60,6 +62,15 @@ pub fn tables_tell_the_answer()
 {
     one_picture();
 }
+
+/// Whatever rows an office has, they tell at most one answer to a request, one list of what has
+/// fallen due, and one stock: what is promised of the rows leaves a call no choice but to fail.
+pub fn the_rows_tell_one_answer()
+    ensures answer { (t : Tables) (day : Date) (caller : List ℕ) (request : Request) (a b : Answer)
+        → RowsTell t day caller request a → RowsTell t day caller request b → a ≡ b }
+    ensures due { (t : Tables) (day : Date) (caller : List ℕ) (a b : List ℕ) → AreDueIn t day caller a → AreDueIn t day caller b → a ≡ b }
+    ensures stock { (db : Database) (a b : Stock) → IsStockIn db a → IsStockIn db b → a ≡ b }
+{}
 
 /// Tables that picture a legal history have only rows in range: a row out of its range is one that
 /// no accepted change wrote.

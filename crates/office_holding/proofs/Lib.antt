@@ -6,3 +6,4 @@ pub mod PlacedTold
 pub mod HoldAsked
 pub mod ReleasedTold
 pub mod HoldsByRows
+pub mod OneAnswer

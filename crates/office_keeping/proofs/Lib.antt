@@ -4,3 +4,4 @@ pub mod Placing
 pub mod DepositedTold
 pub mod AskedFor
 pub mod RowsTold
+pub mod OneAnswer

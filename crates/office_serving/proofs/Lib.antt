@@ -12,3 +12,4 @@ pub mod SameOnce
 pub mod StockTold
 pub mod AllowedTold
 pub mod ByRows
+pub mod OneAnswer
