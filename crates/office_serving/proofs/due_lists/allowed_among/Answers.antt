@@ -1,4 +1,4 @@
-use Rattle.std.proofs.Common.{arith, rules, ◌≡◌, ℕ, Option, Some, None, true, false, pos, length, map, filter, take, get_or, refl, ap, sym, subst, ◌∙◌, append-nil}
+use Rattle.std.proofs.Common.{arith, rules, ◌≡◌, ℕ, Option, Some, None, pos, length, map, filter, take, get_or, refl, ap, sym, subst, ◌∙◌, append-nil}
 use Rattle.std.specs.Prelude.{IfSome}
 use Rattle.std.proofs.lemmas.List.{take_all}
 use Rattle.sqlite.specs.State.{HasCleanDisk}

@@ -1,4 +1,4 @@
-use Rattle.std.proofs.Common.{arith, rules, ◌≡◌, ◌++◌, [], List, length, get_or, ap, sym, subst, ◌∙◌, append-nil, option_copied, refl}
+use Rattle.std.proofs.Common.{arith, rules, ◌≡◌, ◌++◌, [], length, get_or, ap, sym, subst, ◌∙◌, append-nil, option_copied, refl}
 use Rattle.std.specs.List.{cons_option, filter_map}
 use Rattle.sqlite.specs.State.{HasCleanDisk}
 use Rattle.sqlite.specs.Held.{state}
