@@ -24,9 +24,17 @@ HOLDS_ON_COLLECTION = (
     "SELECT number FROM hold WHERE collection = ?2 AND deposit IS NOT ?1 AND released IS NULL"
     " ORDER BY number"
 )
+RELEASED_ON_DEPOSIT = (
+    "SELECT number FROM hold WHERE deposit = ?1 AND (released < ?2 OR released > ?3) LIMIT 1"
+)
+RELEASED_ON_COLLECTION = (
+    "SELECT number FROM hold WHERE collection = ?1 AND (released < ?2 OR released > ?3) LIMIT 1"
+)
 LIMITS = "SELECT max_deposits, max_holds FROM office WHERE id = ?1"
 # The day of each request.
 DAY = 20_500
+# The first day of the office, and its last.
+DAYS = (-25_567, 2_859_848)
 
 
 class Statements:
@@ -62,6 +70,8 @@ class Statements:
         return self.rows("SELECT years FROM class WHERE name = ?1", "y10")[0][0]
 
     def holds(self, number, collection):
+        self.rows(RELEASED_ON_DEPOSIT, number, *DAYS)
+        self.rows(RELEASED_ON_COLLECTION, collection, *DAYS)
         on_deposit = self.rows(HOLDS_ON_DEPOSIT, number)
         return on_deposit + self.rows(HOLDS_ON_COLLECTION, number, collection)
 

@@ -75,10 +75,6 @@ live_read h db pictured n collection numbers e deposit is =
     map_back pos same_count numbers (histories.live_holds h n deposit)
     (e ∙ in_picture h db pictured (rows.live_holds (pos n) collection) ∙ ap (λ c. rows.live_holds (pos n) c (picture this_version h)) (sym is) ∙ live_told h n deposit this_version)
 
-pub first_live : (h : History) (db : Database) → Pictures h db → (n : ℕ) (collection : List ℕ) (numbers : List ℕ) → map pos numbers ≡ rows.live_holds (pos n) collection (tables_of db)
-    → (deposit : Deposit) → deposit.collection ≡ collection → slice_get numbers 0 ≡ histories.least_hold h n deposit
-first_live h db pictured n collection numbers e deposit is = ap (λ ks. slice_get ks 0) (live_read h db pictured n collection numbers e deposit is)
-
 -- ---- a hold by its row
 
 pub hold_read : (h : History) (db : Database) → Pictures h db → (k : ℕ) (found : Option HoldRow) → found ≡ rows.hold_numbered (pos k) (tables_of db).holds → found ≡ option_map (hold_row h k) (histories.hold_numbered h k)

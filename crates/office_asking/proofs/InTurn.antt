@@ -1,6 +1,6 @@
 -- Two calls inside a transaction, one after the other.
 use Rattle.std.proofs.Common.{◌≡◌, refl, sym, subst, ◌∙◌, inl, arith}
-use Rattle.std.specs.Prelude.{Result, Ok, Err, OnOk}
+use Rattle.std.specs.Prelude.{Result, Ok, Err, IfOk, OnOk}
 use Rattle.std.proofs.lemmas.Result.{on_ok_weaker}
 use Rattle.sqlite.specs.State.{State, HasCleanDisk}
 use Rattle.sql_meaning.specs.Inside.{Stays, GoesOn, Stands}
@@ -55,3 +55,8 @@ stays_still a = record {
 pub on_both : {E V P Q R : Type 0} (result : Result V E) → (P → Q → R) → OnOk result P → OnOk result Q → OnOk result R
 on_both (Ok value) both first second = both first second
 on_both (Err fault) both first second = tt
+
+-- the same of what is answered
+pub ok_both : {E V : Type 0} {P : Type 0} {Q R : V → Type 0} (result : Result V E) → ((v : V) → P → Q v → R v) → OnOk result P → IfOk result Q → IfOk result R
+ok_both (Ok value) both first second = both value first second
+ok_both (Err fault) both first second = tt

@@ -7,6 +7,7 @@ pub mod DepositTold
 pub mod DepositAsked
 pub mod DueTold
 pub mod HoldTold
+pub mod ReleasesTold
 pub mod Serving
 pub mod Unchanged
 pub mod CollectionTold

@@ -1,6 +1,7 @@
 -- What the rows of an office tell, whichever rows they are. A row that no accepted change writes tells nothing, and no answer but a
 -- failure rests on what isn't told.
-use Rattle.std.specs.Prelude.{◌≡◌, ⊤, ℕ, ℤ, pos, ◌≤ℤ◌, List, ◌∷◌, Option, Some, None, IfSome, option_map, string_bytes, Result, Ok, Err}
+use Rattle.std.specs.Prelude.{◌≡◌, ⊤, ◌||◌, true, ℕ, ℤ, pos, ◌≤ℤ◌, List, ◌∷◌, Option, Some, None, IfSome, option_map, string_bytes, Result, Ok, Err}
+use Rattle.std.specs.List.{AllByRecursion}
 use Rattle.jiff.specs.Types.{Date}
 use Rattle.jiff.specs.Words.{epoch_day, IsBetween}
 use Rattle.office_core.specs.Actions.{action_text}
@@ -19,7 +20,7 @@ use Rattle.office_core.specs.declared.refusal.Refusal.{Refusal}
 use Rattle.office_core.specs.declared.refusal.Refusal.TheVariants.{NoSuch, Gone}
 use Rattle.office_core.specs.declared.refusal.Subject.TheVariants as subjects
 use Rattle.office_core.specs.declared.rule.Decision.{Decision}
-use Rattle.office_rows.specs.Rows.{CallerRow, ClassRow, DepositRow, DueRow, HoldRow, Limits, RuleRow, Tables, caller_named, class_named, deposit_numbered, due_numbered, hold_numbered, limits_of, live_holds}
+use Rattle.office_rows.specs.Rows.{CallerRow, ClassRow, DepositRow, DueRow, HoldRow, Limits, RuleRow, Tables, caller_named, class_named, deposit_numbered, due_numbered, hold_numbered, holds_collection, holds_deposit, limits_of, live_holds}
 use Rattle.office_rows.specs.Matching.{matching_rule}
 use Rattle.office_history.specs.Pictures.{years_number}
 use Rattle.office_history.specs.Refusals.{refusal_in}
@@ -103,8 +104,15 @@ pub record IsHoldIn (t : Tables) (k : ℕ) (told : LiveHold) : Type 0 where
   pub there : hold_numbered (pos k) t.holds ≡ Some row
   pub is : IsHoldOf row told
 
--- this is the least of the live holds over a deposit, and its row tells of a hold
+-- each hold over the deposit of that number, which is of that collection, was released on a day of the office or not at all
+abbrev pub AreReleasedOnDays : Tables → ℕ → List ℕ → Type 0
+AreReleasedOnDays t n collection =
+    AllByRecursion (λ (h : HoldRow). (holds_deposit (pos n) h || holds_collection collection h) ≡ true → IfSome h.released IsDayNumber) t.holds
+
+-- this is the least of the live holds over a deposit, its row tells of a hold, and each hold over the deposit was released on a day or
+-- not at all
 pub record IsLeastIn (t : Tables) (n : ℕ) (collection : List ℕ) (k : ℕ) : Type 0 where
+  pub released : AreReleasedOnDays t n collection
   pub others : List ℤ
   pub live : live_holds (pos n) collection t ≡ pos k ∷ others
   pub told : LiveHold

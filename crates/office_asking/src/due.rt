@@ -15,10 +15,10 @@ ghost use Rattle.office_asking.specs.Serving.{Finds};
 
 use crate::asker::Asker;
 use crate::deposits::days_in;
-use crate::holds::told_hold;
+use crate::holds::{holds_over, told_hold};
 use crate::rows::{check_between, due_numbered, there, years_numbered};
 use office_core::{Action, Day, Due, Facts};
-use office_tables::{DepositRow, DueRow, TableFault, class_of, due_row, limits, live_holds};
+use office_tables::{DepositRow, DueRow, TableFault, class_of, due_row, limits};
 use sqlite::{Alter, Transaction};
 use std::alloc::Global;
 
@@ -67,7 +67,7 @@ pub fn least_hold<S: Alter>(
     ensures rows { Tells S.Store tx.old.conn.now tx.new.conn.now result (λ tables found.
         IfSome found (λ k. IsLeastIn tables number collection.now k)) }
 {
-    let holds = live_holds(alloc, tx, number, collection)?;
+    let holds = holds_over(alloc, tx, number, collection)?;
     let Some(least) = holds.first().copied() else {
         return Ok(None);
     };

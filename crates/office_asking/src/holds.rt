@@ -1,6 +1,6 @@
 //! What the row of a hold tells.
 
-ghost use Rattle.std.specs.Prelude.{◌≡◌, IfErr, IfOk, Some, length, pos};
+ghost use Rattle.std.specs.Prelude.{◌≡◌, IfErr, IfOk, Some, length, map, pos};
 ghost use Rattle.office_tables.specs.Faults.{IsFailure};
 ghost use Rattle.office_rows.specs.Rows as rows;
 ghost use Rattle.office_tables.specs.Calls.{CommitsNothing, Continues, Keeps, Tells};
@@ -9,12 +9,12 @@ ghost use Rattle.office_history.specs.Histories.{Deposit, live_holds};
 ghost use Rattle.office_history.specs.Answers.{told_hold};
 ghost use Rattle.office_asking.specs.Serving.{Finds};
 ghost use Rattle.office_asking.specs.Holds.{IsHoldOf, scope_in};
-ghost use Rattle.office_asking.specs.ByRows.{IsHoldIn};
+ghost use Rattle.office_asking.specs.ByRows.{AreReleasedOnDays, IsHoldIn};
 ghost use Rattle.office_core.specs.declared.answer.LiveHold.{LiveHold};
 
 use crate::rows::{day_numbered, text_of_kind, there};
 use office_core::{LiveHold, Scope};
-use office_tables::{HoldRow, HoldTarget, TableFault, hold_row, live_holds};
+use office_tables::{HoldRow, HoldTarget, TableFault, has_release_outside, hold_row, live_holds};
 use sqlite::{Alter, Transaction};
 use std::alloc::Global;
 
@@ -88,6 +88,42 @@ pub fn told_hold<S: Alter>(
     hold_in(alloc, &row)
 }
 
+/// The number of the first day of the office.
+const FIRST_DAY: i64 = -25_567;
+
+/// The number of its last day.
+const LAST_DAY: i64 = 2_859_848;
+
+/// The numbers of the live holds that cover the deposit of that number, which is of that collection, by the
+/// rows of the holds, ascending. A hold over it with a release on no day of the office is a fault of the
+/// store, and no hold that covers nothing.
+///
+/// Fails with `Memory` or `Store`.
+pub fn holds_over<S: Alter>(
+    alloc: Global,
+    tx: &mut Transaction<'_, S>,
+    number: u32,
+    collection: &str,
+) -> Result<Vec<u32>, TableFault>
+    ensures same_reference { tx.new.conn.ghost_name ≡ tx.old.conn.ghost_name }
+    ensures stays { CommitsNothing S.Store tx.old.conn.now tx.new.conn.now }
+    ensures goes_on { Continues S.Store tx.old.conn.now tx.new.conn.now result }
+    ensures failure { IfErr result IsFailure }
+    ensures live { Finds S.Store tx.old.conn.now tx.new.conn.now result (λ h numbers.
+        (deposit : Deposit) → deposit.collection ≡ collection.now
+        → numbers.items ≡ live_holds h number deposit) }
+    ensures same { Keeps S.Store tx.old.conn.now tx.new.conn.now result }
+    ensures rows { Tells S.Store tx.old.conn.now tx.new.conn.now result (λ tables numbers.
+        (map pos numbers.items ≡ rows.live_holds (pos number) collection.now tables)
+        × AreReleasedOnDays tables number collection.now) }
+{
+    let outside = has_release_outside(tx, number, collection, FIRST_DAY, LAST_DAY)?;
+    if outside {
+        return Err(TableFault::Store);
+    }
+    live_holds(alloc, tx, number, collection)
+}
+
 /// How many live holds cover the deposit of that number, which is of that collection, by the rows of the holds.
 ///
 /// Fails with `Memory` or `Store`.
@@ -106,9 +142,10 @@ pub fn live_count<S: Alter>(
         → count ≡ pos (length (live_holds h number deposit))) }
     ensures same { Keeps S.Store tx.old.conn.now tx.new.conn.now result }
     ensures rows { Tells S.Store tx.old.conn.now tx.new.conn.now result (λ tables count.
-        count ≡ pos (length (rows.live_holds (pos number) collection.now tables))) }
+        (count ≡ pos (length (rows.live_holds (pos number) collection.now tables)))
+        × AreReleasedOnDays tables number collection.now) }
 {
-    let holds = live_holds(alloc, tx, number, collection)?;
+    let holds = holds_over(alloc, tx, number, collection)?;
     match i64::try_from(holds.len()) {
         Ok(count) => Ok(count),
         Err(_) => Err(TableFault::Store),

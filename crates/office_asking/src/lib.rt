@@ -13,7 +13,7 @@ mod rows;
 pub use asker::{Asker, denial};
 pub use deposits::{DepositDays, days_in, kept_deposit};
 pub use due::{disposal_facts, due_day, kept_of, least_hold};
-pub use holds::{hold_in, live_count, named_in, told_hold};
+pub use holds::{hold_in, holds_over, live_count, named_in, told_hold};
 pub use limits::number_after;
 pub use rows::{
     check_between, check_there, day_numbered, due_numbered, optional_day_numbered, text_of_kind,

@@ -14,7 +14,7 @@ use Rattle.office_core.specs.declared.refusal.Subject.TheVariants as subjects
 use Rattle.office_rows.specs.Rows.{Tables, DepositRow, class_named, deposit_by, deposit_numbered, has_collection, last_number}
 use Rattle.office_history.specs.Answers.{answer_unless}
 use Rattle.office_history.specs.Refusals.{bad_bag, closed_ahead_refusal, refusal_of}
-use Rattle.office_asking.specs.ByRows.{AreFactsIn, IsDenialIn, IsDueIn}
+use Rattle.office_asking.specs.ByRows.{AreFactsIn, AreReleasedOnDays, IsDenialIn, IsDueIn}
 use Rattle.office_asking.specs.Limits.{IsNextIn, IsRefusedOr, answer_of_number}
 
 -- what a deposit is asked for, and by whom, before its bag is looked at
@@ -83,11 +83,17 @@ abbrev pub FallsDueIn : Tables → List ℕ → Date → Result ℕ Refusal → 
 FallsDueIn t class closed (Ok number) = (due : Due) × IsDueIn t class closed due
 FallsDueIn t class closed (Err why) = ⊤
 
+-- each hold over a new deposit was released on a day of the office or not at all
+abbrev pub AreItsReleasesOnDays : Tables → List ℕ → Result ℕ Refusal → Type 0
+AreItsReleasesOnDays t collection (Ok number) = AreReleasedOnDays t number collection
+AreItsReleasesOnDays t collection (Err why) = ⊤
+
 -- a bag is deposited unless a refusal stands
 pub record IsDepositedIn (t : Tables) (asked : DepositAsked) (text : List ℕ) (given : Answer) : Type 0 where
   pub next : Result ℕ Refusal
   pub is_next : IsAskedOfDeposit t asked text next
   pub due : FallsDueIn t asked.class asked.closed next
+  pub released : AreItsReleasesOnDays t asked.collection next
   pub answer : given ≡ answer_of_number answers.Deposited next
 
 -- ---- a disposal

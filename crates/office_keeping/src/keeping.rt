@@ -11,7 +11,7 @@ ghost use Rattle.office_tables.specs.Deposits.{added_row};
 ghost use Rattle.office_core.specs.Retention.{due_number};
 ghost use Rattle.office_core.specs.declared.retention.Due.{Due};
 ghost use Rattle.office_history.specs.Histories.{Deposit, Deposited, deposits, due, live_holds};
-ghost use Rattle.office_asking.specs.ByRows.{IsDueIn};
+ghost use Rattle.office_asking.specs.ByRows.{AreReleasedOnDays, IsDueIn};
 ghost use Rattle.office_asking.specs.Serving.{Accepts, Finds};
 ghost use Rattle.office_keeping.specs.Depositing.{with_files, with_kept};
 
@@ -100,6 +100,7 @@ fn beside_row<S: Alter>(
         (due : Due) × IsDueIn tables class.now closed due × (beside.due ≡ due_number due)) }
     ensures counted { Tells S.Store tx.old.conn.now tx.new.conn.now result (λ tables beside.
         beside.holds ≡ pos (length (rows.live_holds (pos number) collection.now tables))) }
+    ensures released { Tells S.Store tx.old.conn.now tx.new.conn.now result (λ tables _. AreReleasedOnDays tables number collection.now) }
 {
     let due = due_day(tx, class, closed)?;
     let holds = live_count(alloc, tx, number, collection)?;
@@ -149,6 +150,7 @@ pub(crate) fn keep<S: Alter>(
     ensures kept { Accepts S.Store tx.old.conn.now tx.new.conn.now result (λ h. number ≡ length (deposits h) + 1)
         (Deposited day (record { collection = collection.now; class = class.now; accession = accession.now; closed = closed; bag = bag.now }) ∷ []) }
     ensures rows { Tells S.Store tx.old.conn.now tx.new.conn.now result (λ tables _. (due : Due) × IsDueIn tables class.now closed due) }
+    ensures released { Tells S.Store tx.old.conn.now tx.new.conn.now result (λ tables _. AreReleasedOnDays tables number collection.now) }
 {
     let beside = beside_row(alloc, tx, number, collection, class, closed)?;
     let payload = count_payload(bag);

@@ -74,7 +74,7 @@ holds_are_one t numbers a b p q = same_holds t a b (p.one_each ∙ sym q.one_eac
 pub hold_list_is_one : (t : Tables) (caller : List ℕ) (n : ℕ) → HasAtMostOne (AreHoldsIn t caller n)
 hold_list_is_one t caller n =
     answer_is_one t caller acts.Holds n _
-    (λ row a b p q. p.2 ∙ ap answers.Holds (holds_are_one t (live_holds (pos n) row.collection t) p.0 q.0 p.1 q.1) ∙ sym q.2)
+    (λ row a b p q. p.2 ∙ ap answers.Holds (holds_are_one t (live_holds (pos n) row.collection t) p.0 q.0 p.1.are q.1.are) ∙ sym q.2)
 
 -- ---- what is told of rows, one after another
 

@@ -11,7 +11,7 @@ use Rattle.office_core.specs.declared.answer.LiveHold.{LiveHold}
 use Rattle.office_core.specs.declared.refusal.Refusal.{Refusal}
 use Rattle.office_rows.specs.Rows.{DepositRow, FileRow, Tables, file_at, live_holds}
 use Rattle.office_history.specs.Answers.{file_answer}
-use Rattle.office_asking.specs.ByRows.{IsAskedIn, IsHoldIn}
+use Rattle.office_asking.specs.ByRows.{AreReleasedOnDays, IsAskedIn, IsHoldIn}
 use Rattle.office_serving.specs.Files.{stored_files}
 
 -- ---- a deposit that is asked for
@@ -54,6 +54,12 @@ pub record AreHoldsOf (t : Tables) (numbers : List ℤ) (told : List LiveHold) :
   pub one_each : map (λ (hold : LiveHold). pos hold.number) told ≡ numbers
   pub each : AllByRecursion (λ (hold : LiveHold). IsHoldIn t hold.number hold) told
 
+-- these are told of the live holds over the deposit of that number, which is of that collection, and each hold over it was released on
+-- a day of the office or not at all
+pub record AreHoldsOver (t : Tables) (n : ℕ) (collection : List ℕ) (told : List LiveHold) : Type 0 where
+  pub released : AreReleasedOnDays t n collection
+  pub are : AreHoldsOf t (live_holds (pos n) collection t) told
+
 -- the live holds over the deposit, which is of the collection that its row names
 abbrev pub AreHoldsIn : Tables → List ℕ → ℕ → Answer → Type 0
-AreHoldsIn t caller n = IsAnswerIn t caller acts.Holds n (λ row answer. (told : List LiveHold) × AreHoldsOf t (live_holds (pos n) row.collection t) told × (answer ≡ Holds told))
+AreHoldsIn t caller n = IsAnswerIn t caller acts.Holds n (λ row answer. (told : List LiveHold) × AreHoldsOver t n row.collection told × (answer ≡ Holds told))

@@ -3,17 +3,16 @@
 ghost use Rattle.std.specs.Prelude.{◌≡◌, IfErr, map, pos};
 ghost use Rattle.std.specs.List.{filter_map};
 ghost use Rattle.office_core.specs.declared.request.Request.TheVariants as requests;
-ghost use Rattle.office_rows.specs.Rows as rows;
 ghost use Rattle.office_tables.specs.Faults.{IsFailure};
 ghost use Rattle.office_tables.specs.Calls.{CommitsNothing, Continues, ContinuesInTurn, Keeps, Tells};
 ghost use Rattle.office_history.specs.Histories.{Deposit};
 ghost use Rattle.office_history.specs.Answers.{told_hold, told_holds};
 ghost use Rattle.office_asking.specs.Serving.{Finds, Decides};
-ghost use Rattle.office_serving.specs.FilesByRows.{AreHoldsIn, AreHoldsOf};
+ghost use Rattle.office_serving.specs.FilesByRows.{AreHoldsIn, AreHoldsOf, AreHoldsOver};
 
-use office_asking::{kept_deposit, told_hold};
+use office_asking::{holds_over, kept_deposit, told_hold};
 use office_core::{Action, Answer, Day, LiveHold, Sequence};
-use office_tables::{TableFault, live_holds};
+use office_tables::TableFault;
 use sqlite::{Alter, Transaction};
 use std::alloc::Global;
 
@@ -52,9 +51,9 @@ fn told_holds<S: Alter>(
     ensures told { Finds S.Store tx.old.conn.now tx.new.conn.now result (λ h told.
         (deposit : Deposit) → deposit.collection ≡ collection.now → told.items ≡ told_holds h number deposit) }
     ensures same { Keeps S.Store tx.old.conn.now tx.new.conn.now result }
-    ensures rows { Tells S.Store tx.old.conn.now tx.new.conn.now result (λ tables told. AreHoldsOf tables (rows.live_holds (pos number) collection.now tables) told.items) }
+    ensures rows { Tells S.Store tx.old.conn.now tx.new.conn.now result (λ tables told. AreHoldsOver tables number collection.now told.items) }
 {
-    let numbers = live_holds(alloc, tx, number, collection)?;
+    let numbers = holds_over(alloc, tx, number, collection)?;
     told_each(alloc, tx, &numbers)
 }
 

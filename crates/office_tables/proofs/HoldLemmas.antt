@@ -138,7 +138,7 @@ module _ (old new : State) (hold : HoldRow) (live : hold.released ≡ None) (cou
 
 -- ---- the end of a hold
 
-abbrev IsStoredHold : Row → Type 0
+abbrev pub IsStoredHold : Row → Type 0
 IsStoredHold r = ((column r 2 ≡ Null) ⊎ (column r 2 ≡ Int (int_at r 2))) × ((column r 3 ≡ Null) ⊎ (column r 3 ≡ Text (bytes_at r 3)))
     × (column r 4 ≡ Text (bytes_at r 4)) × (column r 5 ≡ Int (int_at r 5)) × ((column r 6 ≡ Null) ⊎ (column r 6 ≡ Int (int_at r 6)))
 
@@ -191,10 +191,10 @@ null_is v (inl is) = rw (is, value_cmp-Null Null) refl
 null_is v (inr is) = rw is (let apart : value_cmp (Int (id_in v)) Null ≡ Greater = value_cmp-apart (Int (id_in v)) Null (λ e. cc) in rw apart refl)
 
 -- whether the column has the number
-abbrev numbers : ℤ → Value → Bool
+abbrev pub numbers : ℤ → Value → Bool
 numbers n v = unwrap_or (option_map (λ d. int_eq d n) (maybe_int v)) false
 
-deposit_is : (v : Value) (n : ℤ) → (v ≡ Null) ⊎ (v ≡ Int (id_in v)) → is_true (binary (Compare Eq Binary) v (Int n)) ≡ numbers n v
+pub deposit_is : (v : Value) (n : ℤ) → (v ≡ Null) ⊎ (v ≡ Int (id_in v)) → is_true (binary (Compare Eq Binary) v (Int n)) ≡ numbers n v
 deposit_is v n (inl is) = subst (λ w. is_true (binary (Compare Eq Binary) w (Int n)) ≡ numbers n w) (sym is) (equals_null (Int n))
 deposit_is v n (inr is) = subst (λ w. is_true (binary (Compare Eq Binary) w (Int n)) ≡ numbers n w) (sym is) (same_int (id_in v) n)
 
@@ -213,7 +213,7 @@ deposit_isnt v n (inl is) = subst (λ w. is_true (unary Not (binary (Is Binary) 
 deposit_isnt v n (inr is) = subst (λ w. is_true (unary Not (binary (Is Binary) w (Int n))) ≡ not (numbers n w)) (sym is)
     (isnt (Int (id_in v)) (Int n) ∙ ap (λ o. not (is_eq o)) (value_cmp-Int (id_in v) n))
 
-collection_is : (v : Value) (c : List ℕ) → (v ≡ Null) ⊎ (v ≡ Text (bytes v)) → is_true (binary (Compare Eq Binary) v (Text c)) ≡ unwrap_or (option_map (λ x. bytes_eq x c) (maybe_bytes v)) false
+pub collection_is : (v : Value) (c : List ℕ) → (v ≡ Null) ⊎ (v ≡ Text (bytes v)) → is_true (binary (Compare Eq Binary) v (Text c)) ≡ unwrap_or (option_map (λ x. bytes_eq x c) (maybe_bytes v)) false
 collection_is v c (inl is) = subst (λ w. is_true (binary (Compare Eq Binary) w (Text c)) ≡ unwrap_or (option_map (λ x. bytes_eq x c) (maybe_bytes w)) false) (sym is) (equals_null (Text c))
 collection_is v c (inr is) = subst (λ w. is_true (binary (Compare Eq Binary) w (Text c)) ≡ unwrap_or (option_map (λ x. bytes_eq x c) (maybe_bytes w)) false) (sym is) (same_text (bytes v) c)
 

@@ -7,11 +7,12 @@ use Rattle.sqlite.specs.Command.TheVariants.{Insert, Update}
 use Rattle.sqlite.specs.Source.TheVariants.{Values}
 use Rattle.sqlite.specs.Listing.{understood}
 use Rattle.sqlite_tied.specs.Compute.{everything}
-use Rattle.sqlite_sql.specs.declared.ops.BinaryOp.TheVariants.{Compare, Is}
+use Rattle.sqlite_sql.specs.declared.ops.BinaryOp.TheVariants.{Compare, Is, Or}
 use Rattle.sqlite_sql.specs.declared.ops.UnaryOp.TheVariants.{Not}
-use Rattle.sqlite_sql.specs.declared.ops.CompareOp.TheVariants.{Eq}
+use Rattle.sqlite_sql.specs.declared.ops.CompareOp.TheVariants.{Eq, Lt, Gt}
 use Rattle.sql_meaning.proofs.Scanning.{scan, as_program}
 use Rattle.sql_meaning.proofs.Reading.{Asks}
+use Rattle.sql_meaning.proofs.Limited.{AsksSome}
 use Rattle.sql_meaning.proofs.RowidKeys.{by_number, rising}
 use Rattle.sql_meaning.proofs.Writing.{Means}
 use Rattle.office_tables.specs.Schema.{office_schema}
@@ -83,3 +84,29 @@ within = op2 (Compare Eq Binary) (col 1 3) (col 0 1) ∷ op1 Not (op2 (Is Binary
 pub asks_within : Asks office_schema within_text 12 within number_column rising
 unfolding understood everything
 asks_within = record { names = codes "number" ∷ []; command = refl; unlisted = refl; plain = (refl, refl) }
+
+-- ---- whether a hold was released outside of some days
+
+-- released < ?2 OR released > ?3
+abbrev outside : Term
+outside = op2 Or (op2 (Compare Lt Binary) (col 1 6) (col 0 1)) (op2 (Compare Gt Binary) (col 1 6) (col 0 2))
+
+abbrev pub outside_on_text : List ℕ
+outside_on_text = codes "SELECT number FROM hold WHERE deposit = ?1 AND (released < ?2 OR released > ?3) LIMIT 1"
+
+abbrev pub outside_on : List Term
+outside_on = op2 (Compare Eq Binary) (col 1 2) (col 0 0) ∷ outside ∷ []
+
+pub asks_outside_on : AsksSome office_schema outside_on_text 12 outside_on number_column
+unfolding understood everything
+asks_outside_on = record { names = codes "number" ∷ []; command = refl; unlisted = refl; plain = (refl, refl) }
+
+abbrev pub outside_within_text : List ℕ
+outside_within_text = codes "SELECT number FROM hold WHERE collection = ?1 AND (released < ?2 OR released > ?3) LIMIT 1"
+
+abbrev pub outside_within : List Term
+outside_within = op2 (Compare Eq Binary) (col 1 3) (col 0 0) ∷ outside ∷ []
+
+pub asks_outside_within : AsksSome office_schema outside_within_text 12 outside_within number_column
+unfolding understood everything
+asks_outside_within = record { names = codes "number" ∷ []; command = refl; unlisted = refl; plain = (refl, refl) }

@@ -10,6 +10,7 @@ pub mod OfficeLemmas
 pub mod LastRow
 pub mod HoldTexts
 pub mod HoldLemmas
+pub mod ReleaseLemmas
 pub mod PolicyTexts
 pub mod PolicyLemmas
 pub mod DepositTexts

@@ -5,6 +5,7 @@ pub mod Calls
 pub mod Contents
 pub mod Opening
 pub mod ShownHolds
+pub mod Releases
 pub mod ShownPolicy
 pub mod Deposits
 pub mod Dues

@@ -1,12 +1,14 @@
 //! Holds.
 
-ghost use Rattle.std.specs.Prelude.{◌≡◌, ℕ, IfOk, IfErr, OnOk, pos, Some, None, map, filter, ◌++◌, option_map, slice_get};
+ghost use Rattle.std.specs.List.{list_any};
+ghost use Rattle.std.specs.Prelude.{◌≡◌, ◌||◌, ℕ, IfOk, IfErr, OnOk, pos, Some, None, true, map, filter, ◌++◌, option_map, slice_get};
 ghost use Rattle.sql_meaning.specs.Columns.{int_at};
 ghost use Rattle.office_tables.specs.Faults.{IsFailure};
 ghost use Rattle.office_rows.specs.Rows.{hold_numbered, last_number, with_hold, with_released, live_holds, is_live_on, is_live_within};
 ghost use Rattle.office_tables.specs.Contents.{LeavesOnce};
 ghost use Rattle.office_tables.specs.Calls.{CommitsNothing, Continues, Keeps, Tells, Shows, Writes};
 ghost use Rattle.office_tables.specs.ShownHolds.{shown_hold, held_deposit, held_collection};
+ghost use Rattle.office_tables.specs.Releases.{is_outside_on, is_outside_within, is_released_outside};
 
 use crate::fault::TableFault;
 use crate::run::{ask, change, number_in};
@@ -317,4 +319,79 @@ pub fn live_holds<S: Alter>(
     add_numbers(&mut numbers, &on_collection)?;
     numbers.sort_unstable();
     Ok(numbers)
+}
+
+/// A row where some hold on the deposit has a day of release before the first or after the last of these
+/// days, and else none.
+fn rows_of_releases_on<S: Alter>(
+    tx: &mut Transaction<'_, S>,
+    deposit: u32,
+    first: i64,
+    last: i64,
+) -> Result<Vec<Row>, TableFault>
+    ensures same_reference { tx.new.conn.ghost_name ≡ tx.old.conn.ghost_name }
+    ensures stays { CommitsNothing S.Store tx.old.conn.now tx.new.conn.now }
+    ensures goes_on { Continues S.Store tx.old.conn.now tx.new.conn.now result }
+    ensures failure { IfErr result IsFailure }
+    ensures found { Shows S.Store tx.old.conn.now tx.new.conn.now result (λ tables rows.
+        list_any (is_outside_on first last (pos deposit)) tables.holds ≡ list_any (λ r. true) rows.items) }
+{
+    ask(
+        tx,
+        "SELECT number FROM hold WHERE deposit = ?1 AND (released < ?2 OR released > ?3) LIMIT 1",
+        params![deposit, first, last],
+    )
+}
+
+/// A row where some hold on the collection has a day of release before the first or after the last of these
+/// days, and else none.
+fn rows_of_releases_within<S: Alter>(
+    tx: &mut Transaction<'_, S>,
+    collection: &str,
+    first: i64,
+    last: i64,
+) -> Result<Vec<Row>, TableFault>
+    ensures same_reference { tx.new.conn.ghost_name ≡ tx.old.conn.ghost_name }
+    ensures stays { CommitsNothing S.Store tx.old.conn.now tx.new.conn.now }
+    ensures goes_on { Continues S.Store tx.old.conn.now tx.new.conn.now result }
+    ensures failure { IfErr result IsFailure }
+    ensures found { Shows S.Store tx.old.conn.now tx.new.conn.now result (λ tables rows.
+        list_any (is_outside_within first last collection.now) tables.holds ≡ list_any (λ r. true) rows.items) }
+{
+    ask(
+        tx,
+        "SELECT number FROM hold WHERE collection = ?1 AND (released < ?2 OR released > ?3) LIMIT 1",
+        params![collection, first, last],
+    )
+}
+
+/// Whether there is a row among these or those.
+fn are_some(rows: &[Row], more: &[Row]) -> bool
+    ensures { result ≡ (list_any (λ r. true) rows.now || list_any (λ r. true) more.now) }
+{
+    !rows.is_empty() || !more.is_empty()
+}
+
+/// Whether a hold on the deposit of that number or on the collection of that name has a day of release
+/// before the first or after the last of these days.
+///
+/// Fails with `Memory` or `Store`.
+pub fn has_release_outside<S: Alter>(
+    tx: &mut Transaction<'_, S>,
+    deposit: u32,
+    collection: &str,
+    first: i64,
+    last: i64,
+) -> Result<bool, TableFault>
+    ensures same_reference { tx.new.conn.ghost_name ≡ tx.old.conn.ghost_name }
+    ensures stays { CommitsNothing S.Store tx.old.conn.now tx.new.conn.now }
+    ensures goes_on { Continues S.Store tx.old.conn.now tx.new.conn.now result }
+    ensures failure { IfErr result IsFailure }
+    ensures same { Keeps S.Store tx.old.conn.now tx.new.conn.now result }
+    ensures found { Tells S.Store tx.old.conn.now tx.new.conn.now result (λ tables found.
+        found ≡ list_any (is_released_outside first last (pos deposit) collection.now) tables.holds) }
+{
+    let on_deposit = rows_of_releases_on(tx, deposit, first, last)?;
+    let on_collection = rows_of_releases_within(tx, collection, first, last)?;
+    Ok(are_some(&on_deposit, &on_collection))
 }

@@ -26,7 +26,9 @@ pub use dues::{
 };
 pub use fault::TableFault;
 pub use files::{FileRow, drop_files, file_of, files_of, put_file, put_marked};
-pub use holds::{HoldRow, HoldTarget, end_hold, hold_row, last_hold, live_holds, put_hold};
+pub use holds::{
+    HoldRow, HoldTarget, end_hold, has_release_outside, hold_row, last_hold, live_holds, put_hold,
+};
 pub use kept::{ContentSize, contents};
 pub use opening::{OfficeLimits, limits, open_tables};
 pub use policy::{CallerRow, RuleRow, match_rule, put_policy, role_of, rules};

@@ -530,10 +530,10 @@ pub static RULES: [Part; 7] = [
 ];
 
 /// A hold names nothing, two things, or what isn't there; its days, its matter and its number are
-/// none. The row of a hold that refuses a disposal is read, too; the others that cover the deposit are
-/// not, and a hold that names nothing covers none. The due list reads no hold: holds are counted with
-/// the deposits.
-pub static HOLDS: [Part; 8] = [
+/// none. The row of a hold that refuses a disposal is read, too; of the others that cover the deposit
+/// only the day of release is, and a hold that names nothing covers none. The due list reads no hold:
+/// holds are counted with the deposits.
+pub static HOLDS: [Part; 10] = [
     (
         "",
         "UPDATE hold SET deposit = NULL WHERE number = 1\n\
@@ -597,6 +597,27 @@ pub static HOLDS: [Part; 8] = [
          release 3 > Store\n\
          2030-01-01 carl\n\
          release 2 > Denied default",
+    ),
+    (
+        "",
+        "UPDATE hold SET released = 2859849 WHERE number = 1\n\
+         UPDATE hold SET released = NULL WHERE number = 1\n\
+         holds 3 > Store\n\
+         holds 1 > holds:\n\
+         holds 2 > holds: 2 on collection placed 2024-03-02 for Case 7;\n\
+         release 1 > Store\n\
+         2040-01-01 anna\n\
+         dispose 3 > Store\n\
+         due > due on 2040-01-01: 1",
+    ),
+    (
+        "",
+        "UPDATE hold SET released = -25568 WHERE number = 2\n\
+         UPDATE hold SET released = NULL WHERE number = 2\n\
+         holds 2 > Store\n\
+         holds 3 > holds: 1 on deposit placed 2024-03-02 for Case 7;\n\
+         release 2 > Store\n\
+         deposit tax y10 A-5 > Store",
     ),
     (
         "",

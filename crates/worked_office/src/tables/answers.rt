@@ -3,8 +3,8 @@
 use crate::words::{number, word};
 use office_tables::{
     TableFault, by_accession, class_of, contents, deposit_row, deposit_rows, deposits_and_dues,
-    due_row, due_rows, file_of, files_of, has_collection, hold_row, last_deposit, last_hold,
-    limits, live_holds, match_rule, role_of, rows_of_class, rules,
+    due_row, due_rows, file_of, files_of, has_collection, has_release_outside, hold_row,
+    last_deposit, last_hold, limits, live_holds, match_rule, role_of, rows_of_class, rules,
 };
 use sqlite::{Alter, Transaction};
 use std::alloc::Global;
@@ -62,6 +62,7 @@ fn answer_of_files_and_holds<S: Alter>(
         "hold" => answer_text(alloc, hold_row(tx, of)),
         "live holds" => answer_text(alloc, live_holds(alloc, tx, of, name)),
         "last hold" => answer_text(alloc, last_hold(tx)),
+        "released outside" => answer_text(alloc, has_release_outside(tx, of, name, 100, 149)),
         _ => answer_of_kept(alloc, tx, read, of),
     }
 }

@@ -125,6 +125,8 @@ pub static CALLS: [&[Part]; 9] = [
             "read|last hold > Some(5)\n\
              read|live holds|7|maps > [2, 3]\n\
              read|live holds|8|plans > [5]\n\
+             read|released outside|7|plans > true\n\
+             read|released outside|8|maps > false\n\
              read|hold|1 > Some(HoldRow { number: 1, deposit: Some(7), collection: None, matter: \
              \"tax 1\", placed: 100, released: Some(150) })\n\
              held > 1|3|10|20;--;--;--;--;--;--;--;1|7||tax 1|100|150;2||maps|suit|100|;\

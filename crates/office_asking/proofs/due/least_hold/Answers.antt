@@ -1,9 +1,7 @@
-use Rattle.std.proofs.Common.{rules, ◌≡◌, slice_get, Some, None, ◌∙◌}
+use Rattle.std.proofs.Common.{rules, ◌≡◌, ap, slice_get, Some, None, ◌∙◌}
 use Rattle.sqlite.specs.State.{HasCleanDisk}
 use Rattle.sqlite.specs.Held.{state}
 use Rattle.sql_meaning.proofs.Inside.{stays_then}
-use Rattle.office_asking.proofs.Readings.{pictured_still}
-use Rattle.office_asking.proofs.HoldTold.{first_live}
 use Rattle.office_asking.proofs.InTurn.{clean_before, goes_twice}
 use Rattle.office_asking.specs.ByRows.{IsHoldIn}
 use Rattle.office_asking.proofs.RowsTold.{first_of, office_still, told_before}
@@ -11,44 +9,35 @@ use Rattle.office_asking.proofs.due.least_hold.Goals as goal
 
 pub returns-in_default-clause-least : goal.returns-in_default-clause-least
 returns-in_default-clause-least g c clean h legal pictured =
-    let a = c.args in
-    let old = state g.S.Store a.tx.now.conn.now in
-    let new = state g.S.Store c.live_holds.new.tx.conn.now in
-    let numbers = c.in_ok-holds.holds.items in
-    let first : None ≡ slice_get numbers 0 = search rules in (
-      pictured_still h old.now pictured new.now (c.in_ok-holds.ensures.same clean pictured.office),
-      λ deposit is. first ∙ first_live h old.now pictured a.number a.collection.now numbers (c.in_ok-holds.ensures.found clean pictured.office) deposit is,
-    )
+    let live = c.in_ok-holds.ensures.live clean h legal pictured in
+    let first : None ≡ slice_get c.in_ok-holds.holds.items 0 = search rules in
+    (live.0, λ deposit is. first ∙ ap (λ ks. slice_get ks 0) (live.1 deposit is))
 
 pub returns-clause-least : goal.returns-clause-least
 returns-clause-least g c clean h legal pictured =
-    let a = c.args in
-    let old = state g.S.Store a.tx.now.conn.now in
-    let mid = state g.S.Store c.live_holds.new.tx.conn.now in
+    let mid = state g.S.Store c.holds_over.new.tx.conn.now in
     let early : HasCleanDisk mid = clean_before mid (state g.S.Store c.told_hold.new.tx.conn.now) c.told_hold.ensures.stays clean in
-    let still = pictured_still h old.now pictured mid.now (c.in_ok-holds.ensures.same early pictured.office) in
-    let told = c.in_ok-told_hold.ensures.told clean h legal still in
-    let numbers = c.in_ok-holds.holds.items in
-    let first : Some c.in-Some.least ≡ slice_get numbers 0 = search rules in (
-      told.0,
-      λ deposit is. first ∙ first_live h old.now pictured a.number a.collection.now numbers (c.in_ok-holds.ensures.found early pictured.office) deposit is,
-    )
+    let live = c.in_ok-holds.ensures.live early h legal pictured in
+    let told = c.in_ok-told_hold.ensures.told clean h legal live.0 in
+    let first : Some c.in-Some.least ≡ slice_get c.in_ok-holds.holds.items 0 = search rules in
+    (told.0, λ deposit is. first ∙ ap (λ ks. slice_get ks 0) (live.1 deposit is))
 
 pub returns-in_err-told_hold-clause-stays : goal.returns-in_err-told_hold-clause-stays
-returns-in_err-told_hold-clause-stays g c = stays_then (state g.S.Store c.args.tx.now.conn.now) (state g.S.Store c.live_holds.new.tx.conn.now) (state g.S.Store c.told_hold.new.tx.conn.now) c.live_holds.ensures.stays c.in_ok-holds.ensures.goes_on c.told_hold.ensures.stays
+returns-in_err-told_hold-clause-stays g c = stays_then (state g.S.Store c.args.tx.now.conn.now) (state g.S.Store c.holds_over.new.tx.conn.now) (state g.S.Store c.told_hold.new.tx.conn.now) c.holds_over.ensures.stays c.in_ok-holds.ensures.goes_on c.told_hold.ensures.stays
 
 pub returns-clause-stays : goal.returns-clause-stays
-returns-clause-stays g c = stays_then (state g.S.Store c.args.tx.now.conn.now) (state g.S.Store c.live_holds.new.tx.conn.now) (state g.S.Store c.told_hold.new.tx.conn.now) c.live_holds.ensures.stays c.in_ok-holds.ensures.goes_on c.told_hold.ensures.stays
+returns-clause-stays g c = stays_then (state g.S.Store c.args.tx.now.conn.now) (state g.S.Store c.holds_over.new.tx.conn.now) (state g.S.Store c.told_hold.new.tx.conn.now) c.holds_over.ensures.stays c.in_ok-holds.ensures.goes_on c.told_hold.ensures.stays
 
 pub returns-clause-goes_on : goal.returns-clause-goes_on
-returns-clause-goes_on g c = goes_twice (state g.S.Store c.args.tx.now.conn.now) (state g.S.Store c.live_holds.new.tx.conn.now) (state g.S.Store c.told_hold.new.tx.conn.now) c.told_hold.ensures.stays c.in_ok-holds.ensures.goes_on c.in_ok-told_hold.ensures.goes_on
+returns-clause-goes_on g c = goes_twice (state g.S.Store c.args.tx.now.conn.now) (state g.S.Store c.holds_over.new.tx.conn.now) (state g.S.Store c.told_hold.new.tx.conn.now) c.told_hold.ensures.stays c.in_ok-holds.ensures.goes_on c.in_ok-told_hold.ensures.goes_on
 
 pub returns-clause-rows : goal.returns-clause-rows
 returns-clause-rows g c clean office =
     let old = state g.S.Store c.args.tx.now.conn.now in
-    let mid = state g.S.Store c.live_holds.new.tx.conn.now in
+    let mid = state g.S.Store c.holds_over.new.tx.conn.now in
     let early : HasCleanDisk mid = clean_before mid (state g.S.Store c.told_hold.new.tx.conn.now) c.told_hold.ensures.stays clean in
     let same = c.in_ok-holds.ensures.same early office in
     let told = c.in_ok-told_hold.ensures.rows clean (office_still old.now mid.now same office) in
-    let first = first_of c.in-Some.least c.in_ok-holds.holds.items _ (c.in_ok-holds.ensures.found early office) (search rules) in
-    record { others = first.0; live = first.1; told = c.in_ok-told_hold.field-0; is = told_before old.now mid.now same (λ t. IsHoldIn t c.in-Some.least c.in_ok-told_hold.field-0) told }
+    let over = c.in_ok-holds.ensures.rows early office in
+    let first = first_of c.in-Some.least c.in_ok-holds.holds.items _ over.0 (search rules) in
+    record { released = over.1; others = first.0; live = first.1; told = c.in_ok-told_hold.field-0; is = told_before old.now mid.now same (λ t. IsHoldIn t c.in-Some.least c.in_ok-told_hold.field-0) told }

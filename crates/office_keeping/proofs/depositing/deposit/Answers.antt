@@ -9,7 +9,7 @@ use Rattle.office_history.specs.Answers.{deposit_change}
 use Rattle.office_history.specs.Refusals.{refusals}
 use Rattle.office_core.specs.declared.retention.Due.{Due}
 use Rattle.office_tables.specs.Tables.{tables_of}
-use Rattle.office_asking.specs.ByRows.{IsDueIn}
+use Rattle.office_asking.specs.ByRows.{AreReleasedOnDays, IsDueIn}
 use Rattle.office_asking.specs.Pictures.{Pictures}
 use Rattle.office_asking.proofs.RowsTold.{office_still, told_before}
 use Rattle.office_asking.proofs.Serving.{refused_serves, allowed_serves}
@@ -72,6 +72,7 @@ returns-in-Err-clause-rows g c clean office =
       next = Err c.in-Err.why;
       is_next = subst (λ asked. IsAskedOfDeposit t asked a.bag.now (Err c.in-Err.why)) (λ i. asking (collection i) (class i) (accession i)) next;
       due = tt;
+      released = tt;
       answer = refl;
     }
 
@@ -89,9 +90,11 @@ returns-clause-rows g c clean office =
     let asking : List ℕ → List ℕ → List ℕ → DepositAsked = λ collection class accession. record { day = a.day; caller = a.caller.now; collection = collection; class = class; accession = accession; closed = a.closed } in
     let next = subst (λ new. IsAskedOfDeposit (tables_of old.now) (asking c.as_str-collection.result.now c.as_str-class.result.now c.as_str-accession.result.now) a.bag.now (number_of new)) c.in-Ok.is (c.in_ok-new.ensures.rows early office) in
     let due = told_before old.now mid.now same (λ t. (due : Due) × IsDueIn t c.as_str-class.result.now a.closed due) (c.in_ok-keep.ensures.rows clean (office_still old.now mid.now same office)) in
+    let released = told_before old.now mid.now same (λ t. AreReleasedOnDays t c.in-Ok.new.number c.as_str-collection.result.now) (c.in_ok-keep.ensures.released clean (office_still old.now mid.now same office)) in
     record {
       next = Ok c.in-Ok.new.number;
       is_next = subst (λ asked. IsAskedOfDeposit (tables_of old.now) asked a.bag.now (Ok c.in-Ok.new.number)) (λ i. asking (collection i) (class i) (accession i)) next;
       due = subst (λ name. (due : Due) × IsDueIn (tables_of old.now) name a.closed due) class due;
+      released = subst (λ name. AreReleasedOnDays (tables_of old.now) c.in-Ok.new.number name) collection released;
       answer = refl;
     }

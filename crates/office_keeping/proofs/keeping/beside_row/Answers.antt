@@ -6,8 +6,9 @@ use Rattle.sqlite.specs.Held.{state}
 use Rattle.office_core.specs.Retention.{due_number}
 use Rattle.office_rows.specs.Rows.{live_holds}
 use Rattle.office_tables.specs.Tables.{tables_of}
+use Rattle.office_asking.specs.ByRows.{AreReleasedOnDays}
 use Rattle.office_asking.proofs.InTurn.{clean_before, goes_twice}
-use Rattle.office_asking.proofs.RowsTold.{office_still}
+use Rattle.office_asking.proofs.RowsTold.{office_still, told_before}
 use Rattle.sql_meaning.proofs.Inside.{stays_then}
 use Rattle.office_keeping.proofs.keeping.beside_row.Goals as goal
 
@@ -53,4 +54,15 @@ returns-clause-counted g c clean office =
     let early : HasCleanDisk mid = clean_before mid (state g.S.Store c.live_count.new.tx.conn.now) c.live_count.ensures.stays clean in
     let same : mid.now ≡ old.now = c.in_ok-due.ensures.same early office in
     let fits : SFits w64 c.in_ok-holds.holds = search rules in
-    to_z-of_z w64 c.in_ok-holds.holds fits ∙ c.in_ok-holds.ensures.rows clean (office_still old.now mid.now same office) ∙ ap (λ db. pos (length (live_holds (pos a.number) a.collection.now (tables_of db)))) same
+    let counted = c.in_ok-holds.ensures.rows clean (office_still old.now mid.now same office) in
+    to_z-of_z w64 c.in_ok-holds.holds fits ∙ counted.0 ∙ ap (λ db. pos (length (live_holds (pos a.number) a.collection.now (tables_of db)))) same
+
+pub returns-clause-released : goal.returns-clause-released
+returns-clause-released g c clean office =
+    let a = c.args in
+    let old = state g.S.Store a.tx.now.conn.now in
+    let mid = state g.S.Store c.due_day.new.tx.conn.now in
+    let early : HasCleanDisk mid = clean_before mid (state g.S.Store c.live_count.new.tx.conn.now) c.live_count.ensures.stays clean in
+    let same : mid.now ≡ old.now = c.in_ok-due.ensures.same early office in
+    let counted = c.in_ok-holds.ensures.rows clean (office_still old.now mid.now same office) in
+    told_before old.now mid.now same (λ t. AreReleasedOnDays t a.number a.collection.now) counted.1

@@ -66,3 +66,11 @@ returns-clause-rows g c clean office =
     let early : HasCleanDisk first = clean_before first mid c.put_row.ensures.stays (clean_before mid new c.add_files.ensures.stays clean) in
     let beside = c.in_ok-beside.ensures.rows early office in
     on_ok_weaker c.add_files.result (λ _. (beside.0, beside.1)) (c.add_files.ensures.goes_on clean)
+
+pub returns-clause-released : goal.returns-clause-released
+returns-clause-released g c clean office =
+    let first = state g.S.Store c.beside_row.new.tx.conn.now in
+    let mid = state g.S.Store c.put_row.new.tx.conn.now in
+    let new = state g.S.Store c.add_files.new.tx.conn.now in
+    let early : HasCleanDisk first = clean_before first mid c.put_row.ensures.stays (clean_before mid new c.add_files.ensures.stays clean) in
+    on_ok_weaker c.add_files.result (λ _. c.in_ok-beside.ensures.released early office) (c.add_files.ensures.goes_on clean)

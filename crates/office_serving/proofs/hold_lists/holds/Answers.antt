@@ -1,13 +1,13 @@
-use Rattle.std.proofs.Common.{rules, ◌≡◌, refl, ap, sym, subst, ◌∙◌, pos, Ok, Err}
+use Rattle.std.proofs.Common.{rules, ◌≡◌, refl, ap, sym, subst, ◌∙◌, Ok, Err}
 use Rattle.sqlite.specs.Held.{state}
 use Rattle.office_core.specs.declared.action.Action.TheVariants as acts
 use Rattle.office_core.specs.declared.answer.Answer.TheVariants as answers
-use Rattle.office_rows.specs.Rows.{DepositRow, live_holds}
+use Rattle.office_rows.specs.Rows.{DepositRow}
 use Rattle.office_tables.specs.Tables.{tables_of}
 use Rattle.office_history.specs.Answers.{told_holds}
 use Rattle.office_asking.proofs.Serving.{refused_serves}
 use Rattle.office_asking.proofs.RowsTold.{office_still, told_before}
-use Rattle.office_serving.specs.FilesByRows.{AreHoldsOf}
+use Rattle.office_serving.specs.FilesByRows.{AreHoldsOver}
 use Rattle.office_serving.proofs.Told.{told_serves}
 use Rattle.office_asking.proofs.InTurn.{clean_before, goes_twice, same_twice}
 use Rattle.sql_meaning.proofs.Inside.{stays_then}
@@ -51,11 +51,11 @@ returns-in_ok-told_holds-in-Ok-clause-rows g c clean office =
     let told = c.in_ok-told_holds-in-Ok.field-0.items in
     let collection : c.deref.result.now ≡ row.collection = search rules in
     let given : c.of.result ≡ told = search rules in
-    let says = told_before old.now mid.now same (λ t. AreHoldsOf t (live_holds (pos a.number) c.deref.result.now t) told) (c.in_ok-told_holds-in-Ok.ensures.rows clean (office_still old.now mid.now same office)) in
+    let says = told_before old.now mid.now same (λ t. AreHoldsOver t a.number c.deref.result.now told) (c.in_ok-told_holds-in-Ok.ensures.rows clean (office_still old.now mid.now same office)) in
     record {
       asked = Ok row;
       is_asked = rw c.in-Ok.is at c.in_ok-row.ensures.rows early office;
-      answers = (told, subst (λ name. AreHoldsOf (tables_of old.now) (live_holds (pos a.number) name (tables_of old.now)) told) collection says, ap answers.Holds given);
+      answers = (told, subst (λ name. AreHoldsOver (tables_of old.now) a.number name told) collection says, ap answers.Holds given);
     }
 
 pub returns-in-Err-clause-rows : goal.returns-in-Err-clause-rows

@@ -1,0 +1,27 @@
+-- That the holds over a deposit were released on days, by what the rows tell of their releases.
+use Rattle.std.proofs.Common.{◌≡◌, ◌&&◌, ◌||◌, refl, ℕ, ℤ, Bool, true, false, List, [], ◌∷◌, Option, Some, None, IfSome, arith}
+use Rattle.std.specs.List.{AllByRecursion, list_any}
+use Rattle.std.specs.Ordering.{int_cmp, is_gt, is_lt}
+use Rattle.std.proofs.lemmas.Int.{ints}
+use Rattle.office_core.specs.Days.{IsDayNumber, first_day_number, last_day_number}
+use Rattle.office_rows.specs.Rows.{HoldRow, holds_collection, holds_deposit}
+use Rattle.office_tables.specs.Releases.{is_outside, is_released_outside}
+
+or_none : (a b : Bool) → (a || b) ≡ false → (a ≡ false) × (b ≡ false)
+or_none true b e = absurd cc
+or_none false b e = (refl, e)
+
+inside : (day : ℤ) → (is_lt (int_cmp day first_day_number) || is_gt (int_cmp day last_day_number)) ≡ false → IsDayNumber day
+inside day e = grind (arith, ints, e)
+
+on_a_day : (over : Bool) (released : Option ℤ) → (over && is_outside first_day_number last_day_number released) ≡ false → over ≡ true → IfSome released IsDayNumber
+on_a_day true None e is = tt
+on_a_day true (Some day) e is = inside day e
+on_a_day false released e is = absurd cc
+
+pub released_on_days : (n : ℤ) (collection : List ℕ) (holds : List HoldRow) → list_any (is_released_outside first_day_number last_day_number n collection) holds ≡ false
+    → AllByRecursion (λ (h : HoldRow). (holds_deposit n h || holds_collection collection h) ≡ true → IfSome h.released IsDayNumber) holds
+released_on_days n collection [] none = tt
+released_on_days n collection (h ∷ holds) none =
+    let parts = or_none (is_released_outside first_day_number last_day_number n collection h) (list_any (is_released_outside first_day_number last_day_number n collection) holds) none in
+    (on_a_day (holds_deposit n h || holds_collection collection h) h.released parts.0, released_on_days n collection holds parts.1)
