@@ -101,14 +101,17 @@ has_three() {
     done
 }
 
-# A bag that is long enough for three of its kind to fill the log, which is then copied into the file.
+# Bags, each with bytes of its own, that are long enough for three of their kind to fill the log, which is then copied
+# into the file.
 mkdir -p "$room/large/data"
-head -c 1500000 /dev/zero >"$room/large/data/a"
 printf 'BagIt-Version: 1.0\nTag-File-Character-Encoding: UTF-8\n' >"$room/large/bagit.txt"
-(cd "$room/large" && sha256sum data/a >manifest-sha256.txt)
-large=$(mktemp)
+large=$(mktemp -d)
 trap 'kill $(jobs -p) 2>/dev/null || true; rm -rf "$room" "$large"' EXIT
-"$program" pack "$room/large" "$large" >/dev/null
+for number in {4..8}; do
+    head -c 1500000 /dev/urandom >"$room/large/data/a"
+    (cd "$room/large" && sha256sum data/a >manifest-sha256.txt)
+    "$program" pack "$room/large" "$large/$number" >/dev/null
+done
 
 # As the page says.
 begin 1000000
@@ -152,7 +155,7 @@ begin 1000000
 cp office.db office.db-wal copy/
 has_three "the file and its log, while the office rests" copy/office.db
 cp office.db copy/office.db
-for number in 4 5 6 7; do deposit "$number" "$large"; done
+for number in 4 5 6 7; do deposit "$number" "$large/$number"; done
 cp office.db-wal copy/office.db-wal
 compare "the file, and later its log" 'store Q4 depot: cannot open copy/office.db: database disk image is malformed; 3' \
     "$(deposits_of copy/office.db)"
@@ -180,7 +183,7 @@ kill_office
 cp older.db office.db
 compare "a backup beside a later log" '{"deposits":[1,2,3,4]}; 0' "$(deposits_of office.db)"
 serve 1000000
-for number in 5 6 7 8; do deposit "$number" "$large"; done
+for number in 5 6 7 8; do deposit "$number" "$large/$number"; done
 kill_office
 cp older.db office.db
 compare "a backup beside a log of after a copy into the file" 'store Q4 depot: cannot open office.db: database disk image is malformed; 3' \

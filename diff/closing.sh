@@ -15,7 +15,7 @@ trap 'kill $(jobs -p) 2>/dev/null || true; rm -rf "$folder"' EXIT
 store=$folder/office.db
 day=2024-03-01
 target='/deposits?collection=maps&class=y0&closed=2024-02-29&accession='
-small=$folder/small.bagset
+small=$folder/small
 cases=0
 
 # A request of anna: its method, its target, and the file that is its body.
@@ -59,8 +59,8 @@ is_kept() {
     }
 }
 
-# A bag with one file of so many bytes. What it adds to a store stands at the end of the file, past the limit
-# once a large one is there.
+# A bag with one file of so many bytes, which no other bag has. What it adds to a store stands at the end of the
+# file, past the limit once a large one is there.
 make_bag() {
     mkdir -p "$folder/$1/data"
     head -c "$2" /dev/urandom >"$folder/$1/data/a"
@@ -70,7 +70,7 @@ make_bag() {
 }
 
 make_bag large 2000000
-make_bag small 20000
+for number in {2..6}; do make_bag "small-$number" 20000; done
 "$program" policy "$store" "$top/examples/policy.toml" >/dev/null
 printf '{"years":0}' >"$folder/years"
 request PUT /classes/y0 "$folder/years" >"$folder/class"
@@ -80,12 +80,12 @@ for each in class collection first; do record "$folder/$each"; done >"$folder/in
 "$program" replay "$store" <"$folder/input" | grep -aq '^HTTP/1.1 201 ' || { echo "no deposit was made" >&2; exit 1; }
 
 status=0
-request POST "${target}A-2" "$small" | limited 512 ask "$store" "$day" >"$folder/out" 2>"$folder/err" || status=$?
+request POST "${target}A-2" "$small-2.bagset" | limited 512 ask "$store" "$day" >"$folder/out" 2>"$folder/err" || status=$?
 compare 'HTTP/1.1 201 Created; store Q4; 3' "$status"
 is_kept 2
 
 status=0
-request POST "${target}A-3" "$small" >"$folder/third"
+request POST "${target}A-3" "$small-3.bagset" >"$folder/third"
 record "$folder/third" | limited 512 replay "$store" >"$folder/out" 2>"$folder/err" || status=$?
 compare 'HTTP/1.1 201 Created; store Q4; 3' "$status"
 is_kept 3
@@ -94,7 +94,7 @@ status=0
 limited 512 serve --port 0 --count 1 "$store" "$day" >"$folder/listening" 2>"$folder/err" &
 serving=$!
 await "$serving" "$folder/listening" listening
-curl -sS --max-time 60 -i -H 'Depot-Caller: anna' --data-binary "@$small" \
+curl -sS --max-time 60 -i -H 'Depot-Caller: anna' --data-binary "@$small-4.bagset" \
     "http://127.0.0.1:$(sed 's/listening //' "$folder/listening")${target}A-4" >"$folder/out"
 ended "$serving" || status=$?
 compare 'HTTP/1.1 201 Created; store Q4; 3' "$status"
@@ -103,13 +103,13 @@ is_kept 4
 # The output fails, and the closing too: the closing is told.
 status=0
 : >"$folder/out"
-request POST "${target}A-5" "$small" | limited 512 ask "$store" "$day" >/dev/full 2>"$folder/err" || status=$?
+request POST "${target}A-5" "$small-5.bagset" | limited 512 ask "$store" "$day" >/dev/full 2>"$folder/err" || status=$?
 compare '; store Q4; 3' "$status"
 is_kept 5
 
 # The output alone fails: the file is closed, and needs no log.
 status=0
-request POST "${target}A-6" "$small" | "$program" ask "$store" "$day" >/dev/full 2>"$folder/err" || status=$?
+request POST "${target}A-6" "$small-6.bagset" | "$program" ask "$store" "$day" >/dev/full 2>"$folder/err" || status=$?
 compare '; device; 3' "$status"
 cp "$store" "$folder/alone.db"
 is_kept 6 "$folder/alone.db"

@@ -269,9 +269,13 @@ echo "commits in a log: ${#commands[@]} commands refuse another database and ano
 taken=$folder/taken/office.db
 cp "$store" "$taken"
 sqlite3 "$taken" 'PRAGMA foreign_keys = OFF; DELETE FROM content WHERE id = (SELECT min(content) FROM file)'
+# An opening makes the log, and writes its head, before it reads the file's rows: so a log is there from the start, and
+# may get no page.
+: >"$taken-wal"
 for command in "${commands[@]}"; do
     refuses "$command" "$taken" $'store Q4\ndepot: cannot open STORE: file is not a database that obeys its schema'
 done
+[ "$(stat -c %s "$taken-wal")" -lt 4096 ] || { echo "$taken was refused, and its log has a page" >&2; exit 1; }
 echo "a content taken out: ${#commands[@]} commands refuse a store with a file whose content another program took out, and leave it as it was"
 
 held=$folder/held/office.db
