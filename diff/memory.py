@@ -90,7 +90,8 @@ def record(day, caller, line, body=b""):
 
 
 def session():
-    """Records of every route, of refusals of the office and of the desk; a class is revised over two deposits of one bag."""
+    """Records of every route, of refusals of the office and of the desk; a class is revised over two deposits of one bag,
+    and one of them destroyed. What follows a hold doesn't tell whether it was placed once or twice."""
     bag = (TOP / "examples/bag-a.bagset").read_bytes()
     deposit = "POST /deposits?collection=maps&class=y1&accession=A-1&closed=2024-02-29"
     early, late = "2024-03-01", "2025-02-28"
@@ -102,6 +103,7 @@ def session():
         record(early, "anna", deposit.replace("A-1", "A-3"), bag),
         record(early, "anna", "PUT /classes/y1", b'{"years":0}'),
         record(early, "anna", "GET /due"),
+        record(early, "anna", "DELETE /deposits/2"),
         record(early, "anna", "PUT /classes/y1", b'{"years":1}'),
         record(early, "anna", "GET /deposits?collection=maps&class=y1"),
         record(early, "anna", "GET /deposits/1"),
@@ -116,8 +118,6 @@ def session():
         record(late, "anna", "GET /due"),
         record(late, "anna", "DELETE /deposits/1"),
         record(late, "anna", "DELETE /holds/1"),
-        record(late, "anna", "GET /due"),
-        record(late, "anna", "DELETE /deposits/1"),
     ]
 
 
