@@ -1,5 +1,5 @@
--- What the rows of an office tell, whichever rows they are. A row that no accepted change writes tells nothing, and no answer but a
--- failure rests on what isn't told.
+-- What the rows of an office tell, whichever rows they are. A row with a value out of a range that is asked here tells nothing, and no
+-- answer but a failure rests on what isn't told.
 use Rattle.std.specs.Prelude.{◌≡◌, ⊤, ◌||◌, true, ℕ, ℤ, pos, ◌≤ℤ◌, List, ◌∷◌, Option, Some, None, IfSome, option_map, string_bytes, Result, Ok, Err}
 use Rattle.std.specs.List.{AllByRecursion}
 use Rattle.jiff.specs.Types.{Date}

@@ -1,5 +1,5 @@
--- What the rows of an office tell where a hold is placed or released, whichever rows they are. A row that no accepted change writes tells
--- nothing, and no answer but a failure rests on what isn't told.
+-- What the rows of an office tell where a hold is placed or released, whichever rows they are. A row with a value out of a range
+-- that is asked tells nothing, and no answer but a failure rests on what isn't told.
 use Rattle.std.specs.Prelude.{◌≡◌, ℕ, ℤ, pos, negsuc, ◌+ℤ◌, Bool, true, false, List, Option, Some, None, IfSome, option_map, Result, Ok, Err, IfOk, OnOk}
 use Rattle.std.specs.Result.{result_err}
 use Rattle.jiff.specs.Types.{Date}
