@@ -1,5 +1,5 @@
 -- What one edit makes of the list of a table's rows.
-use Rattle.std.proofs.Common.{◌≡◌, ◌&&◌, ◌||◌, ◌⊎◌, not, ℤ, pos, ◌+ℤ◌, List, [], ◌∷◌, ◌++◌, map, filter, fold, drop, Bool, true, false, cond, Ordering, Equal, Less, Greater, IsTrue, subst₂, ap₂, length, refl, sym, ap, subst, ◌∙◌, inl, inr, if◌then◌else◌, arith}
+use Rattle.std.proofs.Common.{◌≡◌, ◌&&◌, ◌||◌, ◌⊎◌, not, ℤ, pos, ◌+ℤ◌, List, [], ◌∷◌, ◌++◌, map, filter, fold, drop, Bool, true, false, cond, Ordering, Equal, Less, Greater, IsTrue, subst₂, ap₂, length, refl, sym, ap, subst, ◌∙◌, inl, inr, if◌then◌else◌, arith, append_assoc, append-nil}
 use Rattle.std.proofs.Common.{◌<ℤ◌}
 use Rattle.std.proofs.lemmas.Int.{ints}
 use Rattle.std.specs.Ordering.{is_eq, ordering_reverse, int_cmp}
@@ -10,13 +10,13 @@ use Rattle.std.proofs.lemmas.List.{length-map}
 use Rattle.sqlite.specs.declared.types.Value.{Value}
 use Rattle.sqlite.specs.declared.types.Value.TheVariants.{Null, Int}
 use Rattle.sqlite.specs.Order.{Row, value_cmp}
-use Rattle.sqlite.specs.Ops.{unary}
+use Rattle.sqlite.specs.Ops.{unary, is_null}
 use Rattle.sqlite.specs.Cast.{cast, cast_row}
 use Rattle.sqlite.specs.Kind.TheVariants.{Integer}
 use Rattle.sqlite.specs.Table.{Table}
 use Rattle.sqlite_value.proofs.OrderLemmas.{value_cmp-Int, value_cmp_total}
 use Rattle.sqlite.specs.Tree.{Trees, rowid, IsTable, has_rowid, put_row, without_rowid}
-use Rattle.sqlite.specs.Edit.{Edit, edit_of, edited, id_in, next_rowid, put_all, without_all, with_rowid, have_rowids}
+use Rattle.sqlite.specs.Edit.{Edit, edit_of, edited, id_in, next_rowid, numbered, put_all, without_all, with_rowid, have_rowids}
 use Rattle.sqlite.specs.Rowids.TheVariants.{Chosen, Given}
 use Rattle.sqlite_rules.specs.Lists.{Has}
 use Rattle.sqlite_rules.specs.Calls.{ids_of}
@@ -28,7 +28,9 @@ use Rattle.sqlite_trees.specs.View.{is_int, IsShaped}
 use Rattle.sqlite_trees.specs.declared.store.Shape.TheVariants as shape
 use Rattle.sqlite_trees.proofs.ListLemmas.{filter_same}
 use Rattle.sqlite_catalog.proofs.ListFacts.{filter_all}
+use Rattle.sqlite_keyed.proofs.ListLemmas.{all-append, all_map}
 use Rattle.sqlite_trees.proofs.TreeLemmas.{IsShaped-filter, IsShaped-put_row}
+use Rattle.sql_meaning.proofs.Typed.{all_both}
 
 pub map_same : {X : Type 0} (f : X → X) (xs : List X) → ((x : X) → Has xs x → f x ≡ x) → map f xs ≡ xs
 map_same f [] all = refl
@@ -198,6 +200,47 @@ put_shaped rows (n ∷ news) keyed h = put_shaped (put_row n rows) news (and_par
 
 pub edited_shaped : (db : Trees) (edit : Edit) → have_rowids edit.news ≡ true → IsShaped shape.Table (db edit.table.tree) → IsShaped shape.Table (edited db edit)
 edited_shaped db edit keyed h = put_shaped (without_all (db edit.table.tree) edit.gone) edit.news keyed (without_shaped (db edit.table.tree) edit.gone h)
+
+-- ---- rows that keep their rowids stay in their order
+
+below_set : (f : Row → Row) (x : Row) (rows : List Row) → rowid (f x) ≡ rowid x → ((r : Row) → Has rows r → rowid (f r) ≡ rowid r)
+    → AllByRecursion (λ r. value_cmp (rowid x) (rowid r) ≡ Less) rows → AllByRecursion (λ r. value_cmp (rowid (f x)) (rowid r) ≡ Less) (map f rows)
+below_set f x [] same each up = tt
+below_set f x (r ∷ rows) same each up =
+    (subst₂ (λ a b. value_cmp a b ≡ Less) (sym same) (sym (each r (inl refl))) up.0, below_set f x rows same (λ y there. each y (inr there)) up.1)
+
+pub set_table : (f : Row → Row) (rows : List Row) → ((r : Row) → Has rows r → rowid (f r) ≡ rowid r) → IsTable rows → IsTable (map f rows)
+set_table f [] each up = tt
+set_table f (r ∷ rows) each up = (below_set f r rows (each r (inl refl)) (λ y there. each y (inr there)) up.0, set_table f rows (λ y there. each y (inr there)) up.1)
+
+pub set_shaped : (f : Row → Row) (rows : List Row) → ((r : Row) → Has rows r → rowid (f r) ≡ rowid r) → IsShaped shape.Table rows → IsShaped shape.Table (map f rows)
+set_shaped f rows each shaped = (
+  set_table f rows each shaped.0,
+  all_map (λ r. IsTrue (is_int (rowid r))) f rows (all_from _ rows (λ r there. subst (λ v. IsTrue (is_int v)) (sym (each r there)) (all_has _ rows r shaped.1 there))),
+)
+
+-- ---- INSERT of rows that rise, into a table without rows
+
+-- rows that have rowids keep them
+numbered_given : (rows news : List Row) → AllByRecursion (λ r. IsTrue (is_int (rowid r))) news → numbered Chosen rows news ≡ news
+numbered_given rows [] keyed = refl
+numbered_given rows (n ∷ news) keyed =
+    let given : is_null (rowid n) ≡ false = ap is_null (int_is (rowid n) keyed.0) in
+    rw given (ap (λ more. n ∷ more) (numbered_given (put_row n rows) news keyed.1))
+
+put_rising : (rows news : List Row) → AllByRecursion (λ n. AllByRecursion (λ r. value_cmp (rowid r) (rowid n) ≡ Less) rows) news → IsTable news → put_all rows news ≡ rows ++ news
+put_rising rows [] low up = sym (append-nil rows)
+put_rising rows (n ∷ news) low up =
+    let more : AllByRecursion (λ m. AllByRecursion (λ r. value_cmp (rowid r) (rowid m) ≡ Less) (rows ++ n ∷ [])) news =
+    all_both (λ m lower next. all-append (λ r. value_cmp (rowid r) (rowid m) ≡ Less) rows (n ∷ []) lower (next, tt)) news low.1 up.0 in
+    ap (λ front. put_all front news) (put_last n rows low.0) ∙ put_rising (rows ++ n ∷ []) news more up.1 ∙ append_assoc rows (n ∷ []) news
+
+-- they become its rows, as they are
+pub filled : (db : Trees) (table : Table) (sources rows : List Row) → db table.tree ≡ [] → IsShaped shape.Table rows → map (λ s. cast_row table s) sources ≡ rows
+    → edited db (edit_of db table [] Chosen 0 sources) ≡ rows
+filled db table sources rows none shaped cast_is =
+    ap (λ news. put_all (db table.tree) (numbered Chosen (db table.tree) news)) cast_is ∙ ap (λ olds. put_all olds (numbered Chosen olds rows)) none
+    ∙ ap (put_all []) (numbered_given [] rows shaped.1) ∙ put_rising [] rows (all_from _ rows (λ r there. tt)) shaped.0
 
 -- ---- the typed rows after an UPDATE, and its count
 

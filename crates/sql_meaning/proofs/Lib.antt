@@ -5,6 +5,7 @@ pub mod Typed
 pub mod Edits
 pub mod Whole
 pub mod Inside
+pub mod Growing
 pub mod Creating
 pub mod TextKeys
 pub mod Reading
@@ -14,3 +15,4 @@ pub mod Inserts
 pub mod Changing
 pub mod Limited
 pub mod ManyRows
+pub mod Copying

@@ -1,5 +1,5 @@
 -- UPDATE of each row that passes a test, as one edit: whatever order the query shows them in, each is set at its own place.
-use Rattle.std.proofs.Common.{◌≡◌, ◌⊎◌, ℕ, List, [], ◌∷◌, map, filter, drop, slice_get, not, Bool, true, false, Some, Ok, Less, refl, sym, ap, ap₂, subst, subst₂, ◌∙◌, inl, inr, if◌then◌else◌}
+use Rattle.std.proofs.Common.{◌≡◌, ℕ, List, [], ◌∷◌, map, filter, drop, slice_get, not, Bool, true, false, Some, Ok, Less, refl, sym, ap, ap₂, subst, subst₂, ◌∙◌, inl, inr, if◌then◌else◌}
 use Rattle.std.specs.List.{AllByRecursion}
 use Rattle.std.specs.Ordering.{ordering_reverse}
 use Rattle.std.proofs.lemmas.Bool.{cases_Bool}
@@ -22,10 +22,10 @@ use Rattle.sqlite_rules.specs.Calls.{ids_of}
 use Rattle.sqlite_rules.proofs.PlaceLemmas.{given}
 use Rattle.sqlite_rules.proofs.TableLemmas.{put_all_has, put_all_keeps, put_all_adds}
 use Rattle.sqlite_rules.proofs.ProbeLemmas.{has_mapped, mapped_has}
-use Rattle.sqlite_rules.proofs.ListLemmas.{all_has, all_from, has_filtered, has_kept}
+use Rattle.sqlite_rules.proofs.ListLemmas.{all_has, has_filtered, has_kept}
 use Rattle.sql_meaning.proofs.Writing.{Changes, IsIdle, Means, updates}
 use Rattle.sql_meaning.proofs.Scanning.{scan, as_program, passes, shown_of, scanned, answer_sound, answer_complete}
-use Rattle.sql_meaning.proofs.Edits.{deleted, edited_shaped}
+use Rattle.sql_meaning.proofs.Edits.{deleted, edited_shaped, set_table}
 
 -- ---- two tables with the same rows are one
 
@@ -46,18 +46,6 @@ same_rows (x ∷ xs) (y ∷ ys) p q a b =
     ap₂ ◌∷◌ first (same_rows xs ys p.1 q.1
     (λ r h. elim (a r (inr h)) [ inl e ↦ absurd (past x xs p.0 r h (e ∙ sym first)) | inr k ↦ k ])
     (λ r h. elim (b r (inr h)) [ inl e ↦ absurd (past y ys q.0 r h (e ∙ first)) | inr k ↦ k ]))
-
--- ---- rows that keep their rowids stay in their order
-
-below_set : (f : Row → Row) (x : Row) (rows : List Row) → rowid (f x) ≡ rowid x → ((r : Row) → Has rows r → rowid (f r) ≡ rowid r)
-    → AllByRecursion (λ r. value_cmp (rowid x) (rowid r) ≡ Less) rows → AllByRecursion (λ r. value_cmp (rowid (f x)) (rowid r) ≡ Less) (map f rows)
-below_set f x [] same each up = tt
-below_set f x (r ∷ rows) same each up =
-    (subst₂ (λ a b. value_cmp a b ≡ Less) (sym same) (sym (each r (inl refl))) up.0, below_set f x rows same (λ y there. each y (inr there)) up.1)
-
-set_table : (f : Row → Row) (rows : List Row) → ((r : Row) → Has rows r → rowid (f r) ≡ rowid r) → IsTable rows → IsTable (map f rows)
-set_table f [] each up = tt
-set_table f (r ∷ rows) each up = (below_set f r rows (each r (inl refl)) (λ y there. each y (inr there)) up.0, set_table f rows (λ y there. each y (inr there)) up.1)
 
 -- ---- the edit
 

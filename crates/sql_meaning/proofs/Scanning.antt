@@ -23,6 +23,7 @@ use Rattle.sqlite.specs.Order.{Row}
 use Rattle.sqlite.specs.Term.{Term, eval_all, holds, lit}
 use Rattle.sqlite.specs.Query.{Query, inner, end, IsAnswerAs, IsSureAnswer, matches_as, output, output_cmp, Output}
 use Rattle.sqlite.specs.Tree.{Trees}
+use Rattle.sqlite.specs.Collation.{Collation}
 use Rattle.sqlite_value.specs.declared.keys.Key.{Key}
 use Rattle.sqlite_schema.specs.declared.program.Program.{Program}
 use Rattle.sqlite_sql.specs.Program.{overlay}
@@ -43,6 +44,10 @@ scan tree test project order = record {
 
 abbrev pub as_program : Query → Program
 as_program q = record { lets = []; body = q }
+
+-- what a query that feeds an INSERT notes of its columns, which only DISTINCT reads
+abbrev pub noting : List Collation → Query → Query
+noting collations q = record q { collations = collations }
 
 -- the row passes WHERE
 abbrev pub passes : Row → List Term → Row → Bool
@@ -85,6 +90,11 @@ scanned db params tree test project order rows h =
       sorted = a.sorted;
       shown = a.shown;
     }
+
+pub unnoted : (collations : List Collation) (tree : ℕ) (test project : List Term) (order : List (Term × Key)) (db : Trees) (params : Row) (rows : List Row)
+    → IsSureAnswer (noting collations (scan tree test project order)) db params rows → IsSureAnswer (scan tree test project order) db params rows
+unnoted collations tree test project order db params rows h = λ lost. let a = h lost in
+    record { staged = a.staged; grouped = a.grouped; kept = a.kept; distinct = a.distinct; ordered = a.ordered; same = a.same; sorted = a.sorted; shown = a.shown }
 
 empty_permutation : {X : Type 0} (ys : List X) → IsPermutation [] ys → ys ≡ []
 empty_permutation [] h = refl

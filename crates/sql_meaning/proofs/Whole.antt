@@ -1,5 +1,5 @@
 -- A change leaves the database whole.
-use Rattle.std.proofs.Common.{◌≡◌, ◌≢◌, ◌==◌, if◌then◌else◌, true, false, ℕ, arith, List, [], ◌∷◌, sym, ap, subst, ◌∙◌, inl, inr}
+use Rattle.std.proofs.Common.{◌≡◌, ◌≢◌, ◌==◌, true, false, ℕ, arith, List, [], ◌∷◌, sym, ap, subst, ◌∙◌, inl, inr}
 use Rattle.std.specs.List.{AllByRecursion}
 use Rattle.std.proofs.lemmas.Bool.{cases_Bool, cases_lt}
 use Rattle.std.proofs.lemmas.Bool.Decides.{nat_tests}
@@ -14,17 +14,14 @@ use Rattle.sqlite_schema.specs.Rules.{Keeps}
 use Rattle.sqlite_schema.specs.declared.schema.Constraint.{Constraint}
 use Rattle.sqlite_trees.specs.View.{IsShaped}
 use Rattle.sqlite_trees.specs.declared.store.Shape.TheVariants as shape
-use Rattle.sql_meaning.specs.Whole.{IsWhole, AreShaped, IsBlank}
+use Rattle.sql_meaning.specs.Whole.{IsWhole, AreShaped, IsBlank, Sets}
+pub use Rattle.sql_meaning.specs.Whole.{with_rows}
 use Rattle.sql_meaning.proofs.Writing.{Changes}
 use Rattle.sql_meaning.proofs.Edits.{edited_shaped}
 
 -- each row of a whole database keeps each rule of its schema
 pub keeps_rule : {schema : Schema} {db : Database} → IsWhole schema db → (rule : Constraint) → Keeps rule schema db.trees
 keeps_rule {schema} {db} whole rule = subst (λ s. Keeps rule s db.trees) whole.schema_is (whole.listed.obeys.rules rule)
-
--- the trees with these rows in that one
-abbrev pub with_rows : ℕ → List Row → Trees → Trees
-with_rows tree rows db at = if at == tree then rows else db at
 
 one_or_other : (P : Type 0) (a b : ℕ) → (a ≡ b → P) → (a ≢ b → P) → P
 one_or_other P a b same other = elim (cases_lt a b) [
@@ -71,6 +68,13 @@ module _ (schema : Schema) (old new : State) (edit : Edit) (count : ℕ) (writte
 
   pub rows_after : AllByRecursion (λ t. new.now.trees t.tree ≡ with_rows edit.table.tree (edited old.now.trees edit) old.now.trees t.tree) schema.tables
   rows_after = are_put old.now.trees new.now.trees edit change.applies.rows schema.tables change.applies.tables
+
+  -- the table has what the edit makes of its rows
+  pub sets : (rows : List Row) → IsWhole schema old.now → edited old.now.trees edit ≡ rows → Sets schema edit.table.tree rows old.now new.now
+  sets rows whole is = record {
+    whole = whole_after whole.shaped;
+    given_rows = subst (λ rs. AllByRecursion (λ t. new.now.trees t.tree ≡ with_rows edit.table.tree rs old.now.trees t.tree) schema.tables) is rows_after;
+  }
 
 -- where no table has a row, the rows ascend
 pub blank_shaped : (schema : Schema) (db : Database) → IsBlank schema db → AreShaped schema db.trees

@@ -4,6 +4,7 @@ use Rattle.sqlite.specs.Order.{Row}
 use Rattle.sqlite.specs.Term.{Term}
 use Rattle.sqlite.specs.Table.{Table}
 use Rattle.sqlite.specs.Schema.{Schema}
+use Rattle.sqlite.specs.Source.{Source}
 use Rattle.sqlite.specs.Source.TheVariants.{Values}
 use Rattle.sqlite.specs.Command.{Command}
 use Rattle.sqlite.specs.Command.TheVariants.{Insert, Update, Delete}
@@ -12,7 +13,7 @@ use Rattle.sqlite.specs.Rowids.TheVariants.{Chosen, Given}
 use Rattle.sqlite.specs.Tree.{Trees}
 use Rattle.sqlite.specs.Does.{Tally, OnRows, Concludes, AtPlace}
 use Rattle.sqlite.specs.Rows.{Written, Task, Then, Inserts, Updates, Deletes, Edited, Counter, stamped, Counts, count_of, rowids_for, higher, last_id, Gives}
-use Rattle.sqlite.specs.Effect.{Database, IsDatabase, Answers, value_rows}
+use Rattle.sqlite.specs.Effect.{Database, IsDatabase, Answers, IsSource, value_rows}
 use Rattle.sqlite.specs.State.{State, mode_of, Executes}
 use Rattle.sqlite.specs.Listing.{understood}
 use Rattle.sqlite_schema.specs.declared.schema.Keys.TheVariants.{Enforced}
@@ -79,12 +80,12 @@ module _ (old : State) (schema : Schema) (table : Table) (params : Row) (idle : 
         ap (λ (it : Written). it.rows) (same_value next.2) ∙ ap (λ how. (edit_of db table [] how 0 rows).news) (rowids_chosen table (count_of counter.0) uncounted),
       )
 
-  wrote : (terms : List Term) (width : ℕ) (w : Written) → table.stamps.terms ≡ [] → Inserts (task_on old schema table params) (Values terms width) db (Ok w)
-      → Applies schema Enforced db (edit_of db table [] Chosen 0 (value_rows params width (length terms / width) terms)) w.trees × (w.rows ≡ (edit_of db table [] Chosen 0 (value_rows params width (length terms / width) terms)).news)
-  wrote terms width w unstamped h =
+  wrote : (from : Source) (w : Written) → table.stamps.terms ≡ [] → Inserts (task_on old schema table params) from db (Ok w)
+      → (rows : List Row) × IsSource (record { schema = schema; trees = db }) params from rows × Applies schema Enforced db (edit_of db table [] Chosen 0 rows) w.trees × (w.rows ≡ (edit_of db table [] Chosen 0 rows).news)
+  wrote from w unstamped h =
       let given = went h in
-      let rows : given.0 ≡ value_rows params width (length terms / width) terms = given.1.1 ∙ ap (λ p. value_rows p width (length terms / width) terms) (stamped_none table params unstamped) in
-      subst (λ all. Applies schema Enforced db (edit_of db table [] Chosen 0 all) w.trees × (w.rows ≡ (edit_of db table [] Chosen 0 all).news)) rows (put given.0 w given.2)
+      let made = put given.0 w given.2 in
+      (given.0, subst (λ p. IsSource (record { schema = schema; trees = db }) p from given.0) (stamped_none table params unstamped) given.1, made.0, made.1)
 
 finished : (old new : State) (schema : Schema) (table : Table) (params : Row) (tally : Tally) (edit : Edit) (w : Written) (count : ℕ) (rows : List Row)
     → Applies schema Enforced old.now.trees edit w.trees → w.rows ≡ rows → count ≡ unwrap_or tally.rows 0 → IsDatabase new.now
@@ -111,19 +112,24 @@ module _ (text : List ℕ) (params : Row) (old new : State) (schema : Schema) (h
       subst (λ o. AtPlace (λ t. OnRows (task_on old schema t params) (mode_of old) None command old.now.trees) o (Ok (tally, new.now))) is_table
       (subst (λ s. AtPlace (λ t. OnRows (task_on old s t params) (mode_of old) None command old.now.trees) (slice_get s.tables at) (Ok (tally, new.now))) has h)
 
+  -- INSERT: each row of the source, of VALUES or of a query, comes in
+  pub inserts_from : (from : Source) → Means schema text (Insert at from) → table.is_counted ≡ false → table.stamps.terms ≡ [] → (count : ℕ) → Executes text params old new (Ok count)
+      → (rows : List Row) × IsSource (record { schema = schema; trees = old.now.trees }) params from rows × Changes schema old new (edit_of old.now.trees table [] Chosen 0 rows) count (edit_of old.now.trees table [] Chosen 0 rows).news
+  inserts_from from means uncounted unstamped count h =
+      let command = Insert at from in
+      let w = runs_as text params old new schema has command means.is means.plain count h in
+      let ran : OnRows (task_on old schema table params) (mode_of old) None command old.now.trees (Ok (w.tally, new.now)) = on_table command w.tally w.changed in
+      let made = went ran in
+      let given = wrote old schema table params idle uncounted old.now.trees from made.0 unstamped made.1 in
+      let edit = edit_of old.now.trees table [] Chosen 0 given.0 in
+      (given.0, given.1, finished old new schema table params w.tally edit made.0 count edit.news given.2 given.3 w.counted w.sound made.2)
+
   pub inserts : (terms : List Term) (width : ℕ) → Means schema text (Insert at (Values terms width)) → table.is_counted ≡ false → table.stamps.terms ≡ []
       → (count : ℕ) → Executes text params old new (Ok count)
       → Changes schema old new (edit_of old.now.trees table [] Chosen 0 (value_rows params width (length terms / width) terms)) count (edit_of old.now.trees table [] Chosen 0 (value_rows params width (length terms / width) terms)).news
   inserts terms width means uncounted unstamped count h =
-      let command = Insert at (Values terms width) in
-      let w = runs_as text params old new schema has command means.is means.plain count h in
-      let ran : OnRows (task_on old schema table params) (mode_of old) None command old.now.trees (Ok (w.tally, new.now)) = on_table command w.tally w.changed in
-      let wrote = went ran in
-      let made = wrote_by wrote.0 wrote.1 in
-      finished old new schema table params w.tally (edit_of old.now.trees table [] Chosen 0 (value_rows params width (length terms / width) terms)) wrote.0 count (edit_of old.now.trees table [] Chosen 0 (value_rows params width (length terms / width) terms)).news made.0 made.1 w.counted w.sound wrote.2
-    where
-      wrote_by : (w : Written) → Inserts (task_on old schema table params) (Values terms width) old.now.trees (Ok w) → Applies schema Enforced old.now.trees (edit_of old.now.trees table [] Chosen 0 (value_rows params width (length terms / width) terms)) w.trees × (w.rows ≡ (edit_of old.now.trees table [] Chosen 0 (value_rows params width (length terms / width) terms)).news)
-      wrote_by w = wrote old schema table params idle uncounted old.now.trees terms width w unstamped
+      let given = inserts_from (Values terms width) means uncounted unstamped count h in
+      subst (λ rows. Changes schema old new (edit_of old.now.trees table [] Chosen 0 rows) count (edit_of old.now.trees table [] Chosen 0 rows).news) given.1.1 given.2
 
   -- UPDATE: each row that the query answers replaces the row whose rowid it has
   pub updates : (q : Program) → Means schema text (Update at q) → (count : ℕ) → Executes text params old new (Ok count)

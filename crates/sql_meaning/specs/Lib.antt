@@ -2,3 +2,4 @@ pub mod Columns
 pub mod Whole
 pub mod Inside
 pub mod Making
+pub mod Growing

@@ -1,0 +1,55 @@
+-- INSERT of what a query shows of each row of another table, as one edit: the rows come over in their order.
+use Rattle.std.proofs.Common.{◌≡◌, ℕ, List, [], map, slice_get, true, false, Some, Ok, refl, ap, ◌∙◌}
+use Rattle.std.specs.List.{AllByRecursion}
+use Rattle.sqlite.specs.Order.{Row}
+use Rattle.sqlite.specs.Term.{Term}
+use Rattle.sqlite.specs.Cast.{cast_row}
+use Rattle.sqlite.specs.Collation.{Collation}
+use Rattle.sqlite.specs.Table.{Table}
+use Rattle.sqlite.specs.Schema.{Schema}
+use Rattle.sqlite.specs.Tree.{rowid}
+use Rattle.sqlite.specs.Edit.{edit_of, edited}
+use Rattle.sqlite.specs.Rowids.TheVariants.{Chosen}
+use Rattle.sqlite.specs.Source.TheVariants.{Query}
+use Rattle.sqlite.specs.Command.TheVariants.{Insert}
+use Rattle.sqlite.specs.State.{State, Executes}
+use Rattle.sqlite_sql.specs.Program.{overlay}
+use Rattle.sqlite_trees.specs.View.{IsShaped}
+use Rattle.sqlite_trees.specs.declared.store.Shape.TheVariants as shape
+use Rattle.sqlite_rules.specs.Lists.{Has}
+use Rattle.sqlite_rules.proofs.ListLemmas.{all_from}
+use Rattle.sqlite_catalog.proofs.ListFacts.{filter_all}
+use Rattle.sqlite_keyed.proofs.ListLemmas.{ascending_weaker, map-map}
+use Rattle.sql_meaning.proofs.Writing.{Changes, IsIdle, Means, inserts_from}
+use Rattle.sql_meaning.proofs.Scanning.{scan, noting, as_program, passes, shown_of, scanned, unnoted, answers_rising}
+use Rattle.sql_meaning.proofs.RowidKeys.{rising}
+use Rattle.sql_meaning.proofs.Edits.{map_alike, set_shaped, filled}
+
+module _ (text : List ℕ) (params : Row) (old new : State) (schema : Schema) (has : old.now.schema ≡ schema) (at : ℕ) (table : Table)
+    (is_table : slice_get schema.tables at ≡ Some table) (idle : IsIdle schema) (uncounted : table.is_counted ≡ false) (unstamped : table.stamps.terms ≡ [])
+    (from : ℕ) (columns : List Term) (collations : List Collation) (moved : Row → Row) where
+  abbrev stored : List Row
+  stored = old.now.trees from
+
+  -- the table has each row of the other, as it was moved
+  pub record Copies (count : ℕ) : Type 0 where
+    pub answer : List Row
+    pub change : Changes schema old new (edit_of old.now.trees table [] Chosen 0 answer) count (edit_of old.now.trees table [] Chosen 0 answer).news
+    pub made : edited old.now.trees (edit_of old.now.trees table [] Chosen 0 answer) ≡ map moved stored
+
+  -- where it had no row, and each row keeps its rowid
+  pub copies : Means schema text (Insert at (Query (as_program (noting collations (scan from [] columns rising))))) → IsShaped shape.Table stored → old.now.trees table.tree ≡ []
+      → ((r : Row) → Has stored r → (cast_row table (shown_of params columns r) ≡ moved r) × (rowid (moved r) ≡ rowid r))
+      → (count : ℕ) → Executes text params old new (Ok count) → Copies count
+  copies means shaped none moves count h =
+      let db = old.now.trees in
+      let done = inserts_from text params old new schema has at table is_table idle (Query (as_program (noting collations (scan from [] columns rising)))) means uncounted unstamped count h in
+      let scans = scanned db params from [] columns rising done.0 (unnoted collations from [] columns rising (overlay db []) params done.0 done.1.answer) in
+      let every : AllByRecursion (λ r. passes params [] r ≡ true) stored = all_from _ stored (λ r there. refl) in
+      let up = ascending_weaker _ _ (λ a b lower. rw lower refl) stored shaped.0 in
+      let shows : done.0 ≡ map (shown_of params columns) stored =
+      answers_rising db params from [] columns rising done.0 (λ r. true) scans every up ∙ ap (map (shown_of params columns)) (filter_all (λ r. true) stored (λ r there. refl)) in
+      let cast_is : map (λ s. cast_row table s) done.0 ≡ map moved stored =
+      ap (map (λ s. cast_row table s)) shows ∙ map-map (λ s. cast_row table s) (shown_of params columns) stored
+      ∙ map_alike (λ r. cast_row table (shown_of params columns r)) moved stored (λ r there. (moves r there).0) in
+      record { answer = done.0; change = done.2; made = filled db table done.0 (map moved stored) none (set_shaped moved stored (λ r there. (moves r there).1) shaped) cast_is }
