@@ -1,0 +1,80 @@
+-- What an upgrade leaves, and what a crash may leave of it.
+use Rattle.std.proofs.Common.{◌≡◌, ℤ, Bool, true, false, None, Some, Ok, Err, Result, IsTrue, refl, sym, ap, subst, ◌∙◌, inl, inr}
+use Rattle.sqlite.specs.Effect.{Database}
+use Rattle.sqlite.specs.Tree.{Trees}
+use Rattle.sqlite.specs.Store.{Ghosts}
+use Rattle.sqlite.specs.Held.{Held, state}
+use Rattle.sqlite.specs.State.{HasCleanDisk, Survives}
+use Rattle.sqlite.proofs.StateLemmas.{survives_then}
+use Rattle.sqlite.proofs.Callers.{survives_begin}
+use Rattle.sql_meaning.specs.Inside.{Stays}
+use Rattle.sql_meaning.proofs.Inside.{survives_commit}
+use Rattle.std.specs.Prelude.{OnOk}
+use Rattle.office_tables.specs.Opening.{ShowsVersion}
+use Rattle.office_tables.specs.Faults.{IsFailure}
+use Rattle.office_tables.specs.declared.fault.TableFault.{TableFault}
+use Rattle.office_tables.specs.declared.fault.TableFault.TheVariants.{NotAnOffice, OtherVersion, Memory, Store}
+use Rattle.office_upgrade.specs.Rows.{AllRows, version_of}
+use Rattle.office_upgrade.specs.Versions.{BecomesAt, version_number}
+use Rattle.office_upgrade.specs.Upgrading.{IsOfficeOf, IsRenewed, IsUpgrade, IsLeftAt, HasUnknownVersion, renewed}
+use Rattle.office_upgrade.specs.declared.version.TableVersion.{TableVersion}
+use Rattle.office_upgrade.specs.declared.version.TableVersion.TheVariants.{Fifth}
+use Rattle.office_upgrade.proofs.Known.{tells_version}
+
+-- the version that was seen is that of the office
+pub same_version : (version : TableVersion) (rows : AllRows) (db : Database) (seen : ℤ) → IsOfficeOf version db rows → ShowsVersion db (Some seen) → seen ≡ version_number version
+same_version version rows db seen office shown =
+    let told : Some seen ≡ Some (version_number version) = sym (tells_version version db office.becomes.office.whole (Some seen) shown) ∙ ap (λ (r : AllRows). version_of r.tables) office.becomes.are ∙ office.told in cc
+
+pub is_renewed : (seen : ℤ) (old mid new : Database) → ShowsVersion old (Some seen) → mid ≡ old
+    → ((known : TableVersion) (rows : AllRows) → seen ≡ version_number known → BecomesAt known mid rows → BecomesAt Fifth new (renewed known rows)) → IsRenewed old new
+is_renewed seen old mid new shown same made version rows office =
+    made version rows (same_version version rows old seen office shown) (subst (λ d. BecomesAt version d rows) (sym same) office.becomes)
+
+-- what was done inside the transaction, as the caller sees it from before it began
+pub record IsTaken {S : Type 0} (g : Ghosts S) (first last : Held S) (taken : Result Bool TableFault) : Type 0 where
+  pub stays : Stays (state g (record first { in_transaction = true })) (state g last)
+  pub renewed : HasCleanDisk (state g last) → OnOk taken (IsRenewed (state g first).now (state g last).now)
+  pub same : HasCleanDisk (state g last) → taken ≡ Ok false → (state g last).now ≡ (state g first).now
+  pub not_office : HasCleanDisk (state g last) → taken ≡ Err NotAnOffice → ShowsVersion (state g first).now None
+  pub other_version : HasCleanDisk (state g last) → taken ≡ Err OtherVersion → HasUnknownVersion (state g first).now
+
+module _ {S : Type 0} (g : Ghosts S) (first last end : Held S) (taken : Result Bool TableFault) (it : IsTaken g first last taken) where
+  made_by : (done : Bool) → taken ≡ Ok done → HasCleanDisk (state g last) → IsRenewed (state g first).now (state g last).now
+  made_by done is clean = subst (λ r. OnOk r (IsRenewed (state g first).now (state g last).now)) is (it.renewed clean)
+
+  -- the commit, whether it was answered or not
+  pub commits : (done : Bool) → taken ≡ Ok done → Survives (state g last) (state g end) (λ db. db ≡ (state g last).now.trees) → Survives (state g first) (state g end) (IsUpgrade (state g first).now)
+  commits done is s = survives_commit g first (state g last) (state g end) it.stays (IsUpgrade (state g first).now) (λ clean db same version rows office. ((state g last).now, made_by done is clean version rows office, same)) s
+
+  -- after it a crash leaves the new tables alone
+  pub lasts : (done : Bool) → taken ≡ Ok done → HasCleanDisk (state g last) → IsTrue (state g end).is_open → (state g end).now ≡ (state g last).now → (state g end).committed ≡ (state g end).now
+      → ((db : Trees) → IsTrue (state g end).is_open → (state g end).may_leave db → db ≡ (state g end).committed.trees)
+      → (version : TableVersion) (rows : AllRows) → IsOfficeOf version (state g first).now rows → (left : Trees) → (state g end).may_leave left → IsLeftAt Fifth (renewed version rows) left
+  lasts done is clean was_opened now committed settled version rows office left may =
+      ((state g last).now, made_by done is clean version rows office, settled left was_opened may ∙ ap (λ (d : Database). d.trees) (committed ∙ now))
+
+  survives_back : Survives (state g last) (state g end) (λ _. ⊥) → Survives (state g first) (state g end) (λ _. ⊥)
+  survives_back s =
+      survives_begin g first (state g end) (λ _. ⊥) (survives_then (state g (record first { in_transaction = true })) (state g last) (state g end) _ _ (λ _. ⊥) (λ _ db none. none) (λ _ db none. none) it.stays.survives s)
+
+  -- where the tables were the newest, a crash leaves what was committed
+  pub lasts_back : taken ≡ Ok false → Survives (state g last) (state g end) (λ _. ⊥) → HasCleanDisk (state g last) → HasCleanDisk (state g end)
+      → ((db : Trees) → IsTrue (state g first).is_open → (state g first).may_leave db → db ≡ (state g first).committed.trees)
+      → (version : TableVersion) (rows : AllRows) → IsOfficeOf version (state g first).now rows → (state g first).committed ≡ (state g first).now → IsTrue (state g first).is_open
+      → (left : Trees) → (state g end).may_leave left → IsLeftAt Fifth (renewed version rows) left
+  lasts_back is s early clean settled version rows office committed is_open left may =
+      elim ((survives_back s).crash clean left may) [
+        | inl before ↦ ((state g last).now, made_by false is early version rows office, settled left is_open before ∙ ap (λ (d : Database). d.trees) (committed ∙ sym (it.same early is)))
+        | inr none ↦ absurd none
+      ]
+
+-- of an office of a known version nothing but a failure is said
+pub fails_only : (stopped : TableFault) (db : Database) → (stopped ≡ NotAnOffice → ShowsVersion db None) → (stopped ≡ OtherVersion → HasUnknownVersion db)
+    → (version : TableVersion) (rows : AllRows) → IsOfficeOf version db rows → IsFailure stopped
+fails_only NotAnOffice db none other version rows office =
+    absurd (let told : None ≡ Some (version_number version) = sym (tells_version version db office.becomes.office.whole None (none refl)) ∙ ap (λ (r : AllRows). version_of r.tables) office.becomes.are ∙ office.told in cc)
+fails_only OtherVersion db none other version rows office =
+    let it = other refl in absurd (it.1 version (same_version version rows db it.0 office it.2))
+fails_only Memory db none other version rows office = tt
+fails_only Store db none other version rows office = tt

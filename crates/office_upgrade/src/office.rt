@@ -1,0 +1,59 @@
+//! An office that is opened, whatever known version its tables have.
+
+ghost use Rattle.std.specs.Prelude.{Err, ◌≡◌, false, IfOk, IfErr, IsTrue};
+ghost use Rattle.sqlite.specs.State.{HasCleanDisk, Survives};
+ghost use Rattle.sqlite.specs.Held.{state};
+ghost use Rattle.office_tables.specs.Faults.{IsFailure};
+ghost use Rattle.office_tables.specs.Opening as opening;
+ghost use Rattle.office_tables.specs.Opening.{KeepsTables, HasVersion, has_office};
+ghost use Rattle.office_tables.specs.declared.fault.TableFault.TheVariants.{NotAnOffice, OtherVersion};
+ghost use Rattle.office_upgrade.specs.Rows.{AllRows};
+ghost use Rattle.office_upgrade.specs.Versions.{version_number};
+ghost use Rattle.office_upgrade.specs.Upgrading.{IsUpgrade, IsOfficeOf, IsLeftAt, Tells, Upgrades, UpgradeLasts, TakesUp, KeepsOffice, LeavesOffice, HasUnknownVersion};
+ghost use Rattle.office_upgrade.specs.declared.version.TableVersion.{TableVersion as Version};
+
+use crate::upgrading::upgrade;
+use office_tables::TableFault;
+use sqlite::{Alter, Connection};
+
+/// Takes a connection that shows an office of a known version, and makes its tables those of the newest version, in
+/// one transaction.
+///
+/// Fails with `NotAnOffice`, `OtherVersion`, `Memory` or `Store`, and hands the connection back; a refusal changes
+/// nothing.
+pub fn upgrade_office<S: Alter>(
+    mut conn: Connection<S>,
+) -> Result<Connection<S>, (Connection<S>, TableFault)>
+    requires outside { (state S.Store conn).in_transaction ≡ false }
+    ensures outside { IfOk result (λ office. (state S.Store office).in_transaction ≡ false) }
+    ensures was_open { IfOk result (λ office. HasCleanDisk (state S.Store office) → IsTrue (state S.Store conn).is_open) }
+    ensures upgraded { IfOk result (λ office. HasCleanDisk (state S.Store office) → Upgrades (state S.Store conn) (state S.Store office)) }
+    ensures found { IfOk result (λ office. HasCleanDisk (state S.Store office) → TakesUp (state S.Store conn) (state S.Store office)) }
+    ensures version { IfOk result (λ office. HasCleanDisk (state S.Store office) → IsTrue (has_office (state S.Store conn).now.schema)
+        × ((known : Version) × HasVersion (state S.Store conn).now (version_number known))) }
+    ensures survives { IfOk result (λ office. Survives (state S.Store conn) (state S.Store office) (IsUpgrade (state S.Store conn).now)) }
+    ensures leaves { IfOk result (λ office. HasCleanDisk (state S.Store office) → LeavesOffice (state S.Store conn) (state S.Store office)) }
+    ensures durable { IfOk result (λ office. HasCleanDisk (state S.Store office) → UpgradeLasts (state S.Store conn) (state S.Store office)) }
+
+    // A refusal leaves the office as it was.
+    ensures refused_outside { IfErr result (λ e. (state S.Store e.0).in_transaction ≡ false) }
+    ensures refused_same { IfErr result (λ e. HasCleanDisk (state S.Store e.0) → KeepsTables (state S.Store conn) (state S.Store e.0)) }
+    ensures refused { IfErr result (λ e. HasCleanDisk (state S.Store e.0) → KeepsOffice (state S.Store conn) (state S.Store e.0)) }
+    ensures refused_survives { IfErr result (λ e. Survives (state S.Store conn) (state S.Store e.0) (IsUpgrade (state S.Store conn).now)) }
+    ensures refused_leaves { IfErr result (λ e. HasCleanDisk (state S.Store e.0) → LeavesOffice (state S.Store conn) (state S.Store e.0)) }
+    ensures not_office { IfErr result (λ e. HasCleanDisk (state S.Store e.0) → e.1 ≡ NotAnOffice → opening.NotAnOffice (state S.Store conn).now) }
+    ensures other_version { IfErr result (λ e. HasCleanDisk (state S.Store e.0) → e.1 ≡ OtherVersion → HasUnknownVersion (state S.Store conn).now) }
+    ensures no_table { has_office (state S.Store conn).now.schema ≡ false → result ≡ Err (conn, NotAnOffice) }
+    ensures failure { IfErr result (λ e. HasCleanDisk (state S.Store e.0) → (version : Version) (rows : AllRows)
+        → IsOfficeOf version (state S.Store conn).now rows → IsFailure e.1) }
+    ensures left_failure { IfErr result (λ e. HasCleanDisk (state S.Store e.0) → IsTrue (state S.Store conn).is_open → (version : Version) (rows : AllRows)
+        → Tells version rows → IsLeftAt version rows (state S.Store conn).now.trees → IsFailure e.1) }
+{
+    // What the connection says of its state, and of its schema.
+    let _is_settled = conn.is_autocommit();
+    let _schema = conn.schema();
+    match upgrade(&mut conn) {
+        Ok(()) => Ok(conn),
+        Err(stopped) => Err((conn, stopped)),
+    }
+}

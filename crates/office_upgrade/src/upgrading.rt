@@ -1,0 +1,189 @@
+//! Opening a store whose office may have the tables of an older version.
+
+ghost use Rattle.std.specs.Prelude.{Ok, Err, ◌≡◌, ◌≢◌, true, false, MatchOption, IfOk, IfErr, OnOk, OnErr, IsTrue, Some, None};
+ghost use Rattle.sqlite.specs.State.{HasCleanDisk, Survives};
+ghost use Rattle.sqlite.specs.Held.{state};
+ghost use Rattle.sqlite.specs.Order.{Row as SqlRow, column};
+ghost use Rattle.sqlite.specs.Tree.{Trees};
+ghost use Rattle.sqlite.specs.declared.types.Value.TheVariants.{Int};
+ghost use Rattle.office_tables.specs.Faults.{IsFailure};
+ghost use Rattle.office_tables.specs.Calls.{CommitsNothing, Continues, ContinuesInTurn};
+ghost use Rattle.office_tables.specs.Opening.{shows_office, known_row, ShowsVersion, has_office, HasVersion, NotAnOffice, KeepsTables};
+ghost use Rattle.office_tables.specs.declared.fault.TableFault.TheVariants as fault;
+ghost use Rattle.office_upgrade.specs.Rows.{AllRows};
+ghost use Rattle.office_upgrade.specs.Versions.{BecomesAt, version_number};
+ghost use Rattle.office_upgrade.specs.Upgrading.{IsOfficeOf, IsUpgrade, IsRenewed, IsLeftAt, HasUnknownVersion, renewed};
+ghost use Rattle.office_upgrade.specs.declared.version.TableVersion.{TableVersion as Version};
+ghost use Rattle.office_upgrade.specs.declared.version.TableVersion.TheVariants.{Fifth};
+
+use crate::moving::{renew_fourth, renew_third};
+use crate::run::ask;
+use office_rows::is_limit;
+use office_tables::TableFault;
+use sqlite::types::ValueRef;
+use sqlite::{Alter, Connection, Row, Transaction};
+use sqlite_schema::schema::Schema;
+
+/// The version that a row tells, where it is the row of an office.
+fn version_in(row: &Row) -> Option<i64>
+    ensures { MatchOption result (shows_office row.now ≡ false) (λ version. (shows_office row.now ≡ true) × (column row.now 1 ≡ Int version)) }
+{
+    let Ok(ValueRef::Int(1)) = row.get_ref(0) else {
+        return None;
+    };
+    let Ok(ValueRef::Int(version)) = row.get_ref(1) else {
+        return None;
+    };
+    let Ok(ValueRef::Int(max_deposits)) = row.get_ref(2) else {
+        return None;
+    };
+    let Ok(ValueRef::Int(max_holds)) = row.get_ref(3) else {
+        return None;
+    };
+    if !is_limit(max_deposits) || !is_limit(max_holds) {
+        return None;
+    }
+    Some(version)
+}
+
+/// The version that the first row of an office among these tells.
+fn version_among(rows: &[Row]) -> Option<i64>
+    ensures { MatchOption result (known_row rows.now ≡ None)
+        (λ version. (row : SqlRow) × (known_row rows.now ≡ Some row) × (column row 1 ≡ Int version)) }
+{
+    for row in rows {
+        if let Some(version) = version_in(row) {
+            return Some(version);
+        }
+    }
+    None
+}
+
+/// The version that the table `office` shows.
+fn look<S: Alter>(tx: &mut Transaction<'_, S>) -> Result<Option<i64>, TableFault>
+    ensures same_reference { tx.new.conn.ghost_name ≡ tx.old.conn.ghost_name }
+    ensures stays { CommitsNothing S.Store tx.old.conn.now tx.new.conn.now }
+    ensures goes_on { Continues S.Store tx.old.conn.now tx.new.conn.now result }
+    ensures failure { IfErr result IsFailure }
+    ensures same { HasCleanDisk (state S.Store tx.new.conn.now) → OnOk result ((state S.Store tx.new.conn.now).now ≡ (state S.Store tx.old.conn.now).now) }
+    ensures shown { HasCleanDisk (state S.Store tx.new.conn.now) → IfOk result (ShowsVersion (state S.Store tx.old.conn.now).now) }
+{
+    let rows = ask(
+        tx,
+        "SELECT id, version, max_deposits, max_holds FROM office ORDER BY version",
+        &[],
+    )?;
+    Ok(version_among(&rows))
+}
+
+/// Whether the schema has a table `office` with its columns.
+fn has_office(schema: &Schema) -> bool
+    ensures { result ≡ has_office schema.now }
+{
+    let Some(at) = schema.table_named(b"office") else {
+        return false;
+    };
+    let Some(table) = schema.tables.as_slice().get(at) else {
+        return false;
+    };
+    table.column_named(b"id").is_some()
+        && table.column_named(b"version").is_some()
+        && table.column_named(b"max_deposits").is_some()
+        && table.column_named(b"max_holds").is_some()
+}
+
+/// Makes the tables of the newest version of those of this one, and says whether there was anything to do.
+fn renew<S: Alter>(tx: &mut Transaction<'_, S>, version: i64) -> Result<bool, TableFault>
+    ensures same_reference { tx.new.conn.ghost_name ≡ tx.old.conn.ghost_name }
+    ensures stays { CommitsNothing S.Store tx.old.conn.now tx.new.conn.now }
+    ensures goes_on { ContinuesInTurn S.Store tx.old.conn.now tx.new.conn.now result }
+    ensures renewed { HasCleanDisk (state S.Store tx.new.conn.now) → OnOk result ((known : Version) (rows : AllRows) → version ≡ version_number known
+        → BecomesAt known (state S.Store tx.old.conn.now).now rows → BecomesAt Fifth (state S.Store tx.new.conn.now).now (renewed known rows)) }
+    ensures known { OnOk result ((known : Version) × (version ≡ version_number known)) }
+    ensures newest { result ≡ Ok false → (version ≡ version_number Fifth) × (tx.new ≡ tx.old) }
+    ensures is_office { result ≢ Err fault.NotAnOffice }
+    ensures other { result ≡ Err fault.OtherVersion → (known : Version) → version ≢ version_number known }
+{
+    match version {
+        3 => {
+            renew_third(tx)?;
+            Ok(true)
+        }
+        4 => {
+            renew_fourth(tx)?;
+            Ok(true)
+        }
+        5 => Ok(false),
+        _ => Err(TableFault::OtherVersion),
+    }
+}
+
+/// Makes the tables of the newest version of those that are found, and says whether there was anything to do.
+fn take_over<S: Alter>(tx: &mut Transaction<'_, S>) -> Result<bool, TableFault>
+    ensures same_reference { tx.new.conn.ghost_name ≡ tx.old.conn.ghost_name }
+    ensures stays { CommitsNothing S.Store tx.old.conn.now tx.new.conn.now }
+    ensures goes_on { ContinuesInTurn S.Store tx.old.conn.now tx.new.conn.now result }
+    ensures was_open { HasCleanDisk (state S.Store tx.new.conn.now) → OnOk result (IsTrue (state S.Store tx.old.conn.now).is_open) }
+    ensures renewed { HasCleanDisk (state S.Store tx.new.conn.now) → OnOk result (IsRenewed (state S.Store tx.old.conn.now).now (state S.Store tx.new.conn.now).now) }
+    ensures same { HasCleanDisk (state S.Store tx.new.conn.now) → result ≡ Ok false → (state S.Store tx.new.conn.now).now ≡ (state S.Store tx.old.conn.now).now }
+    ensures known { HasCleanDisk (state S.Store tx.new.conn.now) → OnOk result ((known : Version) × HasVersion (state S.Store tx.old.conn.now).now (version_number known)) }
+    ensures not_office { HasCleanDisk (state S.Store tx.new.conn.now) → result ≡ Err fault.NotAnOffice → ShowsVersion (state S.Store tx.old.conn.now).now None }
+    ensures other_version { HasCleanDisk (state S.Store tx.new.conn.now) → result ≡ Err fault.OtherVersion → HasUnknownVersion (state S.Store tx.old.conn.now).now }
+{
+    match look(tx)? {
+        Some(version) => renew(tx, version),
+        None => Err(TableFault::NotAnOffice),
+    }
+}
+
+/// Makes the tables of the newest version of those of the office that is found, in one transaction. The newest
+/// version stays as it is.
+///
+/// Fails with `NotAnOffice` as opening does; with `OtherVersion` where the row of the office has none of the known
+/// versions; with `Memory` or `Store`. A refusal changes nothing.
+pub fn upgrade<S: Alter>(conn: &mut Connection<S>) -> Result<(), TableFault>
+    requires outside { (state S.Store conn.old).in_transaction ≡ false }
+    ensures outside { (state S.Store conn.new).in_transaction ≡ false }
+    // Whichever office was there, a crash leaves what it could leave before, or that office with the newest tables.
+    ensures survives { Survives (state S.Store conn.old) (state S.Store conn.new) (IsUpgrade (state S.Store conn.old).now) }
+    // That office stands with the newest tables, and all of it is committed.
+    ensures upgraded { HasCleanDisk (state S.Store conn.new) → OnOk result ((version : Version) (rows : AllRows) → IsOfficeOf version (state S.Store conn.old).now rows
+        → (state S.Store conn.old).committed ≡ (state S.Store conn.old).now → IsTrue (state S.Store conn.new).is_open
+        → BecomesAt Fifth (state S.Store conn.new).now (renewed version rows) × ((state S.Store conn.new).committed ≡ (state S.Store conn.new).now)) }
+    // And a crash leaves that alone.
+    ensures durable { HasCleanDisk (state S.Store conn.new) → OnOk result ((version : Version) (rows : AllRows) → IsOfficeOf version (state S.Store conn.old).now rows
+        → (state S.Store conn.old).committed ≡ (state S.Store conn.old).now → IsTrue (state S.Store conn.old).is_open
+        → (left : Trees) → (state S.Store conn.new).may_leave left → IsLeftAt Fifth (renewed version rows) left) }
+    ensures was_open { HasCleanDisk (state S.Store conn.new) → OnOk result (IsTrue (state S.Store conn.old).is_open) }
+    ensures refused { HasCleanDisk (state S.Store conn.new) → OnErr result (KeepsTables (state S.Store conn.old) (state S.Store conn.new)) }
+    ensures opened { HasCleanDisk (state S.Store conn.new) → OnOk result (IsTrue (has_office (state S.Store conn.old).now.schema)
+        × ((known : Version) × HasVersion (state S.Store conn.old).now (version_number known))) }
+    ensures not_office { HasCleanDisk (state S.Store conn.new) → result ≡ Err fault.NotAnOffice → NotAnOffice (state S.Store conn.old).now }
+    ensures other_version { HasCleanDisk (state S.Store conn.new) → result ≡ Err fault.OtherVersion → HasUnknownVersion (state S.Store conn.old).now }
+    ensures no_table { has_office (state S.Store conn.old).now.schema ≡ false → result ≡ Err fault.NotAnOffice }
+    ensures untouched { has_office (state S.Store conn.old).now.schema ≡ false → conn.new ≡ conn.old }
+    // Of an office of a known version it says neither.
+    ensures failure { HasCleanDisk (state S.Store conn.new) → IfErr result (λ stopped. (version : Version) (rows : AllRows)
+        → IsOfficeOf version (state S.Store conn.old).now rows → IsFailure stopped) }
+{
+    // What the connection says of its state.
+    let _is_settled = conn.is_autocommit();
+    if !has_office(conn.schema()) {
+        return Err(TableFault::NotAnOffice);
+    }
+    let mut tx = conn.transaction();
+    match take_over(&mut tx) {
+        Ok(true) => match tx.commit() {
+            Ok(()) => Ok(()),
+            Err(error) => Err(TableFault::from(error)),
+        },
+        Ok(false) => {
+            tx.rollback();
+            Ok(())
+        }
+        Err(stopped) => {
+            tx.rollback();
+            Err(stopped)
+        }
+    }
+}
