@@ -1,6 +1,6 @@
 //! Who asks, and what the rules say of it.
 
-ghost use Rattle.std.specs.Prelude.{◌≡◌, ◌↔◌, ℕ, pos, List, IfErr, IfOk, IfSome, IsTrue, OnOk, option_copied, option_map, string_bytes};
+ghost use Rattle.std.specs.Prelude.{◌≡◌, ◌↔◌, ◌⊎◌, ℕ, pos, List, IfErr, IfOk, IfSome, IsTrue, OnOk, option_copied, option_map, string_bytes};
 ghost use Rattle.jiff.specs.Words.{IsBetween};
 ghost use Rattle.office_core.specs.Bounds.{max_rules};
 ghost use Rattle.office_core.specs.Names.{is_name, IsName};
@@ -54,14 +54,11 @@ fn asks_as_rules_do(rule: &RuleRow) -> bool
 /// What a rule says of what it matches.
 fn effect_of(rule: &RuleRow) -> Result<Effect, TableFault>
     ensures effect { IfOk result (λ effect. effect_number effect ≡ rule.now.effect) }
-    ensures range { OnOk result (IsRuleRow rule.now) }
+    ensures range { OnOk result ((rule.now.effect ≡ pos 0) ⊎ (rule.now.effect ≡ pos 1)) }
     ensures told { IsRuleRow rule.now → IfErr result (λ fault. ⊥) }
     ensures failure { IfErr result IsFailure }
     ensures store { IfErr result (λ fault. fault ≡ TableFault.Store) }
 {
-    if !asks_as_rules_do(rule) {
-        return Err(TableFault::Store);
-    }
     match rule.effect {
         1 => Ok(Effect::Allow),
         0 => Ok(Effect::Deny),
@@ -77,7 +74,7 @@ fn decision_in(row: &RuleRow) -> Result<Decision, TableFault>
     ensures store { IfErr result (λ fault. fault ≡ TableFault.Store) }
 {
     match usize::try_from(row.place) {
-        Ok(rule) if 1 <= rule && rule <= MAX_RULES => Ok(Decision {
+        Ok(rule) if 1 <= rule && rule <= MAX_RULES && asks_as_rules_do(row) => Ok(Decision {
             rule,
             effect: effect_of(row)?,
         }),

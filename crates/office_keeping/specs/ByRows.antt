@@ -1,5 +1,5 @@
 -- How bags are deposited, and deposits destroyed, by the rows of an office, whichever rows they are.
-use Rattle.std.specs.Prelude.{◌≡◌, ⊤, ℕ, pos, not, List, Option, Some, None, option_map, is_none, Result, Ok, Err}
+use Rattle.std.specs.Prelude.{◌≡◌, ℕ, pos, not, List, Option, Some, None, option_map, is_none, Result, IfOk}
 use Rattle.jiff.specs.Types.{Date}
 use Rattle.office_core.specs.FirstOf.{answer_if}
 use Rattle.office_core.specs.Verdicts.{verdict_of}
@@ -78,22 +78,13 @@ pub record IsAskedOfDeposit (t : Tables) (asked : DepositAsked) (text : List ℕ
 
 -- ---- a deposit
 
--- a new deposit is given a due day by the years of its class
-abbrev pub FallsDueIn : Tables → List ℕ → Date → Result ℕ Refusal → Type 0
-FallsDueIn t class closed (Ok number) = (due : Due) × IsDueIn t class closed due
-FallsDueIn t class closed (Err why) = ⊤
-
--- each hold over a new deposit was released on a day of the office or not at all
-abbrev pub AreItsReleasesOnDays : Tables → List ℕ → Result ℕ Refusal → Type 0
-AreItsReleasesOnDays t collection (Ok number) = AreReleasedOnDays t number collection
-AreItsReleasesOnDays t collection (Err why) = ⊤
-
--- a bag is deposited unless a refusal stands
+-- a bag is deposited unless a refusal stands: a new deposit is given a due day by the years of its class, and each
+-- hold over it was released on a day of the office or not at all
 pub record IsDepositedIn (t : Tables) (asked : DepositAsked) (text : List ℕ) (given : Answer) : Type 0 where
   pub next : Result ℕ Refusal
   pub is_next : IsAskedOfDeposit t asked text next
-  pub due : FallsDueIn t asked.class asked.closed next
-  pub released : AreItsReleasesOnDays t asked.collection next
+  pub due : IfOk next (λ number. (due : Due) × IsDueIn t asked.class asked.closed due)
+  pub released : IfOk next (λ number. AreReleasedOnDays t number asked.collection)
   pub answer : given ≡ answer_of_number answers.Deposited next
 
 -- ---- a disposal
