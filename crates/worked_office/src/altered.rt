@@ -341,10 +341,10 @@ pub static DEPOSITS: [Part; 12] = [
 
 /// The due day of a deposit is another, none, or no day of a deposit; holds are counted that there are
 /// not, or those that there are aren't. A disposal and the due list rest on them, and a record on the due
-/// day: where a hold is counted and none is found, a disposal is answered by `Store`. A hold, and a
-/// release, rest on the count that they change. Day 20512 is 2026-02-28, and day 2932897 would be
-/// 10000-01-01.
-pub static DUES: [Part; 8] = [
+/// day: where a hold is counted and none is found, a disposal is answered by `Store`. A hold of a deposit, and
+/// its release, rest on the count that they change; one of a collection fails where a count would leave 64 bits.
+/// Day 20512 is 2026-02-28, and day 2932897 would be 10000-01-01.
+pub static DUES: [Part; 9] = [
     (
         "",
         "UPDATE deposit SET due = 20512 WHERE number = 1\n\
@@ -425,6 +425,14 @@ pub static DUES: [Part; 8] = [
          dispose 3 > Store\n\
          holds 3 > holds: 1 on deposit placed 2024-03-02 for Case 7;\n\
          due > due on 2040-01-01: 1",
+    ),
+    (
+        "",
+        "UPDATE deposit SET holds = 9223372036854775807 WHERE number = 1\n\
+         UPDATE deposit SET holds = 0 WHERE number = 1\n\
+         hold-all maps > Store\n\
+         holds 3 > holds: 1 on deposit placed 2024-03-02 for Case 7;\n\
+         due > due on 2030-01-01:",
     ),
 ];
 
