@@ -13,7 +13,7 @@ MATCH_RULE = (
 )
 DUE_ROW = "SELECT number, due, holds FROM deposit WHERE number = ?1"
 DUE_ROWS = (
-    "SELECT number, collection, class FROM deposit WHERE gone IS NULL AND holds = 0 AND due >= ?2"
+    "SELECT number, collection, class, due FROM deposit WHERE gone IS NULL AND holds = 0 AND due >= ?2"
     " AND due <= ?1 ORDER BY number"
 )
 HOLD = "SELECT number, deposit, collection, matter, placed, released FROM hold"
@@ -119,7 +119,7 @@ class Statements:
 
     def due(self, _number):
         role = self.role()
-        self.each_pair(role, "dispose", [row[1:] for row in self.rows(DUE_ROWS, DAY, -(2**63))])
+        self.each_pair(role, "dispose", [row[1:3] for row in self.rows(DUE_ROWS, DAY, -(2**63))])
 
     def hold_collection(self, _number):
         self.rows("SELECT name FROM collection WHERE name = ?1", "tax")
