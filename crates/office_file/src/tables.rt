@@ -4,10 +4,9 @@ use crate::outcome::Outcome;
 use office_tables::{
     CallerRow, HoldTarget, NewDeposit, RuleRow, TableFault, add_holds, by_accession, class_of,
     contents, create, deposit_row, deposit_rows, deposits_and_dues, drop_files, due_row, due_rows,
-    end_hold, file_of, files_of, has_collection, has_release_outside, hold_row, last_deposit,
-    last_hold, limits, live_holds, mark_gone, match_rule, open_tables, put_class, put_collection,
-    put_deposit, put_file, put_hold, put_marked, put_policy, role_of, rows_of_class, rules,
-    set_due, set_holds,
+    end_hold, file_of, files_of, has_collection, hold_row, last_deposit, last_hold, limits,
+    live_holds, mark_gone, match_rule, open_tables, put_class, put_collection, put_deposit,
+    put_file, put_hold, put_marked, put_policy, role_of, rows_of_class, rules, set_due, set_holds,
 };
 use sqlite::{Alter, Connection, Transaction};
 use std::alloc::{AllocError, Global};
@@ -227,7 +226,6 @@ fn read_again<S: Alter>(alloc: Global, tx: &mut Transaction<'_, S>) -> Result<bo
             && contents(alloc, tx)?.is_empty()
             && due_row(tx, 1)?.is_some_and(|kept| kept.due.is_none() && kept.holds == 1)
             && hold_row(tx, 1)?.is_some_and(|hold| hold.released == Some(102))
-            && has_release_outside(tx, 1, "maps", 103, 200)?
             && live_holds(alloc, tx, 1, "maps")?.as_slice() == [2].as_slice(),
     )
 }
