@@ -5,7 +5,6 @@ pub mod OptionWordLemmas
 pub mod PlainLineLemmas
 pub mod PlainWordLemmas
 pub mod PositionalLemmas
-pub mod ExplainWordLemmas
 pub mod ReplayWordLemmas
 pub mod ServeWordLemmas
 pub mod WordWalkLemmas

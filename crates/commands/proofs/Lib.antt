@@ -2,4 +2,3 @@ pub mod ExplainLemmas
 pub mod KnownLemmas
 pub mod CheckLemmas
 pub mod PolicyLemmas
-pub mod DayLemmas

@@ -16,7 +16,6 @@ fn scope_text(scope: Scope) -> &'static str
     match scope {
         Scope::Deposit => "deposit",
         Scope::Collection => "collection",
-        Scope::Class => "class",
     }
 }
 

@@ -49,10 +49,6 @@ pub(crate) enum Ask {
         collection: OwnedName,
         matter: OwnedMatter,
     },
-    HoldClass {
-        class: OwnedName,
-        matter: OwnedMatter,
-    },
     Release {
         hold: u32,
     },

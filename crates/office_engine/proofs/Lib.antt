@@ -5,4 +5,3 @@ pub mod Kept
 pub mod RunTurns
 pub mod Stopping
 pub mod OneAnswer
-pub mod Upgraded

@@ -1,3 +1,2 @@
 pub mod ByRows
 pub mod Keeping
-pub mod Upgrading

@@ -1,7 +1,5 @@
 pub mod Faults
 pub mod Schema
-pub mod Stored
-pub mod Versions
 pub mod Tables
 pub mod Calls
 pub mod Contents
@@ -11,4 +9,3 @@ pub mod Releases
 pub mod ShownPolicy
 pub mod Deposits
 pub mod Dues
-pub mod Moving

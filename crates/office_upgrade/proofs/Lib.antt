@@ -1,3 +1,9 @@
+pub mod Texts
+pub mod Holds
+pub mod Rules
+pub mod Versioned
+pub mod Known
 pub mod Ending
 pub mod Again
+pub mod Fresh
 pub mod Kept

@@ -12,7 +12,6 @@ mod listening;
 mod offices;
 mod peers;
 mod replays;
-mod sessions;
 mod stops;
 mod tests;
 

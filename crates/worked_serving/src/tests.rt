@@ -12,14 +12,7 @@ use worked_sessions::{MANY, empty};
 /// Each part is put to an office of its own, in files that don't stop, with caches that hold all
 /// pages.
 pub fn offices_are_served(rt: &HostRuntime) -> Result<(), Fail> {
-    let parts = [
-        Part::Requests,
-        Part::Records,
-        Part::Peers,
-        Part::Holds,
-        Part::Rules,
-    ];
-    for part in parts {
+    for part in [Part::Requests, Part::Records, Part::Peers] {
         let files = empty(rt.alloc(), MANY, MANY);
         let (visit, _) = perform(rt, files, Options::new(7), Task::Make(part))?;
         visit.ok_or("no office is served")?;

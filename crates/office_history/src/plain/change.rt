@@ -13,7 +13,6 @@ use std::marker::Model;
 pub enum Target {
     Deposit(u32),
     Collection(OwnedName),
-    Class(OwnedName),
 }
 
 /// A deposit, with its bag.
