@@ -27,7 +27,7 @@ done
 cp -r /usr/lib/systemd/system "$root/usr/lib/systemd/"
 verified=0
 for unit in "$root"/etc/systemd/system/*; do
-    said=$(systemd-analyze verify --man=no --recursive-errors=no --root="$root" "$(basename "$unit")" 2>&1) || true
+    said=$(systemd-analyze verify --recursive-errors=no --root="$root" "$(basename "$unit")" 2>&1) || true
     if [ -n "$said" ]; then
         echo "$(basename "$unit"): $said" >&2
         exit 1
@@ -68,11 +68,12 @@ ended "$office" || true
 
 said=$("$units/audit" backup anna)
 [ "$said" = "3 of 3 deposits of $(cat told) are valid" ] || { echo "all three are wanted, and this came: $said" >&2; exit 1; }
-# (of another caller, whom the policy doesn't let list)
+# A caller whom the policy doesn't let list has audited nothing.
 if "$units/audit" backup eve >said 2>&1; then
-    # an office lists nothing for a stranger, which no audit can tell from an empty one
-    [ "$(cat said)" = "0 of 0 deposits of $(cat told) are valid" ] || { cat said >&2; exit 1; }
+    echo "an audit of nothing ended well" >&2
+    exit 1
 fi
+[ "$(cat said)" = "no deposit of $(cat told) is listed for eve" ] || { cat said >&2; exit 1; }
 # Another byte in the content that the three share, in a backup made later.
 sleep 1
 "$units/backup" office.db backup >told
@@ -82,4 +83,4 @@ if "$units/audit" backup anna >said 2>wrong; then
     exit 1
 fi
 [ "$(grep -c '^deposit [123] .*B17' wrong)" = 3 ] || { cat wrong >&2; exit 1; }
-echo "$verified units, a backup and two audits"
+echo "$verified units, a backup and three audits"
