@@ -33,8 +33,9 @@ SET_HOLDS = "UPDATE deposit SET holds = ?2 WHERE number = ?1"
 # Each deposit's count of the live holds that cover it.
 COUNT_HOLDS = (
     "UPDATE deposit SET holds ="
-    " (SELECT count(*) FROM hold WHERE hold.deposit = deposit.number AND released IS NULL)"
-    " + (SELECT count(*) FROM hold WHERE hold.collection = deposit.collection AND released IS NULL)"
+    " (SELECT count(*) FROM hold_4 AS hold WHERE hold.deposit = deposit.number AND released IS NULL)"
+    " + (SELECT count(*) FROM hold_4 AS hold WHERE hold.collection = deposit.collection AND released IS NULL)"
+    " + (SELECT count(*) FROM hold_4 AS hold WHERE hold.class = deposit.class AND released IS NULL)"
 )
 EPOCH = datetime.date(1970, 1, 1)
 CONTENT_ALIKE = "SELECT id FROM content WHERE mark = ?1 AND bytes = ?2"
@@ -42,7 +43,7 @@ PUT_CONTENT = "INSERT INTO content (mark, size, bytes) VALUES (?1, ?2, ?3)"
 LAST_CONTENT = "SELECT id FROM content ORDER BY id DESC LIMIT 1"
 PUT_FILE = "INSERT INTO file (deposit, path, content) VALUES (?1, ?2, ?3)"
 PUT_HOLD = (
-    "INSERT INTO hold (number, deposit, collection, matter, placed, released)"
+    "INSERT INTO hold_4 (number, deposit, collection, matter, placed, released)"
     " VALUES (?1, ?2, ?3, ?4, ?5, ?6)"
 )
 CONTENT_ID = "SELECT content FROM file WHERE deposit = ?1 AND path = ?2"

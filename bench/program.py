@@ -113,7 +113,7 @@ class Mixed(Statements):
         found = self.rows(HOLD + " WHERE number = ?1", number)
         self.row(found[0][1])
         self.asker("release")
-        self.rows("UPDATE hold SET released = ?2 WHERE number = ?1", number, self.day)
+        self.rows("UPDATE hold_4 SET released = ?2 WHERE number = ?1", number, self.day)
         self.count(found[0][1], -1)
 
 

@@ -16,7 +16,7 @@ from office_file import PUT_DEPOSIT, SET_DUE, SET_HOLDS, opened, put_files
 
 BEGINNING = date(1970, 1, 1)
 LIVE_HOLDS = (
-    "SELECT count(*) FROM hold WHERE (deposit = ?1 OR collection = ?2) AND released IS NULL"
+    "SELECT count(*) FROM hold_4 WHERE (deposit = ?1 OR collection = ?2 OR class = ?3) AND released IS NULL"
 )
 
 
@@ -80,7 +80,7 @@ class Desk(BaseHTTPRequestHandler):
         """Whether the first rule that matches allows it."""
         role = self.rows("SELECT role FROM caller WHERE name = ?1", caller)
         asked = (role[0][0] if role else "stranger", action, collection, kind)
-        rules = self.rows("SELECT effect, role, action, collection, class FROM rule ORDER BY place")
+        rules = self.rows("SELECT effect, role, action, collection, class FROM rule_5 ORDER BY place")
         for effect, *wanted in rules:
             if all(want in ("*", it) for want, it in zip(wanted, asked)):
                 return effect == 1
@@ -140,7 +140,7 @@ class Desk(BaseHTTPRequestHandler):
         closed = number_of(asked["closed"])
         row = (number, asked["accession"], collection, kind, closed, self.server.day, count, size)
         due_day = due(closed, self.rows("SELECT years FROM class WHERE name = ?1", kind)[0][0])
-        live = self.rows(LIVE_HOLDS, number, collection)[0][0]
+        live = self.rows(LIVE_HOLDS, number, collection, kind)[0][0]
         self.rows(PUT_DEPOSIT, *row)
         self.rows(SET_DUE, number, None if due_day == "permanent" else number_of(due_day))
         self.rows(SET_HOLDS, number, live)

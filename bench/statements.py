@@ -8,28 +8,34 @@ from office_file import due_day, file_of, opened, put_files, put_row
 DEPOSIT = "SELECT number, accession, collection, class, closed, deposited, files, bytes, gone FROM deposit"
 BESIDE = DEPOSIT.replace("gone", "gone, due, holds") + " ORDER BY number"
 MATCH_RULE = (
-    "SELECT place, effect, role, action, collection, class FROM rule WHERE role IN ('*', ?1)"
-    " AND action IN ('*', ?2) AND collection IN ('*', ?3) AND class IN ('*', ?4) ORDER BY place LIMIT 1"
+    "SELECT place, effect, role, action, collection, class, first, last FROM rule_5 WHERE role IN ('*', ?1)"
+    " AND action IN ('*', ?2) AND collection IN ('*', ?3) AND class IN ('*', ?4) AND first <= ?5 AND last >= ?5"
+    " ORDER BY place LIMIT 1"
 )
 DUE_ROW = "SELECT number, due, holds FROM deposit WHERE number = ?1"
 DUE_ROWS = (
     "SELECT number, collection, class, due FROM deposit WHERE gone IS NULL AND holds = 0 AND due >= ?2"
     " AND due <= ?1 ORDER BY number"
 )
-HOLD = "SELECT number, deposit, collection, matter, placed, released FROM hold"
+HOLD = "SELECT number, deposit, collection, class, matter, placed, released FROM hold_4"
 HOLDS_ON_DEPOSIT = (
-    "SELECT number FROM hold WHERE deposit = ?1 AND released IS NULL ORDER BY number"
+    "SELECT number FROM hold_4 WHERE deposit = ?1 AND released IS NULL ORDER BY number"
 )
 HOLDS_ON_COLLECTION = (
-    "SELECT number FROM hold WHERE collection = ?2 AND deposit IS NOT ?1 AND released IS NULL"
+    "SELECT number FROM hold_4 WHERE collection = ?2 AND deposit IS NOT ?1 AND released IS NULL"
     " ORDER BY number"
 )
+HOLDS_ON_CLASS = (
+    "SELECT number FROM hold_4 WHERE class = ?3 AND deposit IS NOT ?1 AND collection IS NOT ?2"
+    " AND released IS NULL ORDER BY number"
+)
 RELEASED_ON_DEPOSIT = (
-    "SELECT number FROM hold WHERE deposit = ?1 AND (released < ?2 OR released > ?3) LIMIT 1"
+    "SELECT number FROM hold_4 WHERE deposit = ?1 AND (released < ?2 OR released > ?3) LIMIT 1"
 )
 RELEASED_ON_COLLECTION = (
-    "SELECT number FROM hold WHERE collection = ?1 AND (released < ?2 OR released > ?3) LIMIT 1"
+    "SELECT number FROM hold_4 WHERE collection = ?1 AND (released < ?2 OR released > ?3) LIMIT 1"
 )
+RELEASED_ON_CLASS = RELEASED_ON_COLLECTION.replace("collection", "class")
 LIMITS = "SELECT max_deposits, max_holds FROM office WHERE id = ?1"
 # The day of each request.
 DAY = 20_500
@@ -50,12 +56,12 @@ class Statements:
         return self.rows("SELECT role FROM caller WHERE name = ?1", "anna")[0][0]
 
     def asker(self, action, collection="tax", klass="y10"):
-        self.rows(MATCH_RULE, self.role(), action, collection, klass)
+        self.rows(MATCH_RULE, self.role(), action, collection, klass, DAY)
 
     def each_pair(self, role, action, pairs):
         """The rule, asked for once for each pair of collection and class."""
         for pair in dict.fromkeys(pairs):
-            self.rows(MATCH_RULE, role, action, *pair)
+            self.rows(MATCH_RULE, role, action, *pair, DAY)
 
     def row(self, number):
         return self.rows(DEPOSIT + " WHERE number = ?1", number)[0]
@@ -69,15 +75,17 @@ class Statements:
     def years(self):
         return self.rows("SELECT years FROM class WHERE name = ?1", "y10")[0][0]
 
-    def holds(self, number, collection):
+    def holds(self, number, collection, klass):
         self.rows(RELEASED_ON_DEPOSIT, number, *DAYS)
         self.rows(RELEASED_ON_COLLECTION, collection, *DAYS)
+        self.rows(RELEASED_ON_CLASS, klass, *DAYS)
         on_deposit = self.rows(HOLDS_ON_DEPOSIT, number)
-        return on_deposit + self.rows(HOLDS_ON_COLLECTION, number, collection)
+        on_collection = self.rows(HOLDS_ON_COLLECTION, number, collection)
+        return on_deposit + on_collection + self.rows(HOLDS_ON_CLASS, number, collection, klass)
 
     def next_hold(self):
         self.rows(LIMITS, 1)
-        return (self.rows("SELECT number FROM hold ORDER BY number DESC LIMIT 1") or [(0,)])[0][0] + 1
+        return (self.rows("SELECT number FROM hold_4 ORDER BY number DESC LIMIT 1") or [(0,)])[0][0] + 1
 
     def deposit(self, number, files=FILES):
         self.rows("SELECT name FROM collection WHERE name = ?1", "tax")
@@ -87,7 +95,7 @@ class Statements:
         self.rows(LIMITS, 1)
         self.rows("SELECT number FROM deposit ORDER BY number DESC LIMIT 1")
         self.years()
-        count = len(self.holds(number, "tax"))
+        count = len(self.holds(number, "tax", "y10"))
         put_row(self.conn, number)
         self.rows(SET_DUE, number, DUE)
         self.rows(SET_HOLDS, number, count)
@@ -102,11 +110,11 @@ class Statements:
         self.rows(DUE_ROW, number)
 
     def disposal(self, number):
-        collection = self.kept_row(number, "dispose")[2]
+        collection, klass = self.kept_row(number, "dispose")[2:4]
         if self.rows(DUE_ROW, number)[0][2] == 0:
             sys.exit("no hold")
         self.rows(LIMITS, 1)
-        self.rows(HOLD + " WHERE number = ?1", min(self.holds(number, collection))[0])
+        self.rows(HOLD + " WHERE number = ?1", min(self.holds(number, collection, klass))[0])
 
     def bag(self, number):
         self.kept_row(number, "download")

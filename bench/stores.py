@@ -27,11 +27,11 @@ USUAL = {"collection": "maps", "klass": "y10", "closed": 20_454, "gone": None, "
 def put_policy(conn, policy):
     """A policy in the place of the one that is there."""
     conn.execute("DELETE FROM caller")
-    conn.execute("DELETE FROM rule")
+    conn.execute("DELETE FROM rule_5")
     conn.executemany("INSERT INTO caller (name, role) VALUES (?1, ?2)", policy["callers"].items())
     for place, it in enumerate(policy["rule"], 1):
         row = (place, it["effect"] == "allow", it["role"], it["action"], it["collection"], it["class"])
-        conn.execute("INSERT INTO rule VALUES (?1, ?2, ?3, ?4, ?5, ?6)", row)
+        conn.execute("INSERT INTO rule_5 VALUES (?1, ?2, ?3, ?4, ?5, ?6, -25567, 2859848)", row)
 
 
 BAGS = [own_files(number) for number in range(1_000)]

@@ -244,11 +244,13 @@ BODIES = [
     (body(HOLD, '{"deposit":1,"matter":"Case 7"}'), none("deposit")),
     (body(HOLD, '{"deposit":9999999,"matter":"a"}'), none("deposit")),
     (body(HOLD, '{"matter":"Case 7","collection":"none"}'), none("collection")),
+    (body(HOLD, '{"matter":"Case 7","class":"none"}'), none("class")),
     (body(HOLD, '{"deposit":0,"matter":"a"}'), refused("BadBody")),
     (body(HOLD, '{"deposit":10000000,"matter":"a"}'), refused("BadBody")),
     (body(HOLD, '{"deposit":1}'), refused("BadBody")),
     (body(HOLD, '{"deposit":1,"matter":""}'), refused("BadBody")),
     (body(HOLD, '{"deposit":1,"collection":"maps","matter":"m"}'), refused("BadBody")),
+    (body(HOLD, '{"class":"y1","collection":"maps","matter":"m"}'), refused("BadBody")),
     ('POST /holds HTTP/1.1\n\n{"deposit":1,"matter":"Case 7"}', refused("BadBody")),
 ]
 
@@ -274,6 +276,7 @@ ONE, TWO = told(1, "A-1", "y1", "2025-02-28"), told(2, "A-2", "good", "permanent
 VALID = '{"bytes":3,"deposit":1,"files":1,"manifests":1,"valid":true,"version":"1.0"}'
 ON_ONE = '{"hold":1,"matter":"Case 7","on":"deposit","placed":"2024-03-02"}'
 ON_MAPS = '{"hold":2,"matter":"\\"\\\\/ \u00e9\u20ac\U0001f600\u0080\u009f\u2028","on":"collection","placed":"2024-03-02"}'
+ON_CLASS = '{"hold":3,"matter":"Case 9","on":"class","placed":"2024-03-02"}'
 
 # A request, its answer, and its day where that isn't the first.
 SESSION = [
@@ -307,11 +310,17 @@ SESSION = [
     (body(HOLD, '{"deposit":1,"matter":"Case 7"}'), (201, '{"hold":1}'), "2024-03-02"),
     (body(HOLD, '{"matter":"\\"\\\\\\/ \\u00e9\\u20ac\\ud83d\\ude00\\u0080\\u009f\\u2028","collection":"maps"}'), (201, '{"hold":2}'), "2024-03-02"),
     (asked("GET /deposits/1/holds"), (200, '{"holds":[%s,%s]}' % (ON_ONE, ON_MAPS)), "2024-03-02"),
+    (body(HOLD, '{"class":"y1","matter":"Case 9"}'), (201, '{"hold":3}'), "2024-03-02"),
+    (asked("GET /deposits/1/holds"), (200, '{"holds":[%s,%s,%s]}' % (ON_ONE, ON_MAPS, ON_CLASS)), "2024-03-02"),
+    (asked("GET /deposits/2/holds"), (200, '{"holds":[%s]}' % ON_MAPS), "2024-03-02"),
     (asked("DELETE /deposits/1"), (409, '{"error":"Held","hold":1}'), "2025-02-28"),
     (asked("DELETE /holds/1"), (200, '{"hold":1,"released":"2025-02-27"}'), "2025-02-27"),
     (asked("DELETE /holds/1"), (409, '{"day":"2025-02-27","error":"Released"}'), "2025-02-28"),
     (asked("DELETE /deposits/1"), (409, '{"error":"Held","hold":2}'), "2025-02-28"),
     (asked("DELETE /holds/2"), (200, '{"hold":2,"released":"2025-02-27"}'), "2025-02-27"),
+    (asked("GET /due"), due(day="2025-02-28"), "2025-02-28"),
+    (asked("DELETE /deposits/1"), (409, '{"error":"Held","hold":3}'), "2025-02-28"),
+    (asked("DELETE /holds/3"), (200, '{"hold":3,"released":"2025-02-27"}'), "2025-02-27"),
     (asked("DELETE /deposits/1"), (409, '{"due":"2025-02-28","error":"NotDue"}'), "2025-02-27"),
     (asked("DELETE /deposits/2"), (409, '{"due":"permanent","error":"NotDue"}'), "2025-02-28"),
     (asked("GET /due"), due(day="2025-02-27"), "2025-02-27"),
@@ -379,9 +388,15 @@ YEARS = [(body(CLASS, text), given) for text, given in [
 GONE = (410, '{"day":"2025-02-28","error":"Gone"}')
 HOLDS = [(body(HOLD, text), given, "2025-03-01") for text, given in [
     ('{"matter":"Case 7","deposit":1}', GONE),
-    ('{"collection":"tax","matter":"Case 7"}', (201, '{"hold":3}')),
-    ('{"matter":"Case 7","collection":"tax"}', (201, '{"hold":4}')),
-    ('{"deposit":1,"deposit":2,"matter":"a"}', (201, '{"hold":5}')),
+    ('{"collection":"tax","matter":"Case 7"}', (201, '{"hold":4}')),
+    ('{"matter":"Case 7","collection":"tax"}', (201, '{"hold":5}')),
+    ('{"deposit":1,"deposit":2,"matter":"a"}', (201, '{"hold":6}')),
+    ('{"class":"y10","matter":"Case 7"}', (201, '{"hold":7}')),
+    ('{"matter":"Case 7","class":"y10"}', (201, '{"hold":8}')),
+    ('{"class":"Y10","class":"y10","matter":"a"}', (201, '{"hold":9}')),
+    ('{"cl\\u0061ss":"y\\u00310","matter":"a"}', (201, '{"hold":10}')),
+    ('{"class":"y10","class":"none","matter":"a"}', none("class")),
+    ('{"class":"abcdefghijabcdefghijabcdefghijabcdefghij","matter":"a"}', none("class")),
     ('{"deposit":0,"matter":"a","deposit":3}', none("deposit")),
     ('{"deposit":3,"matter":"%s"}' % ("m" * 200), none("deposit")),
     ('{"deposit":3,"matter":"%s"}' % ("\u00e9" * 100), none("deposit")),
@@ -391,7 +406,13 @@ HOLDS = [(body(HOLD, text), given, "2025-03-01") for text, given in [
         '{"deposit":4294967297,"matter":"a"}', '{"deposit":-1,"matter":"a"}', '{"deposit":1.0,"matter":"a"}', '{"deposit":"1","matter":"a"}',
         '{"deposit":null,"matter":"a"}', '{"collection":1,"matter":"a"}', '{"collection":"Tax","matter":"a"}', '{"collection":"","matter":"a"}',
         '{"deposit":1,"matter":"a\\nb"}', '{"deposit":1,"matter":"a\\u007f"}', '{"deposit":1,"matter":7}',
-        '{"deposit":1,"matter":"a","placed":"2024-03-02"}', '{"class":"y10","matter":"a"}', '{"collection":"tax","deposit":1}', '{"matter":"a"}',
+        '{"deposit":1,"matter":"a","placed":"2024-03-02"}', '{"collection":"tax","deposit":1}', '{"matter":"a"}',
+        '{"class":"y10","collection":"tax","matter":"a"}', '{"class":"y10","deposit":2,"matter":"a"}',
+        '{"class":"y10","collection":"tax","deposit":2,"matter":"a"}', '{"collection":"tax","deposit":2,"class":"y10"}',
+        '{"class":"y10","collection":"tax"}', '{"class":"y10","deposit":2}', '{"class":"y10"}', '{"class":"y10","matter":""}',
+        '{"class":"y10","matter":null}', '{"class":"Y10","matter":"a"}', '{"class":"","matter":"a"}', '{"class":1,"matter":"a"}',
+        '{"class":null,"matter":"a"}', '{"class":["y10"],"matter":"a"}', '{"class":"abcdefghijabcdefghijabcdefghijabcdefghijk","matter":"a"}',
+        '{"Class":"y10","matter":"a"}', '{"classes":"y10","matter":"a"}', '{"class":"y10","matter":"a","placed":"2024-03-02"}',
         "{}", '[1,"a"]', ""]),
 ]]
 

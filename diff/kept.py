@@ -5,7 +5,7 @@
 - each content stands once, under its SHA-256 and with its size, and a file of a kept deposit has it; each kept
   deposit has as many payload files, and as many bytes of them, as its row says, and no other deposit has files;
 - each deposit, a destroyed one too, has the due day of its closing day and of the years of its class, and the
-  number of the live holds on it and on its collection.
+  number of the live holds on it, on its collection and on its class.
 
 It prints how many offices, deposits, contents and files there are, and how many files share a content.
 """
@@ -66,10 +66,10 @@ def faults_of_files(base):
 def faults_of_deposits(base):
     """What is wrong with due days and counts of holds."""
     years = dict(base.execute("SELECT name, years FROM class"))
-    holds = base.execute("SELECT deposit, collection FROM hold WHERE released IS NULL").fetchall()
+    holds = base.execute("SELECT deposit, collection, class FROM hold_4 WHERE released IS NULL").fetchall()
     for number, collection, name, closed, due, count in base.execute("SELECT number, collection, class, closed, due, holds FROM deposit"):
         wanted = due_day(closed, years[name])
-        covering = sum(on == number or over == collection for on, over in holds)
+        covering = sum(on == number or over == collection or of == name for on, over, of in holds)
         if due != wanted:
             yield f"deposit {number} has the due day {due}, and not {wanted}"
         if count != covering:
@@ -81,7 +81,7 @@ def look(file):
     base = sqlite3.connect(pathlib.Path(file).resolve().as_uri() + "?mode=ro", uri=True)
     faults = [*faults_of_contents(base), *faults_of_files(base), *faults_of_deposits(base)]
     version, = base.execute("SELECT version FROM office").fetchone()
-    if version != 3:
+    if version != 5:
         faults.append(f"the version is {version}")
     deposits, contents, files = (base.execute(f"SELECT count(*) FROM {table}").fetchone()[0] for table in ("deposit", "content", "file"))
     shared, = base.execute("SELECT count(*) FROM file WHERE content IN (SELECT content FROM file GROUP BY content HAVING count(*) > 1)").fetchone()

@@ -12,6 +12,9 @@ a due list, a release that the office refuses, and a request that the desk refus
 `memory`; and the same request to the same file, with all memory, is then answered as the second time that it
 is asked where it was answered, as the first time where 503 was answered for want of memory, else as one of both.
 
+`upgrade`: `depot ask` over a file with the tables of version 3, and of version 4: afterwards it has the rows from before or
+those that are wanted, and the next command with all memory upgrades it.
+
 `hear`: `office_file hear`, a deposit that `read_request` hears: all of its bag, or nothing is heard.
 
 `bags`, `office`, `tables`, `stored`: the cases of `crates/office_file`, each of which comes out as worked
@@ -27,6 +30,8 @@ import shutil
 import subprocess
 import sys
 import tempfile
+
+import upgrade as stores
 
 TOP = pathlib.Path(__file__).resolve().parent.parent
 DEPOT = os.environ.get("DEPOT", str(TOP / "crates/depot/out/depot-program"))
@@ -249,6 +254,34 @@ def ask(library, first, last):
     return refused
 
 
+def upgrade(library, first, last):
+    """An upgrade of a small store of each version."""
+    refused = 0
+    with tempfile.TemporaryDirectory() as room:
+        kept, used = pathlib.Path(room, "kept"), pathlib.Path(room, "used")
+        for version in (3, 4):
+            kept.mkdir()
+            stores.make(kept / "office.db", version, deposits=4, each=2, rules=3)
+            before = stores.rows(str(kept / "office.db"))[1]
+            wanted = stores.upgraded(version, before)
+            for number in range(first, last + 1):
+                shutil.copytree(kept, used)
+                store = str(used / "office.db")
+                was_refused = run(library, number, [DEPOT, "ask", store, stores.DAY], b"")[1]
+                found = stores.rows(store)[1]
+                again = run(library, 0, [DEPOT, "ask", store, stores.DAY], b"")[0]
+                upgraded = stores.rows(store)[1]
+                shutil.rmtree(used)
+                if not was_refused:
+                    break
+                if found not in (before, wanted) or again.returncode != 0 or upgraded != wanted:
+                    sys.exit(f"upgrade from version {version}, allocation {number}: {stores.differs(found, wanted)}")
+                refused += 1
+            shutil.rmtree(kept)
+    print(f"upgrade: from 2 versions, {refused} allocations refused", flush=True)
+    return refused
+
+
 def hear(library, first, last):
     """A deposit that is heard alone, by `read_request`."""
     bag = (TOP / "examples/bag-a.bagset").read_bytes()
@@ -301,7 +334,7 @@ def cases(group):
 
 
 # Each group gives how many allocations were refused.
-GROUPS = {"desk": desk, "ask": ask, "hear": hear, **{it: cases(it) for it in ("bags", "office", "tables", "stored")}}
+GROUPS = {"desk": desk, "ask": ask, "upgrade": upgrade, "hear": hear, **{it: cases(it) for it in ("bags", "office", "tables", "stored")}}
 
 
 def main():

@@ -12,3 +12,8 @@ CREATE INDEX hold_collection ON hold (collection);
 CREATE INDEX file_content ON file (content);
 CREATE INDEX content_mark ON content (mark);
 CREATE INDEX deposit_due ON deposit (due);
+CREATE TABLE hold_4 (number INTEGER PRIMARY KEY, deposit INTEGER, collection TEXT, class TEXT, matter TEXT NOT NULL, placed INTEGER NOT NULL, released INTEGER) STRICT;
+CREATE INDEX hold_4_deposit ON hold_4 (deposit);
+CREATE INDEX hold_4_collection ON hold_4 (collection);
+CREATE INDEX hold_4_class ON hold_4 (class);
+CREATE TABLE rule_5 (place INTEGER PRIMARY KEY, effect INTEGER NOT NULL, role TEXT NOT NULL, action TEXT NOT NULL, collection TEXT NOT NULL, class TEXT NOT NULL, first INTEGER NOT NULL, last INTEGER NOT NULL) STRICT;

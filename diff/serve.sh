@@ -70,7 +70,18 @@ all() {
     asks anna 409 '{"day":"2024-03-01","error":"Released"}' /holds/1 -X DELETE
     asks anna 404 '{"error":"NoSuch","what":"hold"}' /holds/9 -X DELETE
     asks anna 201 '{"hold":2}' /holds -d '{"deposit":2,"matter":"Case 8"}'
+    asks anna 201 '{"hold":3}' /holds -d '{"class":"kept","matter":"Case 9"}'
+    asks anna 200 '{"holds":[{"hold":3,"matter":"Case 9","on":"class","placed":"2024-03-01"}]}' /deposits/4/holds
+    asks anna 200 '{"holds":[{"hold":2,"matter":"Case 8","on":"deposit","placed":"2024-03-01"}]}' /deposits/2/holds
+    asks anna 409 '{"error":"Held","hold":3}' /deposits/4 -X DELETE
     asks anna 409 '{"error":"Full"}' /holds -d '{"deposit":2,"matter":"Case 9"}'
+    asks anna 409 '{"error":"Full"}' /holds -d '{"class":"kept","matter":"Case 9"}'
+    asks anna 404 '{"error":"NoSuch","what":"class"}' /holds -d '{"class":"none","matter":"Case 9"}'
+    asks eve 404 '{"error":"NoSuch","what":"class"}' /holds -d '{"class":"none","matter":"Case 9"}'
+    asks eve 403 '{"error":"Denied","rule":"default"}' /holds -d '{"class":"kept","matter":"Case 9"}'
+    asks eve 403 '{"error":"Denied","rule":"default"}' /holds/3 -X DELETE
+    asks anna 200 '{"hold":3,"released":"2024-03-01"}' /holds/3 -X DELETE
+    asks anna 200 '{"holds":[]}' /deposits/4/holds
     asks anna 200 '{"day":"2024-03-01","deposits":[1]}' /due
     asks anna 200 "$(cat "$bag")"$'\n' /deposits/1/bag
     asks anna 200 abc /deposits/1/files/data/a
@@ -89,6 +100,10 @@ all() {
     asks anna '405 GET, POST' '{"error":"Method"}' /deposits -X DELETE
     asks anna 400 '{"error":"BadQuery"}' '/due?a=b'
     asks anna 400 '{"error":"BadBody"}' /classes/y1 -X PUT -d '{}'
+    asks anna 400 '{"error":"BadBody"}' /holds -d '{"class":"kept","collection":"maps","matter":"Case 9"}'
+    asks anna 400 '{"error":"BadBody"}' /holds -d '{"class":"kept","deposit":2,"matter":"Case 9"}'
+    asks anna 400 '{"error":"BadBody"}' /holds -d '{"class":"Kept","matter":"Case 9"}'
+    asks anna 400 '{"error":"BadBody"}' /holds -d '{"class":"kept"}'
     asks anna 400 '{"error":"Chunked"}' /classes/y1 -X PUT -H 'Transfer-Encoding: chunked' -d '{}'
     asks anna 400 '{"error":"BadLength"}' /due -H 'Content-Length: x'
     asks anna 413 '{"error":"TooLarge"}' /due -H 'Content-Length: 16777217'
@@ -244,7 +259,7 @@ starved() {
 
 "$program" policy "$store" "$policy" >"$folder/installed"
 # Limits that are met soon, and a class whose years no request can write.
-sqlite3 "$store" "UPDATE office SET max_deposits = 5, max_holds = 2; INSERT INTO class VALUES ('odd', 300)"
+sqlite3 "$store" "UPDATE office SET max_deposits = 5, max_holds = 3; INSERT INTO class VALUES ('odd', 300)"
 cases=()
 count=$(declare -f all | grep -c '^ *asks ')
 serve "$count" "$store"

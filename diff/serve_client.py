@@ -42,9 +42,9 @@ COUNTED = {
     "destroyed deposits": "deposit WHERE gone IS NOT NULL",
     "files": "file",
     "contents": "content",
-    "live holds": "hold WHERE released IS NULL",
-    "released holds": "hold WHERE released IS NOT NULL",
-    "rules": "rule",
+    "live holds": "hold_4 WHERE released IS NULL",
+    "released holds": "hold_4 WHERE released IS NOT NULL",
+    "rules": "rule_5",
     "callers": "caller",
 }
 

@@ -14,9 +14,10 @@ PLACES = {"{manifest}": "NAME", "{path}": "PATH", "{line}": "LINE", "{offset}": 
 CODE = re.compile(r"\((?:[A-Z]+\d* )?([A-Z]+\d*)\)$")
 
 
-# Whether a text is a sentence of a fault, of a file that is no form, or of a caller whom no policy lists.
+# Whether a text is a sentence of a fault, of a file that is no form, of a caller whom no policy lists, or of
+# an option that is missing.
 def is_sentence(text):
-    return bool(CODE.search(text) or text.startswith(("this ", "the caller CALLER ")))
+    return bool(CODE.search(text) or text.startswith(("this ", "the caller CALLER ", "the option --day DAY ")))
 
 
 coded = set()

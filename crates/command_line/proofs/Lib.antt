@@ -5,6 +5,7 @@ pub mod OptionWordLemmas
 pub mod PlainLineLemmas
 pub mod PlainWordLemmas
 pub mod PositionalLemmas
+pub mod ExplainWordLemmas
 pub mod ReplayWordLemmas
 pub mod ServeWordLemmas
 pub mod WordWalkLemmas

@@ -4,7 +4,7 @@ use Rattle.std.specs.Str.Parse.{digits_value}
 use Rattle.clap.specs.Words.{Text}
 use Rattle.jiff.specs.Types.{Date}
 use Rattle.office_core.specs.Days.{day_text}
-use Rattle.command_line.specs.Lines.{Asks, Finds, HasValues, IsDayText, IsNameOrNone, Writes, name_word, subcommand_of, values_for, words_of}
+use Rattle.command_line.specs.Lines.{Asks, Finds, FindsDay, HasValues, IsDayText, IsNameOrNone, Writes, name_word, subcommand_of, values_for, with_day, words_of}
 use Rattle.command_line.specs.declared.line.Line.{Line}
 use Rattle.command_line.specs.declared.line.Line.TheVariants as lines
 use Rattle.command_line.specs.declared.subcommand.Subcommand.{Subcommand}
@@ -21,13 +21,17 @@ abbrev replay_words : Option Text → Text → List Text
 replay_words None store = codes "replay" ∷ store ∷ []
 replay_words (Some policy) store = codes "replay" ∷ codes "--policy" ∷ policy ∷ store ∷ []
 
+abbrev explain_words : Option Text → List Text → List Text
+explain_words None words = codes "explain" ∷ words
+explain_words (Some day) words = codes "explain" ∷ codes "--day" ∷ day ∷ words
+
 abbrev written : Subcommand → (Text → Option Text) → List Text
 written Check values = codes "check" ∷ text_at values (codes "FILE") ∷ []
 written Pack values = codes "pack" ∷ text_at values (codes "DIR") ∷ text_at values (codes "FILE") ∷ []
 written Unpack values = codes "unpack" ∷ text_at values (codes "FILE") ∷ text_at values (codes "DIR") ∷ []
-written Explain values =
-    codes "explain" ∷ text_at values (codes "POLICY") ∷ text_at values (codes "CALLER") ∷ text_at values (codes "ACTION") ∷ text_at values (codes "COLLECTION")
-    ∷ text_at values (codes "CLASS") ∷ []
+written Explain values = explain_words (values (codes "DAY")) (
+    text_at values (codes "POLICY") ∷ text_at values (codes "CALLER") ∷ text_at values (codes "ACTION") ∷ text_at values (codes "COLLECTION")
+    ∷ text_at values (codes "CLASS") ∷ [])
 written Policy values = codes "policy" ∷ text_at values (codes "STORE") ∷ text_at values (codes "POLICY") ∷ []
 written Ask values = codes "ask" ∷ text_at values (codes "STORE") ∷ text_at values (codes "DAY") ∷ []
 written Replay values = replay_words (values (codes "POLICY")) (text_at values (codes "STORE"))
@@ -57,6 +61,12 @@ same_replay : (policy : Option Text) (values : Text → Option Text) (store : Te
     → replay_words policy store ≡ written Replay values
 same_replay policy values store with same = ap₂ replay_words (sym with) same
 
+same_explain : (day : Option Date) (values : Text → Option Text) (words : List Text) → FindsDay values (codes "DAY") day
+    → codes "explain" ∷ with_day day words ≡ explain_words (values (codes "DAY")) words
+same_explain None values words is = ap (λ (d : Option Text). explain_words d words) (sym is)
+same_explain (Some day) values words found =
+    ap (λ (t : Text). explain_words (Some t) words) (sym found.2.1) ∙ ap (λ (d : Option Text). explain_words d words) (sym found.1)
+
 is_written : (values : Text → Option Text) (line : Line) → HasValues values line → words_of line ≡ written (subcommand_of line) values
 is_written values (lines.Check file) is = cons _ _ _ _ refl (cons _ _ _ _ (same_text values (codes "FILE") file.now is) refl)
 is_written values (lines.Pack folder file) is =
@@ -64,7 +74,8 @@ is_written values (lines.Pack folder file) is =
 is_written values (lines.Unpack file folder) is =
     cons _ _ _ _ refl (cons _ _ _ _ (same_text values (codes "FILE") file.now is.0) (cons _ _ _ _ (same_text values (codes "DIR") folder.now is.1) refl))
 is_written values (lines.Explain asked) is =
-    cons _ _ _ _ refl
+    same_explain asked.day values _ is.day
+    ∙ ap (explain_words (values (codes "DAY")))
     (cons _ _ _ _ (same_text values (codes "POLICY") asked.policy.now is.policy)
     (cons _ _ _ _ (same_text values (codes "CALLER") asked.caller.now is.caller)
     (cons _ _ _ _ (same_text values (codes "ACTION") _ is.action)

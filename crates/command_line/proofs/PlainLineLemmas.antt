@@ -1,19 +1,22 @@
 -- Lines that are written in plain words.
-use Rattle.std.proofs.Common.{◌≡◌, ◌⊎◌, ◌∷◌, ◌∙◌, ◌^◌, ◌<◌, ◌==◌, [], ℕ, List, Some, None, Result, Ok, Err, IfErr, ap, arith, codes, decimal, false, inl, inr, refl, subst, sym, true, unwrap_or}
+use Rattle.std.proofs.Common.{◌≡◌, ◌⊎◌, ◌∷◌, ◌∙◌, ◌^◌, ◌<◌, ◌==◌, [], ℕ, List, Option, Some, None, Result, Ok, Err, IfErr, IfSome, ap, arith, codes, decimal, false, inl, inr, refl, subst, sym, true, unwrap_or}
 use Rattle.std.specs.Str.Parse.{IsNumeral}
 use Rattle.std.proofs.lemmas.Bool.{false≢true}
 use Rattle.std.proofs.lemmas.Fmt.{decimal_is_IsNumeral}
 use Rattle.clap.specs.Words.{Text}
 use Rattle.jiff.specs.Types.{Date}
+use Rattle.commands.specs.declared.asked.Asked.{Asked}
 use Rattle.office_core.specs.Actions.{action_text}
-use Rattle.office_core.specs.Days.{day_text}
+use Rattle.office_core.specs.Days.{IsDay, day_text}
 use Rattle.office_core.specs.declared.action.Action.{Action}
 use Rattle.office_core.specs.declared.action.Action.TheVariants.{Class, Collection, Deposit, List as Listing, Record, Holds, Download, Audit, Hold, Release, Dispose}
-use Rattle.command_line.specs.Lines.{AskNothing, Asks, IsPlainLine, IsPlainWord, Writes, command_of_subcommand, name_word, words_of}
+use Rattle.command_line.specs.Lines.{AskNothing, Asks, FindsDay, IsPlainLine, IsPlainQuestion, IsPlainWord, IsQuestion, Writes, command_of_subcommand, name_word, values_for, with_day, words_of}
 use Rattle.command_line.specs.declared.line.Line.{Line}
 use Rattle.command_line.specs.declared.line.Line.TheVariants as lines
+use Rattle.command_line.specs.declared.subcommand.Subcommand.TheVariants.{Explain}
 use Rattle.command_line.specs.declared.use_fault.UseFault.{UseFault}
 use Rattle.command_line.specs.declared.use_fault.UseFault.TheVariants.{Memory}
+use Rattle.command_line.proofs.ExplainWordLemmas.{explain_with_finds}
 use Rattle.command_line.proofs.PositionalLemmas.{ask_finds, check_finds, explain_finds, pack_finds, policy_finds, replay_finds, unpack_finds}
 use Rattle.command_line.proofs.ReplayWordLemmas.{replay_with_finds}
 use Rattle.command_line.proofs.ServeWordLemmas.{serve_finds}
@@ -57,6 +60,48 @@ action_is_plain Dispose = starts_otherwise _ _ refl
 
 -- ---- lines
 
+-- the words after the day that ask for what `explain` is asked
+abbrev asked_words : Asked → List Text
+asked_words asked = asked.policy.now ∷ asked.caller.now ∷ action_text asked.action ∷ name_word asked.collection ∷ name_word asked.class ∷ []
+
+-- the values in them, beside the day
+asked_values : (values : Text → Option Text) (asked : Asked) → IsPlainQuestion asked → FindsDay values (codes "DAY") asked.day
+    → values (codes "POLICY") ≡ Some asked.policy.now → values (codes "CALLER") ≡ Some asked.caller.now → values (codes "ACTION") ≡ Some (action_text asked.action)
+    → values (codes "COLLECTION") ≡ Some (name_word asked.collection) → values (codes "CLASS") ≡ Some (name_word asked.class) → IsQuestion values asked
+asked_values values asked plain day policy caller action collection class = record {
+  day = day;
+  policy = policy;
+  caller = caller;
+  action = action;
+  collection = (name_word asked.collection, collection, (plain.collection.1, refl));
+  class = (name_word asked.class, class, (plain.class.1, refl));
+}
+
+-- with a day before them, or with none
+plain_question : (asked : Asked) (day : Option Date) → asked.day ≡ day → IsPlainQuestion asked → Asks (codes "explain" ∷ with_day day (asked_words asked)) (lines.Explain asked)
+unfolding command_of_subcommand
+plain_question asked None is plain =
+    let has = explain_finds asked.policy.now asked.caller.now (action_text asked.action) (name_word asked.collection) (name_word asked.class)
+    plain.policy plain.caller (action_is_plain asked.action) plain.collection.0 plain.class.0 in
+    let values : Text → Option Text = values_for Explain (codes "explain" ∷ asked_words asked) in
+    let day = subst (FindsDay values (codes "DAY")) (sym is) (has.at (codes "DAY")) in
+    record {
+      first = refl;
+      taken = has.taken;
+      values = asked_values values asked plain day (has.at (codes "POLICY")) (has.at (codes "CALLER")) (has.at (codes "ACTION")) (has.at (codes "COLLECTION")) (has.at (codes "CLASS"));
+    }
+plain_question asked (Some date) is plain =
+    let has = explain_with_finds (day_text date) asked.policy.now asked.caller.now (action_text asked.action) (name_word asked.collection) (name_word asked.class)
+    (day_is_plain date) plain.policy plain.caller (action_is_plain asked.action) plain.collection.0 plain.class.0 in
+    let values : Text → Option Text = values_for Explain (codes "explain" ∷ codes "--day" ∷ day_text date ∷ asked_words asked) in
+    let is_day = subst (λ (d : Option Date). IfSome d IsDay) is plain.day in
+    let day = subst (FindsDay values (codes "DAY")) (sym is) (day_text date, has.at (codes "DAY"), (is_day, refl)) in
+    record {
+      first = refl;
+      taken = has.taken;
+      values = asked_values values asked plain day (has.at (codes "POLICY")) (has.at (codes "CALLER")) (has.at (codes "ACTION")) (has.at (codes "COLLECTION")) (has.at (codes "CLASS"));
+    }
+
 -- the words that are written for a line ask for it
 plain_line : (line : Line) → IsPlainLine line → Asks (words_of line) line
 unfolding command_of_subcommand
@@ -69,20 +114,7 @@ plain_line (lines.Pack folder file) plain =
 plain_line (lines.Unpack file folder) plain =
     let has = unpack_finds file.now folder.now plain.0 plain.1 in
     record { first = refl; taken = has.taken; values = (has.at (codes "FILE"), has.at (codes "DIR")) }
-plain_line (lines.Explain asked) plain =
-    let has = explain_finds asked.policy.now asked.caller.now (action_text asked.action) (name_word asked.collection) (name_word asked.class)
-    plain.policy plain.caller (action_is_plain asked.action) plain.collection.0 plain.class.0 in
-    record {
-      first = refl;
-      taken = has.taken;
-      values = record {
-        policy = has.at (codes "POLICY");
-        caller = has.at (codes "CALLER");
-        action = has.at (codes "ACTION");
-        collection = (name_word asked.collection, has.at (codes "COLLECTION"), (plain.collection.1, refl));
-        class = (name_word asked.class, has.at (codes "CLASS"), (plain.class.1, refl));
-      };
-    }
+plain_line (lines.Explain asked) plain = plain_question asked asked.day refl plain
 plain_line (lines.Policy store policy) plain =
     let has = policy_finds store.now policy.now plain.0 plain.1 in
     record { first = refl; taken = has.taken; values = (has.at (codes "STORE"), has.at (codes "POLICY")) }

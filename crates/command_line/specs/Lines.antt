@@ -1,5 +1,5 @@
 -- The subcommands, what clap is asked of each, and the line that words ask for.
-use Rattle.std.specs.Prelude.{◌≡◌, ◌⊎◌, ◌≤◌, ◌∷◌, [], ℕ, List, None, Option, Some, codes, decimal, fold, option_map, slice_get, true, unwrap_or}
+use Rattle.std.specs.Prelude.{◌≡◌, ◌⊎◌, ◌≤◌, ◌∷◌, [], ℕ, IfSome, List, None, Option, Some, codes, decimal, fold, option_map, slice_get, true, unwrap_or}
 use Rattle.std.specs.Str.Parse.{IsNumeral, digits_value}
 use Rattle.clap.specs.Words.{App, Rule, Text, fault_of, first_of, matches_of, new_app, new_rule, with_rule}
 use Rattle.clap.specs.declared.builder.ArgAction.TheVariants.{Set}
@@ -43,7 +43,7 @@ rules_of Check = wanted_word (codes "FILE") ∷ []
 rules_of Pack = wanted_word (codes "DIR") ∷ wanted_word (codes "FILE") ∷ []
 rules_of Unpack = wanted_word (codes "FILE") ∷ wanted_word (codes "DIR") ∷ []
 rules_of Explain =
-    wanted_word (codes "POLICY") ∷ wanted_word (codes "CALLER") ∷ wanted_word (codes "ACTION") ∷ wanted_word (codes "COLLECTION") ∷ wanted_word (codes "CLASS") ∷ []
+    free_option (codes "day") (codes "DAY") ∷ wanted_word (codes "POLICY") ∷ wanted_word (codes "CALLER") ∷ wanted_word (codes "ACTION") ∷ wanted_word (codes "COLLECTION") ∷ wanted_word (codes "CLASS") ∷ []
 rules_of Policy = wanted_word (codes "STORE") ∷ wanted_word (codes "POLICY") ∷ []
 rules_of Ask = wanted_word (codes "STORE") ∷ wanted_word (codes "DAY") ∷ []
 rules_of Replay = free_option (codes "policy") (codes "POLICY") ∷ wanted_word (codes "STORE") ∷ []
@@ -106,8 +106,14 @@ IsWritable (Some name) = IsName name × (name ≡ codes "-" → ⊥)
 abbrev pub IsNameOrNone : Text → Option Text → Type 0
 IsNameOrNone text name = IsWritable name × (text ≡ name_word name)
 
+-- under this name there is this day, or nothing
+abbrev pub FindsDay : (Text → Option Text) → Text → Option Date → Type 0
+FindsDay values name None = values name ≡ None
+FindsDay values name (Some day) = Finds values name (λ text. IsDayText text day)
+
 -- what `explain` is asked
 pub record IsQuestion (values : Text → Option Text) (asked : Asked) : Type 0 where
+  pub day : FindsDay values (codes "DAY") asked.day
   pub policy : values (codes "POLICY") ≡ Some asked.policy.now
   pub caller : values (codes "CALLER") ≡ Some asked.caller.now
   pub action : values (codes "ACTION") ≡ Some (action_text asked.action)
@@ -163,13 +169,18 @@ AskNothing words = (line : Line) → Asks words line → ⊥
 
 -- ---- plain words
 
+-- the option that names a day, where there is one, before these words
+abbrev pub with_day : Option Date → List Text → List Text
+with_day None words = words
+with_day (Some day) words = codes "--day" ∷ day_text day ∷ words
+
 -- the words that are written for a line
 abbrev pub words_of : Line → List Text
 words_of (lines.Check file) = codes "check" ∷ file.now ∷ []
 words_of (lines.Pack folder file) = codes "pack" ∷ folder.now ∷ file.now ∷ []
 words_of (lines.Unpack file folder) = codes "unpack" ∷ file.now ∷ folder.now ∷ []
 words_of (lines.Explain asked) =
-    codes "explain" ∷ asked.policy.now ∷ asked.caller.now ∷ action_text asked.action ∷ name_word asked.collection ∷ name_word asked.class ∷ []
+    codes "explain" ∷ with_day asked.day (asked.policy.now ∷ asked.caller.now ∷ action_text asked.action ∷ name_word asked.collection ∷ name_word asked.class ∷ [])
 words_of (lines.Policy store policy) = codes "policy" ∷ store.now ∷ policy.now ∷ []
 words_of (lines.Ask store day) = codes "ask" ∷ store.now ∷ day_text day ∷ []
 words_of (lines.Replay None store) = codes "replay" ∷ store.now ∷ []
@@ -183,6 +194,7 @@ IsPlainWord word = (word ≡ codes "-") ⊎ (slice_get word 0 ≡ Some 45 → �
 
 -- the question can be written in plain words
 pub record IsPlainQuestion (asked : Asked) : Type 0 where
+  pub day : IfSome asked.day IsDay
   pub policy : IsPlainWord asked.policy.now
   pub caller : IsPlainWord asked.caller.now
   pub collection : IsPlainWord (name_word asked.collection) × IsWritable asked.collection

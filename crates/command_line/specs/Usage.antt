@@ -19,7 +19,7 @@ NamesNone words = (subcommand : Subcommand) → Names words subcommand → ⊥
 abbrev pub usage_lines : List ℕ
 usage_lines =
     codes "Usage: depot check FILE" ++ 10 ∷ codes "       depot pack DIR FILE" ++ 10 ∷ codes "       depot unpack FILE DIR" ++ 10
-    ∷ codes "       depot explain POLICY CALLER ACTION COLLECTION CLASS" ++ 10 ∷ codes "       depot policy STORE POLICY" ++ 10
+    ∷ codes "       depot explain [--day DAY] POLICY CALLER ACTION COLLECTION CLASS" ++ 10 ∷ codes "       depot policy STORE POLICY" ++ 10
     ∷ codes "       depot ask STORE DAY" ++ 10 ∷ codes "       depot replay [--policy POLICY] STORE" ++ 10
     ∷ codes "       depot serve --port P --count N STORE DAY" ++ 10 ∷ []
 

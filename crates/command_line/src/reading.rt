@@ -20,7 +20,7 @@ use std::alloc::Global;
 const USES: &str = "Usage: depot check FILE
        depot pack DIR FILE
        depot unpack FILE DIR
-       depot explain POLICY CALLER ACTION COLLECTION CLASS
+       depot explain [--day DAY] POLICY CALLER ACTION COLLECTION CLASS
        depot policy STORE POLICY
        depot ask STORE DAY
        depot replay [--policy POLICY] STORE

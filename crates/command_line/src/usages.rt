@@ -82,6 +82,12 @@ static EXPLAIN: Usage<'static> = Usage {
     about: "Says what a policy allows, and which of its rules decides.",
     arguments: &[
         Argument {
+            name: "DAY",
+            option: Some("day"),
+            is_required: false,
+            help: "the day of the question, such as 2024-03-01; a policy of version 2 needs one",
+        },
+        Argument {
             name: "POLICY",
             option: None,
             is_required: true,

@@ -1,8 +1,10 @@
 //! The line that the values of a subcommand's words make.
 
-ghost use Rattle.std.specs.Prelude.{◌≡◌, ◌⊎◌, ℕ, IfErr, IfOk, List, MatchOption, Option};
+ghost use Rattle.std.specs.Prelude.{◌≡◌, ◌⊎◌, ℕ, IfErr, IfOk, List, MatchOption, Option, codes};
+ghost use Rattle.clap.specs.Words.{first_value, found_of};
+ghost use Rattle.jiff.specs.Types.{Date};
 ghost use Rattle.command_line.specs.CommandBuilding.{HasNeeded, IsLineOf, MakesNoLine};
-ghost use Rattle.command_line.specs.Lines.{IsNameOrNone};
+ghost use Rattle.command_line.specs.Lines.{FindsDay, IsNameOrNone};
 ghost use Rattle.command_line.specs.declared.subcommand.Subcommand.TheVariants.{Ask, Check, Explain, Pack, Policy, Replay, Serve, Unpack};
 ghost use Rattle.command_line.specs.declared.use_fault.UseFault.TheVariants.{Memory};
 
@@ -77,13 +79,31 @@ fn name_or_none<'a>(text: &'a str) -> Option<Option<Name<'a>>>
     }
 }
 
-/// `explain POLICY CALLER ACTION COLLECTION CLASS`.
+/// The day that stands under `DAY`, or none where nothing does; nothing where a text stands there that
+/// is no day.
+fn day_or_none(matches: &ArgMatches<'_>) -> Option<Option<Day>>
+    ensures { let finds = FindsDay (first_value (found_of matches.now)) (codes "DAY") in
+        MatchOption result ((day : Option Date) → finds day → ⊥) finds }
+{
+    let Some(text) = matches.get_str("DAY") else {
+        return Some(None);
+    };
+    match Day::read(text) {
+        Some(day) => Some(Some(day)),
+        None => None,
+    }
+}
+
+/// `explain [--day DAY] POLICY CALLER ACTION COLLECTION CLASS`.
 fn explain_line<'a>(alloc: Global, matches: &ArgMatches<'a>) -> Result<Line<'a>, UseFault>
     requires { HasNeeded Explain matches.now }
     ensures line { IfOk result (IsLineOf Explain matches.now) }
     ensures refused { IfErr result (λ fault.
         (fault ≡ Memory) ⊎ MakesNoLine Explain matches.now) }
 {
+    let Some(day) = day_or_none(matches) else {
+        return Err(fault_of_use(alloc, DAY));
+    };
     let Some(action) = Action::read(word_at(matches, "ACTION")) else {
         return Err(fault_of_use(alloc, ACTION));
     };
@@ -99,6 +119,7 @@ fn explain_line<'a>(alloc: Global, matches: &ArgMatches<'a>) -> Result<Line<'a>,
         action,
         collection,
         class,
+        day,
     }))
 }
 

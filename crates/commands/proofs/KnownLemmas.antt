@@ -6,8 +6,3 @@ pub of_known : (known : Option (List ℕ)) (bytes : List ℕ) (part : List ℕ �
     → IfSome known (λ given. P (part given))
 of_known None bytes part P read holds = tt
 of_known (Some given) bytes part P read holds = subst P read holds
-
--- what follows from what holds of them
-pub known_so : (known : Option (List ℕ)) (P Q : List ℕ → Type 0) → ((bytes : List ℕ) → P bytes → Q bytes) → IfSome known P → IfSome known Q
-known_so None P Q follows holds = tt
-known_so (Some given) P Q follows holds = follows given holds

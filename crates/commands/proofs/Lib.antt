@@ -2,3 +2,4 @@ pub mod ExplainLemmas
 pub mod KnownLemmas
 pub mod CheckLemmas
 pub mod PolicyLemmas
+pub mod DayLemmas

@@ -1,10 +1,12 @@
 -- What `explain` prints of a policy file, what it tells standard error, and how it ends.
-use Rattle.std.specs.Prelude.{◌≡◌, ◌⊎◌, ℕ, Bool, List, [], ◌∷◌, ◌++◌, Option, Some, None, Ok, Err, IsUtf8, bytes_eq, codes, decimal, if◌then◌else◌}
+use Rattle.std.specs.Prelude.{◌≡◌, ◌⊎◌, ℕ, Bool, true, false, List, [], ◌∷◌, ◌++◌, Option, Some, None, Ok, Err, IsUtf8, bytes_eq, codes, decimal, if◌then◌else◌}
 use Rattle.std.specs.List.{list_any}
-use Rattle.fault_words.specs.FaultWords.{unlisted_words}
+use Rattle.fault_words.specs.FaultWords.{missing_day_words, unlisted_words}
 use Rattle.fault_words.specs.PolicyReasons.{IsPolicyReason}
+use Rattle.jiff.specs.Types.{Date}
+use Rattle.office_core.specs.Days.{IsDay}
 use Rattle.office_core.specs.FaultTexts.{policy_fault_text}
-use Rattle.office_core.specs.Policies.{PolicyValue, policy_of, role_of}
+use Rattle.office_core.specs.Policies.{PolicyValue, may_have_days, policy_of, role_of}
 use Rattle.office_core.specs.Rules.{Question, decision_of}
 use Rattle.office_core.specs.declared.policy_fault.PolicyFault.{PolicyFault}
 use Rattle.office_core.specs.declared.policy_fault.PolicyFault.TheVariants.{NotToml}
@@ -13,7 +15,7 @@ use Rattle.office_core.specs.declared.rule.Effect.{Effect}
 use Rattle.office_core.specs.declared.rule.Effect.TheVariants.{Allow, Deny}
 use Rattle.commands.specs.Printing.{Prints}
 use Rattle.commands.specs.declared.asked.Asked.{Asked}
-use Rattle.commands.specs.declared.ending.Ending.TheVariants.{Accepted, Refused}
+use Rattle.commands.specs.declared.ending.Ending.TheVariants.{Accepted, Misused, Refused}
 use Rattle.commands.specs.declared.outcome.Outcome.{Outcome}
 
 -- ---- the texts, each a line with its end
@@ -53,25 +55,33 @@ HasFault bytes fault = (¬ (IsUtf8 bytes) × (fault ≡ NotToml)) ⊎ (IsUtf8 by
 
 -- ---- which rule decides
 
+-- the question is asked on this day: on the one that is named, and on each where no rule of the policy may have days
+abbrev pub IsOnDay : List ℕ → Asked → Date → Type 0
+IsOnDay bytes asked day = IsDay day × ((asked.day ≡ Some day) ⊎ (may_have_days bytes ≡ false))
+
+-- a day is missing: none is named, and rules of the policy may have days
+abbrev pub WantsDay : List ℕ → Asked → Type 0
+WantsDay bytes asked = (asked.day ≡ None) × (may_have_days bytes ≡ true)
+
 -- what the rules are asked: the role is the one that the policy gives the caller
-abbrev pub question_on : PolicyValue → Asked → Question
-question_on policy asked =
-    record { role = role_of policy asked.caller.now; action = asked.action; collection = asked.collection; class = asked.class }
+abbrev pub question_on : PolicyValue → Asked → Date → Question
+question_on policy asked day =
+    record { role = role_of policy asked.caller.now; action = asked.action; collection = asked.collection; class = asked.class; day = day }
 
-abbrev pub decision_on : PolicyValue → Asked → Option Decision
-decision_on policy asked = decision_of policy.rules (question_on policy asked)
+abbrev pub decision_on : PolicyValue → Asked → Date → Option Decision
+decision_on policy asked day = decision_of policy.rules (question_on policy asked day)
 
--- the first rule that matches has this number, from 1, and allows
-abbrev pub IsAllowedBy : PolicyValue → Asked → ℕ → Type 0
-IsAllowedBy policy asked rule = decision_on policy asked ≡ Some (record { rule = rule; effect = Allow })
+-- on this day the first rule that matches has this number, from 1, and allows
+abbrev pub IsAllowedBy : PolicyValue → Asked → Date → ℕ → Type 0
+IsAllowedBy policy asked day rule = decision_on policy asked day ≡ Some (record { rule = rule; effect = Allow })
 
 -- or denies
-abbrev pub IsDeniedBy : PolicyValue → Asked → ℕ → Type 0
-IsDeniedBy policy asked rule = decision_on policy asked ≡ Some (record { rule = rule; effect = Deny })
+abbrev pub IsDeniedBy : PolicyValue → Asked → Date → ℕ → Type 0
+IsDeniedBy policy asked day rule = decision_on policy asked day ≡ Some (record { rule = rule; effect = Deny })
 
 -- no rule matches
-abbrev pub IsUndecided : PolicyValue → Asked → Type 0
-IsUndecided policy asked = decision_on policy asked ≡ None
+abbrev pub IsUndecided : PolicyValue → Asked → Date → Type 0
+IsUndecided policy asked day = decision_on policy asked day ≡ None
 
 -- ---- what is said
 
@@ -89,9 +99,14 @@ SaysDecision told (Some decision) outcome = SaysRule told decision.rule decision
 abbrev pub SaysBadPolicy : List ℕ → PolicyFault → Outcome → Type 0
 SaysBadPolicy bytes fault outcome = (reason : List ℕ) × IsPolicyReason bytes fault reason × Prints outcome (bad_policy_text fault) (Some reason) Refused
 
--- What is said of a file: the rule that decides, that none does, or the file's fault.
+-- what is said where a day is missing: nothing on standard output, and that it is missing
+abbrev pub SaysDayMissing : Outcome → Type 0
+SaysDayMissing outcome = Prints outcome [] (Some (missing_day_words ++ 10 ∷ [])) Misused
+
+-- What is said of a file: the rule that decides, that none does, that a day is missing, or the file's fault.
 pub data Explains (bytes : List ℕ) (asked : Asked) (outcome : Outcome) : Type 0 where
-  allowed : (policy : PolicyValue) (rule : ℕ) → Spells bytes policy → IsAllowedBy policy asked rule → Prints outcome (allow_text rule) (unlisted_line policy asked.caller.now) Accepted → Explains bytes asked outcome
-  denied : (policy : PolicyValue) (rule : ℕ) → Spells bytes policy → IsDeniedBy policy asked rule → Prints outcome (deny_text rule) (unlisted_line policy asked.caller.now) Refused → Explains bytes asked outcome
-  by_default : (policy : PolicyValue) → Spells bytes policy → IsUndecided policy asked → Prints outcome default_text (unlisted_line policy asked.caller.now) Refused → Explains bytes asked outcome
+  allowed : (policy : PolicyValue) (day : Date) (rule : ℕ) → Spells bytes policy → IsOnDay bytes asked day → IsAllowedBy policy asked day rule → Prints outcome (allow_text rule) (unlisted_line policy asked.caller.now) Accepted → Explains bytes asked outcome
+  denied : (policy : PolicyValue) (day : Date) (rule : ℕ) → Spells bytes policy → IsOnDay bytes asked day → IsDeniedBy policy asked day rule → Prints outcome (deny_text rule) (unlisted_line policy asked.caller.now) Refused → Explains bytes asked outcome
+  by_default : (policy : PolicyValue) (day : Date) → Spells bytes policy → IsOnDay bytes asked day → IsUndecided policy asked day → Prints outcome default_text (unlisted_line policy asked.caller.now) Refused → Explains bytes asked outcome
+  undated : (policy : PolicyValue) → Spells bytes policy → WantsDay bytes asked → SaysDayMissing outcome → Explains bytes asked outcome
   refused : (fault : PolicyFault) → HasFault bytes fault → SaysBadPolicy bytes fault outcome → Explains bytes asked outcome

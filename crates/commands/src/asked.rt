@@ -1,9 +1,9 @@
 //! What `explain` is asked.
 
-use office_core::{Action, Name};
+use office_core::{Action, Day, Name};
 
 /// What `explain` is asked: may that caller do that, in that collection and class, where there are
-/// such?
+/// such, on that day?
 #[derive(Drop)]
 pub struct Asked<'a> {
     /// The file of the policy.
@@ -13,4 +13,6 @@ pub struct Asked<'a> {
     pub action: Action,
     pub collection: Option<Name<'a>>,
     pub class: Option<Name<'a>>,
+    /// The day of the question, where one is named.
+    pub day: Option<Day>,
 }

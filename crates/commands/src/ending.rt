@@ -10,7 +10,7 @@ pub enum Ending {
     Accepted,
     /// The answer is no.
     Refused,
-    /// The words are no use of the program.
+    /// The words are no use of the program, or name no day where the policy needs one.
     Misused,
     /// A device or memory failed, and standard error was told so.
     Failed,

@@ -1,21 +1,22 @@
 //! What `explain` says of a policy file.
 
-ghost use Rattle.std.specs.Prelude.{◌≡◌, ℕ, IfOk, IfSome, List, Some, option_copied, option_map, string_bytes};
-ghost use Rattle.office_core.specs.Policies.{PolicyValue};
-ghost use Rattle.office_core.specs.Rules.{decision_of};
+ghost use Rattle.std.specs.Prelude.{◌≡◌, ℕ, IfOk, IfSome, IsUtf8, List, None, Some, option_copied, option_map, string_bytes};
+ghost use Rattle.jiff.specs.Types.{Date};
+ghost use Rattle.office_core.specs.Days.{IsDay};
+ghost use Rattle.office_core.specs.Policies.{PolicyValue, may_have_days};
 ghost use Rattle.office_core.specs.declared.policy_fault.PolicyFault.{PolicyFault};
 ghost use Rattle.commands.specs.Printing.{Prints};
-ghost use Rattle.commands.specs.Explaining.{Explains, HasFault, IsAllowedBy, IsDeniedBy, IsUndecided, SaysBadPolicy, SaysDecision, Spells, allow_text, bad_policy_text, deny_text, default_text, is_listed, question_on, unlisted_line};
-ghost use Rattle.commands.specs.PolicyFiles.{IsAllOf, IsRead};
+ghost use Rattle.commands.specs.Explaining.{Explains, HasFault, IsAllowedBy, IsDeniedBy, IsOnDay, IsUndecided, SaysBadPolicy, SaysDayMissing, SaysDecision, Spells, WantsDay, allow_text, bad_policy_text, decision_on, deny_text, default_text, is_listed, unlisted_line};
+ghost use Rattle.commands.specs.PolicyFiles.{IsAllOf};
 ghost use Rattle.commands.specs.declared.ending.Ending.TheVariants.{Accepted, Refused};
 
 use crate::asked::Asked;
 use crate::ending::Ending;
 use crate::outcome::Outcome;
-use crate::policy_file::{RefusedPolicy, policy_in, read_policy_from};
+use crate::policy_file::{RefusedPolicy, policy_in};
 use crate::trouble::Trouble;
-use fault_words::Unlisted;
-use office_core::{Ask, Decision, Effect, Name, Policy, decide};
+use fault_words::{Unlisted, missing_day_words};
+use office_core::{Ask, Day, Decision, Effect, Name, Policy, decide, may_have_days};
 use std::alloc::{AllocError, Global};
 use std::io::Read;
 
@@ -84,19 +85,83 @@ fn decision_outcome(
     }
 }
 
-/// What is said of a policy.
-fn policy_outcome(alloc: Global, policy: &Policy, asked: &Asked<'_>) -> Result<Outcome, AllocError>
-    ensures { IfOk result (SaysDecision (unlisted_line policy.now asked.now.caller.now)
-        (decision_of policy.now.rules (question_on policy.now asked.now))) }
+/// What is said of a policy on that day.
+fn policy_outcome(
+    alloc: Global,
+    policy: &Policy,
+    asked: &Asked<'_>,
+    day: Day,
+) -> Result<Outcome, AllocError>
+    ensures says { IfOk result (SaysDecision (unlisted_line policy.now asked.now.caller.now)
+        (decision_on policy.now asked.now day)) }
+    ensures day { IsDay day }
 {
+    let _date = day.date();
     let reason = unlisted_line(alloc, policy, asked.caller)?;
     let ask = Ask {
         role: policy.role_of(asked.caller),
         action: asked.action,
         collection: text_of(&asked.collection),
         class: text_of(&asked.class),
+        day,
     };
     decision_outcome(alloc, decide(policy.rules(), &ask), reason)
+}
+
+/// Whether the rules of the policy that the bytes are may have days.
+fn may_be_dated(alloc: Global, bytes: &[u8]) -> Result<bool, AllocError>
+    ensures { IsUtf8 bytes.now → IfOk result (λ may. may ≡ may_have_days bytes.now) }
+{
+    match str::from_utf8(bytes) {
+        Ok(text) => may_have_days(alloc, text),
+        Err(_) => Ok(false),
+    }
+}
+
+/// What is said where a day is missing.
+fn undated_outcome(alloc: Global) -> Result<Outcome, AllocError>
+    ensures { IfOk result SaysDayMissing }
+{
+    let words = missing_day_words();
+    Ok(Outcome {
+        text: String::new(alloc),
+        reason: Some(format!(in alloc; "{words}\n")?),
+        ending: Ending::Misused,
+    })
+}
+
+/// What is said of the policy that the bytes are, where no day is named. Where its rules have no days,
+/// it is the same on each.
+fn outcome_without_day(
+    alloc: Global,
+    bytes: &[u8],
+    policy: &Policy,
+    asked: &Asked<'_>,
+) -> Result<Outcome, AllocError>
+    requires text { Spells bytes.now policy.now }
+    requires no_day { asked.now.day ≡ None }
+    ensures { IfOk result (Explains bytes.now asked.now) }
+{
+    if may_be_dated(alloc, bytes)? {
+        return undated_outcome(alloc);
+    }
+    policy_outcome(alloc, policy, asked, Day::first())
+}
+
+/// What is said of the policy that the bytes are.
+fn spelled_outcome(
+    alloc: Global,
+    bytes: &[u8],
+    policy: &Policy,
+    asked: &Asked<'_>,
+) -> Result<Outcome, AllocError>
+    requires { Spells bytes.now policy.now }
+    ensures { IfOk result (Explains bytes.now asked.now) }
+{
+    match asked.day {
+        Some(day) => policy_outcome(alloc, policy, asked, day),
+        None => outcome_without_day(alloc, bytes, policy, asked),
+    }
 }
 
 /// What is said of a file that is no policy.
@@ -112,26 +177,14 @@ fn refused_outcome(alloc: Global, refused: RefusedPolicy) -> Result<Outcome, All
     })
 }
 
-/// What is said of what was read.
-fn read_outcome(
-    alloc: Global,
-    read: Result<Policy, RefusedPolicy>,
-    asked: &Asked<'_>,
-) -> Result<Outcome, AllocError>
-    ensures { (bytes : List ℕ) → IsRead bytes read → IfOk result (Explains bytes asked.now) }
-{
-    match read {
-        Ok(policy) => policy_outcome(alloc, &policy, asked),
-        Err(refused) => refused_outcome(alloc, refused),
-    }
-}
-
 /// What is said of the bytes.
 fn bytes_outcome(alloc: Global, bytes: &[u8], asked: &Asked<'_>) -> Result<Outcome, AllocError>
     ensures { IfOk result (Explains bytes.now asked.now) }
 {
-    let read = policy_in(alloc, bytes)?;
-    read_outcome(alloc, read, asked)
+    match policy_in(alloc, bytes)? {
+        Ok(policy) => spelled_outcome(alloc, bytes, &policy, asked),
+        Err(refused) => refused_outcome(alloc, refused),
+    }
 }
 
 /// Says which rule of the policy decides: the line that `explain` prints of the bytes of the policy
@@ -144,22 +197,30 @@ pub fn explain_outcome(
     // What is said is so.
     ensures says { IfOk result (Explains bytes.now asked.now) }
 
-    // Where the first rule that matches allows, its number is said, from 1. Standard error is told
-    // where the policy doesn't list the caller.
-    ensures allowed { (policy : PolicyValue) (rule : ℕ)
-        → Spells bytes.now policy → IsAllowedBy policy asked.now rule
+    // Where the first rule that matches on that day allows, its number is said, from 1. Standard error
+    // is told where the policy doesn't list the caller. Where no rule of the policy may have days,
+    // that is said whichever day is named, and where none is.
+    ensures allowed { (policy : PolicyValue) (day : Date) (rule : ℕ)
+        → Spells bytes.now policy → IsOnDay bytes.now asked.now day
+        → IsAllowedBy policy asked.now day rule
         → IfOk result (λ outcome. Prints outcome (allow_text rule)
         (unlisted_line policy asked.now.caller.now) Accepted) }
     // And likewise where it denies.
-    ensures denied { (policy : PolicyValue) (rule : ℕ)
-        → Spells bytes.now policy → IsDeniedBy policy asked.now rule
+    ensures denied { (policy : PolicyValue) (day : Date) (rule : ℕ)
+        → Spells bytes.now policy → IsOnDay bytes.now asked.now day
+        → IsDeniedBy policy asked.now day rule
         → IfOk result (λ outcome. Prints outcome (deny_text rule)
         (unlisted_line policy asked.now.caller.now) Refused) }
     // Where no rule matches, it is denied by default.
-    ensures by_default { (policy : PolicyValue)
-        → Spells bytes.now policy → IsUndecided policy asked.now
+    ensures by_default { (policy : PolicyValue) (day : Date)
+        → Spells bytes.now policy → IsOnDay bytes.now asked.now day
+        → IsUndecided policy asked.now day
         → IfOk result (λ outcome. Prints outcome default_text
         (unlisted_line policy asked.now.caller.now) Refused) }
+    // Where rules of the policy may have days and none is named, nothing is printed, standard error is
+    // told that a day is missing and why, and it ends as misused.
+    ensures undated { (policy : PolicyValue) → Spells bytes.now policy → WantsDay bytes.now asked.now
+        → IfOk result SaysDayMissing }
     // A file that is no policy is refused with its first fault, and standard error is told it in words,
     // with its place.
     ensures refused { (fault : PolicyFault) → HasFault bytes.now fault
@@ -181,6 +242,6 @@ pub fn explain_policy<R: Read>(
     ensures given { IfSome (R.remaining policy.old) (λ given.
         IfOk result (Explains given asked.now)) }
 {
-    let read = read_policy_from(alloc, policy)?;
-    Ok(read_outcome(alloc, read, asked)?)
+    let bytes = streams::read_whole(alloc, policy)?;
+    Ok(bytes_outcome(alloc, bytes.as_slice(), asked)?)
 }

@@ -6,7 +6,7 @@ use Rattle.office_core.specs.Days.{day_text}
 use Rattle.office_core.specs.declared.answer.DepositRecord.{DepositRecord}
 use Rattle.office_core.specs.declared.answer.LiveHold.{LiveHold}
 use Rattle.office_core.specs.declared.answer.Scope.{Scope}
-use Rattle.office_core.specs.declared.answer.Scope.TheVariants.{Deposit, Collection}
+use Rattle.office_core.specs.declared.answer.Scope.TheVariants.{Deposit, Collection, Class}
 use Rattle.office_core.specs.declared.retention.Due.{Due}
 use Rattle.office_core.specs.declared.retention.Due.TheVariants.{On, Never}
 use Rattle.desk_answers.specs.Objects.{object_of, whole}
@@ -33,6 +33,7 @@ record_data row = object_of (
 abbrev pub scope_text : Scope → List ℕ
 scope_text Deposit = codes "deposit"
 scope_text Collection = codes "collection"
+scope_text Class = codes "class"
 
 -- what is told of a live hold
 abbrev pub live_hold_data : LiveHold → Data

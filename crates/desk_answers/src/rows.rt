@@ -16,6 +16,7 @@ fn scope_text(scope: Scope) -> &'static str
     match scope {
         Scope::Deposit => "deposit",
         Scope::Collection => "collection",
+        Scope::Class => "class",
     }
 }
 

@@ -6,7 +6,7 @@ use Rattle.office_core.proofs.DayLemmas.{day_text-injective}
 use Rattle.desk_forms.specs.declared.query.Listing.{Listing}
 use Rattle.desk_forms.specs.declared.query.DepositQuery.{DepositQuery}
 use Rattle.desk_forms.specs.declared.body.HoldBody.{HoldBody}
-use Rattle.desk_forms.specs.declared.body.HoldBody.TheVariants.{Deposit, Collection}
+use Rattle.desk_forms.specs.declared.body.HoldBody.TheVariants.{Deposit, Collection, Class}
 use Rattle.desk_forms.specs.Queries.{values_of, GivesName, AsksListing, DescribesDeposit}
 use Rattle.desk_forms.specs.Bodies.{years_object, SaysYears, hold_object, SaysHold}
 
@@ -46,8 +46,13 @@ one_years body a b x y = one_years_object a b (same_Some _ _ (sym x.json.1 ∙ y
 one_hold_object : (a b : HoldBody) → hold_object a ≡ hold_object b → a ≡ b
 one_hold_object (Deposit m s) (Deposit n t) e = cc
 one_hold_object (Deposit m s) (Collection c t) e = cc
+one_hold_object (Deposit m s) (Class c t) e = cc
 one_hold_object (Collection c s) (Deposit n t) e = cc
 one_hold_object (Collection c s) (Collection d t) e = cc
+one_hold_object (Collection c s) (Class d t) e = cc
+one_hold_object (Class c s) (Deposit n t) e = cc
+one_hold_object (Class c s) (Collection d t) e = cc
+one_hold_object (Class c s) (Class d t) e = cc
 
 pub one_hold : (body : List ℕ) (a b : HoldBody) → SaysHold body a → SaysHold body b → a ≡ b
 one_hold body a b x y = one_hold_object a b (same_Some _ _ (sym x.json.1 ∙ y.json.1))

@@ -5,7 +5,7 @@ use Rattle.serde_json.specs.Read.{read}
 use Rattle.office_core.specs.Names.{IsName, IsMatter}
 use Rattle.office_core.specs.Requests.{IsYears}
 use Rattle.desk_forms.specs.declared.body.HoldBody.{HoldBody}
-use Rattle.desk_forms.specs.declared.body.HoldBody.TheVariants.{Deposit, Collection}
+use Rattle.desk_forms.specs.declared.body.HoldBody.TheVariants.{Deposit, Collection, Class}
 
 -- the body is a JSON text of this value
 abbrev pub IsJsonOf : List ℕ → Data → Type 0
@@ -29,12 +29,14 @@ pub record SaysYears (body : List ℕ) (years : Option ℕ) : Type 0 where
 abbrev pub max_deposit : ℕ
 max_deposit = 9_999_999
 
--- `{"deposit":n,"matter":".."}`, or `{"collection":"..","matter":".."}`
+-- `{"deposit":n,"matter":".."}`, `{"collection":"..","matter":".."}`, or `{"class":"..","matter":".."}`
 abbrev pub hold_object : HoldBody → Data
 hold_object (Deposit deposit matter) =
     object (member (codes "deposit") (number (unsigned deposit)) (member (codes "matter") (string matter) no_members))
 hold_object (Collection collection matter) =
     object (member (codes "collection") (string collection) (member (codes "matter") (string matter) no_members))
+hold_object (Class class matter) =
+    object (member (codes "class") (string class) (member (codes "matter") (string matter) no_members))
 
 -- what a body may name a deposit by: a whole number from 1 to 9,999,999
 abbrev pub IsDepositNumber : ℕ → Type 0
@@ -44,8 +46,9 @@ IsDepositNumber deposit = (1 ≤ deposit) × (deposit ≤ max_deposit)
 abbrev pub IsHoldBody : HoldBody → Type 0
 IsHoldBody (Deposit deposit matter) = IsDepositNumber deposit × IsMatter matter
 IsHoldBody (Collection collection matter) = IsName collection × IsMatter matter
+IsHoldBody (Class class matter) = IsName class × IsMatter matter
 
--- what the body of a hold says: which deposit or collection is held, and for which matter
+-- what the body of a hold says: which deposit, collection or class is held, and for which matter
 pub record SaysHold (body : List ℕ) (hold : HoldBody) : Type 0 where
   pub json : IsJsonOf body (hold_object hold)
   pub form : IsHoldBody hold

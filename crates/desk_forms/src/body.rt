@@ -25,6 +25,10 @@ pub enum HoldBody {
         collection: OwnedName,
         matter: OwnedMatter,
     },
+    Class {
+        class: OwnedName,
+        matter: OwnedMatter,
+    },
 }
 
 /// Why a body isn't read.
@@ -209,6 +213,10 @@ fn hold_in(
             collection: own_name(alloc, held)?,
             matter,
         }),
+        "class" => Ok(HoldBody::Class {
+            class: own_name(alloc, held)?,
+            matter,
+        }),
         _ => Err(BodyFault::BadBody),
     }
 }
@@ -225,8 +233,8 @@ fn two_members(value: &Value) -> Option<(Member<'_>, Member<'_>)>
 }
 
 /// What is held, and for which matter: `{"deposit":n,"matter":".."}`, with a whole number from 1 to
-/// 9,999,999, or `{"collection":"..","matter":".."}`. `BadBody` where the body says neither, and
-/// `Memory` where there is no memory for what is UTF-8.
+/// 9,999,999, `{"collection":"..","matter":".."}`, or `{"class":"..","matter":".."}`. `BadBody` where the
+/// body says none of these, and `Memory` where there is no memory for what is UTF-8.
 pub fn read_hold(alloc: Global, body: &[u8]) -> Result<HoldBody, BodyFault>
     ensures hold { IfOk result (λ hold. SaysHold body.now hold) }
     ensures refused { result ≡ Err BodyFault.BadBody → (hold : HoldBody)

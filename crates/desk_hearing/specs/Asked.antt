@@ -17,9 +17,9 @@ pub data Asked : Type 0 where
   list_deposits : Option (List ℕ) → Option (List ℕ) → Asked
   record_of holds_of download_bag audit_of dispose release : ℕ → Asked
   download_file : ℕ → List ℕ → Asked
-  -- a deposit or a collection, and the matter
+  -- a deposit, a collection or a class, and the matter
   hold_deposit : ℕ → List ℕ → Asked
-  hold_collection : List ℕ → List ℕ → Asked
+  hold_collection hold_class : List ℕ → List ℕ → Asked
   due_list : Asked
 
 -- what a request of the office asks
@@ -35,6 +35,7 @@ asked_of (requests.DownloadFile deposit path) = download_file deposit path.now
 asked_of (requests.Audit deposit) = audit_of deposit
 asked_of (requests.HoldDeposit deposit matter) = hold_deposit deposit matter
 asked_of (requests.HoldCollection collection matter) = hold_collection collection matter
+asked_of (requests.HoldClass class matter) = hold_class class matter
 asked_of (requests.Release hold) = release hold
 asked_of (requests.Dispose deposit) = dispose deposit
 asked_of requests.DueList = due_list
@@ -52,6 +53,7 @@ asked_with (asks.DownloadFile deposit path) body = download_file deposit path.it
 asked_with (asks.Audit deposit) body = audit_of deposit
 asked_with (asks.HoldDeposit deposit matter) body = hold_deposit deposit matter
 asked_with (asks.HoldCollection collection matter) body = hold_collection collection matter
+asked_with (asks.HoldClass class matter) body = hold_class class matter
 asked_with (asks.Release hold) body = release hold
 asked_with (asks.Dispose deposit) body = dispose deposit
 asked_with asks.DueList body = due_list

@@ -10,7 +10,7 @@ use Rattle.desk_forms.specs.declared.query.Listing.{Listing}
 use Rattle.desk_forms.specs.declared.query.DepositQuery.{DepositQuery}
 use Rattle.desk_forms.specs.declared.body.HoldBody.{HoldBody}
 use Rattle.desk_forms.specs.declared.body.HoldBody.TheVariants as holds
-use Rattle.desk_hearing.specs.Asked.{Asked, define_class, define_collection, deposit_bag, list_deposits, record_of, holds_of, download_bag, download_file, audit_of, hold_deposit, hold_collection, release, dispose, due_list}
+use Rattle.desk_hearing.specs.Asked.{Asked, define_class, define_collection, deposit_bag, list_deposits, record_of, holds_of, download_bag, download_file, audit_of, hold_deposit, hold_collection, hold_class, release, dispose, due_list}
 
 -- what is asked, as far as a route and its query say it
 pub data Question : Type 0 where
@@ -49,6 +49,7 @@ QueryAsks routes.due_list query question = HasNoPair query × (question ≡ of_a
 abbrev pub hold_asked : HoldBody → Asked
 hold_asked (holds.Deposit deposit matter) = hold_deposit deposit matter
 hold_asked (holds.Collection collection matter) = hold_collection collection matter
+hold_asked (holds.Class class matter) = hold_class class matter
 
 -- the question with this body asks this
 abbrev pub BodyAsks : Question → List ℕ → Asked → Type 0

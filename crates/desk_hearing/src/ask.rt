@@ -49,6 +49,10 @@ pub(crate) enum Ask {
         collection: OwnedName,
         matter: OwnedMatter,
     },
+    HoldClass {
+        class: OwnedName,
+        matter: OwnedMatter,
+    },
     Release {
         hold: u32,
     },

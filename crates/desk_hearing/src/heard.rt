@@ -76,6 +76,10 @@ fn lend<'a>(ask: &'a Ask, body: &'a [u8]) -> Request<'a>
             collection: collection.lend(),
             matter: matter.lend(),
         },
+        Ask::HoldClass { class, matter } => Request::HoldClass {
+            class: class.lend(),
+            matter: matter.lend(),
+        },
         Ask::Record { deposit } => Request::Record { deposit: *deposit },
         Ask::Holds { deposit } => Request::Holds { deposit: *deposit },
         Ask::DownloadBag { deposit } => Request::DownloadBag { deposit: *deposit },

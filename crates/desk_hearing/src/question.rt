@@ -96,6 +96,7 @@ fn hold_of(alloc: Global, body: &[u8]) -> Result<Ask, JudgingFault>
             collection,
             matter,
         }),
+        HoldBody::Class { class, matter } => Ok(Ask::HoldClass { class, matter }),
     }
 }
 

@@ -1,5 +1,5 @@
 -- The value of the rule with a number.
-use Rattle.std.proofs.Common.{◌≡◌, ◌∙◌, ℕ, suc, List, [], ◌∷◌, Option, map, option_and_then, option_map, slice_get, refl, sym, ap}
+use Rattle.std.proofs.Common.{◌≡◌, ◌∙◌, ℕ, suc, Bool, List, [], ◌∷◌, Option, map, option_and_then, option_map, slice_get, refl, sym, ap}
 use Rattle.std.specs.Prelude.{Some}
 use Rattle.std.proofs.lemmas.Option.{slice_get-map}
 use Rattle.toml.specs.Data.{Data}
@@ -16,8 +16,8 @@ element_at : (place : ℕ) (values : List Value) → value_at (suc place) (eleme
 element_at place values = ap (λ found. slice_get found place) (elements-items_of (map view values)) ∙ slice_get-map view values place
 
 -- the key of the value that was found at the place of a number
-pub key_at : (number place : ℕ) (values : List Value) (found : Option Value) → number ≡ suc place → found ≡ slice_get values place
-    → option_and_then value_key (option_map view found) ≡ numbered_key number (Some (elements (items_view values)))
-key_at number place values found next is =
-    ap (option_and_then value_key) (ap (option_map view) is ∙ sym (element_at place values))
-    ∙ ap (λ (n : ℕ). numbered_key n (Some (elements (items_view values)))) (sym next)
+pub key_at : (with_days : Bool) (number place : ℕ) (values : List Value) (found : Option Value) → number ≡ suc place → found ≡ slice_get values place
+    → option_and_then (value_key with_days) (option_map view found) ≡ numbered_key with_days number (Some (elements (items_view values)))
+key_at with_days number place values found next is =
+    ap (option_and_then (value_key with_days)) (ap (option_map view) is ∙ sym (element_at place values))
+    ∙ ap (λ (n : ℕ). numbered_key with_days n (Some (elements (items_view values)))) (sym next)

@@ -121,16 +121,22 @@ words_of_bag fault = words_or (named_fault fault)
 abbrev pub policy_rule_words : ℕ → List ℕ
 policy_rule_words number =
     if number == 0 then codes "the rules of the policy are no array: each begins with the line [[rule]] (Y5)"
-    else codes "rule " ++ decimal number ++ codes " of the policy is not well formed: it is effect, role, action, collection and class, each with a value that it may have (Y5)"
+    else codes "rule " ++ decimal number ++ codes " of the policy is not well formed: it is effect, role, action, collection and class, each with a value that it may have, and under version 2 it may have first and last, days of which first is not after last (Y5)"
 
 abbrev pub policy_words : PolicyFault → List ℕ
 policy_words policies.NotToml = codes "the policy is no text in TOML (Y1)"
-policy_words policies.BadVersion = codes "the policy has no version, or one that is not the whole number 1 (Y2)"
+policy_words policies.BadVersion = codes "the policy has no version, or one that is neither the whole number 1 nor 2 (Y2)"
 policy_words policies.UnknownKey = codes "the policy has a key at the top other than version, callers and rule (Y3)"
 policy_words policies.BadCaller = codes "the callers of the policy are no table, or a caller or a role is no name (Y4)"
 policy_words (policies.BadRule number) = policy_rule_words number
 policy_words policies.TooMany = codes "the policy has more than 200 rules or more than 1,000 callers (Y6)"
 policy_words policies.Memory = codes "memory ran out (Y7)"
+
+-- ---- of a question that names no day
+
+-- where rules of the policy may have days
+abbrev pub missing_day_words : List ℕ
+missing_day_words = codes "the option --day DAY is missing: the policy has version 2, in which rules may count on certain days alone"
 
 -- ---- of a caller
 

@@ -7,7 +7,7 @@ use Rattle.toml.specs.Data.{Data, Members, as_table}
 use Rattle.toml.specs.Parse.{parse_document}
 use Rattle.bag_check.specs.FaultTexts.{printed_text}
 use Rattle.office_core.specs.FirstOf.{first_some}
-use Rattle.office_core.specs.Policies.{action_at, caller_entries, caller_in, effect_at, entries, is_one_of, pattern_at, rule_keys, rule_values, top_keys}
+use Rattle.office_core.specs.Policies.{action_at, caller_entries, caller_in, days_at, effect_at, entries, first_at, has_days, is_one_of, keys_of_rule, last_at, pattern_at, rule_values, top_keys}
 use Rattle.office_core.specs.declared.policy_fault.PolicyFault.{PolicyFault}
 use Rattle.office_core.specs.declared.policy_fault.PolicyFault.TheVariants.{NotToml, UnknownKey, BadCaller, BadRule}
 use Rattle.fault_words.specs.FaultWords.{policy_words}
@@ -71,15 +71,23 @@ abbrev pub caller_place : Option (List (List ℕ × Data)) → List ℕ
 caller_place None = key_words (codes "callers")
 caller_place (Some found) = option_map_or caller_words (bad_caller found) []
 
--- the first key of a rule that a rule may not have
-abbrev pub unknown_rule_key : Members → Option (List ℕ)
-unknown_rule_key rule = option_map (λ entry. entry.0) (find (λ entry. not (is_one_of rule_keys entry.0)) (entries rule))
+-- the first key of a rule that a rule may not have, where rules have days or don't
+abbrev pub unknown_rule_key : Bool → Members → Option (List ℕ)
+unknown_rule_key with_days rule = option_map (λ entry. entry.0) (find (λ entry. not (is_one_of (keys_of_rule with_days) entry.0)) (entries rule))
 
 -- this key, where its value is missing or one that it may not have
 abbrev pub key_if : Bool → List ℕ → Option (List ℕ)
 key_if is_good key = if is_good then None else Some key
 
--- the first of the five keys of a rule that is missing or has a value that it may not have
+-- `first` or `last` where it is there and no day, and `first` where it is after the last day
+abbrev pub bad_day_key : Members → Option (List ℕ)
+bad_day_key rule = first_some (
+    key_if (is_some (first_at rule)) (codes "first")
+    ∷ key_if (is_some (last_at rule)) (codes "last")
+    ∷ key_if (is_some (days_at rule)) (codes "first")
+    ∷ [])
+
+-- the first of the five keys of a rule that is missing or has a value that it may not have, or the key of such a day
 abbrev pub bad_rule_key : Members → Option (List ℕ)
 bad_rule_key rule = first_some (
     key_if (is_some (effect_at rule)) (codes "effect")
@@ -87,28 +95,29 @@ bad_rule_key rule = first_some (
     ∷ key_if (is_some (action_at rule)) (codes "action")
     ∷ key_if (is_some (pattern_at (codes "collection") rule)) (codes "collection")
     ∷ key_if (is_some (pattern_at (codes "class") rule)) (codes "class")
+    ∷ bad_day_key rule
     ∷ [])
 
 -- the key of a rule that is at fault; nothing where the rule is no table
-abbrev pub rule_key : Members → Option (List ℕ)
-rule_key rule = first_some (unknown_rule_key rule ∷ bad_rule_key rule ∷ [])
+abbrev pub rule_key : Bool → Members → Option (List ℕ)
+rule_key with_days rule = first_some (unknown_rule_key with_days rule ∷ bad_rule_key rule ∷ [])
 
-abbrev pub value_key : Data → Option (List ℕ)
-value_key value = option_and_then rule_key (as_table value)
+abbrev pub value_key : Bool → Data → Option (List ℕ)
+value_key with_days value = option_and_then (rule_key with_days) (as_table value)
 
 -- the value of the rule with this number, from 1
 abbrev pub value_at : ℕ → List Data → Option Data
 value_at zero values = None
 value_at (suc place) values = slice_get values place
 
-abbrev pub numbered_key : ℕ → Option (List Data) → Option (List ℕ)
-numbered_key number None = None
-numbered_key number (Some values) = option_and_then value_key (value_at number values)
+abbrev pub numbered_key : Bool → ℕ → Option (List Data) → Option (List ℕ)
+numbered_key with_days number None = None
+numbered_key with_days number (Some values) = option_and_then (value_key with_days) (value_at number values)
 
 abbrev pub place_in : PolicyFault → Members → List ℕ
 place_in UnknownKey tree = option_map_or key_words (unknown_key tree) []
 place_in BadCaller tree = caller_place (caller_entries tree)
-place_in (BadRule number) tree = option_map_or key_words (numbered_key number (rule_values tree)) []
+place_in (BadRule number) tree = option_map_or key_words (numbered_key (has_days tree) number (rule_values tree)) []
 place_in fault tree = []
 
 -- ---- what is told

@@ -20,5 +20,5 @@ pub use folder::{OddEntry, folder_words, too_large_words};
 pub use form::{form_lines, hint_for, too_long_words};
 pub use in_words::InWords;
 pub use other_file::OtherFile;
-pub use policy::Unlisted;
+pub use policy::{Unlisted, missing_day_words};
 pub use reason::policy_reason;

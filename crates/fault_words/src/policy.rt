@@ -1,7 +1,7 @@
-//! Why a file is no policy, and of whom a policy says nothing, in words.
+//! Why a file is no policy, and what a question leaves out or a policy says nothing of, in words.
 
-ghost use Rattle.std.specs.Prelude.{Some};
-ghost use Rattle.fault_words.specs.FaultWords.{policy_words, unlisted_words};
+ghost use Rattle.std.specs.Prelude.{◌≡◌, Some};
+ghost use Rattle.fault_words.specs.FaultWords.{missing_day_words, policy_words, unlisted_words};
 
 use crate::escaped::Escaped;
 use crate::in_words::InWords;
@@ -15,7 +15,7 @@ impl<'a> fmt::Display for InWords<'a, PolicyFault> {
         match self.0 {
             PolicyFault::NotToml => f.write_str("the policy is no text in TOML (Y1)"),
             PolicyFault::BadVersion => f.write_str(
-                "the policy has no version, or one that is not the whole number 1 (Y2)",
+                "the policy has no version, or one that is neither the whole number 1 nor 2 (Y2)",
             ),
             PolicyFault::UnknownKey => f.write_str(
                 "the policy has a key at the top other than version, callers and rule (Y3)",
@@ -28,7 +28,7 @@ impl<'a> fmt::Display for InWords<'a, PolicyFault> {
             ),
             PolicyFault::BadRule(number) => write!(
                 f,
-                "rule {number} of the policy is not well formed: it is effect, role, action, collection and class, each with a value that it may have (Y5)"
+                "rule {number} of the policy is not well formed: it is effect, role, action, collection and class, each with a value that it may have, and under version 2 it may have first and last, days of which first is not after last (Y5)"
             ),
             PolicyFault::TooMany => f.write_str(
                 "the policy has more than 200 rules or more than 1,000 callers (Y6)",
@@ -36,6 +36,13 @@ impl<'a> fmt::Display for InWords<'a, PolicyFault> {
             PolicyFault::Memory => f.write_str("memory ran out (Y7)"),
         }
     }
+}
+
+/// What is said of a question that names no day, where the rules of the policy may have days.
+pub fn missing_day_words() -> &'static str
+    ensures { result.now ≡ missing_day_words }
+{
+    "the option --day DAY is missing: the policy has version 2, in which rules may count on certain days alone"
 }
 
 /// A caller whom a policy doesn't list, to be printed as a sentence that says so.

@@ -4,13 +4,13 @@ ghost use Rattle.std.specs.Prelude.{◌≡◌, [], Some, is_some, option_copied,
 ghost use Rattle.std.specs.Option.{option_map_or};
 ghost use Rattle.toml.specs.Data.{get_member};
 ghost use Rattle.toml.specs.View.{array_view, table_view, view};
-ghost use Rattle.office_core.specs.Policies.{action_at, action_pattern_in, effect_at, effect_in, elements, is_one_of, pattern_at, pattern_in, rule_keys, text_at};
+ghost use Rattle.office_core.specs.Policies.{action_at, action_pattern_in, day_at, effect_at, effect_in, elements, has_days, is_one_of, keys_of_rule, pattern_at, pattern_in, rule_keys, text_at};
 ghost use Rattle.office_core.specs.declared.policy_fault.PolicyFault.TheVariants.{BadRule};
 ghost use Rattle.fault_words.specs.Places.{place_words};
-ghost use Rattle.fault_words.specs.PolicyReasons.{bad_rule_key, key_words, numbered_key, place_in, rule_key, unknown_rule_key, value_key};
+ghost use Rattle.fault_words.specs.PolicyReasons.{bad_day_key, bad_rule_key, key_words, numbered_key, place_in, rule_key, unknown_rule_key, value_key};
 
 use crate::place::Place;
-use office_core::{Action, Name};
+use office_core::{Action, Day, Name};
 use toml::value::Array;
 use toml::{Table, Value};
 
@@ -82,18 +82,53 @@ fn is_rule_key(key: &str) -> bool
     key == "effect" || key == "role" || key == "action" || key == "collection" || key == "class"
 }
 
-fn unknown_rule_key(rule: &Table) -> Option<&str>
-    ensures { option_copied result ≡ unknown_rule_key (table_view rule.now) }
+/// Whether a rule may have the key, where rules have days or don't.
+fn may_have_key(with_days: bool, key: &str) -> bool
+    ensures { result ≡ is_one_of (keys_of_rule with_days) key.now }
+{
+    is_rule_key(key) || (with_days && (key == "first" || key == "last"))
+}
+
+fn unknown_rule_key(with_days: bool, rule: &Table) -> Option<&str>
+    ensures { option_copied result ≡ unknown_rule_key with_days (table_view rule.now) }
 {
     for (key, _value) in rule.iter() {
-        if !is_rule_key(key.as_str()) {
+        if !may_have_key(with_days, key.as_str()) {
             return Some(key.as_str());
         }
     }
     None
 }
 
-/// The first of the five keys that is missing or has a value that it may not have.
+/// The day at a key, or the one that is given where the key isn't there.
+fn day_at(rule: &Table, key: &str, otherwise: Day) -> Option<Day>
+    ensures { result ≡ day_at key.now otherwise (table_view rule.now) }
+{
+    match value_at(rule, key) {
+        Some(value) => Day::read(value.as_str()?),
+        None => Some(otherwise),
+    }
+}
+
+/// The key of a day that is none, or of a first day after the last.
+fn bad_day_key(rule: &Table) -> Option<&'static str>
+    ensures { option_copied result ≡ bad_day_key (table_view rule.now) }
+{
+    let Some(first) = day_at(rule, "first", Day::first()) else {
+        return Some("first");
+    };
+    let Some(last) = day_at(rule, "last", Day::last()) else {
+        return Some("last");
+    };
+    if first.number() <= last.number() {
+        None
+    } else {
+        Some("first")
+    }
+}
+
+/// The first of the five keys that is missing or has a value that it may not have, or the key of such
+/// a day.
 fn bad_rule_key(rule: &Table) -> Option<&'static str>
     ensures { option_copied result ≡ bad_rule_key (table_view rule.now) }
 {
@@ -108,37 +143,38 @@ fn bad_rule_key(rule: &Table) -> Option<&'static str>
     } else if !has_pattern(rule, "class") {
         Some("class")
     } else {
-        None
+        bad_day_key(rule)
     }
 }
 
-fn rule_key(rule: &Table) -> Option<&str>
-    ensures { option_copied result ≡ rule_key (table_view rule.now) }
+fn rule_key(with_days: bool, rule: &Table) -> Option<&str>
+    ensures { option_copied result ≡ rule_key with_days (table_view rule.now) }
 {
-    match unknown_rule_key(rule) {
+    match unknown_rule_key(with_days, rule) {
         Some(key) => Some(key),
         None => bad_rule_key(rule),
     }
 }
 
-fn value_key(value: &Value) -> Option<&str>
-    ensures { option_copied result ≡ value_key (view value.now) }
+fn value_key(with_days: bool, value: &Value) -> Option<&str>
+    ensures { option_copied result ≡ value_key with_days (view value.now) }
 {
     match value.as_table() {
-        Some(rule) => rule_key(rule),
+        Some(rule) => rule_key(with_days, rule),
         None => None,
     }
 }
 
 /// The key at fault of the rule with this number, from 1.
-fn numbered_key(values: &Array, number: usize) -> Option<&str>
-    ensures { option_copied result ≡ numbered_key number (Some (elements (array_view values.now))) }
+fn numbered_key(with_days: bool, values: &Array, number: usize) -> Option<&str>
+    ensures { option_copied result
+        ≡ numbered_key with_days number (Some (elements (array_view values.now))) }
 {
     if number == 0 {
         return None;
     }
     match values.get(number - 1) {
-        Some(value) => value_key(value),
+        Some(value) => value_key(with_days, value),
         None => None,
     }
 }
@@ -152,13 +188,23 @@ fn key_place(key: Option<&str>) -> Place<'_>
     }
 }
 
+/// Whether the rules of the policy may have days.
+fn has_days(tree: &Table) -> bool
+    ensures { result ≡ has_days (table_view tree.now) }
+{
+    match value_at(tree, "version") {
+        Some(value) => value.as_integer() == Some(2),
+        None => false,
+    }
+}
+
 /// Where in the rule with this number, from 1, the fault stands.
 pub fn rule_place(tree: &Table, number: usize) -> Place<'_>
     ensures { place_words result ≡ place_in (BadRule number) (table_view tree.now) }
 {
     match value_at(tree, "rule") {
         Some(value) => match value.as_array() {
-            Some(values) => key_place(numbered_key(values, number)),
+            Some(values) => key_place(numbered_key(has_days(tree), values, number)),
             None => Place::Nowhere,
         },
         None => Place::Nowhere,

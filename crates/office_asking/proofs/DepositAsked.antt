@@ -37,7 +37,7 @@ none_there h n these e = by (histories.deposit_numbered h n) e
 gone_stands : (o : Option Date) (day : Date) → o ≡ Some day → refusal_in (deciding.gone_verdict o) ≡ Some (Gone day)
 gone_stands o day e = ap (λ x. refusal_in (deciding.gone_verdict x)) e
 
-module _ (h : History) (caller : List ℕ) (action : Action) (n : ℕ) (row : DepositRow) (read : Some row ≡ option_map (deposit_row h n) (histories.deposit_numbered h n)) where
+module _ (h : History) (day : Date) (caller : List ℕ) (action : Action) (n : ℕ) (row : DepositRow) (read : Some row ≡ option_map (deposit_row h n) (histories.deposit_numbered h n)) where
   pub there : (found : Date × Deposit) × (histories.deposit_numbered h n ≡ Some found) × (row ≡ deposit_row h n found)
   there = by (histories.deposit_numbered h n) refl read
     where
@@ -46,21 +46,21 @@ module _ (h : History) (caller : List ℕ) (action : Action) (n : ℕ) (row : De
       by (Some found) is e = (found, is, same_Some _ _ e)
 
   -- the rules are asked of the deposit by its row
-  asks : (o : Option Refusal) → o ≡ denial h caller action (Some row.collection) (Some row.class) → o ≡ denial h caller action (Some there.0.1.collection) (Some there.0.1.class)
-  asks o e = e ∙ ap (λ (r : DepositRow). denial h caller action (Some r.collection) (Some r.class)) there.2
+  asks : (o : Option Refusal) → o ≡ denial h day caller action (Some row.collection) (Some row.class) → o ≡ denial h day caller action (Some there.0.1.collection) (Some there.0.1.class)
+  asks o e = e ∙ ap (λ (r : DepositRow). denial h day caller action (Some r.collection) (Some r.class)) there.2
 
-  pub asked_denied : (why : Refusal) → Some why ≡ denial h caller action (Some row.collection) (Some row.class) → IsAsked h n (kept_refusals h caller action n) (Err why)
-  asked_denied why e = (λ i. first_some (asks (Some why) e i ∷ refusal_in (deciding.gone_verdict (destruction_day h n)) ∷ [])) ∙ ap (λ o. first_some (of_deposit o (kept_refusals h caller action n))) (sym there.1)
+  pub asked_denied : (why : Refusal) → Some why ≡ denial h day caller action (Some row.collection) (Some row.class) → IsAsked h n (kept_refusals h day caller action n) (Err why)
+  asked_denied why e = (λ i. first_some (asks (Some why) e i ∷ refusal_in (deciding.gone_verdict (destruction_day h n)) ∷ [])) ∙ ap (λ o. first_some (of_deposit o (kept_refusals h day caller action n))) (sym there.1)
 
-  gone_is : (day : Option Date) → option_map epoch_day day ≡ row.gone → destruction_day h n ≡ day
-  gone_is day e = sym (same_days day (destruction_day h n) (e ∙ ap (λ (r : DepositRow). r.gone) there.2))
+  gone_is : (gone : Option Date) → option_map epoch_day gone ≡ row.gone → destruction_day h n ≡ gone
+  gone_is gone e = sym (same_days gone (destruction_day h n) (e ∙ ap (λ (r : DepositRow). r.gone) there.2))
 
-  pub asked_gone : (day : Date) → None ≡ denial h caller action (Some row.collection) (Some row.class) → option_map epoch_day (Some day) ≡ row.gone → IsAsked h n (kept_refusals h caller action n) (Err (Gone day))
-  asked_gone day e g =
-      (λ i. first_some (asks None e i ∷ sym (ap (λ o. refusal_in (deciding.gone_verdict o)) (gone_is (Some day) g)) i ∷ []))
-      ∙ ap (λ o. first_some (of_deposit o (kept_refusals h caller action n))) (sym there.1)
+  pub asked_gone : (gone : Date) → None ≡ denial h day caller action (Some row.collection) (Some row.class) → option_map epoch_day (Some gone) ≡ row.gone → IsAsked h n (kept_refusals h day caller action n) (Err (Gone gone))
+  asked_gone gone e g =
+      (λ i. first_some (asks None e i ∷ sym (ap (λ o. refusal_in (deciding.gone_verdict o)) (gone_is (Some gone) g)) i ∷ []))
+      ∙ ap (λ o. first_some (of_deposit o (kept_refusals h day caller action n))) (sym there.1)
 
-  pub asked_kept : None ≡ denial h caller action (Some row.collection) (Some row.class) → option_map epoch_day None ≡ row.gone → IsAsked h n (kept_refusals h caller action n) (Ok row)
+  pub asked_kept : None ≡ denial h day caller action (Some row.collection) (Some row.class) → option_map epoch_day None ≡ row.gone → IsAsked h n (kept_refusals h day caller action n) (Ok row)
   asked_kept e g = record {
     found = there.0;
     there = there.1;

@@ -1,5 +1,5 @@
 -- The years of a class, by its row.
-use Rattle.std.proofs.Common.{◌≡◌, ℕ, ℤ, Bool, true, false, List, [], ◌∷◌, Option, Some, None, option_map, refl, sym, ap, ◌∙◌, cond, if◌then◌else◌}
+use Rattle.std.proofs.Common.{◌≡◌, ℕ, ℤ, Bool, true, false, List, [], ◌∷◌, Option, Some, None, option_map, is_some, refl, sym, ap, ◌∙◌, cond, if◌then◌else◌}
 use Rattle.std.specs.Prelude.{bytes_eq}
 use Rattle.std.specs.Option.{option_or}
 use Rattle.office_rows.specs.Rows.{ClassRow, class_named}
@@ -13,7 +13,7 @@ use Rattle.office_tables.specs.Tables.{tables_of}
 use Rattle.office_asking.specs.Pictures.{Pictures}
 use Rattle.office_asking.proofs.Readings.{in_picture}
 use Rattle.office_history.specs.Lists.{first_said}
-use Rattle.office_history.specs.Histories.{History, Deposit, years_of, due}
+use Rattle.office_history.specs.Histories.{History, Deposit, has_class, years_of, due}
 use Rattle.office_history.specs.Pictures.{class_rows, years_back}
 use Rattle.office_history.proofs.Pictured.{row_years, years_read}
 
@@ -28,6 +28,11 @@ said_by_rows name (r ∷ rows) = by (bytes_eq r.name name) (said_by_rows name ro
 
 pub years_of_row : (h : History) (name : List ℕ) → option_map (λ (c : ClassRow). years_back c.years) (class_named name (class_rows h)) ≡ years_of h name
 years_of_row h name = said_by_rows name (class_rows h) ∙ years_read h name
+
+-- a class is there where it has years
+pub class_there : (h : History) (class : List ℕ) (found : Option ℤ) → option_map years_back found ≡ years_of h class → is_some found ≡ has_class h class
+class_there h class None e = ap is_some e
+class_there h class (Some y) e = ap is_some e
 
 module _ (h : History) (db : Database) (pictured : Pictures h db) (class : List ℕ) where
   mapped : (o : Option ClassRow) → option_map years_back (option_map (λ (c : ClassRow). c.years) o) ≡ option_map (λ (c : ClassRow). years_back c.years) o

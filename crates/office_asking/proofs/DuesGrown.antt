@@ -11,9 +11,9 @@ use Rattle.std.proofs.lemmas.Slice.Eq.{bytes_eq-Decides}
 use Rattle.jiff.specs.Types.{Date}
 use Rattle.office_core.specs.RetentionReading.{due_of}
 use Rattle.office_core.specs.declared.retention.Due.TheVariants.{Never}
-use Rattle.office_rows.specs.Rows.{DepositRow, DueRow, more_holds, is_within, is_due_of}
+use Rattle.office_rows.specs.Rows.{DepositRow, DueRow, more_holds, is_of_class, is_within, is_due_of}
 use Rattle.office_history.specs.Lists.{item_numbered, numbers}
-use Rattle.office_history.specs.Histories.{History, Change, Deposit, Hold, OnDeposit, OnCollection, ReleasedHold, with_changes, deposits, deposit_numbered, due, holds, hold_numbered, release_day, is_live, reaches, covers, live_holds}
+use Rattle.office_history.specs.Histories.{History, Change, Deposit, Hold, OnDeposit, OnCollection, OnClass, ReleasedHold, with_changes, deposits, deposit_numbered, due, holds, hold_numbered, release_day, is_live, reaches, covers, live_holds}
 use Rattle.office_history.specs.Pictures.{deposit_row, deposit_rows, due_number, due_row, due_rows}
 use Rattle.office_asking.proofs.NumberedRows.{rows_from, rows_are, same_number, eqb-sym}
 use Rattle.office_asking.proofs.DepositTold.{deposit_rows_are}
@@ -141,30 +141,36 @@ module _ (h : History) (day : Date) (k : ℕ) (found : Date × Hold) (there : ho
   same_due : (x : Date × Deposit) → due h x.1 ≡ due longer x.1
   same_due x = λ i. option_map_or (due_of x.1.closed) (sym (same_years h more (λ name. refl) x.1.class) i) Never
 
-  -- the hold is on a collection
-  released_within : (name : List ℕ) → found.1.target ≡ OnCollection name → (m : ℕ) (x : Date × Deposit)
-      → (if is_within name (deposit_row h m x) then record (due_row h m x) { holds = (due_row h m x).holds +ℤ negsuc 0 } else due_row h m x) ≡ due_row longer m x
-  released_within name is m x = by (bytes_eq x.1.collection name) refl
+  -- the hold is on these deposits
+  released_those : (those : DepositRow → Bool) → ((m : ℕ) (x : Date × Deposit) → reaches found.1.target m x.1 ≡ those (deposit_row h m x)) → (m : ℕ) (x : Date × Deposit)
+      → (if those (deposit_row h m x) then record (due_row h m x) { holds = (due_row h m x).holds +ℤ negsuc 0 } else due_row h m x) ≡ due_row longer m x
+  released_those those reached m x = by (those (deposit_row h m x)) refl
     where
-      reached : reaches found.1.target m x.1 ≡ bytes_eq x.1.collection name
-      reached = ap (λ t. reaches t m x.1) is ∙ bytes_alike name x.1.collection
+      counted : (b : Bool) → those (deposit_row h m x) ≡ b → length (live_holds h m x.1) ≡ length (live_holds longer m x.1) + (if b then 1 else 0)
+      counted b e = count_less m x.1 ∙ ap (λ c. length (live_holds longer m x.1) + (if c then 1 else 0)) (reached m x ∙ e)
 
-      counted : (b : Bool) → bytes_eq x.1.collection name ≡ b → length (live_holds h m x.1) ≡ length (live_holds longer m x.1) + (if b then 1 else 0)
-      counted b e = count_less m x.1 ∙ ap (λ c. length (live_holds longer m x.1) + (if c then 1 else 0)) (reached ∙ e)
-
-      by : (b : Bool) → bytes_eq x.1.collection name ≡ b
+      by : (b : Bool) → those (deposit_row h m x) ≡ b
           → (if b then record (due_row h m x) { holds = (due_row h m x).holds +ℤ negsuc 0 } else due_row h m x) ≡ due_row longer m x
       by true e = λ i. record { number = pos m; due = due_number (same_due x i); holds = down (length (live_holds h m x.1)) (length (live_holds longer m x.1)) (counted true e) i }
       by false e =
           let same : length (live_holds h m x.1) ≡ length (live_holds longer m x.1) = omega (arith, counted false e) in
           λ i. record { number = pos m; due = due_number (same_due x i); holds = pos (same i) }
 
-  pub dues_within : (name : List ℕ) → found.1.target ≡ OnCollection name → more_holds (is_within name) (negsuc 0) (deposit_rows h) (due_rows h) ≡ due_rows longer
-  dues_within name is =
-      ap₂ (more_holds (is_within name) (negsuc 0)) (deposit_rows_are h) (due_rows_are h)
-      ∙ more_from (is_within name) (negsuc 0) (deposit_row h) (due_row h) (due_row longer) (released_within name is) (deposits h) 1
+  dues_of_those : (those : DepositRow → Bool) → ((m : ℕ) (x : Date × Deposit) → reaches found.1.target m x.1 ≡ those (deposit_row h m x))
+      → more_holds those (negsuc 0) (deposit_rows h) (due_rows h) ≡ due_rows longer
+  dues_of_those those reached =
+      ap₂ (more_holds those (negsuc 0)) (deposit_rows_are h) (due_rows_are h)
+      ∙ more_from those (negsuc 0) (deposit_row h) (due_row h) (due_row longer) (released_those those reached) (deposits h) 1
       ∙ ap (rows_from (due_row longer) 1) (sym (same_deposits h more refl))
       ∙ sym (due_rows_are longer)
+
+  -- the hold is on a collection
+  pub dues_within : (name : List ℕ) → found.1.target ≡ OnCollection name → more_holds (is_within name) (negsuc 0) (deposit_rows h) (due_rows h) ≡ due_rows longer
+  dues_within name is = dues_of_those (is_within name) (λ m x. ap (λ t. reaches t m x.1) is ∙ bytes_alike name x.1.collection)
+
+  -- the hold is on a class
+  pub dues_of_class : (name : List ℕ) → found.1.target ≡ OnClass name → more_holds (is_of_class name) (negsuc 0) (deposit_rows h) (due_rows h) ≡ due_rows longer
+  dues_of_class name is = dues_of_those (is_of_class name) (λ m x. ap (λ t. reaches t m x.1) is ∙ bytes_alike name x.1.class)
 
   -- the hold is on a deposit
   module _ (n : ℕ) (is : found.1.target ≡ OnDeposit n) (deposit : Date × Deposit) (at : deposit_numbered h n ≡ Some deposit) where

@@ -1,14 +1,14 @@
 -- What is kept of deposits, after a hold was placed.
-use Rattle.std.proofs.Common.{◌≡◌, ℕ, zero, suc, ◌+◌, ◌<◌, ◌&&◌, pos, ◌+ℤ◌, Bool, true, false, List, [], ◌∷◌, ◌++◌, filter, length, Some, None, slice_get, is_none, bytes_eq, refl, sym, ap, ap₂, subst, ◌∙◌, arith, cond, if◌then◌else◌}
+use Rattle.std.proofs.Common.{◌≡◌, ℕ, zero, suc, ◌+◌, ◌<◌, ◌&&◌, pos, ◌+ℤ◌, Bool, true, false, List, [], ◌∷◌, ◌++◌, filter, length, Some, None, slice_get, is_none, refl, sym, ap, ap₂, subst, ◌∙◌, arith, cond, if◌then◌else◌}
 use Rattle.std.specs.List.{range_with_len}
 use Rattle.std.specs.Option.{option_map_or}
 use Rattle.std.proofs.lemmas.Int.{ints}
 use Rattle.jiff.specs.Types.{Date}
 use Rattle.office_core.specs.RetentionReading.{due_of}
 use Rattle.office_core.specs.declared.retention.Due.TheVariants.{Never}
-use Rattle.office_rows.specs.Rows.{more_holds, is_within}
+use Rattle.office_rows.specs.Rows.{DepositRow, more_holds, is_of_class, is_within}
 use Rattle.office_history.specs.Lists.{item_numbered, numbers}
-use Rattle.office_history.specs.Histories.{History, Change, Deposit, Hold, OnCollection, PlacedHold, with_changes, deposits, due, holds, release_day, reaches, live_holds}
+use Rattle.office_history.specs.Histories.{History, Change, Deposit, Hold, OnCollection, OnClass, PlacedHold, with_changes, deposits, due, holds, release_day, reaches, live_holds}
 use Rattle.office_history.specs.Pictures.{deposit_row, deposit_rows, due_number, due_row, due_rows}
 use Rattle.office_history.proofs.HistoryLemmas.{holds_grown}
 use Rattle.office_asking.proofs.NumberedRows.{rows_from}
@@ -90,23 +90,32 @@ module _ (h : History) (day : Date) (hold : Hold) (not_yet : release_day h (1 + 
   same_due : (x : Date × Deposit) → due h x.1 ≡ due longer x.1
   same_due x = λ i. option_map_or (due_of x.1.closed) (sym (same_years h more (λ name. refl) x.1.class) i) Never
 
-  placed_within : (name : List ℕ) → hold.target ≡ OnCollection name → (m : ℕ) (x : Date × Deposit)
-      → (if is_within name (deposit_row h m x) then record (due_row h m x) { holds = (due_row h m x).holds +ℤ pos 1 } else due_row h m x) ≡ due_row longer m x
-  placed_within name is m x = by (bytes_eq x.1.collection name) refl
+  placed_those : (those : DepositRow → Bool) → ((m : ℕ) (x : Date × Deposit) → reaches hold.target m x.1 ≡ those (deposit_row h m x)) → (m : ℕ) (x : Date × Deposit)
+      → (if those (deposit_row h m x) then record (due_row h m x) { holds = (due_row h m x).holds +ℤ pos 1 } else due_row h m x) ≡ due_row longer m x
+  placed_those those reached m x = by (those (deposit_row h m x)) refl
     where
-      counted : (b : Bool) → bytes_eq x.1.collection name ≡ b → length (live_holds longer m x.1) ≡ length (live_holds h m x.1) + (if b then 1 else 0)
-      counted b e = count_more m x.1 ∙ ap (λ c. length (live_holds h m x.1) + (if c then 1 else 0)) (ap (λ t. reaches t m x.1) is ∙ bytes_alike name x.1.collection ∙ e)
+      counted : (b : Bool) → those (deposit_row h m x) ≡ b → length (live_holds longer m x.1) ≡ length (live_holds h m x.1) + (if b then 1 else 0)
+      counted b e = count_more m x.1 ∙ ap (λ c. length (live_holds h m x.1) + (if c then 1 else 0)) (reached m x ∙ e)
 
-      by : (b : Bool) → bytes_eq x.1.collection name ≡ b → (if b then record (due_row h m x) { holds = (due_row h m x).holds +ℤ pos 1 } else due_row h m x) ≡ due_row longer m x
+      by : (b : Bool) → those (deposit_row h m x) ≡ b → (if b then record (due_row h m x) { holds = (due_row h m x).holds +ℤ pos 1 } else due_row h m x) ≡ due_row longer m x
       by true e = λ i. record { number = pos m; due = due_number (same_due x i); holds = up (length (live_holds h m x.1)) (length (live_holds longer m x.1)) (counted true e) i }
       by false e =
           let same : length (live_holds h m x.1) ≡ length (live_holds longer m x.1) = omega (arith, counted false e) in
           λ i. record { number = pos m; due = due_number (same_due x i); holds = pos (same i) }
 
-  -- a hold on a collection counts over each of its deposits
-  pub dues_placed : (name : List ℕ) → hold.target ≡ OnCollection name → more_holds (is_within name) (pos 1) (deposit_rows h) (due_rows h) ≡ due_rows longer
-  dues_placed name is =
-      ap₂ (more_holds (is_within name) (pos 1)) (deposit_rows_are h) (due_rows_are h)
-      ∙ more_from (is_within name) (pos 1) (deposit_row h) (due_row h) (due_row longer) (placed_within name is) (deposits h) 1
+  -- a hold counts over each of the deposits that it reaches
+  dues_of_those : (those : DepositRow → Bool) → ((m : ℕ) (x : Date × Deposit) → reaches hold.target m x.1 ≡ those (deposit_row h m x))
+      → more_holds those (pos 1) (deposit_rows h) (due_rows h) ≡ due_rows longer
+  dues_of_those those reached =
+      ap₂ (more_holds those (pos 1)) (deposit_rows_are h) (due_rows_are h)
+      ∙ more_from those (pos 1) (deposit_row h) (due_row h) (due_row longer) (placed_those those reached) (deposits h) 1
       ∙ ap (rows_from (due_row longer) 1) (sym (same_deposits h more refl))
       ∙ sym (due_rows_are longer)
+
+  -- one on a collection over each of its deposits
+  pub dues_placed : (name : List ℕ) → hold.target ≡ OnCollection name → more_holds (is_within name) (pos 1) (deposit_rows h) (due_rows h) ≡ due_rows longer
+  dues_placed name is = dues_of_those (is_within name) (λ m x. ap (λ t. reaches t m x.1) is ∙ bytes_alike name x.1.collection)
+
+  -- and one on a class over each deposit of the class
+  pub dues_placed_of_class : (name : List ℕ) → hold.target ≡ OnClass name → more_holds (is_of_class name) (pos 1) (deposit_rows h) (due_rows h) ≡ due_rows longer
+  dues_placed_of_class name is = dues_of_those (is_of_class name) (λ m x. ap (λ t. reaches t m x.1) is ∙ bytes_alike name x.1.class)

@@ -18,8 +18,8 @@ use Rattle.office_asking.specs.Pictures.{Pictures}
 use Rattle.office_asking.proofs.Readings.{in_picture}
 use Rattle.office_history.specs.Lists.{numbers}
 use Rattle.office_history.specs.Histories as histories
-use Rattle.office_history.specs.Histories.{History, Hold, Target, OnDeposit, OnCollection, Deposit, holds, release_day, reaches, covers}
-use Rattle.office_history.specs.Pictures.{held_deposit, held_collection, hold_row, hold_rows, picture}
+use Rattle.office_history.specs.Histories.{History, Hold, Target, OnDeposit, OnCollection, OnClass, Deposit, holds, release_day, reaches, covers}
+use Rattle.office_history.specs.Pictures.{held_deposit, held_collection, held_class, hold_row, hold_rows, picture}
 use Rattle.office_history.specs.Answers.{scope_of, live_hold, told_hold}
 use Rattle.office_history.proofs.Pictured.{same_day}
 use Rattle.office_asking.specs.Holds.{IsHoldOf, scope_in}
@@ -51,29 +51,34 @@ live_same : (o : Option Date) → not (is_some (option_map epoch_day o)) ≡ is_
 live_same None = refl
 live_same (Some day) = refl
 
-reach_same : (target : Target) (n : ℕ) (deposit : Deposit)
-    → (unwrap_or (option_map (λ d. int_eq d (pos n)) (held_deposit target)) false || unwrap_or (option_map (λ c. bytes_eq c deposit.collection) (held_collection target)) false) ≡ reaches target n deposit
-reach_same (OnDeposit m) n deposit = or-false (int_eq (pos m) (pos n)) ∙ same_number m n
-reach_same (OnCollection name) n deposit = refl
+-- the row of a hold on this names the deposit, its collection or its class
+abbrev names_it : Target → ℕ → Deposit → Bool
+names_it target n deposit =
+    unwrap_or (option_map (λ d. int_eq d (pos n)) (held_deposit target)) false
+    || (unwrap_or (option_map (λ c. bytes_eq c deposit.collection) (held_collection target)) false || unwrap_or (option_map (λ c. bytes_eq c deposit.class) (held_class target)) false)
 
-pub live_told : (h : History) (n : ℕ) (deposit : Deposit) (version : ℤ) → rows.live_holds (pos n) deposit.collection (picture version h) ≡ map pos (histories.live_holds h n deposit)
+reach_same : (target : Target) (n : ℕ) (deposit : Deposit) → names_it target n deposit ≡ reaches target n deposit
+reach_same (OnDeposit m) n deposit = or-false (int_eq (pos m) (pos n)) ∙ same_number m n
+reach_same (OnCollection name) n deposit = or-false (bytes_eq name deposit.collection)
+reach_same (OnClass name) n deposit = refl
+
+pub live_told : (h : History) (n : ℕ) (deposit : Deposit) (version : ℤ) → rows.live_holds (pos n) deposit.collection deposit.class (picture version h) ≡ map pos (histories.live_holds h n deposit)
 live_told h n deposit version =
-    ap (λ (hs : List HoldRow). map (λ (r : HoldRow). r.number) (filter (is_live_over (pos n) deposit.collection) hs)) (hold_rows_are h)
-    ∙ numbers_passing (hold_row h) (λ r. r.number) (λ m x. refl) (is_live_over (pos n) deposit.collection) (λ k. histories.is_live h k && covers h k n deposit) (holds h) 1 (λ i x e. λ j.
+    ap (λ (hs : List HoldRow). map (λ (r : HoldRow). r.number) (filter (is_live_over (pos n) deposit.collection deposit.class) hs)) (hold_rows_are h)
+    ∙ numbers_passing (hold_row h) (λ r. r.number) (λ m x. refl) (is_live_over (pos n) deposit.collection deposit.class) (λ k. histories.is_live h k && covers h k n deposit) (holds h) 1 (λ i x e. λ j.
     live_same (release_day h (1 + i)) j && reached i x e j)
   where
-    reached : (i : ℕ) (x : Date × Hold) → slice_get (holds h) i ≡ Some x
-        → (unwrap_or (option_map (λ d. int_eq d (pos n)) (held_deposit x.1.target)) false || unwrap_or (option_map (λ c. bytes_eq c deposit.collection) (held_collection x.1.target)) false) ≡ covers h (1 + i) n deposit
+    reached : (i : ℕ) (x : Date × Hold) → slice_get (holds h) i ≡ Some x → names_it x.1.target n deposit ≡ covers h (1 + i) n deposit
     reached i x e =
         let one : 1 + i ≡ suc i = omega arith in
         reach_same x.1.target n deposit ∙ ap (λ o. option_map_or (λ (hold : Date × Hold). reaches hold.1.target n deposit) o false) (sym e) ∙ ap (λ k. covers h k n deposit) (sym one)
 
 -- the numbers of the live holds over a deposit that are read
-pub live_read : (h : History) (db : Database) → Pictures h db → (n : ℕ) (collection : List ℕ) (numbers : List ℕ) → map pos numbers ≡ rows.live_holds (pos n) collection (tables_of db)
-    → (deposit : Deposit) → deposit.collection ≡ collection → numbers ≡ histories.live_holds h n deposit
-live_read h db pictured n collection numbers e deposit is =
+pub live_read : (h : History) (db : Database) → Pictures h db → (n : ℕ) (collection class : List ℕ) (numbers : List ℕ) → map pos numbers ≡ rows.live_holds (pos n) collection class (tables_of db)
+    → (deposit : Deposit) → deposit.collection ≡ collection → deposit.class ≡ class → numbers ≡ histories.live_holds h n deposit
+live_read h db pictured n collection class numbers e deposit within of =
     map_back pos same_count numbers (histories.live_holds h n deposit)
-    (e ∙ in_picture h db pictured (rows.live_holds (pos n) collection) ∙ ap (λ c. rows.live_holds (pos n) c (picture this_version h)) (sym is) ∙ live_told h n deposit this_version)
+    (e ∙ in_picture h db pictured (rows.live_holds (pos n) collection class) ∙ (λ i. rows.live_holds (pos n) (sym within i) (sym of i) (picture this_version h)) ∙ live_told h n deposit this_version)
 
 -- ---- a hold by its row
 
@@ -81,15 +86,16 @@ pub hold_read : (h : History) (db : Database) → Pictures h db → (k : ℕ) (f
 hold_read h db pictured k found e =
     e ∙ in_picture h db pictured (λ t. rows.hold_numbered (pos k) t.holds) ∙ ap (rows.hold_numbered (pos k)) (hold_rows_are h) ∙ found_at (hold_row h) (λ r. r.number) (λ m x. refl) (holds h) k
 
-scope_told : (target : Target) → scope_in (held_deposit target) (held_collection target) ≡ Some (scope_of target)
+scope_told : (target : Target) → scope_in (held_deposit target) (held_collection target) (held_class target) ≡ Some (scope_of target)
 scope_told (OnDeposit n) = refl
 scope_told (OnCollection name) = refl
+scope_told (OnClass name) = refl
 
 hold_is : (h : History) (k : ℕ) (found : Date × Hold) (row : HoldRow) → row ≡ hold_row h k found → (told : LiveHold) → IsHoldOf row told → told ≡ live_hold k found
 hold_is h k found row is told e = λ i. record {
   number = same_count told.number k (e.number ∙ ap (λ (r : HoldRow). r.number) is) i;
   matter = (e.matter ∙ ap (λ (r : HoldRow). r.matter) is) i;
-  on = same_Some told.on (scope_of found.1.target) (e.on ∙ ap (λ (r : HoldRow). scope_in r.deposit r.collection) is ∙ scope_told found.1.target) i;
+  on = same_Some told.on (scope_of found.1.target) (e.on ∙ ap (λ (r : HoldRow). scope_in r.deposit r.collection r.class) is ∙ scope_told found.1.target) i;
   placed = same_day told.placed found.0 (e.placed ∙ ap (λ (r : HoldRow). r.placed) is) i;
 }
 

@@ -6,6 +6,7 @@ use Rattle.std.specs.List.{position_or_len}
 use Rattle.std.proofs.lemmas.Bool.Decides.{nat_tests}
 use Rattle.std.proofs.lemmas.Option.{same_Some, slice_get_past}
 use Rattle.std.proofs.lemmas.List.Folds.{find_at}
+use Rattle.jiff.specs.Words.{epoch_day}
 use Rattle.office_core.specs.Actions.{action_text}
 use Rattle.office_core.specs.Names.{IsName}
 use Rattle.office_core.specs.declared.rule.Pattern.{Pattern}
@@ -14,7 +15,7 @@ use Rattle.office_core.specs.Policies.{PolicyValue, IsPolicy, IsNamed, HasNames}
 use Rattle.office_core.specs.Rules.{Question, decision_of}
 use Rattle.office_core.specs.declared.rule.Rule.{Rule}
 use Rattle.office_rows.specs.Rows.{RuleRow}
-use Rattle.office_rows.specs.Matching.{fits_name, rule_fits, matching_rule}
+use Rattle.office_rows.specs.Matching.{counts_on, fits_name, rule_fits, matching_rule}
 use Rattle.office_history.specs.Pictures.{pattern_text, effect_number, rule_row, rule_rows}
 use Rattle.office_core.specs.declared.rule.Decision.{Decision}
 use Rattle.office_asking.specs.Asking.{IsDecisionOf, or_empty, place_and_effect, rule_and_effect}
@@ -33,18 +34,19 @@ optional_fits : (text : List ℕ) (name : Option (List ℕ)) → IsSaid text →
 optional_fits text None said = ap (λ b. bytes_eq text star || b) said ∙ or_false (bytes_eq text star)
 optional_fits text (Some name) said = refl
 
-four : (a b c d : Bool) → (a && (b && (c && d))) ≡ (a && b && c && d)
-four true true c d = refl
-four true false c d = refl
-four false b c d = refl
+five : (a b c d e : Bool) → (a && (b && (c && (d && e)))) ≡ (a && b && c && d && e)
+five true true true d e = refl
+five true true false d e = refl
+five true false c d e = refl
+five false b c d e = refl
 
 abbrev fits : Question → RuleRow → Bool
-fits asked = rule_fits asked.role (action_text asked.action) (or_empty asked.collection) (or_empty asked.class)
+fits asked = rule_fits asked.role (action_text asked.action) (or_empty asked.collection) (or_empty asked.class) (epoch_day asked.day)
 
 row_fits : (row : RuleRow) (asked : Question) → IsSaid row.collection → IsSaid row.class → fits asked row ≡ row_matches row asked
 row_fits row asked collection class =
-    four (asks_for row.role asked.role) (asks_for row.action (action_text asked.action)) (fits_name row.collection (or_empty asked.collection)) (fits_name row.class (or_empty asked.class))
-    ∙ (λ i. asks_for row.role asked.role && asks_for row.action (action_text asked.action) && optional_fits row.collection asked.collection collection i && optional_fits row.class asked.class class i)
+    five (asks_for row.role asked.role) (asks_for row.action (action_text asked.action)) (fits_name row.collection (or_empty asked.collection)) (fits_name row.class (or_empty asked.class)) (counts_on (epoch_day asked.day) row)
+    ∙ (λ i. asks_for row.role asked.role && asks_for row.action (action_text asked.action) && optional_fits row.collection asked.collection collection i && optional_fits row.class asked.class class i && counts_on (epoch_day asked.day) row)
 
 -- ---- the row that is found says its own place, which is its position
 
@@ -92,7 +94,7 @@ same_found asked start (rule ∷ rules) named =
 
 -- the rule row of the least place that matches is that of the rule that decides, with its number as its place
 pub match_told : (policy : PolicyValue) (asked : Question) → IsPolicy policy
-    → option_map placed (matching_rule asked.role (action_text asked.action) (or_empty asked.collection) (or_empty asked.class) (rule_rows 1 policy.rules)) ≡ option_map told (option_map as_row (decision_of policy.rules asked))
+    → option_map placed (matching_rule asked.role (action_text asked.action) (or_empty asked.collection) (or_empty asked.class) (epoch_day asked.day) (rule_rows 1 policy.rules)) ≡ option_map told (option_map as_row (decision_of policy.rules asked))
 match_told policy asked named =
     ap (option_map placed) (same_found asked 1 policy.rules named.rules_ask_for_names) ∙ found_is (λ row. row_matches row asked) policy.rules ∙ ap (option_map told) (decision_told policy asked named)
 
@@ -101,7 +103,7 @@ twice_mapped None = refl
 twice_mapped (Some decision) = refl
 
 pub rule_told : (policy : PolicyValue) (asked : Question) → IsPolicy policy
-    → option_map place_and_effect (matching_rule asked.role (action_text asked.action) (or_empty asked.collection) (or_empty asked.class) (rule_rows 1 policy.rules)) ≡ option_map rule_and_effect (decision_of policy.rules asked)
+    → option_map place_and_effect (matching_rule asked.role (action_text asked.action) (or_empty asked.collection) (or_empty asked.class) (epoch_day asked.day) (rule_rows 1 policy.rules)) ≡ option_map rule_and_effect (decision_of policy.rules asked)
 rule_told policy asked named = match_told policy asked named ∙ twice_mapped (decision_of policy.rules asked)
 
 -- ---- and back
@@ -117,7 +119,7 @@ told_back (Some a) (Some b) e =
 -- what the row that is found tells is what the policy decides
 module _ (policy : PolicyValue) (asked : Question) (named : IsPolicy policy) where
   abbrev found_row : Option RuleRow
-  found_row = matching_rule asked.role (action_text asked.action) (or_empty asked.collection) (or_empty asked.class) (rule_rows 1 policy.rules)
+  found_row = matching_rule asked.role (action_text asked.action) (or_empty asked.collection) (or_empty asked.class) (epoch_day asked.day) (rule_rows 1 policy.rules)
 
   pub none_decides : None ≡ found_row → None ≡ decision_of policy.rules asked
   none_decides none = told_back None (decision_of policy.rules asked) (ap (option_map placed) none ∙ match_told policy asked named)

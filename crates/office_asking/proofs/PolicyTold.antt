@@ -1,9 +1,14 @@
 -- What the rows of callers and rules tell of the policy.
-use Rattle.std.proofs.Common.{◌≡◌, ℕ, ℤ, zero, suc, ◌+◌, codes, Bool, true, false, ◌||◌, ◌&&◌, List, [], ◌∷◌, map, Option, Some, None, option_map, slice_get, refl, ap, ◌∙◌, cond}
-use Rattle.std.specs.Prelude.{bytes_eq, find, position, option_and_then, nat_lt, not}
+use Rattle.std.proofs.Common.{◌≡◌, ℕ, ℤ, zero, suc, ◌+◌, codes, Bool, true, false, ◌||◌, ◌&&◌, List, [], ◌∷◌, map, Option, Some, None, option_map, slice_get, refl, ap, ◌∙◌, cond, arith}
+use Rattle.std.specs.Prelude.{bytes_eq, find, int_le, position, option_and_then, nat_lt, not}
+use Rattle.std.specs.Ordering.{int_cmp, is_ge, is_le}
+use Rattle.std.proofs.lemmas.Int.{ints}
+use Rattle.jiff.specs.Types.{Date}
+use Rattle.jiff.specs.Words.{epoch_day}
 use Rattle.std.specs.List.{AllByRecursion, prefix_len}
 use Rattle.office_core.specs.Actions.{action_text}
 use Rattle.office_core.specs.Policies.{PolicyValue, IsPolicy, IsNamed, HasNames, or_stranger}
+use Rattle.office_core.specs.Rules as core
 use Rattle.office_core.specs.Rules.{Question, matches_name, matches_action, matches_optional, matches, decision_at, decision_of}
 use Rattle.office_core.specs.declared.action.Action.{Action}
 use Rattle.office_core.specs.declared.action.Action.TheVariants as acts
@@ -16,6 +21,7 @@ use Rattle.office_core.specs.declared.rule.Effect.TheVariants.{Allow, Deny}
 use Rattle.office_core.specs.declared.rule.Pattern.{Pattern}
 use Rattle.office_core.specs.declared.rule.Pattern.TheVariants as patterns
 use Rattle.office_core.specs.declared.rule.Rule.{Rule}
+use Rattle.office_rows.specs.Matching.{counts_on}
 use Rattle.office_rows.specs.Rows.{CallerRow, RuleRow, caller_named}
 use Rattle.office_history.specs.Pictures.{caller_row, effect_number, pattern_text, action_pattern_text, rule_row, rule_rows}
 use Rattle.office_history.proofs.Pictured.{not_star}
@@ -37,6 +43,7 @@ abbrev pub row_matches : RuleRow → Question → Bool
 row_matches row asked =
     asks_for row.role asked.role && asks_for row.action (action_text asked.action)
     && asks_for_optional row.collection asked.collection && asks_for_optional row.class asked.class
+    && counts_on (epoch_day asked.day) row
 
 -- the number of the first rule that matches, from 1, and the number that stands for its effect
 abbrev pub row_decision : List RuleRow → Question → Option (ℕ × ℤ)
@@ -85,12 +92,31 @@ action_asks : (pattern : ActionPattern) (action : Action) → asks_for (action_p
 action_asks action_patterns.Any action = refl
 action_asks (action_patterns.Only only) action = ap (λ b. b || bytes_eq (action_text only) (action_text action)) (action_not_star only)
 
+-- ---- the days
+
+-- two tests of the same two numbers
+same_test : (a b : Bool) → (a ≡ true → b ≡ false → ⊥) → (a ≡ false → b ≡ true → ⊥) → a ≡ b
+same_test true true up down = refl
+same_test true false up down = absurd (up refl refl)
+same_test false true up down = absurd (down refl refl)
+same_test false false up down = refl
+
+no_later : (a b : ℤ) → is_le (int_cmp a b) ≡ int_le a b
+no_later a b = same_test (is_le (int_cmp a b)) (int_le a b) (λ e f. grind (arith, ints, e, f)) (λ e f. grind (arith, ints, e, f))
+
+no_earlier : (a b : ℤ) → is_ge (int_cmp a b) ≡ int_le b a
+no_earlier a b = same_test (is_ge (int_cmp a b)) (int_le b a) (λ e f. grind (arith, ints, e, f)) (λ e f. grind (arith, ints, e, f))
+
+counts_told : (place : ℕ) (rule : Rule) (day : Date) → counts_on (epoch_day day) (rule_row place rule) ≡ core.counts_on rule day
+counts_told place rule day = λ i. no_later (epoch_day rule.first) (epoch_day day) i && no_earlier (epoch_day rule.last) (epoch_day day) i
+
 -- ---- the rules
 
 row_told : (place : ℕ) (rule : Rule) (asked : Question) → HasNames rule → row_matches (rule_row place rule) asked ≡ matches rule asked
 row_told place rule asked named = λ i.
     asks_told rule.role asked.role named.0 i && action_asks rule.action asked.action i
     && optional_told rule.collection asked.collection named.1 i && optional_told rule.class asked.class named.2 i
+    && counts_told place rule asked.day i
 
 decision_same : (at place i : ℕ) (rules : List Rule) → option_map (λ (row : RuleRow). (at + 1, row.effect)) (slice_get (rule_rows place rules) i) ≡ option_map as_row (option_map (decision_at at) (slice_get rules i))
 decision_same at place i [] = refl

@@ -1,5 +1,7 @@
 -- What is read of the tables, by the history that they picture.
 use Rattle.std.proofs.Common.{◌≡◌, ℕ, List, Option, Some, None, option_map, string_bytes, sym, ap, subst, ◌∙◌}
+use Rattle.jiff.specs.Types.{Date}
+use Rattle.jiff.specs.Words.{epoch_day}
 use Rattle.sqlite.specs.Effect.{Database}
 use Rattle.office_core.specs.Actions.{action_text}
 use Rattle.office_core.specs.Policies.{or_stranger, role_of}
@@ -34,19 +36,24 @@ pub role_read : (h : History) (old : Database) → Pictures h old → (caller : 
     → or_stranger role ≡ role_of (policy h) caller
 role_read h old pictured caller role found = ap or_stranger (found ∙ in_picture h old pictured (λ t. option_map (λ (c : CallerRow). c.role) (caller_named caller t.callers))) ∙ role_told caller (policy h).callers
 
--- the rule that is found for a caller's role is the one that decides
-module _ (h : History) (old : Database) (legal : IsLegal h) (pictured : Pictures h old) (caller : List ℕ) (asker : Asker) (is : IsAsker h caller asker) (action : Action) (collection class : Option (List ℕ)) where
+-- the rule that is found for a caller's role on the asker's day is the one that decides
+module _ (h : History) (old : Database) (legal : IsLegal h) (pictured : Pictures h old) (day : Date) (caller : List ℕ) (asker : Asker) (is : IsAsker h day caller asker) (action : Action) (collection class : Option (List ℕ)) where
   abbrev asked : List ℕ → Question
-  asked role = record { role = role; action = action; collection = collection; class = class }
+  asked role = record { role = role; action = action; collection = collection; class = class; day = day }
+
+  abbrev pub found_on : Date → List ℕ → Option RuleRow
+  found_on on role = matching_rule role (action_text action) (or_empty collection) (or_empty class) (epoch_day on) (tables_of old).rules
 
   abbrev pub found_for : List ℕ → Option RuleRow
-  found_for role = matching_rule role (action_text action) (or_empty collection) (or_empty class) (tables_of old).rules
+  found_for = found_on asker.day
 
-  pictured_rule : found_for (or_stranger (option_map string_bytes asker.role)) ≡ matching_rule (role_of (policy h) caller) (action_text action) (or_empty collection) (or_empty class) (rule_rows 1 (policy h).rules)
-  pictured_rule = ap found_for is ∙ in_picture h old pictured (λ t. matching_rule (role_of (policy h) caller) (action_text action) (or_empty collection) (or_empty class) t.rules)
+  pictured_rule : found_for (or_stranger (option_map string_bytes asker.role)) ≡ matching_rule (role_of (policy h) caller) (action_text action) (or_empty collection) (or_empty class) (epoch_day day) (rule_rows 1 (policy h).rules)
+  pictured_rule =
+      (λ i. found_on (is.on i) (is.role i))
+      ∙ in_picture h old pictured (λ t. matching_rule (role_of (policy h) caller) (action_text action) (or_empty collection) (or_empty class) (epoch_day day) t.rules)
 
-  pub none_found : None ≡ found_for (or_stranger (option_map string_bytes asker.role)) → None ≡ deciding_rule h caller action collection class
+  pub none_found : None ≡ found_for (or_stranger (option_map string_bytes asker.role)) → None ≡ deciding_rule h day caller action collection class
   none_found none = none_decides (policy h) (asked (role_of (policy h) caller)) (legal_policy h legal) (none ∙ pictured_rule)
 
-  pub rule_found : (row : RuleRow) → Some row ≡ found_for (or_stranger (option_map string_bytes asker.role)) → (decision : Decision) → IsDecisionOf row decision → Some decision ≡ deciding_rule h caller action collection class
+  pub rule_found : (row : RuleRow) → Some row ≡ found_for (or_stranger (option_map string_bytes asker.role)) → (decision : Decision) → IsDecisionOf row decision → Some decision ≡ deciding_rule h day caller action collection class
   rule_found row there decision says = row_decides (policy h) (asked (role_of (policy h) caller)) (legal_policy h legal) row (there ∙ pictured_rule) decision says

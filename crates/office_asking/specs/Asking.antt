@@ -1,5 +1,6 @@
 -- Who asks, by the rows of the callers, and the rule that decides, by its row.
 use Rattle.std.specs.Prelude.{◌≡◌, ◌≤◌, ℕ, ℤ, pos, List, [], Option, unwrap_or, option_map, string_bytes}
+use Rattle.jiff.specs.Types.{Date}
 use Rattle.office_core.specs.Bounds.{max_rules}
 use Rattle.office_core.specs.Policies.{or_stranger, role_of}
 use Rattle.office_core.specs.declared.rule.Decision.{Decision}
@@ -21,9 +22,10 @@ pub record IsDecisionOf (row : RuleRow) (decision : Decision) : Type 0 where
   pub effect : effect_number decision.effect ≡ row.effect
   pub in_range : IsRuleRow row
 
--- the role is the caller's
-abbrev pub IsAsker : History → List ℕ → Asker → Type 0
-IsAsker h caller asker = or_stranger (option_map string_bytes asker.role) ≡ role_of (policy h) caller
+-- the role is the caller's, and the day is the one on which it asks
+pub record IsAsker (h : History) (day : Date) (caller : List ℕ) (asker : Asker) : Type 0 where
+  pub role : or_stranger (option_map string_bytes asker.role) ≡ role_of (policy h) caller
+  pub on : asker.day ≡ day
 
 -- what a rule's row, and a decision, say of the rule: its place and its effect
 abbrev pub place_and_effect : RuleRow → ℤ × ℤ

@@ -20,7 +20,7 @@ use Rattle.office_core.specs.declared.refusal.Refusal.{Refusal}
 use Rattle.office_core.specs.declared.refusal.Refusal.TheVariants.{NoSuch, Gone}
 use Rattle.office_core.specs.declared.refusal.Subject.TheVariants as subjects
 use Rattle.office_core.specs.declared.rule.Decision.{Decision}
-use Rattle.office_rows.specs.Rows.{CallerRow, ClassRow, DepositRow, DueRow, HoldRow, Limits, RuleRow, Tables, caller_named, class_named, deposit_numbered, due_numbered, hold_numbered, holds_collection, holds_deposit, limits_of, live_holds}
+use Rattle.office_rows.specs.Rows.{CallerRow, ClassRow, DepositRow, DueRow, HoldRow, Limits, RuleRow, Tables, caller_named, class_named, deposit_numbered, due_numbered, hold_numbered, holds_class, holds_collection, holds_deposit, limits_of, live_holds}
 use Rattle.office_rows.specs.Matching.{matching_rule}
 use Rattle.office_history.specs.Pictures.{years_number}
 use Rattle.office_history.specs.Refusals.{refusal_in}
@@ -36,14 +36,15 @@ use Rattle.office_asking.specs.declared.deposits.DepositDays.{DepositDays}
 abbrev pub role_in : Tables → List ℕ → List ℕ
 role_in t caller = or_stranger (option_map (λ (c : CallerRow). c.role) (caller_named caller t.callers))
 
--- the role is that one, and the caller's row, where there is one, is in its ranges
-pub record IsAskerIn (t : Tables) (caller : List ℕ) (asker : Asker) : Type 0 where
+-- the role is that one, the day is the one on which it asks, and the caller's row, where there is one, is in its ranges
+pub record IsAskerIn (t : Tables) (day : Date) (caller : List ℕ) (asker : Asker) : Type 0 where
   pub role : or_stranger (option_map string_bytes asker.role) ≡ role_in t caller
+  pub on : asker.day ≡ day
   pub in_range : IfSome (caller_named caller t.callers) IsCallerRow
 
--- the row of the rule that decides, if one matches
-abbrev pub deciding_row : Tables → List ℕ → Action → Option (List ℕ) → Option (List ℕ) → Option RuleRow
-deciding_row t caller action collection class = matching_rule (role_in t caller) (action_text action) (or_empty collection) (or_empty class) t.rules
+-- the row of the rule that decides on that day, if one matches
+abbrev pub deciding_row : Tables → Date → List ℕ → Action → Option (List ℕ) → Option (List ℕ) → Option RuleRow
+deciding_row t day caller action collection class = matching_rule (role_in t caller) (action_text action) (or_empty collection) (or_empty class) (epoch_day day) t.rules
 
 -- the decision is what the row of its rule says, and there is none where there is no row
 abbrev pub IsDecisionBy : Option RuleRow → Option Decision → Type 0
@@ -52,9 +53,9 @@ IsDecisionBy (Some row) (Some decision) = IsDecisionOf row decision
 IsDecisionBy _ _ = ⊥
 
 -- the refusal, if any, that the rule comes to which decides
-pub record IsDenialIn (t : Tables) (caller : List ℕ) (action : Action) (collection class : Option (List ℕ)) (why : Option Refusal) : Type 0 where
+pub record IsDenialIn (t : Tables) (day : Date) (caller : List ℕ) (action : Action) (collection class : Option (List ℕ)) (why : Option Refusal) : Type 0 where
   pub decision : Option Decision
-  pub decided : IsDecisionBy (deciding_row t caller action collection class) decision
+  pub decided : IsDecisionBy (deciding_row t day caller action collection class) decision
   pub comes_to : why ≡ refusal_in (denial_verdict decision)
 
 -- ---- a deposit that is asked for
@@ -73,20 +74,20 @@ IsFirst (Some denied) row why = why ≡ Some denied
 IsFirst None row why = (days : DepositDays) × AreDaysOf row days × (why ≡ option_map Gone days.gone)
 
 -- what stands first against this, of the deposit with that row
-pub record IsRefusalIn (t : Tables) (caller : List ℕ) (action : Action) (row : DepositRow) (why : Option Refusal) : Type 0 where
+pub record IsRefusalIn (t : Tables) (day : Date) (caller : List ℕ) (action : Action) (row : DepositRow) (why : Option Refusal) : Type 0 where
   pub denied : Option Refusal
-  pub denial : IsDenialIn t caller action (Some row.collection) (Some row.class) denied
+  pub denial : IsDenialIn t day caller action (Some row.collection) (Some row.class) denied
   pub first : IsFirst denied row why
 
 -- the same of a deposit that may not be there
-abbrev pub IsRefusalOf : Tables → List ℕ → Action → Option DepositRow → Refusal → Type 0
-IsRefusalOf t caller action None why = why ≡ NoSuch subjects.Deposit
-IsRefusalOf t caller action (Some row) why = IsRefusalIn t caller action row (Some why)
+abbrev pub IsRefusalOf : Tables → Date → List ℕ → Action → Option DepositRow → Refusal → Type 0
+IsRefusalOf t day caller action None why = why ≡ NoSuch subjects.Deposit
+IsRefusalOf t day caller action (Some row) why = IsRefusalIn t day caller action row (Some why)
 
 -- the row of the deposit of that number, or what stands first against this
-abbrev pub IsAskedIn : Tables → List ℕ → Action → ℕ → Result DepositRow Refusal → Type 0
-IsAskedIn t caller action n (Ok row) = (Some row ≡ deposit_numbered (pos n) t.deposits) × IsRefusalIn t caller action row None
-IsAskedIn t caller action n (Err why) = IsRefusalOf t caller action (deposit_numbered (pos n) t.deposits) why
+abbrev pub IsAskedIn : Tables → Date → List ℕ → Action → ℕ → Result DepositRow Refusal → Type 0
+IsAskedIn t day caller action n (Ok row) = (Some row ≡ deposit_numbered (pos n) t.deposits) × IsRefusalIn t day caller action row None
+IsAskedIn t day caller action n (Err why) = IsRefusalOf t day caller action (deposit_numbered (pos n) t.deposits) why
 
 -- ---- what stands against its destruction
 
@@ -104,17 +105,17 @@ pub record IsHoldIn (t : Tables) (k : ℕ) (told : LiveHold) : Type 0 where
   pub there : hold_numbered (pos k) t.holds ≡ Some row
   pub is : IsHoldOf row told
 
--- each hold over the deposit of that number, which is of that collection, was released on a day of the office or not at all
-abbrev pub AreReleasedOnDays : Tables → ℕ → List ℕ → Type 0
-AreReleasedOnDays t n collection =
-    AllByRecursion (λ (h : HoldRow). (holds_deposit (pos n) h || holds_collection collection h) ≡ true → IfSome h.released IsDayNumber) t.holds
+-- each hold over the deposit of that number, which is of that collection and that class, was released on a day of the office or not at all
+abbrev pub AreReleasedOnDays : Tables → ℕ → List ℕ → List ℕ → Type 0
+AreReleasedOnDays t n collection class =
+    AllByRecursion (λ (h : HoldRow). (holds_deposit (pos n) h || (holds_collection collection h || holds_class class h)) ≡ true → IfSome h.released IsDayNumber) t.holds
 
 -- this is the least of the live holds over a deposit, its row tells of a hold, and each hold over the deposit was released on a day or
 -- not at all
-pub record IsLeastIn (t : Tables) (n : ℕ) (collection : List ℕ) (k : ℕ) : Type 0 where
-  pub released : AreReleasedOnDays t n collection
+pub record IsLeastIn (t : Tables) (n : ℕ) (collection class : List ℕ) (k : ℕ) : Type 0 where
+  pub released : AreReleasedOnDays t n collection class
   pub others : List ℤ
-  pub live : live_holds (pos n) collection t ≡ pos k ∷ others
+  pub live : live_holds (pos n) collection class t ≡ pos k ∷ others
   pub told : LiveHold
   pub is : IsHoldIn t k told
 
@@ -125,14 +126,14 @@ pub record IsCountIn (t : Tables) (count : ℤ) : Type 0 where
   pub is : IsBetween (pos 1) limits.max_holds count
 
 -- none exactly where the count is 0; by any other count the least, which has to be there
-abbrev pub IsCountedIn : Tables → ℤ → ℕ → List ℕ → Option ℕ → Type 0
-IsCountedIn t count n collection None = count ≡ pos 0
-IsCountedIn t count n collection (Some k) = IsCountIn t count × IsLeastIn t n collection k
+abbrev pub IsCountedIn : Tables → ℤ → ℕ → List ℕ → List ℕ → Option ℕ → Type 0
+IsCountedIn t count n collection class None = count ≡ pos 0
+IsCountedIn t count n collection class (Some k) = IsCountIn t count × IsLeastIn t n collection class k
 
 -- what is known of the disposal of the deposit with that row, by the due day and the count that are kept beside it
-pub record AreFactsIn (t : Tables) (caller : List ℕ) (n : ℕ) (row : DepositRow) (facts : Facts) : Type 0 where
+pub record AreFactsIn (t : Tables) (day : Date) (caller : List ℕ) (n : ℕ) (row : DepositRow) (facts : Facts) : Type 0 where
   pub action : facts.action ≡ acts.Dispose
-  pub decided : IsDecisionBy (deciding_row t caller acts.Dispose (Some row.collection) (Some row.class)) facts.decision
+  pub decided : IsDecisionBy (deciding_row t day caller acts.Dispose (Some row.collection) (Some row.class)) facts.decision
   pub days : DepositDays
   pub are_days : AreDaysOf row days
   pub gone : facts.gone ≡ days.gone
@@ -140,4 +141,4 @@ pub record AreFactsIn (t : Tables) (caller : List ℕ) (n : ℕ) (row : DepositR
   pub there : Some kept ≡ due_numbered (pos n) t.dues
   pub due : due_number facts.due ≡ kept.due
   pub is_due : IfSome kept.due IsDueNumber
-  pub hold : IsCountedIn t kept.holds n row.collection facts.hold
+  pub hold : IsCountedIn t kept.holds n row.collection row.class facts.hold

@@ -2,15 +2,20 @@
 -- this one name, so that later tables change this definition and no contract.
 use Rattle.std.specs.Prelude.{◌≡◌}
 use Rattle.sqlite.specs.Effect.{Database}
-use Rattle.office_rows.specs.Rows.{this_version}
-use Rattle.office_tables.specs.Tables.{IsOffice, tables_of}
+use Rattle.office_tables.specs.Versions.{IsOfficeAt, tables_at, version_number}
+use Rattle.office_tables.specs.declared.version.TableVersion.{TableVersion}
+use Rattle.office_tables.specs.declared.version.TableVersion.TheVariants.{Fifth}
 use Rattle.office_tables.specs.Contents.{KeepsOnce}
 use Rattle.office_history.specs.Histories.{History}
 use Rattle.office_history.specs.Pictures.{picture}
 
--- the tables picture this history: they are an office's, their rows are those that the history gives, and no others, and the contents of
--- the files are kept once each
-pub record Pictures (h : History) (db : Database) : Type 0 where
-  pub office : IsOffice db
-  pub are : tables_of db ≡ picture this_version h
+-- the tables of that version picture this history: they are an office's, their rows are those that the history gives, and no others, and
+-- the contents of the files are kept once each
+pub record PicturesAt (version : TableVersion) (h : History) (db : Database) : Type 0 where
+  pub office : IsOfficeAt version db
+  pub are : tables_at version db ≡ picture (version_number version) h
   pub once : KeepsOnce db
+
+-- the same of the tables of this version
+abbrev pub Pictures : History → Database → Type 0
+Pictures = PicturesAt Fifth

@@ -1,8 +1,10 @@
 //! Who asks, and what the rules say of it.
 
-ghost use Rattle.std.specs.Prelude.{◌≡◌, ◌↔◌, ◌⊎◌, ℕ, pos, List, IfErr, IfOk, IfSome, IsTrue, OnOk, option_copied, option_map, string_bytes};
+ghost use Rattle.std.specs.Prelude.{◌≡◌, ◌↔◌, ◌⊎◌, ◌≤ℤ◌, ℕ, pos, List, IfErr, IfOk, IfSome, IsTrue, OnOk, option_copied, option_map, string_bytes};
+ghost use Rattle.jiff.specs.Types.{Date};
 ghost use Rattle.jiff.specs.Words.{IsBetween};
 ghost use Rattle.office_core.specs.Bounds.{max_rules};
+ghost use Rattle.office_core.specs.Days.{IsDayNumber};
 ghost use Rattle.office_core.specs.Names.{is_name, IsName};
 ghost use Rattle.office_core.specs.Policies.{or_stranger};
 ghost use Rattle.office_tables.specs.Faults.{IsFailure};
@@ -15,7 +17,8 @@ ghost use Rattle.office_asking.specs.ByRows.{IsAskerIn, IsDecisionBy, IsDenialIn
 ghost use Rattle.office_asking.specs.Serving.{Finds};
 
 use office_core::{
-    Action, Decision, Effect, MAX_RULES, Name, Refusal, denial_verdict, or_stranger,
+    Action, Day, Decision, Effect, FIRST_DAY_NUMBER, LAST_DAY_NUMBER, MAX_RULES, Name, Refusal,
+    denial_verdict, or_stranger,
 };
 use office_history::judging::refusal_of;
 use office_tables::{RuleRow, TableFault, match_rule, role_of};
@@ -51,6 +54,14 @@ fn asks_as_rules_do(rule: &RuleRow) -> bool
         && is_pattern(&rule.class)
 }
 
+/// Whether a rule may count from the one day to the other: both are days of the office, and the first is not
+/// after the last.
+fn are_bounds(first: i64, last: i64) -> bool
+    ensures { IsTrue result ↔ (IsDayNumber first × IsDayNumber last × (first ≤ℤ last)) }
+{
+    FIRST_DAY_NUMBER as i64 <= first && first <= last && last <= LAST_DAY_NUMBER as i64
+}
+
 /// What a rule says of what it matches.
 fn effect_of(rule: &RuleRow) -> Result<Effect, TableFault>
     ensures effect { IfOk result (λ effect. effect_number effect ≡ rule.now.effect) }
@@ -66,6 +77,14 @@ fn effect_of(rule: &RuleRow) -> Result<Effect, TableFault>
     }
 }
 
+/// Whether a rule may ask what the row asks, and count on the days of the row.
+fn is_rule(row: &RuleRow) -> bool
+    ensures { IsTrue result ↔ ((IsPatternText row.now.role × IsActionText row.now.action × IsPatternText row.now.collection × IsPatternText row.now.class)
+        × (IsDayNumber row.now.first × IsDayNumber row.now.last × (row.now.first ≤ℤ row.now.last))) }
+{
+    asks_as_rules_do(row) && are_bounds(row.first, row.last)
+}
+
 /// The decision that a rule's row tells.
 fn decision_in(row: &RuleRow) -> Result<Decision, TableFault>
     ensures decision { IfOk result (IsDecisionOf row.now) }
@@ -74,7 +93,7 @@ fn decision_in(row: &RuleRow) -> Result<Decision, TableFault>
     ensures store { IfErr result (λ fault. fault ≡ TableFault.Store) }
 {
     match usize::try_from(row.place) {
-        Ok(rule) if 1 <= rule && rule <= MAX_RULES && asks_as_rules_do(row) => Ok(Decision {
+        Ok(rule) if 1 <= rule && rule <= MAX_RULES && is_rule(row) => Ok(Decision {
             rule,
             effect: effect_of(row)?,
         }),
@@ -99,30 +118,35 @@ fn are_names(caller: &str, role: Option<&str>) -> bool
     }
 }
 
-/// Who asks: the role that the policy gives a caller.
+/// Who asks: the role that the policy gives a caller, on the day on which it asks.
 #[derive(Drop)]
 pub struct Asker {
     role: Option<String>,
+    day: Day,
 }
 
 impl Asker {
-    /// Reads the caller's role.
+    /// Reads the caller's role. The rules are asked by that day.
     ///
     /// Fails with `Memory` or `Store`.
-    pub fn read<S: Alter>(tx: &mut Transaction<'_, S>, caller: &str) -> Result<Asker, TableFault>
+    pub fn read<S: Alter>(
+        tx: &mut Transaction<'_, S>,
+        day: Day,
+        caller: &str,
+    ) -> Result<Asker, TableFault>
         ensures same_reference { tx.new.conn.ghost_name ≡ tx.old.conn.ghost_name }
         ensures stays { CommitsNothing S.Store tx.old.conn.now tx.new.conn.now }
         ensures goes_on { Continues S.Store tx.old.conn.now tx.new.conn.now result }
         ensures failure { IfErr result IsFailure }
         ensures same { Keeps S.Store tx.old.conn.now tx.new.conn.now result }
-        ensures asker { Finds S.Store tx.old.conn.now tx.new.conn.now result (λ h asker. IsAsker h caller.now asker) }
-        ensures rows { Tells S.Store tx.old.conn.now tx.new.conn.now result (λ tables asker. IsAskerIn tables caller.now asker) }
+        ensures asker { Finds S.Store tx.old.conn.now tx.new.conn.now result (λ h asker. IsAsker h day caller.now asker) }
+        ensures rows { Tells S.Store tx.old.conn.now tx.new.conn.now result (λ tables asker. IsAskerIn tables day caller.now asker) }
     {
         let role = role_of(tx, caller)?;
         if !are_names(caller, role.as_ref().map(|role| role.as_str())) {
             return Err(TableFault::Store);
         }
-        Ok(Asker { role })
+        Ok(Asker { role, day })
     }
 
     /// The caller's role, which is `stranger` where the policy gives none.
@@ -132,7 +156,7 @@ impl Asker {
         or_stranger(self.role.as_ref().map(|role| role.as_str()))
     }
 
-    /// The rule that decides what is asked, if one matches.
+    /// The rule that decides what is asked, if one matches on the day.
     ///
     /// Fails with `Memory` or `Store`.
     pub fn decision<S: Alter>(
@@ -147,10 +171,10 @@ impl Asker {
         ensures goes_on { Continues S.Store tx.old.conn.now tx.new.conn.now result }
         ensures failure { IfErr result IsFailure }
         ensures same { Keeps S.Store tx.old.conn.now tx.new.conn.now result }
-        ensures decided { Finds S.Store tx.old.conn.now tx.new.conn.now result (λ h decision. (caller : List ℕ) → IsAsker h caller self.now
-            → decision ≡ deciding_rule h caller action (option_copied collection.entry) (option_copied class.entry)) }
-        ensures rows { Tells S.Store tx.old.conn.now tx.new.conn.now result (λ tables decision. (caller : List ℕ) → IsAskerIn tables caller self.now
-            → IsDecisionBy (deciding_row tables caller action (option_copied collection.entry) (option_copied class.entry)) decision) }
+        ensures decided { Finds S.Store tx.old.conn.now tx.new.conn.now result (λ h decision. (day : Date) (caller : List ℕ) → IsAsker h day caller self.now
+            → decision ≡ deciding_rule h day caller action (option_copied collection.entry) (option_copied class.entry)) }
+        ensures rows { Tells S.Store tx.old.conn.now tx.new.conn.now result (λ tables decision. (day : Date) (caller : List ℕ) → IsAskerIn tables day caller self.now
+            → IsDecisionBy (deciding_row tables day caller action (option_copied collection.entry) (option_copied class.entry)) decision) }
     {
         let found = match_rule(
             tx,
@@ -158,6 +182,7 @@ impl Asker {
             action.as_str(),
             or_empty(collection),
             or_empty(class),
+            self.day.number() as i64,
         )?;
         match found {
             Some(row) => Ok(Some(decision_in(&row)?)),
@@ -165,7 +190,7 @@ impl Asker {
         }
     }
 
-    /// The refusal where the first rule that matches denies, or none matches.
+    /// The refusal where the first rule that matches on the day denies, or none matches.
     ///
     /// Fails with `Memory` or `Store`.
     pub fn denial<S: Alter>(
@@ -180,10 +205,10 @@ impl Asker {
         ensures goes_on { Continues S.Store tx.old.conn.now tx.new.conn.now result }
         ensures failure { IfErr result IsFailure }
         ensures same { Keeps S.Store tx.old.conn.now tx.new.conn.now result }
-        ensures denied { Finds S.Store tx.old.conn.now tx.new.conn.now result (λ h why. (caller : List ℕ) → IsAsker h caller self.now
-            → why ≡ denial h caller action (option_copied collection.entry) (option_copied class.entry)) }
-        ensures rows { Tells S.Store tx.old.conn.now tx.new.conn.now result (λ tables why. (caller : List ℕ) → IsAskerIn tables caller self.now
-            → IsDenialIn tables caller action (option_copied collection.entry) (option_copied class.entry) why) }
+        ensures denied { Finds S.Store tx.old.conn.now tx.new.conn.now result (λ h why. (day : Date) (caller : List ℕ) → IsAsker h day caller self.now
+            → why ≡ denial h day caller action (option_copied collection.entry) (option_copied class.entry)) }
+        ensures rows { Tells S.Store tx.old.conn.now tx.new.conn.now result (λ tables why. (day : Date) (caller : List ℕ) → IsAskerIn tables day caller self.now
+            → IsDenialIn tables day caller action (option_copied collection.entry) (option_copied class.entry) why) }
     {
         match denial_verdict(self.decision(tx, action, collection, class)?) {
             Some(verdict) => Ok(refusal_of(verdict)),
@@ -192,11 +217,13 @@ impl Asker {
     }
 }
 
-/// The refusal where the first rule that matches denies, or none matches, of a request that asks once.
+/// The refusal where the first rule that matches on that day denies, or none matches, of a request that
+/// asks once.
 ///
 /// Fails with `Memory` or `Store`.
 pub fn denial<S: Alter>(
     tx: &mut Transaction<'_, S>,
+    day: Day,
     caller: &str,
     action: Action,
     collection: Option<&str>,
@@ -208,10 +235,10 @@ pub fn denial<S: Alter>(
     ensures failure { IfErr result IsFailure }
     ensures same { Keeps S.Store tx.old.conn.now tx.new.conn.now result }
     ensures denied { Finds S.Store tx.old.conn.now tx.new.conn.now result (λ h why.
-        why ≡ denial h caller.now action (option_copied collection.entry) (option_copied class.entry)) }
+        why ≡ denial h day caller.now action (option_copied collection.entry) (option_copied class.entry)) }
     ensures rows { Tells S.Store tx.old.conn.now tx.new.conn.now result (λ tables why.
-        IsDenialIn tables caller.now action (option_copied collection.entry) (option_copied class.entry) why) }
+        IsDenialIn tables day caller.now action (option_copied collection.entry) (option_copied class.entry) why) }
 {
-    let asker = Asker::read(tx, caller)?;
+    let asker = Asker::read(tx, day, caller)?;
     asker.denial(tx, action, collection, class)
 }

@@ -1,6 +1,7 @@
 //! A deposit that is asked for.
 
 ghost use Rattle.std.specs.Prelude.{◌≡◌, ℕ, IfErr, IfOk, List, Some, option_map};
+ghost use Rattle.jiff.specs.Types.{Date};
 ghost use Rattle.jiff.specs.Words.{epoch_day};
 ghost use Rattle.office_tables.specs.Faults.{IsFailure};
 ghost use Rattle.office_tables.specs.Calls.{CommitsNothing, Continues, Keeps, Tells};
@@ -58,10 +59,10 @@ fn unless_refused(
     denied: Option<Refusal>,
 ) -> Result<Result<DepositRow, Refusal>, TableFault>
     ensures failure { IfErr result IsFailure }
-    ensures asked { IfOk result (λ asked. (h : History) (caller : List ℕ) (action : Action) (n : ℕ)
+    ensures asked { IfOk result (λ asked. (h : History) (day : Date) (caller : List ℕ) (action : Action) (n : ℕ)
         → Some deposit ≡ option_map (pictures.deposit_row h n) (deposit_numbered h n)
-        → denied ≡ refusals.denial h caller action (Some deposit.collection) (Some deposit.class)
-        → IsAsked h n (kept_refusals h caller action n) asked) }
+        → denied ≡ refusals.denial h day caller action (Some deposit.collection) (Some deposit.class)
+        → IsAsked h n (kept_refusals h day caller action n) asked) }
     ensures kept { IfOk result (λ asked. IfOk asked (λ row. (row ≡ deposit) × IsFirst denied deposit None)) }
     ensures refused { IfOk result (λ asked. IfErr asked (λ why. IsFirst denied deposit (Some why))) }
     ensures store { IfErr result (λ fault. fault ≡ TableFault.Store) }
@@ -76,12 +77,13 @@ fn unless_refused(
     }
 }
 
-/// The deposit of that number, where the caller may do that with it and it is kept; else the refusal
-/// that stands first.
+/// The deposit of that number, where the caller may do that with it on that day and it is kept; else
+/// the refusal that stands first.
 ///
 /// Fails with `Memory` or `Store`.
 pub fn kept_deposit<S: Alter>(
     tx: &mut Transaction<'_, S>,
+    day: Day,
     caller: &str,
     action: Action,
     number: u32,
@@ -92,14 +94,15 @@ pub fn kept_deposit<S: Alter>(
     ensures failure { IfErr result IsFailure }
     ensures same { Keeps S.Store tx.old.conn.now tx.new.conn.now result }
     ensures asked { Finds S.Store tx.old.conn.now tx.new.conn.now result (λ h asked.
-        IsAsked h number (kept_refusals h caller.now action number) asked) }
-    ensures rows { Tells S.Store tx.old.conn.now tx.new.conn.now result (λ tables asked. IsAskedIn tables caller.now action number asked) }
+        IsAsked h number (kept_refusals h day caller.now action number) asked) }
+    ensures rows { Tells S.Store tx.old.conn.now tx.new.conn.now result (λ tables asked. IsAskedIn tables day caller.now action number asked) }
 {
     let Some(deposit) = deposit_row(tx, number)? else {
         return Ok(Err(Refusal::NoSuch(Subject::Deposit)));
     };
     let denied = denial(
         tx,
+        day,
         caller,
         action,
         Some(&deposit.collection),

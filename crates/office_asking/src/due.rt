@@ -47,8 +47,8 @@ pub fn due_day<S: Alter>(
     Ok(office_core::due(closed, years_numbered(years)?))
 }
 
-/// The least live hold that covers the deposit of that number, which is of that collection. Its row is
-/// read, so that no hold is named that isn't one.
+/// The least live hold that covers the deposit of that number, which is of that collection and that class. Its
+/// row is read, so that no hold is named that isn't one.
 ///
 /// Fails with `Memory` or `Store`.
 pub fn least_hold<S: Alter>(
@@ -56,18 +56,19 @@ pub fn least_hold<S: Alter>(
     tx: &mut Transaction<'_, S>,
     number: u32,
     collection: &str,
+    class: &str,
 ) -> Result<Option<u32>, TableFault>
     ensures same_reference { tx.new.conn.ghost_name ≡ tx.old.conn.ghost_name }
     ensures stays { CommitsNothing S.Store tx.old.conn.now tx.new.conn.now }
     ensures goes_on { Continues S.Store tx.old.conn.now tx.new.conn.now result }
     ensures failure { IfErr result IsFailure }
     ensures least { Finds S.Store tx.old.conn.now tx.new.conn.now result (λ h found.
-        (deposit : Deposit) → deposit.collection ≡ collection.now
+        (deposit : Deposit) → deposit.collection ≡ collection.now → deposit.class ≡ class.now
         → found ≡ least_hold h number deposit) }
     ensures rows { Tells S.Store tx.old.conn.now tx.new.conn.now result (λ tables found.
-        IfSome found (λ k. IsLeastIn tables number collection.now k)) }
+        IfSome found (λ k. IsLeastIn tables number collection.now class.now k)) }
 {
-    let holds = holds_over(alloc, tx, number, collection)?;
+    let holds = holds_over(alloc, tx, number, collection, class)?;
     let Some(least) = holds.first().copied() else {
         return Ok(None);
     };
@@ -109,36 +110,37 @@ fn check_count<S: Alter>(tx: &mut Transaction<'_, S>, count: i64) -> Result<(), 
     check_between(count, 1, limits.max_holds)
 }
 
-/// The least live hold that covers the deposit of that number, which is of that collection and covered by so
-/// many. The holds are asked only where there are some, and one has to be found then.
+/// The least live hold that covers the deposit of that number, which is of that collection and that class and
+/// covered by so many. The holds are asked only where there are some, and one has to be found then.
 fn counted_hold<S: Alter>(
     alloc: Global,
     tx: &mut Transaction<'_, S>,
     count: i64,
     number: u32,
     collection: &str,
+    class: &str,
 ) -> Result<Option<u32>, TableFault>
     ensures same_reference { tx.new.conn.ghost_name ≡ tx.old.conn.ghost_name }
     ensures stays { CommitsNothing S.Store tx.old.conn.now tx.new.conn.now }
     ensures goes_on { ContinuesInTurn S.Store tx.old.conn.now tx.new.conn.now result }
     ensures failure { IfErr result IsFailure }
     ensures least { Finds S.Store tx.old.conn.now tx.new.conn.now result (λ h found.
-        (deposit : Deposit) → deposit.collection ≡ collection.now
+        (deposit : Deposit) → deposit.collection ≡ collection.now → deposit.class ≡ class.now
         → count ≡ pos (length (live_holds h number deposit))
         → found ≡ least_hold h number deposit) }
     ensures rows { Tells S.Store tx.old.conn.now tx.new.conn.now result (λ tables found.
-        IsCountedIn tables count number collection.now found) }
+        IsCountedIn tables count number collection.now class.now found) }
 {
     if count == 0 {
         return Ok(None);
     }
     check_count(tx, count)?;
-    let found = least_hold(alloc, tx, number, collection)?;
+    let found = least_hold(alloc, tx, number, collection, class)?;
     let hold = there(found)?;
     Ok(Some(hold))
 }
 
-/// What is known of the disposal of the deposit that has this row.
+/// What is known of the disposal of the deposit that has this row, by the rules of the asker's day.
 ///
 /// Fails with `Memory` or `Store`.
 pub fn disposal_facts<S: Alter>(
@@ -152,18 +154,25 @@ pub fn disposal_facts<S: Alter>(
     ensures goes_on { Continues S.Store tx.old.conn.now tx.new.conn.now result }
     ensures failure { IfErr result IsFailure }
     ensures facts { Finds S.Store tx.old.conn.now tx.new.conn.now result (λ h facts.
-        (caller : List ℕ) → IsAsker h caller asker.now → (n : ℕ) (found : Date × Deposit)
+        (day : Date) (caller : List ℕ) → IsAsker h day caller asker.now → (n : ℕ) (found : Date × Deposit)
         → deposit_numbered h n ≡ Some found → row.now ≡ deposit_row h n found
-        → facts ≡ facts_of h caller acts.Dispose n found.1) }
+        → facts ≡ facts_of h day caller acts.Dispose n found.1) }
     ensures rows { Tells S.Store tx.old.conn.now tx.new.conn.now result (λ tables facts.
-        (caller : List ℕ) → IsAskerIn tables caller asker.now → (n : ℕ) → pos n ≡ row.now.number
-        → AreFactsIn tables caller n row.now facts) }
+        (day : Date) (caller : List ℕ) → IsAskerIn tables day caller asker.now → (n : ℕ) → pos n ≡ row.now.number
+        → AreFactsIn tables day caller n row.now facts) }
 {
     let days = days_in(row)?;
     let decision = asker.decision(tx, Action::Dispose, Some(&row.collection), Some(&row.class))?;
     let kept = kept_of(tx, row.number)?;
     let due = due_numbered(kept.due)?;
-    let hold = counted_hold(alloc, tx, kept.holds, row.number, &row.collection)?;
+    let hold = counted_hold(
+        alloc,
+        tx,
+        kept.holds,
+        row.number,
+        &row.collection,
+        &row.class,
+    )?;
     Ok(Facts {
         action: Action::Dispose,
         decision,

@@ -4,7 +4,7 @@ ghost use Rattle.std.specs.Prelude.{◌≡◌, IfErr, IfOk, Some, length, map, p
 ghost use Rattle.office_tables.specs.Faults.{IsFailure};
 ghost use Rattle.office_rows.specs.Rows as rows;
 ghost use Rattle.office_tables.specs.Calls.{CommitsNothing, Continues, Keeps, Tells};
-ghost use Rattle.office_tables.specs.ShownHolds.{held_collection, held_deposit};
+ghost use Rattle.office_tables.specs.ShownHolds.{held_class, held_collection, held_deposit};
 ghost use Rattle.office_history.specs.Histories.{Deposit, live_holds};
 ghost use Rattle.office_history.specs.Answers.{told_hold};
 ghost use Rattle.office_asking.specs.Serving.{Finds};
@@ -13,34 +13,37 @@ ghost use Rattle.office_asking.specs.ByRows.{AreReleasedOnDays, IsHoldIn};
 ghost use Rattle.office_core.specs.declared.answer.LiveHold.{LiveHold};
 
 use crate::rows::{day_numbered, text_of_kind, there};
-use office_core::{LiveHold, Scope};
+use office_core::{FIRST_DAY_NUMBER, LAST_DAY_NUMBER, LiveHold, Scope};
 use office_tables::{HoldRow, HoldTarget, TableFault, has_release_outside, hold_row, live_holds};
 use sqlite::{Alter, Transaction};
 use std::alloc::Global;
 
-/// What the row of a hold names: a deposit or a collection, and not both.
+/// What the row of a hold names: a deposit, a collection or a class, and no two of them.
 ///
 /// Fails with `Store`.
 pub fn named_in(row: &HoldRow) -> Result<HoldTarget<'_>, TableFault>
     ensures deposit { IfOk result (λ named. held_deposit named ≡ row.now.deposit) }
     ensures collection { IfOk result (λ named. held_collection named ≡ row.now.collection) }
+    ensures class { IfOk result (λ named. held_class named ≡ row.now.class) }
     ensures failure { IfErr result IsFailure }
     ensures store { IfErr result (λ fault. fault ≡ TableFault.Store) }
 {
-    match (row.deposit, &row.collection) {
-        (Some(number), None) => Ok(HoldTarget::Deposit(number)),
-        (None, Some(name)) => Ok(HoldTarget::Collection(name.as_str())),
+    match (row.deposit, &row.collection, &row.class) {
+        (Some(number), None, None) => Ok(HoldTarget::Deposit(number)),
+        (None, Some(name), None) => Ok(HoldTarget::Collection(name.as_str())),
+        (None, None, Some(name)) => Ok(HoldTarget::Class(name.as_str())),
         _ => Err(TableFault::Store),
     }
 }
 
-/// Whether what a hold is on is a deposit or a collection.
+/// Whether what a hold is on is a deposit, a collection or a class.
 fn scope_of(named: HoldTarget<'_>) -> Scope
-    ensures { Some result ≡ scope_in (held_deposit named.entry) (held_collection named.entry) }
+    ensures { Some result ≡ scope_in (held_deposit named.entry) (held_collection named.entry) (held_class named.entry) }
 {
     match named {
         HoldTarget::Deposit(_) => Scope::Deposit,
         HoldTarget::Collection(_) => Scope::Collection,
+        HoldTarget::Class(_) => Scope::Class,
     }
 }
 
@@ -88,15 +91,9 @@ pub fn told_hold<S: Alter>(
     hold_in(alloc, &row)
 }
 
-/// The number of the first day of the office.
-const FIRST_DAY: i64 = -25_567;
-
-/// The number of its last day.
-const LAST_DAY: i64 = 2_859_848;
-
-/// The numbers of the live holds that cover the deposit of that number, which is of that collection, by the
-/// rows of the holds, ascending. A hold over it with a release on no day of the office is a fault of the
-/// store, and no hold that covers nothing.
+/// The numbers of the live holds that cover the deposit of that number, which is of that collection
+/// and that class, by the rows of the holds, ascending. A hold over it with a release on no day of the office
+/// is a fault of the store, and no hold that covers nothing.
 ///
 /// Fails with `Memory` or `Store`.
 pub fn holds_over<S: Alter>(
@@ -104,27 +101,36 @@ pub fn holds_over<S: Alter>(
     tx: &mut Transaction<'_, S>,
     number: u32,
     collection: &str,
+    class: &str,
 ) -> Result<Vec<u32>, TableFault>
     ensures same_reference { tx.new.conn.ghost_name ≡ tx.old.conn.ghost_name }
     ensures stays { CommitsNothing S.Store tx.old.conn.now tx.new.conn.now }
     ensures goes_on { Continues S.Store tx.old.conn.now tx.new.conn.now result }
     ensures failure { IfErr result IsFailure }
     ensures live { Finds S.Store tx.old.conn.now tx.new.conn.now result (λ h numbers.
-        (deposit : Deposit) → deposit.collection ≡ collection.now
+        (deposit : Deposit) → deposit.collection ≡ collection.now → deposit.class ≡ class.now
         → numbers.items ≡ live_holds h number deposit) }
     ensures same { Keeps S.Store tx.old.conn.now tx.new.conn.now result }
     ensures rows { Tells S.Store tx.old.conn.now tx.new.conn.now result (λ tables numbers.
-        (map pos numbers.items ≡ rows.live_holds (pos number) collection.now tables)
-        × AreReleasedOnDays tables number collection.now) }
+        (map pos numbers.items ≡ rows.live_holds (pos number) collection.now class.now tables)
+        × AreReleasedOnDays tables number collection.now class.now) }
 {
-    let outside = has_release_outside(tx, number, collection, FIRST_DAY, LAST_DAY)?;
+    let outside = has_release_outside(
+        tx,
+        number,
+        collection,
+        class,
+        FIRST_DAY_NUMBER as i64,
+        LAST_DAY_NUMBER as i64,
+    )?;
     if outside {
         return Err(TableFault::Store);
     }
-    live_holds(alloc, tx, number, collection)
+    live_holds(alloc, tx, number, collection, class)
 }
 
-/// How many live holds cover the deposit of that number, which is of that collection, by the rows of the holds.
+/// How many live holds cover the deposit of that number, which is of that collection and that class, by the
+/// rows of the holds.
 ///
 /// Fails with `Memory` or `Store`.
 pub fn live_count<S: Alter>(
@@ -132,20 +138,21 @@ pub fn live_count<S: Alter>(
     tx: &mut Transaction<'_, S>,
     number: u32,
     collection: &str,
+    class: &str,
 ) -> Result<i64, TableFault>
     ensures same_reference { tx.new.conn.ghost_name ≡ tx.old.conn.ghost_name }
     ensures stays { CommitsNothing S.Store tx.old.conn.now tx.new.conn.now }
     ensures goes_on { Continues S.Store tx.old.conn.now tx.new.conn.now result }
     ensures failure { IfErr result IsFailure }
     ensures count { Finds S.Store tx.old.conn.now tx.new.conn.now result (λ h count.
-        (deposit : Deposit) → deposit.collection ≡ collection.now
+        (deposit : Deposit) → deposit.collection ≡ collection.now → deposit.class ≡ class.now
         → count ≡ pos (length (live_holds h number deposit))) }
     ensures same { Keeps S.Store tx.old.conn.now tx.new.conn.now result }
     ensures rows { Tells S.Store tx.old.conn.now tx.new.conn.now result (λ tables count.
-        (count ≡ pos (length (rows.live_holds (pos number) collection.now tables)))
-        × AreReleasedOnDays tables number collection.now) }
+        (count ≡ pos (length (rows.live_holds (pos number) collection.now class.now tables)))
+        × AreReleasedOnDays tables number collection.now class.now) }
 {
-    let holds = holds_over(alloc, tx, number, collection)?;
+    let holds = holds_over(alloc, tx, number, collection, class)?;
     match i64::try_from(holds.len()) {
         Ok(count) => Ok(count),
         Err(_) => Err(TableFault::Store),

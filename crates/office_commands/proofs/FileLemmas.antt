@@ -13,43 +13,51 @@ use Rattle.sqlite.specs.Files.{AreFoundIn, HoldsDatabase, file_state}
 use Rattle.sqlite.specs.Held.{Held, state}
 use Rattle.sqlite.specs.Store.{Ghosts}
 use Rattle.sqlite.specs.declared.FileStore.{FileStore}
-use Rattle.office_rows.specs.Rows.{this_version}
 use Rattle.office_tables.specs.Opening.{has_office}
-use Rattle.office_tables.specs.Schema.{no_schema, office_schema}
+use Rattle.office_tables.specs.Schema.{no_schema}
+use Rattle.office_tables.specs.Versions.{schema_at}
+use Rattle.office_tables.specs.declared.version.TableVersion.{TableVersion}
+use Rattle.office_tables.specs.declared.version.TableVersion.TheVariants.{Third, Fourth, Fifth}
 use Rattle.office_history.specs.Histories.{History}
-use Rattle.office_history.specs.Pictures.{picture}
 use Rattle.office_recovery.specs.Found.{HoldsWhere}
-use Rattle.office_recovery.proofs.FoundAgain.{becomes_again, found_again}
-use Rattle.office_recovery.proofs.Settled.{becomes_from, once_from}
-use Rattle.office_asking.specs.Pictures.{Pictures}
-use Rattle.office_engine.specs.Keeping.{IsKeptBy, IsLeftOf, IsReached}
-use Rattle.office_engine.proofs.Kept.{rows_left}
-use Rattle.office_commands.specs.Stores.{IsOfficeOf, IsOpenedFrom, made_office}
+use Rattle.office_recovery.proofs.FoundAgain.{found_again}
+use Rattle.office_recovery.proofs.Settled.{office_from, rows_from, once_from}
+use Rattle.office_asking.specs.Pictures.{PicturesAt}
+use Rattle.office_engine.specs.Keeping.{IsKeptBy, IsLeftAt, IsLeftOf, IsReached}
+use Rattle.office_commands.specs.Stores.{GoesOnFrom, IsOfficeOf, IsOpenedFrom, made_office}
 
 -- what is left of a history comes out of a truncation, where a database is found
-left_from : (h : History) (db : Database) → IsDatabase db → ∥ IsLeftOf h db.trees ∥₁ → IsLeftOf h db.trees
-left_from h db listed left =
-    let pictured : ∥ Pictures h db ∥₁ = ∥∥₁_map left (λ it. found_again (Pictures h) it.0 db it.1.office.listed listed it.2 it.1) in
-    let becomes = becomes_from (picture this_version h) db listed (∥∥₁_map pictured (λ p. record { office = p.office; are = p.are })) in
-    (db, record { office = becomes.office; are = becomes.are; once = once_from db (∥∥₁_map pictured (λ p. p.once)) }, refl)
+left_from : (version : TableVersion) (h : History) (db : Database) → IsDatabase db → ∥ IsLeftAt version h db.trees ∥₁ → IsLeftAt version h db.trees
+left_from version h db listed left =
+    let pictured : ∥ PicturesAt version h db ∥₁ = ∥∥₁_map left (λ it. found_again (PicturesAt version h) it.0 db it.1.office.whole.listed listed it.2 it.1) in (
+      db,
+      record {
+        office = office_from version db listed (∥∥₁_map pictured (λ p. p.office));
+        are = rows_from _ _ (∥∥₁_map pictured (λ p. p.are));
+        once = once_from db (∥∥₁_map pictured (λ p. p.once));
+      },
+      refl,
+    )
 
 -- an open of files that hold an office shows what is left of it
-pub found_of : (image : Image) (s : State) → Opens s → IsLive s → FindsIn image s → (h : History) → HoldsWhere (IsLeftOf h) image → IsLeftOf h s.now.trees
-found_of image s opens live finds h holds =
+pub found_of : (image : Image) (s : State) → Opens s → IsLive s → FindsIn image s → (version : TableVersion) (h : History) → HoldsWhere (IsLeftAt version h) image → IsLeftAt version h s.now.trees
+found_of image s opens live finds version h holds =
     let shown : s.now.trees ≡ s.committed.trees = ap (λ (d : Database). d.trees) opens.clean in
-    let found : ∥ IsLeftOf h s.now.trees ∥₁ = ∥∥₁_map holds (λ d. subst (IsLeftOf h) (sym (shown ∙ finds.holds d.0 d.2)) d.1) in
-    left_from h s.now (live opens.is_open).0 found
+    let found : ∥ IsLeftAt version h s.now.trees ∥₁ = ∥∥₁_map holds (λ d. subst (IsLeftAt version h) (sym (shown ∙ finds.holds d.0 d.2)) d.1) in
+    left_from version h s.now (live opens.is_open).0 found
 
 some_tables : (x : Table) (xs : List Table) → x ∷ xs ≡ [] → ⊥
 some_tables x xs same = cc
 
-no_office : office_schema ≢ no_schema
-no_office same = some_tables _ _ (ap (λ (s : Schema). s.tables) same)
+no_office : (version : TableVersion) → schema_at version ≢ no_schema
+no_office Third same = some_tables _ _ (ap (λ (s : Schema). s.tables) same)
+no_office Fourth same = some_tables _ _ (ap (λ (s : Schema). s.tables) same)
+no_office Fifth same = some_tables _ _ (ap (λ (s : Schema). s.tables) same)
 
 -- what shows an office isn't empty
-pub shows_more : (s : State) → IsLive s → IsTrue s.is_open → (h : History) → IsLeftOf h s.now.trees → s.now.schema ≢ no_schema
-shows_more s live is_open h left same =
-    let it = becomes_again (picture this_version h) s.now.trees s.now (rows_left h s.now.trees left) (live is_open).0 refl in no_office (sym it.office.schema_is ∙ same)
+pub shows_more : (s : State) → IsLive s → IsTrue s.is_open → (version : TableVersion) (h : History) → IsLeftAt version h s.now.trees → s.now.schema ≢ no_schema
+shows_more s live is_open version h left same =
+    let it = found_again (PicturesAt version h) left.0 s.now left.1.office.whole.listed (live is_open).0 left.2 left.1 in no_office version (sym it.office.whole.schema_is ∙ same)
 
 -- what the files hold that a connection was copied into
 pub held_of : (image : Image) (s : State) → IsTrue s.is_open → ∥ HoldsDatabase image s.committed.trees ∥₁ → (next : History) → IsReached next s → HoldsWhere (IsLeftOf next) image
@@ -62,22 +70,22 @@ held_of image s is_open holds next reached =
 -- an office that is made is made where the files hold none
 pub made_where_none : {A E : Type 0} (r : Result A E) (shown : A → State) (image : Image) (s : State) → IfOk r (λ o. HasCleanDisk (shown o) → HasCleanDisk s) → (s.now.schema ≢ no_schema → IsErr r)
     → (HasCleanDisk s → Opens s × IsLive s) → (HasCleanDisk s → FindsIn image s)
-    → IfOk r (λ o. HasCleanDisk (shown o) → (h : History) → HoldsWhere (IsLeftOf h) image → IsKeptBy h (shown o))
+    → IfOk r (λ o. HasCleanDisk (shown o) → GoesOnFrom (λ version h. HoldsWhere (IsLeftAt version h) image) (shown o))
 made_where_none (Err e) shown image s cleans empty opened found = tt
-made_where_none (Ok o) shown image s cleans empty opened found = λ clean h holds.
+made_where_none (Ok o) shown image s cleans empty opened found = λ clean version h legal holds.
     let was = cleans clean in
-    let left = found_of image s (opened was).0 (opened was).1 (found was) h holds in
-    let never : false ≡ true = empty (shows_more s (opened was).1 (opened was).0.is_open h left) in
+    let left = found_of image s (opened was).0 (opened was).1 (found was) version h holds in
+    let never : false ≡ true = empty (shows_more s (opened was).1 (opened was).0.is_open version h left) in
     absurd (cc)
 
 -- one that is taken is the one that they hold
 pub taken_as_held : {A E : Type 0} (r : Result A E) (shown : A → State) (image : Image) (s : State) → IfOk r (λ o. HasCleanDisk (shown o) → HasCleanDisk s)
-    → IfOk r (λ o. HasCleanDisk (shown o) → (h : History) → IsLeftOf h s.now.trees → IsKeptBy h (shown o))
+    → IfOk r (λ o. HasCleanDisk (shown o) → GoesOnFrom (λ version h. IsLeftAt version h s.now.trees) (shown o))
     → (HasCleanDisk s → Opens s × IsLive s) → (HasCleanDisk s → FindsIn image s)
-    → IfOk r (λ o. HasCleanDisk (shown o) → (h : History) → HoldsWhere (IsLeftOf h) image → IsKeptBy h (shown o))
+    → IfOk r (λ o. HasCleanDisk (shown o) → GoesOnFrom (λ version h. HoldsWhere (IsLeftAt version h) image) (shown o))
 taken_as_held (Err e) shown image s cleans goes_on opened found = tt
-taken_as_held (Ok o) shown image s cleans goes_on opened found = λ clean h holds.
-    let was = cleans clean in goes_on clean h (found_of image s (opened was).0 (opened was).1 (found was) h holds)
+taken_as_held (Ok o) shown image s cleans goes_on opened found = λ clean version h legal holds.
+    let was = cleans clean in goes_on clean version h legal (found_of image s (opened was).0 (opened was).1 (found was) version h holds)
 
 -- an office that is made, where one may be made
 pub opened_as_made : {D E : Type 0} (g : Disks D) (r : Result (Held (FileStore D g)) E) (image : Image) (s : State) (makes : Bool) → makes ≡ true
@@ -91,7 +99,7 @@ opened_as_made {E = E} g (Ok o) image s makes may cleans made empty opened found
 
 -- one that is taken was there
 pub opened_as_taken : {D E : Type 0} (g : Disks D) (r : Result (Held (FileStore D g)) E) (image : Image) (s : State) (makes : Bool)
-    → IfOk r (λ o. HasCleanDisk (file_state o) → HasCleanDisk s) → IfOk r (λ o. HasCleanDisk (file_state o) → (h : History) → IsLeftOf h s.now.trees → IsKeptBy h (file_state o))
+    → IfOk r (λ o. HasCleanDisk (file_state o) → HasCleanDisk s) → IfOk r (λ o. HasCleanDisk (file_state o) → GoesOnFrom (λ version h. IsLeftAt version h s.now.trees) (file_state o))
     → IfOk r (λ o. HasCleanDisk (file_state o) → IsTrue (has_office s.now.schema))
     → (HasCleanDisk s → Opens s × IsLive s) → (HasCleanDisk s → FindsIn image s) → IfOk r (IsOpenedFrom g image makes)
 opened_as_taken g (Err e) image s makes cleans goes_on there opened found = tt
@@ -117,7 +125,7 @@ made_is_office g conn is_new (Ok o) new clean made empty = record {
 }
 
 pub taken_is_office : {S E : Type 0} (g : Ghosts S) (conn : Held S) (is_new : Bool) (r : Result (Held S) E) → is_new ≡ false → IfOk r (λ o. HasCleanDisk (state g o) → HasCleanDisk (state g conn))
-    → IfOk r (λ o. HasCleanDisk (state g o) → (h : History) → IsLeftOf h (state g conn).now.trees → IsKeptBy h (state g o)) → IfOk r (λ o. HasCleanDisk (state g o) → IsTrue (has_office (state g conn).now.schema))
+    → IfOk r (λ o. HasCleanDisk (state g o) → GoesOnFrom (λ version h. IsLeftAt version h (state g conn).now.trees) (state g o)) → IfOk r (λ o. HasCleanDisk (state g o) → IsTrue (has_office (state g conn).now.schema))
     → IfOk r (IsOfficeOf g conn is_new)
 taken_is_office g conn is_new (Err e) there clean goes_on was_there = tt
 taken_is_office g conn is_new (Ok o) there clean goes_on was_there = record {

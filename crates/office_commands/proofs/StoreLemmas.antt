@@ -18,7 +18,8 @@ use Rattle.office_rows.specs.Rows.{max_limit}
 use Rattle.office_history.specs.Histories.{History}
 use Rattle.office_history.specs.Runs.{IsLegal, new, new_history}
 use Rattle.office_recovery.specs.Found.{HoldsWhere}
-use Rattle.office_engine.specs.Keeping.{IsKeptBy, IsLeftOf, IsReached}
+use Rattle.office_engine.specs.Keeping.{IsKeptBy, IsLeftAt, IsReached}
+use Rattle.office_tables.specs.declared.version.TableVersion.{TableVersion}
 use Rattle.office_commands.specs.Deeds.{AreDone, Deed, LeadOn}
 use Rattle.office_commands.specs.Stores.{InFile, InMemory, IsOfficeOf, IsOpenedFrom, LeadsInto, RunsAndCloses, RunsInFile, RunsInMemory, RunsOver, SomeOffice, made_office}
 use Rattle.office_commands.specs.Tasks.{ComesOfTask, Task, makes_office}
@@ -51,11 +52,11 @@ runs_and_closes g r task first last files was now copied it = inl (it.0, files, 
 
 -- what the files hold then
 pub files_lead : {D : Type 0} (g : Disks D) (first : Image) (makes : Bool) (deeds : List Deed) (office : InFile g first makes deeds) → AreClean g office.files.log office.files.db
-    → (h : History) → IsLegal h → HoldsWhere (IsLeftOf h) first → LeadsInto deeds h (image_of g office.files)
-files_lead g first makes deeds office clean h legal holds =
+    → (version : TableVersion) (h : History) → IsLegal h → HoldsWhere (IsLeftAt version h) first → LeadsInto deeds h (image_of g office.files)
+files_lead g first makes deeds office clean version h legal holds =
     let closed = office.closed in
     let it = closed.copied clean in
-    let kept = office.opened.found (deeds_clean over_files deeds office.old closed.new closed.done it.was_clean) h holds in
+    let kept = office.opened.found (deeds_clean over_files deeds office.old closed.new closed.done it.was_clean) version h legal holds in
     let at = deeds_lead over_files deeds office.old closed.new closed.done it.was_clean h legal kept in
     (at.0, at.1, at.2.legal, held_of (image_of g office.files) (file_state closed.new) it.was_open it.seen.both at.0 at.2)
 

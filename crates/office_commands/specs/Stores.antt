@@ -8,7 +8,7 @@ use Rattle.sqlite.specs.Closing.{IsCopied}
 use Rattle.sqlite.specs.Effect.{Database}
 use Rattle.sqlite.specs.Files.{AreFoundIn, HoldsDatabase, file_state, over_files}
 use Rattle.sqlite.specs.Held.{Held, state}
-use Rattle.sqlite.specs.State.{HasCleanDisk}
+use Rattle.sqlite.specs.State.{State, HasCleanDisk}
 use Rattle.sqlite.specs.Steps.{over_memory}
 use Rattle.sqlite.specs.Store.{Ghosts}
 use Rattle.sqlite.specs.Tree.{Trees}
@@ -20,7 +20,8 @@ use Rattle.office_tables.specs.Schema.{no_schema}
 use Rattle.office_history.specs.Histories.{History}
 use Rattle.office_history.specs.Runs.{IsLegal, new_history}
 use Rattle.office_recovery.specs.Found.{HoldsWhere}
-use Rattle.office_engine.specs.Keeping.{IsKeptBy, IsLeftOf}
+use Rattle.office_tables.specs.declared.version.TableVersion.{TableVersion}
+use Rattle.office_engine.specs.Keeping.{IsKeptBy, IsLeftAt, IsLeftOf}
 use Rattle.office_commands.specs.Deeds.{AreDone, Deed, LeadOn}
 use Rattle.office_commands.specs.Tasks.{ComesOfTask, Task, makes_office}
 use Rattle.office_commands.specs.Texts.{IsUnclosable, IsUnopenable, found_nothing, is_sought}
@@ -31,6 +32,10 @@ use Rattle.office_commands.specs.declared.fault.CommandFault.{CommandFault}
 abbrev pub made_office : History
 made_office = new_history max_limit max_limit
 
+-- whichever legal history was left so, by tables of any known version, is kept
+abbrev pub GoesOnFrom : (TableVersion → History → Type 0) → State → Type 0
+GoesOnFrom Left s = (version : TableVersion) (h : History) → IsLegal h → Left version h → IsKeptBy h s
+
 -- An office is had over a connection: it is made there, where `is_new`, and then the database was empty; or it was there. On an honest disk it keeps then
 -- the new history, or whichever was left there.
 pub record IsOfficeOf {S : Type 0} (g : Ghosts S) (conn : Held S) (is_new : Bool) (office : Held S) : Type 0 where
@@ -38,7 +43,7 @@ pub record IsOfficeOf {S : Type 0} (g : Ghosts S) (conn : Held S) (is_new : Bool
   pub empty : is_new ≡ true → (state g conn).now.schema ≢ no_schema → ⊥
   pub made : is_new ≡ true → HasCleanDisk (state g office) → IsKeptBy made_office (state g office)
   pub was_there : is_new ≡ false → HasCleanDisk (state g office) → IsTrue (has_office (state g conn).now.schema)
-  pub goes_on : is_new ≡ false → HasCleanDisk (state g office) → (h : History) → IsLeftOf h (state g conn).now.trees → IsKeptBy h (state g office)
+  pub goes_on : is_new ≡ false → HasCleanDisk (state g office) → GoesOnFrom (λ version h. IsLeftAt version h (state g conn).now.trees) (state g office)
 
 -- there is such an office, of which this is so
 abbrev pub SomeOffice : {S : Type 0} → (Held S → Type 0) → (Held S → Type 0) → Type 0
@@ -63,7 +68,7 @@ pub record Show (image : Image) (shown : Database) : Type 0 where
 -- An office was opened from files that held this at first. On an honest disk it keeps the history that they held; and they showed a database with the table
 -- of an office, or it is one that was just made, where it might be.
 pub record IsOpenedFrom {D : Type 0} (g : disk.Ghosts D) (first : Image) (makes : Bool) (office : Held (FileStore D g)) : Type 0 where
-  pub found : HasCleanDisk (file_state office) → (h : History) → HoldsWhere (IsLeftOf h) first → IsKeptBy h (file_state office)
+  pub found : HasCleanDisk (file_state office) → GoesOnFrom (λ version h. HoldsWhere (IsLeftAt version h) first) (file_state office)
   pub origin : HasCleanDisk (file_state office)
       → ((shown : Database) × Show first shown × IsTrue (has_office shown.schema)) ⊎ ((makes ≡ true) × IsKeptBy made_office (file_state office))
 

@@ -12,7 +12,8 @@ ghost use Rattle.office_core.specs.declared.answer.Answer.{Answer};
 ghost use Rattle.office_history.specs.Histories.{History};
 ghost use Rattle.office_history.specs.Runs.{IsLegal, Item, Run};
 ghost use Rattle.office_recovery.specs.Found.{HoldsWhere};
-ghost use Rattle.office_engine.specs.Keeping.{IsKeptBy, IsLeftOf, IsReached};
+ghost use Rattle.office_engine.specs.Keeping.{IsKeptBy, IsLeftAt, IsReached};
+ghost use Rattle.office_tables.specs.declared.version.TableVersion.{TableVersion as Version};
 ghost use Rattle.desk_listening.specs.Listening.{Connection};
 ghost use Rattle.desk_records.specs.RecordLists.{RequestRecord};
 ghost use Rattle.http_desk.specs.ReplayRuns.{IsRunOf};
@@ -37,11 +38,12 @@ pub fn memory_leads_on()
 {}
 
 /// The files that an office was closed into hold a history that the deeds lead to: on an honest disk, from
-/// whichever legal history they held at first.
+/// whichever legal history they held at first, by tables of any known version.
 pub fn files_lead_on<D: Disk>()
     ensures { (first : Image) (makes : Bool) (deeds : List Deed) (office : InFile D.Disk first makes deeds)
         → AreClean D.Disk office.files.log office.files.db
-        → (h : History) → IsLegal h → HoldsWhere (IsLeftOf h) first → LeadsInto deeds h (image_of D.Disk office.files) }
+        → (version : Version) (h : History) → IsLegal h → HoldsWhere (IsLeftAt version h) first
+        → LeadsInto deeds h (image_of D.Disk office.files) }
 {}
 
 /// Where records are answered, or what is heard over connections, the texts are those of a run of the office

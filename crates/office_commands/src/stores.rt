@@ -12,10 +12,9 @@ ghost use Rattle.sqlite_wal.specs.Reads.{AreClean};
 ghost use Rattle.office_rows.specs.Rows.{max_limit};
 ghost use Rattle.office_tables.specs.Opening.{has_office};
 ghost use Rattle.office_tables.specs.Schema.{no_schema};
-ghost use Rattle.office_history.specs.Histories.{History};
-ghost use Rattle.office_engine.specs.Keeping.{IsKeptBy, IsLeftOf};
+ghost use Rattle.office_engine.specs.Keeping.{IsKeptBy, IsLeftAt};
 ghost use Rattle.office_commands.specs.Deeds.{AreDone, Deed};
-ghost use Rattle.office_commands.specs.Stores.{IsOfficeOf, RunsInFile, RunsInMemory, RunsOn, RunsOver, SomeOffice, made_office};
+ghost use Rattle.office_commands.specs.Stores.{GoesOnFrom, IsOfficeOf, RunsInFile, RunsInMemory, RunsOn, RunsOver, SomeOffice, made_office};
 ghost use Rattle.office_commands.specs.Tasks.{ComesOfTask, makes_office, reads_input};
 ghost use Rattle.office_commands.specs.Texts.{IsOfOpening, IsOfStore, IsUnclosable, IsUnopenable, found_nothing, is_of_search, is_sought, search_failure, store_failure};
 ghost use Rattle.office_commands.specs.Traffic.{traffic_of};
@@ -168,18 +167,18 @@ fn make_office<S: Alter + Drop>(conn: Connection<S>) -> Result<Office<S>, Comman
     }
 }
 
-/// Takes the office that the connection shows.
+/// Takes the office that the connection shows, with the tables of this version.
 fn take_office<S: Alter + Drop>(conn: Connection<S>) -> Result<Office<S>, CommandFault>
     requires outside { (state S.Store conn).in_transaction ≡ false }
     ensures clean { IfOk result (λ office. HasCleanDisk (state S.Store office) → HasCleanDisk (state S.Store conn)) }
     ensures goes_on { IfOk result (λ office. HasCleanDisk (state S.Store office)
-        → (h : History) → IsLeftOf h (state S.Store conn).now.trees → IsKeptBy h (state S.Store office)) }
+        → GoesOnFrom (λ version h. IsLeftAt version h (state S.Store conn).now.trees) (state S.Store office)) }
     ensures was_there { IfOk result (λ office. HasCleanDisk (state S.Store office)
         → IsTrue (has_office (state S.Store conn).now.schema)) }
     ensures failure { IfErr result IsUnopenable }
     ensures not_sought { IfErr result (λ fault. is_sought fault ≡ false) }
 {
-    match Office::adopt(conn) {
+    match Office::upgrade(conn) {
         Ok(office) => Ok(office),
         Err((_, fault)) => Err(table_failure(fault)),
     }

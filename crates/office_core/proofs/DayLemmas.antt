@@ -13,7 +13,7 @@ use Rattle.jiff.specs.Types.{Date}
 use Rattle.jiff.specs.Words.{epoch_day, IsYear, IsDate, is_leap_year, days_in_month}
 use Rattle.std.proofs.lemmas.Option.{same_Some}
 use Rattle.office_core.proofs.OptionLemmas.{some_if, some_and_then}
-use Rattle.office_core.specs.Days.{first_year, last_year, first_day_number, last_day_number, IsDay, IsDayNumber, day_text, digits, is_missing}
+use Rattle.office_core.specs.Days.{first_year, last_year, first_day, last_day, first_day_number, last_day_number, IsDay, IsDayNumber, day_text, digits, is_missing}
 use Rattle.office_core.specs.DayReading.{number_of, parts_of}
 
 -- a date is its year, month and day
@@ -27,14 +27,8 @@ same_date a b year month day = λ i. record {
   day_in = is_prop→PathP (λ j. IsInRange 1 (days_in_month (year j) (month j)) (day j)) (λ j. hlevel props) a.day_in b.day_in i;
 }
 
-first_day : Date
-first_day = record { year = first_year; month = 1; day = 1; year_in = search rules; month_in = search rules; day_in = search rules }
-
 day_before : Date
 day_before = record { year = pos 1899; month = 12; day = 31; year_in = search rules; month_in = search rules; day_in = search rules }
-
-last_day : Date
-last_day = record { year = last_year; month = 12; day = 31; year_in = search rules; month_in = search rules; day_in = search rules }
 
 day_after : Date
 day_after = record { year = pos 9800; month = 1; day = 1; year_in = search rules; month_in = search rules; day_in = search rules }
@@ -61,7 +55,6 @@ day_number d h = (
 
 -- and a date with such a number is a day of the office
 pub number_day : (d : Date) → IsDayNumber (epoch_day d) → IsDay d
-unfolding first_day last_day
 number_day d h = (
   by_lt_z d.year first_year
       (λ lt. absurd (omega (arith, signed_arith, h.0, days_from_civil-first, epoch_day-lt d first_day (inl lt))))
@@ -70,6 +63,13 @@ number_day d h = (
       (λ lt. absurd (omega (arith, signed_arith, h.1, days_from_civil-last, epoch_day-lt last_day d (inl lt))))
       (λ ge. omega (arith, signed_arith, ge)),
 )
+
+-- the numbers of the first day and of the last
+pub first_number : epoch_day first_day ≡ first_day_number
+first_number = days_from_civil-first
+
+pub last_number : epoch_day last_day ≡ last_day_number
+last_number = days_from_civil-last
 
 -- a number that two digits write is written by them
 digits-number : (a b n : ℕ) → number_of a b ≡ Some n → (a ≡ 48 + n / 10) × (b ≡ 48 + n % 10)

@@ -7,10 +7,11 @@ use Rattle.jiff.specs.Words.{days_in_month}
 use Rattle.jiff_core.proofs.SignedLemmas.{signed_arith}
 use Rattle.office_core.specs.Bounds.{max_years}
 use Rattle.office_core.specs.Days.{first_year, IsDay, IsYearsAfter, is_missing}
+use Rattle.office_core.specs.DayReading.{where_so, date_of}
 use Rattle.office_core.specs.Requests.{IsYears}
 use Rattle.office_core.proofs.DayLemmas.{kept_is}
 use Rattle.office_core.specs.Retention.{IsDue}
-use Rattle.office_core.specs.RetentionReading.{where_so, date_of, on_or_never, years_after, due_of}
+use Rattle.office_core.specs.RetentionReading.{on_or_never, years_after, due_of}
 use Rattle.office_core.specs.declared.retention.Due.{Due}
 use Rattle.office_core.specs.declared.retention.Due.TheVariants.{On, Never}
 use Rattle.std.proofs.Math.Dec.{le→leb}

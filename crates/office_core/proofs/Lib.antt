@@ -1,10 +1,13 @@
 pub mod OptionLemmas
 pub mod TomlKeys
 pub mod DayLemmas
+pub mod DayTexts
 pub mod DigitLemmas
 pub mod RuleLemmas
+pub mod RuleParts
 pub mod PolicyAnswers
 pub mod PolicyLemmas
 pub mod PolicyNames
 pub mod PolicyPlaces
+pub mod PolicyDays
 pub mod DueLemmas

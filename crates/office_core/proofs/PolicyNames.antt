@@ -3,21 +3,20 @@ use Rattle.std.proofs.Common.{◌≡◌, ◌≢◌, ◌∙◌, ◌≤◌, ℕ, B
 use Rattle.std.specs.Prelude.{codes, bytes_eq}
 use Rattle.std.proofs.lemmas.Bool.{and_parts, or_parts, false≢true}
 use Rattle.std.proofs.lemmas.Bool.Decides.{nat_tests}
-use Rattle.std.specs.List.{list_all, filter_map, AllByRecursion}
-use Rattle.toml.specs.Data.{Data, string, integer, float, boolean, datetime, array, table, Members, no_members, member, same_key, get_member, as_str, as_table}
+use Rattle.std.specs.List.{filter_map, AllByRecursion}
+use Rattle.toml.specs.Data.{Data, string, integer, float, boolean, datetime, array, table, Members, no_members, member, same_key, get_member, as_str}
 use Rattle.office_core.specs.Bounds.{max_rules, max_callers}
 use Rattle.office_core.specs.FirstOf.{◌>>=◌, first_some, answer_if}
 use Rattle.office_core.specs.Names.{is_name}
-use Rattle.office_core.specs.Policies.{PolicyValue, policy_in_tree, entries, is_one_of, caller_in, table_entries, caller_entries, callers_among, is_bad_among, callers_of, rule_keys, text_at, effect_at, action_at, pattern_in, pattern_at, rule_of, rule_in, rules_among, bad_rule_among, bad_rule, rule_values, rules_of, has_bad_version, has_unknown_key, has_bad_caller, has_too_many, faults, IsNamed, HasNames, IsNamedCaller, EachCallerOnce, IsPolicy, SpellsPolicy}
+use Rattle.office_core.specs.Policies.{PolicyValue, policy_in_tree, entries, caller_in, table_entries, caller_entries, callers_among, is_bad_among, callers_of, text_at, pattern_in, pattern_at, rule_of, rules_among, bad_rule_among, bad_rule, rule_values, rules_of, has_days, has_bad_version, has_unknown_key, has_bad_caller, has_too_many, faults, IsNamed, HasNames, HasDays, IsNamedCaller, EachCallerOnce, IsPolicy, SpellsPolicy}
 use Rattle.office_core.specs.PolicyReading.{rules_or, read_callers, read_rules}
 use Rattle.office_core.specs.declared.caller.Caller.{Caller}
 use Rattle.office_core.specs.declared.policy_fault.PolicyFault.TheVariants.{BadVersion, UnknownKey, BadCaller, BadRule, TooMany}
 use Rattle.office_core.proofs.OptionLemmas.{none_of, answer_if_none}
+use Rattle.office_core.proofs.RuleParts.{rule_parts, all_rules, rule_has_days}
 use Rattle.office_core.proofs.TomlKeys.{IsNoKey, HasKeysOnce, AllSound, same_key-self, parsed_sound, member_sound}
-use Rattle.office_core.specs.declared.rule.Effect.{Effect}
 use Rattle.office_core.specs.declared.rule.Pattern.{Pattern}
 use Rattle.office_core.specs.declared.rule.Pattern.TheVariants as names
-use Rattle.office_core.specs.declared.rule.ActionPattern.{ActionPattern}
 use Rattle.office_core.specs.declared.rule.Rule.{Rule}
 
 -- ---- patterns
@@ -42,56 +41,16 @@ named_at key ms pattern e = by_text (text_at key ms) e
 
 -- ---- rules
 
--- the parts of a rule, put together
-abbrev made : Option Effect → Option Pattern → Option ActionPattern → Option Pattern → Option Pattern → Option Rule
-made effect role action collection class = do
-  effect ← effect
-  role ← role
-  action ← action
-  collection ← collection
-  class ← class
-  Some (record { effect = effect; role = role; action = action; collection = collection; class = class })
+rule_named : (with_days : Bool) (ms : Members) (rule : Rule) → rule_of with_days ms ≡ Some rule → HasNames rule
+rule_named with_days ms rule e =
+    let parts = rule_parts with_days ms rule e in
+    (named_at (codes "role") ms rule.role parts.role, named_at (codes "collection") ms rule.collection parts.collection, named_at (codes "class") ms rule.class parts.class)
 
-made_named : (effect : Option Effect) (role : Option Pattern) (action : Option ActionPattern) (collection class : Option Pattern) (rule : Rule)
-    → ((p : Pattern) → role ≡ Some p → IsNamed p) → ((p : Pattern) → collection ≡ Some p → IsNamed p) → ((p : Pattern) → class ≡ Some p → IsNamed p)
-    → made effect role action collection class ≡ Some rule → HasNames rule
-made_named None role action collection class rule a b c e = absurd cc
-made_named (Some x) None action collection class rule a b c e = absurd cc
-made_named (Some x) (Some r) None collection class rule a b c e = absurd cc
-made_named (Some x) (Some r) (Some y) None class rule a b c e = absurd cc
-made_named (Some x) (Some r) (Some y) (Some k) None rule a b c e = absurd cc
-made_named (Some x) (Some r) (Some y) (Some k) (Some l) rule a b c e =
-    let made_rule : Rule = record { effect = x; role = r; action = y; collection = k; class = l } in
-    let same : made_rule ≡ rule = cc in
-    subst HasNames same (a r refl, b k refl, c l refl)
+among_named : (with_days : Bool) (found : Option (List Data)) → AllByRecursion HasNames (rules_among with_days found)
+among_named with_days found = all_rules HasNames with_days (rule_named with_days) found
 
-rule_named : (ms : Members) (rule : Rule) → rule_of ms ≡ Some rule → HasNames rule
-unfolding rule_of
-rule_named ms rule e = by_keys (list_all (λ entry. is_one_of rule_keys entry.0) (entries ms)) e
-  where
-    by_keys : (test : Bool) → (if test then made (effect_at ms) (pattern_at (codes "role") ms) (action_at ms) (pattern_at (codes "collection") ms) (pattern_at (codes "class") ms) else None) ≡ Some rule → HasNames rule
-    by_keys false e = absurd cc
-    by_keys true e = made_named (effect_at ms) (pattern_at (codes "role") ms) (action_at ms) (pattern_at (codes "collection") ms) (pattern_at (codes "class") ms) rule (named_at (codes "role") ms) (named_at (codes "collection") ms) (named_at (codes "class") ms) e
-
-value_named : (value : Data) (rule : Rule) → rule_in value ≡ Some rule → HasNames rule
-value_named value rule e = by_table (as_table value) e
-  where
-    by_table : (table : Option Members) → table >>= rule_of ≡ Some rule → HasNames rule
-    by_table None e = absurd cc
-    by_table (Some ms) e = rule_named ms rule e
-
-one_more : (value : Data) (values : List Data) → AllByRecursion HasNames (filter_map rule_in values) → (found : Option Rule) → rule_in value ≡ found
-    → AllByRecursion HasNames (filter_map rule_in (value ∷ values))
-one_more value values more None is = rw is more
-one_more value values more (Some rule) is = rw is (value_named value rule is, more)
-
-all_named : (values : List Data) → AllByRecursion HasNames (filter_map rule_in values)
-all_named [] = tt
-all_named (value ∷ values) = one_more value values (all_named values) (rule_in value) refl
-
-among_named : (found : Option (List Data)) → AllByRecursion HasNames (rules_among found)
-among_named None = tt
-among_named (Some values) = all_named values
+among_have_days : (with_days : Bool) (found : Option (List Data)) → AllByRecursion HasDays (rules_among with_days found)
+among_have_days with_days found = all_rules HasDays with_days (rule_has_days with_days) found
 
 -- ---- callers
 
@@ -162,6 +121,7 @@ callers_once tree sound = by_table (get_member (codes "callers") tree) refl
 pub no_policy_is_policy : IsPolicy (record { callers = []; rules = [] })
 no_policy_is_policy = record {
   rules_ask_for_names = tt;
+  rules_have_days = tt;
   callers_are_names = tt;
   callers_stand_once = tt;
   few_rules = omega arith;
@@ -181,7 +141,8 @@ tree_policy : (tree : Members) → AllSound tree → first_some (faults tree) �
 tree_policy tree once sound =
     let few = or_parts (nat_lt max_rules (length (rules_of tree))) (nat_lt max_callers (length (callers_of tree))) (not_too_many tree sound) in
     record {
-      rules_ask_for_names = among_named (rule_values tree);
+      rules_ask_for_names = among_named (has_days tree) (rule_values tree);
+      rules_have_days = among_have_days (has_days tree) (rule_values tree);
       callers_are_names = callers_among_named (caller_entries tree);
       callers_stand_once = callers_once tree once;
       few_rules = grind (arith, nat_tests, few.0);
@@ -200,21 +161,22 @@ callers_read found callers e = by_bad (is_bad_among found) e
     by_bad true e = absurd cc
     by_bad false e = cc
 
-pub rules_read : (found : Option (List Data)) (rules : List Rule) → read_rules found ≡ Ok rules → rules_among found ≡ rules
-rules_read found rules e = by_bad (bad_rule_among found) e
+pub rules_read : (with_days : Bool) (found : Option (List Data)) (rules : List Rule) → read_rules with_days found ≡ Ok rules → rules_among with_days found ≡ rules
+rules_read with_days found rules e = by_bad (bad_rule_among with_days found) e
   where
-    by_bad : (bad : Option ℕ) → rules_or (rules_among found) bad ≡ Ok rules → rules_among found ≡ rules
+    by_bad : (bad : Option ℕ) → rules_or (rules_among with_days found) bad ≡ Ok rules → rules_among with_days found ≡ rules
     by_bad (Some number) e = absurd cc
     by_bad None e = cc
 
 -- what is read of a tree is a policy, where it isn't too much
-pub read_policy_is : (tree : Members) (callers : List Caller) (rules : List Rule) → EachCallerOnce (callers_of tree) → read_callers (caller_entries tree) ≡ Ok callers → read_rules (rule_values tree) ≡ Ok rules
+pub read_policy_is : (tree : Members) (callers : List Caller) (rules : List Rule) → EachCallerOnce (callers_of tree) → read_callers (caller_entries tree) ≡ Ok callers → read_rules (has_days tree) (rule_values tree) ≡ Ok rules
     → length rules ≤ max_rules → length callers ≤ max_callers → IsPolicy (record { callers = callers; rules = rules })
 read_policy_is tree callers rules once callers_are rules_are few_rules few_callers =
     let same_callers = callers_read (caller_entries tree) callers callers_are in
-    let same_rules = rules_read (rule_values tree) rules rules_are in
+    let same_rules = rules_read (has_days tree) (rule_values tree) rules rules_are in
     record {
-      rules_ask_for_names = subst (AllByRecursion HasNames) same_rules (among_named (rule_values tree));
+      rules_ask_for_names = subst (AllByRecursion HasNames) same_rules (among_named (has_days tree) (rule_values tree));
+      rules_have_days = subst (AllByRecursion HasDays) same_rules (among_have_days (has_days tree) (rule_values tree));
       callers_are_names = subst (AllByRecursion IsNamedCaller) same_callers (callers_among_named (caller_entries tree));
       callers_stand_once = subst EachCallerOnce same_callers once;
       few_rules = few_rules;

@@ -1,5 +1,5 @@
 -- Which rule decides, and what follows from its effect.
-use Rattle.std.proofs.Common.{◌≡◌, ◌<◌, ◌<ℤ◌, ◌≤ℤ◌, ℕ, zero, suc, ◌+◌, Bool, true, false, ◌&&◌, ◌++◌, List, [], ◌∷◌, length, Option, Some, None, refl, sym, ap, ◌∙◌, inl, inr, arith, rules, slice_get, get_or, ◌≤◌, ◌↔◌, position, unwrap_or, int_lt, option_and_then, option_map, not, nat_lt, length-append}
+use Rattle.std.proofs.Common.{◌≡◌, ◌<◌, ◌<ℤ◌, ◌≤ℤ◌, ℕ, zero, suc, ◌+◌, Bool, true, false, ◌&&◌, ◌++◌, List, [], ◌∷◌, length, Option, Some, None, refl, sym, ap, ◌∙◌, inl, inr, arith, rules, slice_get, get_or, ◌≤◌, ◌↔◌, position, unwrap_or, int_lt, int_le, cond, if◌then◌else◌, option_and_then, option_map, not, nat_lt, length-append}
 use Rattle.std.specs.List.{position_or_len, prefix_len, AllByRecursion}
 use Rattle.std.proofs.lemmas.Bool.{cases_Bool, false≢true, and_parts}
 use Rattle.std.proofs.lemmas.Bool.Decides.{nat_tests}
@@ -10,7 +10,8 @@ use Rattle.jiff.specs.Types.{Date}
 use Rattle.jiff.specs.Words.{epoch_day}
 use Rattle.std.proofs.lemmas.Map.Keys.{any_passes_from_place}
 use Rattle.office_core.specs.FirstOf.{first_some}
-use Rattle.office_core.specs.Rules.{Question, IsFirstMatch, NoneMatches, matches, matches_name, first_place, decision_of, decision_at, some_rule_allows, allows}
+use Rattle.office_core.specs.Days.{first_day, last_day, IsDay}
+use Rattle.office_core.specs.Rules.{Question, HasNoDays, IsFirstMatch, NoneMatches, asked_on, counts_on, matches, matches_name, matches_optional, matches_action, first_place, decision_of, decision_at, some_rule_allows, allows}
 use Rattle.office_core.specs.Verdicts.{verdict_of, is_denied, IsReadyForDisposal, hold_verdict, due_verdict}
 use Rattle.office_core.specs.declared.action.Action.TheVariants.{Dispose}
 use Rattle.office_core.specs.declared.rule.Rule.{Rule}
@@ -22,6 +23,7 @@ use Rattle.office_core.specs.declared.retention.Due.TheVariants.{On, Never}
 use Rattle.office_core.specs.declared.facts.Facts.{Facts}
 use Rattle.office_core.specs.declared.facts.Verdict.TheVariants.{DeniedByRule, DeniedByDefault, Gone, NotDue, Allow}
 use Rattle.office_core.proofs.OptionLemmas.{option_map_some}
+use Rattle.office_core.proofs.DayLemmas.{day_number, first_number, last_number}
 use Rattle.bag_text.proofs.ElementLemmas.{slice_get-append}
 
 prefix_len-append : {A : Type 0} (p : A → Bool) (xs ys : List A) → prefix_len p xs < length xs → prefix_len p (xs ++ ys) ≡ prefix_len p xs
@@ -103,6 +105,45 @@ no_place_is rules asked = (
   none_at_end (λ r. matches r asked) rules,
 )
 
+-- ---- days
+
+-- a rule that doesn't count on a day is the first that matches on none of its questions
+pub off_its_days : (rules : List Rule) (asked : Question) (place : ℕ) (rule : Rule) → slice_get rules place ≡ Some rule → counts_on rule asked.day ≡ false
+    → first_place rules asked ≡ Some place → ⊥
+off_its_days rules asked place rule at off first =
+    let is = place_matches rules asked place first in
+    let same : is.rule ≡ rule = same_Some _ _ (sym is.at ∙ at) in
+    let counts : counts_on is.rule asked.day ≡ true =
+    (and_parts
+    (matches_name is.rule.role asked.role && matches_action is.rule.action asked.action && matches_optional is.rule.collection asked.collection && matches_optional is.rule.class asked.class)
+    (counts_on is.rule asked.day) is.matched).1 in
+    false≢true (sym off ∙ ap (λ r. counts_on r asked.day) (sym same) ∙ counts)
+
+-- a rule that counts on each day counts on a day
+counts_each_day : (rule : Rule) (day : Date) → HasNoDays rule → IsDay day → counts_on rule day ≡ true
+counts_each_day rule day none is =
+    let number = day_number day is in
+    let low : int_le (epoch_day first_day) (epoch_day day) ≡ true = rw first_number (search (rules, number.0)) in
+    let high : int_le (epoch_day day) (epoch_day last_day) ≡ true = rw last_number (search (rules, number.1)) in
+    rw (none.first, none.last, low, high) refl
+
+-- and so matches on each of them alike
+matches_alike : (rule : Rule) (asked : Question) (day other : Date) → HasNoDays rule → IsDay day → IsDay other → matches rule (asked_on day asked) ≡ matches rule (asked_on other asked)
+matches_alike rule asked day other none is is_other = rw (counts_each_day rule day none is, counts_each_day rule other none is_other) refl
+
+all_alike : (rules : List Rule) (asked : Question) (day other : Date) → AllByRecursion HasNoDays rules → IsDay day → IsDay other
+    → prefix_len (λ r. not (matches r (asked_on day asked))) rules ≡ prefix_len (λ r. not (matches r (asked_on other asked))) rules
+all_alike [] asked day other none is is_other = refl
+all_alike (rule ∷ rules) asked day other none is is_other =
+    ap (λ test. cond (not test) (1 + prefix_len (λ r. not (matches r (asked_on day asked))) rules) 0) (matches_alike rule asked day other none.0 is is_other)
+    ∙ ap (λ more. cond (not (matches rule (asked_on other asked))) (1 + more) 0) (all_alike rules asked day other none.1 is is_other)
+
+-- rules that count on each day decide alike on each
+pub decided_alike : (rules : List Rule) (asked : Question) (day other : Date) → AllByRecursion HasNoDays rules → IsDay day → IsDay other
+    → decision_of rules (asked_on day asked) ≡ decision_of rules (asked_on other asked)
+decided_alike rules asked day other none is is_other =
+    ap (λ end. option_and_then (λ place. option_map (decision_at place) (slice_get rules place)) (if nat_lt end (length rules) then Some end else None)) (all_alike rules asked day other none is is_other)
+
 -- ---- the rule that decides
 
 -- the rule that decides matches
@@ -134,7 +175,7 @@ not_before day date lt is =
 pub denied_role : (rules : List Rule) (asked : Question) (decision : Decision) → some_rule_allows rules asked.role ≡ false → decision_of rules asked ≡ Some decision → allows decision.effect ≡ false
 denied_role rules asked decision none e =
     let (place, rule, first, found, same, matched) = decided rules asked decision e in
-    let role : matches_name rule.role asked.role ≡ true = (and_parts _ _ (and_parts _ _ (and_parts _ _ matched).0).0).0 in
+    let role : matches_name rule.role asked.role ≡ true = (and_parts _ _ (and_parts _ _ (and_parts _ _ (and_parts _ _ matched).0).0).0).0 in
     let effect : rule.effect ≡ decision.effect = ap (λ d. d.effect) same in
     allows_none rule.effect decision.effect effect
     (λ allowed. false≢true (sym none ∙ any_passes_from_place (λ r. allows r.effect && matches_name r.role asked.role) rules place rule found (rw (allowed, role) refl)))

@@ -1,7 +1,9 @@
 -- Days of the civil calendar, by jiff's dates: `year`, `month` and `day`, and the day number `epoch_day`.
 use Rattle.std.specs.Prelude.{◌≡◌, ℕ, ◌+◌, ◌/◌, ◌%◌, List, [], ◌∷◌, ◌++◌, unsigned_abs, ℤ, pos, neg_ℤ, ◌+ℤ◌, ◌==◌, ◌&&◌, not, Bool, if◌then◌else◌}
+use Rattle.std.specs.Int.Signed.{le_z_yes}
 use Rattle.jiff.specs.Types.{Date}
 use Rattle.jiff.specs.Words.{IsBetween, is_leap_year}
+use Rattle.std.proofs.Math.Dec.{leb→le}
 
 -- the first and the last year of the office
 abbrev pub first_year : ℤ
@@ -16,6 +18,27 @@ first_day_number = neg_ℤ (pos 25_567)
 
 abbrev pub last_day_number : ℤ
 last_day_number = pos 2_859_848
+
+-- its first day, 1900-01-01, and its last, 9799-12-31
+abbrev pub first_day : Date
+first_day = record {
+  year = first_year;
+  month = 1;
+  day = 1;
+  year_in = (le_z_yes tt, le_z_yes tt);
+  month_in = (leb→le 1 1 tt, leb→le 1 12 tt);
+  day_in = (leb→le 1 1 tt, leb→le 1 31 tt);
+}
+
+abbrev pub last_day : Date
+last_day = record {
+  year = last_year;
+  month = 12;
+  day = 31;
+  year_in = (le_z_yes tt, le_z_yes tt);
+  month_in = (leb→le 1 12 tt, leb→le 12 12 tt);
+  day_in = (leb→le 1 31 tt, leb→le 31 31 tt);
+}
 
 -- a day of the office lies in its years
 abbrev pub IsDay : Date → Type 0

@@ -1,11 +1,15 @@
 -- The policy file: the callers and the rules that the tree of a TOML text spells, and its faults.
-use Rattle.std.specs.Prelude.{◌≡◌, ◌≢◌, ◌≤◌, ◌⊎◌, ℕ, suc, pos, Bool, true, false, not, ◌&&◌, ◌||◌, List, [], ◌∷◌, length, Option, Some, None, Result, Ok, Err, is_none, nat_lt, codes, bytes_eq, find, slice_get, option_map, option_and_then, unwrap_or, if◌then◌else◌}
+use Rattle.std.specs.Prelude.{◌≡◌, ◌≢◌, ◌≤◌, ◌≤ℤ◌, ◌⊎◌, ℕ, suc, ℤ, pos, int_le, Bool, true, false, not, ◌&&◌, ◌||◌, List, [], ◌∷◌, ◌++◌, length, Option, Some, None, Result, Ok, Err, is_none, nat_lt, codes, bytes_eq, find, slice_get, option_map, option_and_then, unwrap_or, if◌then◌else◌}
 use Rattle.std.specs.List.{list_all, list_any, filter_map, AllByRecursion}
 use Rattle.std.specs.Option.{option_map_or}
 use Rattle.std.specs.Ordering.{int_eq}
 use Rattle.toml.specs.Data.{Data, Items, no_items, item, Members, no_members, member, get_member, as_str, as_integer, as_table, as_array}
 use Rattle.toml.specs.Parse.{parse_document}
+use Rattle.jiff.specs.Types.{Date}
+use Rattle.jiff.specs.Words.{epoch_day}
 use Rattle.office_core.specs.Bounds.{max_rules, max_callers}
+use Rattle.office_core.specs.Days.{first_day, last_day, IsDay, day_text}
+use Rattle.office_core.specs.DayReading.{day_of}
 use Rattle.office_core.specs.FirstOf.{◌>>=◌, first_some, answer_if}
 use Rattle.office_core.specs.Names.{is_name, IsName}
 use Rattle.office_core.specs.Actions.{action_of}
@@ -75,8 +79,18 @@ pattern_in text = if bytes_eq text (codes "*") then Some names.Any else answer_i
 abbrev pub action_pattern_in : List ℕ → Option ActionPattern
 action_pattern_in text = if bytes_eq text (codes "*") then Some acts.Any else option_map acts.Only (action_of text)
 
+-- the keys that every rule has
 abbrev pub rule_keys : List (List ℕ)
 rule_keys = codes "effect" ∷ codes "role" ∷ codes "action" ∷ codes "collection" ∷ codes "class" ∷ []
+
+-- and those that it may have where the policy's rules have days
+abbrev pub day_keys : List (List ℕ)
+day_keys = codes "first" ∷ codes "last" ∷ []
+
+-- the keys that a rule may have
+abbrev pub keys_of_rule : Bool → List (List ℕ)
+keys_of_rule true = rule_keys ++ day_keys
+keys_of_rule false = rule_keys
 
 -- the text at a key
 abbrev pub text_at : List ℕ → Members → Option (List ℕ)
@@ -91,18 +105,42 @@ pattern_at key ms = text_at key ms >>= pattern_in
 abbrev pub action_at : Members → Option ActionPattern
 action_at ms = text_at (codes "action") ms >>= action_pattern_in
 
--- the rule that a table of exactly the five keys spells
-unfoldable pub rule_of : Members → Option Rule
-rule_of ms = if list_all (λ entry. is_one_of rule_keys entry.0) (entries ms) then (do
+-- the day that a value writes; where there is no value, the one that is given
+abbrev pub day_in : Date → Option Data → Option Date
+day_in otherwise None = Some otherwise
+day_in otherwise (Some value) = as_str value >>= day_of
+
+-- the day at a key; where the key isn't there, the one that is given
+abbrev pub day_at : List ℕ → Date → Members → Option Date
+day_at key otherwise ms = day_in otherwise (get_member key ms)
+
+-- the first day on which a rule counts, and the last
+abbrev pub first_at : Members → Option Date
+first_at ms = day_at (codes "first") first_day ms
+
+abbrev pub last_at : Members → Option Date
+last_at ms = day_at (codes "last") last_day ms
+
+-- the days from one to the other, of which there is one at least
+abbrev pub days_from : Date → Date → Option (Date × Date)
+days_from first last = answer_if (int_le (epoch_day first) (epoch_day last)) (first, last)
+
+abbrev pub days_at : Members → Option (Date × Date)
+days_at ms = first_at ms >>= λ first. last_at ms >>= λ last. days_from first last
+
+-- The rule that a table spells: it has exactly the five keys, and where the policy's rules have days it may have `first` and `last`.
+unfoldable pub rule_of : Bool → Members → Option Rule
+rule_of with_days ms = if list_all (λ entry. is_one_of (keys_of_rule with_days) entry.0) (entries ms) then (do
   effect ← effect_at ms
   role ← pattern_at (codes "role") ms
   action ← action_at ms
   collection ← pattern_at (codes "collection") ms
   class ← pattern_at (codes "class") ms
-  Some (record { effect = effect; role = role; action = action; collection = collection; class = class })) else None
+  (first, last) ← days_at ms
+  Some (record { effect = effect; role = role; action = action; collection = collection; class = class; first = first; last = last })) else None
 
-abbrev pub rule_in : Data → Option Rule
-rule_in value = as_table value >>= rule_of
+abbrev pub rule_in : Bool → Data → Option Rule
+rule_in with_days value = as_table value >>= rule_of with_days
 
 -- the values of the array `rule`, none where it isn't there; nothing where it is no array
 abbrev pub array_elements : Option Data → Option (List Data)
@@ -113,28 +151,45 @@ abbrev pub rule_values : Members → Option (List Data)
 rule_values tree = array_elements (get_member (codes "rule") tree)
 
 -- the place of the first value that spells no rule, counted from that number
-abbrev pub first_bad : ℕ → List Data → Option ℕ
-first_bad number [] = None
-first_bad number (value ∷ more) = if is_none (rule_in value) then Some number else first_bad (suc number) more
+abbrev pub first_bad : Bool → ℕ → List Data → Option ℕ
+first_bad with_days number [] = None
+first_bad with_days number (value ∷ more) = if is_none (rule_in with_days value) then Some number else first_bad with_days (suc number) more
 
-abbrev pub rules_among : Option (List Data) → List Rule
-rules_among found = option_map_or (filter_map rule_in) found []
+abbrev pub rules_among : Bool → Option (List Data) → List Rule
+rules_among with_days found = option_map_or (filter_map (rule_in with_days)) found []
 
-abbrev pub bad_rule_among : Option (List Data) → Option ℕ
-bad_rule_among found = option_map_or (first_bad 1) found (Some 0)
+abbrev pub bad_rule_among : Bool → Option (List Data) → Option ℕ
+bad_rule_among with_days found = option_map_or (first_bad with_days 1) found (Some 0)
+
+-- ---- versions
+
+-- the whole number at `version`
+abbrev pub version_in : Members → Option ℤ
+version_in tree = option_and_then as_integer (get_member (codes "version") tree)
+
+abbrev pub is_version : ℤ → Members → Bool
+is_version number tree = option_map_or (int_eq number) (version_in tree) false
+
+-- under version 2 rules may have days
+abbrev pub has_days : Members → Bool
+has_days tree = is_version (pos 2) tree
+
+-- the same of a text: its tree is of version 2
+abbrev pub may_have_days : List ℕ → Bool
+may_have_days text = option_map_or has_days (parse_document text) false
 
 abbrev pub rules_of : Members → List Rule
-rules_of tree = rules_among (rule_values tree)
+rules_of tree = rules_among (has_days tree) (rule_values tree)
 
 -- the number of the first bad rule, from 1, or 0 where there is no array of rules
 abbrev pub bad_rule : Members → Option ℕ
-bad_rule tree = bad_rule_among (rule_values tree)
+bad_rule tree = bad_rule_among (has_days tree) (rule_values tree)
 
 -- ---- the faults of a tree, and what it spells
 
--- Y2: the version is missing, or isn't the whole number 1
+-- Y2: the version is missing, or is neither the whole number 1 nor 2
 abbrev pub has_bad_version : Members → Bool
-has_bad_version tree = not (option_map_or (int_eq (pos 1)) (option_and_then as_integer (get_member (codes "version") tree)) false)
+has_bad_version tree = not (is_version (pos 1) tree || is_version (pos 2) tree)
 
 abbrev pub top_keys : List (List ℕ)
 top_keys = codes "version" ∷ codes "callers" ∷ codes "rule" ∷ []
@@ -191,7 +246,22 @@ pub record GivesEach {A B : Type 0} (read : A → Option B) (values : List A) (i
 
 -- the values of the array `rule` of a tree give these rules, each in its place
 abbrev pub SpellsRules : Members → List Rule → Type 0
-SpellsRules tree rules = (values : List Data) × (rule_values tree ≡ Some values) × GivesEach rule_in values rules
+SpellsRules tree rules = (values : List Data) × (rule_values tree ≡ Some values) × GivesEach (rule_in (has_days tree)) values rules
+
+-- the table at that place, from 0, of the array `rule`
+abbrev pub rule_table : Members → ℕ → Option Members
+rule_table tree place = option_and_then as_table (option_and_then (λ values. slice_get values place) (rule_values tree))
+
+-- the key has the text of the day, or isn't there, and the day is the one that is given
+abbrev pub IsBound : List ℕ → Date → Members → Date → Type 0
+IsBound key otherwise ms day =
+    (IsDay day × (text_at key ms ≡ Some (day_text day)))
+    ⊎ ((get_member key ms ≡ None) × (day ≡ otherwise))
+
+-- the days of a rule are those that its table writes, the first and the last of the office where it writes none
+pub record WritesDays (ms : Members) (rule : Rule) : Type 0 where
+  pub first : IsBound (codes "first") first_day ms rule.first
+  pub last : IsBound (codes "last") last_day ms rule.last
 
 -- the entries of the table `callers` of a tree give these callers, each in its place
 abbrev pub SpellsCallers : Members → List Caller → Type 0
@@ -214,6 +284,10 @@ IsNamed (names.Named only) = IsName only
 abbrev pub HasNames : Rule → Type 0
 HasNames rule = IsNamed rule.role × IsNamed rule.collection × IsNamed rule.class
 
+-- the days of a rule are days of the office, the first not after the last
+abbrev pub HasDays : Rule → Type 0
+HasDays rule = IsDay rule.first × IsDay rule.last × (epoch_day rule.first ≤ℤ epoch_day rule.last)
+
 -- a caller and its role are names
 abbrev pub IsNamedCaller : Caller → Type 0
 IsNamedCaller caller = IsName caller.name × IsName caller.role
@@ -225,6 +299,7 @@ EachCallerOnce (caller ∷ more) = AllByRecursion (λ other. caller.name ≢ oth
 
 pub record IsPolicy (policy : PolicyValue) : Type 0 where
   pub rules_ask_for_names : AllByRecursion HasNames policy.rules
+  pub rules_have_days : AllByRecursion HasDays policy.rules
   pub callers_are_names : AllByRecursion IsNamedCaller policy.callers
   pub callers_stand_once : EachCallerOnce policy.callers
   pub few_rules : length policy.rules ≤ max_rules

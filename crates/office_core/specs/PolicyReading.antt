@@ -1,9 +1,9 @@
 -- What reading a policy gives, step by step.
-use Rattle.std.specs.Prelude.{◌≡◌, ℕ, ◌||◌, List, length, Option, Some, None, Result, Ok, Err, nat_lt, if◌then◌else◌}
+use Rattle.std.specs.Prelude.{◌≡◌, ℕ, Bool, ◌||◌, List, length, Option, Some, None, Result, Ok, Err, nat_lt, if◌then◌else◌}
 use Rattle.toml.specs.Data.{Data, Members}
 use Rattle.bag_text.specs.Answers.{◌>>=◌}
 use Rattle.office_core.specs.Bounds.{max_rules, max_callers}
-use Rattle.office_core.specs.Policies.{PolicyValue, callers_among, is_bad_among, caller_entries, rules_among, bad_rule_among, rule_values, has_bad_version, has_unknown_key}
+use Rattle.office_core.specs.Policies.{PolicyValue, callers_among, is_bad_among, caller_entries, rules_among, bad_rule_among, rule_values, has_days, has_bad_version, has_unknown_key}
 use Rattle.office_core.specs.declared.policy_fault.PolicyFault.{PolicyFault}
 use Rattle.office_core.specs.declared.policy_fault.PolicyFault.TheVariants.{BadVersion, UnknownKey, BadCaller, BadRule, TooMany}
 use Rattle.office_core.specs.declared.rule.Rule.{Rule}
@@ -18,8 +18,8 @@ abbrev pub rules_or : List Rule → Option ℕ → Result (List Rule) PolicyFaul
 rules_or rules (Some number) = Err (BadRule number)
 rules_or rules None = Ok rules
 
-abbrev pub read_rules : Option (List Data) → Result (List Rule) PolicyFault
-read_rules found = rules_or (rules_among found) (bad_rule_among found)
+abbrev pub read_rules : Bool → Option (List Data) → Result (List Rule) PolicyFault
+read_rules with_days found = rules_or (rules_among with_days found) (bad_rule_among with_days found)
 
 abbrev pub policy_within_limits : List Caller → List Rule → Result PolicyValue PolicyFault
 policy_within_limits callers rules =
@@ -30,7 +30,7 @@ abbrev pub read_members : Members → Result PolicyValue PolicyFault
 read_members tree =
     if has_bad_version tree then Err BadVersion
     else if has_unknown_key tree then Err UnknownKey
-    else (read_callers (caller_entries tree) >>= λ callers. read_rules (rule_values tree) >>= λ rules. policy_within_limits callers rules)
+    else (read_callers (caller_entries tree) >>= λ callers. read_rules (has_days tree) (rule_values tree) >>= λ rules. policy_within_limits callers rules)
 
 -- a part of a rule is read, or isn't there, memory aside
 abbrev pub Reads : {A : Type 0} → Result A RuleFlaw → Option A → Type 0

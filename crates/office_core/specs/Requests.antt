@@ -4,7 +4,7 @@ use Rattle.office_core.specs.Bounds.{max_years}
 use Rattle.office_core.specs.Days.{IsDay}
 use Rattle.office_core.specs.Names.{IsName, IsAccession, IsMatter}
 use Rattle.office_core.specs.declared.request.Request.{Request}
-use Rattle.office_core.specs.declared.request.Request.TheVariants.{DefineClass, DefineCollection, Deposit, List as ListDeposits, Record, Holds, DownloadBag, DownloadFile, Audit, HoldDeposit, HoldCollection, Release, Dispose, DueList}
+use Rattle.office_core.specs.declared.request.Request.TheVariants.{DefineClass, DefineCollection, Deposit, List as ListDeposits, Record, Holds, DownloadBag, DownloadFile, Audit, HoldDeposit, HoldCollection, HoldClass, Release, Dispose, DueList}
 
 -- 0 to 200 years, or for good
 abbrev pub IsYears : Option ℕ → Type 0
@@ -18,6 +18,7 @@ IsRequest (Deposit collection class accession closed bag) = IsName collection ×
 IsRequest (ListDeposits collection class) = IfSome collection IsName × IfSome class IsName
 IsRequest (HoldDeposit deposit matter) = IsMatter matter
 IsRequest (HoldCollection collection matter) = IsName collection × IsMatter matter
+IsRequest (HoldClass class matter) = IsName class × IsMatter matter
 IsRequest (Record deposit) = Unit {0}
 IsRequest (Holds deposit) = Unit {0}
 IsRequest (DownloadBag deposit) = Unit {0}

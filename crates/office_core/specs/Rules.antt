@@ -1,8 +1,11 @@
 -- When a rule matches what is asked, and which rule decides.
-use Rattle.std.specs.Prelude.{◌≡◌, ◌<◌, ℕ, ◌+◌, Bool, true, false, ◌&&◌, List, Option, Some, bytes_eq, position, slice_get, option_map, option_and_then, option_copied}
+use Rattle.std.specs.Prelude.{◌≡◌, ◌<◌, ℕ, ◌+◌, Bool, true, false, ◌&&◌, int_le, List, Option, Some, bytes_eq, position, slice_get, option_map, option_and_then, option_copied}
 use Rattle.std.specs.Option.{option_map_or}
 use Rattle.std.specs.List.{list_any, AllByRecursion}
+use Rattle.jiff.specs.Types.{Date}
+use Rattle.jiff.specs.Words.{epoch_day}
 use Rattle.office_core.specs.Actions.{action_text}
+use Rattle.office_core.specs.Days.{first_day, last_day}
 use Rattle.office_core.specs.declared.action.Action.{Action}
 use Rattle.office_core.specs.declared.rule.Effect.{Effect}
 use Rattle.office_core.specs.declared.rule.Effect.TheVariants.{Allow, Deny}
@@ -14,15 +17,26 @@ use Rattle.office_core.specs.declared.rule.Rule.{Rule}
 use Rattle.office_core.specs.declared.rule.Ask.{Ask}
 use Rattle.office_core.specs.declared.rule.Decision.{Decision}
 
--- what is asked: a role, an action, and a collection and a class, each of which may be absent
+-- what is asked: a role, an action, a collection and a class, each of which may be absent, and the day on which it is asked
 pub record Question : Type 0 where
   pub role : List ℕ
   pub action : Action
   pub collection : Option (List ℕ)
   pub class : Option (List ℕ)
+  pub day : Date
 
 abbrev pub question_of : Ask → Question
-question_of ask = record { role = ask.role.now; action = ask.action; collection = option_copied ask.collection; class = option_copied ask.class }
+question_of ask = record {
+  role = ask.role.now;
+  action = ask.action;
+  collection = option_copied ask.collection;
+  class = option_copied ask.class;
+  day = ask.day;
+}
+
+-- the same, asked on another day
+abbrev pub asked_on : Date → Question → Question
+asked_on day asked = record { role = asked.role; action = asked.action; collection = asked.collection; class = asked.class; day = day }
 
 abbrev pub allows : Effect → Bool
 allows Allow = true
@@ -42,11 +56,21 @@ abbrev pub matches_action : ActionPattern → Action → Bool
 matches_action acts.Any action = true
 matches_action (acts.Only only) action = bytes_eq (action_text only) (action_text action)
 
--- all four patterns match
+-- the day is one of those from the rule's first to its last, both included
+abbrev pub counts_on : Rule → Date → Bool
+counts_on rule day = int_le (epoch_day rule.first) (epoch_day day) && int_le (epoch_day day) (epoch_day rule.last)
+
+-- a rule that counts on each day of the office
+pub record HasNoDays (rule : Rule) : Type 0 where
+  pub first : rule.first ≡ first_day
+  pub last : rule.last ≡ last_day
+
+-- all four patterns match, on a day on which the rule counts
 abbrev pub matches : Rule → Question → Bool
 matches rule asked =
     matches_name rule.role asked.role && matches_action rule.action asked.action
     && matches_optional rule.collection asked.collection && matches_optional rule.class asked.class
+    && counts_on rule asked.day
 
 -- the least place, from 0, of a rule that matches
 abbrev pub first_place : List Rule → Question → Option ℕ

@@ -32,6 +32,7 @@ pub struct DepositRecord {
 pub enum Scope {
     Deposit,
     Collection,
+    Class,
 }
 
 /// A live hold that covers a deposit.
@@ -39,7 +40,7 @@ pub enum Scope {
 pub struct LiveHold {
     pub number: u32,
     pub matter: OwnedMatter,
-    /// Whether the hold names the deposit, or its collection.
+    /// Whether the hold names the deposit, its collection or its class.
     pub on: Scope,
     /// The day on which the hold was placed.
     pub placed: Day,

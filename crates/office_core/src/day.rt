@@ -3,8 +3,8 @@
 ghost use Rattle.std.specs.Prelude.{◌≡◌, ◌↔◌, ◌+◌, ◌*◌, ◌<◌, pos, Option, Some, None, IsSome, IfSome, IsSomeAnd};
 ghost use Rattle.jiff.specs.Types.{Date};
 ghost use Rattle.jiff.specs.Words.{epoch_day, IsDate, IsYmd};
-ghost use Rattle.office_core.specs.Days.{IsDay, IsDayNumber, day_text};
-ghost use Rattle.office_core.specs.DayReading.{number_of, parts_of};
+ghost use Rattle.office_core.specs.Days.{first_day, last_day, IsDay, IsDayNumber, day_text};
+ghost use Rattle.office_core.specs.DayReading.{number_of, parts_of, day_of};
 
 use crate::date::Date;
 use jiff_core::civil;
@@ -17,11 +17,11 @@ const FIRST_YEAR: i16 = 1900;
 /// The last year of the office.
 const LAST_YEAR: i16 = 9799;
 
-/// The number of the first day.
-const FIRST_NUMBER: i32 = -25_567;
+/// The number of the first day of the office, 1900-01-01, where 1970-01-01 has the number 0.
+pub const FIRST_DAY_NUMBER: i32 = -25_567;
 
-/// The number of the last day.
-const LAST_NUMBER: i32 = 2_859_848;
+/// The number of the last day of the office, 9799-12-31, where 1970-01-01 has the number 0.
+pub const LAST_DAY_NUMBER: i32 = 2_859_848;
 
 /// A day of the civil calendar, from 1900-01-01 to 9799-12-31.
 #[derive(Clone, Copy, PartialEq, Eq, PartialOrd, Ord)]
@@ -127,14 +127,53 @@ fn date_at(number: i32) -> Option<civil::Date>
     civil::Date::from_unix_epoch_day(number as i64).ok()
 }
 
+/// The day that a text writes.
+fn read_day(text: &str) -> Option<Day>
+    ensures written { IfSome result (λ day. IsDay day × (text.now ≡ day_text day)) }
+    ensures only { (day : Date) → IsDay day → text.now ≡ day_text day → result ≡ Some day }
+{
+    let (century, year, month, day) = parts(text.as_bytes())?;
+    of_date(date_of(century, year, month, day)?)
+}
+
 impl Day {
-    /// The day that a text writes, as `2024-02-29`.
+    /// The first day of the office: 1900-01-01.
+    pub fn first() -> Day
+        ensures { result ≡ first_day }
+    {
+        Day {
+            date: Date::of_plain(civil::Date {
+                year: FIRST_YEAR,
+                month: 1,
+                day: 1,
+            }),
+        }
+    }
+
+    /// The last day of the office: 9799-12-31.
+    pub fn last() -> Day
+        ensures { result ≡ last_day }
+    {
+        Day {
+            date: Date::of_plain(civil::Date {
+                year: LAST_YEAR,
+                month: 12,
+                day: 31,
+            }),
+        }
+    }
+
+    /// The day that a text writes, as `2024-02-29`; none where it writes no day of the office.
     pub fn read(text: &str) -> Option<Day>
+        // A day that is read is one of the office, and the text is how it is written; each such day is read
+        // from its text.
         ensures written { IfSome result (λ day. IsDay day × (text.now ≡ day_text day)) }
         ensures only { (day : Date) → IsDay day → text.now ≡ day_text day → result ≡ Some day }
+
+        // The same by computing.
+        ensures exact { result ≡ day_of text.now }
     {
-        let (century, year, month, day) = parts(text.as_bytes())?;
-        of_date(date_of(century, year, month, day)?)
+        read_day(text)
     }
 
     /// The day with that number, where 1970-01-01 has the number 0.
@@ -142,7 +181,7 @@ impl Day {
         ensures range { IsSome result ↔ IsDayNumber number }
         ensures value { IfSome result (λ day. IsDay day × (epoch_day day ≡ number)) }
     {
-        if number < FIRST_NUMBER || number > LAST_NUMBER {
+        if number < FIRST_DAY_NUMBER || number > LAST_DAY_NUMBER {
             return None;
         }
         of_date(date_at(number)?)

@@ -1,9 +1,11 @@
 //! Laws of the definitions alone.
 
-ghost use Rattle.std.specs.Prelude.{◌≡◌, ◌↔◌, ◌++◌, ℕ, List, Option, Some, None, true, false};
+ghost use Rattle.std.specs.Prelude.{◌≡◌, ◌≢◌, ◌↔◌, ◌++◌, ◌≤ℤ◌, ℕ, pos, List, Option, Some, None, IsSomeAnd, true, false, slice_get};
+ghost use Rattle.std.specs.List.{AllByRecursion};
 ghost use Rattle.jiff.specs.Types.{Date};
-ghost use Rattle.office_core.specs.Policies.{PolicyValue, SpellsPolicy, SpellsRules, SpellsCallers, IsPolicy};
-ghost use Rattle.office_core.specs.Rules.{Question, IsFirstMatch, NoneMatches, first_place, decision_of, some_rule_allows};
+ghost use Rattle.jiff.specs.Words.{epoch_day};
+ghost use Rattle.office_core.specs.Policies.{PolicyValue, SpellsPolicy, SpellsRules, SpellsCallers, IsPolicy, WritesDays, may_have_days, rule_table, version_in};
+ghost use Rattle.office_core.specs.Rules.{Question, HasNoDays, IsFirstMatch, NoneMatches, asked_on, counts_on, matches, first_place, decision_of, some_rule_allows};
 ghost use Rattle.office_core.specs.Days.{IsDay};
 ghost use Rattle.office_core.specs.Requests.{IsYears};
 ghost use Rattle.office_core.specs.Retention.{IsDue};
@@ -32,6 +34,26 @@ pub fn added_rules()
         → decision_of (rules ++ more) asked ≡ Some decision }
 {}
 
+/// A rule counts on its days alone, from its first to its last, both included. On any other day it
+/// matches nothing, and decides nothing.
+pub fn rule_outside_its_days()
+    ensures days { (rule : Rule) (day : Date)
+        → (counts_on rule day ≡ true)
+        ↔ ((epoch_day rule.first ≤ℤ epoch_day day) × (epoch_day day ≤ℤ epoch_day rule.last)) }
+    ensures matches { (rule : Rule) (asked : Question)
+        → counts_on rule asked.day ≡ false → matches rule asked ≡ false }
+    ensures decides { (rules : List Rule) (asked : Question) (place : ℕ) (rule : Rule)
+        → slice_get rules place ≡ Some rule → counts_on rule asked.day ≡ false
+        → first_place rules asked ≢ Some place }
+{}
+
+/// Rules that count on each day of the office answer a question on each of its days alike.
+pub fn rules_without_days()
+    ensures { (rules : List Rule) (asked : Question) (day other : Date)
+        → AllByRecursion HasNoDays rules → IsDay day → IsDay other
+        → decision_of rules (asked_on day asked) ≡ decision_of rules (asked_on other asked) }
+{}
+
 /// A policy in which no allow rule's role pattern matches a role denies that role everything.
 pub fn no_allow_rule()
     ensures { (rules : List Rule) (asked : Question)
@@ -47,8 +69,9 @@ pub fn allowed_disposal()
         → (verdict_of facts day ≡ Allow) ↔ IsReadyForDisposal facts day }
 {}
 
-/// What a text spells is a policy: it asks for names, each caller stands once, and there are no
-/// more rules and callers than a policy may have.
+/// What a text spells is a policy: it asks for names, the days of a rule are days of the office, the
+/// first not after the last, each caller stands once, and there are no more rules and callers than a
+/// policy may have.
 pub fn spelled_policies()
     ensures { (text : List ℕ) (policy : PolicyValue)
         → SpellsPolicy text policy → IsPolicy policy }
@@ -61,6 +84,25 @@ pub fn spelled_in_order()
         → SpellsRules spells.tree policy.rules }
     ensures callers { (text : List ℕ) (policy : PolicyValue) (spells : SpellsPolicy text policy)
         → SpellsCallers spells.tree policy.callers }
+{}
+
+/// The rules that a text of version 1 spells count on each day of the office, and so do those of each
+/// text whose rules may have no days.
+pub fn version_1_has_no_days()
+    ensures version { (text : List ℕ) (policy : PolicyValue) (spells : SpellsPolicy text policy)
+        → version_in spells.tree ≡ Some (pos 1)
+        → AllByRecursion HasNoDays policy.rules }
+    ensures text { (text : List ℕ) (policy : PolicyValue)
+        → SpellsPolicy text policy → may_have_days text ≡ false
+        → AllByRecursion HasNoDays policy.rules }
+{}
+
+/// The days of each rule that a text spells are those that its table writes, the first and the last
+/// of the office where it writes none.
+pub fn written_days()
+    ensures { (text : List ℕ) (policy : PolicyValue) (spells : SpellsPolicy text policy)
+        (place : ℕ) (rule : Rule) → slice_get policy.rules place ≡ Some rule
+        → IsSomeAnd (rule_table spells.tree place) (λ table. WritesDays table rule) }
 {}
 
 /// The due day that is computed is the one that the calendar has, of each day of the office and of

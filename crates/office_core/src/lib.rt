@@ -32,7 +32,7 @@ pub use answer::{Answer, AuditReport, DepositRecord, LiveHold, Scope};
 pub use caller::Caller;
 pub use closing::{due, due_date};
 pub use date::Date;
-pub use day::Day;
+pub use day::{Day, FIRST_DAY_NUMBER, LAST_DAY_NUMBER};
 pub use deciding::{denial_verdict, verdict};
 pub use facts::{Facts, Verdict};
 pub use limits::Limits;
@@ -40,7 +40,7 @@ pub use names::{
     Accession, MAX_ACCESSION, MAX_MATTER, MAX_NAME, Matter, Name, OwnedAccession, OwnedMatter,
     OwnedName,
 };
-pub use policy::{MAX_CALLERS, MAX_RULES, Policy, or_stranger, read_policy};
+pub use policy::{MAX_CALLERS, MAX_RULES, Policy, may_have_days, or_stranger, read_policy};
 pub use policy_fault::PolicyFault;
 pub use refusal::{Refusal, Subject};
 pub use request::Request;

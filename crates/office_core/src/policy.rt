@@ -3,16 +3,16 @@
 ghost use Rattle.std.specs.Prelude.{◌≡◌, ◌⊎◌, Err, IfErr, IfOk, MatchResult, option_copied, option_map, find, bytes_eq};
 ghost use Rattle.toml.specs.View.{table_view};
 ghost use Rattle.bag_text.specs.Answers.{Answers};
-ghost use Rattle.office_core.specs.Policies.{PolicyValue, EachCallerOnce, HasFirstFault, IsPolicy, SpellsPolicy, callers_of, policy_of, role_of, or_stranger, named_policy_fault};
+ghost use Rattle.office_core.specs.Policies.{PolicyValue, EachCallerOnce, HasFirstFault, IsPolicy, SpellsPolicy, callers_of, policy_of, role_of, or_stranger, named_policy_fault, may_have_days};
 ghost use Rattle.office_core.specs.PolicyReading.{read_members};
 ghost use Rattle.office_core.specs.declared.policy_fault.PolicyFault.{PolicyFault};
 ghost use Rattle.office_core.specs.declared.policy_fault.PolicyFault.TheVariants.{Memory};
 
 use crate::caller::Caller;
 use crate::policy_fault::PolicyFault;
-use crate::policy_reading::{callers_of, has_top_keys, has_version_1, rules_of};
+use crate::policy_reading::{callers_of, has_bad_version, has_days, has_top_keys, rules_of};
 use crate::rule::Rule;
-use std::alloc::Global;
+use std::alloc::{AllocError, Global};
 use std::marker::Model;
 use toml::Table;
 
@@ -23,8 +23,8 @@ pub const MAX_RULES: usize = 200;
 pub const MAX_CALLERS: usize = 1_000;
 
 /// A policy: callers, each with its role, and rules, of which the first that matches decides.
-/// Callers, roles and what the rules ask for are names, each caller stands once, and there are at
-/// most 200 rules and 1,000 callers.
+/// Callers, roles and what the rules ask for are names, no rule's first day comes after its last,
+/// each caller stands once, and there are at most 200 rules and 1,000 callers.
 #[derive(Debug, Drop)]
 pub struct Policy {
     callers: Vec<Caller>,
@@ -91,7 +91,7 @@ fn read_tree(alloc: Global, tree: &Table) -> Result<Policy, PolicyFault>
     requires { EachCallerOnce (callers_of (table_view tree.now)) }
     ensures { Answers named_policy_fault result (read_members (table_view tree.now)) }
 {
-    if !has_version_1(tree) {
+    if has_bad_version(tree) {
         return Err(PolicyFault::BadVersion);
     }
     if !has_top_keys(tree) {
@@ -137,4 +137,21 @@ pub fn read_policy(alloc: Global, text: &str) -> Result<Policy, PolicyFault>
     ensures exact { Answers named_policy_fault result (policy_of text.now) }
 {
     read_text(alloc, text)
+}
+
+/// Whether the rules of a text's policy may have days: its `version` is the whole number 2. A text
+/// that is no TOML has no rules, and so none with days. The error is a growth that was refused.
+pub fn may_have_days(alloc: Global, text: &str) -> Result<bool, AllocError>
+    ensures { IfOk result (λ may. may ≡ may_have_days text.now) }
+{
+    match toml::table_from_str(alloc, text) {
+        Ok(tree) => Ok(has_days(&tree)),
+        Err(error) => {
+            if error.is_memory() {
+                Err(AllocError)
+            } else {
+                Ok(false)
+            }
+        }
+    }
 }

@@ -13,13 +13,14 @@ use std::fmt;
 pub enum PolicyFault {
     /// Y1: the text is no TOML.
     NotToml,
-    /// Y2: `version` is missing, or isn't the whole number 1.
+    /// Y2: `version` is missing, or is neither the whole number 1 nor 2.
     BadVersion,
     /// Y3: another key at the top than `version`, `callers` and `rule`.
     UnknownKey,
     /// Y4: `callers` is no table, or a caller or a role is no name.
     BadCaller,
-    /// Y5: that rule, counted from 1, is none; 0 where `rule` is no array.
+    /// Y5: that rule, counted from 1, is malformed: a key is missing, or one that it may not have, or a
+    /// value is none that the key takes, or its first day comes after its last; 0 where `rule` is no array.
     BadRule(usize),
     /// Y6: more than 200 rules, or more than 1,000 callers.
     TooMany,

@@ -4,7 +4,7 @@ ghost use Rattle.std.specs.Prelude.{◌≡◌, Some, Ok, Err, ok_or, not, if◌t
 ghost use Rattle.std.specs.List.{list_all};
 ghost use Rattle.toml.specs.View.{view, table_view, array_view};
 ghost use Rattle.bag_text.specs.Answers.{Gives};
-ghost use Rattle.office_core.specs.Policies.{caller_in, caller_entries, rule_values, entries, elements, is_one_of, top_keys, has_bad_version, named_policy_fault};
+ghost use Rattle.office_core.specs.Policies.{caller_in, caller_entries, rule_values, entries, elements, is_one_of, top_keys, is_version, has_days, has_bad_version, named_policy_fault};
 ghost use Rattle.office_core.specs.Names.{is_name};
 ghost use Rattle.office_core.specs.PolicyReading.{read_callers, read_rules};
 ghost use Rattle.office_core.specs.declared.policy_fault.PolicyFault.TheVariants.{BadCaller};
@@ -20,14 +20,27 @@ use std::alloc::Global;
 use toml::value::Array;
 use toml::{Table, Value};
 
-/// Whether the policy says that its version is 1.
-pub fn has_version_1(tree: &Table) -> bool
-    ensures { result ≡ not (has_bad_version (table_view tree.now)) }
+fn is_version(tree: &Table, number: i64) -> bool
+    ensures { result ≡ is_version number (table_view tree.now) }
 {
     match value_at(tree, "version") {
-        Some(value) => value.as_integer() == Some(1),
+        Some(value) => value.as_integer() == Some(number),
         None => false,
     }
+}
+
+/// Whether the version of the policy is neither 1 nor 2, or missing.
+pub fn has_bad_version(tree: &Table) -> bool
+    ensures { result ≡ has_bad_version (table_view tree.now) }
+{
+    !(is_version(tree, 1) || is_version(tree, 2))
+}
+
+/// Whether the rules of the policy may have days: its version is 2.
+pub fn has_days(tree: &Table) -> bool
+    ensures { result ≡ has_days (table_view tree.now) }
+{
+    is_version(tree, 2)
 }
 
 fn is_top_key(key: &str) -> bool
@@ -93,12 +106,12 @@ pub fn callers_of(alloc: Global, tree: &Table) -> Result<Vec<Caller>, PolicyFaul
     }
 }
 
-fn rules_in(alloc: Global, values: &Array) -> Result<Vec<Rule>, PolicyFault>
-    ensures { Gives named_policy_fault (λ v. v.items) result (read_rules (Some (elements (array_view values.now)))) }
+fn rules_in(alloc: Global, with_days: bool, values: &Array) -> Result<Vec<Rule>, PolicyFault>
+    ensures { Gives named_policy_fault (λ v. v.items) result (read_rules with_days (Some (elements (array_view values.now)))) }
 {
     let mut rules = Vec::new(alloc);
     for value in values {
-        match read_rule(alloc, value) {
+        match read_rule(alloc, with_days, value) {
             Ok(rule) => rules.push(rule)?,
             Err(RuleFlaw::Bad) => return Err(PolicyFault::BadRule(rules.len() + 1)),
             Err(RuleFlaw::Memory) => return Err(PolicyFault::Memory),
@@ -109,11 +122,11 @@ fn rules_in(alloc: Global, values: &Array) -> Result<Vec<Rule>, PolicyFault>
 
 /// The rules of the policy in their order: none where it has no `rule`.
 pub fn rules_of(alloc: Global, tree: &Table) -> Result<Vec<Rule>, PolicyFault>
-    ensures { Gives named_policy_fault (λ v. v.items) result (read_rules (rule_values (table_view tree.now))) }
+    ensures { Gives named_policy_fault (λ v. v.items) result (read_rules (has_days (table_view tree.now)) (rule_values (table_view tree.now))) }
 {
     match value_at(tree, "rule") {
         Some(value) => match value.as_array() {
-            Some(values) => rules_in(alloc, values),
+            Some(values) => rules_in(alloc, has_days(tree), values),
             None => Err(PolicyFault::BadRule(0)),
         },
         None => Ok(Vec::new(alloc)),

@@ -65,6 +65,11 @@ pub enum Request<'a> {
         collection: Name<'a>,
         matter: Matter<'a>,
     },
+    /// Hold a class: all its deposits, those that come later too.
+    HoldClass {
+        class: Name<'a>,
+        matter: Matter<'a>,
+    },
     /// Release a hold.
     Release {
         hold: u32,
@@ -123,6 +128,10 @@ impl Request<'_> {
             }
             Request::HoldCollection { collection, matter } => {
                 let _collection = collection.as_str();
+                let _matter = matter.as_str();
+            }
+            Request::HoldClass { class, matter } => {
+                let _class = class.as_str();
                 let _matter = matter.as_str();
             }
             Request::Record { .. }

@@ -1,9 +1,10 @@
 //! The rules of a policy, and which of them decides.
 
 ghost use Rattle.std.specs.Prelude.{◌≡◌, true, option_copied, IfSome};
-ghost use Rattle.office_core.specs.Rules.{question_of, matches_name, matches_optional, matches_action, matches, first_place, decision_of};
+ghost use Rattle.office_core.specs.Rules.{question_of, matches_name, matches_optional, matches_action, counts_on, matches, first_place, decision_of};
 
 use crate::action::Action;
+use crate::day::Day;
 use crate::names::OwnedName;
 
 /// What a rule says of what it matches.
@@ -31,7 +32,8 @@ pub enum ActionPattern {
     Only(Action),
 }
 
-/// A rule of a policy: its effect, and what it asks of a role, an action, a collection and a class.
+/// A rule of a policy: its effect, what it asks of a role, an action, a collection and a class, and
+/// the days on which it counts.
 #[derive(Debug, Drop)]
 pub struct Rule {
     pub effect: Effect,
@@ -39,16 +41,21 @@ pub struct Rule {
     pub action: ActionPattern,
     pub collection: Pattern,
     pub class: Pattern,
+    /// The first day on which it counts: the first of the office where it isn't bounded.
+    pub first: Day,
+    /// The last day on which it counts: the last of the office where it isn't bounded.
+    pub last: Day,
 }
 
-/// What the rules are asked: may that role do that, in that collection and class, where there are
-/// such?
+/// What the rules are asked: may that role do that on that day, in that collection and class, where
+/// there are such?
 #[derive(Clone, Copy, Debug)]
 pub struct Ask<'a> {
     pub role: &'a str,
     pub action: Action,
     pub collection: Option<&'a str>,
     pub class: Option<&'a str>,
+    pub day: Day,
 }
 
 /// The rule that decides: its number, from 1, and its effect.
@@ -93,6 +100,12 @@ impl ActionPattern {
 }
 
 impl Rule {
+    fn counts_on(&self, day: Day) -> bool
+        ensures { result ≡ counts_on self.now day }
+    {
+        self.first.number() <= day.number() && day.number() <= self.last.number()
+    }
+
     fn matches(&self, ask: &Ask) -> bool
         ensures { result ≡ matches self.now (question_of ask.now) }
     {
@@ -100,10 +113,11 @@ impl Rule {
             && self.action.matches(ask.action)
             && self.collection.matches_optional(ask.collection)
             && self.class.matches_optional(ask.class)
+            && self.counts_on(ask.day)
     }
 }
 
-/// The place, from 0, of the first rule whose four patterns match.
+/// The place, from 0, of the first rule whose four patterns match and that counts on the day.
 pub fn first_match(rules: &[Rule], ask: &Ask) -> Option<usize>
     ensures { result ≡ first_place rules.now (question_of ask.now) }
 {

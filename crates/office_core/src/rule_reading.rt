@@ -3,10 +3,11 @@
 ghost use Rattle.std.specs.Prelude.{◌≡◌, option_copied};
 ghost use Rattle.std.specs.List.{list_all};
 ghost use Rattle.toml.specs.View.{view, table_view};
-ghost use Rattle.office_core.specs.Policies.{text_at, effect_at, action_at, pattern_at, effect_in, pattern_in, action_pattern_in, rule_keys, is_one_of, entries, rule_of, rule_in};
+ghost use Rattle.office_core.specs.Policies.{text_at, effect_at, action_at, pattern_at, day_at, days_at, effect_in, pattern_in, action_pattern_in, rule_keys, keys_of_rule, is_one_of, entries, rule_of, rule_in};
 ghost use Rattle.office_core.specs.PolicyReading.{Reads};
 
 use crate::action::Action;
+use crate::day::Day;
 use crate::names::Name;
 use crate::rule::{ActionPattern, Effect, Pattern, Rule};
 use crate::rule_flaw::RuleFlaw;
@@ -86,23 +87,52 @@ fn is_rule_key(key: &str) -> bool
     key == "effect" || key == "role" || key == "action" || key == "collection" || key == "class"
 }
 
-fn has_rule_keys(table: &Table) -> bool
+/// Whether a rule may have the key, where rules have days or don't.
+fn may_have_key(with_days: bool, key: &str) -> bool
+    ensures { result ≡ is_one_of (keys_of_rule with_days) key.now }
+{
+    is_rule_key(key) || (with_days && (key == "first" || key == "last"))
+}
+
+fn has_rule_keys(with_days: bool, table: &Table) -> bool
     ensures { result
-        ≡ list_all (λ entry. is_one_of rule_keys entry.0) (entries (table_view table.now)) }
+        ≡ list_all (λ entry. is_one_of (keys_of_rule with_days) entry.0) (entries (table_view table.now)) }
 {
     for (key, _value) in table.iter() {
-        if !is_rule_key(key.as_str()) {
+        if !may_have_key(with_days, key.as_str()) {
             return false;
         }
     }
     true
 }
 
-#[tactic(auto, unfolding(crate::specs::Policies::rule_of))]
-fn read_rule_table(alloc: Global, table: &Table) -> Result<Rule, RuleFlaw>
-    ensures { Reads result (rule_of (table_view table.now)) }
+fn day_at(table: &Table, key: &str, otherwise: Day) -> Option<Day>
+    ensures { result ≡ day_at key.now otherwise (table_view table.now) }
 {
-    if !has_rule_keys(table) {
+    match value_at(table, key) {
+        Some(value) => Day::read(value.as_str()?),
+        None => Some(otherwise),
+    }
+}
+
+/// The first day on which a rule counts, and the last, which isn't before it.
+fn days_at(table: &Table) -> Option<(Day, Day)>
+    ensures { result ≡ days_at (table_view table.now) }
+{
+    let first = day_at(table, "first", Day::first())?;
+    let last = day_at(table, "last", Day::last())?;
+    if first.number() <= last.number() {
+        Some((first, last))
+    } else {
+        None
+    }
+}
+
+#[tactic(auto, unfolding(crate::specs::Policies::rule_of))]
+fn read_rule_table(alloc: Global, with_days: bool, table: &Table) -> Result<Rule, RuleFlaw>
+    ensures { Reads result (rule_of with_days (table_view table.now)) }
+{
+    if !has_rule_keys(with_days, table) {
         return Err(RuleFlaw::Bad);
     }
     let effect = effect_at(table).ok_or(RuleFlaw::Bad)?;
@@ -110,21 +140,24 @@ fn read_rule_table(alloc: Global, table: &Table) -> Result<Rule, RuleFlaw>
     let action = action_at(table).ok_or(RuleFlaw::Bad)?;
     let collection = pattern_at(alloc, table, "collection")?;
     let class = pattern_at(alloc, table, "class")?;
+    let (first, last) = days_at(table).ok_or(RuleFlaw::Bad)?;
     Ok(Rule {
         effect,
         role,
         action,
         collection,
         class,
+        first,
+        last,
     })
 }
 
-/// The rule that a value of a policy file spells.
-pub fn read_rule(alloc: Global, value: &Value) -> Result<Rule, RuleFlaw>
-    ensures { Reads result (rule_in (view value.now)) }
+/// The rule that a value of a policy file spells, where rules have days or don't.
+pub fn read_rule(alloc: Global, with_days: bool, value: &Value) -> Result<Rule, RuleFlaw>
+    ensures { Reads result (rule_in with_days (view value.now)) }
 {
     match value.as_table() {
-        Some(table) => read_rule_table(alloc, table),
+        Some(table) => read_rule_table(alloc, with_days, table),
         None => Err(RuleFlaw::Bad),
     }
 }

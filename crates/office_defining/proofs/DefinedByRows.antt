@@ -1,6 +1,7 @@
 -- What the rows tell where a class or a collection is defined, whichever rows they are.
 use Rattle.std.proofs.Common.{◌≡◌, ℕ, ◌+◌, ◌<◌, ℤ, Bool, true, false, List, [], ◌∷◌, take, length, get_or, Option, Some, None, Result, Ok, Err, OnOk, refl, sym, ap, subst, ◌∙◌, if◌then◌else◌}
 use Rattle.std.proofs.lemmas.List.{take_more}
+use Rattle.jiff.specs.Types.{Date}
 use Rattle.sqlite.specs.Effect.{Database}
 use Rattle.office_core.specs.Days.{IsDayNumber}
 use Rattle.office_core.specs.declared.action.Action.TheVariants as acts
@@ -32,15 +33,15 @@ closed_before name years old mid put = subst AreClosedOnDays (ap (class_closings
     by true = refl
     by false = refl
 
-module _ (t : Tables) (caller name : List ℕ) where
-  pub class_denied : (years : Option ℕ) (denied : Option Refusal) (why : Refusal) → denied ≡ Some why → IsDenialIn t caller acts.Class None (Some name) denied → IsClassDefinedIn t caller name years (answers.Refused why)
-  class_denied years denied why is denial = record { denied = Some why; denial = subst (IsDenialIn t caller acts.Class None (Some name)) is denial; answer = refl; closed = λ none. absurd cc }
+module _ (t : Tables) (day : Date) (caller name : List ℕ) where
+  pub class_denied : (years : Option ℕ) (denied : Option Refusal) (why : Refusal) → denied ≡ Some why → IsDenialIn t day caller acts.Class None (Some name) denied → IsClassDefinedIn t day caller name years (answers.Refused why)
+  class_denied years denied why is denial = record { denied = Some why; denial = subst (IsDenialIn t day caller acts.Class None (Some name)) is denial; answer = refl; closed = λ none. absurd cc }
 
-  pub class_allowed : (years : Option ℕ) (denied : Option Refusal) → denied ≡ None → IsDenialIn t caller acts.Class None (Some name) denied → AreClosedOnDays (class_closings name t) → IsClassDefinedIn t caller name years (answers.Class name years)
-  class_allowed years denied none denial closed = record { denied = None; denial = subst (IsDenialIn t caller acts.Class None (Some name)) none denial; answer = refl; closed = λ _. closed }
+  pub class_allowed : (years : Option ℕ) (denied : Option Refusal) → denied ≡ None → IsDenialIn t day caller acts.Class None (Some name) denied → AreClosedOnDays (class_closings name t) → IsClassDefinedIn t day caller name years (answers.Class name years)
+  class_allowed years denied none denial closed = record { denied = None; denial = subst (IsDenialIn t day caller acts.Class None (Some name)) none denial; answer = refl; closed = λ _. closed }
 
-  pub collection_denied : (denied : Option Refusal) (why : Refusal) → denied ≡ Some why → IsDenialIn t caller acts.Collection (Some name) None denied → IsCollectionDefinedIn t caller name (answers.Refused why)
-  collection_denied denied why is denial = record { denied = Some why; denial = subst (IsDenialIn t caller acts.Collection (Some name) None) is denial; answer = refl }
+  pub collection_denied : (denied : Option Refusal) (why : Refusal) → denied ≡ Some why → IsDenialIn t day caller acts.Collection (Some name) None denied → IsCollectionDefinedIn t day caller name (answers.Refused why)
+  collection_denied denied why is denial = record { denied = Some why; denial = subst (IsDenialIn t day caller acts.Collection (Some name) None) is denial; answer = refl }
 
-  pub collection_allowed : (denied : Option Refusal) → denied ≡ None → IsDenialIn t caller acts.Collection (Some name) None denied → IsCollectionDefinedIn t caller name (answers.Collection name)
-  collection_allowed denied none denial = record { denied = None; denial = subst (IsDenialIn t caller acts.Collection (Some name) None) none denial; answer = refl }
+  pub collection_allowed : (denied : Option Refusal) → denied ≡ None → IsDenialIn t day caller acts.Collection (Some name) None denied → IsCollectionDefinedIn t day caller name (answers.Collection name)
+  collection_allowed denied none denial = record { denied = None; denial = subst (IsDenialIn t day caller acts.Collection (Some name) None) none denial; answer = refl }

@@ -126,9 +126,9 @@ pub fn define_class<S: Alter>(
     ensures goes_on { Continues S.Store tx.old.conn.now tx.new.conn.now result }
     ensures failure { IfErr result IsFailure }
     ensures decides { Decides S.Store tx.old.conn.now tx.new.conn.now result day caller.now (requests.DefineClass name.now years) }
-    ensures rows { Tells S.Store tx.old.conn.now tx.new.conn.now result (λ tables given. IsClassDefinedIn tables caller.now name.now years given) }
+    ensures rows { Tells S.Store tx.old.conn.now tx.new.conn.now result (λ tables given. IsClassDefinedIn tables day caller.now name.now years given) }
 {
-    if let Some(why) = denial(tx, caller, Action::Class, None, Some(name.as_str()))? {
+    if let Some(why) = denial(tx, day, caller, Action::Class, None, Some(name.as_str()))? {
         return Ok(Answer::Refused(why));
     }
     let defined = name.to_owned(alloc)?;

@@ -28,9 +28,16 @@ pub fn define_collection<S: Alter>(
     ensures goes_on { Continues S.Store tx.old.conn.now tx.new.conn.now result }
     ensures failure { IfErr result IsFailure }
     ensures decides { Decides S.Store tx.old.conn.now tx.new.conn.now result day caller.now (requests.DefineCollection name.now) }
-    ensures rows { Tells S.Store tx.old.conn.now tx.new.conn.now result (λ tables given. IsCollectionDefinedIn tables caller.now name.now given) }
+    ensures rows { Tells S.Store tx.old.conn.now tx.new.conn.now result (λ tables given. IsCollectionDefinedIn tables day caller.now name.now given) }
 {
-    if let Some(why) = denial(tx, caller, Action::Collection, Some(name.as_str()), None)? {
+    if let Some(why) = denial(
+        tx,
+        day,
+        caller,
+        Action::Collection,
+        Some(name.as_str()),
+        None,
+    )? {
         return Ok(Answer::Refused(why));
     }
     let defined = name.to_owned(alloc)?;

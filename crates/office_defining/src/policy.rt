@@ -77,6 +77,8 @@ fn rule_row(alloc: Global, place: u32, rule: &Rule) -> Result<RuleRow, TableFaul
         action: String::from_str(alloc, action_pattern_text(rule.action))?,
         collection: String::from_str(alloc, pattern_text(&rule.collection))?,
         class: String::from_str(alloc, pattern_text(&rule.class))?,
+        first: rule.first.number() as i64,
+        last: rule.last.number() as i64,
     })
 }
 

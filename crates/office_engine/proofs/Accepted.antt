@@ -4,7 +4,7 @@ use Rattle.jiff.specs.Types.{Date}
 use Rattle.office_core.specs.declared.answer.Answer.{Answer}
 use Rattle.office_core.specs.declared.refusal.Refusal.{Refusal}
 use Rattle.office_core.specs.declared.request.Request.{Request}
-use Rattle.office_core.specs.declared.request.Request.TheVariants.{DefineClass, DefineCollection, Deposit as MakeDeposit, List as ListDeposits, Record, Holds, DownloadBag, DownloadFile, Audit, HoldDeposit, HoldCollection, Release, Dispose, DueList}
+use Rattle.office_core.specs.declared.request.Request.TheVariants.{DefineClass, DefineCollection, Deposit as MakeDeposit, List as ListDeposits, Record, Holds, DownloadBag, DownloadFile, Audit, HoldDeposit, HoldCollection, HoldClass, Release, Dispose, DueList}
 use Rattle.office_history.specs.Histories.{History, Change}
 use Rattle.office_history.specs.Refusals.{refusal}
 use Rattle.office_history.specs.Answers.{answer_unless, changes_unless, allowed_answer, allowed_change, answer, change}
@@ -22,6 +22,7 @@ none_allowed h day caller (DownloadFile n path) e = refl
 none_allowed h day caller (Audit n) e = refl
 none_allowed h day caller (HoldDeposit n matter) e = absurd (true≢false e)
 none_allowed h day caller (HoldCollection name matter) e = absurd (true≢false e)
+none_allowed h day caller (HoldClass name matter) e = absurd (true≢false e)
 none_allowed h day caller (Release k) e = absurd (true≢false e)
 none_allowed h day caller (Dispose n) e = absurd (true≢false e)
 none_allowed h day caller DueList e = refl

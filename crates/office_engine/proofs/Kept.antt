@@ -23,7 +23,7 @@ shown_kept h db s pictured shows is_open = let it = shows is_open in (subst (Pic
 
 -- what was left goes on as the history that it pictures
 pub history_goes_on : (old new : State) → GoesOnAs old new → (h : History) → IsLeftOf h old.now.trees → IsKeptBy h new
-history_goes_on old new on h left = shown_kept h left.0 new left.1 (on left.0 left.1.office.listed left.2)
+history_goes_on old new on h left = shown_kept h left.0 new left.1 (on left.0 left.1.office.whole.listed left.2)
 
 -- a crash leaves a new office
 pub new_left : (a b : ℕ) (left : Trees) → IsMadeLeft (empty_office this_version (pos a) (pos b)) left → IsLeftOf (new_history a b) left

@@ -5,3 +5,4 @@ pub mod Kept
 pub mod RunTurns
 pub mod Stopping
 pub mod OneAnswer
+pub mod Upgraded

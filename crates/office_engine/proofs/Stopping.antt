@@ -14,7 +14,7 @@ use Rattle.office_engine.proofs.Kept.{shown_kept}
 
 -- what files hold of a history is picked up as that history
 picked : (image : Image) (s : State) → PicksUp image s → (db : Trees) → HoldsDatabase image db → (h : History) → IsLeftOf h db → IsKeptBy h s
-picked image s picks db held h left = shown_kept h left.0 s left.1 (picks db held left.0 left.1.office.listed left.2)
+picked image s picks db held h left = shown_kept h left.0 s left.1 (picks db held left.0 left.1.office.whole.listed left.2)
 
 pub either_found : (image : Image) (s : State) (g h : History) → PicksUp image s → HoldsWhere (IsLeftOfEither g h) image → ∥ (IsKeptBy g s ⊎ IsKeptBy h s) ∥₁
 either_found image s g h picks holds = ∥∥₁_map holds (λ d. one d.0 d.2 d.1)

@@ -16,19 +16,28 @@ use Rattle.office_history.specs.Histories.{History, Installed, with_changes}
 use Rattle.office_history.specs.Answers.{change, after, due_list}
 use Rattle.office_history.specs.Runs.{IsLegal, IsFailure, Item, Step, Run}
 use Rattle.office_history.specs.Stocks.{Stock, stock}
-use Rattle.office_asking.specs.Pictures.{Pictures}
+use Rattle.office_tables.specs.declared.version.TableVersion.{TableVersion}
+use Rattle.office_tables.specs.declared.version.TableVersion.TheVariants.{Fifth}
+use Rattle.office_asking.specs.Pictures.{PicturesAt}
 use Rattle.office_serving.specs.ListsByRows.{AreDueIn, IsStockIn}
 use Rattle.office_engine.specs.ByRows.{RowsTell}
 
 -- ---- what is kept, and what is left
 
--- while the store is open its tables picture the history, and all of it is committed
-abbrev pub IsKeptBy : History → State → Type 0
-IsKeptBy h s = IsTrue s.is_open → Pictures h s.now × (s.committed ≡ s.now)
+-- while the store is open its tables, which are of that version, picture the history, and all of it is committed
+abbrev pub IsKeptAt : TableVersion → History → State → Type 0
+IsKeptAt version h s = IsTrue s.is_open → PicturesAt version h s.now × (s.committed ≡ s.now)
 
--- what a crash leaves pictures the history
+-- the same of tables of this version
+abbrev pub IsKeptBy : History → State → Type 0
+IsKeptBy = IsKeptAt Fifth
+
+-- what a crash leaves pictures the history, by tables of that version
+abbrev pub IsLeftAt : TableVersion → History → Trees → Type 0
+IsLeftAt version h left = (found : Database) × PicturesAt version h found × (left ≡ found.trees)
+
 abbrev pub IsLeftOf : History → Trees → Type 0
-IsLeftOf h left = (found : Database) × Pictures h found × (left ≡ found.trees)
+IsLeftOf = IsLeftAt Fifth
 
 -- what a crash leaves pictures one of the two
 abbrev pub IsLeftOfEither : History → History → Trees → Type 0

@@ -1,2 +1,3 @@
 pub mod ByRows
 pub mod Keeping
+pub mod Upgrading

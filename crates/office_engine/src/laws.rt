@@ -23,13 +23,15 @@ ghost use Rattle.office_engine.specs.Keeping.{IsFoundAfter};
 
 pub use office_history::laws::{
     a_class_that_gets_its_old_years_back_has_its_old_due_days,
-    a_hold_and_its_release_leave_the_counts, accessions_are_used_once, audits_are_valid,
-    changes_stand, closed_by_the_day_of_deposit, contents_are_kept_once, deposited_bags,
-    disposals_stand, due_lists_are_disposals, files_are_served_as_deposited,
-    later_deposits_are_covered, limits_hold, numbers_are_given_once, one_picture,
+    a_hold_and_its_release_leave_the_counts, a_hold_of_the_collection_and_one_of_the_class_are_two,
+    a_policy_without_days_answers_alike, accessions_are_used_once, audits_are_valid, changes_stand,
+    closed_by_the_day_of_deposit, contents_are_kept_once, deposited_bags, disposals_stand,
+    due_lists_are_disposals, files_are_served_as_deposited, later_deposits_are_covered,
+    later_deposits_of_a_class_are_covered, limits_hold, numbers_are_given_once, one_picture,
     pictures_are_in_range, refused_changes_nothing, released_holds_are_not_live,
     revised_classes_move_due_days, runs_only_add, runs_stay_legal, served_as_deposited, sound_bags,
-    verdicts_decide, what_is_named_is_there, what_may_be_destroyed_is_on_the_due_list,
+    the_least_live_hold_is_named, verdicts_decide, what_is_named_is_there,
+    what_may_be_destroyed_is_on_the_due_list,
 };
 use office_tables::laws::contents_are_those_of_files;
 

@@ -20,7 +20,11 @@ ghost use Rattle.office_history.specs.Histories.{History};
 ghost use Rattle.office_history.specs.Answers.{after};
 ghost use Rattle.office_history.specs.Runs.{IsLegal, Item, new_history};
 ghost use Rattle.office_recovery.specs.Found.{HoldsWhere, PicksUp};
-ghost use Rattle.office_engine.specs.Keeping.{AllStayShut, AreToldDue, CommitsRun, CommitsTo, CountsStock, InTurn, InstallLasts, Installs, IsKeptBy, IsKeptOfRun, IsLeftOf, IsLeftOfEither, IsLeftOfRun, IsToldByRows, IsToldStock, Lasts, LeavesEither, LeavesInstalled, LeavesKept, LeavesMade, LeavesRun, ListsDue, Runs, Serves, StaysShut, after_item, is_accepted, after_policy};
+ghost use Rattle.office_tables.specs.Versions.{version_number};
+ghost use Rattle.office_tables.specs.declared.version.TableVersion.{TableVersion};
+ghost use Rattle.office_upgrade.specs.Upgrading.{HasUnknownVersion};
+ghost use Rattle.office_engine.specs.Upgrading.{IsUpgradeOf, LeavesAt, StaysAt, TakesUp, UpgradeLasts, Upgrades};
+ghost use Rattle.office_engine.specs.Keeping.{AllStayShut, AreToldDue, CommitsRun, CommitsTo, CountsStock, InTurn, InstallLasts, Installs, IsKeptBy, IsKeptOfRun, IsLeftAt, IsLeftOf, IsLeftOfEither, IsLeftOfRun, IsToldByRows, IsToldStock, Lasts, LeavesEither, LeavesInstalled, LeavesKept, LeavesMade, LeavesRun, ListsDue, Runs, Serves, StaysShut, after_item, is_accepted, after_policy};
 
 use crate::installing::install;
 use crate::listing::{due_list, stock};
@@ -127,6 +131,43 @@ impl<S: Alter> Office<S> {
         match office_recovery::adopt(conn) {
             Ok(conn) => Ok(Office { conn }),
             Err(refused) => Err(refused),
+        }
+    }
+
+    /// Takes a connection that shows an office whose tables are of version 3, 4 or 5, and makes them those of version 5, in one
+    /// transaction with one commit. Tables of version 5 stay as they are.
+    ///
+    /// Fails with `NotAnOffice` and `OtherVersion` as the tables tell, and with `Memory` or `Store`. The connection is handed
+    /// back, its tables as they were.
+    pub fn upgrade(conn: Connection<S>) -> Result<Office<S>, (Connection<S>, TableFault)>
+        requires outside { (state S.Store conn).in_transaction ≡ false }
+        ensures upgraded { IfOk result (λ office. HasCleanDisk (state S.Store office) → Upgrades (state S.Store conn) (state S.Store office)) }
+        // What a crash left of an office of any of these versions goes on as that office.
+        ensures found { IfOk result (λ office. HasCleanDisk (state S.Store office) → TakesUp (state S.Store conn) (state S.Store office)) }
+        ensures newest { IfOk result (λ office. HasCleanDisk (state S.Store office) → IsOffice (state S.Store conn).now
+            → version_of (tables_of (state S.Store conn).now) ≡ Some this_version → KeepsTables (state S.Store conn) (state S.Store office)) }
+        ensures open { IfOk result (λ office. HasCleanDisk (state S.Store office) → IsTrue (state S.Store conn).is_open) }
+        ensures version { IfOk result (λ office. HasCleanDisk (state S.Store office) → IsTrue (has_office (state S.Store conn).now.schema)
+            × ((known : TableVersion) × HasVersion (state S.Store conn).now (version_number known))) }
+        ensures survives { IfOk result (λ office. Survives (state S.Store conn) (state S.Store office) (IsUpgradeOf (state S.Store conn).now)) }
+        ensures durable { IfOk result (λ office. HasCleanDisk (state S.Store office) → UpgradeLasts (state S.Store conn) (state S.Store office)) }
+        ensures leaves { IfOk result (λ office. HasCleanDisk (state S.Store office) → LeavesAt (state S.Store conn) (state S.Store office)) }
+
+        ensures refused_same { IfErr result (λ e. HasCleanDisk (state S.Store e.0) → KeepsTables (state S.Store conn) (state S.Store e.0)) }
+        ensures refused { IfErr result (λ e. HasCleanDisk (state S.Store e.0) → StaysAt (state S.Store conn) (state S.Store e.0)) }
+        ensures refused_outside { IfErr result (λ e. (state S.Store e.0).in_transaction ≡ false) }
+        ensures refused_survives { IfErr result (λ e. Survives (state S.Store conn) (state S.Store e.0) (IsUpgradeOf (state S.Store conn).now)) }
+        ensures refused_leaves { IfErr result (λ e. HasCleanDisk (state S.Store e.0) → LeavesAt (state S.Store conn) (state S.Store e.0)) }
+        ensures not_office { IfErr result (λ e. HasCleanDisk (state S.Store e.0) → e.1 ≡ NotAnOffice → opening.NotAnOffice (state S.Store conn).now) }
+        ensures other_version { IfErr result (λ e. HasCleanDisk (state S.Store e.0) → e.1 ≡ OtherVersion → HasUnknownVersion (state S.Store conn).now) }
+        ensures no_table { has_office (state S.Store conn).now.schema ≡ false → result ≡ Err (conn, NotAnOffice) }
+        // An office of one of these versions, and what a crash left of one, is never told to be none, or one of another version.
+        ensures known { IfErr result (λ e. HasCleanDisk (state S.Store e.0) → IsTrue (state S.Store conn).is_open
+            → (version : TableVersion) (h : History) → IsLegal h → IsLeftAt version h (state S.Store conn).now.trees → faults.IsFailure e.1) }
+    {
+        match office_upgrade::upgrade_office(conn) {
+            Ok(conn) => Ok(Office { conn }),
+            Err(handed_back) => Err(handed_back),
         }
     }
 

@@ -12,7 +12,7 @@ ghost use Rattle.office_engine.specs.Keeping.{CommitsTo, IsTurn, after_item, is_
 
 use office_core::{Answer, Day, Refusal, Request};
 use office_defining::{define_class, define_collection};
-use office_holding::{hold_collection, hold_deposit, release};
+use office_holding::{hold_class, hold_collection, hold_deposit, release};
 use office_keeping::{deposit, dispose};
 use office_serving::{audit, download_bag, download_file, due_list, holds, list, record};
 use office_tables::TableFault;
@@ -80,6 +80,7 @@ fn decide<S: Alter>(
         Request::HoldCollection { collection, matter } => {
             hold_collection(tx, day, caller, collection, matter)
         }
+        Request::HoldClass { class, matter } => hold_class(tx, day, caller, class, matter),
         Request::Release { hold } => release(alloc, tx, day, caller, *hold),
         Request::Dispose { deposit } => dispose(alloc, tx, day, caller, *deposit),
         Request::List { collection, class } => list(

@@ -85,6 +85,8 @@ fn rules_of(alloc: Global, rules: &[Rule]) -> Result<Vec<RuleRow>, AllocError> {
             action: String::from_str(alloc, rule.action)?,
             collection: String::from_str(alloc, rule.collection)?,
             class: String::from_str(alloc, rule.class)?,
+            first: rule.first,
+            last: rule.last,
         })?;
     }
     Ok(rows)

@@ -158,14 +158,13 @@ impl<S: Alter + Drop> Offices<S> {
     }
 }
 
-/// Puts so many requests, drawn by the seed, to the two offices. How many were accepted and refused.
+/// Puts so many requests, which are drawn, to the two offices. How many were accepted and refused.
 fn take_all<S: Alter + Drop>(
     alloc: Global,
     offices: &mut Offices<S>,
-    seed: u64,
+    draws: &mut Draws,
     count: u32,
 ) -> Result<Tally> {
-    let mut draws = Draws::new(seed);
     let mut tally = Tally {
         accepted: 0,
         refused: 0,
@@ -181,26 +180,73 @@ fn take_all<S: Alter + Drop>(
     Ok(tally)
 }
 
-/// Puts so many requests, drawn by the seed, to two new offices, one of them in the empty database, with
-/// installs before some of them. Fails where an answer of the one isn't the answer of the other. The
-/// connection again, and how many were accepted and refused.
+/// Puts so many requests, which are drawn, to two new offices, one of them in the empty database, with
+/// installs before some of them. Fails where an answer of the one isn't the answer of the other. The two
+/// offices, and how many were accepted and refused.
+fn compare_new<S: Alter + Drop>(
+    alloc: Global,
+    conn: Connection<S>,
+    draws: &mut Draws,
+    count: u32,
+) -> Result<(Offices<S>, Tally)> {
+    let mut offices = Offices::create(alloc, conn)?;
+    offices.install(alloc, POLICIES[0])?;
+    offices.define(alloc)?;
+    let tally = take_all(alloc, &mut offices, draws, count)?;
+    Ok((offices, tally))
+}
+
+/// The same by a seed. The connection again, and how many were accepted and refused.
 pub fn compare<S: Alter + Drop>(
     alloc: Global,
     conn: Connection<S>,
     seed: u64,
     count: u32,
 ) -> Result<(Connection<S>, Tally)> {
-    let mut offices = Offices::create(alloc, conn)?;
-    offices.install(alloc, POLICIES[0])?;
-    offices.define(alloc)?;
-    let tally = take_all(alloc, &mut offices, seed, count)?;
+    let (offices, tally) = compare_new(alloc, conn, &mut Draws::new(seed), count)?;
     let Offices { plain: _, kept } = offices;
     Ok((kept.into_connection(), tally))
 }
 
-/// The same with an office in memory.
-pub fn compare_in_memory(alloc: Global, seed: u64, count: u32) -> Result<Tally> {
+/// The plain office after so many draws, which were put to one in memory, too; and how many were accepted and
+/// refused.
+fn compare_beside_memory(
+    alloc: Global,
+    draws: &mut Draws,
+    count: u32,
+) -> Result<(plain::Office, Tally)> {
     let conn = Connection::open_in_memory(alloc).context("opening memory")?;
-    let (_, tally) = compare(alloc, conn, seed, count)?;
+    let (offices, tally) = compare_new(alloc, conn, draws, count)?;
+    let Offices { plain, kept: _ } = offices;
+    Ok((plain, tally))
+}
+
+/// Puts so many requests, drawn by the seed, to an office in memory and to the plain office.
+pub fn compare_in_memory(alloc: Global, seed: u64, count: u32) -> Result<Tally> {
+    let (_, tally) = compare_beside_memory(alloc, &mut Draws::new(seed), count)?;
     Ok(tally)
+}
+
+/// Goes on where `compare` left an office after so many requests, with as many more: its tables may be those of an
+/// older version by now, and are upgraded first. Fails where an answer isn't that of the plain office that is
+/// brought to the same place. The connection again, and how many were accepted and refused.
+pub fn compare_on<S: Alter + Drop>(
+    alloc: Global,
+    conn: Connection<S>,
+    seed: u64,
+    count: u32,
+) -> Result<(Connection<S>, Tally)> {
+    let mut draws = Draws::new(seed);
+    let (plain, _) = compare_beside_memory(alloc, &mut draws, count)?;
+    if !conn.is_autocommit() {
+        bail!("a transaction is open");
+    }
+    let Ok(kept) = Office::upgrade(conn) else {
+        bail!("the office isn't upgraded");
+    };
+    let mut offices = Offices { plain, kept };
+    offices.compare_stock(alloc)?;
+    let tally = take_all(alloc, &mut offices, &mut draws, count)?;
+    let Offices { plain: _, kept } = offices;
+    Ok((kept.into_connection(), tally))
 }

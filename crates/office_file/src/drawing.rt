@@ -22,13 +22,14 @@ enum Kind {
     Audit,
     HoldDeposit,
     HoldCollection,
+    HoldClass,
     Release,
     Dispose,
     DueList,
 }
 
 /// Each kind as often as it is to come: most deposits are refused, so they come more often.
-static KINDS: [Kind; 27] = [
+static KINDS: [Kind; 29] = [
     Kind::DefineClass,
     Kind::DefineClass,
     Kind::DefineClass,
@@ -49,6 +50,8 @@ static KINDS: [Kind; 27] = [
     Kind::HoldDeposit,
     Kind::HoldCollection,
     Kind::HoldCollection,
+    Kind::HoldClass,
+    Kind::HoldClass,
     Kind::Release,
     Kind::Release,
     Kind::Release,
@@ -145,6 +148,10 @@ impl Draws {
             }),
             Kind::HoldCollection => Some(Request::HoldCollection {
                 collection: self.name(&COLLECTIONS)?,
+                matter: self.matter()?,
+            }),
+            Kind::HoldClass => Some(Request::HoldClass {
+                class: self.name(&CLASSES)?,
                 matter: self.matter()?,
             }),
             _ => self.deposit(),

@@ -29,7 +29,7 @@ use std::env::{Env, FillError};
 use tasks::{Report, Task};
 
 const USAGE: &str =
-    "words: none, all POLICY, hear, read-all, write FILE, make FILE, draw COUNT SEED, draw COUNT SEED FILE, or FILE and COUNT behind one of deposits, read, live, last, ask-deposits, ask-own-deposits, ask-records, ask-disposals, ask-bags, ask-lists, ask-due, ask-holds and ask-classes";
+    "words: none, all POLICY, hear, read-all, write FILE, make FILE, draw COUNT SEED, draw COUNT SEED FILE, draw-on COUNT SEED FILE, upgrade FILE, or FILE and COUNT behind one of deposits, read, live, last, ask-deposits, ask-own-deposits, ask-records, ask-disposals, ask-bags, ask-lists, ask-due, ask-holds and ask-classes";
 
 /// The task and the file that the words after the program's name ask for.
 fn read_words(words: &[String]) -> Result<(Task, &str)> {
@@ -97,6 +97,10 @@ fn run(rt: &HostRuntime, words: &[String]) -> Result<()> {
         if word.as_str() == "draw" {
             let (count, seed) = read_draw(count, seed)?;
             return take(rt, file, Task::Draw(count, seed));
+        }
+        if word.as_str() == "draw-on" {
+            let (count, seed) = read_draw(count, seed)?;
+            return take(rt, file, Task::DrawOn(count, seed));
         }
     }
     let (task, file) = read_words(words)?;

@@ -23,7 +23,15 @@ pub struct Rule<'a> {
     pub action: &'a str,
     pub collection: &'a str,
     pub class: &'a str,
+    /// The numbers of its first day and its last.
+    pub first: i64,
+    pub last: i64,
 }
+
+/// The number of the first day of the office, and of its last.
+pub const FIRST_DAY: i64 = -25_567;
+
+pub const LAST_DAY: i64 = 2_859_848;
 
 /// A policy that is put in the place of one, a class that is revised, and a collection put twice.
 static DEFINITIONS: [Change<'static>; 10] = [
@@ -38,6 +46,8 @@ static DEFINITIONS: [Change<'static>; 10] = [
                 action: "dispose",
                 collection: "*",
                 class: "*",
+                first: FIRST_DAY,
+                last: 20_453,
             },
             Rule {
                 place: 2,
@@ -46,6 +56,8 @@ static DEFINITIONS: [Change<'static>; 10] = [
                 action: "*",
                 collection: "*",
                 class: "*",
+                first: FIRST_DAY,
+                last: LAST_DAY,
             },
             Rule {
                 place: 3,
@@ -54,6 +66,8 @@ static DEFINITIONS: [Change<'static>; 10] = [
                 action: "list",
                 collection: "maps",
                 class: "y2",
+                first: 20_454,
+                last: 20_818,
             },
         ],
     ),
@@ -127,7 +141,7 @@ static ODD_PATHS: [&str; 7] = [
     "data/\u{1}\t\n\r\u{1f} !\"#$%&'()*+,-.:;<=>?@[\\]^_`{|}~\u{7f}",
 ];
 
-static HOLDS: [Change<'static>; 5] = [
+static HOLDS: [Change<'static>; 6] = [
     Change::Hold(Hold {
         number: 1,
         target: HoldTarget::Deposit(1),
@@ -145,6 +159,12 @@ static HOLDS: [Change<'static>; 5] = [
         target: HoldTarget::Collection("tax"),
         matter: "o'neil",
         placed: 20_601,
+    }),
+    Change::Hold(Hold {
+        number: 4,
+        target: HoldTarget::Class("y2"),
+        matter: "suit 13",
+        placed: 20_602,
     }),
     Change::Hold(Hold {
         number: 500_000,

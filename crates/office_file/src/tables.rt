@@ -2,11 +2,12 @@
 
 use crate::outcome::Outcome;
 use office_tables::{
-    CallerRow, HoldTarget, NewDeposit, RuleRow, TableFault, add_holds, by_accession, class_of,
-    contents, create, deposit_row, deposit_rows, deposits_and_dues, drop_files, due_row, due_rows,
-    end_hold, file_of, files_of, has_collection, hold_row, last_deposit, last_hold, limits,
-    live_holds, mark_gone, match_rule, open_tables, put_class, put_collection, put_deposit,
-    put_file, put_hold, put_marked, put_policy, role_of, rows_of_class, rules, set_due, set_holds,
+    CallerRow, HoldTarget, NewDeposit, RuleRow, TableFault, add_holds, add_holds_class,
+    by_accession, class_of, contents, create, deposit_row, deposit_rows, deposits_and_dues,
+    drop_files, due_row, due_rows, end_hold, file_of, files_of, has_collection,
+    has_release_outside, hold_row, last_deposit, last_hold, limits, live_holds, mark_gone,
+    match_rule, open_tables, put_class, put_collection, put_deposit, put_file, put_hold,
+    put_marked, put_policy, role_of, rows_of_class, rules, set_due, set_holds,
 };
 use sqlite::{Alter, Connection, Transaction};
 use std::alloc::{AllocError, Global};
@@ -113,12 +114,14 @@ fn change<S: Alter>(
     }
 }
 
-/// Puts a hold on the deposit and one on its collection, and counts them.
+/// Puts a hold on the deposit, one on its collection and one on its class, and counts them.
 fn hold<S: Alter>(tx: &mut Transaction<'_, S>) -> Result<(), TableFault> {
     put_hold(tx, 1, HoldTarget::Deposit(1), "suit", 100)?;
     set_holds(tx, 1, 1)?;
     put_hold(tx, 2, HoldTarget::Collection("maps"), "suit", 101)?;
-    add_holds(tx, "maps", 1)
+    add_holds(tx, "maps", 1)?;
+    put_hold(tx, 3, HoldTarget::Class("short"), "suit", 101)?;
+    add_holds_class(tx, "short", 1)
 }
 
 /// Puts a policy of one caller and one rule.
@@ -134,6 +137,8 @@ fn install<S: Alter>(alloc: Global, tx: &mut Transaction<'_, S>) -> Result<(), T
         action: text(alloc, "*")?,
         collection: text(alloc, "*")?,
         class: text(alloc, "*")?,
+        first: 100,
+        last: 200,
     };
     put_policy(tx, &[caller], &[rule])
 }
@@ -182,8 +187,8 @@ fn reads_files<S: Alter>(alloc: Global, tx: &mut Transaction<'_, S>) -> Result<b
 /// Whether the holds do.
 fn reads_holds<S: Alter>(alloc: Global, tx: &mut Transaction<'_, S>) -> Result<bool, TableFault> {
     Ok(
-        last_hold(tx)? == Some(2)
-            && live_holds(alloc, tx, 1, "maps")?.as_slice() == [1, 2].as_slice(),
+        last_hold(tx)? == Some(3)
+            && live_holds(alloc, tx, 1, "maps", "short")?.as_slice() == [1, 2, 3].as_slice(),
     )
 }
 
@@ -192,14 +197,14 @@ fn reads_contents<S: Alter>(
     alloc: Global,
     tx: &mut Transaction<'_, S>,
 ) -> Result<bool, TableFault> {
-    let rule = match_rule(tx, "archivist", "list", "maps", "")?;
+    let rule = match_rule(tx, "archivist", "list", "maps", "", 200)?;
     Ok(contents(alloc, tx)?.len() == 3 && rule.is_some_and(|rule| rule.place == 1))
 }
 
 /// Whether what is kept beside the deposit does: its due day and the count of its holds.
 fn reads_kept<S: Alter>(alloc: Global, tx: &mut Transaction<'_, S>) -> Result<bool, TableFault> {
     Ok(
-        due_row(tx, 1)?.is_some_and(|kept| kept.due == Some(740) && kept.holds == 2)
+        due_row(tx, 1)?.is_some_and(|kept| kept.due == Some(740) && kept.holds == 3)
             && due_rows(alloc, tx, 740)?.is_empty()
             && deposits_and_dues(alloc, tx)?.len() == 1
             && rows_of_class(alloc, tx, "short")?.len() == 1,
@@ -224,8 +229,9 @@ fn read_again<S: Alter>(alloc: Global, tx: &mut Transaction<'_, S>) -> Result<bo
         deposit_row(tx, 1)?.is_some_and(|found| found.gone == Some(99))
             && file_of(tx, 1, "data/a")?.is_none()
             && contents(alloc, tx)?.is_empty()
-            && due_row(tx, 1)?.is_some_and(|kept| kept.due.is_none() && kept.holds == 1)
+            && due_row(tx, 1)?.is_some_and(|kept| kept.due.is_none() && kept.holds == 2)
             && hold_row(tx, 1)?.is_some_and(|hold| hold.released == Some(102))
-            && live_holds(alloc, tx, 1, "maps")?.as_slice() == [2].as_slice(),
+            && has_release_outside(tx, 1, "maps", "short", 103, 200)?
+            && live_holds(alloc, tx, 1, "maps", "short")?.as_slice() == [2, 3].as_slice(),
     )
 }

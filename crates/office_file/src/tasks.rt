@@ -1,6 +1,6 @@
 //! What is done with an office in a file.
 
-use crate::comparing::{Tally, compare};
+use crate::comparing::{Tally, compare, compare_on};
 use crate::office;
 use crate::requests::{self, Asked};
 use crate::timed::{self, Call};
@@ -23,6 +23,10 @@ pub enum Task {
     Ask(Asked, u32),
     /// So many requests, drawn by the seed, which are put to an office in it and to the plain office.
     Draw(u32, u64),
+    /// As many more, of an office that `Draw` left, with an upgrade first.
+    DrawOn(u32, u64),
+    /// An upgrade.
+    Upgrade,
 }
 
 /// What a task comes to.
@@ -69,6 +73,22 @@ fn ask<S: Alter + Drop>(
     Ok((office.into_connection(), took))
 }
 
+/// Upgrades the office. The connection again, and the time that it took.
+fn upgrade<S: Alter + Drop>(
+    rt: &HostRuntime,
+    conn: Connection<S>,
+) -> Result<(Connection<S>, Duration)> {
+    if !conn.is_autocommit() {
+        bail!("a transaction is open");
+    }
+    let start = Instant::now(rt)?;
+    let Ok(office) = Office::upgrade(conn) else {
+        bail!("the office isn't upgraded");
+    };
+    let took = start.elapsed(rt)?;
+    Ok((office.into_connection(), took))
+}
+
 /// Does the task over the open file. The connection again, and what the task comes to.
 fn perform<S: Alter + Drop>(
     rt: &HostRuntime,
@@ -90,6 +110,14 @@ fn perform<S: Alter + Drop>(
             let (conn, tally) = compare(rt.alloc(), conn, seed, count)?;
             return Ok((conn, Report::Drew(tally)));
         }
+        Task::DrawOn(count, seed) => {
+            let (conn, tally) = compare_on(rt.alloc(), conn, seed, count)?;
+            return Ok((conn, Report::Drew(tally)));
+        }
+        Task::Upgrade => {
+            let (conn, took) = upgrade(rt, conn)?;
+            return Ok((conn, Report::Took(took)));
+        }
     }
     Ok((conn, Report::Done))
 }
@@ -108,6 +136,7 @@ impl Task {
         match word {
             "write" => Some(Task::Write),
             "make" => Some(Task::Make),
+            "upgrade" => Some(Task::Upgrade),
             _ => None,
         }
     }

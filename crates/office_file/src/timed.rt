@@ -1,7 +1,7 @@
 //! Calls that are timed, over bags of 10 KiB with three files.
 
 use crate::changes::{Change, commit};
-use crate::office::{self, Rule};
+use crate::office::{self, FIRST_DAY, LAST_DAY, Rule};
 use anyhow::{Result, bail};
 use office_tables::{NewDeposit, TableFault, file_of, last_deposit, live_holds};
 use sqlite::{Alter, Connection};
@@ -43,6 +43,8 @@ static DEFINITIONS: [Change<'static>; 3] = [
             action: "*",
             collection: "*",
             class: "*",
+            first: FIRST_DAY,
+            last: LAST_DAY,
         }],
     ),
     Change::Class("y10", 10),
@@ -134,7 +136,7 @@ fn reads<S: Alter>(
             let content = file_of(&mut tx, number, RECORD)?;
             Ok(content.is_some_and(|bytes| bytes.len() == RECORD_LENGTH))
         }
-        Call::LiveHolds => Ok(live_holds(alloc, &mut tx, 1, "tax")?.len() == 3),
+        Call::LiveHolds => Ok(live_holds(alloc, &mut tx, 1, "tax", "y10")?.len() == 3),
         _ => Ok(last_deposit(&mut tx)?.is_some()),
     }
 }

@@ -18,7 +18,7 @@ use Rattle.office_core.specs.declared.refusal.Refusal.TheVariants.{Full}
 use Rattle.office_core.specs.declared.facts.Verdict.TheVariants.{NotDue}
 use Rattle.office_core.specs.Verdicts as deciding
 use Rattle.office_core.specs.declared.request.Request.{Request}
-use Rattle.office_core.specs.declared.request.Request.TheVariants.{DefineClass, DefineCollection, Deposit as MakeDeposit, List as ListDeposits, Record, Holds, DownloadBag, DownloadFile, Audit, HoldDeposit, HoldCollection, Release, Dispose, DueList}
+use Rattle.office_core.specs.declared.request.Request.TheVariants.{DefineClass, DefineCollection, Deposit as MakeDeposit, List as ListDeposits, Record, Holds, DownloadBag, DownloadFile, Audit, HoldDeposit, HoldCollection, HoldClass, Release, Dispose, DueList}
 use Rattle.office_history.specs.Histories.{History, Change, Installed, DefinedCollection, Deposited, PlacedHold, Deposit, Hold, with_changes, has_class, has_collection, deposits, deposit_numbered, accession_of, destruction_day, due, holds, hold_numbered, release_day, live_holds, least_hold}
 use Rattle.office_history.specs.Bags.{bag_of}
 use Rattle.office_history.specs.Refusals.{refusal_in, refusal, bad_as, of_deposit, of_hold, denial, denial_at, release_denial, gone_refusal, released_refusal, held_refusal, not_due_refusal, no_such_collection, no_such_class, taken_refusal, closed_ahead_refusal, bad_bag, full_of_deposits, full_of_holds}
@@ -73,12 +73,12 @@ due_has_come day Never e = absurd cc
 -- ---- what a request that is allowed finds
 
 pub depositable : (h : History) (day : Date) (caller collection class accession : List ℕ) (closed : Date) (form : List ℕ)
-    → first_some (no_such_collection h collection ∷ no_such_class h class ∷ denial h caller acts.Deposit (Some collection) (Some class) ∷ taken_refusal h accession ∷ closed_ahead_refusal day closed ∷ bad_bag form ∷ full_of_deposits h ∷ []) ≡ None
+    → first_some (no_such_collection h collection ∷ no_such_class h class ∷ denial h day caller acts.Deposit (Some collection) (Some class) ∷ taken_refusal h accession ∷ closed_ahead_refusal day closed ∷ bad_bag form ∷ full_of_deposits h ∷ []) ≡ None
     → (bag : List File) × (bag_of form ≡ Ok bag) × IsDepositable h day (record { collection = collection; class = class; accession = accession; closed = closed; bag = bag })
 depositable h day caller collection class accession closed form e =
     let a = none_of (no_such_collection h collection) _ e in
     let b = none_of (no_such_class h class) _ a.1 in
-    let c = none_of (denial h caller acts.Deposit (Some collection) (Some class)) _ b.1 in
+    let c = none_of (denial h day caller acts.Deposit (Some collection) (Some class)) _ b.1 in
     let d = none_of (taken_refusal h accession) _ c.1 in
     let f = none_of (closed_ahead_refusal day closed) _ d.1 in
     let g = none_of (bad_bag form) _ f.1 in
@@ -98,10 +98,10 @@ depositable h day caller collection class accession closed form e =
     )
 
 disposable_at : (h : History) (day : Date) (caller : List ℕ) (n : ℕ) (there : Option (Date × Deposit)) → deposit_numbered h n ≡ there
-    → first_some (of_deposit there (λ d. denial_at h caller acts.Dispose d ∷ gone_refusal h n ∷ held_refusal h n d ∷ not_due_refusal h day d ∷ [])) ≡ None → IsDisposable h day n
+    → first_some (of_deposit there (λ d. denial_at h day caller acts.Dispose d ∷ gone_refusal h n ∷ held_refusal h n d ∷ not_due_refusal h day d ∷ [])) ≡ None → IsDisposable h day n
 disposable_at h day caller n None is e = absurd cc
 disposable_at h day caller n (Some found) is e =
-    let allowed = none_of (denial_at h caller acts.Dispose found.1) _ e in
+    let allowed = none_of (denial_at h day caller acts.Dispose found.1) _ e in
     let there = none_of (gone_refusal h n) _ allowed.1 in
     let free = none_of (held_refusal h n found.1) _ there.1 in
     let late = none_of (not_due_refusal h day found.1) _ free.1 in
@@ -119,25 +119,25 @@ disposable_at h day caller n (Some found) is e =
 pub disposable : (h : History) (day : Date) (caller : List ℕ) (n : ℕ) → refusal h day caller (Dispose n) ≡ None → IsDisposable h day n
 disposable h day caller n e = disposable_at h day caller n (deposit_numbered h n) refl e
 
-holdable_at : (h : History) (caller : List ℕ) (n : ℕ) (there : Option (Date × Deposit)) → deposit_numbered h n ≡ there
-    → first_some (of_deposit there (λ d. denial_at h caller acts.Hold d ∷ gone_refusal h n ∷ full_of_holds h ∷ [])) ≡ None → IsSome (deposit_numbered h n) × (destruction_day h n ≡ None) × (length (holds h) < h.max_holds)
-holdable_at h caller n None is e = absurd cc
-holdable_at h caller n (Some found) is e =
-    let a = none_of (denial_at h caller acts.Hold found.1) _ e in
+holdable_at : (h : History) (day : Date) (caller : List ℕ) (n : ℕ) (there : Option (Date × Deposit)) → deposit_numbered h n ≡ there
+    → first_some (of_deposit there (λ d. denial_at h day caller acts.Hold d ∷ gone_refusal h n ∷ full_of_holds h ∷ [])) ≡ None → IsSome (deposit_numbered h n) × (destruction_day h n ≡ None) × (length (holds h) < h.max_holds)
+holdable_at h day caller n None is e = absurd cc
+holdable_at h day caller n (Some found) is e =
+    let a = none_of (denial_at h day caller acts.Hold found.1) _ e in
     let b = none_of (gone_refusal h n) _ a.1 in
     let c = none_of (full_of_holds h) _ b.1 in
     (rw is refl, not_gone (destruction_day h n) b.0, below h.max_holds (length (holds h)) c.0)
 
-releasable_at : (h : History) (caller : List ℕ) (k : ℕ) (there : Option (Date × Hold)) → hold_numbered h k ≡ there
-    → first_some (of_hold there (λ hold. release_denial h caller hold.target ∷ released_refusal h k ∷ [])) ≡ None → IsReleasable h k
-releasable_at h caller k None is e = absurd cc
-releasable_at h caller k (Some found) is e =
-    let a = none_of (release_denial h caller found.1.target) _ e in
+releasable_at : (h : History) (day : Date) (caller : List ℕ) (k : ℕ) (there : Option (Date × Hold)) → hold_numbered h k ≡ there
+    → first_some (of_hold there (λ hold. release_denial h day caller hold.target ∷ released_refusal h k ∷ [])) ≡ None → IsReleasable h k
+releasable_at h day caller k None is e = absurd cc
+releasable_at h day caller k (Some found) is e =
+    let a = none_of (release_denial h day caller found.1.target) _ e in
     let b = none_of (released_refusal h k) _ a.1 in
     record { found = found; there = is; live = option_map_none _ (release_day h k) b.0 }
 
 pub releasable : (h : History) (day : Date) (caller : List ℕ) (k : ℕ) → refusal h day caller (Release k) ≡ None → IsReleasable h k
-releasable h day caller k e = releasable_at h caller k (hold_numbered h k) refl e
+releasable h day caller k e = releasable_at h day caller k (hold_numbered h k) refl e
 
 -- ---- the change that it makes
 
@@ -158,13 +158,18 @@ allowed_of h day caller (MakeDeposit collection class accession closed bag) e =
     let found = depositable h day caller collection class accession closed bag.now e in
     subst (λ (r : Result (List File) (List ℕ)). AtMostOne (IsAllowed h) (deposit_change day collection class accession closed r)) (sym found.1) found.2
 allowed_of h day caller (HoldDeposit n matter) e =
-    let found = holdable_at h caller n (deposit_numbered h n) refl e in
+    let found = holdable_at h day caller n (deposit_numbered h n) refl e in
     record { there = found.0; not_gone = found.1; room = found.2 }
 allowed_of h day caller (HoldCollection name matter) e =
     let a = none_of (no_such_collection h name) _ e in
-    let b = none_of (denial h caller acts.Hold (Some name) None) _ a.1 in
+    let b = none_of (denial h day caller acts.Hold (Some name) None) _ a.1 in
     let c = none_of (full_of_holds h) _ b.1 in
     record { there = is_so (has_collection h name) _ a.0; not_gone = tt; room = below h.max_holds (length (holds h)) c.0 }
+allowed_of h day caller (HoldClass name matter) e =
+    let a = none_of (no_such_class h name) _ e in
+    let b = none_of (denial h day caller acts.Hold None (Some name)) _ a.1 in
+    let c = none_of (full_of_holds h) _ b.1 in
+    record { there = is_so (has_class h name) _ a.0; not_gone = tt; room = below h.max_holds (length (holds h)) c.0 }
 allowed_of h day caller (Release k) e = releasable h day caller k e
 allowed_of h day caller (Dispose n) e = disposable h day caller n e
 allowed_of h day caller (ListDeposits collection class) e = tt
@@ -190,6 +195,7 @@ ranged_of h day (MakeDeposit collection class accession closed bag) in_day asked
     by (Err fault) = tt
 ranged_of h day (HoldDeposit n matter) in_day asked = (in_day, record { target = tt; matter = asked })
 ranged_of h day (HoldCollection name matter) in_day asked = (in_day, record { target = asked.0; matter = asked.1 })
+ranged_of h day (HoldClass name matter) in_day asked = (in_day, record { target = asked.0; matter = asked.1 })
 ranged_of h day (Release k) in_day asked = in_day
 ranged_of h day (Dispose n) in_day asked = in_day
 ranged_of h day (ListDeposits collection class) in_day asked = tt

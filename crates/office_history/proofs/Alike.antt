@@ -14,7 +14,7 @@ use Rattle.office_core.specs.RetentionReading.{due_of}
 use Rattle.office_core.specs.declared.retention.Due.TheVariants.{Never}
 use Rattle.office_rows.specs.Rows.{DepositRow}
 use Rattle.office_history.specs.Lists.{first_said, last_said, item_numbered, numbers, distinct_after, in_first_places}
-use Rattle.office_history.specs.Histories.{History, Change, Deposit, with_changes, installed_in, no_policy, policy, years_in, years_of, collection_in, deposit_in, deposits, deposit_numbered, destroyed_in, destruction_day, kept_numbers, due, Hold, Target, OnDeposit, OnCollection, reaches, is_live, hold_in, holds, hold_numbered, released_in, release_day}
+use Rattle.office_history.specs.Histories.{History, Change, Deposit, with_changes, installed_in, no_policy, policy, years_in, years_of, collection_in, deposit_in, deposits, deposit_numbered, destroyed_in, destruction_day, kept_numbers, due, Hold, Target, OnDeposit, OnCollection, OnClass, reaches, is_live, hold_in, holds, hold_numbered, released_in, release_day}
 use Rattle.office_history.specs.Stocks.{files_of, Stock, stock}
 use Rattle.office_history.specs.Pictures.{class_in, class_row, caller_row, rule_rows, file_row, file_rows, row_by_release, deposit_row, row_of_deposit, due_number, due_row, row_of_due, picture}
 use Rattle.office_history.proofs.HistoryLemmas.{deposits_grown, holds_grown}
@@ -246,6 +246,7 @@ bare o = record { collection = o.collection; class = o.class; accession = o.acce
 reaches_bare : (target : Target) (n : ℕ) (found : Date × Deposit) → reaches target n found.1 ≡ reaches target n (bare (outline found))
 reaches_bare (OnDeposit m) n found = refl
 reaches_bare (OnCollection name) n found = refl
+reaches_bare (OnClass name) n found = refl
 
 covers_bare : (o : Option (Date × Hold)) (n : ℕ) (found : Date × Deposit)
     → option_map_or (λ hold. reaches hold.1.target n found.1) o false ≡ option_map_or (λ hold. reaches hold.1.target n (bare (outline found))) o false

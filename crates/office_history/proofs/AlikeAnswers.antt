@@ -22,9 +22,9 @@ use Rattle.office_core.specs.declared.refusal.Refusal.{Refusal}
 use Rattle.office_core.specs.declared.refusal.Refusal.TheVariants.{NoSuch, Gone, Taken, Released, Full}
 use Rattle.office_core.specs.declared.refusal.Subject.TheVariants as subjects
 use Rattle.office_core.specs.declared.request.Request.{Request}
-use Rattle.office_core.specs.declared.request.Request.TheVariants.{DefineClass, DefineCollection, Deposit as MakeDeposit, List as ListDeposits, Record, Holds, DownloadBag, DownloadFile, Audit, HoldDeposit, HoldCollection, Release, Dispose, DueList}
+use Rattle.office_core.specs.declared.request.Request.TheVariants.{DefineClass, DefineCollection, Deposit as MakeDeposit, List as ListDeposits, Record, Holds, DownloadBag, DownloadFile, Audit, HoldDeposit, HoldCollection, HoldClass, Release, Dispose, DueList}
 use Rattle.office_history.specs.Lists.{item_numbered, numbers, distinct_after, in_first_places}
-use Rattle.office_history.specs.Histories.{History, Change, DefinedCollection, Target, OnDeposit, OnCollection, Deposit, Hold, with_changes, policy, has_collection, collection_in, deposits, deposit_numbered, accession_of, destruction_day, due, reaches, live_holds, has_accession}
+use Rattle.office_history.specs.Histories.{History, Change, DefinedCollection, Target, OnDeposit, OnCollection, OnClass, Deposit, Hold, with_changes, policy, has_collection, collection_in, deposits, deposit_numbered, accession_of, destruction_day, due, reaches, live_holds, has_accession}
 use Rattle.office_history.specs.Bags.{report_on}
 use Rattle.office_core.specs.Verdicts as deciding
 use Rattle.office_history.specs.Refusals.{refusal_in, denial, denial_at, closed_ahead_refusal, bad_bag, held_refusal, not_due_refusal, full_of_holds, no_file, of_deposit, of_hold, release_denial_of, release_denial, refusal}
@@ -34,12 +34,12 @@ use Rattle.bag_text.proofs.ResultLemmas.{is_nothing}
 
 -- ---- what the rules say
 
-same_denied : (h k : History) → Alike h k → (caller : List ℕ) (action : Action) (collection class : Option (List ℕ)) → denial h caller action collection class ≡ denial k caller action collection class
-same_denied h k a caller action collection class =
-    ap (λ (p : PolicyValue). refusal_in (deciding.denial_verdict (decision_of p.rules (record { role = role_of p caller; action = action; collection = collection; class = class })))) a.same_policy
+same_denied : (h k : History) → Alike h k → (day : Date) (caller : List ℕ) (action : Action) (collection class : Option (List ℕ)) → denial h day caller action collection class ≡ denial k day caller action collection class
+same_denied h k a day caller action collection class =
+    ap (λ (p : PolicyValue). refusal_in (deciding.denial_verdict (decision_of p.rules (record { role = role_of p caller; action = action; collection = collection; class = class; day = day })))) a.same_policy
 
-same_denied_at : (h k : History) → Alike h k → (caller : List ℕ) (action : Action) (deposit : Deposit) → denial_at h caller action deposit ≡ denial_at k caller action deposit
-same_denied_at h k a caller action deposit = same_denied h k a caller action (Some deposit.collection) (Some deposit.class)
+same_denied_at : (h k : History) → Alike h k → (day : Date) (caller : List ℕ) (action : Action) (deposit : Deposit) → denial_at h day caller action deposit ≡ denial_at k day caller action deposit
+same_denied_at h k a day caller action deposit = same_denied h k a day caller action (Some deposit.collection) (Some deposit.class)
 
 -- ---- collections and accessions
 
@@ -105,14 +105,14 @@ same_full_of_holds h k a = λ i. answer_if (nat_le (a.same_max_holds i) (length 
 
 -- ---- the refusals of a request that names a deposit: whether it is denied, whether it is gone, and the rest
 
-abbrev denied_outline : PolicyValue → List ℕ → Action → Outline → Option Refusal
-denied_outline p caller action o = refusal_in (deciding.denial_verdict (decision_of p.rules (record { role = role_of p caller; action = action; collection = Some o.collection; class = Some o.class })))
+abbrev denied_outline : PolicyValue → Date → List ℕ → Action → Outline → Option Refusal
+denied_outline p day caller action o = refusal_in (deciding.denial_verdict (decision_of p.rules (record { role = role_of p caller; action = action; collection = Some o.collection; class = Some o.class; day = day })))
 
-abbrev row : PolicyValue → List ℕ → Action → Option Date → Option (Date × Deposit) → (Deposit → List (Option Refusal)) → Option Refusal
-row p caller action day there rest =
+abbrev row : PolicyValue → Date → List ℕ → Action → Option Date → Option (Date × Deposit) → (Deposit → List (Option Refusal)) → Option Refusal
+row p day caller action gone there rest =
     first_some (of_deposit there (λ d.
-    refusal_in (deciding.denial_verdict (decision_of p.rules (record { role = role_of p caller; action = action; collection = Some d.collection; class = Some d.class })))
-    ∷ refusal_in (deciding.gone_verdict day)
+    refusal_in (deciding.denial_verdict (decision_of p.rules (record { role = role_of p caller; action = action; collection = Some d.collection; class = Some d.class; day = day })))
+    ∷ refusal_in (deciding.gone_verdict gone)
     ∷ rest d))
 
 -- what stands behind a refusal is of no matter
@@ -120,75 +120,82 @@ cut : (first : Option Refusal) (why : Refusal) (r s : List (Option Refusal)) →
 cut None why r s = refl
 cut (Some x) why r s = refl
 
-same_row_of : (p : PolicyValue) (caller : List ℕ) (action : Action) (day : Option Date) (x y : Option (Date × Deposit)) (r s : Deposit → List (Option Refusal))
-    → option_map outline x ≡ option_map outline y → (day ≡ None → x ≡ y) → (day ≡ None → (d : Deposit) → r d ≡ s d)
-    → row p caller action day x r ≡ row p caller action day y s
-same_row_of p caller action None x y r s e same more = λ i. row p caller action None (same refl i) (λ d. more refl d i)
-same_row_of p caller action (Some day) None None r s e same more = refl
-same_row_of p caller action (Some day) None (Some y) r s e same more = absurd cc
-same_row_of p caller action (Some day) (Some x) None r s e same more = absurd cc
-same_row_of p caller action (Some day) (Some x) (Some y) r s e same more =
-    cut (denied_outline p caller action (outline x)) (Gone day) (r x.1) (s y.1)
-    ∙ ap (λ (o : Outline). first_some (denied_outline p caller action o ∷ Some (Gone day) ∷ s y.1)) (same_Some (outline x) (outline y) e)
+same_row_of : (p : PolicyValue) (day : Date) (caller : List ℕ) (action : Action) (gone : Option Date) (x y : Option (Date × Deposit)) (r s : Deposit → List (Option Refusal))
+    → option_map outline x ≡ option_map outline y → (gone ≡ None → x ≡ y) → (gone ≡ None → (d : Deposit) → r d ≡ s d)
+    → row p day caller action gone x r ≡ row p day caller action gone y s
+same_row_of p day caller action None x y r s e same more = λ i. row p day caller action None (same refl i) (λ d. more refl d i)
+same_row_of p day caller action (Some on) None None r s e same more = refl
+same_row_of p day caller action (Some on) None (Some y) r s e same more = absurd cc
+same_row_of p day caller action (Some on) (Some x) None r s e same more = absurd cc
+same_row_of p day caller action (Some on) (Some x) (Some y) r s e same more =
+    cut (denied_outline p day caller action (outline x)) (Gone on) (r x.1) (s y.1)
+    ∙ ap (λ (o : Outline). first_some (denied_outline p day caller action o ∷ Some (Gone on) ∷ s y.1)) (same_Some (outline x) (outline y) e)
 
-same_row_at : (h k : History) → Alike h k → (caller : List ℕ) (action : Action) (n : ℕ) (r s : Deposit → List (Option Refusal))
+same_row_at : (h k : History) → Alike h k → (day : Date) (caller : List ℕ) (action : Action) (n : ℕ) (r s : Deposit → List (Option Refusal))
     → (destruction_day h n ≡ None → (d : Deposit) → r d ≡ s d)
-    → row (policy h) caller action (destruction_day h n) (deposit_numbered h n) r ≡ row (policy k) caller action (destruction_day k n) (deposit_numbered k n) s
-same_row_at h k a caller action n r s more =
-    same_row_of (policy h) caller action (destruction_day h n) (deposit_numbered h n) (deposit_numbered k n) r s (same_outline h k a n) (same_found h k a n) more
-    ∙ (λ i. row (a.same_policy i) caller action (a.same_gone n i) (deposit_numbered k n) s)
+    → row (policy h) day caller action (destruction_day h n) (deposit_numbered h n) r ≡ row (policy k) day caller action (destruction_day k n) (deposit_numbered k n) s
+same_row_at h k a day caller action n r s more =
+    same_row_of (policy h) day caller action (destruction_day h n) (deposit_numbered h n) (deposit_numbered k n) r s (same_outline h k a n) (same_found h k a n) more
+    ∙ (λ i. row (a.same_policy i) day caller action (a.same_gone n i) (deposit_numbered k n) s)
 
 -- ---- the refusals of a release
 
-release_of_outline : (h : History) (caller : List ℕ) (x y : Option (Date × Deposit)) → option_map outline x ≡ option_map outline y → release_denial_of h caller x ≡ release_denial_of h caller y
-release_of_outline h caller None None e = refl
-release_of_outline h caller None (Some y) e = absurd cc
-release_of_outline h caller (Some x) None e = absurd cc
-release_of_outline h caller (Some x) (Some y) e = ap (λ (o : Outline). denial h caller acts.Release (Some o.collection) (Some o.class)) (same_Some (outline x) (outline y) e)
+release_of_outline : (h : History) (day : Date) (caller : List ℕ) (x y : Option (Date × Deposit)) → option_map outline x ≡ option_map outline y → release_denial_of h day caller x ≡ release_denial_of h day caller y
+release_of_outline h day caller None None e = refl
+release_of_outline h day caller None (Some y) e = absurd cc
+release_of_outline h day caller (Some x) None e = absurd cc
+release_of_outline h day caller (Some x) (Some y) e = ap (λ (o : Outline). denial h day caller acts.Release (Some o.collection) (Some o.class)) (same_Some (outline x) (outline y) e)
 
-release_by_policy : (h k : History) → Alike h k → (caller : List ℕ) (x : Option (Date × Deposit)) → release_denial_of h caller x ≡ release_denial_of k caller x
-release_by_policy h k a caller None = refl
-release_by_policy h k a caller (Some found) = same_denied_at h k a caller acts.Release found.1
+release_by_policy : (h k : History) → Alike h k → (day : Date) (caller : List ℕ) (x : Option (Date × Deposit)) → release_denial_of h day caller x ≡ release_denial_of k day caller x
+release_by_policy h k a day caller None = refl
+release_by_policy h k a day caller (Some found) = same_denied_at h k a day caller acts.Release found.1
 
-same_release : (h k : History) → Alike h k → (caller : List ℕ) (target : Target) → release_denial h caller target ≡ release_denial k caller target
-same_release h k a caller (OnDeposit n) =
-    release_of_outline h caller (deposit_numbered h n) (deposit_numbered k n) (same_outline h k a n)
-    ∙ release_by_policy h k a caller (deposit_numbered k n)
-same_release h k a caller (OnCollection name) = same_denied h k a caller acts.Release (Some name) None
+same_release : (h k : History) → Alike h k → (day : Date) (caller : List ℕ) (target : Target) → release_denial h day caller target ≡ release_denial k day caller target
+same_release h k a day caller (OnDeposit n) =
+    release_of_outline h day caller (deposit_numbered h n) (deposit_numbered k n) (same_outline h k a n)
+    ∙ release_by_policy h k a day caller (deposit_numbered k n)
+same_release h k a day caller (OnCollection name) = same_denied h k a day caller acts.Release (Some name) None
+same_release h k a day caller (OnClass name) = same_denied h k a day caller acts.Release None (Some name)
 
 -- ---- all refusals
 
 pub same_refusal : (h k : History) → Alike h k → (day : Date) (caller : List ℕ) (request : Request) → refusal h day caller request ≡ refusal k day caller request
-same_refusal h k a day caller (DefineClass name years) = λ i. first_some (same_denied h k a caller acts.Class None (Some name) i ∷ [])
-same_refusal h k a day caller (DefineCollection name) = λ i. first_some (same_denied h k a caller acts.Collection (Some name) None i ∷ [])
+same_refusal h k a day caller (DefineClass name years) = λ i. first_some (same_denied h k a day caller acts.Class None (Some name) i ∷ [])
+same_refusal h k a day caller (DefineCollection name) = λ i. first_some (same_denied h k a day caller acts.Collection (Some name) None i ∷ [])
 same_refusal h k a day caller (MakeDeposit collection class accession closed bag) = λ i.
     first_some (
     answer_if (not (same_collection h k a collection i)) (NoSuch subjects.Collection)
     ∷ answer_if (not (is_some (a.same_years class i))) (NoSuch subjects.Class)
-    ∷ same_denied h k a caller acts.Deposit (Some collection) (Some class) i
+    ∷ same_denied h k a day caller acts.Deposit (Some collection) (Some class) i
     ∷ option_map Taken (same_accession h k a accession i)
     ∷ closed_ahead_refusal day closed
     ∷ bad_bag bag.now
     ∷ answer_if (nat_le (a.same_max_deposits i) (same_count h k a i)) Full
     ∷ [])
 same_refusal h k a day caller (ListDeposits collection class) = refl
-same_refusal h k a day caller (Record n) = same_row_at h k a caller acts.Record n (λ d. []) (λ d. []) (λ e d. refl)
-same_refusal h k a day caller (Holds n) = same_row_at h k a caller acts.Holds n (λ d. []) (λ d. []) (λ e d. refl)
-same_refusal h k a day caller (DownloadBag n) = same_row_at h k a caller acts.Download n (λ d. []) (λ d. []) (λ e d. refl)
-same_refusal h k a day caller (DownloadFile n path) = same_row_at h k a caller acts.Download n (λ d. no_file d path.now ∷ []) (λ d. no_file d path.now ∷ []) (λ e d. refl)
-same_refusal h k a day caller (Audit n) = same_row_at h k a caller acts.Audit n (λ d. []) (λ d. []) (λ e d. refl)
+same_refusal h k a day caller (Record n) = same_row_at h k a day caller acts.Record n (λ d. []) (λ d. []) (λ e d. refl)
+same_refusal h k a day caller (Holds n) = same_row_at h k a day caller acts.Holds n (λ d. []) (λ d. []) (λ e d. refl)
+same_refusal h k a day caller (DownloadBag n) = same_row_at h k a day caller acts.Download n (λ d. []) (λ d. []) (λ e d. refl)
+same_refusal h k a day caller (DownloadFile n path) = same_row_at h k a day caller acts.Download n (λ d. no_file d path.now ∷ []) (λ d. no_file d path.now ∷ []) (λ e d. refl)
+same_refusal h k a day caller (Audit n) = same_row_at h k a day caller acts.Audit n (λ d. []) (λ d. []) (λ e d. refl)
 same_refusal h k a day caller (HoldDeposit n matter) =
-    same_row_at h k a caller acts.Hold n (λ d. full_of_holds h ∷ []) (λ d. full_of_holds k ∷ []) (λ e d i. same_full_of_holds h k a i ∷ [])
+    same_row_at h k a day caller acts.Hold n (λ d. full_of_holds h ∷ []) (λ d. full_of_holds k ∷ []) (λ e d i. same_full_of_holds h k a i ∷ [])
 same_refusal h k a day caller (HoldCollection name matter) = λ i.
     first_some (
     answer_if (not (same_collection h k a name i)) (NoSuch subjects.Collection)
-    ∷ same_denied h k a caller acts.Hold (Some name) None i
+    ∷ same_denied h k a day caller acts.Hold (Some name) None i
+    ∷ same_full_of_holds h k a i
+    ∷ [])
+same_refusal h k a day caller (HoldClass name matter) = λ i.
+    first_some (
+    answer_if (not (is_some (a.same_years name i))) (NoSuch subjects.Class)
+    ∷ same_denied h k a day caller acts.Hold None (Some name) i
     ∷ same_full_of_holds h k a i
     ∷ [])
 same_refusal h k a day caller (Release j) = λ i.
-    first_some (of_hold (item_numbered (a.same_holds i) j) (λ hold. same_release h k a caller hold.target i ∷ option_map Released (a.same_released j i) ∷ []))
+    first_some (of_hold (item_numbered (a.same_holds i) j) (λ hold. same_release h k a day caller hold.target i ∷ option_map Released (a.same_released j i) ∷ []))
 same_refusal h k a day caller (Dispose n) =
-    same_row_at h k a caller acts.Dispose n (λ d. held_refusal h n d ∷ not_due_refusal h day d ∷ []) (λ d. held_refusal k n d ∷ not_due_refusal k day d ∷ [])
+    same_row_at h k a day caller acts.Dispose n (λ d. held_refusal h n d ∷ not_due_refusal h day d ∷ []) (λ d. held_refusal k n d ∷ not_due_refusal k day d ∷ [])
     (λ e d i. refusal_in (deciding.hold_verdict (slice_get (same_live h k a n d i) 0)) ∷ refusal_in (deciding.due_verdict day (same_due h k a d i)) ∷ [])
 same_refusal h k a day caller DueList = refl
 
@@ -201,66 +208,67 @@ same_told_holds : (h k : History) → Alike h k → (n : ℕ) (deposit : Deposit
 same_told_holds h k a n deposit = λ i.
     filter_map (λ j. option_map_or (λ found. Some (live_hold j found)) (item_numbered (a.same_holds i) j) None) (same_live h k a n deposit i)
 
-same_listed : (h k : History) → Alike h k → (caller : List ℕ) (collection class : Option (List ℕ)) (n : ℕ) → destruction_day h n ≡ None → listed_record h caller collection class n ≡ listed_record k caller collection class n
-same_listed h k a caller collection class n e = λ i.
+same_listed : (h k : History) → Alike h k → (day : Date) (caller : List ℕ) (collection class : Option (List ℕ)) (n : ℕ) → destruction_day h n ≡ None → listed_record h day caller collection class n ≡ listed_record k day caller collection class n
+same_listed h k a day caller collection class n e = λ i.
     option_map_or (λ (found : Date × Deposit).
-    if is_asked collection found.1.collection && is_asked class found.1.class && is_none (same_denied_at h k a caller acts.List found.1 i)
+    if is_asked collection found.1.collection && is_asked class found.1.class && is_none (same_denied_at h k a day caller acts.List found.1 i)
     then Some (same_record h k a n found i) else None)
     (same_found h k a n e i) None
 
-same_list : (h k : History) → Alike h k → (caller : List ℕ) (collection class : Option (List ℕ)) → listed_records h caller collection class ≡ listed_records k caller collection class
-same_list h k a caller collection class =
-    mapped_of_kept (λ n. is_none (destruction_day h n)) (listed_record h caller collection class) (listed_record k caller collection class) (numbers (length (deposits h)))
-    (λ n e. same_listed h k a caller collection class n (is_nothing (destruction_day h n) e))
-    ∙ ap (filter_map (listed_record k caller collection class)) (same_kept h k a)
+same_list : (h k : History) → Alike h k → (day : Date) (caller : List ℕ) (collection class : Option (List ℕ)) → listed_records h day caller collection class ≡ listed_records k day caller collection class
+same_list h k a day caller collection class =
+    mapped_of_kept (λ n. is_none (destruction_day h n)) (listed_record h day caller collection class) (listed_record k day caller collection class) (numbers (length (deposits h)))
+    (λ n e. same_listed h k a day caller collection class n (is_nothing (destruction_day h n) e))
+    ∙ ap (filter_map (listed_record k day caller collection class)) (same_kept h k a)
 
 same_due_list : (h k : History) → Alike h k → (day : Date) (caller : List ℕ) → due_list h day caller ≡ due_list k day caller
 same_due_list h k a day caller = λ i. filter (λ n. is_none (same_refusal h k a day caller (Dispose n) i)) (same_kept h k a i)
 
 -- of a deposit that is gone nothing is told
-row_stops : (p : PolicyValue) (caller : List ℕ) (action : Action) (day : Date) (there : Option (Date × Deposit)) (r : Deposit → List (Option Refusal)) (x y : Answer)
-    → answer_unless (row p caller action (Some day) there r) x ≡ answer_unless (row p caller action (Some day) there r) y
-row_stops p caller action day None r x y = refl
-row_stops p caller action day (Some found) r x y = stops (denied_outline p caller action (outline found))
+row_stops : (p : PolicyValue) (day : Date) (caller : List ℕ) (action : Action) (on : Date) (there : Option (Date × Deposit)) (r : Deposit → List (Option Refusal)) (x y : Answer)
+    → answer_unless (row p day caller action (Some on) there r) x ≡ answer_unless (row p day caller action (Some on) there r) y
+row_stops p day caller action on None r x y = refl
+row_stops p day caller action on (Some found) r x y = stops (denied_outline p day caller action (outline found))
   where
-    stops : (first : Option Refusal) → answer_unless (first_some (first ∷ Some (Gone day) ∷ r found.1)) x ≡ answer_unless (first_some (first ∷ Some (Gone day) ∷ r found.1)) y
+    stops : (first : Option Refusal) → answer_unless (first_some (first ∷ Some (Gone on) ∷ r found.1)) x ≡ answer_unless (first_some (first ∷ Some (Gone on) ∷ r found.1)) y
     stops None = refl
     stops (Some why) = refl
 
-unless_gone : (p : PolicyValue) (caller : List ℕ) (action : Action) (day : Option Date) (there : Option (Date × Deposit)) (r : Deposit → List (Option Refusal)) (x y : Answer) → (day ≡ None → x ≡ y)
-    → answer_unless (row p caller action day there r) x ≡ answer_unless (row p caller action day there r) y
-unless_gone p caller action None there r x y same = ap (answer_unless (row p caller action None there r)) (same refl)
-unless_gone p caller action (Some day) there r x y same = row_stops p caller action day there r x y
+unless_gone : (p : PolicyValue) (day : Date) (caller : List ℕ) (action : Action) (gone : Option Date) (there : Option (Date × Deposit)) (r : Deposit → List (Option Refusal)) (x y : Answer) → (gone ≡ None → x ≡ y)
+    → answer_unless (row p day caller action gone there r) x ≡ answer_unless (row p day caller action gone there r) y
+unless_gone p day caller action None there r x y same = ap (answer_unless (row p day caller action None there r)) (same refl)
+unless_gone p day caller action (Some on) there r x y same = row_stops p day caller action on there r x y
 
-answer_at : (h k : History) → Alike h k → (caller : List ℕ) (action : Action) (n : ℕ) (r : Deposit → List (Option Refusal)) (x y : Answer) → (destruction_day h n ≡ None → x ≡ y)
-    → answer_unless (row (policy h) caller action (destruction_day h n) (deposit_numbered h n) r) x ≡ answer_unless (row (policy k) caller action (destruction_day k n) (deposit_numbered k n) r) y
-answer_at h k a caller action n r x y same =
-    unless_gone (policy h) caller action (destruction_day h n) (deposit_numbered h n) r x y same
-    ∙ ap (λ why. answer_unless why y) (same_row_at h k a caller action n r r (λ e d. refl))
+answer_at : (h k : History) → Alike h k → (day : Date) (caller : List ℕ) (action : Action) (n : ℕ) (r : Deposit → List (Option Refusal)) (x y : Answer) → (destruction_day h n ≡ None → x ≡ y)
+    → answer_unless (row (policy h) day caller action (destruction_day h n) (deposit_numbered h n) r) x ≡ answer_unless (row (policy k) day caller action (destruction_day k n) (deposit_numbered k n) r) y
+answer_at h k a day caller action n r x y same =
+    unless_gone (policy h) day caller action (destruction_day h n) (deposit_numbered h n) r x y same
+    ∙ ap (λ why. answer_unless why y) (same_row_at h k a day caller action n r r (λ e d. refl))
 
 pub same_answer : (h k : History) → Alike h k → (day : Date) (caller : List ℕ) (request : Request) → answer h day caller request ≡ answer k day caller request
 same_answer h k a day caller (DefineClass name years) = ap (λ why. answer_unless why (answers.Class name years)) (same_refusal h k a day caller (DefineClass name years))
 same_answer h k a day caller (DefineCollection name) = ap (λ why. answer_unless why (answers.Collection name)) (same_refusal h k a day caller (DefineCollection name))
 same_answer h k a day caller (MakeDeposit collection class accession closed bag) = λ i.
     answer_unless (same_refusal h k a day caller (MakeDeposit collection class accession closed bag) i) (answers.Deposited (same_count h k a i + 1))
-same_answer h k a day caller (ListDeposits collection class) = ap answers.List (same_list h k a caller collection class)
+same_answer h k a day caller (ListDeposits collection class) = ap answers.List (same_list h k a day caller collection class)
 same_answer h k a day caller (Record n) =
-    answer_at h k a caller acts.Record n (λ d. []) (allowed_answer h day caller (Record n)) (allowed_answer k day caller (Record n))
+    answer_at h k a day caller acts.Record n (λ d. []) (allowed_answer h day caller (Record n)) (allowed_answer k day caller (Record n))
     (λ e i. told_of (same_found h k a n e i) (λ found. answers.Record (same_record h k a n found i)))
 same_answer h k a day caller (Holds n) =
-    answer_at h k a caller acts.Holds n (λ d. []) (allowed_answer h day caller (Holds n)) (allowed_answer k day caller (Holds n))
+    answer_at h k a day caller acts.Holds n (λ d. []) (allowed_answer h day caller (Holds n)) (allowed_answer k day caller (Holds n))
     (λ e i. told_of (same_found h k a n e i) (λ found. answers.Holds (same_told_holds h k a n found.1 i)))
 same_answer h k a day caller (DownloadBag n) =
-    answer_at h k a caller acts.Download n (λ d. []) (allowed_answer h day caller (DownloadBag n)) (allowed_answer k day caller (DownloadBag n))
+    answer_at h k a day caller acts.Download n (λ d. []) (allowed_answer h day caller (DownloadBag n)) (allowed_answer k day caller (DownloadBag n))
     (λ e i. told_of (same_found h k a n e i) (λ found. answers.Bag (set_text found.1.bag)))
 same_answer h k a day caller (DownloadFile n path) =
-    answer_at h k a caller acts.Download n (λ d. no_file d path.now ∷ []) (allowed_answer h day caller (DownloadFile n path)) (allowed_answer k day caller (DownloadFile n path))
+    answer_at h k a day caller acts.Download n (λ d. no_file d path.now ∷ []) (allowed_answer h day caller (DownloadFile n path)) (allowed_answer k day caller (DownloadFile n path))
     (λ e i. told_of (same_found h k a n e i) (λ found. file_answer (content_at found.1.bag path.now)))
 same_answer h k a day caller (Audit n) =
-    answer_at h k a caller acts.Audit n (λ d. []) (allowed_answer h day caller (Audit n)) (allowed_answer k day caller (Audit n))
+    answer_at h k a day caller acts.Audit n (λ d. []) (allowed_answer h day caller (Audit n)) (allowed_answer k day caller (Audit n))
     (λ e i. told_of (same_found h k a n e i) (λ found. answers.Audit n (audit_report (report_on found.1.bag))))
 same_answer h k a day caller (HoldDeposit n matter) = λ i. answer_unless (same_refusal h k a day caller (HoldDeposit n matter) i) (answers.HoldPlaced (length (a.same_holds i) + 1))
 same_answer h k a day caller (HoldCollection name matter) = λ i. answer_unless (same_refusal h k a day caller (HoldCollection name matter) i) (answers.HoldPlaced (length (a.same_holds i) + 1))
+same_answer h k a day caller (HoldClass name matter) = λ i. answer_unless (same_refusal h k a day caller (HoldClass name matter) i) (answers.HoldPlaced (length (a.same_holds i) + 1))
 same_answer h k a day caller (Release j) = ap (λ why. answer_unless why (answers.HoldReleased j day)) (same_refusal h k a day caller (Release j))
 same_answer h k a day caller (Dispose n) = ap (λ why. answer_unless why (answers.Destroyed n day)) (same_refusal h k a day caller (Dispose n))
 same_answer h k a day caller DueList = ap (answers.DueList day) (same_due_list h k a day caller)
@@ -279,6 +287,7 @@ same_allowed_change h k a day (DownloadFile n path) = refl
 same_allowed_change h k a day (Audit n) = refl
 same_allowed_change h k a day (HoldDeposit n matter) = refl
 same_allowed_change h k a day (HoldCollection name matter) = refl
+same_allowed_change h k a day (HoldClass name matter) = refl
 same_allowed_change h k a day (Release j) = refl
 same_allowed_change h k a day (Dispose n) = refl
 same_allowed_change h k a day DueList = refl

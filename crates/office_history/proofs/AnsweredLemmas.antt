@@ -11,9 +11,9 @@ use Rattle.office_core.specs.declared.answer.Answer.TheVariants as answers
 use Rattle.office_core.specs.declared.answer.LiveHold.{LiveHold}
 use Rattle.office_core.specs.declared.refusal.Refusal.{Refusal}
 use Rattle.office_core.specs.declared.request.Request.{Request}
-use Rattle.office_core.specs.declared.request.Request.TheVariants.{DefineClass, DefineCollection, Deposit as MakeDeposit, List as ListDeposits, Record, Holds, DownloadBag, DownloadFile, Audit, HoldDeposit, HoldCollection, Release, Dispose, DueList}
+use Rattle.office_core.specs.declared.request.Request.TheVariants.{DefineClass, DefineCollection, Deposit as MakeDeposit, List as ListDeposits, Record, Holds, DownloadBag, DownloadFile, Audit, HoldDeposit, HoldCollection, HoldClass, Release, Dispose, DueList}
 use Rattle.office_history.specs.Lists.{first_said, item_numbered}
-use Rattle.office_history.specs.Histories.{History, Change, PlacedHold, ReleasedHold, Deposit, Hold, OnDeposit, OnCollection, with_changes, deposit_numbered, hold_in, holds, hold_numbered, release_day, released_in, live_holds}
+use Rattle.office_history.specs.Histories.{History, Change, PlacedHold, ReleasedHold, Deposit, Hold, OnDeposit, OnCollection, OnClass, with_changes, deposit_numbered, hold_in, holds, hold_numbered, release_day, released_in, live_holds}
 use Rattle.office_history.specs.Bags.{report_on}
 use Rattle.office_history.specs.Refusals.{refusal}
 use Rattle.office_history.specs.Answers.{answer, answer_unless, allowed_answer, told_of, file_answer, record_of, told_hold, told_holds, live_hold, audit_report, change, changes_unless, allowed_change, after}
@@ -43,6 +43,7 @@ file_no_number (Some content) k e = absurd cc
 allowed_hold : (h : History) (day : Date) (caller : List ℕ) (request : Request) (k : ℕ) → allowed_answer h day caller request ≡ answers.HoldPlaced k → WasPlaced h day (allowed_change h day request) k
 allowed_hold h day caller (HoldDeposit n matter) k e = record { next_number = (let same : answers.HoldPlaced (length (holds h) + 1) ≡ answers.HoldPlaced k = e in cc); hold = record { target = OnDeposit n; matter = matter }; placed = refl }
 allowed_hold h day caller (HoldCollection name matter) k e = record { next_number = (let same : answers.HoldPlaced (length (holds h) + 1) ≡ answers.HoldPlaced k = e in cc); hold = record { target = OnCollection name; matter = matter }; placed = refl }
+allowed_hold h day caller (HoldClass name matter) k e = record { next_number = (let same : answers.HoldPlaced (length (holds h) + 1) ≡ answers.HoldPlaced k = e in cc); hold = record { target = OnClass name; matter = matter }; placed = refl }
 allowed_hold h day caller (DefineClass name years) k e = absurd cc
 allowed_hold h day caller (DefineCollection name) k e = absurd cc
 allowed_hold h day caller (MakeDeposit collection class accession closed bag) k e = absurd cc
@@ -78,6 +79,17 @@ collection_hold h day caller name matter k e =
     let hold : Hold = record { target = OnCollection name; matter = matter } in
     let made : change h day caller (HoldCollection name matter) ≡ PlacedHold day hold ∷ [] = ap (λ why. changes_unless why (PlacedHold day hold ∷ [])) r.0 in
     ap (λ ds. item_numbered ds k) (holds_after h day (change h day caller (HoldCollection name matter)) hold made)
+    ∙ ap (λ m. item_numbered (holds h ++ (day, hold) ∷ []) m) (sym next) ∙ numbered_last (holds h) (day, hold)
+
+-- and so has the hold of a class
+pub class_hold : (h : History) (day : Date) (caller name matter : List ℕ) (k : ℕ) → answer h day caller (HoldClass name matter) ≡ answers.HoldPlaced k
+    → hold_numbered (after h day caller (HoldClass name matter)) k ≡ Some (day, record { target = OnClass name; matter = matter })
+class_hold h day caller name matter k e =
+    let r = unrefused (refusal h day caller (HoldClass name matter)) (answers.HoldPlaced (length (holds h) + 1)) (answers.HoldPlaced k) e (λ r. λ wrong. absurd cc) in
+    let next : length (holds h) + 1 ≡ k = (let same = r.1 in cc) in
+    let hold : Hold = record { target = OnClass name; matter = matter } in
+    let made : change h day caller (HoldClass name matter) ≡ PlacedHold day hold ∷ [] = ap (λ why. changes_unless why (PlacedHold day hold ∷ [])) r.0 in
+    ap (λ ds. item_numbered ds k) (holds_after h day (change h day caller (HoldClass name matter)) hold made)
     ∙ ap (λ m. item_numbered (holds h ++ (day, hold) ∷ []) m) (sym next) ∙ numbered_last (holds h) (day, hold)
 
 -- ---- holds that were released
@@ -141,6 +153,7 @@ told_refused h day caller (DefineCollection name) why e = absurd cc
 told_refused h day caller (MakeDeposit collection class accession closed bag) why e = absurd cc
 told_refused h day caller (HoldDeposit n matter) why e = absurd cc
 told_refused h day caller (HoldCollection name matter) why e = absurd cc
+told_refused h day caller (HoldClass name matter) why e = absurd cc
 told_refused h day caller (Release k) why e = absurd cc
 told_refused h day caller (Dispose n) why e = absurd cc
 told_refused h day caller (ListDeposits collection class) why e = refl

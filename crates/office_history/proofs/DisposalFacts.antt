@@ -12,14 +12,14 @@ use Rattle.office_history.specs.Pictures.{deposit_row}
 use Rattle.office_history.specs.Refusals.{deciding_rule, facts_of}
 use Rattle.office_history.proofs.Pictured.{same_days}
 
-pub same_facts : (h : History) (caller : List ℕ) (n : ℕ) (found : Date × Deposit) (row : DepositRow) → row ≡ deposit_row h n found
-    → (decision : Option Decision) (day : Option Date) (hold : Option ℕ) (due_day : Due)
-    → decision ≡ deciding_rule h caller acts.Dispose (Some row.collection) (Some row.class) → option_map epoch_day day ≡ row.gone → hold ≡ least_hold h n found.1 → due_day ≡ due h found.1
-    → ◌≡◌ {A = Facts} (record { action = acts.Dispose; decision = decision; gone = day; hold = hold; due = due_day }) (facts_of h caller acts.Dispose n found.1)
-same_facts h caller n found row is decision day hold due_day decision_is gone_is hold_is due_is = λ i. record {
+pub same_facts : (h : History) (day : Date) (caller : List ℕ) (n : ℕ) (found : Date × Deposit) (row : DepositRow) → row ≡ deposit_row h n found
+    → (decision : Option Decision) (gone : Option Date) (hold : Option ℕ) (due_day : Due)
+    → decision ≡ deciding_rule h day caller acts.Dispose (Some row.collection) (Some row.class) → option_map epoch_day gone ≡ row.gone → hold ≡ least_hold h n found.1 → due_day ≡ due h found.1
+    → ◌≡◌ {A = Facts} (record { action = acts.Dispose; decision = decision; gone = gone; hold = hold; due = due_day }) (facts_of h day caller acts.Dispose n found.1)
+same_facts h day caller n found row is decision gone hold due_day decision_is gone_is hold_is due_is = λ i. record {
   action = acts.Dispose;
-  decision = (decision_is ∙ ap (λ (r : DepositRow). deciding_rule h caller acts.Dispose (Some r.collection) (Some r.class)) is) i;
-  gone = same_days day (destruction_day h n) (gone_is ∙ ap (λ (r : DepositRow). r.gone) is) i;
+  decision = (decision_is ∙ ap (λ (r : DepositRow). deciding_rule h day caller acts.Dispose (Some r.collection) (Some r.class)) is) i;
+  gone = same_days gone (destruction_day h n) (gone_is ∙ ap (λ (r : DepositRow). r.gone) is) i;
   hold = hold_is i;
   due = due_is i;
 }

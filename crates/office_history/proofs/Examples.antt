@@ -11,7 +11,7 @@ use Rattle.office_core.specs.declared.action.Action.TheVariants as acts
 use Rattle.office_core.specs.declared.rule.ActionPattern.TheVariants as asked
 use Rattle.office_core.specs.declared.rule.Effect.TheVariants.{Allow, Deny}
 use Rattle.office_core.specs.declared.rule.Pattern.TheVariants.{Any, Named}
-use Rattle.office_history.specs.Histories.{History, Change, Installed, DefinedClass, DefinedCollection, Deposited, PlacedHold, ReleasedHold, Destroyed, Deposit, OnDeposit, OnCollection, destruction_day, kept_numbers, due, live_holds}
+use Rattle.office_history.specs.Histories.{History, Change, Installed, DefinedClass, DefinedCollection, Deposited, PlacedHold, ReleasedHold, Destroyed, Deposit, OnDeposit, OnCollection, OnClass, destruction_day, kept_numbers, due, live_holds}
 use Rattle.office_history.specs.Refusals.{refusal, taken_refusal}
 use Rattle.office_history.specs.Lists.{in_first_places}
 use Rattle.office_history.specs.Pictures.{due_number, picture}
@@ -41,6 +41,14 @@ worked day = worked_then day []
 later : Date → History
 later day = worked_then day (ReleasedHold day 1 ∷ Destroyed day 1 ∷ DefinedClass day (codes "y1") None ∷ [])
 
+-- a hold of the class of the deposits, one of another class, and one more deposit
+classes_held : Date → List Change
+classes_held day =
+    PlacedHold day (record { target = OnClass (codes "y1"); matter = codes "Case 9" })
+    ∷ PlacedHold day (record { target = OnClass (codes "y2"); matter = codes "Case 10" })
+    ∷ Deposited day (deposited day (codes "A-3"))
+    ∷ []
+
 -- a hold of a collection covers what came later, and one of a deposit that alone
 both_cover : (day : Date) → live_holds (worked day) 2 (deposited day (codes "A-2")) ≡ 1 ∷ 2 ∷ []
 unfolding deposited worked_then worked
@@ -49,6 +57,15 @@ both_cover day = refl
 one_covers : (day : Date) → live_holds (worked day) 1 (deposited day (codes "A-1")) ≡ 1 ∷ []
 unfolding deposited worked_then worked
 one_covers day = refl
+
+-- a hold of a class covers each deposit of the class, whichever came first, and one of another class none
+classes_cover : (day : Date) → live_holds (worked_then day (classes_held day)) 1 (deposited day (codes "A-1")) ≡ 1 ∷ 3 ∷ []
+unfolding deposited worked_then classes_held
+classes_cover day = refl
+
+class_covers_later : (day : Date) → live_holds (worked_then day (classes_held day)) 3 (deposited day (codes "A-3")) ≡ 1 ∷ 3 ∷ []
+unfolding deposited worked_then classes_held
+class_covers_later day = refl
 
 -- a hold that was released covers nothing more
 released_covers_none : (day : Date) → live_holds (later day) 2 (deposited day (codes "A-2")) ≡ 2 ∷ []
@@ -90,7 +107,8 @@ no_rules day caller = refl
 first_places : in_first_places (codes "a" ∷ codes "b" ∷ codes "a" ∷ []) ≡ codes "a" ∷ codes "b" ∷ []
 first_places = refl
 
--- a policy, a class that is revised, a deposit of one payload file that is kept, one that is destroyed, and two holds
+-- a policy of rules that count on one day, a class that is revised, a deposit of one payload file that is kept, one that
+-- is destroyed, and three holds, one of each kind
 drawn : Date → History
 drawn day = record {
   max_deposits = 10;
@@ -99,8 +117,8 @@ drawn day = record {
       Installed (record {
         callers = record { name = codes "anna"; role = codes "archivist" } ∷ [];
         rules =
-            record { effect = Deny; role = Named (codes "archivist"); action = asked.Only acts.Dispose; collection = Named (codes "tax"); class = Any }
-            ∷ record { effect = Allow; role = Any; action = asked.Any; collection = Any; class = Named (codes "y1") }
+            record { effect = Deny; role = Named (codes "archivist"); action = asked.Only acts.Dispose; collection = Named (codes "tax"); class = Any; first = day; last = day }
+            ∷ record { effect = Allow; role = Any; action = asked.Any; collection = Any; class = Named (codes "y1"); first = day; last = day }
             ∷ [];
       })
       ∷ DefinedClass day (codes "y1") (Some 1)
@@ -113,6 +131,7 @@ drawn day = record {
       ∷ ReleasedHold day 2
       ∷ Destroyed day 2
       ∷ DefinedClass day (codes "y1") (Some 5)
+      ∷ PlacedHold day (record { target = OnClass (codes "y1"); matter = codes "Case 9" })
       ∷ [];
 }
 
@@ -121,8 +140,8 @@ drawn_rows : (day : Date) → picture (pos 1) (drawn day) ≡ record {
   office = record { id = pos 1; version = pos 1; max_deposits = pos 10; max_holds = pos 20 } ∷ [];
   callers = record { name = codes "anna"; role = codes "archivist" } ∷ [];
   rules =
-      record { place = pos 1; effect = pos 0; role = codes "archivist"; action = codes "dispose"; collection = codes "tax"; class = codes "*" }
-      ∷ record { place = pos 2; effect = pos 1; role = codes "*"; action = codes "*"; collection = codes "*"; class = codes "y1" }
+      record { place = pos 1; effect = pos 0; role = codes "archivist"; action = codes "dispose"; collection = codes "tax"; class = codes "*"; first = epoch_day day; last = epoch_day day }
+      ∷ record { place = pos 2; effect = pos 1; role = codes "*"; action = codes "*"; collection = codes "*"; class = codes "y1"; first = epoch_day day; last = epoch_day day }
       ∷ [];
   classes =
       record { name = codes "y1"; years = pos 5 }
@@ -134,16 +153,17 @@ drawn_rows : (day : Date) → picture (pos 1) (drawn day) ≡ record {
       ∷ record { number = pos 2; accession = codes "A-2"; collection = codes "maps"; class = codes "y1"; closed = epoch_day day; deposited = epoch_day day; files = pos 0; bytes = pos 0; gone = Some (epoch_day day) }
       ∷ [];
   dues =
-      record { number = pos 1; due = due_number (due_of day (Some 5)); holds = pos 1 }
-      ∷ record { number = pos 2; due = due_number (due_of day (Some 5)); holds = pos 0 }
+      record { number = pos 1; due = due_number (due_of day (Some 5)); holds = pos 2 }
+      ∷ record { number = pos 2; due = due_number (due_of day (Some 5)); holds = pos 1 }
       ∷ [];
   files =
       record { deposit = pos 1; path = codes "data/a"; content = codes "abc" }
       ∷ record { deposit = pos 1; path = codes "tag"; content = codes "tt" }
       ∷ [];
   holds =
-      record { number = pos 1; deposit = Some (pos 1); collection = None; matter = codes "Case 7"; placed = epoch_day day; released = None }
-      ∷ record { number = pos 2; deposit = None; collection = Some (codes "maps"); matter = codes "Case 8"; placed = epoch_day day; released = Some (epoch_day day) }
+      record { number = pos 1; deposit = Some (pos 1); collection = None; class = None; matter = codes "Case 7"; placed = epoch_day day; released = None }
+      ∷ record { number = pos 2; deposit = None; collection = Some (codes "maps"); class = None; matter = codes "Case 8"; placed = epoch_day day; released = Some (epoch_day day) }
+      ∷ record { number = pos 3; deposit = None; collection = None; class = Some (codes "y1"); matter = codes "Case 9"; placed = epoch_day day; released = None }
       ∷ [];
 }
 unfolding deposited drawn

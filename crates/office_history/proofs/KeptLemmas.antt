@@ -49,22 +49,22 @@ due_is_listed h day caller n e =
     has_contains (due_list h day caller) n (has_filter (λ m. is_none (refusal h day caller (Dispose m))) (kept_numbers h) n (is_kept h n may.found may.there may.kept) (ap is_none r.0))
 
 -- the disposal of a deposit that may be destroyed, and that the rules let the caller destroy, is not refused
-unrefused_disposal : (h : History) (day : Date) (caller : List ℕ) (n : ℕ) (may : IsDisposable h day n) → denial_at h caller acts.Dispose may.found.1 ≡ None → refusal h day caller (Dispose n) ≡ None
+unrefused_disposal : (h : History) (day : Date) (caller : List ℕ) (n : ℕ) (may : IsDisposable h day n) → denial_at h day caller acts.Dispose may.found.1 ≡ None → refusal h day caller (Dispose n) ≡ None
 unrefused_disposal h day caller n may allowed =
     let come : int_lt (epoch_day day) (epoch_day may.date) ≡ false = (let has_come = may.has_come in search (rules, has_come)) in
     ap (λ (o : Option (Date × Deposit)). first_some (of_deposit o (disposal_refusals h day caller n))) may.there
     ∙ (λ i. first_some (allowed i ∷ refusal_in (gone_verdict (may.kept i)) ∷ refusal_in (hold_verdict (slice_get (may.unheld i) 0)) ∷ refusal_in (due_verdict day (may.due i)) ∷ []))
     ∙ ap (λ (early : Bool). first_some (refusal_in (answer_if early (NotDue may.date)) ∷ [])) come
 
-pub disposable_is_listed : (h : History) (day : Date) (caller : List ℕ) (n : ℕ) (may : IsDisposable h day n) → denial_at h caller acts.Dispose may.found.1 ≡ None → Contains (due_list h day caller) n
+pub disposable_is_listed : (h : History) (day : Date) (caller : List ℕ) (n : ℕ) (may : IsDisposable h day n) → denial_at h day caller acts.Dispose may.found.1 ≡ None → Contains (due_list h day caller) n
 disposable_is_listed h day caller n may allowed =
     due_is_listed h day caller n (ap (λ why. answer_unless why (answers.Destroyed n day)) (unrefused_disposal h day caller n may allowed))
 
-pub listed_is_disposable : (h : History) (day : Date) (caller : List ℕ) (n : ℕ) → Contains (due_list h day caller) n → (may : IsDisposable h day n) × (denial_at h caller acts.Dispose may.found.1 ≡ None)
+pub listed_is_disposable : (h : History) (day : Date) (caller : List ℕ) (n : ℕ) → Contains (due_list h day caller) n → (may : IsDisposable h day n) × (denial_at h day caller acts.Dispose may.found.1 ≡ None)
 listed_is_disposable h day caller n listed =
     let free = listed_unrefused h day caller n listed in
     let may = disposable h day caller n free in
-    (may, (none_of (denial_at h caller acts.Dispose may.found.1) _ (sym (ap (λ (o : Option (Date × Deposit)). first_some (of_deposit o (disposal_refusals h day caller n))) may.there) ∙ free)).0)
+    (may, (none_of (denial_at h day caller acts.Dispose may.found.1) _ (sym (ap (λ (o : Option (Date × Deposit)). first_some (of_deposit o (disposal_refusals h day caller n))) may.there) ∙ free)).0)
 
 -- ---- contents
 

@@ -13,7 +13,7 @@ use Rattle.office_core.specs.declared.answer.Answer.TheVariants as answers
 use Rattle.office_core.specs.declared.refusal.Refusal.{Refusal}
 use Rattle.office_core.specs.declared.request.Request.TheVariants.{Deposit as MakeDeposit, DownloadBag, DownloadFile}
 use Rattle.office_history.specs.Lists.{item_numbered}
-use Rattle.office_history.specs.Histories.{History, Change, DefinedClass, OnCollection, Deposit, with_changes, deposit_in, deposits, deposit_numbered, hold_numbered, release_day, released_in, covers, years_in, due}
+use Rattle.office_history.specs.Histories.{History, Change, DefinedClass, OnCollection, OnClass, Deposit, with_changes, deposit_in, deposits, deposit_numbered, hold_numbered, release_day, released_in, covers, years_in, due}
 use Rattle.office_history.specs.Bags.{bag_of, valid_bag, if_valid, report_on}
 use Rattle.bag_check.specs.Validity.{Report}
 use Rattle.office_history.specs.Refusals.{refusal}
@@ -28,6 +28,10 @@ use Rattle.office_history.proofs.HistoryLemmas.{deposits_grown, deposit_stays}
 -- a hold of a collection reaches each of its deposits
 pub covers_collection : (h : History) (k n : ℕ) (day : Date) (name matter : List ℕ) (deposit : Deposit) → hold_numbered h k ≡ Some (day, record { target = OnCollection name; matter = matter }) → deposit.collection ≡ name → covers h k n deposit ≡ true
 covers_collection h k n day name matter deposit e same = rw (e, same) ((bytes_eq-Decides name name).1 refl)
+
+-- and a hold of a class each deposit of the class
+pub covers_class : (h : History) (k n : ℕ) (day : Date) (name matter : List ℕ) (deposit : Deposit) → hold_numbered h k ≡ Some (day, record { target = OnClass name; matter = matter }) → deposit.class ≡ name → covers h k n deposit ≡ true
+covers_class h k n day name matter deposit e same = rw (e, same) ((bytes_eq-Decides name name).1 refl)
 
 -- a hold that was released stays so
 pub released_stays : (h : History) (more : List Change) (k : ℕ) (day : Date) → release_day h k ≡ Some day → release_day (with_changes h more) k ≡ Some day

@@ -5,6 +5,7 @@ pub mod Accepted
 pub mod LegalLemmas
 pub mod LawLemmas
 pub mod OnceLemmas
+pub mod CoverLemmas
 pub mod AnsweredLemmas
 pub mod Examples
 pub mod PlainLemmas
@@ -14,6 +15,7 @@ pub mod Alike
 pub mod AlikeAnswers
 pub mod LegalReadings
 pub mod VerdictLemmas
+pub mod AnyDay
 pub mod DistinctLemmas
 pub mod Pictured
 pub mod DisposalFacts

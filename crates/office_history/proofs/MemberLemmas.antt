@@ -14,6 +14,16 @@ has_at [] i x e = absurd cc
 has_at (y ∷ xs) zero x e = inl (same_Some _ _ e)
 has_at (y ∷ xs) (suc i) x e = inr (has_at xs i x e)
 
+pub at_or_above : (a b : ℕ) → a ≤ b → (a ≡ b) ⊎ (a + 1 ≤ b)
+at_or_above zero zero le = inl refl
+at_or_above zero (suc b) le = inr (omega arith)
+at_or_above (suc a) zero le = absurd (omega arith)
+at_or_above (suc a) (suc b) le =
+    elim (at_or_above a b (omega arith)) [
+      | inl same ↦ inl (ap suc same)
+      | inr above ↦ inr (omega arith)
+    ]
+
 -- the numbers of a row of numbers
 range_has : (start len n : ℕ) → start ≤ n → n < start + len → Has (range_with_len start len) n
 range_has start zero n low high = absurd (omega arith)
@@ -22,16 +32,6 @@ range_has start (suc len) n low high =
       | inl same ↦ inl same
       | inr above ↦ inr (range_has (start + 1) len n above (omega arith))
     ]
-  where
-    at_or_above : (a b : ℕ) → a ≤ b → (a ≡ b) ⊎ (a + 1 ≤ b)
-    at_or_above zero zero le = inl refl
-    at_or_above zero (suc b) le = inr (omega arith)
-    at_or_above (suc a) zero le = absurd (omega arith)
-    at_or_above (suc a) (suc b) le =
-        elim (at_or_above a b (omega arith)) [
-          | inl same ↦ inl (ap suc same)
-          | inr above ↦ inr (omega arith)
-        ]
 
 -- the number of an item is one of the numbers
 pub numbered_has : {A : Type 0} (xs : List A) (n : ℕ) (x : A) → item_numbered xs n ≡ Some x → Has (numbers (length xs)) n

@@ -13,14 +13,15 @@ use Rattle.office_core.specs.declared.answer.Answer.TheVariants as answers
 use Rattle.office_core.specs.declared.rule.Decision.{Decision}
 use Rattle.office_core.specs.declared.retention.Due.{Due}
 use Rattle.office_core.specs.declared.retention.Due.TheVariants.{On, Never}
-use Rattle.office_core.specs.declared.refusal.Refusal.TheVariants.{Held}
+use Rattle.office_core.specs.declared.refusal.Refusal.TheVariants.{NoSuch, Held}
 use Rattle.office_core.specs.declared.facts.Verdict.TheVariants.{NotDue, DeniedByRule}
+use Rattle.office_core.specs.declared.refusal.Subject.TheVariants as subjects
 use Rattle.office_core.specs.Verdicts as deciding
 use Rattle.office_core.specs.declared.request.Request.TheVariants.{Deposit as MakeDeposit, Dispose}
 use Rattle.office_core.proofs.OptionLemmas.{option_map_none}
 use Rattle.office_history.specs.Lists.{item_numbered, numbers}
-use Rattle.office_history.specs.Histories.{History, Change, Deposit, with_changes, deposit_in, deposits, deposit_numbered, destruction_day, due, holds, release_day, is_live, covers, live_holds}
-use Rattle.office_history.specs.Refusals.{refusal_in, refusal, of_deposit, denial_at, gone_refusal, held_refusal, not_due_refusal}
+use Rattle.office_history.specs.Histories.{History, Change, Deposit, with_changes, deposit_in, deposits, deposit_numbered, destruction_day, due, holds, release_day, is_live, covers, live_holds, least_hold}
+use Rattle.office_history.specs.Refusals.{refusal_in, refusal, of_deposit, disposal_refusals, denial_at, gone_refusal, held_refusal, not_due_refusal}
 use Rattle.office_history.specs.Answers.{answer}
 use Rattle.office_history.specs.Runs.{IsLegal}
 use Rattle.office_history.proofs.ListLemmas.{numbered_cases, none_passes}
@@ -116,23 +117,27 @@ held_by : (ks : Option ℕ) (k : ℕ) → refusal_in (deciding.hold_verdict ks) 
 held_by None k e = absurd cc
 held_by (Some j) k e = let same : j ≡ k = cc in ap Some same
 
--- and refuses no disposal
-pub refuses_none : (h : History) (day on : Date) (caller : List ℕ) (k n : ℕ) → release_day h k ≡ Some on → refusal h day caller (Dispose n) ≡ Some (Held k) → ⊥
-refuses_none h day on caller k n dead e = by_deposit (deposit_numbered h n) e
-  where
-    by_deposit : (there : Option (Date × Deposit)) → first_some (of_deposit there (λ d. denial_at h caller acts.Dispose d ∷ gone_refusal h n ∷ held_refusal h n d ∷ not_due_refusal h day d ∷ [])) ≡ Some (Held k) → ⊥
-    by_deposit None e = absurd cc
-    by_deposit (Some found) e =
-        elim (first_is (denial_at h caller acts.Dispose found.1) _ (Held k) e) [
-          | inl a ↦ denied_is_not_held _ k a
-          | inr b ↦ elim (first_is (gone_refusal h n) _ (Held k) b) [
-            | inl a ↦ gone_is_not_held (destruction_day h n) k a
-            | inr c ↦ elim (first_is (held_refusal h n found.1) _ (Held k) c) [
-              | inl a ↦ not_among_live h k 0 n on found.1 dead (held_by (slice_get (live_holds h n found.1) 0) k a)
-              | inr d ↦ elim (first_is (not_due_refusal h day found.1) [] (Held k) d) [
-                | inl a ↦ due_is_not_held day (due h found.1) k a
-                | inr wrong ↦ absurd cc
-              ]
-            ]
+-- a disposal that is refused for a hold names the least of the live ones
+pub held_least : (h : History) (day : Date) (caller : List ℕ) (n k : ℕ) (found : Date × Deposit) → deposit_numbered h n ≡ Some found → refusal h day caller (Dispose n) ≡ Some (Held k) → least_hold h n found.1 ≡ Some k
+held_least h day caller n k found there e =
+    elim (first_is (denial_at h day caller acts.Dispose found.1) _ (Held k) (sym (ap (λ (o : Option (Date × Deposit)). first_some (of_deposit o (disposal_refusals h day caller n))) there) ∙ e)) [
+      | inl a ↦ absurd (denied_is_not_held _ k a)
+      | inr b ↦ elim (first_is (gone_refusal h n) _ (Held k) b) [
+        | inl a ↦ absurd (gone_is_not_held (destruction_day h n) k a)
+        | inr c ↦ elim (first_is (held_refusal h n found.1) _ (Held k) c) [
+          | inl a ↦ held_by (least_hold h n found.1) k a
+          | inr d ↦ elim (first_is (not_due_refusal h day found.1) [] (Held k) d) [
+            | inl a ↦ absurd (due_is_not_held day (due h found.1) k a)
+            | inr wrong ↦ absurd cc
           ]
         ]
+      ]
+    ]
+
+-- and a hold that was released refuses no disposal
+pub refuses_none : (h : History) (day on : Date) (caller : List ℕ) (k n : ℕ) → release_day h k ≡ Some on → refusal h day caller (Dispose n) ≡ Some (Held k) → ⊥
+refuses_none h day on caller k n dead e = by_deposit (deposit_numbered h n) refl
+  where
+    by_deposit : (there : Option (Date × Deposit)) → deposit_numbered h n ≡ there → ⊥
+    by_deposit None is = let wrong : Some (NoSuch subjects.Deposit) ≡ Some (Held k) = sym (ap (λ (o : Option (Date × Deposit)). first_some (of_deposit o (disposal_refusals h day caller n))) is) ∙ e in cc
+    by_deposit (Some found) is = not_among_live h k 0 n on found.1 dead (held_least h day caller n k found is e)

@@ -28,8 +28,8 @@ use Rattle.office_core.specs.declared.rule.Pattern.TheVariants as patterns
 use Rattle.office_core.specs.declared.rule.Rule.{Rule}
 use Rattle.office_rows.specs.Rows.{CallerRow, RuleRow, ClassRow, OfficeRow, DepositRow, FileRow, HoldRow, Tables}
 use Rattle.office_history.specs.Lists.{first_said, last_said, item_numbered, numbers, distinct_after, in_first_places}
-use Rattle.office_history.specs.Histories.{History, Change, Installed, DefinedClass, DefinedCollection, Deposited, PlacedHold, ReleasedHold, Destroyed, Target, OnDeposit, OnCollection, Deposit, Hold, policy, years_in, years_of, deposits, deposit_numbered, destruction_day, holds, hold_numbered, release_day}
-use Rattle.office_history.specs.Pictures.{effect_number, pattern_text, action_pattern_text, caller_row, rule_rows, years_number, years_back, class_row, class_in, class_rows, deposit_row, row_of_deposit, file_row, file_rows, held_deposit, held_collection, hold_row, row_of_hold, picture}
+use Rattle.office_history.specs.Histories.{History, Change, Installed, DefinedClass, DefinedCollection, Deposited, PlacedHold, ReleasedHold, Destroyed, Target, OnDeposit, OnCollection, OnClass, Deposit, Hold, policy, years_in, years_of, deposits, deposit_numbered, destruction_day, holds, hold_numbered, release_day}
+use Rattle.office_history.specs.Pictures.{effect_number, pattern_text, action_pattern_text, caller_row, rule_row, rule_rows, years_number, years_back, class_row, class_in, class_rows, deposit_row, row_of_deposit, file_row, file_rows, held_deposit, held_collection, held_class, hold_row, row_of_hold, picture}
 use Rattle.office_history.specs.Stocks.{files_of}
 use Rattle.office_core.specs.Policies.{IsNamed, HasNames}
 use Rattle.office_history.specs.Runs.{IsLegal}
@@ -208,15 +208,17 @@ same_files h k version e n (Some x) (Some y) a b rows kept_h kept_k =
 
 -- ---- holds
 
-target_of : Option ℤ → Option (List ℕ) → Target
-target_of (Some n) name = OnDeposit (unsigned_abs n)
-target_of None (Some name) = OnCollection name
-target_of None None = OnCollection []
+target_of : Option ℤ → Option (List ℕ) → Option (List ℕ) → Target
+target_of (Some n) collection class = OnDeposit (unsigned_abs n)
+target_of None (Some collection) class = OnCollection collection
+target_of None None (Some class) = OnClass class
+target_of None None None = OnCollection []
 
-target_told : (target : Target) → target_of (held_deposit target) (held_collection target) ≡ target
+target_told : (target : Target) → target_of (held_deposit target) (held_collection target) (held_class target) ≡ target
 unfolding target_of
 target_told (OnDeposit n) = refl
 target_told (OnCollection name) = refl
+target_told (OnClass name) = refl
 
 same_hold_row : (h k : History) (version : ℤ) → picture version h ≡ picture version k → (n : ℕ) → row_of_hold h n ≡ row_of_hold k n
 same_hold_row h k version e n =
@@ -229,7 +231,7 @@ hold_by_row h k n (Some x) None e = absurd cc
 hold_by_row h k n (Some x) (Some y) e =
     let s : hold_row h n x ≡ hold_row k n y = same_Some _ _ e in
     let day : x.0 ≡ y.0 = same_day x.0 y.0 (ap (λ (r : HoldRow). r.placed) s) in
-    let target : x.1.target ≡ y.1.target = sym (target_told x.1.target) ∙ ap (λ (r : HoldRow). target_of r.deposit r.collection) s ∙ target_told y.1.target in
+    let target : x.1.target ≡ y.1.target = sym (target_told x.1.target) ∙ ap (λ (r : HoldRow). target_of r.deposit r.collection r.class) s ∙ target_told y.1.target in
     let hold : x.1 ≡ y.1 = λ i. record { target = target i; matter = (s i).matter } in
     λ i. Some (day i, hold i)
 
@@ -288,20 +290,29 @@ action_pattern_told : (pattern : ActionPattern) → action_pattern_of (action_pa
 action_pattern_told action_patterns.Any = refl
 action_pattern_told (action_patterns.Only action) = action_told action
 
-abbrev rule_of : RuleRow → Rule
-rule_of r = record { effect = effect_of r.effect; role = pattern_of r.role; action = action_pattern_of r.action; collection = pattern_of r.collection; class = pattern_of r.class }
+-- a rule, of which the policies ask for names, is read off its row
+one_rule : (place : ℕ) (x y : Rule) → HasNames x → HasNames y → rule_row place x ≡ rule_row place y → x ≡ y
+one_rule place x y named_x named_y e =
+    let effect : x.effect ≡ y.effect = sym (effect_told x.effect) ∙ ap (λ (r : RuleRow). effect_of r.effect) e ∙ effect_told y.effect in
+    let role : x.role ≡ y.role = sym (pattern_told x.role named_x.0) ∙ ap (λ (r : RuleRow). pattern_of r.role) e ∙ pattern_told y.role named_y.0 in
+    let action : x.action ≡ y.action = sym (action_pattern_told x.action) ∙ ap (λ (r : RuleRow). action_pattern_of r.action) e ∙ action_pattern_told y.action in
+    let collection : x.collection ≡ y.collection = sym (pattern_told x.collection named_x.1) ∙ ap (λ (r : RuleRow). pattern_of r.collection) e ∙ pattern_told y.collection named_y.1 in
+    let class : x.class ≡ y.class = sym (pattern_told x.class named_x.2) ∙ ap (λ (r : RuleRow). pattern_of r.class) e ∙ pattern_told y.class named_y.2 in
+    let first : x.first ≡ y.first = same_day x.first y.first (ap (λ (r : RuleRow). r.first) e) in
+    let last : x.last ≡ y.last = same_day x.last y.last (ap (λ (r : RuleRow). r.last) e) in
+    λ i. record { effect = effect i; role = role i; action = action i; collection = collection i; class = class i; first = first i; last = last i }
 
-rules_told : (place : ℕ) (rules : List Rule) → AllByRecursion HasNames rules → map rule_of (rule_rows place rules) ≡ rules
-rules_told place [] names = refl
-rules_told place (rule ∷ rules) names = λ i.
-    record {
-      effect = effect_told rule.effect i;
-      role = pattern_told rule.role names.0.0 i;
-      action = action_pattern_told rule.action i;
-      collection = pattern_told rule.collection names.0.1 i;
-      class = pattern_told rule.class names.0.2 i;
-    }
-    ∷ rules_told (place + 1) rules names.1 i
+-- and so are the rules
+same_rules : (place : ℕ) (xs ys : List Rule) → AllByRecursion HasNames xs → AllByRecursion HasNames ys → rule_rows place xs ≡ rule_rows place ys → xs ≡ ys
+same_rules place [] [] named_xs named_ys e = refl
+same_rules place [] (y ∷ ys) named_xs named_ys e = absurd cc
+same_rules place (x ∷ xs) [] named_xs named_ys e = absurd cc
+same_rules place (x ∷ xs) (y ∷ ys) named_xs named_ys e =
+    let one : rule_row place x ≡ rule_row place y = cc in
+    let more : rule_rows (place + 1) xs ≡ rule_rows (place + 1) ys = cc in
+    let first : x ≡ y = one_rule place x y named_xs.0 named_ys.0 one in
+    let rest : xs ≡ ys = same_rules (place + 1) xs ys named_xs.1 named_ys.1 more in
+    λ i. first i ∷ rest i
 
 abbrev caller_of : CallerRow → Caller
 caller_of r = record { name = r.name; role = r.role }
@@ -310,15 +321,10 @@ callers_told : (callers : List Caller) → map caller_of (map caller_row callers
 callers_told [] = refl
 callers_told (caller ∷ callers) = ap (λ cs. caller ∷ cs) (callers_told callers)
 
-policy_told : (h : History) → IsLegal h → (version : ℤ) → (map caller_of (picture version h).callers ≡ (policy h).callers) × (map rule_of (picture version h).rules ≡ (policy h).rules)
-policy_told h legal version = (callers_told (policy h).callers, rules_told 1 (policy h).rules (legal_policy h legal).rules_ask_for_names)
-
 same_policy : (h k : History) (version : ℤ) → IsLegal h → IsLegal k → picture version h ≡ picture version k → policy h ≡ policy k
 same_policy h k version legal_h legal_k e =
-    let a = policy_told h legal_h version in
-    let b = policy_told k legal_k version in
-    let callers : (policy h).callers ≡ (policy k).callers = sym a.0 ∙ ap (λ (t : Tables). map caller_of t.callers) e ∙ b.0 in
-    let rules : (policy h).rules ≡ (policy k).rules = sym a.1 ∙ ap (λ (t : Tables). map rule_of t.rules) e ∙ b.1 in
+    let callers : (policy h).callers ≡ (policy k).callers = sym (callers_told (policy h).callers) ∙ ap (λ (t : Tables). map caller_of t.callers) e ∙ callers_told (policy k).callers in
+    let rules : (policy h).rules ≡ (policy k).rules = same_rules 1 (policy h).rules (policy k).rules (legal_policy h legal_h).rules_ask_for_names (legal_policy k legal_k).rules_ask_for_names (ap (λ (t : Tables). t.rules) e) in
     λ i. record { callers = callers i; rules = rules i }
 
 -- ---- classes

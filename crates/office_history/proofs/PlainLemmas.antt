@@ -171,17 +171,17 @@ one_only None = refl
 one_only (Some x) = refl
 
 pub place_stands : (h : History) (day : Date) (caller collection class accession : List ℕ) (closed : Date) (bag : Bor (List ℕ)) (x : Refusal) (first second : List ℕ) (r : Option Refusal)
-    → first ≡ collection → second ≡ class → r ≡ first_some (place_refusals h caller first second) → r ≡ Some x
+    → first ≡ collection → second ≡ class → r ≡ first_some (place_refusals h day caller first second) → r ≡ Some x
     → Some x ≡ refusal h day caller (requests.Deposit collection class accession closed bag)
 place_stands h day caller collection class accession closed bag x first second r a b is e =
-    let same : first_some (place_refusals h caller first second) ≡ first_some (place_refusals h caller collection class) = ap (λ (c : List ℕ). first_some (place_refusals h caller c second)) a ∙ ap (λ (c : List ℕ). first_some (place_refusals h caller collection c)) b in
-    sym (first_in_front (place_refusals h caller collection class) (bag_refusals h day accession closed bag.now) x (sym same ∙ sym is ∙ e))
+    let same : first_some (place_refusals h day caller first second) ≡ first_some (place_refusals h day caller collection class) = ap (λ (c : List ℕ). first_some (place_refusals h day caller c second)) a ∙ ap (λ (c : List ℕ). first_some (place_refusals h day caller collection c)) b in
+    sym (first_in_front (place_refusals h day caller collection class) (bag_refusals h day accession closed bag.now) x (sym same ∙ sym is ∙ e))
 
 pub place_passes : (h : History) (day : Date) (caller collection class accession : List ℕ) (closed : Date) (bag : Bor (List ℕ)) (first second third : List ℕ) (p : Option Refusal) (r : Result (Option Refusal) AllocError)
-    → first ≡ collection → second ≡ class → third ≡ accession → p ≡ first_some (place_refusals h caller first second) → p ≡ None
+    → first ≡ collection → second ≡ class → third ≡ accession → p ≡ first_some (place_refusals h day caller first second) → p ≡ None
     → IfOk r (λ found. found ≡ first_some (bag_refusals h day third closed bag.now))
     → IfOk r (λ found. found ≡ refusal h day caller (requests.Deposit collection class accession closed bag))
 place_passes h day caller collection class accession closed bag first second third p r a b t is e rest =
-    let same : first_some (place_refusals h caller first second) ≡ first_some (place_refusals h caller collection class) = ap (λ (c : List ℕ). first_some (place_refusals h caller c second)) a ∙ ap (λ (c : List ℕ). first_some (place_refusals h caller collection c)) b in
+    let same : first_some (place_refusals h day caller first second) ≡ first_some (place_refusals h day caller collection class) = ap (λ (c : List ℕ). first_some (place_refusals h day caller c second)) a ∙ ap (λ (c : List ℕ). first_some (place_refusals h day caller collection c)) b in
     let last : first_some (bag_refusals h day third closed bag.now) ≡ first_some (bag_refusals h day accession closed bag.now) = ap (λ (c : List ℕ). first_some (bag_refusals h day c closed bag.now)) t in
-    IfOk-weaker r _ _ (λ found eq. eq ∙ last ∙ sym (first_behind (place_refusals h caller collection class) (bag_refusals h day accession closed bag.now) (sym same ∙ sym is ∙ e))) rest
+    IfOk-weaker r _ _ (λ found eq. eq ∙ last ∙ sym (first_behind (place_refusals h day caller collection class) (bag_refusals h day accession closed bag.now) (sym same ∙ sym is ∙ e))) rest

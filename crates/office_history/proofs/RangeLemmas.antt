@@ -14,7 +14,7 @@ use Rattle.office_core.specs.Days.{IsDay}
 use Rattle.office_core.specs.Names.{IsName}
 use Rattle.office_core.specs.Requests.{IsYears}
 use Rattle.office_history.specs.Lists.{first_said, last_said}
-use Rattle.office_history.specs.Histories.{History, Change, Installed, DefinedClass, DefinedCollection, Deposited, PlacedHold, ReleasedHold, Destroyed, Target, OnDeposit, OnCollection, Deposit, Hold, with_changes, years_in, years_of, has_class, collection_in, has_collection, deposit_in, deposits, deposit_numbered, destroyed_in, destruction_day, hold_in, holds, released_in, release_day}
+use Rattle.office_history.specs.Histories.{History, Change, Installed, DefinedClass, DefinedCollection, Deposited, PlacedHold, ReleasedHold, Destroyed, Target, OnDeposit, OnCollection, OnClass, Deposit, Hold, with_changes, years_in, years_of, has_class, collection_in, has_collection, deposit_in, deposits, deposit_numbered, destroyed_in, destruction_day, hold_in, holds, released_in, release_day}
 use Rattle.office_history.specs.Acceptance.{IsChange, IsDeposit, IsHold, IsThere}
 use Rattle.office_history.specs.Runs.{IsLegal, IsWithin}
 use Rattle.office_rows.proofs.Order.{all_append, all_weaker}
@@ -161,6 +161,7 @@ collection_stays h more name e =
 
 there_stays : (h : History) (more : List Change) (target : Target) → IsThere h target → IsThere (with_changes h more) target
 there_stays h more (OnCollection name) e = collection_stays h more name e
+there_stays h more (OnClass name) e = class_stays h more name e
 there_stays h more (OnDeposit n) e = by (deposit_numbered h n) refl e
   where
     by : (o : Option (Date × Deposit)) → deposit_numbered h n ≡ o → IsSome o → IsSome (deposit_numbered (with_changes h more) n)

@@ -24,7 +24,7 @@ use Rattle.office_core.specs.Retention.{IsDue, IsDueNumber, due_number}
 use Rattle.office_core.specs.RetentionReading.{due_of}
 use Rattle.office_core.specs.declared.retention.Due.{Due}
 use Rattle.office_core.specs.declared.retention.Due.TheVariants.{On, Never}
-use Rattle.office_core.specs.Policies.{IsNamed, HasNames, IsNamedCaller}
+use Rattle.office_core.specs.Policies.{IsNamed, HasNames, HasDays, IsNamedCaller}
 use Rattle.office_core.specs.declared.caller.Caller.{Caller}
 use Rattle.office_core.specs.declared.rule.ActionPattern.{ActionPattern}
 use Rattle.office_core.specs.declared.rule.ActionPattern.TheVariants as action_patterns
@@ -35,9 +35,9 @@ use Rattle.office_core.specs.declared.rule.Pattern.TheVariants as patterns
 use Rattle.office_core.specs.declared.rule.Rule.{Rule}
 use Rattle.office_rows.specs.Rows.{RuleRow, ClassRow, DepositRow, DueRow, HoldRow}
 use Rattle.office_history.specs.Lists.{item_numbered, numbers, in_first_places}
-use Rattle.office_history.specs.Histories.{History, Target, OnDeposit, OnCollection, Deposit, policy, years_of, has_class, collection_in, has_collection, deposits, deposit_numbered, destruction_day, due, holds, hold_numbered, release_day, is_live, covers, live_holds}
+use Rattle.office_history.specs.Histories.{History, Target, OnDeposit, OnCollection, OnClass, Deposit, policy, years_of, has_class, collection_in, has_collection, deposits, deposit_numbered, destruction_day, due, holds, hold_numbered, release_day, is_live, covers, live_holds}
 use Rattle.office_history.specs.Acceptance.{IsThere}
-use Rattle.office_history.specs.Pictures.{office_row, effect_number, pattern_text, action_pattern_text, caller_row, rule_rows, years_number, class_row, class_in, row_of_class, class_rows, collection_rows, deposit_row, deposit_rows, row_of_deposit, due_row, row_of_due, file_row, held_deposit, held_collection, hold_row, row_of_hold, picture}
+use Rattle.office_history.specs.Pictures.{office_row, effect_number, pattern_text, action_pattern_text, caller_row, rule_rows, years_number, class_row, class_in, row_of_class, class_rows, collection_rows, deposit_row, deposit_rows, row_of_deposit, due_row, row_of_due, file_row, held_deposit, held_collection, held_class, hold_row, row_of_hold, picture}
 use Rattle.office_history.specs.RowRanges.{AreNumbered, IsPatternText, IsActionText, IsOneTarget, IsCallerRow, IsRuleRow, IsClassRow, IsDepositRow, IsDueRow, IsFileRow, IsHoldRow, AreInRange}
 use Rattle.office_history.specs.Runs.{IsLegal}
 use Rattle.office_history.specs.Stocks.{files_of}
@@ -120,17 +120,20 @@ effect_ranged : (effect : Effect) → (effect_number effect ≡ pos 0) ⊎ (effe
 effect_ranged Allow = inr refl
 effect_ranged Deny = inl refl
 
-ranged_rules : (place : ℕ) (rules : List Rule) → AllByRecursion HasNames rules → AllByRecursion IsRuleRow (rule_rows place rules)
-ranged_rules place [] all = tt
-ranged_rules place (rule ∷ rules) all = (
+ranged_rules : (place : ℕ) (rules : List Rule) → AllByRecursion HasNames rules → AllByRecursion HasDays rules → AllByRecursion IsRuleRow (rule_rows place rules)
+ranged_rules place [] all days = tt
+ranged_rules place (rule ∷ rules) all days = (
   record {
     effect = effect_ranged rule.effect;
     role = pattern_ranged rule.role all.0.0;
     action = action_ranged rule.action;
     collection = pattern_ranged rule.collection all.0.1;
     class = pattern_ranged rule.class all.0.2;
+    first = day_number rule.first days.0.0;
+    last = day_number rule.last days.0.1;
+    in_turn = days.0.2;
   },
-  ranged_rules (place + 1) rules all.1,
+  ranged_rules (place + 1) rules all.1 days.1,
 )
 
 pub count_of_rules : (place : ℕ) (rules : List Rule) → length (rule_rows place rules) ≡ length rules
@@ -259,13 +262,14 @@ due_row_ranged h version legal n row e =
 
 -- ---- holds
 
-target_ranged : (h : History) (version : ℤ) (target : Target) → IsThere h target → IsOneTarget (picture version h) (held_deposit target) (held_collection target)
+target_ranged : (h : History) (version : ℤ) (target : Target) → IsThere h target → IsOneTarget (picture version h) (held_deposit target) (held_collection target) (held_class target)
 target_ranged h version (OnDeposit n) there = by (deposit_numbered h n) refl there
   where
     by : (o : Option (Date × Deposit)) → deposit_numbered h n ≡ o → IsSome o → (m : ℕ) × (pos n ≡ pos m) × IsSome (item_numbered (deposit_rows h) m)
     by None is there = absurd cc
     by (Some found) is there = (n, refl, ap is_some (row_there h n found is))
 target_ranged h version (OnCollection name) there = collection_there h name there
+target_ranged h version (OnClass name) there = class_there h name there
 
 hold_ranged : (h : History) (version : ℤ) → IsLegal h → (k : ℕ) (row : HoldRow) → row_of_hold h k ≡ Some row → IsHoldRow (picture version h) row
 hold_ranged h version legal k row e =
@@ -299,7 +303,7 @@ rows_in_range reads judges h version legal =
       few_callers = rw (length-map (policy h).callers caller_row) rules.few_callers;
       few_rules = rw (count_of_rules 1 (policy h).rules) rules.few_rules;
       callers = ranged_callers (policy h).callers rules.callers_are_names;
-      rules = ranged_rules 1 (policy h).rules rules.rules_ask_for_names;
+      rules = ranged_rules 1 (policy h).rules rules.rules_ask_for_names rules.rules_have_days;
       places = numbered_rules 1 (policy h).rules;
       classes = all_told IsClassRow (row_of_class h) (class_ranged h legal) (in_first_places (filter_map class_in h.changes));
       collections = all_distinct IsName [] (filter_map collection_in h.changes) (named_collections h legal);

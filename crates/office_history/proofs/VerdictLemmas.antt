@@ -47,23 +47,23 @@ by_hold None day (On date) = by_day (int_lt (epoch_day day) (epoch_day date))
     by_day false = refl
 
 pub asked_verdict : (h : History) (day : Date) (caller : List ℕ) (action : Action) (n : ℕ) (deposit : Deposit)
-    → first_some (asked_refusals h day caller action n deposit) ≡ refusal_of (verdict_of (facts_of h caller action n deposit) day)
+    → first_some (asked_refusals h day caller action n deposit) ≡ refusal_of (verdict_of (facts_of h day caller action n deposit) day)
 asked_verdict h day caller acts.Dispose n deposit =
-    by_rules (deciding_rule_at h caller acts.Dispose deposit) (destruction_day h n) (deciding.hold_verdict (least_hold h n deposit) ∷ deciding.due_verdict day (due h deposit) ∷ []) (refusal_in (deciding.hold_verdict (least_hold h n deposit)) ∷ refusal_in (deciding.due_verdict day (due h deposit)) ∷ [])
+    by_rules (deciding_rule_at h day caller acts.Dispose deposit) (destruction_day h n) (deciding.hold_verdict (least_hold h n deposit) ∷ deciding.due_verdict day (due h deposit) ∷ []) (refusal_in (deciding.hold_verdict (least_hold h n deposit)) ∷ refusal_in (deciding.due_verdict day (due h deposit)) ∷ [])
     (by_hold (least_hold h n deposit) day (due h deposit))
-asked_verdict h day caller acts.Class n deposit = by_rules (deciding_rule_at h caller acts.Class deposit) (destruction_day h n) (None ∷ None ∷ []) [] refl
-asked_verdict h day caller acts.Collection n deposit = by_rules (deciding_rule_at h caller acts.Collection deposit) (destruction_day h n) (None ∷ None ∷ []) [] refl
-asked_verdict h day caller acts.Deposit n deposit = by_rules (deciding_rule_at h caller acts.Deposit deposit) (destruction_day h n) (None ∷ None ∷ []) [] refl
-asked_verdict h day caller acts.List n deposit = by_rules (deciding_rule_at h caller acts.List deposit) (destruction_day h n) (None ∷ None ∷ []) [] refl
-asked_verdict h day caller acts.Record n deposit = by_rules (deciding_rule_at h caller acts.Record deposit) (destruction_day h n) (None ∷ None ∷ []) [] refl
-asked_verdict h day caller acts.Holds n deposit = by_rules (deciding_rule_at h caller acts.Holds deposit) (destruction_day h n) (None ∷ None ∷ []) [] refl
-asked_verdict h day caller acts.Download n deposit = by_rules (deciding_rule_at h caller acts.Download deposit) (destruction_day h n) (None ∷ None ∷ []) [] refl
-asked_verdict h day caller acts.Audit n deposit = by_rules (deciding_rule_at h caller acts.Audit deposit) (destruction_day h n) (None ∷ None ∷ []) [] refl
-asked_verdict h day caller acts.Hold n deposit = by_rules (deciding_rule_at h caller acts.Hold deposit) (destruction_day h n) (None ∷ None ∷ []) [] refl
-asked_verdict h day caller acts.Release n deposit = by_rules (deciding_rule_at h caller acts.Release deposit) (destruction_day h n) (None ∷ None ∷ []) [] refl
+asked_verdict h day caller acts.Class n deposit = by_rules (deciding_rule_at h day caller acts.Class deposit) (destruction_day h n) (None ∷ None ∷ []) [] refl
+asked_verdict h day caller acts.Collection n deposit = by_rules (deciding_rule_at h day caller acts.Collection deposit) (destruction_day h n) (None ∷ None ∷ []) [] refl
+asked_verdict h day caller acts.Deposit n deposit = by_rules (deciding_rule_at h day caller acts.Deposit deposit) (destruction_day h n) (None ∷ None ∷ []) [] refl
+asked_verdict h day caller acts.List n deposit = by_rules (deciding_rule_at h day caller acts.List deposit) (destruction_day h n) (None ∷ None ∷ []) [] refl
+asked_verdict h day caller acts.Record n deposit = by_rules (deciding_rule_at h day caller acts.Record deposit) (destruction_day h n) (None ∷ None ∷ []) [] refl
+asked_verdict h day caller acts.Holds n deposit = by_rules (deciding_rule_at h day caller acts.Holds deposit) (destruction_day h n) (None ∷ None ∷ []) [] refl
+asked_verdict h day caller acts.Download n deposit = by_rules (deciding_rule_at h day caller acts.Download deposit) (destruction_day h n) (None ∷ None ∷ []) [] refl
+asked_verdict h day caller acts.Audit n deposit = by_rules (deciding_rule_at h day caller acts.Audit deposit) (destruction_day h n) (None ∷ None ∷ []) [] refl
+asked_verdict h day caller acts.Hold n deposit = by_rules (deciding_rule_at h day caller acts.Hold deposit) (destruction_day h n) (None ∷ None ∷ []) [] refl
+asked_verdict h day caller acts.Release n deposit = by_rules (deciding_rule_at h day caller acts.Release deposit) (destruction_day h n) (None ∷ None ∷ []) [] refl
 
 pub disposal_verdict : (h : History) (day : Date) (caller : List ℕ) (n : ℕ) (found : Date × Deposit) → deposit_numbered h n ≡ Some found
-    → refusal h day caller (Dispose n) ≡ refusal_of (verdict_of (facts_of h caller acts.Dispose n found.1) day)
+    → refusal h day caller (Dispose n) ≡ refusal_of (verdict_of (facts_of h day caller acts.Dispose n found.1) day)
 disposal_verdict h day caller n found there =
     ap (λ (x : Option (Date × Deposit)). first_some (of_deposit x (disposal_refusals h day caller n))) there
     ∙ asked_verdict h day caller acts.Dispose n found.1

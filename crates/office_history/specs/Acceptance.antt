@@ -7,7 +7,7 @@ use Rattle.office_core.specs.Names.{IsName, IsAccession, IsMatter}
 use Rattle.office_core.specs.Policies.{IsPolicy}
 use Rattle.office_core.specs.Requests.{IsYears}
 use Rattle.office_core.specs.declared.retention.Due.TheVariants.{On}
-use Rattle.office_history.specs.Histories.{History, Change, Installed, DefinedClass, DefinedCollection, Deposited, PlacedHold, ReleasedHold, Destroyed, Deposit, Hold, Target, OnDeposit, OnCollection, has_class, has_collection, deposits, deposit_numbered, accession_of, destruction_day, due, holds, hold_numbered, release_day, live_holds}
+use Rattle.office_history.specs.Histories.{History, Change, Installed, DefinedClass, DefinedCollection, Deposited, PlacedHold, ReleasedHold, Destroyed, Deposit, Hold, Target, OnDeposit, OnCollection, OnClass, has_class, has_collection, deposits, deposit_numbered, accession_of, destruction_day, due, holds, hold_numbered, release_day, live_holds}
 use Rattle.office_history.specs.Bags.{bag_of}
 
 -- ---- what a change says
@@ -22,6 +22,7 @@ pub record IsDeposit (deposit : Deposit) : Type 0 where
 abbrev pub IsTarget : Target → Type 0
 IsTarget (OnDeposit n) = Unit {0}
 IsTarget (OnCollection name) = IsName name
+IsTarget (OnClass name) = IsName name
 
 pub record IsHold (hold : Hold) : Type 0 where
   pub target : IsTarget hold.target
@@ -50,15 +51,17 @@ pub record IsDepositable (h : History) (day : Date) (deposit : Deposit) : Type 0
   pub read : bag_of form ≡ Ok deposit.bag
   pub room : length (deposits h) < h.max_deposits
 
--- what a hold names: a deposit that is there, or a collection
+-- what a hold names: a deposit, a collection or a class that is there
 abbrev pub IsThere : History → Target → Type 0
 IsThere h (OnDeposit n) = IsSome (deposit_numbered h n)
 IsThere h (OnCollection name) = has_collection h name ≡ true
+IsThere h (OnClass name) = has_class h name ≡ true
 
--- a deposit that wasn't destroyed; a collection always
+-- a deposit that wasn't destroyed; a collection and a class always
 abbrev pub IsNotGone : History → Target → Type 0
 IsNotGone h (OnDeposit n) = destruction_day h n ≡ None
 IsNotGone h (OnCollection name) = Unit {0}
+IsNotGone h (OnClass name) = Unit {0}
 
 -- what the hold names is there, and wasn't destroyed; and the office takes one hold more
 pub record IsPlaceable (h : History) (hold : Hold) : Type 0 where

@@ -18,8 +18,8 @@ use Rattle.office_core.specs.declared.refusal.Subject.TheVariants as subjects
 use Rattle.office_core.specs.declared.refusal.Refusal.{Refusal}
 use Rattle.office_core.specs.declared.refusal.Refusal.TheVariants.{NoSuch, NoFile}
 use Rattle.office_core.specs.declared.request.Request.{Request}
-use Rattle.office_core.specs.declared.request.Request.TheVariants.{DefineClass, DefineCollection, Deposit as MakeDeposit, List as ListDeposits, Record, Holds, DownloadBag, DownloadFile, Audit, HoldDeposit, HoldCollection, Release, Dispose, DueList}
-use Rattle.office_history.specs.Histories.{History, Change, DefinedClass, DefinedCollection, Deposited, PlacedHold, ReleasedHold, Destroyed, Deposit, Hold, Target, OnDeposit, OnCollection, with_changes, has_collection, deposits, deposit_numbered, kept_numbers, due, holds, hold_numbered, live_holds}
+use Rattle.office_core.specs.declared.request.Request.TheVariants.{DefineClass, DefineCollection, Deposit as MakeDeposit, List as ListDeposits, Record, Holds, DownloadBag, DownloadFile, Audit, HoldDeposit, HoldCollection, HoldClass, Release, Dispose, DueList}
+use Rattle.office_history.specs.Histories.{History, Change, DefinedClass, DefinedCollection, Deposited, PlacedHold, ReleasedHold, Destroyed, Deposit, Hold, Target, OnDeposit, OnCollection, OnClass, with_changes, has_collection, deposits, deposit_numbered, kept_numbers, due, holds, hold_numbered, live_holds}
 use Rattle.office_history.specs.Bags.{bag_of, report_on}
 use Rattle.office_history.specs.Refusals.{denial_at, refusal}
 
@@ -49,18 +49,18 @@ abbrev pub is_asked : Option (List ℕ) → List ℕ → Bool
 is_asked None name = true
 is_asked (Some only) name = bytes_eq only name
 
--- a deposit that the caller may list
-abbrev pub is_listed : History → List ℕ → Option (List ℕ) → Option (List ℕ) → Deposit → Bool
-is_listed h caller collection class deposit =
-    is_asked collection deposit.collection && is_asked class deposit.class && is_none (denial_at h caller acts.List deposit)
+-- a deposit that the caller may list on that day
+abbrev pub is_listed : History → Date → List ℕ → Option (List ℕ) → Option (List ℕ) → Deposit → Bool
+is_listed h day caller collection class deposit =
+    is_asked collection deposit.collection && is_asked class deposit.class && is_none (denial_at h day caller acts.List deposit)
 
-abbrev pub listed_record : History → List ℕ → Option (List ℕ) → Option (List ℕ) → ℕ → Option DepositRecord
-listed_record h caller collection class n =
-    of_number h (λ found. if is_listed h caller collection class found.1 then Some (record_of h n found) else None) n
+abbrev pub listed_record : History → Date → List ℕ → Option (List ℕ) → Option (List ℕ) → ℕ → Option DepositRecord
+listed_record h day caller collection class n =
+    of_number h (λ found. if is_listed h day caller collection class found.1 then Some (record_of h n found) else None) n
 
--- the kept deposits, of the collection and class asked for, that the caller may list, ascending
-abbrev pub listed_records : History → List ℕ → Option (List ℕ) → Option (List ℕ) → List DepositRecord
-listed_records h caller collection class = filter_map (listed_record h caller collection class) (kept_numbers h)
+-- the kept deposits, of the collection and class asked for, that the caller may list on that day, ascending
+abbrev pub listed_records : History → Date → List ℕ → Option (List ℕ) → Option (List ℕ) → List DepositRecord
+listed_records h day caller collection class = filter_map (listed_record h day caller collection class) (kept_numbers h)
 
 -- the deposits that the caller may destroy on that day, ascending: those whose disposal would be accepted
 abbrev pub due_list : History → Date → List ℕ → List ℕ
@@ -69,6 +69,7 @@ due_list h day caller = filter (λ n. is_none (refusal h day caller (Dispose n))
 abbrev pub scope_of : Target → Scope
 scope_of (OnDeposit n) = scopes.Deposit
 scope_of (OnCollection name) = scopes.Collection
+scope_of (OnClass name) = scopes.Class
 
 abbrev pub live_hold : ℕ → Date × Hold → LiveHold
 live_hold k found = record { number = k; matter = found.1.matter; on = scope_of found.1.target; placed = found.0 }
@@ -101,7 +102,7 @@ abbrev pub allowed_answer : History → Date → List ℕ → Request → Answer
 allowed_answer h day caller (DefineClass name years) = answers.Class name years
 allowed_answer h day caller (DefineCollection name) = answers.Collection name
 allowed_answer h day caller (MakeDeposit collection class accession closed bag) = answers.Deposited (length (deposits h) + 1)
-allowed_answer h day caller (ListDeposits collection class) = answers.List (listed_records h caller collection class)
+allowed_answer h day caller (ListDeposits collection class) = answers.List (listed_records h day caller collection class)
 allowed_answer h day caller (Record n) = told_of (deposit_numbered h n) (λ found. answers.Record (record_of h n found))
 allowed_answer h day caller (Holds n) = told_of (deposit_numbered h n) (λ found. answers.Holds (told_holds h n found.1))
 allowed_answer h day caller (DownloadBag n) = told_of (deposit_numbered h n) (λ found. answers.Bag (set_text found.1.bag))
@@ -109,6 +110,7 @@ allowed_answer h day caller (DownloadFile n path) = told_of (deposit_numbered h 
 allowed_answer h day caller (Audit n) = told_of (deposit_numbered h n) (λ found. answers.Audit n (audit_report (report_on found.1.bag)))
 allowed_answer h day caller (HoldDeposit n matter) = answers.HoldPlaced (length (holds h) + 1)
 allowed_answer h day caller (HoldCollection name matter) = answers.HoldPlaced (length (holds h) + 1)
+allowed_answer h day caller (HoldClass name matter) = answers.HoldPlaced (length (holds h) + 1)
 allowed_answer h day caller (Release k) = answers.HoldReleased k day
 allowed_answer h day caller (Dispose n) = answers.Destroyed n day
 allowed_answer h day caller DueList = answers.DueList day (due_list h day caller)
@@ -126,6 +128,7 @@ allowed_change h day (DefineCollection name) = if has_collection h name then [] 
 allowed_change h day (MakeDeposit collection class accession closed bag) = deposit_change day collection class accession closed (bag_of bag.now)
 allowed_change h day (HoldDeposit n matter) = PlacedHold day (record { target = OnDeposit n; matter = matter }) ∷ []
 allowed_change h day (HoldCollection name matter) = PlacedHold day (record { target = OnCollection name; matter = matter }) ∷ []
+allowed_change h day (HoldClass name matter) = PlacedHold day (record { target = OnClass name; matter = matter }) ∷ []
 allowed_change h day (Release k) = ReleasedHold day k ∷ []
 allowed_change h day (Dispose n) = Destroyed day n ∷ []
 allowed_change h day _ = []
@@ -150,3 +153,13 @@ change h day caller request = changes_unless (refusal h day caller request) (all
 
 abbrev pub after : History → Date → List ℕ → Request → History
 after h day caller request = with_changes h (change h day caller request)
+
+-- A request that asks for what the office keeps, and changes nothing. A due list asks for what may be done on its day.
+abbrev pub OnlyReads : Request → Type 0
+OnlyReads (ListDeposits collection class) = Unit {0}
+OnlyReads (Record n) = Unit {0}
+OnlyReads (Holds n) = Unit {0}
+OnlyReads (DownloadBag n) = Unit {0}
+OnlyReads (DownloadFile n path) = Unit {0}
+OnlyReads (Audit n) = Unit {0}
+OnlyReads _ = ⊥

@@ -17,6 +17,7 @@ use Rattle.office_history.specs.Lists.{first_said, last_said, item_numbered, num
 pub data Target : Type 0 where
   OnDeposit : ℕ → Target
   OnCollection : List ℕ → Target
+  OnClass : List ℕ → Target
 
 pub record Deposit : Type 0 where
   pub collection : List ℕ
@@ -143,10 +144,12 @@ release_day h k = first_said (released_in k) h.changes
 abbrev pub is_live : History → ℕ → Bool
 is_live h k = is_none (release_day h k)
 
--- a hold on a deposit covers it, and one on a collection each deposit of the collection, whichever came first
+-- a hold on a deposit covers it, one on a collection each deposit of the collection, and one on a class each deposit of
+-- the class, whichever came first
 abbrev pub reaches : Target → ℕ → Deposit → Bool
 reaches (OnDeposit number) n deposit = number == n
 reaches (OnCollection name) n deposit = bytes_eq name deposit.collection
+reaches (OnClass name) n deposit = bytes_eq name deposit.class
 
 abbrev pub covers : History → ℕ → ℕ → Deposit → Bool
 covers h k n deposit = option_map_or (λ hold. reaches hold.1.target n deposit) (hold_numbered h k) false

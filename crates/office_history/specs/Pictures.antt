@@ -18,7 +18,7 @@ pub use Rattle.office_core.specs.Retention.{due_number}
 use Rattle.office_core.specs.declared.caller.Caller.{Caller}
 use Rattle.office_rows.specs.Rows.{OfficeRow, CallerRow, RuleRow, ClassRow, DepositRow, DueRow, FileRow, HoldRow, Tables}
 use Rattle.office_history.specs.Lists.{numbers, in_first_places}
-use Rattle.office_history.specs.Histories.{History, Change, DefinedClass, Deposit, Hold, Target, OnDeposit, OnCollection, policy, years_of, collection_in, deposits, deposit_numbered, destruction_day, due, live_holds, kept_numbers, holds, hold_numbered, release_day}
+use Rattle.office_history.specs.Histories.{History, Change, DefinedClass, Deposit, Hold, Target, OnDeposit, OnCollection, OnClass, policy, years_of, collection_in, deposits, deposit_numbered, destruction_day, due, live_holds, kept_numbers, holds, hold_numbered, release_day}
 use Rattle.office_history.specs.Stocks.{files_of}
 
 -- ---- one row each
@@ -49,6 +49,8 @@ rule_row place rule = record {
   action = action_pattern_text rule.action;
   collection = pattern_text rule.collection;
   class = pattern_text rule.class;
+  first = epoch_day rule.first;
+  last = epoch_day rule.last;
 }
 
 -- from that place on
@@ -95,10 +97,17 @@ file_row n file = record { deposit = pos n; path = file.path; content = file.con
 abbrev pub held_deposit : Target → Option ℤ
 held_deposit (OnDeposit n) = Some (pos n)
 held_deposit (OnCollection name) = None
+held_deposit (OnClass name) = None
 
 abbrev pub held_collection : Target → Option (List ℕ)
 held_collection (OnDeposit n) = None
 held_collection (OnCollection name) = Some name
+held_collection (OnClass name) = None
+
+abbrev pub held_class : Target → Option (List ℕ)
+held_class (OnDeposit n) = None
+held_class (OnCollection name) = None
+held_class (OnClass name) = Some name
 
 -- by the day on which it was released
 abbrev pub row_by_release : ℕ → Option Date → Date × Hold → HoldRow
@@ -106,6 +115,7 @@ row_by_release k day found = record {
   number = pos k;
   deposit = held_deposit found.1.target;
   collection = held_collection found.1.target;
+  class = held_class found.1.target;
   matter = found.1.matter;
   placed = epoch_day found.0;
   released = option_map epoch_day day;

@@ -20,8 +20,8 @@ use Rattle.office_core.specs.declared.refusal.Subject.TheVariants as subjects
 use Rattle.office_core.specs.declared.refusal.Refusal.{Refusal}
 use Rattle.office_core.specs.declared.refusal.Refusal.TheVariants.{NoSuch, DeniedByRule, DeniedByDefault, Gone, Taken, ClosedAhead, BadBag, Held, NotDue, Released, Full, NoFile}
 use Rattle.office_core.specs.declared.request.Request.{Request}
-use Rattle.office_core.specs.declared.request.Request.TheVariants.{DefineClass, DefineCollection, Deposit as MakeDeposit, List as ListDeposits, Record, Holds, DownloadBag, DownloadFile, Audit, HoldDeposit, HoldCollection, Release, Dispose, DueList}
-use Rattle.office_history.specs.Histories.{History, Deposit, Hold, Target, OnDeposit, OnCollection, policy, has_class, has_collection, deposits, deposit_numbered, accession_of, destruction_day, due, holds, hold_numbered, release_day, least_hold}
+use Rattle.office_core.specs.declared.request.Request.TheVariants.{DefineClass, DefineCollection, Deposit as MakeDeposit, List as ListDeposits, Record, Holds, DownloadBag, DownloadFile, Audit, HoldDeposit, HoldCollection, HoldClass, Release, Dispose, DueList}
+use Rattle.office_history.specs.Histories.{History, Deposit, Hold, Target, OnDeposit, OnCollection, OnClass, policy, has_class, has_collection, deposits, deposit_numbered, accession_of, destruction_day, due, holds, hold_numbered, release_day, least_hold}
 use Rattle.office_history.specs.Bags.{bag_of}
 
 -- ---- the verdicts of `office_core`, as refusals
@@ -40,19 +40,19 @@ abbrev pub refusal_in : Option Verdict → Option Refusal
 refusal_in verdict = option_and_then refusal_of verdict
 
 -- the rule that decides, by the policy that was installed last
-abbrev pub deciding_rule : History → List ℕ → Action → Option (List ℕ) → Option (List ℕ) → Option Decision
-deciding_rule h caller action collection class =
-    decision_of (policy h).rules (record { role = role_of (policy h) caller; action = action; collection = collection; class = class })
+abbrev pub deciding_rule : History → Date → List ℕ → Action → Option (List ℕ) → Option (List ℕ) → Option Decision
+deciding_rule h day caller action collection class =
+    decision_of (policy h).rules (record { role = role_of (policy h) caller; action = action; collection = collection; class = class; day = day })
 
 -- asked of a deposit: of its collection and its class
-abbrev pub deciding_rule_at : History → List ℕ → Action → Deposit → Option Decision
-deciding_rule_at h caller action deposit = deciding_rule h caller action (Some deposit.collection) (Some deposit.class)
+abbrev pub deciding_rule_at : History → Date → List ℕ → Action → Deposit → Option Decision
+deciding_rule_at h day caller action deposit = deciding_rule h day caller action (Some deposit.collection) (Some deposit.class)
 
 -- what is known of an action on a deposit
-abbrev pub facts_of : History → List ℕ → Action → ℕ → Deposit → Facts
-facts_of h caller action n deposit = record {
+abbrev pub facts_of : History → Date → List ℕ → Action → ℕ → Deposit → Facts
+facts_of h day caller action n deposit = record {
   action = action;
-  decision = deciding_rule_at h caller action deposit;
+  decision = deciding_rule_at h day caller action deposit;
   gone = destruction_day h n;
   hold = least_hold h n deposit;
   due = due h deposit;
@@ -61,12 +61,12 @@ facts_of h caller action n deposit = record {
 -- ---- the refusals
 
 -- E2: the first rule that matches denies, or none matches
-abbrev pub denial : History → List ℕ → Action → Option (List ℕ) → Option (List ℕ) → Option Refusal
-denial h caller action collection class = refusal_in (deciding.denial_verdict (deciding_rule h caller action collection class))
+abbrev pub denial : History → Date → List ℕ → Action → Option (List ℕ) → Option (List ℕ) → Option Refusal
+denial h day caller action collection class = refusal_in (deciding.denial_verdict (deciding_rule h day caller action collection class))
 
 -- asked of a deposit: of its collection and its class
-abbrev pub denial_at : History → List ℕ → Action → Deposit → Option Refusal
-denial_at h caller action deposit = denial h caller action (Some deposit.collection) (Some deposit.class)
+abbrev pub denial_at : History → Date → List ℕ → Action → Deposit → Option Refusal
+denial_at h day caller action deposit = denial h day caller action (Some deposit.collection) (Some deposit.class)
 
 -- E1
 abbrev pub no_such_class : History → List ℕ → Option Refusal
@@ -131,53 +131,62 @@ of_hold None these = Some (NoSuch subjects.Hold) ∷ []
 of_hold (Some found) these = these found.1
 
 -- a release is asked of what the hold names
-abbrev pub release_denial_of : History → List ℕ → Option (Date × Deposit) → Option Refusal
-release_denial_of h caller None = Some (NoSuch subjects.Deposit)
-release_denial_of h caller (Some found) = denial_at h caller acts.Release found.1
+abbrev pub release_denial_of : History → Date → List ℕ → Option (Date × Deposit) → Option Refusal
+release_denial_of h day caller None = Some (NoSuch subjects.Deposit)
+release_denial_of h day caller (Some found) = denial_at h day caller acts.Release found.1
 
-abbrev pub release_denial : History → List ℕ → Target → Option Refusal
-release_denial h caller (OnDeposit n) = release_denial_of h caller (deposit_numbered h n)
-release_denial h caller (OnCollection name) = denial h caller acts.Release (Some name) None
+abbrev pub release_denial : History → Date → List ℕ → Target → Option Refusal
+release_denial h day caller (OnDeposit n) = release_denial_of h day caller (deposit_numbered h n)
+release_denial h day caller (OnCollection name) = denial h day caller acts.Release (Some name) None
+release_denial h day caller (OnClass name) = denial h day caller acts.Release None (Some name)
 
 -- what is asked of a deposit that is there: E2 and E3
-abbrev pub kept_refusals : History → List ℕ → Action → ℕ → Deposit → List (Option Refusal)
-kept_refusals h caller action n d = denial_at h caller action d ∷ gone_refusal h n ∷ []
+abbrev pub kept_refusals : History → Date → List ℕ → Action → ℕ → Deposit → List (Option Refusal)
+kept_refusals h day caller action n d = denial_at h day caller action d ∷ gone_refusal h n ∷ []
 
 -- its disposal: E2, E3, E7 and E8
 abbrev pub disposal_refusals : History → Date → List ℕ → ℕ → Deposit → List (Option Refusal)
 disposal_refusals h day caller n d =
-    denial_at h caller acts.Dispose d ∷ gone_refusal h n ∷ held_refusal h n d ∷ not_due_refusal h day d ∷ []
+    denial_at h day caller acts.Dispose d ∷ gone_refusal h n ∷ held_refusal h n d ∷ not_due_refusal h day d ∷ []
 
 -- either of the two, by the action
 abbrev pub asked_refusals : History → Date → List ℕ → Action → ℕ → Deposit → List (Option Refusal)
-asked_refusals h day caller action n d = if is_dispose action then disposal_refusals h day caller n d else kept_refusals h caller action n d
+asked_refusals h day caller action n d = if is_dispose action then disposal_refusals h day caller n d else kept_refusals h day caller action n d
 
 -- a file of its bag: E2, E3 and E13
-abbrev pub file_refusals : History → List ℕ → ℕ → List ℕ → Deposit → List (Option Refusal)
-file_refusals h caller n path d = denial_at h caller acts.Download d ∷ gone_refusal h n ∷ no_file d path ∷ []
+abbrev pub file_refusals : History → Date → List ℕ → ℕ → List ℕ → Deposit → List (Option Refusal)
+file_refusals h day caller n path d = denial_at h day caller acts.Download d ∷ gone_refusal h n ∷ no_file d path ∷ []
 
 -- a hold of it: E2, E3 and E10
-abbrev pub hold_refusals : History → List ℕ → ℕ → Deposit → List (Option Refusal)
-hold_refusals h caller n d = denial_at h caller acts.Hold d ∷ gone_refusal h n ∷ full_of_holds h ∷ []
+abbrev pub hold_refusals : History → Date → List ℕ → ℕ → Deposit → List (Option Refusal)
+hold_refusals h day caller n d = denial_at h day caller acts.Hold d ∷ gone_refusal h n ∷ full_of_holds h ∷ []
 
 -- E1 and E2 of a hold of a collection
-abbrev pub collection_denials : History → List ℕ → List ℕ → List (Option Refusal)
-collection_denials h caller name = no_such_collection h name ∷ denial h caller acts.Hold (Some name) None ∷ []
+abbrev pub collection_denials : History → Date → List ℕ → List ℕ → List (Option Refusal)
+collection_denials h day caller name = no_such_collection h name ∷ denial h day caller acts.Hold (Some name) None ∷ []
 
 -- a hold of a collection: E1, E2 and E10
-abbrev pub collection_hold_refusals : History → List ℕ → List ℕ → List (Option Refusal)
-collection_hold_refusals h caller name = collection_denials h caller name ++ full_of_holds h ∷ []
+abbrev pub collection_hold_refusals : History → Date → List ℕ → List ℕ → List (Option Refusal)
+collection_hold_refusals h day caller name = collection_denials h day caller name ++ full_of_holds h ∷ []
+
+-- E1 and E2 of a hold of a class, which is asked with no collection
+abbrev pub class_denials : History → Date → List ℕ → List ℕ → List (Option Refusal)
+class_denials h day caller name = no_such_class h name ∷ denial h day caller acts.Hold None (Some name) ∷ []
+
+-- a hold of a class: E1, E2 and E10
+abbrev pub class_hold_refusals : History → Date → List ℕ → List ℕ → List (Option Refusal)
+class_hold_refusals h day caller name = class_denials h day caller name ++ full_of_holds h ∷ []
 
 -- a release: E2 and E9
-abbrev pub release_refusals : History → List ℕ → ℕ → Hold → List (Option Refusal)
-release_refusals h caller k hold = release_denial h caller hold.target ∷ released_refusal h k ∷ []
+abbrev pub release_refusals : History → Date → List ℕ → ℕ → Hold → List (Option Refusal)
+release_refusals h day caller k hold = release_denial h day caller hold.target ∷ released_refusal h k ∷ []
 
 -- where a bag is deposited: E1 and E2
-abbrev pub place_refusals : History → List ℕ → List ℕ → List ℕ → List (Option Refusal)
-place_refusals h caller collection class =
+abbrev pub place_refusals : History → Date → List ℕ → List ℕ → List ℕ → List (Option Refusal)
+place_refusals h day caller collection class =
     no_such_collection h collection
     ∷ no_such_class h class
-    ∷ denial h caller acts.Deposit (Some collection) (Some class)
+    ∷ denial h day caller acts.Deposit (Some collection) (Some class)
     ∷ []
 
 -- and what is deposited: E4, E5, E6 and E10
@@ -187,19 +196,20 @@ bag_refusals h day accession closed bag =
 
 -- all refusals of a request
 abbrev pub refusals : History → Date → List ℕ → Request → List (Option Refusal)
-refusals h day caller (DefineClass name years) = denial h caller acts.Class None (Some name) ∷ []
-refusals h day caller (DefineCollection name) = denial h caller acts.Collection (Some name) None ∷ []
+refusals h day caller (DefineClass name years) = denial h day caller acts.Class None (Some name) ∷ []
+refusals h day caller (DefineCollection name) = denial h day caller acts.Collection (Some name) None ∷ []
 refusals h day caller (MakeDeposit collection class accession closed bag) =
-    place_refusals h caller collection class ++ bag_refusals h day accession closed bag.now
+    place_refusals h day caller collection class ++ bag_refusals h day accession closed bag.now
 refusals h day caller (ListDeposits collection class) = []
-refusals h day caller (Record n) = of_deposit (deposit_numbered h n) (kept_refusals h caller acts.Record n)
-refusals h day caller (Holds n) = of_deposit (deposit_numbered h n) (kept_refusals h caller acts.Holds n)
-refusals h day caller (DownloadBag n) = of_deposit (deposit_numbered h n) (kept_refusals h caller acts.Download n)
-refusals h day caller (DownloadFile n path) = of_deposit (deposit_numbered h n) (file_refusals h caller n path.now)
-refusals h day caller (Audit n) = of_deposit (deposit_numbered h n) (kept_refusals h caller acts.Audit n)
-refusals h day caller (HoldDeposit n matter) = of_deposit (deposit_numbered h n) (hold_refusals h caller n)
-refusals h day caller (HoldCollection name matter) = collection_hold_refusals h caller name
-refusals h day caller (Release k) = of_hold (hold_numbered h k) (release_refusals h caller k)
+refusals h day caller (Record n) = of_deposit (deposit_numbered h n) (kept_refusals h day caller acts.Record n)
+refusals h day caller (Holds n) = of_deposit (deposit_numbered h n) (kept_refusals h day caller acts.Holds n)
+refusals h day caller (DownloadBag n) = of_deposit (deposit_numbered h n) (kept_refusals h day caller acts.Download n)
+refusals h day caller (DownloadFile n path) = of_deposit (deposit_numbered h n) (file_refusals h day caller n path.now)
+refusals h day caller (Audit n) = of_deposit (deposit_numbered h n) (kept_refusals h day caller acts.Audit n)
+refusals h day caller (HoldDeposit n matter) = of_deposit (deposit_numbered h n) (hold_refusals h day caller n)
+refusals h day caller (HoldCollection name matter) = collection_hold_refusals h day caller name
+refusals h day caller (HoldClass name matter) = class_hold_refusals h day caller name
+refusals h day caller (Release k) = of_hold (hold_numbered h k) (release_refusals h day caller k)
 refusals h day caller (Dispose n) = of_deposit (deposit_numbered h n) (disposal_refusals h day caller n)
 refusals h day caller DueList = []
 

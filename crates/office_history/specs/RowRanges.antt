@@ -45,6 +45,9 @@ pub record IsRuleRow (row : RuleRow) : Type 0 where
   pub action : IsActionText row.action
   pub collection : IsPatternText row.collection
   pub class : IsPatternText row.class
+  pub first : IsDayNumber row.first
+  pub last : IsDayNumber row.last
+  pub in_turn : row.first ≤ℤ row.last
 
 pub record IsClassRow (row : ClassRow) : Type 0 where
   pub name : IsName row.name
@@ -76,14 +79,15 @@ pub record IsFileRow (tables : Tables) (row : FileRow) : Type 0 where
   pub there : item_numbered tables.deposits number ≡ Some deposit
   pub kept : deposit.gone ≡ None
 
--- a deposit or a collection that is there, and not both
-abbrev pub IsOneTarget : Tables → Option ℤ → Option (List ℕ) → Type 0
-IsOneTarget tables (Some deposit) None = (n : ℕ) × (deposit ≡ pos n) × IsSome (item_numbered tables.deposits n)
-IsOneTarget tables None (Some collection) = Contains tables.collections collection
-IsOneTarget tables _ _ = ⊥
+-- a deposit, a collection or a class that is there, and one of them alone
+abbrev pub IsOneTarget : Tables → Option ℤ → Option (List ℕ) → Option (List ℕ) → Type 0
+IsOneTarget tables (Some deposit) None None = (n : ℕ) × (deposit ≡ pos n) × IsSome (item_numbered tables.deposits n)
+IsOneTarget tables None (Some collection) None = Contains tables.collections collection
+IsOneTarget tables None None (Some class) = Contains (map (λ row. row.name) tables.classes) class
+IsOneTarget tables _ _ _ = ⊥
 
 pub record IsHoldRow (tables : Tables) (row : HoldRow) : Type 0 where
-  pub target : IsOneTarget tables row.deposit row.collection
+  pub target : IsOneTarget tables row.deposit row.collection row.class
   pub matter : IsMatter row.matter
   pub placed : IsDayNumber row.placed
   pub released : IfSome row.released IsDayNumber

@@ -1,7 +1,7 @@
 //! Laws of the office, over the definitions alone.
 
-ghost use Rattle.std.specs.Prelude.{◌≡◌, ◌↔◌, ◌≤ℤ◌, ◌<◌, ◌≢◌, ◌+◌, ℕ, ℤ, List, [], ◌∷◌, ◌++◌, length, Option, Some, None, Ok, Err, true, false, Contains, slice_get, bytes_eq};
-ghost use Rattle.std.specs.List.{IsDistinct};
+ghost use Rattle.std.specs.Prelude.{◌≡◌, ◌↔◌, ◌≤◌, ◌≤ℤ◌, ◌<◌, ◌≢◌, ◌+◌, ℕ, ℤ, pos, List, [], ◌∷◌, ◌++◌, length, Option, Some, None, Ok, Err, true, false, Contains, slice_get, bytes_eq};
+ghost use Rattle.std.specs.List.{AllByRecursion, IsDistinct};
 ghost use denote.Ref.{Bor};
 ghost use Rattle.jiff.specs.Types.{Date};
 ghost use Rattle.jiff.specs.Words.{epoch_day};
@@ -14,6 +14,8 @@ ghost use Rattle.bag_check.specs.Validity.{report_of};
 ghost use Rattle.bag_check.specs.Faults.{Fault, FirstFault};
 ghost use Rattle.bag_check.specs.FaultTexts.{fault_text};
 ghost use Rattle.office_core.specs.Policies.{PolicyValue};
+ghost use Rattle.office_core.specs.Days.{IsDay};
+ghost use Rattle.office_core.specs.Rules.{HasNoDays};
 ghost use Rattle.office_core.specs.FirstOf.{first_some};
 ghost use Rattle.office_core.specs.RetentionReading.{due_of};
 ghost use Rattle.office_core.specs.Verdicts.{verdict_of};
@@ -26,12 +28,12 @@ ghost use Rattle.office_core.specs.declared.answer.LiveHold.{LiveHold};
 ghost use Rattle.office_core.specs.declared.refusal.Refusal.{Refusal};
 ghost use Rattle.office_core.specs.declared.refusal.Refusal.TheVariants.{Held};
 ghost use Rattle.office_core.specs.declared.request.Request.{Request};
-ghost use Rattle.office_core.specs.declared.request.Request.TheVariants.{DefineClass, Deposit as MakeDeposit, DownloadBag, DownloadFile, Audit, Holds, HoldCollection, Release, Dispose};
+ghost use Rattle.office_core.specs.declared.request.Request.TheVariants.{DefineClass, Deposit as MakeDeposit, DownloadBag, DownloadFile, Audit, Holds, HoldCollection, HoldClass, Release, Dispose};
 ghost use Rattle.office_history.specs.Bags.{bag_of};
-ghost use Rattle.office_history.specs.Histories.{History, Change, Installed, DefinedClass, PlacedHold, ReleasedHold, Destroyed, Deposit, Hold, OnCollection, with_changes, years_of, has_class, has_collection, deposit_numbered, holds, hold_numbered, release_day, covers, live_holds, due};
-ghost use Rattle.office_history.specs.Refusals.{denial_at, asked_refusals, facts_of, refusal, refusal_of};
-ghost use Rattle.office_history.specs.Answers.{answer, audit_report, due_list, change, after};
-ghost use Rattle.office_history.specs.Pictures.{due_rows, picture};
+ghost use Rattle.office_history.specs.Histories.{History, Change, Installed, DefinedClass, PlacedHold, ReleasedHold, Destroyed, Deposit, Hold, OnCollection, OnClass, with_changes, policy, years_of, has_class, has_collection, deposit_numbered, destruction_day, holds, hold_numbered, release_day, covers, live_holds, due};
+ghost use Rattle.office_history.specs.Refusals.{denial, denial_at, asked_refusals, facts_of, refusal, refusal_of};
+ghost use Rattle.office_history.specs.Answers.{answer, audit_report, due_list, change, after, OnlyReads};
+ghost use Rattle.office_history.specs.Pictures.{due_row, due_rows, picture};
 ghost use Rattle.office_history.specs.RowRanges.{AreInRange};
 ghost use Rattle.office_history.specs.Stocks.{stock, contents, IsKept};
 ghost use Rattle.office_history.specs.Acceptance.{IsChange, IsAllowed, IsThere, IsReleasable, IsDisposable};
@@ -107,11 +109,11 @@ pub fn verdicts_decide()
     ensures asked { (h : History) (day : Date) (caller : List ℕ)
         (action : Action) (n : ℕ) (deposit : Deposit)
         → first_some (asked_refusals h day caller action n deposit)
-        ≡ refusal_of (verdict_of (facts_of h caller action n deposit) day) }
+        ≡ refusal_of (verdict_of (facts_of h day caller action n deposit) day) }
     ensures disposal { (h : History) (day : Date) (caller : List ℕ) (n : ℕ) (found : Date × Deposit)
         → deposit_numbered h n ≡ Some found
         → refusal h day caller (Dispose n)
-        ≡ refusal_of (verdict_of (facts_of h caller acts.Dispose n found.1) day) }
+        ≡ refusal_of (verdict_of (facts_of h day caller acts.Dispose n found.1) day) }
 {}
 
 /// A refusal changes nothing, whether the office gives it, or memory or the store.
@@ -200,11 +202,11 @@ pub fn due_lists_are_disposals()
 pub fn what_may_be_destroyed_is_on_the_due_list()
     ensures listed { (h : History) (day : Date) (caller : List ℕ) (n : ℕ)
         (may : IsDisposable h day n)
-        → denial_at h caller acts.Dispose may.found.1 ≡ None
+        → denial_at h day caller acts.Dispose may.found.1 ≡ None
         → Contains (due_list h day caller) n }
     ensures only { (h : History) (day : Date) (caller : List ℕ) (n : ℕ)
         → Contains (due_list h day caller) n
-        → (may : IsDisposable h day n) × (denial_at h caller acts.Dispose may.found.1 ≡ None) }
+        → (may : IsDisposable h day n) × (denial_at h day caller acts.Dispose may.found.1 ≡ None) }
 {}
 
 /// In a legal history each audit that is answered is of the deposit that was asked for, and says
@@ -253,6 +255,59 @@ pub fn later_deposits_are_covered()
         → IsLater h next
         → deposit_numbered next n ≡ Some found → found.1.collection ≡ name
         → covers next k n found.1 ≡ true }
+{}
+
+/// A hold of a class covers the deposits of the class, those that come later too, and is one of the
+/// live holds of each until it is released.
+pub fn later_deposits_of_a_class_are_covered()
+    ensures answered { (h next : History) (k n : ℕ) (day : Date)
+        (caller name matter : List ℕ) (found : Date × Deposit)
+        → answer h day caller (HoldClass name matter) ≡ answers.HoldPlaced k
+        → IsLater (after h day caller (HoldClass name matter)) next
+        → deposit_numbered next n ≡ Some found → found.1.class ≡ name
+        → covers next k n found.1 ≡ true }
+    ensures held { (h next : History) (k n : ℕ) (day : Date)
+        (name matter : List ℕ) (found : Date × Deposit)
+        → hold_numbered h k ≡ Some (day, record { target = OnClass name; matter = matter })
+        → IsLater h next
+        → deposit_numbered next n ≡ Some found → found.1.class ≡ name
+        → covers next k n found.1 ≡ true }
+    ensures live { (h next : History) (k n : ℕ) (day : Date)
+        (name matter : List ℕ) (found : Date × Deposit)
+        → hold_numbered h k ≡ Some (day, record { target = OnClass name; matter = matter })
+        → IsLater h next → release_day next k ≡ None
+        → deposit_numbered next n ≡ Some found → found.1.class ≡ name
+        → Contains (live_holds next n found.1) k }
+{}
+
+/// A live hold of a deposit's collection and one of its class are two: each is counted.
+pub fn a_hold_of_the_collection_and_one_of_the_class_are_two()
+    ensures { (h : History) (j k n : ℕ) (day later : Date)
+        (matter other : List ℕ) (found : Date × Deposit)
+        → hold_numbered h j
+        ≡ Some (day, record { target = OnCollection found.1.collection; matter = matter })
+        → hold_numbered h k
+        ≡ Some (later, record { target = OnClass found.1.class; matter = other })
+        → release_day h j ≡ None → release_day h k ≡ None
+        → pos 2 ≤ℤ (due_row h n found).holds }
+{}
+
+/// A disposal that is refused for a hold names the least live hold that covers the deposit, whether
+/// it is of the deposit, of its collection or of its class. And where one covers a kept deposit that
+/// the rules let the caller dispose of, the disposal is refused so.
+pub fn the_least_live_hold_is_named()
+    ensures named { (h : History) (day : Date) (caller : List ℕ)
+        (n k : ℕ) (found : Date × Deposit)
+        → deposit_numbered h n ≡ Some found
+        → refusal h day caller (Dispose n) ≡ Some (Held k)
+        → (release_day h k ≡ None) × (covers h k n found.1 ≡ true)
+        × ((other : ℕ) → release_day h other ≡ None → covers h other n found.1 ≡ true → k ≤ other) }
+    ensures refused { (h : History) (day : Date) (caller : List ℕ)
+        (n k : ℕ) (found : Date × Deposit)
+        → deposit_numbered h n ≡ Some found → destruction_day h n ≡ None
+        → denial_at h day caller acts.Dispose found.1 ≡ None
+        → release_day h k ≡ None → covers h k n found.1 ≡ true
+        → (least : ℕ) × (refusal h day caller (Dispose n) ≡ Some (Held least)) × (least ≤ k) }
 {}
 
 /// A hold whose release was answered is released, then and later. A hold that was released is none
@@ -311,6 +366,22 @@ pub fn a_hold_and_its_release_leave_the_counts()
         (PlacedHold day hold ∷ ReleasedHold later (length (holds h) + 1) ∷ []))
         ≡ due_rows h }
 {}
+
+/// Where no rule of the policy has days, the rules deny a caller the same on every day of the office,
+/// and a request that only reads is answered alike.
+pub fn a_policy_without_days_answers_alike()
+    ensures denied { (h : History) (day other : Date)
+        → AllByRecursion HasNoDays (policy h).rules → IsDay day → IsDay other
+        → (caller : List ℕ) (action : Action) (collection class : Option (List ℕ))
+        → denial h day caller action collection class
+        ≡ denial h other caller action collection class }
+    ensures answered { (h : History) (day other : Date)
+        → AllByRecursion HasNoDays (policy h).rules → IsDay day → IsDay other
+        → (caller : List ℕ) (request : Request) → OnlyReads request
+        → answer h day caller request ≡ answer h other caller request }
+{
+    office_core::laws::rules_without_days();
+}
 
 /// No number is given to two deposits, also where the first was destroyed in between, and none to
 /// two holds.

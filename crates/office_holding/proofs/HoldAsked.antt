@@ -12,35 +12,41 @@ use Rattle.office_rows.specs.Rows.{DepositRow, HoldRow}
 use Rattle.office_tables.specs.ShownHolds as shown
 use Rattle.office_tables.specs.declared.holds.HoldTarget.{HoldTarget}
 use Rattle.office_tables.specs.declared.holds.HoldTarget.TheVariants as targets
-use Rattle.office_history.specs.Histories.{History, Hold, Target, OnDeposit, OnCollection, hold_numbered, release_day, deposit_numbered}
-use Rattle.office_history.specs.Pictures.{held_deposit, held_collection, hold_row, deposit_row}
+use Rattle.office_history.specs.Histories.{History, Hold, Target, OnDeposit, OnCollection, OnClass, hold_numbered, release_day, deposit_numbered}
+use Rattle.office_history.specs.Pictures.{held_deposit, held_collection, held_class, hold_row, deposit_row}
 use Rattle.office_history.specs.Refusals.{of_hold, denial, release_denial, release_denial_of, release_refusals}
 use Rattle.office_asking.proofs.DepositAsked.{there}
 use Rattle.office_history.specs.Acceptance.{IsReleasable}
 use Rattle.office_holding.specs.Holds.{IsLiveOn, IsReleaseAsked, IsUnless, against_release, target_of}
 
-pub no_hold : (h : History) (k : ℕ) (caller : List ℕ) → None ≡ option_map (hold_row h k) (hold_numbered h k) → Some (NoSuch subjects.Hold) ≡ against_release h caller k
-no_hold h k caller e = by (hold_numbered h k) e
+pub no_hold : (h : History) (k : ℕ) (day : Date) (caller : List ℕ) → None ≡ option_map (hold_row h k) (hold_numbered h k) → Some (NoSuch subjects.Hold) ≡ against_release h day caller k
+no_hold h k day caller e = by (hold_numbered h k) e
   where
-    by : (o : Option (Date × Hold)) → None ≡ option_map (hold_row h k) o → Some (NoSuch subjects.Hold) ≡ first_some (of_hold o (release_refusals h caller k))
+    by : (o : Option (Date × Hold)) → None ≡ option_map (hold_row h k) o → Some (NoSuch subjects.Hold) ≡ first_some (of_hold o (release_refusals h day caller k))
     by None e = refl
     by (Some found) e = absurd cc
 
 -- what a row names is what the hold names
-same_target : (named : HoldTarget) (target : Target) → shown.held_deposit named ≡ held_deposit target → shown.held_collection named ≡ held_collection target → target_of named ≡ target
-same_target (targets.Deposit m) (OnDeposit n) d c = let same : m ≡ n = cc in ap OnDeposit same
-same_target (targets.Deposit m) (OnCollection name) d c = absurd cc
-same_target (targets.Collection name) (OnDeposit n) d c = absurd cc
-same_target (targets.Collection name) (OnCollection other) d c = ap OnCollection (same_Some _ _ c)
+same_target : (named : HoldTarget) (target : Target) → shown.held_deposit named ≡ held_deposit target → shown.held_collection named ≡ held_collection target
+    → shown.held_class named ≡ held_class target → target_of named ≡ target
+same_target (targets.Deposit m) (OnDeposit n) d c k = let same : m ≡ n = cc in ap OnDeposit same
+same_target (targets.Deposit m) (OnCollection name) d c k = absurd cc
+same_target (targets.Deposit m) (OnClass name) d c k = absurd cc
+same_target (targets.Collection name) (OnDeposit n) d c k = absurd cc
+same_target (targets.Collection name) (OnCollection other) d c k = ap OnCollection (same_Some _ _ c)
+same_target (targets.Collection name) (OnClass other) d c k = absurd cc
+same_target (targets.Class name) (OnDeposit n) d c k = absurd cc
+same_target (targets.Class name) (OnCollection other) d c k = absurd cc
+same_target (targets.Class name) (OnClass other) d c k = ap OnClass (same_Some _ _ k)
 
 -- the release of a hold of that deposit is asked of the deposit's row
-pub asked_of_deposit : (h : History) (caller : List ℕ) (n : ℕ) (row : DepositRow) → Some row ≡ option_map (deposit_row h n) (deposit_numbered h n) → (why : Option Refusal)
-    → why ≡ denial h caller acts.Release (Some row.collection) (Some row.class) → why ≡ release_denial h caller (OnDeposit n)
-asked_of_deposit h caller n row read why is =
-    let found = there h caller acts.Release n row read in
+pub asked_of_deposit : (h : History) (day : Date) (caller : List ℕ) (n : ℕ) (row : DepositRow) → Some row ≡ option_map (deposit_row h n) (deposit_numbered h n) → (why : Option Refusal)
+    → why ≡ denial h day caller acts.Release (Some row.collection) (Some row.class) → why ≡ release_denial h day caller (OnDeposit n)
+asked_of_deposit h day caller n row read why is =
+    let found = there h day caller acts.Release n row read in
     is
-    ∙ ap (λ (r : DepositRow). denial h caller acts.Release (Some r.collection) (Some r.class)) found.2
-    ∙ ap (release_denial_of h caller) (sym found.1)
+    ∙ ap (λ (r : DepositRow). denial h day caller acts.Release (Some r.collection) (Some r.class)) found.2
+    ∙ ap (release_denial_of h day caller) (sym found.1)
 
 module _ (h : History) (k : ℕ) (row : HoldRow) (read : Some row ≡ option_map (hold_row h k) (hold_numbered h k)) where
   hold_there : (found : Date × Hold) × (hold_numbered h k ≡ Some found) × (row ≡ hold_row h k found)
@@ -51,34 +57,35 @@ module _ (h : History) (k : ℕ) (row : HoldRow) (read : Some row ≡ option_map
       by (Some found) is e = (found, is, same_Some _ _ e)
 
   -- what is asked of the row is asked of the hold
-  pub release_asked : (caller : List ℕ) (named : HoldTarget) (denied : Option Refusal) (found : Result HoldRow Refusal) → shown.held_deposit named ≡ row.deposit → shown.held_collection named ≡ row.collection
-      → denied ≡ release_denial h caller (target_of named)
-      → ((day : Option Date) → option_map epoch_day day ≡ row.released → IsUnless row (first_some (denied ∷ option_map Released day ∷ [])) found)
-      → IsReleaseAsked h caller k found
-  release_asked caller named denied found d c is first = by found (first (release_day h k) (sym (ap (λ (r : HoldRow). r.released) row_is)))
+  pub release_asked : (day : Date) (caller : List ℕ) (named : HoldTarget) (denied : Option Refusal) (found : Result HoldRow Refusal) → shown.held_deposit named ≡ row.deposit → shown.held_collection named ≡ row.collection
+      → shown.held_class named ≡ row.class
+      → denied ≡ release_denial h day caller (target_of named)
+      → ((released : Option Date) → option_map epoch_day released ≡ row.released → IsUnless row (first_some (denied ∷ option_map Released released ∷ [])) found)
+      → IsReleaseAsked h day caller k found
+  release_asked day caller named denied found d c l is first = by found (first (release_day h k) (sym (ap (λ (r : HoldRow). r.released) row_is)))
     where
       row_is : row ≡ hold_row h k hold_there.0
       row_is = hold_there.2
 
       target : target_of named ≡ hold_there.0.1.target
-      target = same_target named hold_there.0.1.target (d ∙ ap (λ (r : HoldRow). r.deposit) row_is) (c ∙ ap (λ (r : HoldRow). r.collection) row_is)
+      target = same_target named hold_there.0.1.target (d ∙ ap (λ (r : HoldRow). r.deposit) row_is) (c ∙ ap (λ (r : HoldRow). r.collection) row_is) (l ∙ ap (λ (r : HoldRow). r.class) row_is)
 
-      same : first_some (denied ∷ option_map Released (release_day h k) ∷ []) ≡ against_release h caller k
+      same : first_some (denied ∷ option_map Released (release_day h k) ∷ []) ≡ against_release h day caller k
       same =
-          ap (λ o. first_some (o ∷ option_map Released (release_day h k) ∷ [])) (is ∙ ap (release_denial h caller) target)
-          ∙ ap (λ o. first_some (of_hold o (release_refusals h caller k))) (sym hold_there.1)
+          ap (λ o. first_some (o ∷ option_map Released (release_day h k) ∷ [])) (is ∙ ap (release_denial h day caller) target)
+          ∙ ap (λ o. first_some (of_hold o (release_refusals h day caller k))) (sym hold_there.1)
 
-      by : (found : Result HoldRow Refusal) → IsUnless row (first_some (denied ∷ option_map Released (release_day h k) ∷ [])) found → IsReleaseAsked h caller k found
+      by : (found : Result HoldRow Refusal) → IsUnless row (first_some (denied ∷ option_map Released (release_day h k) ∷ [])) found → IsReleaseAsked h day caller k found
       by (Ok other) it = (it.0 ∙ same, ap Some it.1 ∙ read)
       by (Err why) it = it ∙ same
 
   -- what the row names a live hold is on
-  pub live_on : IsReleasable h k → (named : HoldTarget) → shown.held_deposit named ≡ row.deposit → shown.held_collection named ≡ row.collection → IsLiveOn h k (target_of named)
-  live_on is named d c =
+  pub live_on : IsReleasable h k → (named : HoldTarget) → shown.held_deposit named ≡ row.deposit → shown.held_collection named ≡ row.collection → shown.held_class named ≡ row.class → IsLiveOn h k (target_of named)
+  live_on is named d c l =
       let row_is : row ≡ hold_row h k is.found = same_Some _ _ (read ∙ ap (option_map (hold_row h k)) is.there) in
       record {
         found = is.found;
         there = is.there;
-        named = sym (same_target named is.found.1.target (d ∙ ap (λ (r : HoldRow). r.deposit) row_is) (c ∙ ap (λ (r : HoldRow). r.collection) row_is));
+        named = sym (same_target named is.found.1.target (d ∙ ap (λ (r : HoldRow). r.deposit) row_is) (c ∙ ap (λ (r : HoldRow). r.collection) row_is) (l ∙ ap (λ (r : HoldRow). r.class) row_is));
         live = is.live;
       }

@@ -1,6 +1,6 @@
 -- Where a hold is placed or released, the rows of an office tell one answer.
 use Rattle.std.proofs.Common.{◌≡◌, ℕ, ℤ, pos, Bool, true, false, List, Option, Some, None, Ok, Err, sym, ap, subst, ◌∙◌}
-use Rattle.std.specs.Prelude.{option_map}
+use Rattle.std.specs.Prelude.{is_some, option_map}
 use Rattle.std.specs.Result.{result_err}
 use Rattle.std.proofs.lemmas.Option.{same_Some}
 use Rattle.jiff.specs.Types.{Date}
@@ -8,12 +8,12 @@ use Rattle.office_core.specs.declared.action.Action.TheVariants as acts
 use Rattle.office_core.specs.declared.answer.Answer.TheVariants as answers
 use Rattle.office_core.specs.declared.refusal.Refusal.{Refusal}
 use Rattle.office_core.specs.declared.refusal.Refusal.TheVariants.{Released}
-use Rattle.office_rows.specs.Rows.{DepositRow, HoldRow, Limits, Tables, has_collection, hold_numbered, last_number}
+use Rattle.office_rows.specs.Rows.{DepositRow, HoldRow, Limits, Tables, class_named, has_collection, hold_numbered, last_number}
 use Rattle.office_history.proofs.Pictured.{same_days}
 use Rattle.office_asking.specs.ByRows.{IsDenialIn}
 use Rattle.office_asking.specs.Limits.{IsRefusedOr, answer_of_number}
 use Rattle.office_asking.proofs.OneAnswer.{HasAtMostOne, asked_is_one, denial_is_one, next_is_one, refused_or_is_one}
-use Rattle.office_holding.specs.ByRows.{IsCollectionDenial, IsCollectionHeldIn, IsCollectionPlaceIn, IsCollectionReleaseIn, IsDepositHeldIn, IsDepositPlaceIn, IsDepositReleaseIn, IsFirstOfRelease, IsNextHoldIn, IsReleasableIn, IsReleaseDayOf, IsReleaseDenialIn, IsReleaseRefusalIn, IsReleaseRefusalOf, IsReleasedIn, answer_of_release}
+use Rattle.office_holding.specs.ByRows.{IsClassDenial, IsClassHeldIn, IsClassPlaceIn, IsClassReleaseIn, IsCollectionDenial, IsCollectionHeldIn, IsCollectionPlaceIn, IsCollectionReleaseIn, IsDepositHeldIn, IsDepositPlaceIn, IsDepositReleaseIn, IsFirstOfRelease, IsNextHoldIn, IsReleasableIn, IsReleaseDayOf, IsReleaseDenialIn, IsReleaseRefusalIn, IsReleaseRefusalOf, IsReleasedIn, answer_of_release}
 
 -- ---- a hold that is placed
 
@@ -22,51 +22,75 @@ pub place_is_one : (t : Tables) (why : Option Refusal) → HasAtMostOne (IsRefus
 place_is_one t why = refused_or_is_one why (IsNextHoldIn t) (next_is_one t (λ (l : Limits). l.max_holds) (last_number (λ (h : HoldRow). h.number) t.holds))
 
 -- one number is that of a hold on a deposit, or one refusal stands first
-pub deposit_place_is_one : (t : Tables) (caller : List ℕ) (n : ℕ) → HasAtMostOne (IsDepositPlaceIn t caller n)
-deposit_place_is_one t caller n a b p q =
-    let asked : p.asked ≡ q.asked = asked_is_one t caller acts.Hold n p.asked q.asked p.is_asked q.is_asked in
+pub deposit_place_is_one : (t : Tables) (day : Date) (caller : List ℕ) (n : ℕ) → HasAtMostOne (IsDepositPlaceIn t day caller n)
+deposit_place_is_one t day caller n a b p q =
+    let asked : p.asked ≡ q.asked = asked_is_one t day caller acts.Hold n p.asked q.asked p.is_asked q.is_asked in
     place_is_one t (result_err q.asked) a b (subst (λ r. IsRefusedOr (result_err r) (IsNextHoldIn t) a) asked p.is) q.is
 
 -- one answer is given to a hold on a deposit
-pub deposit_held_is_one : (t : Tables) (caller : List ℕ) (n : ℕ) → HasAtMostOne (IsDepositHeldIn t caller n)
-deposit_held_is_one t caller n a b p q =
-    p.is ∙ ap (answer_of_number answers.HoldPlaced) (deposit_place_is_one t caller n p.place q.place p.is_place q.is_place) ∙ sym q.is
+pub deposit_held_is_one : (t : Tables) (day : Date) (caller : List ℕ) (n : ℕ) → HasAtMostOne (IsDepositHeldIn t day caller n)
+deposit_held_is_one t day caller n a b p q =
+    p.is ∙ ap (answer_of_number answers.HoldPlaced) (deposit_place_is_one t day caller n p.place q.place p.is_place q.is_place) ∙ sym q.is
 
 -- one refusal stands against a hold on a collection that is there, or that isn't, or none
-pub collection_denial_is_one : (there : Bool) (t : Tables) (caller name : List ℕ) → HasAtMostOne (IsCollectionDenial there t caller name)
-collection_denial_is_one false t caller name a b p q = p ∙ sym q
-collection_denial_is_one true t caller name a b p q = denial_is_one t caller acts.Hold (Some name) None a b p q
+pub collection_denial_is_one : (there : Bool) (t : Tables) (day : Date) (caller name : List ℕ) → HasAtMostOne (IsCollectionDenial there t day caller name)
+collection_denial_is_one false t day caller name a b p q = p ∙ sym q
+collection_denial_is_one true t day caller name a b p q = denial_is_one t day caller acts.Hold (Some name) None a b p q
 
 -- one number is that of a hold on a collection, or one refusal stands first
-pub collection_place_is_one : (t : Tables) (caller name : List ℕ) → HasAtMostOne (IsCollectionPlaceIn t caller name)
-collection_place_is_one t caller name a b p q =
-    let why : p.why ≡ q.why = collection_denial_is_one (has_collection name t) t caller name p.why q.why p.denial q.denial in
+pub collection_place_is_one : (t : Tables) (day : Date) (caller name : List ℕ) → HasAtMostOne (IsCollectionPlaceIn t day caller name)
+collection_place_is_one t day caller name a b p q =
+    let why : p.why ≡ q.why = collection_denial_is_one (has_collection name t) t day caller name p.why q.why p.denial q.denial in
     place_is_one t q.why a b (subst (λ w. IsRefusedOr w (IsNextHoldIn t) a) why p.is) q.is
 
 -- one answer is given to a hold on a collection
-pub collection_held_is_one : (t : Tables) (caller name : List ℕ) → HasAtMostOne (IsCollectionHeldIn t caller name)
-collection_held_is_one t caller name a b p q =
-    p.is ∙ ap (answer_of_number answers.HoldPlaced) (collection_place_is_one t caller name p.place q.place p.is_place q.is_place) ∙ sym q.is
+pub collection_held_is_one : (t : Tables) (day : Date) (caller name : List ℕ) → HasAtMostOne (IsCollectionHeldIn t day caller name)
+collection_held_is_one t day caller name a b p q =
+    p.is ∙ ap (answer_of_number answers.HoldPlaced) (collection_place_is_one t day caller name p.place q.place p.is_place q.is_place) ∙ sym q.is
+
+-- one refusal stands against a hold on a class that is there, or that isn't, or none
+pub class_denial_is_one : (there : Bool) (t : Tables) (day : Date) (caller name : List ℕ) → HasAtMostOne (IsClassDenial there t day caller name)
+class_denial_is_one false t day caller name a b p q = p ∙ sym q
+class_denial_is_one true t day caller name a b p q = denial_is_one t day caller acts.Hold None (Some name) a b p q
+
+-- one number is that of a hold on a class, or one refusal stands first
+pub class_place_is_one : (t : Tables) (day : Date) (caller name : List ℕ) → HasAtMostOne (IsClassPlaceIn t day caller name)
+class_place_is_one t day caller name a b p q =
+    let why : p.why ≡ q.why = class_denial_is_one (is_some (class_named name t.classes)) t day caller name p.why q.why p.denial q.denial in
+    place_is_one t q.why a b (subst (λ w. IsRefusedOr w (IsNextHoldIn t) a) why p.is) q.is
+
+-- one answer is given to a hold on a class
+pub class_held_is_one : (t : Tables) (day : Date) (caller name : List ℕ) → HasAtMostOne (IsClassHeldIn t day caller name)
+class_held_is_one t day caller name a b p q =
+    p.is ∙ ap (answer_of_number answers.HoldPlaced) (class_place_is_one t day caller name p.place q.place p.is_place q.is_place) ∙ sym q.is
 
 -- ---- a hold that is released
 
 -- the rules deny the release of a hold on a deposit by one refusal or by none
-pub deposit_release_is_one : (t : Tables) (caller : List ℕ) (n : ℤ) → HasAtMostOne (IsDepositReleaseIn t caller n)
-deposit_release_is_one t caller n a b p q =
+pub deposit_release_is_one : (t : Tables) (day : Date) (caller : List ℕ) (n : ℤ) → HasAtMostOne (IsDepositReleaseIn t day caller n)
+deposit_release_is_one t day caller n a b p q =
     let row : p.row ≡ q.row = same_Some p.row q.row (p.there ∙ sym q.there) in
-    denial_is_one t caller acts.Release (Some q.row.collection) (Some q.row.class) a b
-    (subst (λ (r : DepositRow). IsDenialIn t caller acts.Release (Some r.collection) (Some r.class) a) row p.is) q.is
+    denial_is_one t day caller acts.Release (Some q.row.collection) (Some q.row.class) a b
+    (subst (λ (r : DepositRow). IsDenialIn t day caller acts.Release (Some r.collection) (Some r.class) a) row p.is) q.is
 
 -- and that of a hold on a collection
-pub collection_release_is_one : (t : Tables) (caller name : List ℕ) → HasAtMostOne (IsCollectionReleaseIn t caller name)
-collection_release_is_one t caller name a b p q = denial_is_one t caller acts.Release (Some name) None a b p.is q.is
+pub collection_release_is_one : (t : Tables) (day : Date) (caller name : List ℕ) → HasAtMostOne (IsCollectionReleaseIn t day caller name)
+collection_release_is_one t day caller name a b p q = denial_is_one t day caller acts.Release (Some name) None a b p.is q.is
+
+-- and that of a hold on a class
+pub class_release_is_one : (t : Tables) (day : Date) (caller name : List ℕ) → HasAtMostOne (IsClassReleaseIn t day caller name)
+class_release_is_one t day caller name a b p q = denial_is_one t day caller acts.Release None (Some name) a b p.is q.is
 
 -- and that of a hold by what it is on
-pub release_denial_is_one : (t : Tables) (caller : List ℕ) (deposit : Option ℤ) (collection : Option (List ℕ)) → HasAtMostOne (IsReleaseDenialIn t caller deposit collection)
-release_denial_is_one t caller (Some n) None a b p q = deposit_release_is_one t caller n a b p q
-release_denial_is_one t caller None (Some name) a b p q = collection_release_is_one t caller name a b p q
-release_denial_is_one t caller None None a b p q = absurd p
-release_denial_is_one t caller (Some n) (Some name) a b p q = absurd p
+pub release_denial_is_one : (t : Tables) (day : Date) (caller : List ℕ) (deposit : Option ℤ) (collection class : Option (List ℕ)) → HasAtMostOne (IsReleaseDenialIn t day caller deposit collection class)
+release_denial_is_one t day caller (Some n) None None a b p q = deposit_release_is_one t day caller n a b p q
+release_denial_is_one t day caller None (Some name) None a b p q = collection_release_is_one t day caller name a b p q
+release_denial_is_one t day caller None None (Some name) a b p q = class_release_is_one t day caller name a b p q
+release_denial_is_one t day caller None None None a b p q = absurd p
+release_denial_is_one t day caller None (Some name) (Some class) a b p q = absurd p
+release_denial_is_one t day caller (Some n) None (Some class) a b p q = absurd p
+release_denial_is_one t day caller (Some n) (Some name) None a b p q = absurd p
+release_denial_is_one t day caller (Some n) (Some name) (Some class) a b p q = absurd p
 
 -- the row of a hold tells one day of its release or none
 pub release_day_is_one : (row : HoldRow) → HasAtMostOne (IsReleaseDayOf row)
@@ -78,31 +102,31 @@ first_of_release_is_one (Some denied) row a b p q = p ∙ sym q
 first_of_release_is_one None row a b p q = p.2 ∙ ap (option_map Released) (release_day_is_one row p.0 q.0 p.1 q.1) ∙ sym q.2
 
 -- one refusal stands first against the release of a hold, or none
-pub release_refusal_is_one : (t : Tables) (caller : List ℕ) (row : HoldRow) → HasAtMostOne (IsReleaseRefusalIn t caller row)
-release_refusal_is_one t caller row a b p q =
-    let denied : p.denied ≡ q.denied = release_denial_is_one t caller row.deposit row.collection p.denied q.denied p.denial q.denial in
+pub release_refusal_is_one : (t : Tables) (day : Date) (caller : List ℕ) (row : HoldRow) → HasAtMostOne (IsReleaseRefusalIn t day caller row)
+release_refusal_is_one t day caller row a b p q =
+    let denied : p.denied ≡ q.denied = release_denial_is_one t day caller row.deposit row.collection row.class p.denied q.denied p.denial q.denial in
     first_of_release_is_one q.denied row a b (subst (λ d. IsFirstOfRelease d row a) denied p.first) q.first
 
 -- the same of a hold that may not be there
-pub release_refusal_of_is_one : (t : Tables) (caller : List ℕ) (found : Option HoldRow) → HasAtMostOne (IsReleaseRefusalOf t caller found)
-release_refusal_of_is_one t caller None a b p q = p ∙ sym q
-release_refusal_of_is_one t caller (Some row) a b p q = same_Some a b (release_refusal_is_one t caller row (Some a) (Some b) p q)
+pub release_refusal_of_is_one : (t : Tables) (day : Date) (caller : List ℕ) (found : Option HoldRow) → HasAtMostOne (IsReleaseRefusalOf t day caller found)
+release_refusal_of_is_one t day caller None a b p q = p ∙ sym q
+release_refusal_of_is_one t day caller (Some row) a b p q = same_Some a b (release_refusal_is_one t day caller row (Some a) (Some b) p q)
 
 -- a hold against whose release no refusal stands has none
-not_refused : (t : Tables) (caller : List ℕ) (found : Option HoldRow) (row : HoldRow) (why : Refusal)
-    → Some row ≡ found → IsReleaseRefusalIn t caller row None → IsReleaseRefusalOf t caller found why → ⊥
-not_refused t caller found row why is free refused =
-    let both : None ≡ Some why = release_refusal_is_one t caller row None (Some why) free (subst (λ o. IsReleaseRefusalOf t caller o why) (sym is) refused) in
+not_refused : (t : Tables) (day : Date) (caller : List ℕ) (found : Option HoldRow) (row : HoldRow) (why : Refusal)
+    → Some row ≡ found → IsReleaseRefusalIn t day caller row None → IsReleaseRefusalOf t day caller found why → ⊥
+not_refused t day caller found row why is free refused =
+    let both : None ≡ Some why = release_refusal_is_one t day caller row None (Some why) free (subst (λ o. IsReleaseRefusalOf t day caller o why) (sym is) refused) in
     absurd cc
 
 -- one row is found of a hold that is to be released, or one refusal stands first
-pub releasable_is_one : (t : Tables) (caller : List ℕ) (k : ℕ) → HasAtMostOne (IsReleasableIn t caller k)
-releasable_is_one t caller k (Ok a) (Ok b) p q = ap Ok (same_Some a b (p.0 ∙ sym q.0))
-releasable_is_one t caller k (Ok a) (Err b) p q = absurd (not_refused t caller (hold_numbered (pos k) t.holds) a b p.0 p.1 q)
-releasable_is_one t caller k (Err a) (Ok b) p q = absurd (not_refused t caller (hold_numbered (pos k) t.holds) b a q.0 q.1 p)
-releasable_is_one t caller k (Err a) (Err b) p q = ap Err (release_refusal_of_is_one t caller (hold_numbered (pos k) t.holds) a b p q)
+pub releasable_is_one : (t : Tables) (day : Date) (caller : List ℕ) (k : ℕ) → HasAtMostOne (IsReleasableIn t day caller k)
+releasable_is_one t day caller k (Ok a) (Ok b) p q = ap Ok (same_Some a b (p.0 ∙ sym q.0))
+releasable_is_one t day caller k (Ok a) (Err b) p q = absurd (not_refused t day caller (hold_numbered (pos k) t.holds) a b p.0 p.1 q)
+releasable_is_one t day caller k (Err a) (Ok b) p q = absurd (not_refused t day caller (hold_numbered (pos k) t.holds) b a q.0 q.1 p)
+releasable_is_one t day caller k (Err a) (Err b) p q = ap Err (release_refusal_of_is_one t day caller (hold_numbered (pos k) t.holds) a b p q)
 
 -- one answer is given to a release
 pub released_is_one : (t : Tables) (day : Date) (caller : List ℕ) (k : ℕ) → HasAtMostOne (IsReleasedIn t day caller k)
 released_is_one t day caller k a b p q =
-    p.is ∙ ap (answer_of_release k day) (releasable_is_one t caller k p.asked q.asked p.is_asked q.is_asked) ∙ sym q.is
+    p.is ∙ ap (answer_of_release k day) (releasable_is_one t day caller k p.asked q.asked p.is_asked q.is_asked) ∙ sym q.is

@@ -4,11 +4,11 @@ use Rattle.std.specs.List.{AllByRecursion}
 use Rattle.std.specs.Ordering.{int_cmp}
 use Rattle.jiff.specs.Types.{Date}
 use Rattle.sqlite.specs.Effect.{Database}
-use Rattle.office_rows.specs.Rows.{Tables, DueRow, HoldRow, is_due_of, is_within, more_holds, with_hold, with_holds, with_more_holds, put_by, this_version}
+use Rattle.office_rows.specs.Rows.{Tables, DueRow, HoldRow, is_due_of, is_of_class, is_within, more_holds, with_hold, with_holds, with_more_holds, with_more_holds_class, put_by, this_version}
 use Rattle.office_rows.proofs.Order.{put_last}
 use Rattle.office_tables.specs.Tables.{Becomes, tables_of}
 use Rattle.office_tables.specs.Contents.{KeepsOnce}
-use Rattle.office_history.specs.Histories.{History, Change, PlacedHold, Hold, OnDeposit, OnCollection, with_changes, holds, live_holds, release_day}
+use Rattle.office_history.specs.Histories.{History, Change, PlacedHold, Hold, OnDeposit, OnCollection, OnClass, with_changes, holds, live_holds, release_day}
 use Rattle.office_history.specs.Pictures.{row_by_release, hold_row, hold_rows, deposit_rows, due_rows, picture}
 use Rattle.office_history.specs.Runs.{IsLegal}
 use Rattle.office_history.proofs.HistoryLemmas.{holds_grown}
@@ -16,7 +16,7 @@ use Rattle.office_history.proofs.LegalReadings.{none_released}
 use Rattle.office_asking.specs.Pictures.{Pictures}
 use Rattle.office_asking.proofs.NumberedRows.{rows_from, rows_append, below, none_next}
 use Rattle.office_asking.proofs.HoldTold.{hold_rows_are}
-use Rattle.office_asking.proofs.DuesPlaced.{dues_placed}
+use Rattle.office_asking.proofs.DuesPlaced.{dues_placed, dues_placed_of_class}
 use Rattle.office_asking.proofs.Unchanged.{same_classes, same_collections, same_deposit_rows, same_file_rows, same_released, pictured_by}
 use Rattle.office_holding.specs.Holds.{IsNext, IsCounted}
 use Rattle.office_holding.proofs.CountTold.{counted_from}
@@ -78,6 +78,16 @@ module _ (h : History) (legal : IsLegal h) (day : Date) (hold : Hold) (k : ℕ) 
     are =
         counted.are ∙ ap (with_more_holds name (pos 1)) rows_between
         ∙ told_with h day hold (not_yet h legal) (more_holds (is_within name) (pos 1) (deposit_rows h) (due_rows h)) (dues_placed h day hold (not_yet h legal) name is);
+    once = once;
+  }
+
+  -- a hold on a class is put under the next number, and counts over each of its deposits
+  pub placed_on_class : (name : List ℕ) → hold.target ≡ OnClass name → (new : Database) → Becomes new (with_more_holds_class name (pos 1) (tables_of mid)) → KeepsOnce new → Pictures grown new
+  placed_on_class name is new counted once = record {
+    office = counted.office;
+    are =
+        counted.are ∙ ap (with_more_holds_class name (pos 1)) rows_between
+        ∙ told_with h day hold (not_yet h legal) (more_holds (is_of_class name) (pos 1) (deposit_rows h) (due_rows h)) (dues_placed_of_class h day hold (not_yet h legal) name is);
     once = once;
   }
 

@@ -4,16 +4,16 @@ use Rattle.std.specs.Option.{option_or}
 use Rattle.jiff.specs.Types.{Date}
 use Rattle.jiff.specs.Words.{epoch_day}
 use Rattle.sqlite.specs.Effect.{Database}
-use Rattle.office_rows.specs.Rows.{Tables, HoldRow, DueRow, is_hold, is_due_of, is_within, more_holds, with_holds, with_more_holds, with_released, this_version}
+use Rattle.office_rows.specs.Rows.{Tables, HoldRow, DueRow, is_hold, is_due_of, is_of_class, is_within, more_holds, with_holds, with_more_holds, with_more_holds_class, with_released, this_version}
 use Rattle.office_tables.specs.Tables.{Becomes, tables_of}
 use Rattle.office_tables.specs.Contents.{KeepsOnce}
-use Rattle.office_history.specs.Histories.{History, Change, Hold, OnDeposit, OnCollection, ReleasedHold, with_changes, holds, hold_numbered, live_holds, release_day}
+use Rattle.office_history.specs.Histories.{History, Change, Hold, OnDeposit, OnCollection, OnClass, ReleasedHold, with_changes, holds, hold_numbered, live_holds, release_day}
 use Rattle.office_history.specs.Pictures.{row_by_release, hold_row, hold_rows, deposit_rows, due_rows, picture}
 use Rattle.office_history.proofs.Alike.{or_none, released_grown}
 use Rattle.office_asking.specs.Pictures.{Pictures}
 use Rattle.office_asking.proofs.NumberedRows.{rows_from, rows_changed, mark}
 use Rattle.office_asking.proofs.HoldTold.{hold_rows_are}
-use Rattle.office_asking.proofs.DuesGrown.{dues_within, dues_on}
+use Rattle.office_asking.proofs.DuesGrown.{dues_within, dues_of_class, dues_on}
 use Rattle.office_asking.proofs.Unchanged.{same_classes, same_collections, same_deposit_rows, same_file_rows, same_holds, pictured_by}
 use Rattle.office_holding.specs.Holds.{IsCounted}
 use Rattle.office_holding.proofs.CountTold.{counted_from}
@@ -59,6 +59,16 @@ module _ (h : History) (day : Date) (k : ℕ) (live : release_day h k ≡ None) 
       are =
           counted.are ∙ ap (with_more_holds name (negsuc 0)) rows_between
           ∙ told_with (more_holds (is_within name) (negsuc 0) (deposit_rows h) (due_rows h)) (dues_within h day k found there live released_then name is);
+      once = once;
+    }
+
+    -- a live hold on a class is ended, and counts no more over its deposits
+    pub released_class : (name : List ℕ) → found.1.target ≡ OnClass name → (new : Database) → Becomes new (with_more_holds_class name (negsuc 0) (tables_of mid)) → KeepsOnce new → Pictures longer new
+    released_class name is new counted once = record {
+      office = counted.office;
+      are =
+          counted.are ∙ ap (with_more_holds_class name (negsuc 0)) rows_between
+          ∙ told_with (more_holds (is_of_class name) (negsuc 0) (deposit_rows h) (due_rows h)) (dues_of_class h day k found there live released_then name is);
       once = once;
     }
 

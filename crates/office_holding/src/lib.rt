@@ -5,5 +5,5 @@ mod counting;
 mod placing;
 mod releasing;
 
-pub use placing::{hold_collection, hold_deposit};
+pub use placing::{hold_class, hold_collection, hold_deposit};
 pub use releasing::release;

@@ -9,19 +9,20 @@ ghost use Rattle.office_core.specs.declared.request.Request.TheVariants as reque
 ghost use Rattle.office_rows.specs.Rows.{limits_of};
 ghost use Rattle.office_tables.specs.Faults.{IsFailure};
 ghost use Rattle.office_tables.specs.Calls.{CommitsNothing, Continues, Keeps, Tells};
-ghost use Rattle.office_tables.specs.ShownHolds.{held_collection, held_deposit};
-ghost use Rattle.office_history.specs.Histories.{OnCollection, OnDeposit, ReleasedHold};
+ghost use Rattle.office_tables.specs.ShownHolds.{held_class, held_collection, held_deposit};
+ghost use Rattle.office_history.specs.Histories.{OnClass, OnCollection, OnDeposit, ReleasedHold};
 ghost use Rattle.office_history.specs.Refusals.{release_denial};
 ghost use Rattle.office_asking.specs.Serving.{Accepts, Decides, Finds};
 ghost use Rattle.office_asking.specs.Holds.{IsHoldOf};
-ghost use Rattle.office_holding.specs.ByRows.{CountsFewer, IsCollectionReleaseIn, IsCountable, IsDepositReleaseIn, IsReleasableIn, IsReleaseDenialIn, IsReleasedIn, IsRowUnless};
+ghost use Rattle.office_holding.specs.ByRows.{CountsFewer, IsClassReleaseIn, IsCollectionReleaseIn, IsCountable, IsDepositReleaseIn, IsReleasableIn, IsReleaseDenialIn, IsReleasedIn, IsRowUnless};
 ghost use Rattle.office_holding.specs.Holds.{IsLiveOn, IsReleaseAsked, IsUnless, target_of};
 
 use crate::counting::count_over_deposit;
 use office_asking::{check_there, denial, hold_in, named_in, optional_day_numbered, there};
 use office_core::{Action, Answer, Day, Refusal, Subject};
 use office_tables::{
-    HoldRow, HoldTarget, TableFault, add_holds, deposit_row, end_hold, has_collection, hold_row,
+    HoldRow, HoldTarget, TableFault, add_holds, add_holds_class, class_of, deposit_row, end_hold,
+    has_collection, hold_row,
 };
 use sqlite::{Alter, Transaction};
 use std::alloc::Global;
@@ -32,6 +33,7 @@ use std::alloc::Global;
 /// Fails with `Memory` or `Store`: with `Store` where there is no such deposit.
 fn deposit_release_denial<S: Alter>(
     tx: &mut Transaction<'_, S>,
+    day: Day,
     caller: &str,
     number: u32,
 ) -> Result<Option<Refusal>, TableFault>
@@ -41,14 +43,15 @@ fn deposit_release_denial<S: Alter>(
     ensures failure { IfErr result IsFailure }
     ensures same { Keeps S.Store tx.old.conn.now tx.new.conn.now result }
     ensures denied { Finds S.Store tx.old.conn.now tx.new.conn.now result (λ h why.
-        why ≡ release_denial h caller.now (OnDeposit number)) }
+        why ≡ release_denial h day caller.now (OnDeposit number)) }
     ensures rows { Tells S.Store tx.old.conn.now tx.new.conn.now result (λ tables why.
-        IsDepositReleaseIn tables caller.now (pos number) why) }
+        IsDepositReleaseIn tables day caller.now (pos number) why) }
 {
     let found = deposit_row(tx, number)?;
     let deposit = there(found)?;
     denial(
         tx,
+        day,
         caller,
         Action::Release,
         Some(&deposit.collection),
@@ -61,6 +64,7 @@ fn deposit_release_denial<S: Alter>(
 /// Fails with `Memory` or `Store`: with `Store` where there is no such collection.
 fn collection_release_denial<S: Alter>(
     tx: &mut Transaction<'_, S>,
+    day: Day,
     caller: &str,
     collection: &str,
 ) -> Result<Option<Refusal>, TableFault>
@@ -70,18 +74,43 @@ fn collection_release_denial<S: Alter>(
     ensures failure { IfErr result IsFailure }
     ensures same { Keeps S.Store tx.old.conn.now tx.new.conn.now result }
     ensures denied { Finds S.Store tx.old.conn.now tx.new.conn.now result (λ h why.
-        why ≡ release_denial h caller.now (OnCollection collection.now)) }
+        why ≡ release_denial h day caller.now (OnCollection collection.now)) }
     ensures rows { Tells S.Store tx.old.conn.now tx.new.conn.now result (λ tables why.
-        IsCollectionReleaseIn tables caller.now collection.now why) }
+        IsCollectionReleaseIn tables day caller.now collection.now why) }
 {
     let found = has_collection(tx, collection)?;
     check_there(found)?;
-    denial(tx, caller, Action::Release, Some(collection), None)
+    denial(tx, day, caller, Action::Release, Some(collection), None)
+}
+
+/// The refusal where the caller may not release a hold of the class of that name.
+///
+/// Fails with `Memory` or `Store`: with `Store` where there is no such class.
+fn class_release_denial<S: Alter>(
+    tx: &mut Transaction<'_, S>,
+    day: Day,
+    caller: &str,
+    class: &str,
+) -> Result<Option<Refusal>, TableFault>
+    ensures same_reference { tx.new.conn.ghost_name ≡ tx.old.conn.ghost_name }
+    ensures stays { CommitsNothing S.Store tx.old.conn.now tx.new.conn.now }
+    ensures goes_on { Continues S.Store tx.old.conn.now tx.new.conn.now result }
+    ensures failure { IfErr result IsFailure }
+    ensures same { Keeps S.Store tx.old.conn.now tx.new.conn.now result }
+    ensures denied { Finds S.Store tx.old.conn.now tx.new.conn.now result (λ h why.
+        why ≡ release_denial h day caller.now (OnClass class.now)) }
+    ensures rows { Tells S.Store tx.old.conn.now tx.new.conn.now result (λ tables why.
+        IsClassReleaseIn tables day caller.now class.now why) }
+{
+    let found = class_of(tx, class)?;
+    check_there(found.is_some())?;
+    denial(tx, day, caller, Action::Release, None, Some(class))
 }
 
 /// The refusal where the caller may not release a hold of what is named.
 fn release_denial<S: Alter>(
     tx: &mut Transaction<'_, S>,
+    day: Day,
     caller: &str,
     target: HoldTarget<'_>,
 ) -> Result<Option<Refusal>, TableFault>
@@ -91,13 +120,14 @@ fn release_denial<S: Alter>(
     ensures failure { IfErr result IsFailure }
     ensures same { Keeps S.Store tx.old.conn.now tx.new.conn.now result }
     ensures denied { Finds S.Store tx.old.conn.now tx.new.conn.now result (λ h why.
-        why ≡ release_denial h caller.now (target_of target.entry)) }
+        why ≡ release_denial h day caller.now (target_of target.entry)) }
     ensures rows { Tells S.Store tx.old.conn.now tx.new.conn.now result (λ tables why.
-        IsReleaseDenialIn tables caller.now (held_deposit target.entry) (held_collection target.entry) why) }
+        IsReleaseDenialIn tables day caller.now (held_deposit target.entry) (held_collection target.entry) (held_class target.entry) why) }
 {
     match target {
-        HoldTarget::Deposit(number) => deposit_release_denial(tx, caller, number),
-        HoldTarget::Collection(name) => collection_release_denial(tx, caller, name),
+        HoldTarget::Deposit(number) => deposit_release_denial(tx, day, caller, number),
+        HoldTarget::Collection(name) => collection_release_denial(tx, day, caller, name),
+        HoldTarget::Class(name) => class_release_denial(tx, day, caller, name),
     }
 }
 
@@ -132,6 +162,7 @@ fn unless_refused(
 fn releasable_hold<S: Alter>(
     alloc: Global,
     tx: &mut Transaction<'_, S>,
+    day: Day,
     caller: &str,
     number: u32,
 ) -> Result<Result<HoldRow, Refusal>, TableFault>
@@ -141,15 +172,15 @@ fn releasable_hold<S: Alter>(
     ensures failure { IfErr result IsFailure }
     ensures same { Keeps S.Store tx.old.conn.now tx.new.conn.now result }
     ensures asked { Finds S.Store tx.old.conn.now tx.new.conn.now result (λ h found.
-        IsReleaseAsked h caller.now number found) }
+        IsReleaseAsked h day caller.now number found) }
     ensures rows { Tells S.Store tx.old.conn.now tx.new.conn.now result (λ tables found.
-        IsReleasableIn tables caller.now number found) }
+        IsReleasableIn tables day caller.now number found) }
 {
     let Some(hold) = hold_row(tx, number)? else {
         return Ok(Err(Refusal::NoSuch(Subject::Hold)));
     };
     let target = named_in(&hold)?;
-    let denied = release_denial(tx, caller, target)?;
+    let denied = release_denial(tx, day, caller, target)?;
     unless_refused(alloc, hold, denied)
 }
 
@@ -170,6 +201,25 @@ fn end_collection<S: Alter>(
 {
     end_hold(tx, number, day.number() as i64)?;
     add_holds(tx, collection, -1)
+}
+
+/// Ends the live hold of that number, which is on the class, and counts it no more over the deposits of the
+/// class.
+fn end_class<S: Alter>(
+    tx: &mut Transaction<'_, S>,
+    day: Day,
+    number: u32,
+    class: &str,
+) -> Result<(), TableFault>
+    ensures same_reference { tx.new.conn.ghost_name ≡ tx.old.conn.ghost_name }
+    ensures stays { CommitsNothing S.Store tx.old.conn.now tx.new.conn.now }
+    ensures goes_on { Continues S.Store tx.old.conn.now tx.new.conn.now result }
+    ensures failure { IfErr result IsFailure }
+    ensures ended { Accepts S.Store tx.old.conn.now tx.new.conn.now result (λ h.
+        IsLiveOn h number (OnClass class.now)) (ReleasedHold day number ∷ []) }
+{
+    end_hold(tx, number, day.number() as i64)?;
+    add_holds_class(tx, class, -1)
 }
 
 /// Ends the live hold of that number, which is on the deposit, and counts it no more over the deposit.
@@ -211,6 +261,7 @@ fn end<S: Alter>(
     match target {
         HoldTarget::Deposit(deposit) => end_deposit(tx, day, number, deposit),
         HoldTarget::Collection(name) => end_collection(tx, day, number, name),
+        HoldTarget::Class(name) => end_class(tx, day, number, name),
     }
 }
 
@@ -233,7 +284,7 @@ pub fn release<S: Alter>(
     ensures rows { Tells S.Store tx.old.conn.now tx.new.conn.now result (λ tables answer.
         IsReleasedIn tables day caller.now hold answer) }
 {
-    match releasable_hold(alloc, tx, caller, hold)? {
+    match releasable_hold(alloc, tx, day, caller, hold)? {
         Ok(row) => {
             let target = named_in(&row)?;
             end(tx, day, hold, target)?;

@@ -23,11 +23,11 @@ this_or_is_one (Some this) next one a b p q = p ∙ sym q
 this_or_is_one None next one a b p q = one a b p q
 
 -- one refusal stands against the place, or none
-pub place_refusal_is_one : (t : Tables) (caller collection class : List ℕ) → HasAtMostOne (IsPlaceRefusalIn t caller collection class)
-place_refusal_is_one t caller collection class =
-    let denied : Option Refusal → Type 0 = IsDenialIn t caller acts.Deposit (Some collection) (Some class) in
+pub place_refusal_is_one : (t : Tables) (day : Date) (caller collection class : List ℕ) → HasAtMostOne (IsPlaceRefusalIn t day caller collection class)
+place_refusal_is_one t day caller collection class =
+    let denied : Option Refusal → Type 0 = IsDenialIn t day caller acts.Deposit (Some collection) (Some class) in
     this_or_is_one (no_collection t collection) (IsThisOr (no_class t class) denied)
-    (this_or_is_one (no_class t class) denied (denial_is_one t caller acts.Deposit (Some collection) (Some class)))
+    (this_or_is_one (no_class t class) denied (denial_is_one t day caller acts.Deposit (Some collection) (Some class)))
 
 -- an accession is taken by one deposit or by none
 pub taken_is_one : (t : Tables) (accession : List ℕ) → HasAtMostOne (IsTakenIn t accession)
@@ -44,7 +44,7 @@ accession_refusal_is_one t day accession closed a b p q =
 pub refusal_before_the_bag_is_one : (t : Tables) (asked : DepositAsked) → HasAtMostOne (IsRefusalBeforeTheBag t asked)
 refusal_before_the_bag_is_one t asked a b p q =
     let next : Option Refusal → Type 0 = IsAccessionRefusalIn t asked.day asked.accession asked.closed in
-    let place : p.place ≡ q.place = place_refusal_is_one t asked.caller asked.collection asked.class p.place q.place p.of_place q.of_place in
+    let place : p.place ≡ q.place = place_refusal_is_one t asked.day asked.caller asked.collection asked.class p.place q.place p.of_place q.of_place in
     this_or_is_one q.place next (accession_refusal_is_one t asked.day asked.accession asked.closed) a b (subst (λ o. IsThisOr o next a) place p.first) q.first
 
 -- one number is that of the deposit, or one refusal stands first
@@ -65,7 +65,7 @@ deposited_is_one t asked text a b p q =
 -- the facts of a disposal come to one refusal or to none
 pub verdict_is_one : (t : Tables) (day : Date) (caller : List ℕ) (n : ℕ) (row : DepositRow) → HasAtMostOne (IsVerdictIn t day caller n row)
 verdict_is_one t day caller n row a b p q =
-    p.comes_to ∙ ap (λ f. refusal_of (verdict_of f day)) (facts_are_one t caller n row p.facts q.facts p.are q.are) ∙ sym q.comes_to
+    p.comes_to ∙ ap (λ f. refusal_of (verdict_of f day)) (facts_are_one t day caller n row p.facts q.facts p.are q.are) ∙ sym q.comes_to
 
 -- the same of a deposit that may not be there
 pub disposal_refusal_of_is_one : (t : Tables) (day : Date) (caller : List ℕ) (n : ℕ) (found : Option DepositRow) → HasAtMostOne (IsDisposalRefusalOf t day caller n found)

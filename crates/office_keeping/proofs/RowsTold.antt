@@ -2,6 +2,7 @@
 use Rattle.std.proofs.Common.{◌≡◌, ℕ, ℤ, pos, true, false, not, List, Option, Some, None, option_map, is_some, is_none, Result, OnOk, IfOk, refl, sym, ap, subst, ◌∙◌}
 use Rattle.std.proofs.lemmas.Bool.Decides.{Decides-int_eq}
 use Rattle.std.proofs.lemmas.Result.{on_ok_weaker}
+use Rattle.jiff.specs.Types.{Date}
 use Rattle.sqlite.specs.State.{State, HasCleanDisk}
 use Rattle.sql_meaning.specs.Inside.{Stays}
 use Rattle.office_core.specs.FirstOf.{answer_if}
@@ -35,11 +36,11 @@ module _ (a b c : State) (stays : Stays b c) (first : HasCleanDisk b → IsOffic
 
 -- ---- the place of a deposit
 
-module _ (t : Tables) (caller collection class : List ℕ) where
+module _ (t : Tables) (day : Date) (caller collection class : List ℕ) where
   abbrev denied : Option Refusal → Type 0
-  denied = IsDenialIn t caller acts.Deposit (Some collection) (Some class)
+  denied = IsDenialIn t day caller acts.Deposit (Some collection) (Some class)
 
-  pub collection_missing : false ≡ has_collection collection t → IsPlaceRefusalIn t caller collection class (Some (NoSuch subjects.Collection))
+  pub collection_missing : false ≡ has_collection collection t → IsPlaceRefusalIn t day caller collection class (Some (NoSuch subjects.Collection))
   collection_missing e = subst (λ b. IsThisOr (answer_if (not b) (NoSuch subjects.Collection)) (IsThisOr (no_class t class) denied) (Some (NoSuch subjects.Collection))) e refl
 
   -- there is a class where its years were found
@@ -48,15 +49,15 @@ module _ (t : Tables) (caller collection class : List ℕ) where
   is_there (Some row) found e = ap (λ o. not (is_some o)) e
 
   module _ (there : true ≡ has_collection collection t) (found : Option ℤ) (read : found ≡ option_map (λ (c : ClassRow). c.years) (class_named class t.classes)) where
-    in_collection : (why : Option Refusal) → IsThisOr (no_class t class) denied why → IsPlaceRefusalIn t caller collection class why
+    in_collection : (why : Option Refusal) → IsThisOr (no_class t class) denied why → IsPlaceRefusalIn t day caller collection class why
     in_collection why = subst (λ b. IsThisOr (answer_if (not b) (NoSuch subjects.Collection)) (IsThisOr (no_class t class) denied) why) there
 
-    pub class_missing : false ≡ is_some found → IsPlaceRefusalIn t caller collection class (Some (NoSuch subjects.Class))
+    pub class_missing : false ≡ is_some found → IsPlaceRefusalIn t day caller collection class (Some (NoSuch subjects.Class))
     class_missing e =
         in_collection (Some (NoSuch subjects.Class))
         (subst (λ b. IsThisOr (answer_if b (NoSuch subjects.Class)) denied (Some (NoSuch subjects.Class))) (ap not e ∙ is_there (class_named class t.classes) found read) refl)
 
-    pub both_there : true ≡ is_some found → (why : Option Refusal) → denied why → IsPlaceRefusalIn t caller collection class why
+    pub both_there : true ≡ is_some found → (why : Option Refusal) → denied why → IsPlaceRefusalIn t day caller collection class why
     both_there e why denial =
         in_collection why
         (subst (λ b. IsThisOr (answer_if b (NoSuch subjects.Class)) denied why) (ap not e ∙ is_there (class_named class t.classes) found read) denial)

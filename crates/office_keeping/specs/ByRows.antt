@@ -40,9 +40,9 @@ abbrev pub no_class : Tables → List ℕ → Option Refusal
 no_class t name = answer_if (is_none (class_named name t.classes)) (NoSuch subjects.Class)
 
 -- of the place: there is no such collection, there is no such class, or the rules deny it
-abbrev pub IsPlaceRefusalIn : Tables → List ℕ → List ℕ → List ℕ → Option Refusal → Type 0
-IsPlaceRefusalIn t caller collection class =
-    IsThisOr (no_collection t collection) (IsThisOr (no_class t class) (IsDenialIn t caller acts.Deposit (Some collection) (Some class)))
+abbrev pub IsPlaceRefusalIn : Tables → Date → List ℕ → List ℕ → List ℕ → Option Refusal → Type 0
+IsPlaceRefusalIn t day caller collection class =
+    IsThisOr (no_collection t collection) (IsThisOr (no_class t class) (IsDenialIn t day caller acts.Deposit (Some collection) (Some class)))
 
 -- ---- what is asked before the bag
 
@@ -61,7 +61,7 @@ pub record IsAccessionRefusalIn (t : Tables) (day : Date) (accession : List ℕ)
 -- of the place, and else of the accession and the closing day
 pub record IsRefusalBeforeTheBag (t : Tables) (asked : DepositAsked) (why : Option Refusal) : Type 0 where
   pub place : Option Refusal
-  pub of_place : IsPlaceRefusalIn t asked.caller asked.collection asked.class place
+  pub of_place : IsPlaceRefusalIn t asked.day asked.caller asked.collection asked.class place
   pub first : IsThisOr place (IsAccessionRefusalIn t asked.day asked.accession asked.closed) why
 
 -- ---- the number of the deposit
@@ -84,7 +84,7 @@ pub record IsDepositedIn (t : Tables) (asked : DepositAsked) (text : List ℕ) (
   pub next : Result ℕ Refusal
   pub is_next : IsAskedOfDeposit t asked text next
   pub due : IfOk next (λ number. (due : Due) × IsDueIn t asked.class asked.closed due)
-  pub released : IfOk next (λ number. AreReleasedOnDays t number asked.collection)
+  pub released : IfOk next (λ number. AreReleasedOnDays t number asked.collection asked.class)
   pub answer : given ≡ answer_of_number answers.Deposited next
 
 -- ---- a disposal
@@ -92,7 +92,7 @@ pub record IsDepositedIn (t : Tables) (asked : DepositAsked) (text : List ℕ) (
 -- the refusal that the facts of its disposal come to, if any
 pub record IsVerdictIn (t : Tables) (day : Date) (caller : List ℕ) (n : ℕ) (row : DepositRow) (why : Option Refusal) : Type 0 where
   pub facts : Facts
-  pub are : AreFactsIn t caller n row facts
+  pub are : AreFactsIn t day caller n row facts
   pub comes_to : why ≡ refusal_of (verdict_of facts day)
 
 -- the same of a deposit that may not be there

@@ -13,7 +13,7 @@ use Rattle.office_keeping.specs.declared.depositing.NewBag.{NewBag}
 -- those of the place, of the accession and of the closing day
 abbrev pub refusals_before_the_bag : History → Date → List ℕ → List ℕ → List ℕ → List ℕ → Date → List (Option Refusal)
 refusals_before_the_bag h day caller collection class accession closed =
-    place_refusals h caller collection class ++ taken_refusal h accession ∷ closed_ahead_refusal day closed ∷ []
+    place_refusals h day caller collection class ++ taken_refusal h accession ∷ closed_ahead_refusal day closed ∷ []
 
 -- the bag of the text, which gets the next number, where none of these refusals stands
 pub record IsNext (h : History) (text : List ℕ) (these : List (Option Refusal)) (new : NewBag) : Type 0 where

@@ -26,6 +26,7 @@ use std::alloc::Global;
 /// the caller may not deposit there.
 fn place_refusal<S: Alter>(
     tx: &mut Transaction<'_, S>,
+    day: Day,
     caller: &str,
     collection: &str,
     class: &str,
@@ -35,10 +36,10 @@ fn place_refusal<S: Alter>(
     ensures goes_on { Continues S.Store tx.old.conn.now tx.new.conn.now result }
     ensures failure { IfErr result IsFailure }
     ensures refusal { Finds S.Store tx.old.conn.now tx.new.conn.now result (λ h why.
-        why ≡ first_some (place_refusals h caller.now collection.now class.now)) }
+        why ≡ first_some (place_refusals h day caller.now collection.now class.now)) }
     ensures same { Keeps S.Store tx.old.conn.now tx.new.conn.now result }
     ensures rows { Tells S.Store tx.old.conn.now tx.new.conn.now result (λ tables why.
-        IsPlaceRefusalIn tables caller.now collection.now class.now why) }
+        IsPlaceRefusalIn tables day caller.now collection.now class.now why) }
 {
     if !has_collection(tx, collection)? {
         return Ok(Some(Refusal::NoSuch(Subject::Collection)));
@@ -46,7 +47,14 @@ fn place_refusal<S: Alter>(
     if class_of(tx, class)?.is_none() {
         return Ok(Some(Refusal::NoSuch(Subject::Class)));
     }
-    denial(tx, caller, Action::Deposit, Some(collection), Some(class))
+    denial(
+        tx,
+        day,
+        caller,
+        Action::Deposit,
+        Some(collection),
+        Some(class),
+    )
 }
 
 /// The refusal where a deposit, kept or destroyed, has the accession.
@@ -107,7 +115,7 @@ fn refusal_before_the_bag<S: Alter>(
           closed = closed;
         }) why) }
 {
-    if let Some(why) = place_refusal(tx, caller, collection, class)? {
+    if let Some(why) = place_refusal(tx, day, caller, collection, class)? {
         return Ok(Some(why));
     }
     if let Some(why) = taken_refusal(tx, accession)? {

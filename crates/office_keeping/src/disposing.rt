@@ -36,7 +36,7 @@ fn disposal_refusal<S: Alter>(
     let Some(deposit) = deposit_row(tx, number)? else {
         return Ok(Some(Refusal::NoSuch(Subject::Deposit)));
     };
-    let asker = Asker::read(tx, caller)?;
+    let asker = Asker::read(tx, day, caller)?;
     let facts = disposal_facts(alloc, tx, &asker, &deposit)?;
     Ok(refusal_of(verdict(&facts, day)))
 }

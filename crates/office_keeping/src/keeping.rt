@@ -95,15 +95,15 @@ fn beside_row<S: Alter>(
     ensures due { Finds S.Store tx.old.conn.now tx.new.conn.now result (λ h beside.
         (deposit : Deposit) → deposit.class ≡ class.now → deposit.closed ≡ closed → beside.due ≡ due_number (due h deposit)) }
     ensures holds { Finds S.Store tx.old.conn.now tx.new.conn.now result (λ h beside.
-        (deposit : Deposit) → deposit.collection ≡ collection.now → beside.holds ≡ pos (length (live_holds h number deposit))) }
+        (deposit : Deposit) → deposit.collection ≡ collection.now → deposit.class ≡ class.now → beside.holds ≡ pos (length (live_holds h number deposit))) }
     ensures rows { Tells S.Store tx.old.conn.now tx.new.conn.now result (λ tables beside.
         (due : Due) × IsDueIn tables class.now closed due × (beside.due ≡ due_number due)) }
     ensures counted { Tells S.Store tx.old.conn.now tx.new.conn.now result (λ tables beside.
-        beside.holds ≡ pos (length (rows.live_holds (pos number) collection.now tables))) }
-    ensures released { Tells S.Store tx.old.conn.now tx.new.conn.now result (λ tables _. AreReleasedOnDays tables number collection.now) }
+        beside.holds ≡ pos (length (rows.live_holds (pos number) collection.now class.now tables))) }
+    ensures released { Tells S.Store tx.old.conn.now tx.new.conn.now result (λ tables _. AreReleasedOnDays tables number collection.now class.now) }
 {
     let due = due_day(tx, class, closed)?;
-    let holds = live_count(alloc, tx, number, collection)?;
+    let holds = live_count(alloc, tx, number, collection, class)?;
     Ok(Beside {
         due: due.number(),
         holds,
@@ -150,7 +150,7 @@ pub(crate) fn keep<S: Alter>(
     ensures kept { Accepts S.Store tx.old.conn.now tx.new.conn.now result (λ h. number ≡ length (deposits h) + 1)
         (Deposited day (record { collection = collection.now; class = class.now; accession = accession.now; closed = closed; bag = bag.now }) ∷ []) }
     ensures rows { Tells S.Store tx.old.conn.now tx.new.conn.now result (λ tables _. (due : Due) × IsDueIn tables class.now closed due) }
-    ensures released { Tells S.Store tx.old.conn.now tx.new.conn.now result (λ tables _. AreReleasedOnDays tables number collection.now) }
+    ensures released { Tells S.Store tx.old.conn.now tx.new.conn.now result (λ tables _. AreReleasedOnDays tables number collection.now class.now) }
 {
     let beside = beside_row(alloc, tx, number, collection, class, closed)?;
     let payload = count_payload(bag);

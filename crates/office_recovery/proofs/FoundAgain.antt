@@ -34,7 +34,7 @@ whole_again schema a b whole q e = found_again (IsWhole schema) a b whole.listed
 
 -- the database that is found where the trees of an office were left
 pub becomes_again : (tables : Tables) (left : Trees) (b : Database) → IsLeft tables left → IsDatabase b → b.trees ≡ left → Becomes b tables
-becomes_again tables left b h q e = found_again (λ d. Becomes d tables) h.0 b h.1.office.listed q (e ∙ h.2) h.1
+becomes_again tables left b h q e = found_again (λ d. Becomes d tables) h.0 b h.1.office.whole.listed q (e ∙ h.2) h.1
 
 -- a call that keeps what the connection shows keeps the database whose trees it holds
 pub goes_on : (old new : State) → IsLive old → KeepsTables old new → GoesOnAs old new

@@ -1,5 +1,5 @@
 -- That an office has these rows comes out of a truncation.
-use Rattle.std.proofs.Common.{◌≡◌, ℕ, ℤ, pos, List, map, length, bytes_eq, Bool, true, refl}
+use Rattle.std.proofs.Common.{◌≡◌, ℕ, ℤ, pos, List, [], map, length, bytes_eq, Bool, true, refl}
 use Rattle.std.specs.List.{list_any}
 use Rattle.std.specs.Ordering.{int_eq}
 use Rattle.std.proofs.lemmas.Map.Keys.{IsDistinct-prop}
@@ -9,11 +9,13 @@ use Rattle.std.specs.Coded.{Coded, Coded-set, codes}
 use Rattle.sqlite.specs.Tree.{Trees}
 use Rattle.sqlite.specs.Schema.{Schema}
 use Rattle.sqlite_schema.specs.contracts.schema.Schema.{the_row}
-use Rattle.sqlite_trees.specs.Props.{AllByRecursion-prop, IsShaped-prop}
+use Rattle.sqlite_trees.specs.Props.{AllByRecursion-prop, IsShaped-prop, rows_set}
 use Rattle.sqlite_trees.specs.declared.store.Shape.TheVariants as shape
 use Rattle.sqlite.specs.Effect.{Database, IsDatabase}
 use Rattle.sql_meaning.specs.Whole.{AreShaped}
-use Rattle.office_tables.specs.Schema.{office_schema}
+use Rattle.office_tables.specs.Versions.{IsOfficeAt, emptied_at, schema_at}
+use Rattle.office_tables.specs.declared.version.TableVersion.{TableVersion}
+use Rattle.office_tables.specs.declared.version.TableVersion.TheVariants.{Fifth}
 use Rattle.office_rows.specs.Rows.{Tables, ContentRow}
 use Rattle.office_tables.specs.Tables.{Becomes, contents_of}
 use Rattle.office_tables.specs.Contents.{IsMarked, AreKeptOnce, KeepsOnce, references_of}
@@ -32,17 +34,25 @@ schema_set = Coded-set the_row.coded
 shaped_prop : (schema : Schema) (db : Trees) → IsProp (AreShaped schema db)
 shaped_prop schema db = AllByRecursion-prop _ (λ t. IsShaped-prop shape.Table (db t.tree)) schema.tables
 
-pub becomes_from : (tables : Tables) (b : Database) → IsDatabase b → ∥ Becomes b tables ∥₁ → Becomes b tables
-becomes_from tables b q h =
-    let schema_is : b.schema ≡ office_schema = ∥∥₁_elim h (schema_set _ _) (λ m. m.office.schema_is) in
+-- that a database is an office of a version
+pub office_from : (version : TableVersion) (b : Database) → IsDatabase b → ∥ IsOfficeAt version b ∥₁ → IsOfficeAt version b
+office_from version b q h =
+    let schema_is : b.schema ≡ schema_at version = ∥∥₁_elim h (schema_set _ _) (λ m. m.whole.schema_is) in
     record {
-      office = record {
+      whole = record {
         schema_is = schema_is;
         listed = q;
-        shaped = ∥∥₁_elim h (shaped_prop office_schema b.trees) (λ m. m.office.shaped);
+        shaped = ∥∥₁_elim h (shaped_prop (schema_at version) b.trees) (λ m. m.whole.shaped);
       };
-      are = ∥∥₁_elim h (tables_set _ _) (λ m. m.are);
+      emptied = ∥∥₁_elim h (AllByRecursion-prop _ (λ tree. rows_set (b.trees tree) []) (emptied_at version)) (λ m. m.emptied);
     }
+
+-- that it has these rows
+pub rows_from : (a b : Tables) → ∥ a ≡ b ∥₁ → a ≡ b
+rows_from a b h = ∥∥₁_elim h (tables_set a b) (λ same. same)
+
+pub becomes_from : (tables : Tables) (b : Database) → IsDatabase b → ∥ Becomes b tables ∥₁ → Becomes b tables
+becomes_from tables b q h = record { office = office_from Fifth b q (∥∥₁_map h (λ m. m.office)); are = rows_from _ _ (∥∥₁_map h (λ m. m.are)) }
 
 -- what was left comes out of a truncation, where a database is found
 pub left_from : (tables : Tables) (b : Database) → IsDatabase b → ∥ IsLeft tables b.trees ∥₁ → IsLeft tables b.trees

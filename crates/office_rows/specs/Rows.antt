@@ -29,6 +29,9 @@ pub record RuleRow : Type 0 where
   pub action : List ℕ
   pub collection : List ℕ
   pub class : List ℕ
+  -- the days, both included, between which the rule counts
+  pub first : ℤ
+  pub last : ℤ
 
 pub record ClassRow : Type 0 where
   pub name : List ℕ
@@ -73,9 +76,10 @@ pub record DueRow : Type 0 where
 
 pub record HoldRow : Type 0 where
   pub number : ℤ
-  -- what is held: the deposit of that number, or each of the collection
+  -- what is held: the deposit of that number, or each of the collection, or each of the class
   pub deposit : Option ℤ
   pub collection : Option (List ℕ)
+  pub class : Option (List ℕ)
   pub matter : List ℕ
   -- the day when it was placed, and the day when it was released
   pub placed : ℤ
@@ -161,7 +165,7 @@ IsLimit n = is_limit n ≡ true
 
 -- the version of these tables
 abbrev pub this_version : ℤ
-this_version = pos 3
+this_version = pos 5
 
 -- the row by which an office is known: it has the id 1, and limits in range
 abbrev pub is_known : OfficeRow → Bool
@@ -297,6 +301,10 @@ is_of_class class d = bytes_eq d.class class
 abbrev pub with_more_holds : List ℕ → ℤ → Tables → Tables
 with_more_holds collection by t = record t { dues = more_holds (is_within collection) by t.deposits t.dues }
 
+-- as many more live holds cover each deposit of the class
+abbrev pub with_more_holds_class : List ℕ → ℤ → Tables → Tables
+with_more_holds_class class by t = record t { dues = more_holds (is_of_class class) by t.deposits t.dues }
+
 -- the deposits of the class
 abbrev pub of_class : List ℕ → Tables → List DepositRow
 of_class class t = filter (is_of_class class) t.deposits
@@ -385,9 +393,12 @@ holds_deposit n h = unwrap_or (option_map (λ d. int_eq d n) h.deposit) false
 abbrev pub holds_collection : List ℕ → HoldRow → Bool
 holds_collection collection h = unwrap_or (option_map (λ c. bytes_eq c collection) h.collection) false
 
--- it isn't released, and names the deposit or the collection
-abbrev pub is_live_over : ℤ → List ℕ → HoldRow → Bool
-is_live_over n collection h = is_live h && (holds_deposit n h || holds_collection collection h)
+abbrev pub holds_class : List ℕ → HoldRow → Bool
+holds_class class h = unwrap_or (option_map (λ c. bytes_eq c class) h.class) false
+
+-- it isn't released, and names the deposit, the collection or the class
+abbrev pub is_live_over : ℤ → List ℕ → List ℕ → HoldRow → Bool
+is_live_over n collection class h = is_live h && (holds_deposit n h || (holds_collection collection h || holds_class class h))
 
 -- it isn't released, and names the deposit
 abbrev pub is_live_on : ℤ → HoldRow → Bool
@@ -397,9 +408,13 @@ is_live_on n h = is_live h && holds_deposit n h
 abbrev pub is_live_within : ℤ → List ℕ → HoldRow → Bool
 is_live_within n collection h = is_live h && (holds_collection collection h && not (holds_deposit n h))
 
--- the numbers of the live holds over a deposit of that collection, ascending
-abbrev pub live_holds : ℤ → List ℕ → Tables → List ℤ
-live_holds n collection t = map (λ h. h.number) (filter (is_live_over n collection) t.holds)
+-- it isn't released, and names the class, and neither the deposit nor the collection
+abbrev pub is_live_of_class : ℤ → List ℕ → List ℕ → HoldRow → Bool
+is_live_of_class n collection class h = is_live h && (holds_class class h && (not (holds_deposit n h) && not (holds_collection collection h)))
+
+-- the numbers of the live holds over a deposit of that collection and that class, ascending
+abbrev pub live_holds : ℤ → List ℕ → List ℕ → Tables → List ℤ
+live_holds n collection class t = map (λ h. h.number) (filter (is_live_over n collection class) t.holds)
 
 -- ---- callers and rules, one after another
 

@@ -2,6 +2,7 @@
 use Rattle.std.specs.Prelude.{◌≡◌, ℕ, ◌&&◌, Bool, List, Some, IfSome, is_none, bytes_eq}
 use Rattle.std.specs.HashMap.{get}
 use denote.Ref.{Bor}
+use Rattle.jiff.specs.Types.{Date}
 use Rattle.office_core.specs.declared.action.Action.{Action}
 use Rattle.office_history.specs.Histories.{History}
 use Rattle.office_history.specs.Refusals.{denial}
@@ -15,12 +16,12 @@ Pair = Bor (List ℕ) × Bor (List ℕ)
 abbrev pub same_pair : Pair → Pair → Bool
 same_pair a b = bytes_eq a.0.now b.0.now && bytes_eq a.1.now b.1.now
 
--- the rules let the caller do that with the deposits of this collection and this class
-abbrev pub is_allowed : History → List ℕ → Action → List ℕ → List ℕ → Bool
-is_allowed h caller action collection class = is_none (denial h caller action (Some collection) (Some class))
+-- on this day the rules let the caller do that with the deposits of this collection and this class
+abbrev pub is_allowed : History → Date → List ℕ → Action → List ℕ → List ℕ → Bool
+is_allowed h day caller action collection class = is_none (denial h day caller action (Some collection) (Some class))
 
--- they are those of this caller and this action, and what is known of a pair is what the rules say of it
-pub record AreOf (h : History) (caller : List ℕ) (action : Action) (these : Allowances) : Type 0 where
-  pub asker : IsAsker h caller these.asker.now
+-- they are those of this day, this caller and this action, and what is known of a pair is what the rules say of it
+pub record AreOf (h : History) (day : Date) (caller : List ℕ) (action : Action) (these : Allowances) : Type 0 where
+  pub asker : IsAsker h day caller these.asker.now
   pub action_is : these.action ≡ action
-  pub right : (pair : Pair) → IfSome (get same_pair these.known pair) (λ is. is ≡ is_allowed h caller action pair.0.now pair.1.now)
+  pub right : (pair : Pair) → IfSome (get same_pair these.known pair) (λ is. is ≡ is_allowed h day caller action pair.0.now pair.1.now)

@@ -1,5 +1,6 @@
 -- What an audit says of the files that are stored, whoever wrote them.
 use Rattle.std.specs.Prelude.{◌≡◌, ℕ, List, Option, Some, None}
+use Rattle.jiff.specs.Types.{Date}
 use Rattle.bag_text.specs.BagList.{list_fault}
 use Rattle.bag_text.specs.FaultTexts.{set_fault_text}
 use Rattle.bag_text.specs.TransferForm.{File}
@@ -26,5 +27,5 @@ audit_of files = audit_unless (list_fault files) files
 
 -- The audit of the files that stand in the tables for that deposit, where the rows tell that the caller may ask for it; else the
 -- first refusal that they tell.
-abbrev pub IsAuditOf : Tables → List ℕ → ℕ → Answer → Type 0
-IsAuditOf t caller n = IsAnswerIn t caller acts.Audit n (λ row answer. answer ≡ Audit n (audit_of (stored_files n t)))
+abbrev pub IsAuditOf : Tables → Date → List ℕ → ℕ → Answer → Type 0
+IsAuditOf t day caller n = IsAnswerIn t day caller acts.Audit n (λ row answer. answer ≡ Audit n (audit_of (stored_files n t)))

@@ -2,6 +2,7 @@
 use Rattle.std.specs.Prelude.{◌≡◌, ℕ, ℤ, pos, List, Vec, Option, None, Result, Ok, Err, map, option_map, if◌then◌else◌}
 use Rattle.std.specs.List.{AllByRecursion}
 use Rattle.bag_text.specs.Paths.{is_good}
+use Rattle.jiff.specs.Types.{Date}
 use Rattle.bag_text.specs.TransferForm.{IsBag, set_text}
 use Rattle.office_core.specs.declared.action.Action.{Action}
 use Rattle.office_core.specs.declared.action.Action.TheVariants as acts
@@ -23,29 +24,29 @@ IsAnswerTo (Err why) is_so answer = answer ≡ Refused why
 
 -- the caller may ask this of the deposit, and this is so of its row and of the answer; or the answer is the first refusal that the
 -- rows tell
-pub record IsAnswerIn (t : Tables) (caller : List ℕ) (action : Action) (n : ℕ) (is_so : DepositRow → Answer → Type 0) (answer : Answer) : Type 0 where
+pub record IsAnswerIn (t : Tables) (day : Date) (caller : List ℕ) (action : Action) (n : ℕ) (is_so : DepositRow → Answer → Type 0) (answer : Answer) : Type 0 where
   pub asked : Result DepositRow Refusal
-  pub is_asked : IsAskedIn t caller action n asked
+  pub is_asked : IsAskedIn t day caller action n asked
   pub answers : IsAnswerTo asked is_so answer
 
 -- ---- its files
 
 -- the caller may ask this of the deposit, where rows are answered, and else the first refusal that the rows tell
-abbrev pub AreAskedIn : {A : Type 0} → Tables → List ℕ → Action → ℕ → Result (Vec FileRow A) Refusal → Type 0
-AreAskedIn t caller action n (Ok rows) = (row : DepositRow) × IsAskedIn t caller action n (Ok row)
-AreAskedIn t caller action n (Err why) = IsAskedIn t caller action n (Err why)
+abbrev pub AreAskedIn : {A : Type 0} → Tables → Date → List ℕ → Action → ℕ → Result (Vec FileRow A) Refusal → Type 0
+AreAskedIn t day caller action n (Ok rows) = (row : DepositRow) × IsAskedIn t day caller action n (Ok row)
+AreAskedIn t day caller action n (Err why) = IsAskedIn t day caller action n (Err why)
 
 -- the transfer form of the files that stand there, which are a bag
-abbrev pub IsBagIn : Tables → List ℕ → ℕ → Answer → Type 0
-IsBagIn t caller n = IsAnswerIn t caller acts.Download n (λ row answer. IsBag (stored_files n t) × (answer ≡ Bag (set_text (stored_files n t))))
+abbrev pub IsBagIn : Tables → Date → List ℕ → ℕ → Answer → Type 0
+IsBagIn t day caller n = IsAnswerIn t day caller acts.Download n (λ row answer. IsBag (stored_files n t) × (answer ≡ Bag (set_text (stored_files n t))))
 
 -- the content of the file that stands there at a path, which is any bytes: a path that no bag may have is that of no file, whatever stands there
 abbrev pub content_stored : ℕ → List ℕ → Tables → Option (List ℕ)
 content_stored n path t = if is_good path then option_map (λ (file : FileRow). file.content) (file_at (pos n) path t.files) else None
 
 -- the file that stands there at that path, or that there is none
-abbrev pub IsFileIn : Tables → List ℕ → ℕ → List ℕ → Answer → Type 0
-IsFileIn t caller n path = IsAnswerIn t caller acts.Download n (λ row answer. answer ≡ file_answer (content_stored n path t))
+abbrev pub IsFileIn : Tables → Date → List ℕ → ℕ → List ℕ → Answer → Type 0
+IsFileIn t day caller n path = IsAnswerIn t day caller acts.Download n (λ row answer. answer ≡ file_answer (content_stored n path t))
 
 -- ---- the holds that cover it
 
@@ -54,12 +55,12 @@ pub record AreHoldsOf (t : Tables) (numbers : List ℤ) (told : List LiveHold) :
   pub one_each : map (λ (hold : LiveHold). pos hold.number) told ≡ numbers
   pub each : AllByRecursion (λ (hold : LiveHold). IsHoldIn t hold.number hold) told
 
--- these are told of the live holds over the deposit of that number, which is of that collection, and each hold over it was released on
+-- these are told of the live holds over the deposit of that number, which is of that collection and that class, and each hold over it was released on
 -- a day of the office or not at all
-pub record AreHoldsOver (t : Tables) (n : ℕ) (collection : List ℕ) (told : List LiveHold) : Type 0 where
-  pub released : AreReleasedOnDays t n collection
-  pub are : AreHoldsOf t (live_holds (pos n) collection t) told
+pub record AreHoldsOver (t : Tables) (n : ℕ) (collection class : List ℕ) (told : List LiveHold) : Type 0 where
+  pub released : AreReleasedOnDays t n collection class
+  pub are : AreHoldsOf t (live_holds (pos n) collection class t) told
 
--- the live holds over the deposit, which is of the collection that its row names
-abbrev pub AreHoldsIn : Tables → List ℕ → ℕ → Answer → Type 0
-AreHoldsIn t caller n = IsAnswerIn t caller acts.Holds n (λ row answer. (told : List LiveHold) × AreHoldsOver t n row.collection told × (answer ≡ Holds told))
+-- the live holds over the deposit, which is of the collection and the class that its row names
+abbrev pub AreHoldsIn : Tables → Date → List ℕ → ℕ → Answer → Type 0
+AreHoldsIn t day caller n = IsAnswerIn t day caller acts.Holds n (λ row answer. (told : List LiveHold) × AreHoldsOver t n row.collection row.class told × (answer ≡ Holds told))

@@ -15,13 +15,13 @@ abbrev pub is_due : History → Date → List ℕ → ℕ → Bool
 is_due h day caller n = is_none (destruction_day h n) && is_none (refusal h day caller (Dispose n))
 
 -- a deposit that is kept, and that the caller may list
-abbrev pub is_shown : History → List ℕ → Option (List ℕ) → Option (List ℕ) → ℕ → Deposit → Bool
-is_shown h caller collection class n deposit = is_none (destruction_day h n) && is_listed h caller collection class deposit
+abbrev pub is_shown : History → Date → List ℕ → Option (List ℕ) → Option (List ℕ) → ℕ → Deposit → Bool
+is_shown h day caller collection class n deposit = is_none (destruction_day h n) && is_listed h day caller collection class deposit
 
 -- the record of a deposit that is kept, where it is listed
-abbrev pub shown_record : History → List ℕ → Option (List ℕ) → Option (List ℕ) → ℕ → Option DepositRecord
-shown_record h caller collection class n = if is_none (destruction_day h n) then listed_record h caller collection class n else None
+abbrev pub shown_record : History → Date → List ℕ → Option (List ℕ) → Option (List ℕ) → ℕ → Option DepositRecord
+shown_record h day caller collection class n = if is_none (destruction_day h n) then listed_record h day caller collection class n else None
 
 -- the rules let the caller destroy what stands there
-abbrev pub may_destroy : History → List ℕ → PlaceRow → Bool
-may_destroy h caller place = is_allowed h caller acts.Dispose place.collection place.class
+abbrev pub may_destroy : History → Date → List ℕ → PlaceRow → Bool
+may_destroy h day caller place = is_allowed h day caller acts.Dispose place.collection place.class

@@ -27,17 +27,17 @@ use Rattle.office_serving.specs.declared.allowances.Allowances.{Allowances}
 
 -- ---- the rules
 
--- whether the rules, by their rows, let the caller do that with the deposits of this collection and this class
-pub record IsAllowedIn (t : Tables) (caller : List ℕ) (action : Action) (collection class : List ℕ) (is : Bool) : Type 0 where
+-- whether the rules, by their rows, let the caller on this day do that with the deposits of this collection and this class
+pub record IsAllowedIn (t : Tables) (day : Date) (caller : List ℕ) (action : Action) (collection class : List ℕ) (is : Bool) : Type 0 where
   pub why : Option Refusal
-  pub denial : IsDenialIn t caller action (Some collection) (Some class) why
+  pub denial : IsDenialIn t day caller action (Some collection) (Some class) why
   pub free : is ≡ is_none why
 
--- they are those of this caller and this action, and what is known of a pair is what the rows of the rules say of it
-pub record AreIn (t : Tables) (caller : List ℕ) (action : Action) (these : Allowances) : Type 0 where
-  pub asker : IsAskerIn t caller these.asker.now
+-- they are those of this day, this caller and this action, and what is known of a pair is what the rows of the rules say of it
+pub record AreIn (t : Tables) (day : Date) (caller : List ℕ) (action : Action) (these : Allowances) : Type 0 where
+  pub asker : IsAskerIn t day caller these.asker.now
   pub action_is : these.action ≡ action
-  pub right : (pair : Pair) → IfSome (get same_pair these.known pair) (IsAllowedIn t caller action pair.0.now pair.1.now)
+  pub right : (pair : Pair) → IfSome (get same_pair these.known pair) (IsAllowedIn t day caller action pair.0.now pair.1.now)
 
 -- ---- what is told of rows, one after another
 
@@ -61,8 +61,8 @@ pub record IsRecordBy (t : Tables) (n : ℕ) (row : DepositRow) (told : DepositR
   pub is : IsRecordOf row kept told
 
 -- the record of the deposit of that number, where the caller may ask for it and it is kept; else the refusal that stands first
-abbrev pub IsRecordIn : Tables → List ℕ → ℕ → Answer → Type 0
-IsRecordIn t caller n = IsAnswerIn t caller acts.Record n (λ row answer. (told : DepositRecord) × IsRecordBy t n row told × (answer ≡ answers.Record told))
+abbrev pub IsRecordIn : Tables → Date → List ℕ → ℕ → Answer → Type 0
+IsRecordIn t day caller n = IsAnswerIn t day caller acts.Record n (λ row answer. (told : DepositRecord) × IsRecordBy t n row told × (answer ≡ answers.Record told))
 
 -- ---- lists
 
@@ -71,51 +71,51 @@ abbrev pub is_wanted : Option (List ℕ) → Option (List ℕ) → DepositRow �
 is_wanted collection class row = is_asked collection row.collection && is_asked class row.class
 
 -- a deposit that was destroyed is not listed, and the day of that is one; where there is no such day, the rules are asked
-abbrev pub IsShownUnless : Option ℤ → Tables → List ℕ → DepositRow → Bool → Type 0
-IsShownUnless (Some gone) t caller row is = IsDayNumber gone × (is ≡ false)
-IsShownUnless None t caller row is = IsAllowedIn t caller acts.List row.collection row.class is
+abbrev pub IsShownUnless : Option ℤ → Tables → Date → List ℕ → DepositRow → Bool → Type 0
+IsShownUnless (Some gone) t day caller row is = IsDayNumber gone × (is ≡ false)
+IsShownUnless None t day caller row is = IsAllowedIn t day caller acts.List row.collection row.class is
 
 -- a deposit that isn't wanted is not listed, whatever else its row says
-abbrev pub IsShownIf : Bool → Tables → List ℕ → DepositRow → Bool → Type 0
-IsShownIf true t caller row is = IsShownUnless row.gone t caller row is
-IsShownIf false t caller row is = is ≡ false
+abbrev pub IsShownIf : Bool → Tables → Date → List ℕ → DepositRow → Bool → Type 0
+IsShownIf true t day caller row is = IsShownUnless row.gone t day caller row is
+IsShownIf false t day caller row is = is ≡ false
 
 -- whether the deposit of the row is listed
-abbrev pub IsShownIn : Tables → List ℕ → Option (List ℕ) → Option (List ℕ) → DepositRow → Bool → Type 0
-IsShownIn t caller collection class row = IsShownIf (is_wanted collection class row) t caller row
+abbrev pub IsShownIn : Tables → Date → List ℕ → Option (List ℕ) → Option (List ℕ) → DepositRow → Bool → Type 0
+IsShownIn t day caller collection class row = IsShownIf (is_wanted collection class row) t day caller row
 
 -- the record of the deposit of the row where it is listed, and else nothing
-pub record IsToldIn (t : Tables) (caller : List ℕ) (collection class : Option (List ℕ)) (both : DepositRow × DueRow) (told : Option DepositRecord) : Type 0 where
+pub record IsToldIn (t : Tables) (day : Date) (caller : List ℕ) (collection class : Option (List ℕ)) (both : DepositRow × DueRow) (told : Option DepositRecord) : Type 0 where
   pub shown : Bool
-  pub is_shown : IsShownIn t caller collection class both.0 shown
+  pub is_shown : IsShownIn t day caller collection class both.0 shown
   pub tells : TellsIf shown (IsRecordOf both.0 both.1) told
 
 -- the records of the deposits that are kept, asked for and allowed, in the order of the rows
-abbrev pub AreListedIn : Tables → List ℕ → Option (List ℕ) → Option (List ℕ) → List (DepositRow × DueRow) → List DepositRecord → Type 0
-AreListedIn t caller collection class = TellsEach (IsToldIn t caller collection class)
+abbrev pub AreListedIn : Tables → Date → List ℕ → Option (List ℕ) → Option (List ℕ) → List (DepositRow × DueRow) → List DepositRecord → Type 0
+AreListedIn t day caller collection class = TellsEach (IsToldIn t day caller collection class)
 
 -- these, as an answer, of all rows
-abbrev pub IsListIn : Tables → List ℕ → Option (List ℕ) → Option (List ℕ) → Answer → Type 0
-IsListIn t caller collection class answer = (told : List DepositRecord) × AreListedIn t caller collection class (beside t.deposits t.dues) told × (answer ≡ answers.List told)
+abbrev pub IsListIn : Tables → Date → List ℕ → Option (List ℕ) → Option (List ℕ) → Answer → Type 0
+IsListIn t day caller collection class answer = (told : List DepositRecord) × AreListedIn t day caller collection class (beside t.deposits t.dues) told × (answer ≡ answers.List told)
 
 -- ---- due lists
 
 -- the number of the deposit that stands there, where the rules let the caller destroy it; and what is kept of its due day is one
-pub record IsPlaceToldIn (t : Tables) (caller : List ℕ) (place : PlaceRow) (told : Option ℕ) : Type 0 where
+pub record IsPlaceToldIn (t : Tables) (day : Date) (caller : List ℕ) (place : PlaceRow) (told : Option ℕ) : Type 0 where
   pub due : Due
   pub is : due_number due ≡ place.due
   pub is_due : IfSome place.due IsDueNumber
   pub allowed : Bool
-  pub is_allowed : IsAllowedIn t caller acts.Dispose place.collection place.class allowed
+  pub is_allowed : IsAllowedIn t day caller acts.Dispose place.collection place.class allowed
   pub tells : TellsIf allowed (λ (n : ℕ). pos n ≡ place.number) told
 
 -- the numbers of those that the rules let the caller destroy, in the order of the rows
-abbrev pub AreAllowedIn : Tables → List ℕ → List PlaceRow → List ℕ → Type 0
-AreAllowedIn t caller = TellsEach (IsPlaceToldIn t caller)
+abbrev pub AreAllowedIn : Tables → Date → List ℕ → List PlaceRow → List ℕ → Type 0
+AreAllowedIn t day caller = TellsEach (IsPlaceToldIn t day caller)
 
 -- the numbers of the deposits that have fallen due by that day, are under no hold, and that the rules let the caller destroy
 abbrev pub AreDueIn : Tables → Date → List ℕ → List ℕ → Type 0
-AreDueIn t day caller = AreAllowedIn t caller (due_places (epoch_day day) t)
+AreDueIn t day caller = AreAllowedIn t day caller (due_places (epoch_day day) t)
 
 -- these, as an answer
 abbrev pub IsDueListIn : Tables → Date → List ℕ → Answer → Type 0

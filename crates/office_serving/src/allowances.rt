@@ -1,7 +1,8 @@
-//! What the rules let a caller do with the deposits of a collection and a class, asked once for each
+//! What the rules let a caller do on a day with the deposits of a collection and a class, asked once for each
 //! pair that comes up.
 
 ghost use Rattle.std.specs.Prelude.{◌≡◌, IfErr, List, ℕ};
+ghost use Rattle.jiff.specs.Types.{Date};
 ghost use Rattle.office_core.specs.declared.action.Action.{Action};
 ghost use Rattle.office_tables.specs.Faults.{IsFailure};
 ghost use Rattle.office_tables.specs.Calls.{CommitsNothing, ContinuesInTurn, Keeps, Tells};
@@ -20,7 +21,7 @@ use sqlite::{Alter, Transaction};
 use std::alloc::Global;
 use std::collections::HashMap;
 
-/// What a caller may do with deposits, by the pairs of collection and class of which the rules were
+/// What a caller may do with deposits on a day, by the pairs of collection and class of which the rules were
 /// asked. The texts of a pair are lent by the rows.
 #[derive(Drop)]
 pub struct Allowances<'a> {
@@ -30,10 +31,10 @@ pub struct Allowances<'a> {
 }
 
 impl<'a> Allowances<'a> {
-    /// Those of a caller and an action, of no pair yet.
+    /// Those of the asker and an action, of no pair yet.
     pub fn new(alloc: Global, asker: &'a Asker, action: Action) -> Allowances<'a>
-        ensures those { (h : History) (caller : List ℕ) → IsAsker h caller asker.now → AreOf h caller action result }
-        ensures rows { (tables : Tables) (caller : List ℕ) → IsAskerIn tables caller asker.now → AreIn tables caller action result }
+        ensures those { (h : History) (day : Date) (caller : List ℕ) → IsAsker h day caller asker.now → AreOf h day caller action result }
+        ensures rows { (tables : Tables) (day : Date) (caller : List ℕ) → IsAskerIn tables day caller asker.now → AreIn tables day caller action result }
     {
         Allowances {
             asker,
@@ -56,12 +57,12 @@ impl<'a> Allowances<'a> {
         ensures goes_on { ContinuesInTurn S.Store tx.old.conn.now tx.new.conn.now result }
         ensures failure { IfErr result IsFailure }
         ensures allowed { Finds S.Store tx.old.conn.now tx.new.conn.now result (λ h is.
-            (caller : List ℕ) (action : Action) → AreOf h caller action self.old
-            → AreOf h caller action self.new × (is ≡ is_allowed h caller action collection.now class.now)) }
+            (day : Date) (caller : List ℕ) (action : Action) → AreOf h day caller action self.old
+            → AreOf h day caller action self.new × (is ≡ is_allowed h day caller action collection.now class.now)) }
         ensures same { Keeps S.Store tx.old.conn.now tx.new.conn.now result }
         ensures rows { Tells S.Store tx.old.conn.now tx.new.conn.now result (λ tables is.
-            (caller : List ℕ) (action : Action) → AreIn tables caller action self.old
-            → AreIn tables caller action self.new × IsAllowedIn tables caller action collection.now class.now is) }
+            (day : Date) (caller : List ℕ) (action : Action) → AreIn tables day caller action self.old
+            → AreIn tables day caller action self.new × IsAllowedIn tables day caller action collection.now class.now is) }
     {
         if let Some(is) = self.known.get(&(collection, class)).copied() {
             return Ok(is);

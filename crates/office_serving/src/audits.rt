@@ -53,10 +53,10 @@ pub fn audit<S: Alter>(
     ensures same { Keeps S.Store tx.old.conn.now tx.new.conn.now result }
     // Whatever the tables of the office hold, the report is that of what stands there.
     ensures rows { Tells S.Store tx.old.conn.now tx.new.conn.now result (λ tables answer.
-        IsAuditOf tables caller.now number answer) }
+        IsAuditOf tables day caller.now number answer) }
 {
     one_list_fault();
-    match kept_files(alloc, tx, caller, Action::Audit, number)? {
+    match kept_files(alloc, tx, day, caller, Action::Audit, number)? {
         Ok(rows) => Ok(Answer::Audit {
             deposit: number,
             report: audit_of(alloc, &rows)?,

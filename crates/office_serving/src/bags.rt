@@ -83,6 +83,7 @@ fn text_of(alloc: Global, rows: &[FileRow]) -> Result<Vec<u8>, TableFault>
 pub fn kept_files<S: Alter>(
     alloc: Global,
     tx: &mut Transaction<'_, S>,
+    day: Day,
     caller: &str,
     action: Action,
     number: u32,
@@ -92,16 +93,16 @@ pub fn kept_files<S: Alter>(
     ensures goes_on { Continues S.Store tx.old.conn.now tx.new.conn.now result }
     ensures failure { IfErr result IsFailure }
     ensures asked { Finds S.Store tx.old.conn.now tx.new.conn.now result (λ h asked.
-        AreAsked h number (kept_refusals h caller.now action number) asked) }
+        AreAsked h number (kept_refusals h day caller.now action number) asked) }
     // Whatever the tables of the office hold, these are the rows that stand there.
     ensures stored { Tells S.Store tx.old.conn.now tx.new.conn.now result (λ tables asked.
         IfOk asked (λ rows. rows.items ≡ files_by_path (pos number) tables)) }
     ensures same { Keeps S.Store tx.old.conn.now tx.new.conn.now result }
-    ensures rows { Tells S.Store tx.old.conn.now tx.new.conn.now result (λ tables asked. AreAskedIn tables caller.now action number asked) }
+    ensures rows { Tells S.Store tx.old.conn.now tx.new.conn.now result (λ tables asked. AreAskedIn tables day caller.now action number asked) }
 {
     // A bag that is kept is a bag.
     sound_bags();
-    match kept_deposit(tx, caller, action, number)? {
+    match kept_deposit(tx, day, caller, action, number)? {
         Ok(_) => Ok(Ok(files_of(alloc, tx, number)?)),
         Err(why) => Ok(Err(why)),
     }
@@ -123,9 +124,9 @@ pub fn download_bag<S: Alter>(
     ensures failure { IfErr result IsFailure }
     ensures decides { Decides S.Store tx.old.conn.now tx.new.conn.now result day caller.now (requests.DownloadBag number) }
     ensures same { Keeps S.Store tx.old.conn.now tx.new.conn.now result }
-    ensures rows { Tells S.Store tx.old.conn.now tx.new.conn.now result (λ tables answer. IsBagIn tables caller.now number answer) }
+    ensures rows { Tells S.Store tx.old.conn.now tx.new.conn.now result (λ tables answer. IsBagIn tables day caller.now number answer) }
 {
-    match kept_files(alloc, tx, caller, Action::Download, number)? {
+    match kept_files(alloc, tx, day, caller, Action::Download, number)? {
         Ok(rows) => Ok(Answer::Bag {
             bytes: Sequence::of(text_of(alloc, &rows)?),
         }),

@@ -1,6 +1,7 @@
 //! The deposits that a caller may destroy on a day.
 
 ghost use Rattle.std.specs.Prelude.{◌≡◌, IfErr, List, ℕ, pos, map, filter};
+ghost use Rattle.jiff.specs.Types.{Date};
 ghost use Rattle.office_core.specs.declared.request.Request.TheVariants as requests;
 ghost use Rattle.office_tables.specs.Faults.{IsFailure};
 ghost use Rattle.office_tables.specs.Calls.{CommitsNothing, Continues, ContinuesInTurn, Keeps, Tells};
@@ -19,7 +20,7 @@ use office_tables::{PlaceRow, TableFault, due_rows};
 use sqlite::{Alter, Transaction};
 use std::alloc::Global;
 
-/// The numbers of those that the rules let the caller destroy. Each due day is read, allowed or not, so that
+/// The numbers of those that the rules let the asker destroy. Each due day is read, allowed or not, so that
 /// none stands that isn't one.
 fn allowed_among<S: Alter>(
     alloc: Global,
@@ -31,11 +32,11 @@ fn allowed_among<S: Alter>(
     ensures stays { CommitsNothing S.Store tx.old.conn.now tx.new.conn.now }
     ensures goes_on { ContinuesInTurn S.Store tx.old.conn.now tx.new.conn.now result }
     ensures failure { IfErr result IsFailure }
-    ensures allowed { Finds S.Store tx.old.conn.now tx.new.conn.now result (λ h numbers. (caller : List ℕ) → IsAsker h caller asker.now
-        → map pos numbers.items ≡ map (λ (p : Place). p.number) (filter (may_destroy h caller) places.now)) }
+    ensures allowed { Finds S.Store tx.old.conn.now tx.new.conn.now result (λ h numbers. (day : Date) (caller : List ℕ) → IsAsker h day caller asker.now
+        → map pos numbers.items ≡ map (λ (p : Place). p.number) (filter (may_destroy h day caller) places.now)) }
     ensures same { Keeps S.Store tx.old.conn.now tx.new.conn.now result }
-    ensures rows { Tells S.Store tx.old.conn.now tx.new.conn.now result (λ tables numbers. (caller : List ℕ) → IsAskerIn tables caller asker.now
-        → AreAllowedIn tables caller places.now numbers.items) }
+    ensures rows { Tells S.Store tx.old.conn.now tx.new.conn.now result (λ tables numbers. (day : Date) (caller : List ℕ) → IsAskerIn tables day caller asker.now
+        → AreAllowedIn tables day caller places.now numbers.items) }
 {
     let mut allowances = Allowances::new(alloc, asker, Action::Dispose);
     let mut numbers = Vec::new(alloc);
@@ -67,7 +68,7 @@ pub fn due_numbers<S: Alter>(
     ensures same { Keeps S.Store tx.old.conn.now tx.new.conn.now result }
     ensures rows { Tells S.Store tx.old.conn.now tx.new.conn.now result (λ tables numbers. AreDueIn tables day caller.now numbers.items) }
 {
-    let asker = Asker::read(tx, caller)?;
+    let asker = Asker::read(tx, day, caller)?;
     let places = due_rows(alloc, tx, day.number() as i64)?;
     allowed_among(alloc, tx, &asker, &places)
 }

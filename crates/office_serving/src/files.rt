@@ -84,9 +84,9 @@ pub fn download_file<S: Alter>(
     ensures failure { IfErr result IsFailure }
     ensures decides { Decides S.Store tx.old.conn.now tx.new.conn.now result day caller.now (requests.DownloadFile number path.entry) }
     ensures same { Keeps S.Store tx.old.conn.now tx.new.conn.now result }
-    ensures rows { Tells S.Store tx.old.conn.now tx.new.conn.now result (λ tables answer. IsFileIn tables caller.now number path.now answer) }
+    ensures rows { Tells S.Store tx.old.conn.now tx.new.conn.now result (λ tables answer. IsFileIn tables day caller.now number path.now answer) }
 {
-    match kept_deposit(tx, caller, Action::Download, number)? {
+    match kept_deposit(tx, day, caller, Action::Download, number)? {
         Ok(_) => Ok(file_answer(content_of(tx, number, path)?)),
         Err(why) => Ok(Answer::Refused(why)),
     }

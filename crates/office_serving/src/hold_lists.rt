@@ -37,23 +37,25 @@ fn told_each<S: Alter>(
     Ok(told)
 }
 
-/// What is told of the live holds that cover the deposit of that number, which is of that collection.
+/// What is told of the live holds that cover the deposit of that number, which is of that collection
+/// and that class.
 fn told_holds<S: Alter>(
     alloc: Global,
     tx: &mut Transaction<'_, S>,
     number: u32,
     collection: &str,
+    class: &str,
 ) -> Result<Vec<LiveHold>, TableFault>
     ensures same_reference { tx.new.conn.ghost_name ≡ tx.old.conn.ghost_name }
     ensures stays { CommitsNothing S.Store tx.old.conn.now tx.new.conn.now }
     ensures goes_on { Continues S.Store tx.old.conn.now tx.new.conn.now result }
     ensures failure { IfErr result IsFailure }
     ensures told { Finds S.Store tx.old.conn.now tx.new.conn.now result (λ h told.
-        (deposit : Deposit) → deposit.collection ≡ collection.now → told.items ≡ told_holds h number deposit) }
+        (deposit : Deposit) → deposit.collection ≡ collection.now → deposit.class ≡ class.now → told.items ≡ told_holds h number deposit) }
     ensures same { Keeps S.Store tx.old.conn.now tx.new.conn.now result }
-    ensures rows { Tells S.Store tx.old.conn.now tx.new.conn.now result (λ tables told. AreHoldsOver tables number collection.now told.items) }
+    ensures rows { Tells S.Store tx.old.conn.now tx.new.conn.now result (λ tables told. AreHoldsOver tables number collection.now class.now told.items) }
 {
-    let numbers = holds_over(alloc, tx, number, collection)?;
+    let numbers = holds_over(alloc, tx, number, collection, class)?;
     told_each(alloc, tx, &numbers)
 }
 
@@ -73,11 +75,11 @@ pub fn holds<S: Alter>(
     ensures failure { IfErr result IsFailure }
     ensures decides { Decides S.Store tx.old.conn.now tx.new.conn.now result day caller.now (requests.Holds number) }
     ensures same { Keeps S.Store tx.old.conn.now tx.new.conn.now result }
-    ensures rows { Tells S.Store tx.old.conn.now tx.new.conn.now result (λ tables answer. AreHoldsIn tables caller.now number answer) }
+    ensures rows { Tells S.Store tx.old.conn.now tx.new.conn.now result (λ tables answer. AreHoldsIn tables day caller.now number answer) }
 {
-    match kept_deposit(tx, caller, Action::Holds, number)? {
+    match kept_deposit(tx, day, caller, Action::Holds, number)? {
         Ok(row) => Ok(Answer::Holds {
-            holds: Sequence::of(told_holds(alloc, tx, number, &row.collection)?),
+            holds: Sequence::of(told_holds(alloc, tx, number, &row.collection, &row.class)?),
         }),
         Err(why) => Ok(Answer::Refused(why)),
     }

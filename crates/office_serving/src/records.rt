@@ -100,9 +100,9 @@ pub fn record<S: Alter>(
         (requests.Record number) }
     ensures same { Keeps S.Store tx.old.conn.now tx.new.conn.now result }
     ensures rows { Tells S.Store tx.old.conn.now tx.new.conn.now result (λ tables given.
-        IsRecordIn tables caller.now number given) }
+        IsRecordIn tables day caller.now number given) }
 {
-    match kept_deposit(tx, caller, Action::Record, number)? {
+    match kept_deposit(tx, day, caller, Action::Record, number)? {
         Ok(row) => Ok(Answer::Record(record_of(alloc, tx, &row)?)),
         Err(why) => Ok(Answer::Refused(why)),
     }

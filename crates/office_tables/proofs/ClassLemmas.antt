@@ -42,7 +42,7 @@ pub class_rows : (db : Database) → IsOffice db → AllByRecursion IsClassRow (
 class_rows db office = all_both (λ r typed present. (
   text_at office_schema db.trees class_table r typed present 0 (needed (codes "name") kind.Text) refl refl refl refl refl,
   int_in office_schema db.trees class_table r typed present 1 (needed (codes "years") kind.Integer) refl refl refl refl refl,
-)) (db.trees 4) (keeps_rule office Datatype).1.1.1.0 (keeps_rule office NotNull).1.1.1.0
+)) (db.trees 4) (keeps_rule office.whole Datatype).1.1.1.0 (keeps_rule office.whole NotNull).1.1.1.0
 
 -- what is known of the table: each name is a text, and at most one class has it
 module _ (db : Database) (office : IsOffice db) (name : List ℕ) where
@@ -50,7 +50,7 @@ module _ (db : Database) (office : IsOffice db) (name : List ℕ) where
   named = all_from _ (db.trees 4) (λ r there. (all_has IsClassRow (db.trees 4) r (class_rows db office) there).0)
 
   few : (filter (has_text 1 name) (db.trees 4) ≡ []) ⊎ ((r : Row) × Has (db.trees 4) r × (has_text 1 name r ≡ true) × (filter (has_text 1 name) (db.trees 4) ≡ r ∷ []))
-  few = few_named 1 (db.trees 4) office.shaped.1.1.1.0 named (keeps_rule office Unique).1.1.1.0 name
+  few = few_named 1 (db.trees 4) office.whole.shaped.1.1.1.0 named (keeps_rule office.whole Unique).1.1.1.0 name
 
 -- ---- the years of a class
 
@@ -59,9 +59,9 @@ pub finds_years : (old new : State) (name : List ℕ) (rows : List Row) → IsOf
 finds_years old new name rows office h =
     let params : Row = Text name ∷ [] in
     let db = old.now.trees in
-    let is = reads_one office_schema years_text 4 (by_text 1) years_columns [] asks_years params old new office.schema_is rows h (has_text 1 name)
+    let is = reads_one office_schema years_text 4 (by_text 1) years_columns [] asks_years params old new office.whole.schema_is rows h (has_text 1 name)
     (each_passes 1 name [] (db 4) (named old.now office name)) (few old.now office name) in (
-      reads_same office_schema years_text 4 (by_text 1) years_columns [] asks_years params old new office.schema_is rows h,
+      reads_same office_schema years_text 4 (by_text 1) years_columns [] asks_years params old new office.whole.schema_is rows h,
       finds_part (db 4) rows (has_text 1 name) (shown_of params years_columns) class_in (is_class name) (λ r. refl) is (λ (c : ClassRow). c.years) (λ row. int_at row 0) (λ r. refl),
     )
 
@@ -74,14 +74,14 @@ adds_class old new name years count office h =
     let db = old.now.trees in
     let source : Row = Null ∷ Text name ∷ Int years ∷ [] in
     let edit = edit_of db class_table [] Chosen 0 (source ∷ []) in
-    let done = inserts add_class_text params old new office_schema office.schema_is 3 class_table refl idle class_terms 3 add_class_means refl refl count h in
+    let done = inserts add_class_text params old new office_schema office.whole.schema_is 3 class_table refl idle class_terms 3 add_class_means refl refl count h in
     let cast_is : cast_row class_table source ≡ Null ∷ Text name ∷ Int years ∷ [] = rw (cast_null, cast_int years) refl in
-    let end = appended db class_table source (Text name ∷ Int years ∷ []) office.shaped.1.1.1.0 cast_is in
-    becomes old new edit count edit.news office.shaped done _ (ap (λ rows. record (tables_of old.now) { classes = rows }) (ap (map class_in) end ∙ map-append class_in (db 4) _))
+    let end = appended db class_table source (Text name ∷ Int years ∷ []) office.whole.shaped.1.1.1.0 cast_is in
+    becomes old new edit count edit.news office (refl, (refl, tt)) done _ (ap (λ rows. record (tables_of old.now) { classes = rows }) (ap (map class_in) end ∙ map-append class_in (db 4) _))
 
 pub adds_class_once : (old new : State) (name : List ℕ) (years : ℤ) (count : ℕ) → IsOffice old.now → Executes add_class_text (Text name ∷ Int years ∷ []) old new (Ok count) → KeepsOnce old.now → KeepsOnce new.now
 adds_class_once old new name years count office h =
-    leaves_once old new _ count _ (inserts add_class_text (Text name ∷ Int years ∷ []) old new office_schema office.schema_is 3 class_table refl idle class_terms 3 add_class_means refl refl count h)
+    leaves_once old new _ count _ (inserts add_class_text (Text name ∷ Int years ∷ []) old new office_schema office.whole.schema_is 3 class_table refl idle class_terms 3 add_class_means refl refl count h)
 
 -- ---- other years
 
@@ -95,21 +95,21 @@ pub revises_class : (old new : State) (name : List ℕ) (years : ℤ) (count : �
     → Becomes new.now (with_years name years (tables_of old.now)) × (count ≡ (if list_any (is_class name) (tables_of old.now).classes then 1 else 0))
 revises_class old new name years count office h =
     let db = old.now.trees in
-    let shaped = office.shaped.1.1.1.0 in
+    let shaped = office.whole.shaped.1.1.1.0 in
     let keep = has_text 1 name in
     let set : Row → Row = λ r. rowid r ∷ Text (bytes_at r 1) ∷ Int years ∷ [] in
-    let done = revises revise_text (Text name ∷ Int years ∷ []) old new office_schema office.schema_is 3 class_table refl idle shaped (by_text 1) revised_columns
+    let done = revises revise_text (Text name ∷ Int years ∷ []) old new office_schema office.whole.schema_is 3 class_table refl idle shaped (by_text 1) revised_columns
     keep (each_passes 1 name (Int years ∷ []) (db 4) (named old.now office name)) revise_means set (few old.now office name)
     (λ r there. (refl, cast_set years r (all_has IsClassRow (db 4) r (class_rows old.now office) there) (all_has _ (db 4) r shaped.1 there), refl)) count h in
     let edit = edit_of db class_table (ids_of done.answer) Given 1 done.answer in
     let set_is = decoded class_in keep set (is_class name) (λ c. record c { years = years }) (λ r. refl) (λ r. refl) (db 4) in (
-      becomes old new edit count edit.news office.shaped done.change _ (ap (λ rows. record (tables_of old.now) { classes = rows }) (ap (map class_in) done.made ∙ set_is)),
+      becomes old new edit count edit.news office (refl, (refl, tt)) done.change _ (ap (λ rows. record (tables_of old.now) { classes = rows }) (ap (map class_in) done.made ∙ set_is)),
       done.change.counted ∙ counted db class_table done.answer keep (shown_of (Text name ∷ Int years ∷ []) revised_columns) class_in (is_class name) (λ r. refl) (few old.now office name) done.shows,
     )
 
 pub revises_class_once : (old new : State) (name : List ℕ) (years : ℤ) (count : ℕ) → IsOffice old.now → Executes revise_text (Text name ∷ Int years ∷ []) old new (Ok count) → KeepsOnce old.now → KeepsOnce new.now
 revises_class_once old new name years count office h =
-    leaves_once old new _ count _ (updates revise_text (Text name ∷ Int years ∷ []) old new office_schema office.schema_is 3 class_table refl idle (as_program (scan 4 (by_text 1) revised_columns [])) revise_means count h).2
+    leaves_once old new _ count _ (updates revise_text (Text name ∷ Int years ∷ []) old new office_schema office.whole.schema_is 3 class_table refl idle (as_program (scan 4 (by_text 1) revised_columns [])) revise_means count h).2
 
 -- where the UPDATE counted none, the INSERT is left to do; where it counted one, nothing is
 pub puts_class : (t : Tables) (name : List ℕ) (years : ℤ) (mid : Database) (count : ℕ) → Becomes mid (with_years name years t) → count ≡ (if list_any (is_class name) t.classes then 1 else 0)

@@ -30,11 +30,11 @@ use Rattle.office_tables.proofs.ClassTexts.{find_text, name_column, asks_collect
 
 pub collection_rows : (db : Database) → IsOffice db → AllByRecursion (λ r. column r 1 ≡ Text (bytes_at r 1)) (db.trees 6)
 collection_rows db office = all_both (λ r typed present. text_at office_schema db.trees collection_table r typed present 0 (needed (codes "name") kind.Text) refl refl refl refl refl)
-    (db.trees 6) (keeps_rule office Datatype).1.1.1.1.0 (keeps_rule office NotNull).1.1.1.1.0
+    (db.trees 6) (keeps_rule office.whole Datatype).1.1.1.1.0 (keeps_rule office.whole NotNull).1.1.1.1.0
 
 module _ (db : Database) (office : IsOffice db) (name : List ℕ) where
   few : (filter (has_text 1 name) (db.trees 6) ≡ []) ⊎ ((r : Row) × Has (db.trees 6) r × (has_text 1 name r ≡ true) × (filter (has_text 1 name) (db.trees 6) ≡ r ∷ []))
-  few = few_named 1 (db.trees 6) office.shaped.1.1.1.1.0 (collection_rows db office) (keeps_rule office Unique).1.1.1.1.0 name
+  few = few_named 1 (db.trees 6) office.whole.shaped.1.1.1.1.0 (collection_rows db office) (keeps_rule office.whole Unique).1.1.1.1.0 name
 
 some_there : {X : Type 0} (xs : List X) → list_any (λ x. true) xs ≡ not (length xs == 0)
 some_there [] = refl
@@ -48,9 +48,9 @@ pub finds_collection : (old new : State) (name : List ℕ) (rows : List Row) →
 finds_collection old new name rows office h =
     let params : Row = Text name ∷ [] in
     let db = old.now.trees in
-    let is = reads_one office_schema find_text 6 (by_text 1) name_column [] asks_collection params old new office.schema_is rows h (has_text 1 name)
+    let is = reads_one office_schema find_text 6 (by_text 1) name_column [] asks_collection params old new office.whole.schema_is rows h (has_text 1 name)
     (each_passes 1 name [] (db 6) (collection_rows old.now office)) (few old.now office name) in (
-      reads_same office_schema find_text 6 (by_text 1) name_column [] asks_collection params old new office.schema_is rows h,
+      reads_same office_schema find_text 6 (by_text 1) name_column [] asks_collection params old new office.whole.schema_is rows h,
       finds_any (db 6) rows (has_text 1 name) (shown_of params name_column) collection_in (is_collection name) (λ r. refl) is ∙ some_there rows,
     )
 
@@ -61,7 +61,7 @@ adds_collection old new name count office h =
     let db = old.now.trees in
     let source : Row = Null ∷ Text name ∷ [] in
     let edit = edit_of db collection_table [] Chosen 0 (source ∷ []) in
-    let done = inserts add_collection_text params old new office_schema office.schema_is 4 collection_table refl idle collection_terms 2 add_collection_means refl refl count h in
+    let done = inserts add_collection_text params old new office_schema office.whole.schema_is 4 collection_table refl idle collection_terms 2 add_collection_means refl refl count h in
     let cast_is : cast_row collection_table source ≡ Null ∷ Text name ∷ [] = rw cast_null refl in
-    let end = appended db collection_table source (Text name ∷ []) office.shaped.1.1.1.1.0 cast_is in
-    becomes old new edit count edit.news office.shaped done _ (ap (λ rows. record (tables_of old.now) { collections = rows }) (ap (map collection_in) end ∙ map-append collection_in (db 6) _))
+    let end = appended db collection_table source (Text name ∷ []) office.whole.shaped.1.1.1.1.0 cast_is in
+    becomes old new edit count edit.news office (refl, (refl, tt)) done _ (ap (λ rows. record (tables_of old.now) { collections = rows }) (ap (map collection_in) end ∙ map-append collection_in (db 6) _))

@@ -64,12 +64,12 @@ content_rows db office = all_both (λ r t p. (
   blob_at office_schema db.trees content_table r t p 1 (needed (codes "mark") kind.Blob) refl refl refl refl refl,
   int_in office_schema db.trees content_table r t p 2 (needed (codes "size") kind.Integer) refl refl refl refl refl,
   blob_at office_schema db.trees content_table r t p 3 (needed (codes "bytes") kind.Blob) refl refl refl refl refl,
-)) (db.trees 13) (keeps_rule office Datatype).1.1.1.1.1.1.1.1.0 (keeps_rule office NotNull).1.1.1.1.1.1.1.1.0
+)) (db.trees 13) (keeps_rule office.whole Datatype).1.1.1.1.1.1.1.1.0 (keeps_rule office.whole NotNull).1.1.1.1.1.1.1.1.0
 
 -- the reference of a stored file
 pub file_references : (db : Database) → IsOffice db → AllByRecursion (λ r. column r 3 ≡ Int (int_at r 3)) (db.trees 10)
 file_references db office = all_both (λ r t p. int_in office_schema db.trees file_table r t p 2 (needed (codes "content") kind.Integer) refl refl refl refl refl)
-    (db.trees 10) (keeps_rule office Datatype).1.1.1.1.1.1.0 (keeps_rule office NotNull).1.1.1.1.1.1.0
+    (db.trees 10) (keeps_rule office.whole Datatype).1.1.1.1.1.1.0 (keeps_rule office.whole NotNull).1.1.1.1.1.1.0
 
 -- ---- the content of a number
 
@@ -78,7 +78,7 @@ module _ (db : Database) (office : IsOffice db) where
   stored = db.trees 13
 
   shaped : IsShaped shape.Table stored
-  shaped = office.shaped.1.1.1.1.1.1.1.1.0
+  shaped = office.whole.shaped.1.1.1.1.1.1.1.1.0
 
   -- the content that has a number is the one of that number
   pub row_numbered : (n : ℤ) (r : Row) → Has stored r → has_number n r ≡ true → content_numbered n (contents_of db) ≡ Some (content_in r)
@@ -102,7 +102,7 @@ module _ (db : Database) (office : IsOffice db) where
   held : (row : Row) → Has (db.trees 10) row → parents row ≡ true
   unfolding joined same_name
   held row there =
-      let each = all_has _ (db.trees 10) row (keeps_rule office ForeignKey).1.1.1.1.1.1.0 there in
+      let each = all_has _ (db.trees 10) row (keeps_rule office.whole ForeignKey).1.1.1.1.1.1.0 there in
       let typed : column row 3 ≡ Int (int_at row 3) = all_has _ (db.trees 10) row (file_references db office) there in
       let one : (has_null (3 ∷ []) row || parents row) && true ≡ true = each in
       let either : has_null (3 ∷ []) row || parents row ≡ true = (and_parts _ _ one).0 in
@@ -156,9 +156,9 @@ pub finds_bytes : (old new : State) (id : ℤ) (rows : List Row) → IsOffice ol
 finds_bytes old new id rows office h =
     let params : Row = Int id ∷ [] in
     let stored = old.now.trees 13 in
-    let shaped = office.shaped.1.1.1.1.1.1.1.1.0 in
-    let is = reads_one office_schema bytes_text 13 by_number bytes_column [] asks_bytes params old new office.schema_is rows h (has_number id) (each_numbered id [] stored shaped) (few_numbered id stored shaped) in (
-      reads_same office_schema bytes_text 13 by_number bytes_column [] asks_bytes params old new office.schema_is rows h,
+    let shaped = office.whole.shaped.1.1.1.1.1.1.1.1.0 in
+    let is = reads_one office_schema bytes_text 13 by_number bytes_column [] asks_bytes params old new office.whole.schema_is rows h (has_number id) (each_numbered id [] stored shaped) (few_numbered id stored shaped) in (
+      reads_same office_schema bytes_text 13 by_number bytes_column [] asks_bytes params old new office.whole.schema_is rows h,
       finds_part stored rows (has_number id) (shown_of params bytes_column) content_in (is_content id) (λ r. refl) is (λ (c : ContentRow). c.bytes) (λ row. bytes_at row 0) (λ r. refl),
     )
 
@@ -181,8 +181,8 @@ finds_alike old new mark bytes rows office h =
     let params : Row = Blob mark ∷ Blob bytes ∷ [] in
     let db = old.now.trees in
     let each = each_like old.now office mark bytes in
-    let found = reads_scan office_schema alike_text 13 by_likeness id_column [] asks_alike params old new office.schema_is rows h in (
-      reads_same office_schema alike_text 13 by_likeness id_column [] asks_alike params old new office.schema_is rows h,
+    let found = reads_scan office_schema alike_text 13 by_likeness id_column [] asks_alike params old new office.whole.schema_is rows h in (
+      reads_same office_schema alike_text 13 by_likeness id_column [] asks_alike params old new office.whole.schema_is rows h,
       λ none. elim (cases_Bool (list_any (is_alike mark bytes) (contents_of old.now))) [
         | inl some ↦ absurd (
             let c = some_has (is_alike mark bytes) (contents_of old.now) some in
@@ -203,7 +203,7 @@ finds_alike old new mark bytes rows office h =
 
 pub finds_last : (old new : State) (rows : List Row) → IsOffice old.now → Shown last_text [] old new rows
     → (new.now ≡ old.now) × (last_number (λ (c : ContentRow). c.id) (contents_of old.now) ≡ option_map (λ row. int_at row 0) (slice_get rows 0))
-finds_last old new rows office h = reads_last 13 content_in (λ (c : ContentRow). c.id) (λ r. refl) office_schema last_text asks_last old new office.schema_is office.shaped.1.1.1.1.1.1.1.1.0.0 rows h
+finds_last old new rows office h = reads_last 13 content_in (λ (c : ContentRow). c.id) (λ r. refl) office_schema last_text asks_last old new office.whole.schema_is office.whole.shaped.1.1.1.1.1.1.1.1.0.0 rows h
 
 abbrev shown_size : Row → ℤ × ℤ
 shown_size row = (int_at row 0, int_at row 1)
@@ -212,12 +212,12 @@ pub lists_contents : (old new : State) (rows : List Row) → IsOffice old.now �
     → (new.now ≡ old.now) × (map (λ (c : ContentRow). (c.id, c.size)) (contents_of old.now) ≡ map shown_size rows)
 lists_contents old new rows office h =
     let stored = old.now.trees 13 in
-    let up = ascending_weaker _ _ (λ a b lower. rw lower refl) stored office.shaped.1.1.1.1.1.1.1.1.0.0 in
-    let is = reads_rising office_schema contents_text 13 [] size_columns rising asks_contents [] old new office.schema_is rows h (λ r. true) (all_from _ stored (λ r there. refl)) up in
+    let up = ascending_weaker _ _ (λ a b lower. rw lower refl) stored office.whole.shaped.1.1.1.1.1.1.1.1.0.0 in
+    let is = reads_rising office_schema contents_text 13 [] size_columns rising asks_contents [] old new office.whole.schema_is rows h (λ r. true) (all_from _ stored (λ r there. refl)) up in
     let whole : rows ≡ map (shown_of [] size_columns) stored = is ∙ ap (map (shown_of [] size_columns)) (filter_all (λ r. true) stored (λ r there. refl)) in
     let shows : map shown_size (map (shown_of [] size_columns) stored) ≡ map (λ r. (int_at r 0, int_at r 3)) stored = map-map shown_size (shown_of [] size_columns) stored in
     let typed : map (λ (c : ContentRow). (c.id, c.size)) (map content_in stored) ≡ map (λ r. (int_at r 0, int_at r 3)) stored = map-map (λ (c : ContentRow). (c.id, c.size)) content_in stored in (
-      reads_same office_schema contents_text 13 [] size_columns rising asks_contents [] old new office.schema_is rows h,
+      reads_same office_schema contents_text 13 [] size_columns rising asks_contents [] old new office.whole.schema_is rows h,
       typed ∙ sym shows ∙ sym (ap (map shown_size) whole),
     )
 
@@ -231,7 +231,7 @@ passes_content id r it = and-true _ ∙ ap (λ v. is_true (binary (Compare Eq Bi
 pub finds_users : (old new : State) (id : ℤ) (rows : List Row) → IsOffice old.now → Shown users_text (Int id ∷ []) old new rows
     → (new.now ≡ old.now) × (list_any (refers_to id) (old.now.trees 10) ≡ list_any (λ r. true) rows)
 finds_users old new id rows office h =
-    reads_some office_schema users_text 10 by_content deposit_column asks_users (Int id ∷ []) old new office.schema_is rows h (refers_to id)
+    reads_some office_schema users_text 10 by_content deposit_column asks_users (Int id ∷ []) old new office.whole.schema_is rows h (refers_to id)
     (all_from _ (old.now.trees 10) (λ r there. passes_content id r (all_has _ (old.now.trees 10) r (file_references old.now office) there)))
 
 -- ---- one content more
@@ -251,7 +251,7 @@ module _ (old new : State) (mark bytes : List ℕ) (count : ℕ) (office : IsOff
   added_edit = edit_of old.now.trees content_table [] Chosen 0 ((Null ∷ added_columns) ∷ [])
 
   added_change : Changes office_schema old new added_edit count added_edit.news
-  added_change = inserts add_text added_params old new office_schema office.schema_is 8 content_table refl idle add_terms 5 add_means refl refl count h
+  added_change = inserts add_text added_params old new office_schema office.whole.schema_is 8 content_table refl idle add_terms 5 add_means refl refl count h
 
   added_cast : cast_row content_table (Null ∷ added_columns) ≡ Null ∷ added_columns
   added_cast = rw (cast_null, cast_int (pos (length bytes))) refl
@@ -262,7 +262,7 @@ module _ (old new : State) (mark bytes : List ℕ) (count : ℕ) (office : IsOff
   -- the contents are one more
   added_at_end : contents_of (with_edit added_edit old.now) ≡ contents_of old.now ++ added_content ∷ []
   added_at_end =
-      ap (map content_in) (appended old.now.trees content_table (Null ∷ added_columns) added_columns office.shaped.1.1.1.1.1.1.1.1.0 added_cast) ∙ map-append content_in (old.now.trees 13) _
+      ap (map content_in) (appended old.now.trees content_table (Null ∷ added_columns) added_columns office.whole.shaped.1.1.1.1.1.1.1.1.0 added_cast) ∙ map-append content_in (old.now.trees 13) _
       ∙ ap (λ n. contents_of old.now ++ record { id = n; mark = mark; size = pos (length bytes); bytes = bytes } ∷ []) (next_is (old.now.trees 13) (pos 1))
 
   pub adds_content : IsContentAdded mark bytes old.now new.now
@@ -273,7 +273,7 @@ module _ (old new : State) (mark bytes : List ℕ) (count : ℕ) (office : IsOff
       ap (λ all. map (file_in all) rows) added_at_end ∙ same_files (cs ++ added_content ∷ []) cs rows (λ r there. let it = fetched old.now office r there in found_before (int_at r 3) cs (added_content ∷ []) it.0 it.1 ∙ sym it.1) in
       record {
         keeps = record {
-          becomes = becomes old new added_edit count added_edit.news office.shaped added_change _ (ap (λ (fs : List FileRow). record (tables_of old.now) { files = fs }) files);
+          becomes = becomes old new added_edit count added_edit.news office (refl, (refl, tt)) added_change _ (ap (λ (fs : List FileRow). record (tables_of old.now) { files = fs }) files);
           references = references_after old new added_edit count added_edit.news added_change;
         };
         contents = contents_after old new added_edit count added_edit.news added_change ∙ added_at_end;
@@ -292,21 +292,21 @@ pub removes_content : (old new : State) (id : ℤ) (count : ℕ) → IsOffice ol
     → KeepsFiles old.now new.now × (contents_of new.now ≡ filter (λ c. not (is_content id c)) (contents_of old.now))
 removes_content old new id count office h =
     let db = old.now.trees in
-    let shaped = office.shaped.1.1.1.1.1.1.1.1.0 in
-    let done = drops remove_text (Int id ∷ []) old new office_schema office.schema_is 8 content_table refl idle shaped by_number id_column
+    let shaped = office.whole.shaped.1.1.1.1.1.1.1.1.0 in
+    let done = drops remove_text (Int id ∷ []) old new office_schema office.whole.schema_is 8 content_table refl idle shaped by_number id_column
     (has_number id) (each_numbered id [] (db 13) shaped) remove_means (λ r. refl) count h in
     let edit = edit_of db content_table (ids_of done.answer) Given 0 [] in
     let cs = contents_of old.now in
     let fewer : contents_of (with_edit edit old.now) ≡ filter (λ c. not (is_content id c)) cs = ap (map content_in) done.made ∙ sym (filter-map (λ c. not (is_content id c)) content_in (db 13)) in
     let contents = contents_after old new edit count _ done.change ∙ fewer in
     let references = references_after old new edit count _ done.change in
-    let whole = becomes old new edit count _ office.shaped done.change _ refl in
+    let whole = becomes old new edit count _ office (refl, (refl, tt)) done.change _ refl in
     let rows : new.now.trees 10 ≡ db 10 = file_rows_after old new edit count _ done.change in
     let files : map (file_in (contents_of (with_edit edit old.now))) (db 10) ≡ map (file_in cs) (db 10) =
     ap (λ all. map (file_in all) (db 10)) fewer ∙ same_files (filter (λ c. not (is_content id c)) cs) cs (db 10)
     (λ r there. found_kept (int_at r 3) (λ c. not (is_content id c)) cs (stays new.now whole.office contents r (subst (λ rs. Has rs r) (sym rows) there))) in (
       record {
-        becomes = becomes old new edit count _ office.shaped done.change _ (ap (λ (fs : List FileRow). record (tables_of old.now) { files = fs }) files);
+        becomes = becomes old new edit count _ office (refl, (refl, tt)) done.change _ (ap (λ (fs : List FileRow). record (tables_of old.now) { files = fs }) files);
         references = references;
       },
       contents,

@@ -19,25 +19,25 @@ use Rattle.std.specs.List.{IsDistinct}
 use Rattle.sql_meaning.specs.Columns.{int_at}
 use Rattle.office_tables.specs.Contents.{AreKeptOnce, KeepsOnce}
 use Rattle.office_tables.specs.Tables.{Becomes, tables_of, content_in, office_in}
-use Rattle.office_tables.proofs.Frames.{idle, becomes, leaves_once}
+use Rattle.office_tables.proofs.Frames.{idle, becomes_shaped, leaves_once}
 use Rattle.office_tables.proofs.CreateTexts.{start_text, start_terms, start_means}
 
 pub starts_office : (old new : State) (deposits holds : ℤ) (count : ℕ) → IsBlank office_schema old.now → Executes start_text (Int deposits ∷ Int holds ∷ []) old new (Ok count)
-    → Becomes new.now (empty_office (pos 3) deposits holds)
+    → Becomes new.now (empty_office (pos 5) deposits holds)
 starts_office old new deposits holds count blank h =
     let params : Row = Int deposits ∷ Int holds ∷ [] in
     let db = old.now.trees in
-    let source : Row = Int (pos 1) ∷ Null ∷ Int (pos 3) ∷ Int deposits ∷ Int holds ∷ [] in
-    let columns : Row = Null ∷ Int (pos 3) ∷ Int deposits ∷ Int holds ∷ [] in
+    let source : Row = Int (pos 1) ∷ Null ∷ Int (pos 5) ∷ Int deposits ∷ Int holds ∷ [] in
+    let columns : Row = Null ∷ Int (pos 5) ∷ Int deposits ∷ Int holds ∷ [] in
     let edit = edit_of db office_table [] Chosen 0 (source ∷ []) in
     let done = inserts start_text params old new office_schema blank.schema_is 0 office_table refl idle start_terms 5 start_means refl refl count h in
-    let cast_is : cast_row office_table source ≡ Int (pos 1) ∷ columns = rw (cast_null, cast_int (pos 1), cast_int (pos 3), cast_int deposits, cast_int holds) refl in
+    let cast_is : cast_row office_table source ≡ Int (pos 1) ∷ columns = rw (cast_null, cast_int (pos 1), cast_int (pos 5), cast_int deposits, cast_int holds) refl in
     let e = blank.empty in
     let alone : edited db edit ≡ (Int (pos 1) ∷ columns) ∷ [] = inserted db office_table source columns (pos 1) cast_is ∙ ap (put_row (Int (pos 1) ∷ columns)) e.0 in
-    let row : OfficeRow = record { id = pos 1; version = pos 3; max_deposits = deposits; max_holds = holds } in
-    let made : Becomes new.now (record (tables_of old.now) { office = row ∷ [] }) = becomes old new edit count edit.news (blank_shaped office_schema old.now blank) done _ (ap (λ rows. record (tables_of old.now) { office = rows }) (ap (map office_in) alone)) in
-    let rest : record (tables_of old.now) { office = row ∷ [] } ≡ empty_office (pos 3) deposits holds =
-    rw (e.1.0, e.1.1.0, e.1.1.1.0, e.1.1.1.1.0, e.1.1.1.1.1.0, e.1.1.1.1.1.1.0, e.1.1.1.1.1.1.1.0) refl in
+    let row : OfficeRow = record { id = pos 1; version = pos 5; max_deposits = deposits; max_holds = holds } in
+    let made : Becomes new.now (record (tables_of old.now) { office = row ∷ [] }) = becomes_shaped old new edit count edit.news (blank_shaped office_schema old.now blank) (e.1.1.1.1.1.1.1.0, (e.1.1.0, tt)) (refl, (refl, tt)) done _ (ap (λ rows. record (tables_of old.now) { office = rows }) (ap (map office_in) alone)) in
+    let rest : record (tables_of old.now) { office = row ∷ [] } ≡ empty_office (pos 5) deposits holds =
+    rw (e.1.0, e.1.1.1.0, e.1.1.1.1.0, e.1.1.1.1.1.0, e.1.1.1.1.1.1.0, e.1.1.1.1.1.1.1.1.1.0, e.1.1.1.1.1.1.1.1.1.1.0) refl in
     record { office = made.office; are = made.are ∙ rest }
 
 -- where no table has a row, contents are kept once

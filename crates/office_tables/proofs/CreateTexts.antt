@@ -1,5 +1,5 @@
 -- What the CREATE texts make, one after another, and what the first INSERT means.
-use Rattle.std.proofs.Common.{◌≡◌, false, inl, inr, ℕ, pos, List, [], ◌∷◌, codes, Ok, refl}
+use Rattle.std.proofs.Common.{◌≡◌, false, inl, inr, ℕ, pos, List, [], ◌∷◌, ◌++◌, codes, Ok, refl, subst, sym}
 use Rattle.std.specs.Fmt.{digits}
 use Rattle.sqlite.specs.declared.types.Value.TheVariants.{Null, Int}
 use Rattle.sqlite.specs.Term.{Term, lit, col}
@@ -14,9 +14,10 @@ use Rattle.sqlite.specs.Listing.{understood}
 use Rattle.sqlite.proofs.Callers.{IsPlain, command_of, statement_of}
 use Rattle.sqlite_tied.specs.Compute.{everything}
 use Rattle.sqlite_schema.specs.Names.{same_name}
+use Rattle.sqlite_schema.specs.declared.schema.Index.{Index}
 use Rattle.sql_meaning.specs.Making.{MakesTable, MakesIndex, Builds}
 use Rattle.sql_meaning.proofs.Writing.{Means}
-use Rattle.office_tables.specs.Schema.{office_schema, no_schema, stage, office_table, caller_table, rule_table, class_table, collection_table, deposit_table, file_table, hold_table, content_table, plain_index}
+use Rattle.office_tables.specs.Schema.{office_schema, no_schema, stage, office_table, caller_table, rule_table, class_table, collection_table, deposit_table, file_table, hold_table, content_table, hold_4_table, rule_5_table, plain_index}
 
 -- what the text is, under the schema of the moment
 abbrev Meant : Schema → List ℕ → Table → Type 0
@@ -184,20 +185,105 @@ deposit_due_made : MakesIndex (stage 9 9) deposit_due_text (stage 9 10)
 unfolding digits same_name
 deposit_due_made = record { at = 5; command = deposit_due_meant.1; statement = deposit_due_meant.2; plain = deposit_due_meant.3; table = deposit_table; place = refl; index = plain_index (codes "deposit_due") 0 8 (10 ∷ []); defined = deposit_due_meant.0; is = refl }
 
+-- the tables and indexes of version 3
+abbrev pub first_texts : List (List ℕ)
+first_texts = office_text ∷ caller_text ∷ rule_text ∷ class_text ∷ collection_text ∷ deposit_text ∷ file_text ∷ hold_text ∷ content_text ∷ hold_deposit_text ∷ hold_collection_text ∷ file_content_text ∷ content_mark_text ∷ deposit_due_text ∷ []
+
+pub builds_first : Builds no_schema first_texts (stage 9 10)
+builds_first = (stage 1 0, inl office_made, (stage 2 1, inl caller_made, (stage 3 1, inl rule_made, (stage 4 2, inl class_made, (stage 5 3, inl collection_made, (stage 6 4, inl deposit_made, (stage 7 5, inl file_made, (stage 8 5, inl hold_made, (stage 9 5, inl content_made, (stage 9 6, inr hold_deposit_made, (stage 9 7, inr hold_collection_made, (stage 9 8, inr file_content_made, (stage 9 9, inr content_mark_made, (stage 9 10, inr deposit_due_made, refl))))))))))))))
+
+-- ---- what later versions added
+
+abbrev pub hold_4_text : List ℕ
+hold_4_text = codes "CREATE TABLE hold_4 (number INTEGER PRIMARY KEY, deposit INTEGER, collection TEXT, class TEXT, matter TEXT NOT NULL, placed INTEGER NOT NULL, released INTEGER) STRICT"
+
+hold_4_meant : Meant (stage 9 10) hold_4_text (record hold_4_table { tree = 0 })
+unfolding understood everything
+hold_4_meant = (refl, refl, refl, (refl, refl))
+
+hold_4_made : MakesTable (stage 9 10) hold_4_text (stage 10 10)
+unfolding digits same_name
+hold_4_made = made (stage 9 10) (stage 10 10) hold_4_text (record hold_4_table { tree = 0 }) hold_4_meant refl refl
+
+abbrev MeantOfHolds : Schema → List ℕ → Index → Type 0
+MeantOfHolds schema text index = (index_defined_by hold_4_table text ≡ Ok index) × (command_of (understood schema text) ≡ CreateIndex 9) × (statement_of text (understood schema text) ≡ text) × IsPlain (understood schema text)
+
+abbrev pub hold_4_deposit_text : List ℕ
+hold_4_deposit_text = codes "CREATE INDEX hold_4_deposit ON hold_4 (deposit)"
+
+hold_4_deposit_meant : MeantOfHolds (stage 10 10) hold_4_deposit_text (plain_index (codes "hold_4_deposit") 0 19 (2 ∷ []))
+unfolding understood everything
+hold_4_deposit_meant = (refl, refl, refl, (refl, refl))
+
+hold_4_deposit_made : MakesIndex (stage 10 10) hold_4_deposit_text (stage 10 11)
+unfolding digits same_name
+hold_4_deposit_made = record { at = 9; command = hold_4_deposit_meant.1; statement = hold_4_deposit_meant.2; plain = hold_4_deposit_meant.3; table = hold_4_table; place = refl; index = plain_index (codes "hold_4_deposit") 0 19 (2 ∷ []); defined = hold_4_deposit_meant.0; is = refl }
+
+abbrev pub hold_4_collection_text : List ℕ
+hold_4_collection_text = codes "CREATE INDEX hold_4_collection ON hold_4 (collection)"
+
+hold_4_collection_meant : MeantOfHolds (stage 10 11) hold_4_collection_text (plain_index (codes "hold_4_collection") 0 19 (3 ∷ []))
+unfolding understood everything
+hold_4_collection_meant = (refl, refl, refl, (refl, refl))
+
+hold_4_collection_made : MakesIndex (stage 10 11) hold_4_collection_text (stage 10 12)
+unfolding digits same_name
+hold_4_collection_made = record { at = 9; command = hold_4_collection_meant.1; statement = hold_4_collection_meant.2; plain = hold_4_collection_meant.3; table = hold_4_table; place = refl; index = plain_index (codes "hold_4_collection") 0 19 (3 ∷ []); defined = hold_4_collection_meant.0; is = refl }
+
+abbrev pub hold_4_class_text : List ℕ
+hold_4_class_text = codes "CREATE INDEX hold_4_class ON hold_4 (class)"
+
+hold_4_class_meant : MeantOfHolds (stage 10 12) hold_4_class_text (plain_index (codes "hold_4_class") 0 19 (4 ∷ []))
+unfolding understood everything
+hold_4_class_meant = (refl, refl, refl, (refl, refl))
+
+hold_4_class_made : MakesIndex (stage 10 12) hold_4_class_text (stage 10 13)
+unfolding digits same_name
+hold_4_class_made = record { at = 9; command = hold_4_class_meant.1; statement = hold_4_class_meant.2; plain = hold_4_class_meant.3; table = hold_4_table; place = refl; index = plain_index (codes "hold_4_class") 0 19 (4 ∷ []); defined = hold_4_class_meant.0; is = refl }
+
+abbrev pub hold_4_texts : List (List ℕ)
+hold_4_texts = hold_4_text ∷ hold_4_deposit_text ∷ hold_4_collection_text ∷ hold_4_class_text ∷ []
+
+-- to the tables of version 4
+pub builds_hold_4 : Builds (stage 9 10) hold_4_texts (stage 10 13)
+builds_hold_4 = (stage 10 10, inl hold_4_made, (stage 10 11, inr hold_4_deposit_made, (stage 10 12, inr hold_4_collection_made, (stage 10 13, inr hold_4_class_made, refl))))
+
+abbrev pub rule_5_text : List ℕ
+rule_5_text = codes "CREATE TABLE rule_5 (place INTEGER PRIMARY KEY, effect INTEGER NOT NULL, role TEXT NOT NULL, action TEXT NOT NULL, collection TEXT NOT NULL, class TEXT NOT NULL, first INTEGER NOT NULL, last INTEGER NOT NULL) STRICT"
+
+rule_5_meant : Meant (stage 10 13) rule_5_text (record rule_5_table { tree = 0 })
+unfolding understood everything
+rule_5_meant = (refl, refl, refl, (refl, refl))
+
+rule_5_made : MakesTable (stage 10 13) rule_5_text office_schema
+unfolding digits same_name
+rule_5_made = made (stage 10 13) office_schema rule_5_text (record rule_5_table { tree = 0 }) rule_5_meant refl refl
+
+-- and to those of version 5
+pub builds_rule_5 : Builds (stage 10 13) (rule_5_text ∷ []) office_schema
+builds_rule_5 = (office_schema, inl rule_5_made, refl)
+
+-- ---- all of them
+
 abbrev pub create_texts : List (List ℕ)
-create_texts = office_text ∷ caller_text ∷ rule_text ∷ class_text ∷ collection_text ∷ deposit_text ∷ file_text ∷ hold_text ∷ content_text ∷ hold_deposit_text ∷ hold_collection_text ∷ file_content_text ∷ content_mark_text ∷ deposit_due_text ∷ []
+create_texts = first_texts ++ hold_4_texts ++ (rule_5_text ∷ [])
+
+pub builds_then : (a b c : Schema) (xs ys : List (List ℕ)) → Builds a xs b → Builds b ys c → Builds a (xs ++ ys) c
+builds_then a b c [] ys first second = subst (λ s. Builds s ys c) (sym first) second
+builds_then a b c (x ∷ xs) ys first second = (first.0, first.1, builds_then first.0 b c xs ys first.2 second)
 
 -- the texts lead from no schema to that of an office
 pub builds_office : Builds no_schema create_texts office_schema
-builds_office = (stage 1 0, inl office_made, (stage 2 1, inl caller_made, (stage 3 1, inl rule_made, (stage 4 2, inl class_made, (stage 5 3, inl collection_made, (stage 6 4, inl deposit_made, (stage 7 5, inl file_made, (stage 8 5, inl hold_made, (stage 9 5, inl content_made, (stage 9 6, inr hold_deposit_made, (stage 9 7, inr hold_collection_made, (stage 9 8, inr file_content_made, (stage 9 9, inr content_mark_made, (stage 9 10, inr deposit_due_made, refl))))))))))))))
+builds_office = builds_then no_schema (stage 10 13) office_schema (first_texts ++ hold_4_texts) (rule_5_text ∷ [])
+    (builds_then no_schema (stage 9 10) (stage 10 13) first_texts hold_4_texts builds_first builds_hold_4) builds_rule_5
 
 -- ---- the row of the office
 
 abbrev pub start_text : List ℕ
-start_text = codes "INSERT INTO office (id, version, max_deposits, max_holds) VALUES (1, 3, ?1, ?2)"
+start_text = codes "INSERT INTO office (id, version, max_deposits, max_holds) VALUES (1, 5, ?1, ?2)"
 
 abbrev pub start_terms : List Term
-start_terms = lit (Int (pos 1)) ∷ lit Null ∷ lit (Int (pos 3)) ∷ col 0 0 ∷ col 0 1 ∷ []
+start_terms = lit (Int (pos 1)) ∷ lit Null ∷ lit (Int (pos 5)) ∷ col 0 0 ∷ col 0 1 ∷ []
 
 pub start_means : Means office_schema start_text (Insert 0 (Values start_terms 5))
 unfolding understood everything

@@ -47,7 +47,7 @@ module _ (old new : State) (d : DepositRow) (kept : d.gone ≡ None) (count : �
   edit = edit_of old.now.trees deposit_table [] Chosen 0 (row ∷ [])
 
   change : Changes office_schema old new edit count edit.news
-  change = inserts put_text (params_of d) old new office_schema office.schema_is 5 deposit_table refl idle put_terms 12 put_means refl refl count h
+  change = inserts put_text (params_of d) old new office_schema office.whole.schema_is 5 deposit_table refl idle put_terms 12 put_means refl refl count h
 
   cast_is : cast_row deposit_table row ≡ row
   cast_is = rw (cast_null, cast_int d.number, cast_int d.closed, cast_int d.deposited, cast_int d.files, cast_int d.bytes, cast_int (pos 0)) refl
@@ -56,9 +56,9 @@ module _ (old new : State) (d : DepositRow) (kept : d.gone ≡ None) (count : �
   after =
       let number : DepositRow → ℤ = λ e. e.number in
       let is_d : deposit_in row ≡ d = ap (λ g. record d { gone = g }) (sym kept) in
-      let at_its_place = placed deposit_in number (λ r. refl) old new deposit_table row (stored_of d) d.number count edit.news office.shaped.1.1.1.1.1.0 cast_is change in
-      let due_at_its_place = placed due_in (λ (e : DueRow). e.number) (λ r. refl) old new deposit_table row (stored_of d) d.number count edit.news office.shaped.1.1.1.1.1.0 cast_is change in
-      becomes old new edit count edit.news office.shaped change _ (ap₂ (λ rows dues. record (tables_of old.now) { deposits = rows; dues = dues })
+      let at_its_place = placed deposit_in number (λ r. refl) old new deposit_table row (stored_of d) d.number count edit.news office.whole.shaped.1.1.1.1.1.0 cast_is change in
+      let due_at_its_place = placed due_in (λ (e : DueRow). e.number) (λ r. refl) old new deposit_table row (stored_of d) d.number count edit.news office.whole.shaped.1.1.1.1.1.0 cast_is change in
+      becomes old new edit count edit.news office (refl, (refl, tt)) change _ (ap₂ (λ rows dues. record (tables_of old.now) { deposits = rows; dues = dues })
       (at_its_place ∙ ap (λ x. put_by number x (map deposit_in (old.now.trees 8))) is_d) due_at_its_place)
 
   row_is : put office_schema Enforced old.now.trees new.now.trees deposit_table row change.applies ≡ row
@@ -70,12 +70,12 @@ module _ (old new : State) (d : DepositRow) (kept : d.gone ≡ None) (count : �
 
   number_was_new : deposit_numbered d.number (tables_of old.now).deposits ≡ None
   number_was_new =
-      let none = none_passes (has_number d.number) (int_itself d.number) (one_numbered (new.now.trees 8) after.office.shaped.1.1.1.1.1.0 d.number) in
+      let none = none_passes (has_number d.number) (int_itself d.number) (one_numbered (new.now.trees 8) after.office.whole.shaped.1.1.1.1.1.0 d.number) in
       found_by (is_deposit d.number) (has_number d.number) deposit_in (old.now.trees 8) (all_from _ (old.now.trees 8) (λ r there. refl)) ∙ ap (λ rs. option_map deposit_in (slice_get rs 0)) none
 
   accession_was_new : deposit_by d.accession (tables_of old.now).deposits ≡ None
   accession_was_new =
-      let alike = one_named 2 (new.now.trees 8) after.office.shaped.1.1.1.1.1.0 (accessions new.now after.office) (keeps_rule after.office Unique).1.1.1.1.1.0 d.accession in
+      let alike = one_named 2 (new.now.trees 8) after.office.whole.shaped.1.1.1.1.1.0 (accessions new.now after.office) (keeps_rule after.office.whole Unique).1.1.1.1.1.0 d.accession in
       let none = none_passes (has_text 2 d.accession) (bytes_itself d.accession) alike in
       found_by (has_accession d.accession) (has_text 2 d.accession) deposit_in (old.now.trees 8) (all_from _ (old.now.trees 8) (λ r there. refl)) ∙ ap (λ rs. option_map deposit_in (slice_get rs 0)) none
 
@@ -86,7 +86,7 @@ module _ (old new : State) (d : DepositRow) (kept : d.gone ≡ None) (count : �
   held : (list_any (λ parent. agree plain (1 ∷ []) parent (3 ∷ []) row) (new.now.trees 6) ≡ true) × (list_any (λ parent. agree plain (1 ∷ []) parent (4 ∷ []) row) (new.now.trees 4) ≡ true)
   unfolding joined same_name
   held =
-      let each = all_has _ (new.now.trees 8) row (keeps_rule after.office ForeignKey).1.1.1.1.1.0 was_there in
+      let each = all_has _ (new.now.trees 8) row (keeps_rule after.office.whole ForeignKey).1.1.1.1.1.0 was_there in
       let two = and_parts _ _ each in
       (two.0, (and_parts _ _ two.1).0)
 

@@ -55,7 +55,7 @@ deposit_rows db office = all_both (λ r t p. (
   some_int_at office_schema db.trees deposit_table r t p 9 (optional (codes "due") kind.Integer) refl refl refl refl,
   int_in office_schema db.trees deposit_table r t p 10 (needed (codes "holds") kind.Integer) refl refl refl refl refl,
   some_int_at office_schema db.trees deposit_table r t p 8 (optional (codes "gone") kind.Integer) refl refl refl refl,
-)) (db.trees 8) (keeps_rule office Datatype).1.1.1.1.1.0 (keeps_rule office NotNull).1.1.1.1.1.0
+)) (db.trees 8) (keeps_rule office.whole Datatype).1.1.1.1.1.0 (keeps_rule office.whole NotNull).1.1.1.1.1.0
 
 -- ---- one deposit
 
@@ -64,10 +64,10 @@ pub finds_deposit : (old new : State) (n : ℤ) (rows : List Row) → IsOffice o
 finds_deposit old new n rows office h =
     let params : Row = Int n ∷ [] in
     let stored = old.now.trees 8 in
-    let shaped = office.shaped.1.1.1.1.1.0 in
-    let is = reads_one office_schema deposit_text 8 by_number deposit_columns [] asks_deposit params old new office.schema_is rows h (has_number n)
+    let shaped = office.whole.shaped.1.1.1.1.1.0 in
+    let is = reads_one office_schema deposit_text 8 by_number deposit_columns [] asks_deposit params old new office.whole.schema_is rows h (has_number n)
     (each_numbered n [] stored shaped) (few_numbered n stored shaped) in (
-      reads_same office_schema deposit_text 8 by_number deposit_columns [] asks_deposit params old new office.schema_is rows h,
+      reads_same office_schema deposit_text 8 by_number deposit_columns [] asks_deposit params old new office.whole.schema_is rows h,
       finds_one stored rows (has_number n) (shown_of params deposit_columns) deposit_in shown_deposit (is_deposit n) (λ r. refl) (λ r. refl) is,
     )
 
@@ -77,16 +77,16 @@ accessions db office = all_from _ (db.trees 8) (λ r there. (all_has IsDepositRo
 
 pub few_accessions : (db : Database) → IsOffice db → (accession : List ℕ)
     → (filter (has_text 2 accession) (db.trees 8) ≡ []) ⊎ ((r : Row) × Has (db.trees 8) r × (has_text 2 accession r ≡ true) × (filter (has_text 2 accession) (db.trees 8) ≡ r ∷ []))
-few_accessions db office accession = few_named 2 (db.trees 8) office.shaped.1.1.1.1.1.0 (accessions db office) (keeps_rule office Unique).1.1.1.1.1.0 accession
+few_accessions db office accession = few_named 2 (db.trees 8) office.whole.shaped.1.1.1.1.1.0 (accessions db office) (keeps_rule office.whole Unique).1.1.1.1.1.0 accession
 
 pub finds_accession : (old new : State) (accession : List ℕ) (rows : List Row) → IsOffice old.now → Shown accession_text (Text accession ∷ []) old new rows
     → (new.now ≡ old.now) × (deposit_by accession (tables_of old.now).deposits ≡ option_map shown_deposit (slice_get rows 0))
 finds_accession old new accession rows office h =
     let params : Row = Text accession ∷ [] in
     let stored = old.now.trees 8 in
-    let is = reads_one office_schema accession_text 8 (by_text 2) deposit_columns [] asks_accession params old new office.schema_is rows h (has_text 2 accession)
+    let is = reads_one office_schema accession_text 8 (by_text 2) deposit_columns [] asks_accession params old new office.whole.schema_is rows h (has_text 2 accession)
     (each_passes 2 accession [] stored (accessions old.now office)) (few_accessions old.now office accession) in (
-      reads_same office_schema accession_text 8 (by_text 2) deposit_columns [] asks_accession params old new office.schema_is rows h,
+      reads_same office_schema accession_text 8 (by_text 2) deposit_columns [] asks_accession params old new office.whole.schema_is rows h,
       finds_one stored rows (has_text 2 accession) (shown_of params deposit_columns) deposit_in shown_deposit (has_accession accession) (λ r. refl) (λ r. refl) is,
     )
 
@@ -96,11 +96,11 @@ pub lists_deposits : (old new : State) (rows : List Row) → IsOffice old.now �
     → (new.now ≡ old.now) × ((tables_of old.now).deposits ≡ map shown_deposit rows)
 lists_deposits old new rows office h =
     let stored = old.now.trees 8 in
-    let up = ascending_weaker _ _ (λ a b lower. rw lower refl) stored office.shaped.1.1.1.1.1.0.0 in
-    let is = reads_rising office_schema deposits_text 8 [] deposit_columns rising asks_deposits [] old new office.schema_is rows h (λ r. true) (all_from _ stored (λ r there. refl)) up in
+    let up = ascending_weaker _ _ (λ a b lower. rw lower refl) stored office.whole.shaped.1.1.1.1.1.0.0 in
+    let is = reads_rising office_schema deposits_text 8 [] deposit_columns rising asks_deposits [] old new office.whole.schema_is rows h (λ r. true) (all_from _ stored (λ r there. refl)) up in
     let whole : rows ≡ map (shown_of [] deposit_columns) stored = is ∙ ap (map (shown_of [] deposit_columns)) (filter_all (λ r. true) stored (λ r there. refl)) in
     let shows : map shown_deposit (map (shown_of [] deposit_columns) stored) ≡ map deposit_in stored = map-map shown_deposit (shown_of [] deposit_columns) stored in (
-      reads_same office_schema deposits_text 8 [] deposit_columns rising asks_deposits [] old new office.schema_is rows h,
+      reads_same office_schema deposits_text 8 [] deposit_columns rising asks_deposits [] old new office.whole.schema_is rows h,
       sym shows ∙ ap (map shown_deposit) (sym whole),
     )
 
@@ -109,7 +109,7 @@ lists_deposits old new rows office h =
 pub finds_last : (old new : State) (rows : List Row) → IsOffice old.now → Shown last_text [] old new rows
     → (new.now ≡ old.now) × (last_number (λ d. d.number) (tables_of old.now).deposits ≡ option_map (λ row. int_at row 0) (slice_get rows 0))
 finds_last old new rows office h =
-    reads_last 8 deposit_in (λ (d : DepositRow). d.number) (λ r. refl) office_schema last_text asks_last old new office.schema_is office.shaped.1.1.1.1.1.0.0 rows h
+    reads_last 8 deposit_in (λ (d : DepositRow). d.number) (λ r. refl) office_schema last_text asks_last old new office.whole.schema_is office.whole.shaped.1.1.1.1.1.0.0 rows h
 
 -- ---- the day when it was destroyed
 
@@ -140,11 +140,11 @@ pub marks_gone : (old new : State) (n day : ℤ) (count : ℕ) → IsOffice old.
     → Becomes new.now (with_gone n day (tables_of old.now))
 marks_gone old new n day count office h =
     let db = old.now.trees in
-    let shaped = office.shaped.1.1.1.1.1.0 in
-    let done = revises gone_text (Int n ∷ Int day ∷ []) old new office_schema office.schema_is 5 deposit_table refl idle shaped by_number gone_columns
+    let shaped = office.whole.shaped.1.1.1.1.1.0 in
+    let done = revises gone_text (Int n ∷ Int day ∷ []) old new office_schema office.whole.schema_is 5 deposit_table refl idle shaped by_number gone_columns
     (has_number n) (each_numbered n (Int day ∷ []) (db 8) shaped) gone_means (set_gone day) (few_numbered n (db 8) shaped)
     (λ r there. (refl, cast_gone n day r (all_has IsDepositRow (db 8) r (deposit_rows old.now office) there) (all_has _ (db 8) r shaped.1 there), refl)) count h in
     let edit = edit_of db deposit_table (ids_of done.answer) Given 1 done.answer in
     let gone_is = decoded deposit_in (has_number n) (set_gone day) (is_deposit n) (λ d. record d { gone = Some day }) (λ r. refl) (λ r. refl) (db 8) in
     let dues_are : map due_in (edited db edit) ≡ map due_in (db 8) = ap (map due_in) done.made ∙ kept_alike due_in (has_number n) (set_gone day) (λ r. refl) (db 8) in
-    becomes old new edit count edit.news office.shaped done.change _ (ap₂ (λ rows dues. record (tables_of old.now) { deposits = rows; dues = dues }) (ap (map deposit_in) done.made ∙ gone_is) dues_are)
+    becomes old new edit count edit.news office (refl, (refl, tt)) done.change _ (ap₂ (λ rows dues. record (tables_of old.now) { deposits = rows; dues = dues }) (ap (map deposit_in) done.made ∙ gone_is) dues_are)

@@ -25,21 +25,23 @@ use Rattle.sqlite_keyed.proofs.ListLemmas.{ascending_weaker, map-map, filter-map
 use Rattle.sqlite_catalog.proofs.ListFacts.{filter_all}
 use Rattle.sql_meaning.specs.Columns.{int_at, bytes_at, maybe_int}
 use Rattle.sql_meaning.proofs.Keys.{same_int}
-use Rattle.sql_meaning.proofs.Scanning.{passes, shown_of, finds_one}
+use Rattle.sqlite.specs.Command.TheVariants.{Update}
+use Rattle.sql_meaning.proofs.Scanning.{scan, as_program, passes, shown_of, finds_one}
+use Rattle.sql_meaning.proofs.Writing.{Means}
 use Rattle.sql_meaning.proofs.Reading.{reads_same, reads_one, reads_rising}
-use Rattle.sql_meaning.proofs.TextKeys.{has_text, by_text, each_passes}
+use Rattle.sql_meaning.proofs.TextKeys.{IsText, has_text, by_text, each_passes}
 use Rattle.sql_meaning.proofs.RowidKeys.{by_number, has_number, each_numbered, few_numbered, rising}
 use Rattle.sql_meaning.proofs.Edits.{decoded, cast_null, cast_int}
 use Rattle.sql_meaning.proofs.Changing.{revises}
 use Rattle.sql_meaning.proofs.ManyRows.{revises_all}
 use Rattle.office_tables.specs.Schema.{office_schema, deposit_table}
-use Rattle.office_rows.specs.Rows.{DepositRow, DueRow, is_due_of, due_numbered, with_due, with_holds, beside, more_holds, with_more_holds, is_within, is_of_class, of_class, least_number, is_by, is_disposable}
+use Rattle.office_rows.specs.Rows.{DepositRow, DueRow, is_due_of, due_numbered, with_due, with_holds, beside, more_holds, with_more_holds, with_more_holds_class, is_within, is_of_class, of_class, least_number, is_by, is_disposable}
 use Rattle.office_rows.specs.Told.{place_of, closing_of, due_places, class_closings}
 use Rattle.office_tables.specs.Dues.{shown_due, shown_beside, shown_place, shown_closing, FitMore}
 use Rattle.office_tables.specs.Tables.{IsOffice, Becomes, tables_of, deposit_in, due_in}
 use Rattle.office_tables.proofs.Frames.{idle, becomes}
 use Rattle.office_tables.proofs.DepositLemmas.{IsDepositRow, deposit_rows, kept_alike, keeps_int}
-use Rattle.office_tables.proofs.DueTexts.{class_rows_text, class_rows_columns, asks_class_rows, due_of_text, due_of_columns, asks_due_of, set_due_text, set_due_columns, set_due_means, clear_due_text, clear_due_columns, clear_due_means, set_holds_text, set_holds_columns, set_holds_means, add_holds_text, more_columns, add_holds_means, due_rows_text, is_due, due_rows_columns, asks_due_rows, beside_text, beside_columns, asks_beside}
+use Rattle.office_tables.proofs.DueTexts.{class_rows_text, class_rows_columns, asks_class_rows, due_of_text, due_of_columns, asks_due_of, set_due_text, set_due_columns, set_due_means, clear_due_text, clear_due_columns, clear_due_means, set_holds_text, set_holds_columns, set_holds_means, add_holds_text, more_columns, add_holds_means, add_holds_class_text, add_holds_class_means, due_rows_text, is_due, due_rows_columns, asks_due_rows, beside_text, beside_columns, asks_beside}
 
 -- ---- a stored deposit with other last columns
 
@@ -60,10 +62,10 @@ pub finds_due : (old new : State) (n : ℤ) (rows : List Row) → IsOffice old.n
 finds_due old new n rows office h =
     let params : Row = Int n ∷ [] in
     let stored = old.now.trees 8 in
-    let shaped = office.shaped.1.1.1.1.1.0 in
-    let is = reads_one office_schema due_of_text 8 by_number due_of_columns [] asks_due_of params old new office.schema_is rows h (has_number n)
+    let shaped = office.whole.shaped.1.1.1.1.1.0 in
+    let is = reads_one office_schema due_of_text 8 by_number due_of_columns [] asks_due_of params old new office.whole.schema_is rows h (has_number n)
     (each_numbered n [] stored shaped) (few_numbered n stored shaped) in (
-      reads_same office_schema due_of_text 8 by_number due_of_columns [] asks_due_of params old new office.schema_is rows h,
+      reads_same office_schema due_of_text 8 by_number due_of_columns [] asks_due_of params old new office.whole.schema_is rows h,
       finds_one stored rows (has_number n) (shown_of params due_of_columns) due_in shown_due (is_due_of n) (λ r. refl) (λ r. refl) is,
     )
 
@@ -71,9 +73,9 @@ pub sets_due : (old new : State) (n day : ℤ) (count : ℕ) → IsOffice old.no
     → Becomes new.now (with_due n (Some day) (tables_of old.now))
 sets_due old new n day count office h =
     let db = old.now.trees in
-    let shaped = office.shaped.1.1.1.1.1.0 in
+    let shaped = office.whole.shaped.1.1.1.1.1.0 in
     let set : Row → Row = λ r. with_last (column r 9) (Int day) (Int (int_at r 11)) r in
-    let done = revises set_due_text (Int n ∷ Int day ∷ []) old new office_schema office.schema_is 5 deposit_table refl idle shaped by_number set_due_columns
+    let done = revises set_due_text (Int n ∷ Int day ∷ []) old new office_schema office.whole.schema_is 5 deposit_table refl idle shaped by_number set_due_columns
     (has_number n) (each_numbered n (Int day ∷ []) (db 8) shaped) set_due_means set (few_numbered n (db 8) shaped)
     (λ r there.
     let it = all_has IsDepositRow (db 8) r (deposit_rows old.now office) there in (
@@ -85,15 +87,15 @@ sets_due old new n day count office h =
     let edit = edit_of db deposit_table (ids_of done.answer) Given 1 done.answer in
     let deposits_are : map deposit_in (edited db edit) ≡ map deposit_in (db 8) = ap (map deposit_in) done.made ∙ kept_alike deposit_in (has_number n) set (λ r. refl) (db 8) in
     let dues_are = decoded due_in (has_number n) set (is_due_of n) (λ d. record d { due = Some day }) (λ r. refl) (λ r. refl) (db 8) in
-    becomes old new edit count edit.news office.shaped done.change _ (ap₂ (λ rows dues. record (tables_of old.now) { deposits = rows; dues = dues }) deposits_are (ap (map due_in) done.made ∙ dues_are))
+    becomes old new edit count edit.news office (refl, (refl, tt)) done.change _ (ap₂ (λ rows dues. record (tables_of old.now) { deposits = rows; dues = dues }) deposits_are (ap (map due_in) done.made ∙ dues_are))
 
 pub clears_due : (old new : State) (n : ℤ) (count : ℕ) → IsOffice old.now → Executes clear_due_text (Int n ∷ []) old new (Ok count)
     → Becomes new.now (with_due n (None) (tables_of old.now))
 clears_due old new n count office h =
     let db = old.now.trees in
-    let shaped = office.shaped.1.1.1.1.1.0 in
+    let shaped = office.whole.shaped.1.1.1.1.1.0 in
     let set : Row → Row = λ r. with_last (column r 9) (Null) (Int (int_at r 11)) r in
-    let done = revises clear_due_text (Int n ∷ []) old new office_schema office.schema_is 5 deposit_table refl idle shaped by_number clear_due_columns
+    let done = revises clear_due_text (Int n ∷ []) old new office_schema office.whole.schema_is 5 deposit_table refl idle shaped by_number clear_due_columns
     (has_number n) (each_numbered n [] (db 8) shaped) clear_due_means set (few_numbered n (db 8) shaped)
     (λ r there.
     let it = all_has IsDepositRow (db 8) r (deposit_rows old.now office) there in (
@@ -105,15 +107,15 @@ clears_due old new n count office h =
     let edit = edit_of db deposit_table (ids_of done.answer) Given 1 done.answer in
     let deposits_are : map deposit_in (edited db edit) ≡ map deposit_in (db 8) = ap (map deposit_in) done.made ∙ kept_alike deposit_in (has_number n) set (λ r. refl) (db 8) in
     let dues_are = decoded due_in (has_number n) set (is_due_of n) (λ d. record d { due = None }) (λ r. refl) (λ r. refl) (db 8) in
-    becomes old new edit count edit.news office.shaped done.change _ (ap₂ (λ rows dues. record (tables_of old.now) { deposits = rows; dues = dues }) deposits_are (ap (map due_in) done.made ∙ dues_are))
+    becomes old new edit count edit.news office (refl, (refl, tt)) done.change _ (ap₂ (λ rows dues. record (tables_of old.now) { deposits = rows; dues = dues }) deposits_are (ap (map due_in) done.made ∙ dues_are))
 
 pub sets_holds : (old new : State) (n holds : ℤ) (count : ℕ) → IsOffice old.now → Executes set_holds_text (Int n ∷ Int holds ∷ []) old new (Ok count)
     → Becomes new.now (with_holds n holds (tables_of old.now))
 sets_holds old new n holds count office h =
     let db = old.now.trees in
-    let shaped = office.shaped.1.1.1.1.1.0 in
+    let shaped = office.whole.shaped.1.1.1.1.1.0 in
     let set : Row → Row = λ r. with_last (column r 9) (column r 10) (Int holds) r in
-    let done = revises set_holds_text (Int n ∷ Int holds ∷ []) old new office_schema office.schema_is 5 deposit_table refl idle shaped by_number set_holds_columns
+    let done = revises set_holds_text (Int n ∷ Int holds ∷ []) old new office_schema office.whole.schema_is 5 deposit_table refl idle shaped by_number set_holds_columns
     (has_number n) (each_numbered n (Int holds ∷ []) (db 8) shaped) set_holds_means set (few_numbered n (db 8) shaped)
     (λ r there.
     let it = all_has IsDepositRow (db 8) r (deposit_rows old.now office) there in
@@ -121,7 +123,7 @@ sets_holds old new n holds count office h =
     let edit = edit_of db deposit_table (ids_of done.answer) Given 1 done.answer in
     let deposits_are : map deposit_in (edited db edit) ≡ map deposit_in (db 8) = ap (map deposit_in) done.made ∙ kept_alike deposit_in (has_number n) set (λ r. refl) (db 8) in
     let dues_are = decoded due_in (has_number n) set (is_due_of n) (λ d. record d { holds = holds }) (λ r. refl) (λ r. refl) (db 8) in
-    becomes old new edit count edit.news office.shaped done.change _ (ap₂ (λ rows dues. record (tables_of old.now) { deposits = rows; dues = dues }) deposits_are (ap (map due_in) done.made ∙ dues_are))
+    becomes old new edit count edit.news office (refl, (refl, tt)) done.change _ (ap₂ (λ rows dues. record (tables_of old.now) { deposits = rows; dues = dues }) deposits_are (ap (map due_in) done.made ∙ dues_are))
 
 -- ---- more holds over those that pass
 
@@ -146,28 +148,38 @@ more_decoded those by keep tests (r ∷ rows) = rw (tests r) (ap₂ (λ y more. 
     one true = refl
     one false = refl
 
+-- a text by which each deposit with that text in the column gets as many more
+module _ (text : List ℕ) (place : ℕ) (means : Means office_schema text (Update 5 (as_program (scan 8 (by_text place) more_columns [])))) (typed : (r : Row) → IsDepositRow r → IsText place r)
+    (those : DepositRow → Bool) (name : List ℕ) (tests : (r : Row) → those (deposit_in r) ≡ has_text place name r) where
+  adds_to : (old new : State) (by : ℤ) (count : ℕ) → IsOffice old.now → FitMore by (tables_of old.now).dues → Executes text (Text name ∷ Int by ∷ []) old new (Ok count)
+      → Becomes new.now (record (tables_of old.now) { dues = more_holds those by (tables_of old.now).deposits (tables_of old.now).dues })
+  adds_to old new by count office fit h =
+      let db = old.now.trees in
+      let shaped = office.whole.shaped.1.1.1.1.1.0 in
+      let keep : Row → Bool = has_text place name in
+      let rows_are = deposit_rows old.now office in
+      let texts = all_from (IsText place) (db 8) (λ r there. typed r (all_has IsDepositRow (db 8) r rows_are there)) in
+      let done = revises_all text (Text name ∷ Int by ∷ []) old new office_schema office.whole.schema_is 5 deposit_table refl idle shaped (by_text place) more_columns keep (each_passes place name (Int by ∷ []) (db 8) texts)
+      means (set_more by) (λ r. refl) (λ r there kept.
+      let it = all_has IsDepositRow (db 8) r rows_are there in
+      let fits = all_has _ (db 8) r (fit_at by (db 8) fit) there in
+      let sum : binary (Arith Add) (column r 11) (Int by) ≡ Int (int_at r 11 +ℤ by) = ap (λ v. binary (Arith Add) v (Int by)) it.8 ∙ sum_is (int_at r 11) by fits in (
+        ap (λ v. cast_row deposit_table (rowid r ∷ Null ∷ column r 2 ∷ column r 3 ∷ column r 4 ∷ column r 5 ∷ column r 6 ∷ column r 7 ∷ column r 8 ∷ column r 9 ∷ column r 10 ∷ v ∷ [])) sum
+            ∙ cast_last (column r 9) (column r 10) (Int (int_at r 11 +ℤ by)) r it (all_has _ (db 8) r shaped.1 there) (keeps_int (column r 9) it.9) (keeps_int (column r 10) it.7) (cast_int (int_at r 11 +ℤ by)),
+        refl,
+      )) count h in
+      let edit = edit_of db deposit_table (ids_of done.answer) Given 1 done.answer in
+      let deposits_are : map deposit_in (edited db edit) ≡ map deposit_in (db 8) = ap (map deposit_in) done.made ∙ kept_alike deposit_in keep (set_more by) (λ r. refl) (db 8) in
+      let dues_are = more_decoded those by keep tests (db 8) in
+      becomes old new edit count edit.news office (refl, (refl, tt)) done.change _ (ap₂ (λ rows dues. record (tables_of old.now) { deposits = rows; dues = dues }) deposits_are (ap (map due_in) done.made ∙ dues_are))
+
 pub adds_holds : (old new : State) (collection : List ℕ) (by : ℤ) (count : ℕ) → IsOffice old.now → FitMore by (tables_of old.now).dues → Executes add_holds_text (Text collection ∷ Int by ∷ []) old new (Ok count)
     → Becomes new.now (with_more_holds collection by (tables_of old.now))
-adds_holds old new collection by count office fit h =
-    let db = old.now.trees in
-    let shaped = office.shaped.1.1.1.1.1.0 in
-    let params : Row = Text collection ∷ Int by ∷ [] in
-    let keep : Row → Bool = has_text 3 collection in
-    let rows_are = deposit_rows old.now office in
-    let texts = all_from (λ r. column r 3 ≡ Text (bytes_at r 3)) (db 8) (λ r there. (all_has IsDepositRow (db 8) r rows_are there).1) in
-    let done = revises_all add_holds_text params old new office_schema office.schema_is 5 deposit_table refl idle shaped (by_text 3) more_columns keep (each_passes 3 collection (Int by ∷ []) (db 8) texts)
-    add_holds_means (set_more by) (λ r. refl) (λ r there kept.
-    let it = all_has IsDepositRow (db 8) r rows_are there in
-    let fits = all_has _ (db 8) r (fit_at by (db 8) fit) there in
-    let sum : binary (Arith Add) (column r 11) (Int by) ≡ Int (int_at r 11 +ℤ by) = ap (λ v. binary (Arith Add) v (Int by)) it.8 ∙ sum_is (int_at r 11) by fits in (
-      ap (λ v. cast_row deposit_table (rowid r ∷ Null ∷ column r 2 ∷ column r 3 ∷ column r 4 ∷ column r 5 ∷ column r 6 ∷ column r 7 ∷ column r 8 ∷ column r 9 ∷ column r 10 ∷ v ∷ [])) sum
-          ∙ cast_last (column r 9) (column r 10) (Int (int_at r 11 +ℤ by)) r it (all_has _ (db 8) r shaped.1 there) (keeps_int (column r 9) it.9) (keeps_int (column r 10) it.7) (cast_int (int_at r 11 +ℤ by)),
-      refl,
-    )) count h in
-    let edit = edit_of db deposit_table (ids_of done.answer) Given 1 done.answer in
-    let deposits_are : map deposit_in (edited db edit) ≡ map deposit_in (db 8) = ap (map deposit_in) done.made ∙ kept_alike deposit_in keep (set_more by) (λ r. refl) (db 8) in
-    let dues_are = more_decoded (is_within collection) by keep (λ r. refl) (db 8) in
-    becomes old new edit count edit.news office.shaped done.change _ (ap₂ (λ rows dues. record (tables_of old.now) { deposits = rows; dues = dues }) deposits_are (ap (map due_in) done.made ∙ dues_are))
+adds_holds old new collection = adds_to add_holds_text 3 add_holds_means (λ r it. it.1) (is_within collection) collection (λ r. refl) old new
+
+pub adds_holds_class : (old new : State) (class : List ℕ) (by : ℤ) (count : ℕ) → IsOffice old.now → FitMore by (tables_of old.now).dues → Executes add_holds_class_text (Text class ∷ Int by ∷ []) old new (Ok count)
+    → Becomes new.now (with_more_holds_class class by (tables_of old.now))
+adds_holds_class old new class = adds_to add_holds_class_text 4 add_holds_class_means (λ r it. it.2) (is_of_class class) class (λ r. refl) old new
 
 -- ---- what may be destroyed
 
@@ -176,7 +188,7 @@ unfolding binary
 null_is v (inl is) = rw (is, value_cmp-Null Null) refl
 null_is v (inr is) = rw is (let apart : value_cmp (Int (id_in v)) Null ≡ Greater = value_cmp-apart (Int (id_in v)) Null (λ e. cc) in rw apart refl)
 
-truth_back : (b : Bool) → is_true (from_truth (Some b)) ≡ b
+pub truth_back : (b : Bool) → is_true (from_truth (Some b)) ≡ b
 truth_back true = refl
 truth_back false = refl
 
@@ -184,7 +196,7 @@ not_before : (m n : ℤ) → is_true (binary (Compare Ge Binary) (Int m) (Int n)
 unfolding binary
 not_before m n = truth_back (is_ge (value_cmp (Int m) (Int n))) ∙ ap is_ge (value_cmp-Int m n)
 
-by_day : (m n : ℤ) → is_true (binary (Compare Le Binary) (Int m) (Int n)) ≡ is_le (int_cmp m n)
+pub by_day : (m n : ℤ) → is_true (binary (Compare Le Binary) (Int m) (Int n)) ≡ is_le (int_cmp m n)
 unfolding binary
 by_day m n = truth_back (is_le (value_cmp (Int m) (Int n))) ∙ ap is_le (value_cmp-Int m n)
 
@@ -219,11 +231,11 @@ pub lists_beside : (old new : State) (rows : List Row) → IsOffice old.now → 
     → (new.now ≡ old.now) × (beside (tables_of old.now).deposits (tables_of old.now).dues ≡ map shown_beside rows)
 lists_beside old new rows office h =
     let stored = old.now.trees 8 in
-    let up = ascending_weaker _ _ (λ a b lower. rw lower refl) stored office.shaped.1.1.1.1.1.0.0 in
-    let is = reads_rising office_schema beside_text 8 [] beside_columns rising asks_beside [] old new office.schema_is rows h (λ r. true) (all_from _ stored (λ r there. refl)) up in
+    let up = ascending_weaker _ _ (λ a b lower. rw lower refl) stored office.whole.shaped.1.1.1.1.1.0.0 in
+    let is = reads_rising office_schema beside_text 8 [] beside_columns rising asks_beside [] old new office.whole.schema_is rows h (λ r. true) (all_from _ stored (λ r there. refl)) up in
     let whole : rows ≡ map (shown_of [] beside_columns) stored = is ∙ ap (map (shown_of [] beside_columns)) (filter_all (λ r. true) stored (λ r there. refl)) in
     let shows : map shown_beside (map (shown_of [] beside_columns) stored) ≡ map (λ r. (deposit_in r, due_in r)) stored = map-map shown_beside (shown_of [] beside_columns) stored in (
-      reads_same office_schema beside_text 8 [] beside_columns rising asks_beside [] old new office.schema_is rows h,
+      reads_same office_schema beside_text 8 [] beside_columns rising asks_beside [] old new office.whole.schema_is rows h,
       beside_is stored ∙ sym shows ∙ ap (map shown_beside) (sym whole),
     )
 
@@ -235,13 +247,13 @@ lists_due old new day rows office h =
     let typed = deposit_rows old.now office in
     let pair : Row → DepositRow × DueRow = λ r. (deposit_in r, due_in r) in
     let keep : Row → Bool = λ r. is_disposable day (pair r) in
-    let up = ascending_weaker _ _ (λ a b lower. rw lower refl) (db 8) office.shaped.1.1.1.1.1.0.0 in
+    let up = ascending_weaker _ _ (λ a b lower. rw lower refl) (db 8) office.whole.shaped.1.1.1.1.1.0.0 in
     let each = all_from (λ r. passes params is_due r ≡ keep r) (db 8) (λ r there. passes_due day r (all_has IsDepositRow (db 8) r typed there)) in
-    let is = reads_rising office_schema due_rows_text 8 is_due due_rows_columns rising asks_due_rows params old new office.schema_is rows h keep each up in
+    let is = reads_rising office_schema due_rows_text 8 is_due due_rows_columns rising asks_due_rows params old new office.whole.schema_is rows h keep each up in
     let shows : map shown_place (map (shown_of params due_rows_columns) (filter keep (db 8))) ≡ map (λ r. place_of (pair r)) (filter keep (db 8)) = map-map shown_place (shown_of params due_rows_columns) (filter keep (db 8)) in
     let places : due_places day (tables_of old.now) ≡ map (λ r. place_of (pair r)) (filter keep (db 8)) =
     ap (λ ps. map place_of (filter (is_disposable day) ps)) (beside_is (db 8)) ∙ ap (map place_of) (filter-map (is_disposable day) pair (db 8)) ∙ map-map place_of pair (filter keep (db 8)) in (
-      reads_same office_schema due_rows_text 8 is_due due_rows_columns rising asks_due_rows params old new office.schema_is rows h,
+      reads_same office_schema due_rows_text 8 is_due due_rows_columns rising asks_due_rows params old new office.whole.schema_is rows h,
       places ∙ sym shows ∙ ap (map shown_place) (sym is),
     )
 
@@ -254,12 +266,12 @@ lists_class old new class rows office h =
     let params : Row = Text class ∷ [] in
     let typed = deposit_rows old.now office in
     let keep : Row → Bool = has_text 4 class in
-    let up = ascending_weaker _ _ (λ a b lower. rw lower refl) (db 8) office.shaped.1.1.1.1.1.0.0 in
+    let up = ascending_weaker _ _ (λ a b lower. rw lower refl) (db 8) office.whole.shaped.1.1.1.1.1.0.0 in
     let texts = all_from (λ r. column r 4 ≡ Text (bytes_at r 4)) (db 8) (λ r there. (all_has IsDepositRow (db 8) r typed there).2) in
-    let is = reads_rising office_schema class_rows_text 8 (by_text 4) class_rows_columns rising asks_class_rows params old new office.schema_is rows h keep (each_passes 4 class [] (db 8) texts) up in
+    let is = reads_rising office_schema class_rows_text 8 (by_text 4) class_rows_columns rising asks_class_rows params old new office.whole.schema_is rows h keep (each_passes 4 class [] (db 8) texts) up in
     let shows : map shown_closing (map (shown_of params class_rows_columns) (filter keep (db 8))) ≡ map (λ r. closing_of (deposit_in r)) (filter keep (db 8)) = map-map shown_closing (shown_of params class_rows_columns) (filter keep (db 8)) in
     let found : map closing_of (of_class class (tables_of old.now)) ≡ map (λ r. closing_of (deposit_in r)) (filter keep (db 8)) =
     ap (map closing_of) (filter-map (is_of_class class) deposit_in (db 8)) ∙ map-map closing_of deposit_in (filter keep (db 8)) in (
-      reads_same office_schema class_rows_text 8 (by_text 4) class_rows_columns rising asks_class_rows params old new office.schema_is rows h,
+      reads_same office_schema class_rows_text 8 (by_text 4) class_rows_columns rising asks_class_rows params old new office.whole.schema_is rows h,
       found ∙ sym shows ∙ ap (map shown_closing) (sym is),
     )

@@ -72,7 +72,7 @@ file_rows : (db : Database) → IsOffice db → AllByRecursion IsFileRow (db.tre
 file_rows db office = all_both (λ r t p. (
   int_in office_schema db.trees file_table r t p 0 (needed (codes "deposit") kind.Integer) refl refl refl refl refl,
   text_at office_schema db.trees file_table r t p 1 (needed (codes "path") kind.Text) refl refl refl refl refl,
-)) (db.trees 10) (keeps_rule office Datatype).1.1.1.1.1.1.0 (keeps_rule office NotNull).1.1.1.1.1.1.0
+)) (db.trees 10) (keeps_rule office.whole Datatype).1.1.1.1.1.1.0 (keeps_rule office.whole NotNull).1.1.1.1.1.1.0
 
 -- ---- the tests by the deposit, and by the deposit and the path
 
@@ -104,7 +104,7 @@ module _ (db : Database) (office : IsOffice db) (n : ℤ) where
       let rows = file_rows db office in
       let tx = all_has IsFileRow (db.trees 10) x rows hx in
       let ty = all_has IsFileRow (db.trees 10) y rows hy in
-      let apart = all_has _ (db.trees 10) y (keeps_rule office Unique).1.1.1.1.1.1.0 hy in
+      let apart = all_has _ (db.trees 10) y (keeps_rule office.whole Unique).1.1.1.1.1.1.0 hy in
       let key : Row = Int n ∷ Text path ∷ [] in
       let eqx : equal Binary (column x 1) (Int n) ≡ true = ap (λ v. equal Binary v (Int n)) tx.0 ∙ same_int (int_at x 1) n ∙ (and_parts _ _ px).0 in
       let eqy : equal Binary (column y 1) (Int n) ≡ true = ap (λ v. equal Binary v (Int n)) ty.0 ∙ same_int (int_at y 1) n ∙ (and_parts _ _ py).0 in
@@ -113,10 +113,10 @@ module _ (db : Database) (office : IsOffice db) (n : ℤ) where
       let kx : agree plain (1 ∷ 2 ∷ []) x (0 ∷ 1 ∷ []) key ≡ true = rw (eqx, pathx) refl in
       let ky : agree plain (1 ∷ 2 ∷ []) y (0 ∷ 1 ∷ []) key ≡ true = rw (eqy, pathy) refl in
       let agrees = agree_chain plain (1 ∷ 2 ∷ []) (0 ∷ 1 ∷ []) (1 ∷ 2 ∷ []) x key y kx (agree_back plain (1 ∷ 2 ∷ []) (0 ∷ 1 ∷ []) y key ky) in
-      same_key plain (1 ∷ 2 ∷ []) (db.trees 10) office.shaped.1.1.1.1.1.1.0 x y hx hy (unclashed _ apart) agrees
+      same_key plain (1 ∷ 2 ∷ []) (db.trees 10) office.whole.shaped.1.1.1.1.1.1.0 x y hx hy (unclashed _ apart) agrees
 
   pub few_files : (path : List ℕ) → (filter (has_place n path) (db.trees 10) ≡ []) ⊎ ((r : Row) × Has (db.trees 10) r × (has_place n path r ≡ true) × (filter (has_place n path) (db.trees 10) ≡ r ∷ []))
-  few_files path = lone (has_place n path) (db.trees 10) (db.trees 10) office.shaped.1.1.1.1.1.1.0.0 (λ r there. there) (one_file path)
+  few_files path = lone (has_place n path) (db.trees 10) (db.trees 10) office.whole.shaped.1.1.1.1.1.1.0.0 (λ r there. there) (one_file path)
 
 -- ---- one file
 
@@ -130,9 +130,9 @@ finds_content old new n path rows office h =
     let params : Row = Int n ∷ Text path ∷ [] in
     let stored = old.now.trees 10 in
     let contents = contents_of old.now in
-    let is = reads_one office_schema content_text 10 by_place content_column [] asks_content params old new office.schema_is rows h (has_place n path)
+    let is = reads_one office_schema content_text 10 by_place content_column [] asks_content params old new office.whole.schema_is rows h (has_place n path)
     (each_at old.now office n path) (few_files old.now office n path) in (
-      reads_same office_schema content_text 10 by_place content_column [] asks_content params old new office.schema_is rows h,
+      reads_same office_schema content_text 10 by_place content_column [] asks_content params old new office.whole.schema_is rows h,
       finds_part stored rows (has_place n path) (shown_of params content_column) (file_in contents) (is_file_at n path) (λ r. refl) is (λ (f : FileRow). f.content) (content_under contents) (λ r. refl),
     )
 
@@ -142,8 +142,8 @@ pub finds_contents : (old new : State) (n : ℤ) (rows : List Row) → IsOffice 
 finds_contents old new n rows office h =
     let params : Row = Int n ∷ [] in
     let db = old.now.trees in
-    let found = reads_scan office_schema ids_text 10 by_deposit content_column [] asks_ids params old new office.schema_is rows h in (
-      reads_same office_schema ids_text 10 by_deposit content_column [] asks_ids params old new office.schema_is rows h,
+    let found = reads_scan office_schema ids_text 10 by_deposit content_column [] asks_ids params old new office.whole.schema_is rows h in (
+      reads_same office_schema ids_text 10 by_deposit content_column [] asks_ids params old new office.whole.schema_is rows h,
       λ r there keeps. mapped_has (λ row. int_at row 0) rows _ (answer_complete db params 10 by_deposit content_column [] rows (has_deposit n) found (each_of old.now office n) r there keeps),
     )
 
@@ -157,17 +157,17 @@ module _ (old new : State) (n : ℤ) (path : List ℕ) (id : ℤ) (count : ℕ) 
   put_edit = edit_of old.now.trees file_table [] Chosen 0 ((Null ∷ put_columns) ∷ [])
 
   put_change : Changes office_schema old new put_edit count put_edit.news
-  put_change = inserts put_text put_columns old new office_schema office.schema_is 6 file_table refl idle put_terms 4 put_means refl refl count h
+  put_change = inserts put_text put_columns old new office_schema office.whole.schema_is 6 file_table refl idle put_terms 4 put_means refl refl count h
 
   put_cast : cast_row file_table (Null ∷ put_columns) ≡ Null ∷ put_columns
   put_cast = rw (cast_null, cast_int n, cast_int id) refl
 
   put_end : (with_edit put_edit old.now).trees 10 ≡ old.now.trees 10 ++ (Int (next_rowid (old.now.trees 10)) ∷ put_columns) ∷ []
-  put_end = appended old.now.trees file_table (Null ∷ put_columns) put_columns office.shaped.1.1.1.1.1.1.0 put_cast
+  put_end = appended old.now.trees file_table (Null ∷ put_columns) put_columns office.whole.shaped.1.1.1.1.1.1.0 put_cast
 
   puts_file : Becomes new.now (with_file (record { deposit = n; path = path; content = bytes_under (contents_of old.now) id }) (tables_of old.now))
   puts_file =
-      becomes old new put_edit count put_edit.news office.shaped put_change _ (ap (λ rows. record (tables_of old.now) { files = rows })
+      becomes old new put_edit count put_edit.news office (refl, (refl, tt)) put_change _ (ap (λ rows. record (tables_of old.now) { files = rows })
       (ap (map (file_in (contents_of old.now))) put_end ∙ map-append (file_in (contents_of old.now)) (old.now.trees 10) _))
 
   -- so there was no such file
@@ -192,14 +192,14 @@ module _ (old new : State) (n : ℤ) (path : List ℕ) (id : ℤ) (count : ℕ) 
 pub drops_files : (old new : State) (n : ℤ) (count : ℕ) → IsOffice old.now → Executes drop_text (Int n ∷ []) old new (Ok count) → AreFilesDropped n old.now new.now
 drops_files old new n count office h =
     let db = old.now.trees in
-    let done = drops drop_text (Int n ∷ []) old new office_schema office.schema_is 6 file_table refl idle office.shaped.1.1.1.1.1.1.0 by_deposit rowid_column
+    let done = drops drop_text (Int n ∷ []) old new office_schema office.whole.schema_is 6 file_table refl idle office.whole.shaped.1.1.1.1.1.1.0 by_deposit rowid_column
     (has_deposit n) (each_of old.now office n) drop_means (λ r. refl) count h in
     let edit = edit_of db file_table (ids_of done.answer) Given 0 [] in
     let decode = file_in (contents_of old.now) in
     let others_stay = sym (filter-map (λ f. not (is_file_of n f)) decode (db 10)) in
     let rows : new.now.trees 10 ≡ filter (λ r. not (has_deposit n r)) (db 10) = file_rows_after old new edit count _ done.change ∙ done.made in
     record {
-      becomes = becomes old new edit count _ office.shaped done.change _ (ap (λ rows. record (tables_of old.now) { files = rows }) (ap (map decode) done.made ∙ others_stay));
+      becomes = becomes old new edit count _ office (refl, (refl, tt)) done.change _ (ap (λ rows. record (tables_of old.now) { files = rows }) (ap (map decode) done.made ∙ others_stay));
       contents = contents_after old new edit count _ done.change;
       references = λ id there.
           let r = has_mapped (λ row. int_at row 3) (db 10) id there in
@@ -267,7 +267,7 @@ lists_paths old new n rows office h =
     let params : Row = Int n ∷ [] in
     let db = old.now.trees in
     let q = scan 10 by_deposit path_column by_path in
-    let found = reads_scan office_schema paths_text 10 by_deposit path_column by_path asks_paths params old new office.schema_is rows h in
+    let found = reads_scan office_schema paths_text 10 by_deposit path_column by_path asks_paths params old new office.whole.schema_is rows h in
     let typed = file_rows old.now office in
     let keep = has_deposit n in
     let kept = filter keep (db 10) in
@@ -281,7 +281,7 @@ lists_paths old new n rows office h =
     let moved : IsPermutation (map path_in kept) (map shown_by found.ordered) = subst (λ xs. IsPermutation xs (map shown_by found.ordered)) as_paths (IsPermutation-map shown_by (map out kept) found.ordered same) in
     let apart : IsAscending (λ a b. is_eq (text_cmp (path_in a) (path_in b)) ≡ false) kept = ascending_has (λ a b. value_cmp (rowid a) (rowid b) ≡ Less) (λ a b. is_eq (text_cmp (path_in a) (path_in b)) ≡ false) kept
     (λ a b ha hb below. untied old.now office n a b (has_filtered keep (db 10) a ha) (has_filtered keep (db 10) b hb) below)
-    (ascending-filter (λ a b. value_cmp (rowid a) (rowid b) ≡ Less) keep (db 10) office.shaped.1.1.1.1.1.1.0.0) in
+    (ascending-filter (λ a b. value_cmp (rowid a) (rowid b) ≡ Less) keep (db 10) office.whole.shaped.1.1.1.1.1.1.0.0) in
     let distinct = ascending-map (λ s t. is_eq (text_cmp s t) ≡ false) path_in kept apart in
     let sorted_is : map shown_by found.ordered ≡ sort_by text_cmp (map path_in kept) = sorted_is-sort_by text_cmp text_total (map path_in kept) (map shown_by found.ordered) distinct moved up in
     let decode = file_in (contents_of old.now) in
@@ -289,7 +289,7 @@ lists_paths old new n rows office h =
     let paths_are : map (λ (f : FileRow). f.path) files ≡ map path_in kept = ap (map (λ (f : FileRow). f.path)) (filter-map (is_file_of n) decode (db 10)) ∙ map-map (λ (f : FileRow). f.path) decode kept in
     let in_order : map (λ (f : FileRow). f.path) (sort_by path_cmp files) ≡ sort_by text_cmp (map path_in kept) = sym (sort_by-map text_cmp (λ (f : FileRow). f.path) files) ∙ ap (sort_by text_cmp) paths_are in
     let rows_are : map shown_path rows ≡ map shown_by found.ordered = ap (map shown_path) found.shown ∙ map-map shown_path (λ (o : Row × Row). o.1) found.ordered in (
-      reads_same office_schema paths_text 10 by_deposit path_column by_path asks_paths params old new office.schema_is rows h,
+      reads_same office_schema paths_text 10 by_deposit path_column by_path asks_paths params old new office.whole.schema_is rows h,
       in_order ∙ sym sorted_is ∙ sym rows_are,
     )
 

@@ -1,18 +1,19 @@
 -- A change of one table leaves an office, and the rows of the other tables.
-use Rattle.std.proofs.Common.{◌≡◌, ℕ, ◌==◌, length, List, map, refl, sym, ap, subst₂, ◌∙◌, inl, inr}
+use Rattle.std.proofs.Common.{◌≡◌, ℕ, ◌==◌, length, List, [], map, false, refl, sym, ap, subst₂, ◌∙◌, inl, inr}
 use Rattle.std.specs.List.{AllByRecursion}
 use Rattle.std.proofs.lemmas.Bool.{cases_Bool}
 use Rattle.sqlite.specs.Order.{Row}
 use Rattle.sqlite.specs.Edit.{Edit, edited}
 use Rattle.sqlite.specs.Effect.{Database}
+use Rattle.sqlite.specs.Tree.{Trees}
 use Rattle.sqlite.specs.State.{State}
 use Rattle.sql_meaning.specs.Whole.{AreShaped}
 use Rattle.sql_meaning.proofs.Writing.{Changes, IsIdle}
 use Rattle.sql_meaning.proofs.Whole.{whole_after, with_rows, rows_after}
-use Rattle.office_tables.specs.Schema.{office_schema, all_tables}
+use Rattle.office_tables.specs.Schema.{office_schema, all_tables, emptied_trees}
 use Rattle.office_rows.specs.Rows.{Tables}
 use Rattle.sql_meaning.specs.Columns.{int_at}
-use Rattle.office_tables.specs.Tables.{Becomes, tables_of, contents_of, content_in}
+use Rattle.office_tables.specs.Tables.{IsOffice, Becomes, tables_of, contents_of, content_in}
 use Rattle.office_tables.specs.Contents.{references_of, AreKeptOnce, KeepsOnce}
 
 -- no reference of the schema acts
@@ -21,18 +22,38 @@ idle tree olds news = elim (cases_Bool (length news == 0)) [ inl is ↦ rw is re
 
 -- databases whose tables have the same rows show the same; each table has its place here
 same_tables : (a b : Database) → AllByRecursion (λ t. a.trees t.tree ≡ b.trees t.tree) all_tables → tables_of a ≡ tables_of b
-same_tables a b is = rw (is.0, is.1.0, is.1.1.0, is.1.1.1.0, is.1.1.1.1.0, is.1.1.1.1.1.0, is.1.1.1.1.1.1.0, is.1.1.1.1.1.1.1.0, is.1.1.1.1.1.1.1.1.0) refl
+same_tables a b is =
+    rw (is.0, is.1.0, is.1.1.1.0, is.1.1.1.1.0, is.1.1.1.1.1.0, is.1.1.1.1.1.1.0, is.1.1.1.1.1.1.1.1.0, is.1.1.1.1.1.1.1.1.1.0, is.1.1.1.1.1.1.1.1.1.1.0) refl
 
 -- the database with the rows of the edit in its table
 abbrev pub with_edit : Edit → Database → Database
 with_edit edit db = record db { trees = with_rows edit.table.tree (edited db.trees edit) db.trees }
 
-pub becomes : (old new : State) (edit : Edit) (count : ℕ) (written : List Row) → AreShaped office_schema old.now.trees → Changes office_schema old new edit count written
+-- the trees of the tables that hold nothing any more, and none of them is written
+abbrev StayEmpty : Trees → Type 0
+StayEmpty trees = AllByRecursion (λ tree. trees tree ≡ []) emptied_trees
+
+abbrev pub AreOthers : ℕ → Type 0
+AreOthers written = AllByRecursion (λ tree. (tree == written) ≡ false) emptied_trees
+
+same_rows : (tree : ℕ) (edit : Edit) (db : Database) → (tree == edit.table.tree) ≡ false → db.trees tree ≡ [] → (with_edit edit db).trees tree ≡ []
+same_rows tree edit db other empty = rw other empty
+
+pub becomes_shaped : (old new : State) (edit : Edit) (count : ℕ) (written : List Row) → AreShaped office_schema old.now.trees → StayEmpty old.now.trees → AreOthers edit.table.tree
+    → Changes office_schema old new edit count written → (tables : Tables) → tables_of (with_edit edit old.now) ≡ tables → Becomes new.now tables
+becomes_shaped old new edit count written shaped empty others change tables is =
+    let after = rows_after office_schema old new edit count written change in
+    record {
+      office = record {
+        whole = whole_after office_schema old new edit count written change shaped;
+        emptied = (after.1.1.1.1.1.1.1.0 ∙ same_rows 12 edit old.now others.0 empty.0, (after.1.1.0 ∙ same_rows 3 edit old.now others.1.0 empty.1.0, tt));
+      };
+      are = same_tables new.now (with_edit edit old.now) after ∙ is;
+    }
+
+pub becomes : (old new : State) (edit : Edit) (count : ℕ) (written : List Row) → IsOffice old.now → AreOthers edit.table.tree → Changes office_schema old new edit count written
     → (tables : Tables) → tables_of (with_edit edit old.now) ≡ tables → Becomes new.now tables
-becomes old new edit count written shaped change tables is = record {
-  office = whole_after office_schema old new edit count written change shaped;
-  are = same_tables new.now (with_edit edit old.now) (rows_after office_schema old new edit count written change) ∙ is;
-}
+becomes old new edit count written office others change tables is = becomes_shaped old new edit count written office.whole.shaped office.emptied others change tables is
 
 -- what the change leaves of the contents, and of the files
 module _ (old new : State) (edit : Edit) (count : ℕ) (written : List Row) (change : Changes office_schema old new edit count written) where

@@ -7,7 +7,8 @@ use Rattle.std.specs.List.Sorted.{IsPermutation, IsSorted}
 use Rattle.std.proofs.lemmas.Bool.{cases_Bool}
 use Rattle.std.proofs.lemmas.List.{map-append}
 use Rattle.std.proofs.lemmas.Cmp.{int_cmp_total}
-use Rattle.std.proofs.lemmas.List.Sorted.{IsPermutation-refl, IsPermutation-sym, IsPermutation-trans, IsPermutation-cons, IsPermutation-middle, IsPermutation-map}
+use Rattle.std.proofs.lemmas.Map.Text.{is_eq-slice_cmp}
+use Rattle.std.proofs.lemmas.List.Sorted.{IsPermutation-refl, IsPermutation-sym, IsPermutation-trans, IsPermutation-append_left, IsPermutation-cons, IsPermutation-middle, IsPermutation-map}
 use Rattle.sqlite.specs.declared.types.Value.{Value}
 use Rattle.sqlite.specs.declared.types.Value.TheVariants.{Null, Int, Text}
 use Rattle.sqlite.specs.Order.{Row, column, bytes, value_cmp}
@@ -21,7 +22,7 @@ use Rattle.sqlite.specs.Kind.TheVariants as kind
 use Rattle.sqlite.specs.Cast.{cast, cast_row}
 use Rattle.sqlite.specs.State.{State, Shown, Executes}
 use Rattle.sqlite_schema.specs.declared.schema.Constraint.TheVariants.{Datatype, NotNull}
-use Rattle.sqlite_value.proofs.OrderLemmas.{value_cmp-Int, value_cmp-Null, value_cmp-apart}
+use Rattle.sqlite_value.proofs.OrderLemmas.{value_cmp-Int, value_cmp-Null, value_cmp-Text, value_cmp-apart}
 use Rattle.sqlite.specs.Collation.TheVariants.{Binary}
 use Rattle.sqlite.specs.Ops.{binary, unary, is_true, truth, from_truth, not3}
 use Rattle.sqlite_sql.specs.declared.ops.BinaryOp.TheVariants.{Compare, Is}
@@ -34,7 +35,8 @@ use Rattle.sql_meaning.proofs.Keys.{same_text, same_int, found_by, int_itself}
 use Rattle.sqlite_rules.specs.Calls.{ids_of}
 use Rattle.sqlite_rules.proofs.ListLemmas.{all_has, all_from}
 use Rattle.sqlite_rules.proofs.TableLemmas.{int_is}
-use Rattle.sqlite_trees.specs.View.{is_int}
+use Rattle.sqlite_trees.specs.View.{is_int, IsShaped}
+use Rattle.sqlite_trees.specs.declared.store.Shape.TheVariants as shape
 use Rattle.sql_meaning.specs.Columns.{int_at, bytes_at, maybe_int, maybe_bytes, maybe_int_at, maybe_bytes_at}
 use Rattle.sql_meaning.proofs.Writing.{Changes, inserts}
 use Rattle.sql_meaning.proofs.Inserts.{none_before}
@@ -46,14 +48,22 @@ use Rattle.sql_meaning.proofs.Typed.{text_at, int_in, maybe_int_at as some_int_a
 use Rattle.sql_meaning.proofs.Edits.{decoded, cast_null, cast_int}
 use Rattle.sql_meaning.proofs.Whole.{keeps_rule}
 use Rattle.sql_meaning.proofs.Changing.{revises}
-use Rattle.office_tables.specs.Schema.{office_schema, hold_table, needed, optional}
-use Rattle.office_rows.specs.Rows.{HoldRow, put_by, is_hold, hold_numbered, last_number, with_hold, with_released, is_live, holds_deposit, holds_collection, is_live_on, is_live_within, is_live_over, live_holds}
+use Rattle.office_tables.specs.Schema.{office_schema, hold_4_table, needed, optional}
+use Rattle.office_rows.specs.Rows.{HoldRow, put_by, is_hold, hold_numbered, last_number, with_hold, with_released, is_live, holds_deposit, holds_collection, holds_class, is_live_on, is_live_within, is_live_of_class, is_live_over, live_holds}
 use Rattle.office_tables.specs.Tables.{IsOffice, Becomes, tables_of, hold_in}
 use Rattle.office_tables.specs.ShownHolds.{shown_hold}
-use Rattle.office_tables.proofs.Frames.{idle, becomes}
+use Rattle.office_tables.proofs.Frames.{idle, becomes, AreOthers}
 use Rattle.office_tables.proofs.InOrder.{placed}
 use Rattle.office_tables.proofs.LastRow.{reads_last}
-use Rattle.office_tables.proofs.HoldTexts.{hold_text, hold_columns, asks_hold, last_text, asks_last, put_text, hold_terms, put_means, end_text, ended_columns, end_means, number_column, on_text, on, asks_on, within_text, within, asks_within}
+use Rattle.office_tables.proofs.HoldTexts.{hold_text, hold_columns, asks_hold, last_text, asks_last, put_text, hold_terms, put_means, end_text, ended_columns, end_means, number_column, on_text, on, asks_on, within_text, within, asks_within, of_class_text, of_class, asks_of_class}
+
+-- the rows of the holds ascend by number
+shaped_holds : (db : Database) → IsOffice db → IsShaped shape.Table (db.trees 19)
+shaped_holds db office = office.whole.shaped.1.1.1.1.1.1.1.1.1.0
+
+-- the tables that stay empty are others
+others : AreOthers 19
+others = (refl, (refl, tt))
 
 -- ---- reads
 
@@ -61,26 +71,26 @@ pub finds_hold : (old new : State) (k : ℤ) (rows : List Row) → IsOffice old.
     → (new.now ≡ old.now) × (hold_numbered k (tables_of old.now).holds ≡ option_map shown_hold (slice_get rows 0))
 finds_hold old new k rows office h =
     let params : Row = Int k ∷ [] in
-    let stored = old.now.trees 12 in
-    let shaped = office.shaped.1.1.1.1.1.1.1.0 in
-    let is = reads_one office_schema hold_text 12 by_number hold_columns [] asks_hold params old new office.schema_is rows h (has_number k)
+    let stored = old.now.trees 19 in
+    let shaped = shaped_holds old.now office in
+    let is = reads_one office_schema hold_text 19 by_number hold_columns [] asks_hold params old new office.whole.schema_is rows h (has_number k)
     (each_numbered k [] stored shaped) (few_numbered k stored shaped) in (
-      reads_same office_schema hold_text 12 by_number hold_columns [] asks_hold params old new office.schema_is rows h,
+      reads_same office_schema hold_text 19 by_number hold_columns [] asks_hold params old new office.whole.schema_is rows h,
       finds_one stored rows (has_number k) (shown_of params hold_columns) hold_in shown_hold (is_hold k) (λ r. refl) (λ r. refl) is,
     )
 
 pub finds_last : (old new : State) (rows : List Row) → IsOffice old.now → Shown last_text [] old new rows
     → (new.now ≡ old.now) × (last_number (λ (h : HoldRow). h.number) (tables_of old.now).holds ≡ option_map (λ row. int_at row 0) (slice_get rows 0))
 finds_last old new rows office h =
-    reads_last 12 hold_in (λ (h : HoldRow). h.number) (λ r. refl) office_schema last_text asks_last old new office.schema_is office.shaped.1.1.1.1.1.1.1.0.0 rows h
+    reads_last 19 hold_in (λ (h : HoldRow). h.number) (λ r. refl) office_schema last_text asks_last old new office.whole.schema_is (shaped_holds old.now office).0 rows h
 
 -- ---- a new hold
 
 abbrev pub params_of : HoldRow → Row
-params_of h = Int h.number ∷ or_null Int h.deposit ∷ or_null Text h.collection ∷ Text h.matter ∷ Int h.placed ∷ []
+params_of h = Int h.number ∷ or_null Int h.deposit ∷ or_null Text h.collection ∷ or_null Text h.class ∷ Text h.matter ∷ Int h.placed ∷ []
 
 abbrev stored_of : HoldRow → Row
-stored_of h = Null ∷ or_null Int h.deposit ∷ or_null Text h.collection ∷ Text h.matter ∷ Int h.placed ∷ Null ∷ []
+stored_of h = Null ∷ or_null Int h.deposit ∷ or_null Text h.collection ∷ or_null Text h.class ∷ Text h.matter ∷ Int h.placed ∷ Null ∷ []
 
 cast_maybe : (n : Option ℤ) → cast kind.Integer (or_null Int n) ≡ or_null Int n
 cast_maybe None = cast_null
@@ -112,44 +122,45 @@ module _ (old new : State) (hold : HoldRow) (live : hold.released ≡ None) (cou
   put_hold = Int hold.number ∷ stored_of hold
 
   abbrev put_edit : Edit
-  put_edit = edit_of old.now.trees hold_table [] Chosen 0 (put_hold ∷ [])
+  put_edit = edit_of old.now.trees hold_4_table [] Chosen 0 (put_hold ∷ [])
 
   put_change : Changes office_schema old new put_edit count put_edit.news
-  put_change = inserts put_text (params_of hold) old new office_schema office.schema_is 7 hold_table refl idle hold_terms 7 put_means refl refl count h
+  put_change = inserts put_text (params_of hold) old new office_schema office.whole.schema_is 9 hold_4_table refl idle hold_terms 8 put_means refl refl count h
 
-  put_cast : cast_row hold_table put_hold ≡ put_hold
-  put_cast = rw (cast_null, cast_int hold.number, cast_maybe hold.deposit, cast_text hold.collection, cast_int hold.placed) refl
+  put_cast : cast_row hold_4_table put_hold ≡ put_hold
+  put_cast = rw (cast_null, cast_int hold.number, cast_maybe hold.deposit, cast_text hold.collection, cast_text hold.class, cast_int hold.placed) refl
 
   pub puts_hold : Becomes new.now (with_hold hold (tables_of old.now))
   puts_hold =
       let number : HoldRow → ℤ = λ g. g.number in
-      let is_it : hold_in put_hold ≡ hold = rw (maybe_back hold.deposit [], text_back hold.collection [], live) refl in
-      let at_its_place = placed hold_in number (λ r. refl) old new hold_table put_hold (stored_of hold) hold.number count put_edit.news office.shaped.1.1.1.1.1.1.1.0 put_cast put_change in
-      becomes old new put_edit count put_edit.news office.shaped put_change _ (ap (λ rows. record (tables_of old.now) { holds = rows }) (at_its_place ∙ ap (λ x. put_by number x (map hold_in (old.now.trees 12))) is_it))
+      let is_it : hold_in put_hold ≡ hold = rw (maybe_back hold.deposit [], text_back hold.collection [], text_back hold.class [], live) refl in
+      let at_its_place = placed hold_in number (λ r. refl) old new hold_4_table put_hold (stored_of hold) hold.number count put_edit.news (shaped_holds old.now office) put_cast put_change in
+      becomes old new put_edit count put_edit.news office others put_change _ (ap (λ rows. record (tables_of old.now) { holds = rows }) (at_its_place ∙ ap (λ x. put_by number x (map hold_in (old.now.trees 19))) is_it))
 
   -- so there was no hold of its number
   pub hold_was_new : hold_numbered hold.number (tables_of old.now).holds ≡ None
   hold_was_new =
       let n = hold.number in
-      let stored = old.now.trees 12 in
-      let is_there : has_number n (with_rowid Chosen stored (cast_row hold_table put_hold)) ≡ true = ap (λ r. has_number n (with_rowid Chosen stored r)) put_cast ∙ int_itself n in
-      let none = none_before office_schema Enforced old.now.trees new.now.trees hold_table put_hold put_change.applies (has_number n) is_there (one_numbered (new.now.trees 12) puts_hold.office.shaped.1.1.1.1.1.1.1.0 n) in
+      let stored = old.now.trees 19 in
+      let is_there : has_number n (with_rowid Chosen stored (cast_row hold_4_table put_hold)) ≡ true = ap (λ r. has_number n (with_rowid Chosen stored r)) put_cast ∙ int_itself n in
+      let none = none_before office_schema Enforced old.now.trees new.now.trees hold_4_table put_hold put_change.applies (has_number n) is_there (one_numbered (new.now.trees 19) (shaped_holds new.now puts_hold.office) n) in
       found_by (is_hold n) (has_number n) hold_in stored (all_from _ stored (λ r there. refl)) ∙ ap (λ rs. option_map hold_in (slice_get rs 0)) none
 
 -- ---- the end of a hold
 
 abbrev pub IsStoredHold : Row → Type 0
 IsStoredHold r = ((column r 2 ≡ Null) ⊎ (column r 2 ≡ Int (int_at r 2))) × ((column r 3 ≡ Null) ⊎ (column r 3 ≡ Text (bytes_at r 3)))
-    × (column r 4 ≡ Text (bytes_at r 4)) × (column r 5 ≡ Int (int_at r 5)) × ((column r 6 ≡ Null) ⊎ (column r 6 ≡ Int (int_at r 6)))
+    × ((column r 4 ≡ Null) ⊎ (column r 4 ≡ Text (bytes_at r 4))) × (column r 5 ≡ Text (bytes_at r 5)) × (column r 6 ≡ Int (int_at r 6)) × ((column r 7 ≡ Null) ⊎ (column r 7 ≡ Int (int_at r 7)))
 
-pub hold_rows : (db : Database) → IsOffice db → AllByRecursion IsStoredHold (db.trees 12)
+pub hold_rows : (db : Database) → IsOffice db → AllByRecursion IsStoredHold (db.trees 19)
 hold_rows db office = all_both (λ r typed present. (
-  some_int_at office_schema db.trees hold_table r typed present 1 (optional (codes "deposit") kind.Integer) refl refl refl refl,
-  some_text_at office_schema db.trees hold_table r typed present 2 (optional (codes "collection") kind.Text) refl refl refl refl,
-  text_at office_schema db.trees hold_table r typed present 3 (needed (codes "matter") kind.Text) refl refl refl refl refl,
-  int_in office_schema db.trees hold_table r typed present 4 (needed (codes "placed") kind.Integer) refl refl refl refl refl,
-  some_int_at office_schema db.trees hold_table r typed present 5 (optional (codes "released") kind.Integer) refl refl refl refl,
-)) (db.trees 12) (keeps_rule office Datatype).1.1.1.1.1.1.1.0 (keeps_rule office NotNull).1.1.1.1.1.1.1.0
+  some_int_at office_schema db.trees hold_4_table r typed present 1 (optional (codes "deposit") kind.Integer) refl refl refl refl,
+  some_text_at office_schema db.trees hold_4_table r typed present 2 (optional (codes "collection") kind.Text) refl refl refl refl,
+  some_text_at office_schema db.trees hold_4_table r typed present 3 (optional (codes "class") kind.Text) refl refl refl refl,
+  text_at office_schema db.trees hold_4_table r typed present 4 (needed (codes "matter") kind.Text) refl refl refl refl refl,
+  int_in office_schema db.trees hold_4_table r typed present 5 (needed (codes "placed") kind.Integer) refl refl refl refl refl,
+  some_int_at office_schema db.trees hold_4_table r typed present 6 (optional (codes "released") kind.Integer) refl refl refl refl,
+)) (db.trees 19) (keeps_rule office.whole Datatype).1.1.1.1.1.1.1.1.1.0 (keeps_rule office.whole NotNull).1.1.1.1.1.1.1.1.1.0
 
 keeps_int : (v : Value) → (v ≡ Null) ⊎ (v ≡ Int (id_in v)) → cast kind.Integer v ≡ v
 keeps_int v (inl is) = subst (λ w. cast kind.Integer w ≡ w) (sym is) cast_null
@@ -160,24 +171,24 @@ keeps_text v (inl is) = subst (λ w. cast kind.Text w ≡ w) (sym is) refl
 keeps_text v (inr is) = subst (λ w. cast kind.Text w ≡ w) (sym is) refl
 
 abbrev ended : ℤ → Row → Row
-ended day r = rowid r ∷ Null ∷ column r 2 ∷ column r 3 ∷ column r 4 ∷ column r 5 ∷ Int day ∷ []
+ended day r = rowid r ∷ Null ∷ column r 2 ∷ column r 3 ∷ column r 4 ∷ column r 5 ∷ column r 6 ∷ Int day ∷ []
 
-cast_ended : (day : ℤ) (r : Row) → IsStoredHold r → IsTrue (is_int (rowid r)) → cast_row hold_table (rowid r ∷ Null ∷ column r 2 ∷ column r 3 ∷ column r 4 ∷ column r 5 ∷ Int day ∷ []) ≡ ended day r
+cast_ended : (day : ℤ) (r : Row) → IsStoredHold r → IsTrue (is_int (rowid r)) → cast_row hold_4_table (ended day r) ≡ ended day r
 cast_ended day r it whole =
     let casts : cast kind.Integer (rowid r) ≡ rowid r = keeps_int (rowid r) (inr (int_is (rowid r) whole)) in
-    rw (casts, cast_null, keeps_int (column r 2) it.0, keeps_text (column r 3) it.1, keeps_text (column r 4) (inr it.2), keeps_int (column r 5) (inr it.3), cast_int day) refl
+    rw (casts, cast_null, keeps_int (column r 2) it.0, keeps_text (column r 3) it.1, keeps_text (column r 4) it.2, keeps_text (column r 5) (inr it.3), keeps_int (column r 6) (inr it.4), cast_int day) refl
 
 pub ends_hold : (old new : State) (k day : ℤ) (count : ℕ) → IsOffice old.now → Executes end_text (Int k ∷ Int day ∷ []) old new (Ok count)
     → Becomes new.now (with_released k day (tables_of old.now))
 ends_hold old new k day count office h =
     let db = old.now.trees in
-    let shaped = office.shaped.1.1.1.1.1.1.1.0 in
-    let done = revises end_text (Int k ∷ Int day ∷ []) old new office_schema office.schema_is 7 hold_table refl idle shaped by_number ended_columns
-    (has_number k) (each_numbered k (Int day ∷ []) (db 12) shaped) end_means (ended day) (few_numbered k (db 12) shaped)
-    (λ r there. (refl, cast_ended day r (all_has IsStoredHold (db 12) r (hold_rows old.now office) there) (all_has _ (db 12) r shaped.1 there), refl)) count h in
-    let edit = edit_of db hold_table (ids_of done.answer) Given 1 done.answer in
-    let ended_is = decoded hold_in (has_number k) (ended day) (is_hold k) (λ h. record h { released = Some day }) (λ r. refl) (λ r. refl) (db 12) in
-    becomes old new edit count edit.news office.shaped done.change _ (ap (λ rows. record (tables_of old.now) { holds = rows }) (ap (map hold_in) done.made ∙ ended_is))
+    let shaped = shaped_holds old.now office in
+    let done = revises end_text (Int k ∷ Int day ∷ []) old new office_schema office.whole.schema_is 9 hold_4_table refl idle shaped by_number ended_columns
+    (has_number k) (each_numbered k (Int day ∷ []) (db 19) shaped) end_means (ended day) (few_numbered k (db 19) shaped)
+    (λ r there. (refl, cast_ended day r (all_has IsStoredHold (db 19) r (hold_rows old.now office) there) (all_has _ (db 19) r shaped.1 there), refl)) count h in
+    let edit = edit_of db hold_4_table (ids_of done.answer) Given 1 done.answer in
+    let ended_is = decoded hold_in (has_number k) (ended day) (is_hold k) (λ h. record h { released = Some day }) (λ r. refl) (λ r. refl) (db 19) in
+    becomes old new edit count edit.news office others done.change _ (ap (λ rows. record (tables_of old.now) { holds = rows }) (ap (map hold_in) done.made ∙ ended_is))
 
 -- ---- the live holds
 
@@ -213,9 +224,19 @@ deposit_isnt v n (inl is) = subst (λ w. is_true (unary Not (binary (Is Binary) 
 deposit_isnt v n (inr is) = subst (λ w. is_true (unary Not (binary (Is Binary) w (Int n))) ≡ not (numbers n w)) (sym is)
     (isnt (Int (id_in v)) (Int n) ∙ ap (λ o. not (is_eq o)) (value_cmp-Int (id_in v) n))
 
-pub collection_is : (v : Value) (c : List ℕ) → (v ≡ Null) ⊎ (v ≡ Text (bytes v)) → is_true (binary (Compare Eq Binary) v (Text c)) ≡ unwrap_or (option_map (λ x. bytes_eq x c) (maybe_bytes v)) false
-collection_is v c (inl is) = subst (λ w. is_true (binary (Compare Eq Binary) w (Text c)) ≡ unwrap_or (option_map (λ x. bytes_eq x c) (maybe_bytes w)) false) (sym is) (equals_null (Text c))
-collection_is v c (inr is) = subst (λ w. is_true (binary (Compare Eq Binary) w (Text c)) ≡ unwrap_or (option_map (λ x. bytes_eq x c) (maybe_bytes w)) false) (sym is) (same_text (bytes v) c)
+-- whether the column has the text
+abbrev pub reads : List ℕ → Value → Bool
+reads c v = unwrap_or (option_map (λ x. bytes_eq x c) (maybe_bytes v)) false
+
+pub text_is : (v : Value) (c : List ℕ) → (v ≡ Null) ⊎ (v ≡ Text (bytes v)) → is_true (binary (Compare Eq Binary) v (Text c)) ≡ reads c v
+text_is v c (inl is) = subst (λ w. is_true (binary (Compare Eq Binary) w (Text c)) ≡ reads c w) (sym is) (equals_null (Text c))
+text_is v c (inr is) = subst (λ w. is_true (binary (Compare Eq Binary) w (Text c)) ≡ reads c w) (sym is) (same_text (bytes v) c)
+
+text_isnt : (v : Value) (c : List ℕ) → (v ≡ Null) ⊎ (v ≡ Text (bytes v)) → is_true (unary Not (binary (Is Binary) v (Text c))) ≡ not (reads c v)
+text_isnt v c (inl is) = subst (λ w. is_true (unary Not (binary (Is Binary) w (Text c))) ≡ not (reads c w)) (sym is)
+    (isnt Null (Text c) ∙ (let apart : value_cmp Null (Text c) ≡ Less = value_cmp-apart Null (Text c) (λ e. cc) in rw apart refl))
+text_isnt v c (inr is) = subst (λ w. is_true (unary Not (binary (Is Binary) w (Text c))) ≡ not (reads c w)) (sym is)
+    (isnt (Text (bytes v)) (Text c) ∙ ap (λ o. not (is_eq o)) (value_cmp-Text (bytes v) c) ∙ ap not (is_eq-slice_cmp (bytes v) c))
 
 last_first : (a b : Bool) → (a && (b && true)) ≡ (b && a)
 last_first true true = refl
@@ -228,29 +249,40 @@ last_of_three true b c = last_first b c
 last_of_three false b true = refl
 last_of_three false b false = refl
 
+last_of_four : (a b c d : Bool) → (a && (b && (c && (d && true)))) ≡ (d && (a && (b && c)))
+last_of_four true b c d = last_of_three b c d
+last_of_four false b c true = refl
+last_of_four false b c false = refl
+
 passes_on : (n : ℤ) (r : Row) → IsStoredHold r → passes (Int n ∷ []) on r ≡ is_live_on n (hold_in r)
-passes_on n r it = ap₂ (λ a b. a && (b && true)) (deposit_is (column r 2) n it.0) (null_is (column r 6) it.4) ∙ last_first _ _
+passes_on n r it = ap₂ (λ a b. a && (b && true)) (deposit_is (column r 2) n it.0) (null_is (column r 7) it.5) ∙ last_first _ _
 
 passes_within : (n : ℤ) (c : List ℕ) (r : Row) → IsStoredHold r → passes (Int n ∷ Text c ∷ []) within r ≡ is_live_within n c (hold_in r)
 passes_within n c r it =
-    ap₂ (λ a b. a && b) (collection_is (column r 3) c it.1) (ap₂ (λ a b. a && (b && true)) (deposit_isnt (column r 2) n it.0) (null_is (column r 6) it.4))
+    ap₂ (λ a b. a && b) (text_is (column r 3) c it.1) (ap₂ (λ a b. a && (b && true)) (deposit_isnt (column r 2) n it.0) (null_is (column r 7) it.5))
     ∙ last_of_three (holds_collection c (hold_in r)) (not (holds_deposit n (hold_in r))) (is_live (hold_in r))
 
+passes_of_class : (n : ℤ) (c k : List ℕ) (r : Row) → IsStoredHold r → passes (Int n ∷ Text c ∷ Text k ∷ []) of_class r ≡ is_live_of_class n c k (hold_in r)
+passes_of_class n c k r it =
+    ap₂ (λ a b. a && b) (text_is (column r 4) k it.2)
+    (ap₂ (λ a b. a && b) (deposit_isnt (column r 2) n it.0) (ap₂ (λ a b. a && (b && true)) (text_isnt (column r 3) c it.1) (null_is (column r 7) it.5)))
+    ∙ last_of_four (holds_class k (hold_in r)) (not (holds_deposit n (hold_in r))) (not (holds_collection c (hold_in r))) (is_live (hold_in r))
+
 -- the numbers of the holds that pass, in the order of their table
-module _ (old new : State) (text : List ℕ) (test : List Term) (asks : Asks office_schema text 12 test number_column rising) (params : Row) (rows : List Row) (office : IsOffice old.now) (h : Shown text params old new rows) where
+module _ (old new : State) (text : List ℕ) (test : List Term) (asks : Asks office_schema text 19 test number_column rising) (params : Row) (rows : List Row) (office : IsOffice old.now) (h : Shown text params old new rows) where
   lists_those : (p : HoldRow → Bool) → ((r : Row) → IsStoredHold r → passes params test r ≡ p (hold_in r))
       → (new.now ≡ old.now) × (map (λ (h : HoldRow). h.number) (filter p (tables_of old.now).holds) ≡ map (λ row. int_at row 0) rows)
   lists_those p tests =
       let db = old.now.trees in
       let typed = hold_rows old.now office in
       let keep : Row → Bool = λ r. p (hold_in r) in
-      let up = ascending_weaker _ _ (λ a b lower. rw lower refl) (db 12) office.shaped.1.1.1.1.1.1.1.0.0 in
-      let each = all_from (λ r. passes params test r ≡ keep r) (db 12) (λ r there. tests r (all_has IsStoredHold (db 12) r typed there)) in
-      let is = reads_rising office_schema text 12 test number_column rising asks params old new office.schema_is rows h keep each up in
-      let shows : map (λ row. int_at row 0) (map (shown_of params number_column) (filter keep (db 12))) ≡ map (λ r. int_at r 0) (filter keep (db 12)) = map-map (λ row. int_at row 0) (shown_of params number_column) (filter keep (db 12)) in
-      let typed_is : map (λ (h : HoldRow). h.number) (filter p (tables_of old.now).holds) ≡ map (λ r. int_at r 0) (filter keep (db 12)) =
-      ap (map (λ (h : HoldRow). h.number)) (filter-map p hold_in (db 12)) ∙ map-map (λ (h : HoldRow). h.number) hold_in (filter keep (db 12)) in (
-        reads_same office_schema text 12 test number_column rising asks params old new office.schema_is rows h,
+      let up = ascending_weaker _ _ (λ a b lower. rw lower refl) (db 19) (shaped_holds old.now office).0 in
+      let each = all_from (λ r. passes params test r ≡ keep r) (db 19) (λ r there. tests r (all_has IsStoredHold (db 19) r typed there)) in
+      let is = reads_rising office_schema text 19 test number_column rising asks params old new office.whole.schema_is rows h keep each up in
+      let shows : map (λ row. int_at row 0) (map (shown_of params number_column) (filter keep (db 19))) ≡ map (λ r. int_at r 0) (filter keep (db 19)) = map-map (λ row. int_at row 0) (shown_of params number_column) (filter keep (db 19)) in
+      let typed_is : map (λ (h : HoldRow). h.number) (filter p (tables_of old.now).holds) ≡ map (λ r. int_at r 0) (filter keep (db 19)) =
+      ap (map (λ (h : HoldRow). h.number)) (filter-map p hold_in (db 19)) ∙ map-map (λ (h : HoldRow). h.number) hold_in (filter keep (db 19)) in (
+        reads_same office_schema text 19 test number_column rising asks params old new office.whole.schema_is rows h,
         typed_is ∙ sym shows ∙ ap (map (λ row. int_at row 0)) (sym is),
       )
 
@@ -262,7 +294,12 @@ pub lists_within : (old new : State) (n : ℤ) (c : List ℕ) (rows : List Row) 
     → (new.now ≡ old.now) × (map (λ (h : HoldRow). h.number) (filter (is_live_within n c) (tables_of old.now).holds) ≡ map (λ row. int_at row 0) rows)
 lists_within old new n c rows office h = lists_those old new within_text within asks_within (Int n ∷ Text c ∷ []) rows office h (is_live_within n c) (passes_within n c)
 
--- ---- both, sorted
+pub lists_of_class : (old new : State) (n : ℤ) (c k : List ℕ) (rows : List Row) → IsOffice old.now → Shown of_class_text (Int n ∷ Text c ∷ Text k ∷ []) old new rows
+    → (new.now ≡ old.now) × (map (λ (h : HoldRow). h.number) (filter (is_live_of_class n c k) (tables_of old.now).holds) ≡ map (λ row. int_at row 0) rows)
+lists_of_class old new n c k rows office h =
+    lists_those old new of_class_text of_class asks_of_class (Int n ∷ Text c ∷ Text k ∷ []) rows office h (is_live_of_class n c k) (passes_of_class n c k)
+
+-- ---- all of them, sorted
 
 module _ {X : Type 0} (p q s : X → Bool) (either : (x : X) → s x ≡ (p x || q x)) (apart : (x : X) → p x ≡ true → q x ≡ false) where
   joined : (xs : List X) → IsPermutation (filter p xs ++ filter q xs) (filter s xs)
@@ -294,6 +331,32 @@ on_apart true true false h = refl
 on_apart true false c h = absurd cc
 on_apart false d c h = absurd cc
 
+over_last : (l d c k : Bool) → (l && (d || (c || k))) ≡ ((l && (d || c)) || (l && (k && (not d && not c))))
+over_last true true c k = refl
+over_last true false true k = refl
+over_last true false false true = refl
+over_last true false false false = refl
+over_last false d c k = refl
+
+last_apart : (l d c k : Bool) → (l && (d || c)) ≡ true → (l && (k && (not d && not c))) ≡ false
+last_apart true true c true h = refl
+last_apart true true c false h = refl
+last_apart true false true true h = refl
+last_apart true false true false h = refl
+last_apart true false false k h = absurd cc
+last_apart false d c k h = absurd cc
+
+-- the live holds on the deposit, those on the collection and those on the class are those over a deposit of these
+gathered : (n : ℤ) (c k : List ℕ) (holds : List HoldRow)
+    → IsPermutation ((filter (is_live_on n) holds ++ filter (is_live_within n c) holds) ++ filter (is_live_of_class n c k) holds) (filter (is_live_over n c k) holds)
+gathered n c k holds =
+    let first : HoldRow → Bool = λ h. is_live h && (holds_deposit n h || holds_collection c h) in
+    let two = joined (is_live_on n) (is_live_within n c) first
+    (λ h. over_either (is_live h) (holds_deposit n h) (holds_collection c h)) (λ h. on_apart (is_live h) (holds_deposit n h) (holds_collection c h)) holds in
+    let all = joined first (is_live_of_class n c k) (is_live_over n c k)
+    (λ h. over_last (is_live h) (holds_deposit n h) (holds_collection c h) (holds_class k h)) (λ h. last_apart (is_live h) (holds_deposit n h) (holds_collection c h) (holds_class k h)) holds in
+    IsPermutation-trans _ _ _ (IsPermutation-append_left (filter (is_live_of_class n c k) holds) _ _ two) all
+
 numbers_rise : (rows : List Row) → AllByRecursion (λ r. IsTrue (is_int (rowid r))) rows → IsAscending (λ a b. value_cmp (rowid a) (rowid b) ≡ Less) rows → IsAscending (λ a b. int_cmp (int_at a 0) (int_at b 0) ≡ Less) rows
 numbers_rise [] whole up = tt
 numbers_rise (r ∷ rows) whole up = (
@@ -302,36 +365,43 @@ numbers_rise (r ∷ rows) whole up = (
   numbers_rise rows whole.1 up.1,
 )
 
-pub live_rise : (db : Database) → IsOffice db → (n : ℤ) (c : List ℕ) → IsAscending (λ a b. int_cmp a b ≡ Less) (live_holds n c (tables_of db))
-live_rise db office n c =
-    let shaped = office.shaped.1.1.1.1.1.1.1.0 in
-    let rows = numbers_rise (db.trees 12) shaped.1 shaped.0 in
-    let typed : IsAscending (λ (a b : HoldRow). int_cmp a.number b.number ≡ Less) (map hold_in (db.trees 12)) = ascending-map (λ (a b : HoldRow). int_cmp a.number b.number ≡ Less) hold_in (db.trees 12) rows in
-    ascending-map (λ a b. int_cmp a b ≡ Less) (λ (h : HoldRow). h.number) _ (ascending-filter (λ (a b : HoldRow). int_cmp a.number b.number ≡ Less) (is_live_over n c) (map hold_in (db.trees 12)) typed)
+pub live_rise : (db : Database) → IsOffice db → (n : ℤ) (c k : List ℕ) → IsAscending (λ a b. int_cmp a b ≡ Less) (live_holds n c k (tables_of db))
+live_rise db office n c k =
+    let shaped = shaped_holds db office in
+    let rows = numbers_rise (db.trees 19) shaped.1 shaped.0 in
+    let typed : IsAscending (λ (a b : HoldRow). int_cmp a.number b.number ≡ Less) (map hold_in (db.trees 19)) = ascending-map (λ (a b : HoldRow). int_cmp a.number b.number ≡ Less) hold_in (db.trees 19) rows in
+    ascending-map (λ a b. int_cmp a b ≡ Less) (λ (h : HoldRow). h.number) _ (ascending-filter (λ (a b : HoldRow). int_cmp a.number b.number ≡ Less) (is_live_over n c k) (map hold_in (db.trees 19)) typed)
 
 pos_cmp : (a b : ℕ) → nat_cmp a b ≡ int_cmp (pos a) (pos b)
 pos_cmp a b = grind (arith, ints)
 
--- the numbers of both, once sorted, are those of the live holds
-sorts_live : (db : Database) → IsOffice db → (n : ℤ) (c : List ℕ) (both sorted : List ℕ)
-    → map pos both ≡ map (λ (h : HoldRow). h.number) (filter (is_live_on n) (tables_of db).holds) ++ map (λ (h : HoldRow). h.number) (filter (is_live_within n c) (tables_of db).holds)
-    → IsPermutation both sorted → IsSorted nat_cmp sorted → map pos sorted ≡ live_holds n c (tables_of db)
-sorts_live db office n c both sorted are same up =
+abbrev numbers_of : (HoldRow → Bool) → Database → List ℤ
+numbers_of those db = map (λ (h : HoldRow). h.number) (filter those (tables_of db).holds)
+
+-- the numbers of all of these, once sorted, are those of the live holds
+sorts_live : (db : Database) → IsOffice db → (n : ℤ) (c k : List ℕ) (all sorted : List ℕ)
+    → map pos all ≡ (numbers_of (is_live_on n) db ++ numbers_of (is_live_within n c) db) ++ numbers_of (is_live_of_class n c k) db
+    → IsPermutation all sorted → IsSorted nat_cmp sorted → map pos sorted ≡ live_holds n c k (tables_of db)
+sorts_live db office n c k all sorted are same up =
     let holds = (tables_of db).holds in
     let number : HoldRow → ℤ = λ h. h.number in
-    let all = joined (is_live_on n) (is_live_within n c) (is_live_over n c)
-    (λ h. over_either (is_live h) (holds_deposit n h) (holds_collection c h)) (λ h. on_apart (is_live h) (holds_deposit n h) (holds_collection c h)) holds in
-    let moved : IsPermutation (map pos both) (live_holds n c (tables_of db)) = subst (λ xs. IsPermutation xs (live_holds n c (tables_of db))) (map-append number (filter (is_live_on n) holds) (filter (is_live_within n c) holds) ∙ sym are) (IsPermutation-map number _ _ all) in
-    sorted_unique int_cmp int_cmp_total (live_holds n c (tables_of db)) (map pos sorted) (live_rise db office n c)
-    (IsPermutation-trans _ _ _ (IsPermutation-sym _ _ moved) (IsPermutation-map pos both sorted same)) (IsSorted-map int_cmp pos sorted (λ k d low high. subst (λ o. is_lt o ≡ false) (pos_cmp (slice_index_or sorted (k + 1) d) (slice_index_or sorted k d)) (up k d low high)))
+    let each =
+    map-append number (filter (is_live_on n) holds ++ filter (is_live_within n c) holds) (filter (is_live_of_class n c k) holds)
+    ∙ ap (λ xs. xs ++ numbers_of (is_live_of_class n c k) db) (map-append number (filter (is_live_on n) holds) (filter (is_live_within n c) holds)) in
+    let moved : IsPermutation (map pos all) (live_holds n c k (tables_of db)) = subst (λ xs. IsPermutation xs (live_holds n c k (tables_of db))) (each ∙ sym are) (IsPermutation-map number _ _ (gathered n c k holds)) in
+    sorted_unique int_cmp int_cmp_total (live_holds n c k (tables_of db)) (map pos sorted) (live_rise db office n c k)
+    (IsPermutation-trans _ _ _ (IsPermutation-sym _ _ moved) (IsPermutation-map pos all sorted same)) (IsSorted-map int_cmp pos sorted (λ k d low high. subst (λ o. is_lt o ≡ false) (pos_cmp (slice_index_or sorted (k + 1) d) (slice_index_or sorted k d)) (up k d low high)))
 
--- what was gathered of the two answers, the second of which the same database gave
-pub gathers_live : (old mid : Database) → IsOffice old → mid ≡ old → (n : ℤ) (c : List ℕ) (first second : List Row) (none one both sorted : List ℕ)
-    → map (λ (h : HoldRow). h.number) (filter (is_live_on n) (tables_of old).holds) ≡ map (λ row. int_at row 0) first
-    → map (λ (h : HoldRow). h.number) (filter (is_live_within n c) (tables_of mid).holds) ≡ map (λ row. int_at row 0) second
-    → none ≡ [] → map pos one ≡ map pos none ++ map (λ row. int_at row 0) first → map pos both ≡ map pos one ++ map (λ row. int_at row 0) second
-    → IsPermutation both sorted → IsSorted nat_cmp sorted → map pos sorted ≡ live_holds n c (tables_of old)
-gathers_live old mid office same n c first second none one both sorted on_is within_is empty one_is both_is =
-    sorts_live old office n c both sorted (both_is ∙ ap₂ (λ xs ys. xs ++ ys)
-    (one_is ∙ ap (λ xs. map pos xs ++ map (λ row. int_at row 0) first) empty ∙ sym on_is)
-    (sym within_is ∙ ap (λ db. map (λ (h : HoldRow). h.number) (filter (is_live_within n c) (tables_of db).holds)) same))
+-- the numbers that rows show
+abbrev told : List Row → List ℤ
+told = map (λ row. int_at row 0)
+
+-- what was gathered of the three answers, of which the same database gave the later ones
+pub gathers_live : (old one two : Database) → IsOffice old → one ≡ old → two ≡ one → (n : ℤ) (c k : List ℕ) (on inside classed : List Row) (none first more all sorted : List ℕ)
+    → numbers_of (is_live_on n) old ≡ told on → numbers_of (is_live_within n c) one ≡ told inside → numbers_of (is_live_of_class n c k) two ≡ told classed
+    → none ≡ [] → map pos first ≡ map pos none ++ told on → map pos more ≡ map pos first ++ told inside → map pos all ≡ map pos more ++ told classed
+    → IsPermutation all sorted → IsSorted nat_cmp sorted → map pos sorted ≡ live_holds n c k (tables_of old)
+gathers_live old one two office same again n c k on inside classed none first more all sorted on_is inside_is classed_is empty first_is more_is all_is =
+    sorts_live old office n c k all sorted (all_is ∙ ap₂ (λ xs ys. xs ++ ys)
+    (more_is ∙ ap₂ (λ xs ys. xs ++ ys) (first_is ∙ ap (λ xs. map pos xs ++ told on) empty ∙ sym on_is) (sym inside_is ∙ ap (numbers_of (is_live_within n c)) same))
+    (sym classed_is ∙ ap (numbers_of (is_live_of_class n c k)) (again ∙ same)))

@@ -28,3 +28,7 @@ pub mod DueTexts
 pub mod DueLemmas
 pub mod MatchTexts
 pub mod MatchLemmas
+pub mod MovingTexts
+pub mod MovedHolds
+pub mod MovedRules
+pub mod Versioned

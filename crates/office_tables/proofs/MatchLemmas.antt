@@ -1,11 +1,11 @@
 -- What the statement on the deciding rule answers.
-use Rattle.std.proofs.Common.{◌≡◌, ◌&&◌, ◌||◌, ℕ, List, [], ◌∷◌, map, filter, take, slice_get, option_map, Bool, true, false, codes, Some, Less, refl, sym, ap, ap₂, ◌∙◌, bytes_eq}
+use Rattle.std.proofs.Common.{◌≡◌, ◌&&◌, ◌||◌, ℕ, ℤ, List, [], ◌∷◌, map, filter, take, slice_get, option_map, Bool, true, false, codes, Some, Less, refl, sym, ap, ap₂, ◌∙◌, bytes_eq}
 use Rattle.std.specs.List.{AllByRecursion}
-use Rattle.std.specs.Ordering.{is_eq}
+use Rattle.std.specs.Ordering.{int_cmp, is_eq, is_ge}
 use Rattle.std.proofs.lemmas.Map.Text.{is_eq-slice_cmp}
 use Rattle.sqlite.specs.declared.types.Value.{Value}
-use Rattle.sqlite.specs.declared.types.Value.TheVariants.{Null, Text}
-use Rattle.sqlite.specs.Order.{Row, column}
+use Rattle.sqlite.specs.declared.types.Value.TheVariants.{Null, Int, Text}
+use Rattle.sqlite.specs.Order.{Row, column, value_cmp}
 use Rattle.sqlite.specs.Term.{Term}
 use Rattle.sqlite.specs.Kind.TheVariants as kind
 use Rattle.sqlite.specs.Collation.TheVariants.{Binary}
@@ -18,20 +18,21 @@ use Rattle.sqlite.specs.State.{State, Shown}
 use Rattle.sqlite.proofs.Callers.{reads_as}
 use Rattle.sqlite_sql.specs.Program.{overlay}
 use Rattle.sqlite_sql.specs.declared.ops.BinaryOp.TheVariants.{Compare, Or}
-use Rattle.sqlite_sql.specs.declared.ops.CompareOp.TheVariants.{Eq}
+use Rattle.sqlite_sql.specs.declared.ops.CompareOp.TheVariants.{Eq, Ge, Le}
 use Rattle.sqlite_value.specs.declared.keys.Key.{Key}
 use Rattle.sqlite_schema.specs.declared.schema.Constraint.TheVariants.{Datatype, NotNull}
-use Rattle.sqlite_value.proofs.OrderLemmas.{value_cmp-Text}
+use Rattle.sqlite_value.proofs.OrderLemmas.{value_cmp-Int, value_cmp-Text}
 use Rattle.sqlite_rules.proofs.ListLemmas.{all_has, all_from}
 use Rattle.sqlite_keyed.proofs.ListLemmas.{first_taken, ascending_weaker}
-use Rattle.sql_meaning.specs.Columns.{bytes_at}
+use Rattle.sql_meaning.specs.Columns.{int_at, bytes_at}
 use Rattle.sql_meaning.proofs.Scanning.{Scans, scan, passes, shown_of, scanned, answers_rising, shown_same, finds_one}
-use Rattle.sql_meaning.proofs.Typed.{text_at, all_both}
+use Rattle.sql_meaning.proofs.Typed.{int_in, text_at, all_both}
 use Rattle.sql_meaning.proofs.Whole.{keeps_rule}
-use Rattle.office_tables.specs.Schema.{office_schema, rule_table, needed}
+use Rattle.office_tables.specs.Schema.{office_schema, rule_5_table, needed}
 use Rattle.office_tables.specs.Tables.{IsOffice, tables_of, rule_in}
 use Rattle.office_tables.specs.ShownPolicy.{shown_rule}
 use Rattle.office_tables.proofs.PolicyTexts.{rule_columns}
+use Rattle.office_tables.proofs.DueLemmas.{truth_back, by_day}
 use Rattle.office_tables.proofs.MatchTexts.{AsksFirst, match_text, matching, match_order, asks_match}
 use Rattle.office_rows.specs.Matching.{matching_rule, fits_name, rule_fits}
 
@@ -82,39 +83,45 @@ star_is v a b is = ap (λ w. is_true (either_text w b)) is ∙ ap₂ (λ x y. is
 
 abbrev IsRuleRow : Row → Type 0
 IsRuleRow r = (column r 3 ≡ Text (bytes_at r 3)) × (column r 4 ≡ Text (bytes_at r 4)) × (column r 5 ≡ Text (bytes_at r 5)) × (column r 6 ≡ Text (bytes_at r 6))
+    × (column r 7 ≡ Int (int_at r 7)) × (column r 8 ≡ Int (int_at r 8))
 
-pub rule_rows : (db : Database) → IsOffice db → AllByRecursion IsRuleRow (db.trees 3)
+pub rule_rows : (db : Database) → IsOffice db → AllByRecursion IsRuleRow (db.trees 23)
 rule_rows db office = all_both (λ r t p. (
-  text_at office_schema db.trees rule_table r t p 2 (needed (codes "role") kind.Text) refl refl refl refl refl,
-  text_at office_schema db.trees rule_table r t p 3 (needed (codes "action") kind.Text) refl refl refl refl refl,
-  text_at office_schema db.trees rule_table r t p 4 (needed (codes "collection") kind.Text) refl refl refl refl refl,
-  text_at office_schema db.trees rule_table r t p 5 (needed (codes "class") kind.Text) refl refl refl refl refl,
-)) (db.trees 3) (keeps_rule office Datatype).1.1.0 (keeps_rule office NotNull).1.1.0
+  text_at office_schema db.trees rule_5_table r t p 2 (needed (codes "role") kind.Text) refl refl refl refl refl,
+  text_at office_schema db.trees rule_5_table r t p 3 (needed (codes "action") kind.Text) refl refl refl refl refl,
+  text_at office_schema db.trees rule_5_table r t p 4 (needed (codes "collection") kind.Text) refl refl refl refl refl,
+  text_at office_schema db.trees rule_5_table r t p 5 (needed (codes "class") kind.Text) refl refl refl refl refl,
+  int_in office_schema db.trees rule_5_table r t p 6 (needed (codes "first") kind.Integer) refl refl refl refl refl,
+  int_in office_schema db.trees rule_5_table r t p 7 (needed (codes "last") kind.Integer) refl refl refl refl refl,
+)) (db.trees 23) (keeps_rule office.whole Datatype).1.1.1.1.1.1.1.1.1.1.0 (keeps_rule office.whole NotNull).1.1.1.1.1.1.1.1.1.1.0
 
-and_end : (a b c d : Bool) → (a && (b && (c && (d && true)))) ≡ (a && (b && (c && d)))
-and_end true true true true = refl
-and_end true true true false = refl
-and_end true true false d = refl
-and_end true false c d = refl
-and_end false b c d = refl
+and_true : (a : Bool) → (a && true) ≡ a
+and_true true = refl
+and_true false = refl
 
-passes_match : (role action collection class : List ℕ) (r : Row) → IsRuleRow r → passes (Text role ∷ Text action ∷ Text collection ∷ Text class ∷ []) matching r ≡ rule_fits role action collection class (rule_in r)
-passes_match role action collection class r it =
+until_is : (r : Row) (day : ℤ) → column r 8 ≡ Int (int_at r 8) → (is_true (binary (Compare Ge Binary) (column r 8) (Int day)) && true) ≡ is_ge (int_cmp (int_at r 8) day)
+unfolding binary
+until_is r day is = and_true (is_true (binary (Compare Ge Binary) (column r 8) (Int day))) ∙ ap (λ v. is_true (binary (Compare Ge Binary) v (Int day))) is ∙ truth_back (is_ge (value_cmp (Int (int_at r 8)) (Int day))) ∙ ap is_ge (value_cmp-Int (int_at r 8) day)
+
+passes_match : (role action collection class : List ℕ) (day : ℤ) (r : Row) → IsRuleRow r
+    → passes (Text role ∷ Text action ∷ Text collection ∷ Text class ∷ Int day ∷ []) matching r ≡ rule_fits role action collection class day (rule_in r)
+passes_match role action collection class day r it =
     ap₂ (λ a b. a && b) (star_is (column r 3) (bytes_at r 3) role it.0) (ap₂ (λ a b. a && b) (star_is (column r 4) (bytes_at r 4) action it.1)
-    (ap₂ (λ a b. a && (b && true)) (star_is (column r 5) (bytes_at r 5) collection it.2) (star_is (column r 6) (bytes_at r 6) class it.3)))
-    ∙ and_end (fits_name (bytes_at r 3) role) (fits_name (bytes_at r 4) action) (fits_name (bytes_at r 5) collection) (fits_name (bytes_at r 6) class)
+    (ap₂ (λ a b. a && b) (star_is (column r 5) (bytes_at r 5) collection it.2) (ap₂ (λ a b. a && b) (star_is (column r 6) (bytes_at r 6) class it.3)
+    (ap₂ (λ a b. a && b) (ap (λ v. is_true (binary (Compare Le Binary) v (Int day))) it.4 ∙ by_day (int_at r 7) day) (until_is r day it.5)))))
 
-pub finds_match : (old new : State) (role action collection class : List ℕ) (rows : List Row) → IsOffice old.now → Shown match_text (Text role ∷ Text action ∷ Text collection ∷ Text class ∷ []) old new rows
-    → (new.now ≡ old.now) × (matching_rule role action collection class (tables_of old.now).rules ≡ option_map shown_rule (slice_get rows 0))
-finds_match old new role action collection class rows office h =
-    let params : Row = Text role ∷ Text action ∷ Text collection ∷ Text class ∷ [] in
-    let stored = old.now.trees 3 in
-    let keep : Row → Bool = λ r. rule_fits role action collection class (rule_in r) in
-    let up = ascending_weaker _ _ (λ a b lower. rw lower refl) stored office.shaped.1.1.0.0 in
-    let each = all_from (λ r. passes params matching r ≡ keep r) stored (λ r there. passes_match role action collection class r (all_has IsRuleRow stored r (rule_rows old.now office) there)) in
-    let is = reads_first office_schema match_text 3 matching rule_columns match_order asks_match params old new office.schema_is rows h keep each up in
+pub finds_match : (old new : State) (role action collection class : List ℕ) (day : ℤ) (rows : List Row) → IsOffice old.now
+    → Shown match_text (Text role ∷ Text action ∷ Text collection ∷ Text class ∷ Int day ∷ []) old new rows
+    → (new.now ≡ old.now) × (matching_rule role action collection class day (tables_of old.now).rules ≡ option_map shown_rule (slice_get rows 0))
+finds_match old new role action collection class day rows office h =
+    let params : Row = Text role ∷ Text action ∷ Text collection ∷ Text class ∷ Int day ∷ [] in
+    let stored = old.now.trees 23 in
+    let keep : Row → Bool = λ r. rule_fits role action collection class day (rule_in r) in
+    let up = ascending_weaker _ _ (λ a b lower. rw lower refl) stored office.whole.shaped.1.1.1.1.1.1.1.1.1.1.0.0 in
+    let each = all_from (λ r. passes params matching r ≡ keep r) stored (λ r there. passes_match role action collection class day r (all_has IsRuleRow stored r (rule_rows old.now office) there)) in
+    let is = reads_first office_schema match_text 23 matching rule_columns match_order asks_match params old new office.whole.schema_is rows h keep each up in
     let all = map (shown_of params rule_columns) (filter keep stored) in
-    let one = finds_one stored all keep (shown_of params rule_columns) rule_in shown_rule (rule_fits role action collection class) (λ r. refl) (λ r. refl) refl in (
-      first_same office_schema match_text 3 matching rule_columns match_order asks_match params old new office.schema_is rows h,
+    let one = finds_one stored all keep (shown_of params rule_columns) rule_in shown_rule (rule_fits role action collection class day) (λ r. refl) (λ r. refl) refl in (
+      first_same office_schema match_text 23 matching rule_columns match_order asks_match params old new office.whole.schema_is rows h,
       one ∙ ap (option_map shown_rule) (sym (first_taken all) ∙ ap (λ rs. slice_get rs 0) (sym is)),
     )

@@ -11,7 +11,7 @@ use Rattle.sqlite.proofs.Callers.{IsPlain, command_of}
 use Rattle.sqlite_tied.specs.Compute.{everything}
 use Rattle.sqlite_value.specs.declared.keys.Key.{Key}
 use Rattle.sqlite_sql.specs.declared.ops.BinaryOp.TheVariants.{Compare, Or}
-use Rattle.sqlite_sql.specs.declared.ops.CompareOp.TheVariants.{Eq}
+use Rattle.sqlite_sql.specs.declared.ops.CompareOp.TheVariants.{Eq, Ge, Le}
 use Rattle.sql_meaning.proofs.Scanning.{scan, as_program}
 use Rattle.sql_meaning.proofs.RowidKeys.{rising}
 use Rattle.office_tables.specs.Schema.{office_schema}
@@ -31,19 +31,26 @@ pub record AsksFirst (schema : Schema) (text : List ℕ) (tree : ℕ) (test proj
 abbrev pub star_or : ℕ → ℕ → Term
 star_or place param = op2 Or (op2 (Compare Eq Binary) (col 1 place) (lit (Text (codes "*")))) (op2 (Compare Eq Binary) (col 1 place) (col 0 param))
 
+-- the number in the column is at most the parameter; and at least it
+abbrev pub day_from : ℕ → ℕ → Term
+day_from place param = op2 (Compare Le Binary) (col 1 place) (col 0 param)
+
+abbrev pub day_until : ℕ → ℕ → Term
+day_until place param = op2 (Compare Ge Binary) (col 1 place) (col 0 param)
+
 abbrev pub match_text : List ℕ
-match_text = codes "SELECT place, effect, role, action, collection, class FROM rule WHERE role IN ('*', ?1) AND action IN ('*', ?2) AND collection IN ('*', ?3) AND class IN ('*', ?4) ORDER BY place LIMIT 1"
+match_text = codes "SELECT place, effect, role, action, collection, class, first, last FROM rule_5 WHERE role IN ('*', ?1) AND action IN ('*', ?2) AND collection IN ('*', ?3) AND class IN ('*', ?4) AND first <= ?5 AND last >= ?5 ORDER BY place LIMIT 1"
 
 abbrev pub matching : List Term
-matching = star_or 3 0 ∷ star_or 4 1 ∷ star_or 5 2 ∷ star_or 6 3 ∷ []
+matching = star_or 3 0 ∷ star_or 4 1 ∷ star_or 5 2 ∷ star_or 6 3 ∷ day_from 7 4 ∷ day_until 8 4 ∷ []
 
 abbrev pub match_order : List (Term × Key)
 match_order = rising
 
-pub asks_match : AsksFirst office_schema match_text 3 matching rule_columns match_order
+pub asks_match : AsksFirst office_schema match_text 23 matching rule_columns match_order
 unfolding understood everything
 asks_match = record {
-  names = codes "place" ∷ codes "effect" ∷ codes "role" ∷ codes "action" ∷ codes "collection" ∷ codes "class" ∷ [];
+  names = codes "place" ∷ codes "effect" ∷ codes "role" ∷ codes "action" ∷ codes "collection" ∷ codes "class" ∷ codes "first" ∷ codes "last" ∷ [];
   command = refl;
   unlisted = refl;
   plain = (refl, refl);

@@ -28,8 +28,8 @@ pub finds_limits : (old new : State) (rows : List Row) → IsOffice old.now → 
 finds_limits old new rows office h =
     let params : Row = Int (pos 1) ∷ [] in
     let stored = old.now.trees 0 in
-    let is = reads_one office_schema limits_text 0 by_number limit_columns [] asks_limits params old new office.schema_is rows h (has_number (pos 1))
-    (each_numbered (pos 1) [] stored office.shaped.0) (few_numbered (pos 1) stored office.shaped.0) in (
-      reads_same office_schema limits_text 0 by_number limit_columns [] asks_limits params old new office.schema_is rows h,
+    let is = reads_one office_schema limits_text 0 by_number limit_columns [] asks_limits params old new office.whole.schema_is rows h (has_number (pos 1))
+    (each_numbered (pos 1) [] stored office.whole.shaped.0) (few_numbered (pos 1) stored office.whole.shaped.0) in (
+      reads_same office_schema limits_text 0 by_number limit_columns [] asks_limits params old new office.whole.schema_is rows h,
       finds_part stored rows (has_number (pos 1)) (shown_of params limit_columns) office_in is_office_row (λ r. refl) is limits_in shown_limits (λ r. refl),
     )

@@ -7,7 +7,7 @@ use Rattle.sql_meaning.proofs.Scanning.{scan, as_program}
 use Rattle.sql_meaning.proofs.RowidKeys.{by_number}
 use Rattle.sql_meaning.proofs.TextKeys.{by_text}
 use Rattle.sql_meaning.proofs.Writing.{inserts, updates, deletes}
-use Rattle.office_tables.specs.Schema.{office_schema, caller_table, rule_table, collection_table, deposit_table, hold_table}
+use Rattle.office_tables.specs.Schema.{office_schema, caller_table, rule_5_table, collection_table, deposit_table, hold_4_table}
 use Rattle.office_tables.specs.Tables.{IsOffice}
 use Rattle.office_tables.specs.Contents.{KeepsOnce}
 use Rattle.office_tables.proofs.Frames.{idle, leaves_once}
@@ -18,40 +18,43 @@ use Rattle.office_tables.proofs.DueTexts as dues
 use Rattle.office_tables.proofs.HoldTexts as holds
 
 pub drop_callers_once : (params : Row) (old new : State) (count : ℕ) → IsOffice old.now → Executes drop_callers_text params old new (Ok count) → KeepsOnce old.now → KeepsOnce new.now
-drop_callers_once params old new count office h = leaves_once old new _ count _ (deletes drop_callers_text params old new office_schema office.schema_is 1 caller_table refl idle (as_program (scan 1 [] (col 1 0 ∷ []) [])) drop_callers_means count h).2
+drop_callers_once params old new count office h = leaves_once old new _ count _ (deletes drop_callers_text params old new office_schema office.whole.schema_is 1 caller_table refl idle (as_program (scan 1 [] (col 1 0 ∷ []) [])) drop_callers_means count h).2
 
 pub drop_rules_once : (params : Row) (old new : State) (count : ℕ) → IsOffice old.now → Executes drop_rules_text params old new (Ok count) → KeepsOnce old.now → KeepsOnce new.now
-drop_rules_once params old new count office h = leaves_once old new _ count _ (deletes drop_rules_text params old new office_schema office.schema_is 2 rule_table refl idle (as_program (scan 3 [] (col 1 0 ∷ []) [])) drop_rules_means count h).2
+drop_rules_once params old new count office h = leaves_once old new _ count _ (deletes drop_rules_text params old new office_schema office.whole.schema_is 10 rule_5_table refl idle (as_program (scan 23 [] (col 1 0 ∷ []) [])) drop_rules_means count h).2
 
 pub add_caller_once : (params : Row) (old new : State) (count : ℕ) → IsOffice old.now → Executes add_caller_text params old new (Ok count) → KeepsOnce old.now → KeepsOnce new.now
-add_caller_once params old new count office h = leaves_once old new _ count _ (inserts add_caller_text params old new office_schema office.schema_is 1 caller_table refl idle caller_terms 3 add_caller_means refl refl count h)
+add_caller_once params old new count office h = leaves_once old new _ count _ (inserts add_caller_text params old new office_schema office.whole.schema_is 1 caller_table refl idle caller_terms 3 add_caller_means refl refl count h)
 
 pub add_rule_once : (params : Row) (old new : State) (count : ℕ) → IsOffice old.now → Executes add_rule_text params old new (Ok count) → KeepsOnce old.now → KeepsOnce new.now
-add_rule_once params old new count office h = leaves_once old new _ count _ (inserts add_rule_text params old new office_schema office.schema_is 2 rule_table refl idle rule_terms 7 add_rule_means refl refl count h)
+add_rule_once params old new count office h = leaves_once old new _ count _ (inserts add_rule_text params old new office_schema office.whole.schema_is 10 rule_5_table refl idle rule_terms 9 add_rule_means refl refl count h)
 
 pub add_collection_once : (params : Row) (old new : State) (count : ℕ) → IsOffice old.now → Executes add_collection_text params old new (Ok count) → KeepsOnce old.now → KeepsOnce new.now
-add_collection_once params old new count office h = leaves_once old new _ count _ (inserts add_collection_text params old new office_schema office.schema_is 4 collection_table refl idle collection_terms 2 add_collection_means refl refl count h)
+add_collection_once params old new count office h = leaves_once old new _ count _ (inserts add_collection_text params old new office_schema office.whole.schema_is 4 collection_table refl idle collection_terms 2 add_collection_means refl refl count h)
 
 pub add_deposit_once : (params : Row) (old new : State) (count : ℕ) → IsOffice old.now → Executes deposits.put_text params old new (Ok count) → KeepsOnce old.now → KeepsOnce new.now
-add_deposit_once params old new count office h = leaves_once old new _ count _ (inserts deposits.put_text params old new office_schema office.schema_is 5 deposit_table refl idle deposits.put_terms 12 deposits.put_means refl refl count h)
+add_deposit_once params old new count office h = leaves_once old new _ count _ (inserts deposits.put_text params old new office_schema office.whole.schema_is 5 deposit_table refl idle deposits.put_terms 12 deposits.put_means refl refl count h)
 
 pub mark_gone_once : (params : Row) (old new : State) (count : ℕ) → IsOffice old.now → Executes deposits.gone_text params old new (Ok count) → KeepsOnce old.now → KeepsOnce new.now
-mark_gone_once params old new count office h = leaves_once old new _ count _ (updates deposits.gone_text params old new office_schema office.schema_is 5 deposit_table refl idle (as_program (scan 8 by_number deposits.gone_columns [])) deposits.gone_means count h).2
+mark_gone_once params old new count office h = leaves_once old new _ count _ (updates deposits.gone_text params old new office_schema office.whole.schema_is 5 deposit_table refl idle (as_program (scan 8 by_number deposits.gone_columns [])) deposits.gone_means count h).2
 
 pub set_day_once : (params : Row) (old new : State) (count : ℕ) → IsOffice old.now → Executes dues.set_due_text params old new (Ok count) → KeepsOnce old.now → KeepsOnce new.now
-set_day_once params old new count office h = leaves_once old new _ count _ (updates dues.set_due_text params old new office_schema office.schema_is 5 deposit_table refl idle (as_program (scan 8 by_number dues.set_due_columns [])) dues.set_due_means count h).2
+set_day_once params old new count office h = leaves_once old new _ count _ (updates dues.set_due_text params old new office_schema office.whole.schema_is 5 deposit_table refl idle (as_program (scan 8 by_number dues.set_due_columns [])) dues.set_due_means count h).2
 
 pub clear_day_once : (params : Row) (old new : State) (count : ℕ) → IsOffice old.now → Executes dues.clear_due_text params old new (Ok count) → KeepsOnce old.now → KeepsOnce new.now
-clear_day_once params old new count office h = leaves_once old new _ count _ (updates dues.clear_due_text params old new office_schema office.schema_is 5 deposit_table refl idle (as_program (scan 8 by_number dues.clear_due_columns [])) dues.clear_due_means count h).2
+clear_day_once params old new count office h = leaves_once old new _ count _ (updates dues.clear_due_text params old new office_schema office.whole.schema_is 5 deposit_table refl idle (as_program (scan 8 by_number dues.clear_due_columns [])) dues.clear_due_means count h).2
 
 pub set_holds_once : (params : Row) (old new : State) (count : ℕ) → IsOffice old.now → Executes dues.set_holds_text params old new (Ok count) → KeepsOnce old.now → KeepsOnce new.now
-set_holds_once params old new count office h = leaves_once old new _ count _ (updates dues.set_holds_text params old new office_schema office.schema_is 5 deposit_table refl idle (as_program (scan 8 by_number dues.set_holds_columns [])) dues.set_holds_means count h).2
+set_holds_once params old new count office h = leaves_once old new _ count _ (updates dues.set_holds_text params old new office_schema office.whole.schema_is 5 deposit_table refl idle (as_program (scan 8 by_number dues.set_holds_columns [])) dues.set_holds_means count h).2
 
 pub add_holds_once : (params : Row) (old new : State) (count : ℕ) → IsOffice old.now → Executes dues.add_holds_text params old new (Ok count) → KeepsOnce old.now → KeepsOnce new.now
-add_holds_once params old new count office h = leaves_once old new _ count _ (updates dues.add_holds_text params old new office_schema office.schema_is 5 deposit_table refl idle (as_program (scan 8 (by_text 3) dues.more_columns [])) dues.add_holds_means count h).2
+add_holds_once params old new count office h = leaves_once old new _ count _ (updates dues.add_holds_text params old new office_schema office.whole.schema_is 5 deposit_table refl idle (as_program (scan 8 (by_text 3) dues.more_columns [])) dues.add_holds_means count h).2
+
+pub add_holds_class_once : (params : Row) (old new : State) (count : ℕ) → IsOffice old.now → Executes dues.add_holds_class_text params old new (Ok count) → KeepsOnce old.now → KeepsOnce new.now
+add_holds_class_once params old new count office h = leaves_once old new _ count _ (updates dues.add_holds_class_text params old new office_schema office.whole.schema_is 5 deposit_table refl idle (as_program (scan 8 (by_text 4) dues.more_columns [])) dues.add_holds_class_means count h).2
 
 pub add_hold_once : (params : Row) (old new : State) (count : ℕ) → IsOffice old.now → Executes holds.put_text params old new (Ok count) → KeepsOnce old.now → KeepsOnce new.now
-add_hold_once params old new count office h = leaves_once old new _ count _ (inserts holds.put_text params old new office_schema office.schema_is 7 hold_table refl idle holds.hold_terms 7 holds.put_means refl refl count h)
+add_hold_once params old new count office h = leaves_once old new _ count _ (inserts holds.put_text params old new office_schema office.whole.schema_is 9 hold_4_table refl idle holds.hold_terms 8 holds.put_means refl refl count h)
 
 pub end_hold_once : (params : Row) (old new : State) (count : ℕ) → IsOffice old.now → Executes holds.end_text params old new (Ok count) → KeepsOnce old.now → KeepsOnce new.now
-end_hold_once params old new count office h = leaves_once old new _ count _ (updates holds.end_text params old new office_schema office.schema_is 7 hold_table refl idle (as_program (scan 12 by_number holds.ended_columns [])) holds.end_means count h).2
+end_hold_once params old new count office h = leaves_once old new _ count _ (updates holds.end_text params old new office_schema office.whole.schema_is 9 hold_4_table refl idle (as_program (scan 19 by_number holds.ended_columns [])) holds.end_means count h).2

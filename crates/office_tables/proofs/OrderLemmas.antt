@@ -31,17 +31,17 @@ module _ {Y : Type 0} (decode : Row → Y) (number : Y → ℤ) (numbers : (r : 
 
 pub in_order : (db : Database) → IsOffice db → AreInOrder (tables_of db)
 in_order db office = record {
-  deposits = rises deposit_in (λ d. d.number) (λ r. refl) (db.trees 8) office.shaped.1.1.1.1.1.0;
-  holds = rises hold_in (λ h. h.number) (λ r. refl) (db.trees 12) office.shaped.1.1.1.1.1.1.1.0;
-  rules = rises rule_in (λ r. r.place) (λ r. refl) (db.trees 3) office.shaped.1.1.0;
+  deposits = rises deposit_in (λ d. d.number) (λ r. refl) (db.trees 8) office.whole.shaped.1.1.1.1.1.0;
+  holds = rises hold_in (λ h. h.number) (λ r. refl) (db.trees 19) office.whole.shaped.1.1.1.1.1.1.1.1.1.0;
+  rules = rises rule_in (λ r. r.place) (λ r. refl) (db.trees 23) office.whole.shaped.1.1.1.1.1.1.1.1.1.1.0;
 }
 
 ascending_numbers : (ns : List ℤ) → IsAscending (λ a b. int_cmp a b ≡ Less) ns → NumbersRise (λ n. n) ns
 ascending_numbers [] up = tt
 ascending_numbers (n ∷ ns) up = (up.0, ascending_numbers ns up.1)
 
-pub live_holds_rise : (db : Database) → IsOffice db → (n : ℤ) (collection : List ℕ) → NumbersRise (λ k. k) (live_holds n collection (tables_of db))
-live_holds_rise db office n collection = ascending_numbers _ (live_rise db office n collection)
+pub live_holds_rise : (db : Database) → IsOffice db → (n : ℤ) (collection class : List ℕ) → NumbersRise (λ k. k) (live_holds n collection class (tables_of db))
+live_holds_rise db office n collection class = ascending_numbers _ (live_rise db office n collection class)
 
 -- ---- the first that passes
 

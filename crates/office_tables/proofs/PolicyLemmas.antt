@@ -28,7 +28,7 @@ use Rattle.sql_meaning.proofs.Typed.{text_at, all_both}
 use Rattle.sql_meaning.proofs.Edits.{appended, cast_null, cast_int}
 use Rattle.sql_meaning.proofs.Whole.{keeps_rule}
 use Rattle.sql_meaning.proofs.Changing.{drops}
-use Rattle.office_tables.specs.Schema.{office_schema, caller_table, rule_table, needed}
+use Rattle.office_tables.specs.Schema.{office_schema, caller_table, rule_5_table, needed}
 use Rattle.office_rows.specs.Rows.{Tables, CallerRow, RuleRow, is_caller, caller_named, with_caller, with_rule, with_callers, with_rules, without_callers, without_rules, with_policy}
 use Rattle.office_tables.specs.Tables.{IsOffice, Becomes, tables_of, caller_in, rule_in}
 use Rattle.office_tables.specs.ShownPolicy.{shown_rule}
@@ -40,10 +40,10 @@ use Rattle.office_tables.proofs.PolicyTexts.{role_text, role_columns, asks_role,
 module _ (db : Database) (office : IsOffice db) (name : List ℕ) where
   named : AllByRecursion (λ r. column r 1 ≡ Text (bytes_at r 1)) (db.trees 1)
   named = all_both (λ r typed present. text_at office_schema db.trees caller_table r typed present 0 (needed (codes "name") kind.Text) refl refl refl refl refl)
-      (db.trees 1) (keeps_rule office Datatype).1.0 (keeps_rule office NotNull).1.0
+      (db.trees 1) (keeps_rule office.whole Datatype).1.0 (keeps_rule office.whole NotNull).1.0
 
   few : (filter (has_text 1 name) (db.trees 1) ≡ []) ⊎ ((r : Row) × Has (db.trees 1) r × (has_text 1 name r ≡ true) × (filter (has_text 1 name) (db.trees 1) ≡ r ∷ []))
-  few = few_named 1 (db.trees 1) office.shaped.1.0 named (keeps_rule office Unique).1.0 name
+  few = few_named 1 (db.trees 1) office.whole.shaped.1.0 named (keeps_rule office.whole Unique).1.0 name
 
 -- ---- reads
 
@@ -52,9 +52,9 @@ pub finds_role : (old new : State) (name : List ℕ) (rows : List Row) → IsOff
 finds_role old new name rows office h =
     let params : Row = Text name ∷ [] in
     let db = old.now.trees in
-    let is = reads_one office_schema role_text 1 (by_text 1) role_columns [] asks_role params old new office.schema_is rows h (has_text 1 name)
+    let is = reads_one office_schema role_text 1 (by_text 1) role_columns [] asks_role params old new office.whole.schema_is rows h (has_text 1 name)
     (each_passes 1 name [] (db 1) (named old.now office name)) (few old.now office name) in (
-      reads_same office_schema role_text 1 (by_text 1) role_columns [] asks_role params old new office.schema_is rows h,
+      reads_same office_schema role_text 1 (by_text 1) role_columns [] asks_role params old new office.whole.schema_is rows h,
       finds_part (db 1) rows (has_text 1 name) (shown_of params role_columns) caller_in (is_caller name) (λ r. refl) is (λ (c : CallerRow). c.role) (λ row. bytes_at row 0) (λ r. refl),
     )
 
@@ -62,11 +62,11 @@ pub lists_rules : (old new : State) (rows : List Row) → IsOffice old.now → S
     → (new.now ≡ old.now) × ((tables_of old.now).rules ≡ map shown_rule rows)
 lists_rules old new rows office h =
     let db = old.now.trees in
-    let up = ascending_weaker _ _ (λ a b lower. rw lower refl) (db 3) office.shaped.1.1.0.0 in
-    let is = reads_rising office_schema rules_text 3 [] rule_columns rising asks_rules [] old new office.schema_is rows h (λ r. true) (all_from _ (db 3) (λ r there. refl)) up in
-    let whole : rows ≡ map (shown_of [] rule_columns) (db 3) = is ∙ ap (map (shown_of [] rule_columns)) (filter_all (λ r. true) (db 3) (λ r there. refl)) in
-    let shows : map shown_rule (map (shown_of [] rule_columns) (db 3)) ≡ map rule_in (db 3) = map-map shown_rule (shown_of [] rule_columns) (db 3) in (
-      reads_same office_schema rules_text 3 [] rule_columns rising asks_rules [] old new office.schema_is rows h,
+    let up = ascending_weaker _ _ (λ a b lower. rw lower refl) (db 23) office.whole.shaped.1.1.1.1.1.1.1.1.1.1.0.0 in
+    let is = reads_rising office_schema rules_text 23 [] rule_columns rising asks_rules [] old new office.whole.schema_is rows h (λ r. true) (all_from _ (db 23) (λ r there. refl)) up in
+    let whole : rows ≡ map (shown_of [] rule_columns) (db 23) = is ∙ ap (map (shown_of [] rule_columns)) (filter_all (λ r. true) (db 23) (λ r there. refl)) in
+    let shows : map shown_rule (map (shown_of [] rule_columns) (db 23)) ≡ map rule_in (db 23) = map-map shown_rule (shown_of [] rule_columns) (db 23) in (
+      reads_same office_schema rules_text 23 [] rule_columns rising asks_rules [] old new office.whole.schema_is rows h,
       sym shows ∙ ap (map shown_rule) (sym whole),
     )
 
@@ -75,14 +75,14 @@ lists_rules old new rows office h =
 pub drops_callers : (old new : State) (count : ℕ) → IsOffice old.now → Executes drop_callers_text [] old new (Ok count) → Becomes new.now (without_callers (tables_of old.now))
 drops_callers old new count office h =
     let db = old.now.trees in
-    let done = drops drop_callers_text [] old new office_schema office.schema_is 1 caller_table refl idle office.shaped.1.0 [] (col 1 0 ∷ []) (λ r. true) (all_from (λ r. true ≡ true) (db 1) (λ r there. refl)) drop_callers_means (λ r. refl) count h in
-    becomes old new (edit_of db caller_table (ids_of done.answer) Given 0 []) count _ office.shaped done.change _ (ap (λ rows. record (tables_of old.now) { callers = rows }) (ap (map caller_in) (done.made ∙ none_pass (λ r. false) (db 1) (λ r there. refl))))
+    let done = drops drop_callers_text [] old new office_schema office.whole.schema_is 1 caller_table refl idle office.whole.shaped.1.0 [] (col 1 0 ∷ []) (λ r. true) (all_from (λ r. true ≡ true) (db 1) (λ r there. refl)) drop_callers_means (λ r. refl) count h in
+    becomes old new (edit_of db caller_table (ids_of done.answer) Given 0 []) count _ office (refl, (refl, tt)) done.change _ (ap (λ rows. record (tables_of old.now) { callers = rows }) (ap (map caller_in) (done.made ∙ none_pass (λ r. false) (db 1) (λ r there. refl))))
 
 pub drops_rules : (old new : State) (count : ℕ) → IsOffice old.now → Executes drop_rules_text [] old new (Ok count) → Becomes new.now (without_rules (tables_of old.now))
 drops_rules old new count office h =
     let db = old.now.trees in
-    let done = drops drop_rules_text [] old new office_schema office.schema_is 2 rule_table refl idle office.shaped.1.1.0 [] (col 1 0 ∷ []) (λ r. true) (all_from (λ r. true ≡ true) (db 3) (λ r there. refl)) drop_rules_means (λ r. refl) count h in
-    becomes old new (edit_of db rule_table (ids_of done.answer) Given 0 []) count _ office.shaped done.change _ (ap (λ rows. record (tables_of old.now) { rules = rows }) (ap (map rule_in) (done.made ∙ none_pass (λ r. false) (db 3) (λ r there. refl))))
+    let done = drops drop_rules_text [] old new office_schema office.whole.schema_is 10 rule_5_table refl idle office.whole.shaped.1.1.1.1.1.1.1.1.1.1.0 [] (col 1 0 ∷ []) (λ r. true) (all_from (λ r. true ≡ true) (db 23) (λ r there. refl)) drop_rules_means (λ r. refl) count h in
+    becomes old new (edit_of db rule_5_table (ids_of done.answer) Given 0 []) count _ office (refl, (refl, tt)) done.change _ (ap (λ rows. record (tables_of old.now) { rules = rows }) (ap (map rule_in) (done.made ∙ none_pass (λ r. false) (db 23) (λ r there. refl))))
 
 -- ---- the new rows
 
@@ -92,26 +92,26 @@ adds_caller old new caller count office h =
     let db = old.now.trees in
     let source : Row = Null ∷ Text caller.name ∷ Text caller.role ∷ [] in
     let edit = edit_of db caller_table [] Chosen 0 (source ∷ []) in
-    let done = inserts add_caller_text (Text caller.name ∷ Text caller.role ∷ []) old new office_schema office.schema_is 1 caller_table refl idle caller_terms 3 add_caller_means refl refl count h in
+    let done = inserts add_caller_text (Text caller.name ∷ Text caller.role ∷ []) old new office_schema office.whole.schema_is 1 caller_table refl idle caller_terms 3 add_caller_means refl refl count h in
     let cast_is : cast_row caller_table source ≡ Null ∷ Text caller.name ∷ Text caller.role ∷ [] = rw cast_null refl in
-    let end = appended db caller_table source (Text caller.name ∷ Text caller.role ∷ []) office.shaped.1.0 cast_is in
-    becomes old new edit count edit.news office.shaped done _ (ap (λ rows. record (tables_of old.now) { callers = rows }) (ap (map caller_in) end ∙ map-append caller_in (db 1) _))
+    let end = appended db caller_table source (Text caller.name ∷ Text caller.role ∷ []) office.whole.shaped.1.0 cast_is in
+    becomes old new edit count edit.news office (refl, (refl, tt)) done _ (ap (λ rows. record (tables_of old.now) { callers = rows }) (ap (map caller_in) end ∙ map-append caller_in (db 1) _))
 
 abbrev pub params_of : RuleRow → Row
-params_of r = Int r.place ∷ Int r.effect ∷ Text r.role ∷ Text r.action ∷ Text r.collection ∷ Text r.class ∷ []
+params_of r = Int r.place ∷ Int r.effect ∷ Text r.role ∷ Text r.action ∷ Text r.collection ∷ Text r.class ∷ Int r.first ∷ Int r.last ∷ []
 
 abbrev stored_of : RuleRow → Row
-stored_of r = Null ∷ Int r.effect ∷ Text r.role ∷ Text r.action ∷ Text r.collection ∷ Text r.class ∷ []
+stored_of r = Null ∷ Int r.effect ∷ Text r.role ∷ Text r.action ∷ Text r.collection ∷ Text r.class ∷ Int r.first ∷ Int r.last ∷ []
 
 pub adds_rule : (old new : State) (rule : RuleRow) (count : ℕ) → IsOffice old.now → Executes add_rule_text (params_of rule) old new (Ok count)
     → Becomes new.now (with_rule rule (tables_of old.now))
 adds_rule old new rule count office h =
     let row : Row = Int rule.place ∷ stored_of rule in
-    let edit = edit_of old.now.trees rule_table [] Chosen 0 (row ∷ []) in
-    let done = inserts add_rule_text (params_of rule) old new office_schema office.schema_is 2 rule_table refl idle rule_terms 7 add_rule_means refl refl count h in
-    let cast_is : cast_row rule_table row ≡ row = rw (cast_null, cast_int rule.place, cast_int rule.effect) refl in
-    becomes old new edit count edit.news office.shaped done _ (ap (λ rows. record (tables_of old.now) { rules = rows })
-    (placed rule_in (λ (r : RuleRow). r.place) (λ r. refl) old new rule_table row (stored_of rule) rule.place count edit.news office.shaped.1.1.0 cast_is done))
+    let edit = edit_of old.now.trees rule_5_table [] Chosen 0 (row ∷ []) in
+    let done = inserts add_rule_text (params_of rule) old new office_schema office.whole.schema_is 10 rule_5_table refl idle rule_terms 9 add_rule_means refl refl count h in
+    let cast_is : cast_row rule_5_table row ≡ row = rw (cast_null, cast_int rule.place, cast_int rule.effect, cast_int rule.first, cast_int rule.last) refl in
+    becomes old new edit count edit.news office (refl, (refl, tt)) done _ (ap (λ rows. record (tables_of old.now) { rules = rows })
+    (placed rule_in (λ (r : RuleRow). r.place) (λ r. refl) old new rule_5_table row (stored_of rule) rule.place count edit.news office.whole.shaped.1.1.1.1.1.1.1.1.1.1.0 cast_is done))
 
 -- ---- all the new rows
 

@@ -24,15 +24,15 @@ unfolding understood everything
 asks_role = record { names = codes "role" ∷ []; command = refl; unlisted = refl; plain = (refl, refl) }
 
 abbrev pub rules_text : List ℕ
-rules_text = codes "SELECT place, effect, role, action, collection, class FROM rule ORDER BY place"
+rules_text = codes "SELECT place, effect, role, action, collection, class, first, last FROM rule_5 ORDER BY place"
 
 abbrev pub rule_columns : List Term
-rule_columns = col 1 0 ∷ col 1 2 ∷ col 1 3 ∷ col 1 4 ∷ col 1 5 ∷ col 1 6 ∷ []
+rule_columns = col 1 0 ∷ col 1 2 ∷ col 1 3 ∷ col 1 4 ∷ col 1 5 ∷ col 1 6 ∷ col 1 7 ∷ col 1 8 ∷ []
 
-pub asks_rules : Asks office_schema rules_text 3 [] rule_columns rising
+pub asks_rules : Asks office_schema rules_text 23 [] rule_columns rising
 unfolding understood everything
 asks_rules = record {
-  names = codes "place" ∷ codes "effect" ∷ codes "role" ∷ codes "action" ∷ codes "collection" ∷ codes "class" ∷ [];
+  names = codes "place" ∷ codes "effect" ∷ codes "role" ∷ codes "action" ∷ codes "collection" ∷ codes "class" ∷ codes "first" ∷ codes "last" ∷ [];
   command = refl;
   unlisted = refl;
   plain = (refl, refl);
@@ -46,9 +46,9 @@ unfolding understood everything
 drop_callers_means = record { is = refl; plain = (refl, refl) }
 
 abbrev pub drop_rules_text : List ℕ
-drop_rules_text = codes "DELETE FROM rule"
+drop_rules_text = codes "DELETE FROM rule_5"
 
-pub drop_rules_means : Means office_schema drop_rules_text (Delete 2 (as_program (scan 3 [] (col 1 0 ∷ []) [])))
+pub drop_rules_means : Means office_schema drop_rules_text (Delete 10 (as_program (scan 23 [] (col 1 0 ∷ []) [])))
 unfolding understood everything
 drop_rules_means = record { is = refl; plain = (refl, refl) }
 
@@ -63,11 +63,11 @@ unfolding understood everything
 add_caller_means = record { is = refl; plain = (refl, refl) }
 
 abbrev pub add_rule_text : List ℕ
-add_rule_text = codes "INSERT INTO rule (place, effect, role, action, collection, class) VALUES (?1, ?2, ?3, ?4, ?5, ?6)"
+add_rule_text = codes "INSERT INTO rule_5 (place, effect, role, action, collection, class, first, last) VALUES (?1, ?2, ?3, ?4, ?5, ?6, ?7, ?8)"
 
 abbrev pub rule_terms : List Term
-rule_terms = col 0 0 ∷ lit Null ∷ col 0 1 ∷ col 0 2 ∷ col 0 3 ∷ col 0 4 ∷ col 0 5 ∷ []
+rule_terms = col 0 0 ∷ lit Null ∷ col 0 1 ∷ col 0 2 ∷ col 0 3 ∷ col 0 4 ∷ col 0 5 ∷ col 0 6 ∷ col 0 7 ∷ []
 
-pub add_rule_means : Means office_schema add_rule_text (Insert 2 (Values rule_terms 7))
+pub add_rule_means : Means office_schema add_rule_text (Insert 10 (Values rule_terms 9))
 unfolding understood everything
 add_rule_means = record { is = refl; plain = (refl, refl) }

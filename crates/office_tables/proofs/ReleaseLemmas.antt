@@ -10,22 +10,21 @@ use Rattle.sqlite.specs.Effect.{Database}
 use Rattle.sqlite.specs.Ops.{binary, from_truth, is_true, truth}
 use Rattle.sqlite.specs.Order.{Row, column, value_cmp}
 use Rattle.sqlite.specs.State.{State, Shown}
-use Rattle.sqlite.specs.Term.{Term}
 use Rattle.sqlite_rules.proofs.ListLemmas.{all_has, all_from}
 use Rattle.sqlite_sql.specs.Ops.{or3}
 use Rattle.sqlite_sql.specs.declared.ops.BinaryOp.TheVariants.{Compare, Or}
-use Rattle.sqlite_sql.specs.declared.ops.CompareOp.TheVariants.{Gt, Lt}
+use Rattle.sqlite_sql.specs.declared.ops.CompareOp.TheVariants.{Eq, Gt, Lt}
 use Rattle.sqlite_value.proofs.OrderLemmas.{value_cmp-Int}
 use Rattle.sql_meaning.specs.Columns.{maybe_int}
 use Rattle.sql_meaning.proofs.Edits.{any_mapped}
 use Rattle.sql_meaning.proofs.Limited.{AsksSome, reads_some}
 use Rattle.sql_meaning.proofs.Scanning.{passes}
-use Rattle.office_rows.specs.Rows.{HoldRow, holds_collection, holds_deposit}
-use Rattle.office_tables.specs.Releases.{is_outside, is_outside_on, is_outside_within, is_released_outside}
+use Rattle.office_rows.specs.Rows.{HoldRow, holds_class, holds_collection, holds_deposit}
+use Rattle.office_tables.specs.Releases.{is_outside, is_outside_of, is_over, is_released_outside}
 use Rattle.office_tables.specs.Schema.{office_schema}
 use Rattle.office_tables.specs.Tables.{IsOffice, tables_of, hold_in}
-use Rattle.office_tables.proofs.HoldLemmas.{IsStoredHold, collection_is, deposit_is, hold_rows}
-use Rattle.office_tables.proofs.HoldTexts.{asks_outside_on, asks_outside_within, number_column, outside_on, outside_on_text, outside_within, outside_within_text}
+use Rattle.office_tables.proofs.HoldLemmas.{IsStoredHold, deposit_is, hold_rows, text_is}
+use Rattle.office_tables.proofs.HoldTexts.{asks_outside_of_class, asks_outside_on, asks_outside_within, number_column, outside_of, outside_of_class_text, outside_on_text, outside_within_text}
 
 -- ---- a day before the first or after the last
 
@@ -54,62 +53,81 @@ and_end true true = refl
 and_end true false = refl
 and_end false b = refl
 
-passes_outside_on : (n first last : ℤ) (r : Row) → IsStoredHold r → passes (Int n ∷ Int first ∷ Int last ∷ []) outside_on r ≡ is_outside_on first last n (hold_in r)
-passes_outside_on n first last r it = ap₂ (λ a b. a && (b && true)) (deposit_is (column r 2) n it.0) (outside_is (column r 6) first last it.4) ∙ and_end _ _
+-- a hold passes that has the value in the column and was released outside of these days
+passes_outside : (place : ℕ) (v : Value) (named : Bool) (first last : ℤ) (r : Row) → IsStoredHold r → is_true (binary (Compare Eq Binary) (column r place) v) ≡ named
+    → passes (v ∷ Int first ∷ Int last ∷ []) (outside_of place) r ≡ (named && is_outside first last (hold_in r).released)
+passes_outside place v named first last r it is = ap₂ (λ a b. a && (b && true)) is (outside_is (column r 7) first last it.5) ∙ and_end _ _
 
-passes_outside_within : (c : List ℕ) (first last : ℤ) (r : Row) → IsStoredHold r → passes (Text c ∷ Int first ∷ Int last ∷ []) outside_within r ≡ is_outside_within first last c (hold_in r)
-passes_outside_within c first last r it = ap₂ (λ a b. a && (b && true)) (collection_is (column r 3) c it.1) (outside_is (column r 6) first last it.4) ∙ and_end _ _
-
--- whether a hold passes
-module _ (old new : State) (text : List ℕ) (test : List Term) (asks : AsksSome office_schema text 12 test number_column) (params : Row) (rows : List Row) (office : IsOffice old.now) (h : Shown text params old new rows) where
-  tells_any : (p : HoldRow → Bool) → ((r : Row) → IsStoredHold r → passes params test r ≡ p (hold_in r))
-      → (new.now ≡ old.now) × (list_any p (tables_of old.now).holds ≡ list_any (λ r. true) rows)
-  tells_any p tests =
-      let stored = old.now.trees 12 in
-      let each = all_from (λ r. passes params test r ≡ p (hold_in r)) stored (λ r there. tests r (all_has IsStoredHold stored r (hold_rows old.now office) there)) in
-      let some = reads_some office_schema text 12 test number_column asks params old new office.schema_is rows h (λ r. p (hold_in r)) each in
+-- whether one passes, of the holds that are on this
+module _ (old new : State) (text : List ℕ) (place : ℕ) (asks : AsksSome office_schema text 19 (outside_of place) number_column) (v : Value) (first last : ℤ) (rows : List Row)
+    (office : IsOffice old.now) (h : Shown text (v ∷ Int first ∷ Int last ∷ []) old new rows) where
+  tells_outside : (those : HoldRow → Bool) → ((r : Row) → IsStoredHold r → is_true (binary (Compare Eq Binary) (column r place) v) ≡ those (hold_in r))
+      → (new.now ≡ old.now) × (list_any (is_outside_of those first last) (tables_of old.now).holds ≡ list_any (λ r. true) rows)
+  tells_outside those names =
+      let stored = old.now.trees 19 in
+      let params : Row = v ∷ Int first ∷ Int last ∷ [] in
+      let p : HoldRow → Bool = is_outside_of those first last in
+      let each = all_from (λ r. passes params (outside_of place) r ≡ p (hold_in r)) stored (λ r there.
+      let it = all_has IsStoredHold stored r (hold_rows old.now office) there in
+      passes_outside place v (those (hold_in r)) first last r it (names r it)) in
+      let some = reads_some office_schema text 19 (outside_of place) number_column asks params old new office.whole.schema_is rows h (λ r. p (hold_in r)) each in
       (some.0, any_mapped hold_in (λ r. p (hold_in r)) p (λ r. refl) stored ∙ some.1)
 
 pub tells_outside_on : (old new : State) (n first last : ℤ) (rows : List Row) → IsOffice old.now → Shown outside_on_text (Int n ∷ Int first ∷ Int last ∷ []) old new rows
-    → (new.now ≡ old.now) × (list_any (is_outside_on first last n) (tables_of old.now).holds ≡ list_any (λ r. true) rows)
+    → (new.now ≡ old.now) × (list_any (is_outside_of (holds_deposit n) first last) (tables_of old.now).holds ≡ list_any (λ r. true) rows)
 tells_outside_on old new n first last rows office h =
-    tells_any old new outside_on_text outside_on asks_outside_on (Int n ∷ Int first ∷ Int last ∷ []) rows office h (is_outside_on first last n) (passes_outside_on n first last)
+    tells_outside old new outside_on_text 2 asks_outside_on (Int n) first last rows office h (holds_deposit n) (λ r it. deposit_is (column r 2) n it.0)
 
 pub tells_outside_within : (old new : State) (c : List ℕ) (first last : ℤ) (rows : List Row) → IsOffice old.now → Shown outside_within_text (Text c ∷ Int first ∷ Int last ∷ []) old new rows
-    → (new.now ≡ old.now) × (list_any (is_outside_within first last c) (tables_of old.now).holds ≡ list_any (λ r. true) rows)
+    → (new.now ≡ old.now) × (list_any (is_outside_of (holds_collection c) first last) (tables_of old.now).holds ≡ list_any (λ r. true) rows)
 tells_outside_within old new c first last rows office h =
-    tells_any old new outside_within_text outside_within asks_outside_within (Text c ∷ Int first ∷ Int last ∷ []) rows office h (is_outside_within first last c) (passes_outside_within c first last)
+    tells_outside old new outside_within_text 3 asks_outside_within (Text c) first last rows office h (holds_collection c) (λ r it. text_is (column r 3) c it.1)
 
--- ---- both
+pub tells_outside_of_class : (old new : State) (k : List ℕ) (first last : ℤ) (rows : List Row) → IsOffice old.now → Shown outside_of_class_text (Text k ∷ Int first ∷ Int last ∷ []) old new rows
+    → (new.now ≡ old.now) × (list_any (is_outside_of (holds_class k) first last) (tables_of old.now).holds ≡ list_any (λ r. true) rows)
+tells_outside_of_class old new k first last rows office h =
+    tells_outside old new outside_of_class_text 4 asks_outside_of_class (Text k) first last rows office h (holds_class k) (λ r it. text_is (column r 4) k it.2)
 
-pub some_first : (x y n : Bool) → x ≡ n → n ≡ true → n ≡ (x || y)
-some_first x y n same is = is ∙ sym (ap (λ b. b || y) (same ∙ is))
+-- ---- all of them
 
-pub some_second : (x y n m : Bool) → x ≡ n → n ≡ false → y ≡ m → m ≡ (x || y)
-some_second x y n m same isnt second = sym second ∙ sym (ap (λ b. b || y) (same ∙ isnt))
+either_first : (a b x y : Bool) → ((a || b) || (x || y)) ≡ ((a || x) || (b || y))
+either_first true b x y = refl
+either_first false true true y = refl
+either_first false true false y = refl
+either_first false false x y = refl
 
-either_step : (d c o : Bool) (x y : Bool) → (((d || c) && o) || (x || y)) ≡ (((d && o) || x) || ((c && o) || y))
-either_step true true true x y = refl
-either_step true false true x y = refl
-either_step false true true true y = refl
-either_step false true true false y = refl
-either_step false false o x y = refl
-either_step true true false x y = refl
-either_step true false false x y = refl
-either_step false true false x y = refl
+any_either : {X : Type 0} (p q s : X → Bool) → ((x : X) → s x ≡ (p x || q x)) → (xs : List X) → list_any s xs ≡ (list_any p xs || list_any q xs)
+any_either p q s each [] = refl
+any_either p q s each (x ∷ xs) = ap₂ (λ a b. a || b) (each x) (any_either p q s each xs) ∙ either_first (p x) (q x) (list_any p xs) (list_any q xs)
 
-outside_over : (first last n : ℤ) (c : List ℕ) (holds : List HoldRow)
-    → list_any (is_released_outside first last n c) holds ≡ (list_any (is_outside_on first last n) holds || list_any (is_outside_within first last c) holds)
-outside_over first last n c [] = refl
-outside_over first last n c (h ∷ holds) =
-    ap (λ rest. is_released_outside first last n c h || rest) (outside_over first last n c holds)
-    ∙ either_step (holds_deposit n h) (holds_collection c h) (is_outside first last h.released) (list_any (is_outside_on first last n) holds) (list_any (is_outside_within first last c) holds)
+both_parts : (a b o : Bool) → ((a || b) && o) ≡ ((a && o) || (b && o))
+both_parts true b true = refl
+both_parts true true false = refl
+both_parts true false false = refl
+both_parts false b o = refl
 
--- what is told of the two answers, the second of which the same database gave
-pub gathers_outside : (old mid : Database) → mid ≡ old → (first last n : ℤ) (c : List ℕ) (on within : List Row)
-    → list_any (is_outside_on first last n) (tables_of old).holds ≡ list_any (λ r. true) on
-    → list_any (is_outside_within first last c) (tables_of mid).holds ≡ list_any (λ r. true) within
-    → (list_any (λ (r : Row). true) on || list_any (λ (r : Row). true) within) ≡ list_any (is_released_outside first last n c) (tables_of old).holds
-gathers_outside old mid same first last n c on within on_is within_is =
-    ap₂ (λ a b. a || b) (sym on_is) (sym within_is ∙ ap (λ (db : Database). list_any (is_outside_within first last c) (tables_of db).holds) same)
-    ∙ sym (outside_over first last n c (tables_of old).holds)
+outside_over : (first last n : ℤ) (c k : List ℕ) (holds : List HoldRow)
+    → list_any (is_released_outside first last n c k) holds
+    ≡ (list_any (is_outside_of (holds_deposit n) first last) holds || (list_any (is_outside_of (holds_collection c) first last) holds || list_any (is_outside_of (holds_class k) first last) holds))
+outside_over first last n c k holds =
+    let later : HoldRow → Bool = λ h. holds_collection c h || holds_class k h in
+    let those : (HoldRow → Bool) → HoldRow → Bool = λ p. is_outside_of p first last in
+    any_either (those (holds_deposit n)) (those later) (those (is_over n c k)) (λ h. both_parts (holds_deposit n h) (later h) (is_outside first last h.released)) holds
+    ∙ ap (λ b. list_any (those (holds_deposit n)) holds || b)
+    (any_either (those (holds_collection c)) (those (holds_class k)) (those later) (λ h. both_parts (holds_collection c h) (holds_class k h) (is_outside first last h.released)) holds)
+
+in_turn : (a b c : Bool) → ((a || b) || c) ≡ (a || (b || c))
+in_turn true b c = refl
+in_turn false b c = refl
+
+-- what is told of the three answers, of which the same database gave the later ones
+pub gathers_outside : (old one two : Database) → one ≡ old → two ≡ one → (first last n : ℤ) (c k : List ℕ) (on within of_class : Bool)
+    → on ≡ list_any (is_outside_of (holds_deposit n) first last) (tables_of old).holds
+    → within ≡ list_any (is_outside_of (holds_collection c) first last) (tables_of one).holds
+    → of_class ≡ list_any (is_outside_of (holds_class k) first last) (tables_of two).holds
+    → ((on || within) || of_class) ≡ list_any (is_released_outside first last n c k) (tables_of old).holds
+gathers_outside old one two same again first last n c k on within of_class on_is within_is of_class_is =
+    let at : (HoldRow → Bool) → Database → Bool = λ p db. list_any (is_outside_of p first last) (tables_of db).holds in
+    in_turn on within of_class
+    ∙ ap₂ (λ a b. a || b) on_is (ap₂ (λ a b. a || b) (within_is ∙ ap (at (holds_collection c)) same) (of_class_is ∙ ap (at (holds_class k)) (again ∙ same)))
+    ∙ sym (outside_over first last n c k (tables_of old).holds)

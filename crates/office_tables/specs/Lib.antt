@@ -1,5 +1,7 @@
 pub mod Faults
 pub mod Schema
+pub mod Stored
+pub mod Versions
 pub mod Tables
 pub mod Calls
 pub mod Contents
@@ -9,3 +11,4 @@ pub mod Releases
 pub mod ShownPolicy
 pub mod Deposits
 pub mod Dues
+pub mod Moving

@@ -1,5 +1,5 @@
--- The schema of an office: its nine tables, all STRICT, and their indexes.
-use Rattle.std.specs.Prelude.{true, false, [], ◌∷◌, map, take, Some, None, codes, List, ℕ}
+-- The schema of an office: its eleven tables, all STRICT, and their indexes. Those of an older version come first, and two of them stay empty.
+use Rattle.std.specs.Prelude.{true, false, [], ◌∷◌, ◌++◌, map, take, Some, None, codes, List, ℕ}
 use Rattle.sqlite.specs.Collation.TheVariants.{Binary}
 use Rattle.sqlite.specs.declared.types.Value.TheVariants.{Null}
 use Rattle.sqlite.specs.Table.{Table}
@@ -104,16 +104,43 @@ abbrev pub content_table : Table
 content_table = numbered (codes "content") 13
     (optional (codes "id") Integer ∷ needed (codes "mark") Blob ∷ needed (codes "size") Integer ∷ needed (codes "bytes") Blob ∷ []) [] []
 
-abbrev pub all_tables : List Table
-all_tables = office_table ∷ caller_table ∷ rule_table ∷ class_table ∷ collection_table ∷ deposit_table ∷ file_table ∷ hold_table ∷ content_table ∷ []
+-- rules with days
+abbrev pub rule_5_table : Table
+rule_5_table = numbered (codes "rule_5") 23
+    (optional (codes "place") Integer ∷ needed (codes "effect") Integer ∷ needed (codes "role") Text ∷ needed (codes "action") Text
+    ∷ needed (codes "collection") Text ∷ needed (codes "class") Text ∷ needed (codes "first") Integer ∷ needed (codes "last") Integer ∷ []) [] []
 
-abbrev pub all_indexes : List Index
-all_indexes = key_index (codes "sqlite_autoindex_caller_1") 2 1 (1 ∷ []) ∷ key_index (codes "sqlite_autoindex_class_1") 5 4 (1 ∷ [])
+-- holds that may name a class
+abbrev pub hold_4_table : Table
+hold_4_table = numbered (codes "hold_4") 19
+    (optional (codes "number") Integer ∷ optional (codes "deposit") Integer ∷ optional (codes "collection") Text ∷ optional (codes "class") Text
+    ∷ needed (codes "matter") Text ∷ needed (codes "placed") Integer ∷ optional (codes "released") Integer ∷ []) [] []
+
+-- those of version 3, of which `rule` and `hold` stay empty
+abbrev pub first_tables : List Table
+first_tables = office_table ∷ caller_table ∷ rule_table ∷ class_table ∷ collection_table ∷ deposit_table ∷ file_table ∷ hold_table ∷ content_table ∷ []
+
+abbrev pub all_tables : List Table
+all_tables = first_tables ++ hold_4_table ∷ rule_5_table ∷ []
+
+-- the trees of the tables that hold nothing any more
+abbrev pub emptied_trees : List ℕ
+emptied_trees = 12 ∷ 3 ∷ []
+
+abbrev pub first_indexes : List Index
+first_indexes = key_index (codes "sqlite_autoindex_caller_1") 2 1 (1 ∷ []) ∷ key_index (codes "sqlite_autoindex_class_1") 5 4 (1 ∷ [])
     ∷ key_index (codes "sqlite_autoindex_collection_1") 7 6 (1 ∷ []) ∷ key_index (codes "sqlite_autoindex_deposit_1") 9 8 (2 ∷ [])
     ∷ key_index (codes "sqlite_autoindex_file_1") 11 10 (1 ∷ 2 ∷ [])
     ∷ plain_index (codes "hold_deposit") 14 12 (2 ∷ []) ∷ plain_index (codes "hold_collection") 15 12 (3 ∷ [])
     ∷ plain_index (codes "file_content") 16 10 (3 ∷ []) ∷ plain_index (codes "content_mark") 17 13 (2 ∷ [])
     ∷ plain_index (codes "deposit_due") 18 8 (10 ∷ []) ∷ []
+
+abbrev pub hold_4_indexes : List Index
+hold_4_indexes = plain_index (codes "hold_4_deposit") 20 19 (2 ∷ []) ∷ plain_index (codes "hold_4_collection") 21 19 (3 ∷ [])
+    ∷ plain_index (codes "hold_4_class") 22 19 (4 ∷ []) ∷ []
+
+abbrev pub all_indexes : List Index
+all_indexes = first_indexes ++ hold_4_indexes
 
 abbrev pub office_schema : Schema
 office_schema = record { tables = all_tables; indexes = all_indexes; views = [] }
@@ -121,6 +148,6 @@ office_schema = record { tables = all_tables; indexes = all_indexes; views = [] 
 abbrev pub no_schema : Schema
 no_schema = record { tables = []; indexes = []; views = [] }
 
--- the schema with the first of its tables and indexes alone, as it is made in turn
+-- the schema with the first of its tables and indexes alone, as it is made in turn: 9 and 10 are those of version 3, 10 and 13 those of version 4
 abbrev pub stage : ℕ → ℕ → Schema
 stage tables indexes = record { tables = take tables all_tables; indexes = take indexes all_indexes; views = [] }

@@ -11,4 +11,6 @@ shown_rule row = record {
   action = bytes_at row 3;
   collection = bytes_at row 4;
   class = bytes_at row 5;
+  first = int_at row 6;
+  last = int_at row 7;
 }

@@ -6,7 +6,8 @@ ghost use Rattle.sqlite.specs.Tree.{Trees};
 ghost use Rattle.sqlite.specs.State.{HasCleanDisk, Survives};
 ghost use Rattle.sqlite.specs.Held.{state};
 ghost use Rattle.sql_meaning.specs.Making.{Builds};
-ghost use Rattle.sql_meaning.specs.Whole.{IsBlank};
+ghost use Rattle.sql_meaning.specs.Growing.{Grows};
+ghost use Rattle.sql_meaning.specs.Whole.{IsBlank, IsWhole};
 ghost use Rattle.office_tables.specs.Calls.{CommitsNothing, Continues, ContinuesInTurn};
 ghost use Rattle.office_tables.specs.Faults.{IsFailure};
 ghost use Rattle.office_tables.specs.Schema.{no_schema, office_schema};
@@ -20,14 +21,19 @@ use crate::run::change;
 use sqlite::{Alter, Connection, Transaction, params};
 use sqlite_schema::schema::Schema;
 
-/// Runs CREATE texts in turn.
-fn define<S: Alter>(tx: &mut Transaction<'_, S>, texts: &[&str]) -> Result<(), TableFault>
+/// Runs CREATE texts in turn, in a database without rows or with some.
+pub(crate) fn define<S: Alter>(
+    tx: &mut Transaction<'_, S>,
+    texts: &[&str],
+) -> Result<(), TableFault>
     ensures same_reference { tx.new.conn.ghost_name ≡ tx.old.conn.ghost_name }
     ensures stays { CommitsNothing S.Store tx.old.conn.now tx.new.conn.now }
     ensures goes_on { ContinuesInTurn S.Store tx.old.conn.now tx.new.conn.now result }
     ensures failure { IfErr result IsFailure }
     ensures made { HasCleanDisk (state S.Store tx.new.conn.now) → OnOk result ((before after : Schema) → Builds before (map (λ t. t.now) texts.now) after
         → IsBlank before (state S.Store tx.old.conn.now).now → IsBlank after (state S.Store tx.new.conn.now).now) }
+    ensures grown { HasCleanDisk (state S.Store tx.new.conn.now) → OnOk result ((before after : Schema) → Builds before (map (λ t. t.now) texts.now) after
+        → IsWhole before (state S.Store tx.old.conn.now).now → Grows before after (state S.Store tx.old.conn.now).now (state S.Store tx.new.conn.now).now) }
 {
     for text in texts {
         change(tx, text, &[])?;
@@ -35,7 +41,7 @@ fn define<S: Alter>(tx: &mut Transaction<'_, S>, texts: &[&str]) -> Result<(), T
     Ok(())
 }
 
-/// Makes the nine tables and their indexes in an empty database.
+/// Makes the eleven tables and their indexes in an empty database, in the order in which versions came to have them.
 fn define_tables<S: Alter>(tx: &mut Transaction<'_, S>) -> Result<(), TableFault>
     ensures same_reference { tx.new.conn.ghost_name ≡ tx.old.conn.ghost_name }
     ensures stays { CommitsNothing S.Store tx.old.conn.now tx.new.conn.now }
@@ -61,6 +67,11 @@ fn define_tables<S: Alter>(tx: &mut Transaction<'_, S>) -> Result<(), TableFault
             "CREATE INDEX file_content ON file (content)",
             "CREATE INDEX content_mark ON content (mark)",
             "CREATE INDEX deposit_due ON deposit (due)",
+            "CREATE TABLE hold_4 (number INTEGER PRIMARY KEY, deposit INTEGER, collection TEXT, class TEXT, matter TEXT NOT NULL, placed INTEGER NOT NULL, released INTEGER) STRICT",
+            "CREATE INDEX hold_4_deposit ON hold_4 (deposit)",
+            "CREATE INDEX hold_4_collection ON hold_4 (collection)",
+            "CREATE INDEX hold_4_class ON hold_4 (class)",
+            "CREATE TABLE rule_5 (place INTEGER PRIMARY KEY, effect INTEGER NOT NULL, role TEXT NOT NULL, action TEXT NOT NULL, collection TEXT NOT NULL, class TEXT NOT NULL, first INTEGER NOT NULL, last INTEGER NOT NULL) STRICT",
         ],
     )
 }
@@ -81,7 +92,7 @@ fn start<S: Alter>(
 {
     change(
         tx,
-        "INSERT INTO office (id, version, max_deposits, max_holds) VALUES (1, 3, ?1, ?2)",
+        "INSERT INTO office (id, version, max_deposits, max_holds) VALUES (1, 5, ?1, ?2)",
         params![max_deposits, max_holds],
     )
 }

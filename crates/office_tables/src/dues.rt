@@ -4,7 +4,7 @@ ghost use Rattle.std.specs.Prelude.{◌≡◌, Some, None, IfOk, IfErr, OnOk, po
 ghost use Rattle.sqlite.specs.State.{HasCleanDisk};
 ghost use Rattle.sqlite.specs.Held.{state};
 ghost use Rattle.office_tables.specs.Faults.{IsFailure};
-ghost use Rattle.office_rows.specs.Rows.{beside, due_numbered, with_due, with_holds, with_more_holds};
+ghost use Rattle.office_rows.specs.Rows.{beside, due_numbered, with_due, with_holds, with_more_holds, with_more_holds_class};
 ghost use Rattle.office_rows.specs.Told.{due_places, class_closings};
 ghost use Rattle.office_tables.specs.Tables.{IsOffice, Becomes, tables_of};
 ghost use Rattle.office_tables.specs.Calls.{CommitsNothing, Continues, Keeps, Tells, Shows, Writes};
@@ -308,6 +308,31 @@ pub fn add_holds<S: Alter>(
         tx,
         "UPDATE deposit SET holds = holds + ?2 WHERE collection = ?1",
         params![collection, by],
+    )?;
+    Ok(())
+}
+
+/// Counts as many more live holds over each deposit of the class.
+///
+/// Fails with `Memory` or `Store`, and with `Store` where a count would leave 64 bits.
+pub fn add_holds_class<S: Alter>(
+    tx: &mut Transaction<'_, S>,
+    class: &str,
+    by: i64,
+) -> Result<(), TableFault>
+    ensures same_reference { tx.new.conn.ghost_name ≡ tx.old.conn.ghost_name }
+    ensures stays { CommitsNothing S.Store tx.old.conn.now tx.new.conn.now }
+    ensures goes_on { Continues S.Store tx.old.conn.now tx.new.conn.now result }
+    ensures failure { IfErr result IsFailure }
+    ensures becomes { HasCleanDisk (state S.Store tx.new.conn.now) → IsOffice (state S.Store tx.old.conn.now).now
+        → FitMore by (tables_of (state S.Store tx.old.conn.now).now).dues
+        → OnOk result (Becomes (state S.Store tx.new.conn.now).now (with_more_holds_class class.now by (tables_of (state S.Store tx.old.conn.now).now))) }
+    ensures once { LeavesOnce S.Store tx.old.conn.now tx.new.conn.now result }
+{
+    change(
+        tx,
+        "UPDATE deposit SET holds = holds + ?2 WHERE class = ?1",
+        params![class, by],
     )?;
     Ok(())
 }

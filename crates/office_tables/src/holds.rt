@@ -1,14 +1,14 @@
 //! Holds.
 
 ghost use Rattle.std.specs.List.{list_any};
-ghost use Rattle.std.specs.Prelude.{◌≡◌, ◌||◌, ℕ, IfOk, IfErr, OnOk, pos, Some, None, true, map, filter, ◌++◌, option_map, slice_get};
+ghost use Rattle.std.specs.Prelude.{◌≡◌, ℕ, IfOk, IfErr, OnOk, pos, Some, None, true, map, filter, ◌++◌, option_map, slice_get};
 ghost use Rattle.sql_meaning.specs.Columns.{int_at};
 ghost use Rattle.office_tables.specs.Faults.{IsFailure};
-ghost use Rattle.office_rows.specs.Rows.{hold_numbered, last_number, with_hold, with_released, live_holds, is_live_on, is_live_within};
+ghost use Rattle.office_rows.specs.Rows.{hold_numbered, last_number, with_hold, with_released, live_holds, is_live_on, is_live_within, is_live_of_class};
 ghost use Rattle.office_tables.specs.Contents.{LeavesOnce};
 ghost use Rattle.office_tables.specs.Calls.{CommitsNothing, Continues, Keeps, Tells, Shows, Writes};
-ghost use Rattle.office_tables.specs.ShownHolds.{shown_hold, held_deposit, held_collection};
-ghost use Rattle.office_tables.specs.Releases.{is_outside_on, is_outside_within, is_released_outside};
+ghost use Rattle.office_tables.specs.ShownHolds.{shown_hold, held_deposit, held_collection, held_class, is_on};
+ghost use Rattle.office_tables.specs.Releases.{is_outside_of, is_released_outside};
 
 use crate::fault::TableFault;
 use crate::run::{ask, change, number_in};
@@ -16,7 +16,7 @@ use sqlite::{Alter, Row, Transaction, params};
 use std::alloc::Global;
 use std::marker::Model;
 
-/// A hold on a deposit, or on each deposit of a collection.
+/// A hold on a deposit, or on each deposit of a collection or of a class.
 #[derive(Debug, Drop)]
 pub struct HoldRow {
     pub number: u32,
@@ -24,6 +24,8 @@ pub struct HoldRow {
     pub deposit: Option<u32>,
     /// The name of the collection that is held.
     pub collection: Option<String>,
+    /// The name of the class that is held.
+    pub class: Option<String>,
     pub matter: String,
     /// The day when it was placed, as a day number.
     pub placed: i64,
@@ -38,16 +40,17 @@ impl Model for HoldRow {
 
     ghost Value = { Hold };
 
-    ghost coded = { code_by (ℤ × (Option ℤ × (Option (List ℕ) × (List ℕ × (ℤ × Option ℤ)))))
-        (coded× coded_ℤ (coded× (coded_option coded_ℤ) (coded× (coded_option (coded_list coded_ℕ)) (coded× (coded_list coded_ℕ) (coded× coded_ℤ (coded_option coded_ℤ))))))
-        (λ (h : Hold). (h.number, (h.deposit, (h.collection, (h.matter, (h.placed, h.released))))))
-        (λ p. record { number = p.0; deposit = p.1.0; collection = p.1.1.0; matter = p.1.1.1.0; placed = p.1.1.1.1.0; released = p.1.1.1.1.1 })
+    ghost coded = { code_by (ℤ × (Option ℤ × (Option (List ℕ) × (Option (List ℕ) × (List ℕ × (ℤ × Option ℤ))))))
+        (coded× coded_ℤ (coded× (coded_option coded_ℤ) (coded× (coded_option (coded_list coded_ℕ)) (coded× (coded_option (coded_list coded_ℕ)) (coded× (coded_list coded_ℕ) (coded× coded_ℤ (coded_option coded_ℤ)))))))
+        (λ (h : Hold). (h.number, (h.deposit, (h.collection, (h.class, (h.matter, (h.placed, h.released)))))))
+        (λ p. record { number = p.0; deposit = p.1.0; collection = p.1.1.0; class = p.1.1.1.0; matter = p.1.1.1.1.0; placed = p.1.1.1.1.1.0; released = p.1.1.1.1.1.1 })
         (λ _. refl) };
 
     ghost view = { λ h. record {
       number = pos h.number;
       deposit = option_map pos h.deposit;
       collection = option_map string_bytes h.collection;
+      class = option_map string_bytes h.class;
       matter = string_bytes h.matter;
       placed = h.placed;
       released = h.released;
@@ -63,9 +66,10 @@ fn hold_in(row: &Row) -> Result<HoldRow, TableFault>
         number: row.get(0)?,
         deposit: row.get(1)?,
         collection: row.get(2)?,
-        matter: row.get(3)?,
-        placed: row.get(4)?,
-        released: row.get(5)?,
+        class: row.get(3)?,
+        matter: row.get(4)?,
+        placed: row.get(5)?,
+        released: row.get(6)?,
     })
 }
 
@@ -80,7 +84,7 @@ fn rows_of_hold<S: Alter>(tx: &mut Transaction<'_, S>, number: u32) -> Result<Ve
 {
     ask(
         tx,
-        "SELECT number, deposit, collection, matter, placed, released FROM hold WHERE number = ?1",
+        "SELECT number, deposit, collection, class, matter, placed, released FROM hold_4 WHERE number = ?1",
         params![number],
     )
 }
@@ -118,7 +122,7 @@ fn rows_of_last<S: Alter>(tx: &mut Transaction<'_, S>) -> Result<Vec<Row>, Table
 {
     ask(
         tx,
-        "SELECT number FROM hold ORDER BY number DESC LIMIT 1",
+        "SELECT number FROM hold_4 ORDER BY number DESC LIMIT 1",
         &[],
     )
 }
@@ -157,6 +161,8 @@ pub enum HoldTarget<'a> {
     Deposit(u32),
     /// Each deposit of the collection of that name.
     Collection(&'a str),
+    /// Each deposit of the class of that name.
+    Class(&'a str),
 }
 
 /// Adds a live hold.
@@ -165,6 +171,7 @@ fn add_hold<S: Alter>(
     number: u32,
     deposit: Option<u32>,
     collection: Option<&str>,
+    class: Option<&str>,
     matter: &str,
     placed: i64,
 ) -> Result<(), TableFault>
@@ -176,6 +183,7 @@ fn add_hold<S: Alter>(
       number = pos number;
       deposit = option_map pos deposit;
       collection = option_map (λ c. c.now) collection.entry;
+      class = option_map (λ c. c.now) class.entry;
       matter = matter.now;
       placed = placed;
       released = None;
@@ -185,8 +193,8 @@ fn add_hold<S: Alter>(
 {
     change(
         tx,
-        "INSERT INTO hold (number, deposit, collection, matter, placed) VALUES (?1, ?2, ?3, ?4, ?5)",
-        params![number, deposit, collection, matter, placed],
+        "INSERT INTO hold_4 (number, deposit, collection, class, matter, placed) VALUES (?1, ?2, ?3, ?4, ?5, ?6)",
+        params![number, deposit, collection, class, matter, placed],
     )?;
     Ok(())
 }
@@ -209,6 +217,7 @@ pub fn put_hold<S: Alter>(
       number = pos number;
       deposit = held_deposit target.entry;
       collection = held_collection target.entry;
+      class = held_class target.entry;
       matter = matter.now;
       placed = placed;
       released = None;
@@ -217,8 +226,13 @@ pub fn put_hold<S: Alter>(
     ensures once { LeavesOnce S.Store tx.old.conn.now tx.new.conn.now result }
 {
     match target {
-        HoldTarget::Deposit(deposit) => add_hold(tx, number, Some(deposit), None, matter, placed),
-        HoldTarget::Collection(name) => add_hold(tx, number, None, Some(name), matter, placed),
+        HoldTarget::Deposit(deposit) => {
+            add_hold(tx, number, Some(deposit), None, None, matter, placed)
+        }
+        HoldTarget::Collection(name) => {
+            add_hold(tx, number, None, Some(name), None, matter, placed)
+        }
+        HoldTarget::Class(name) => add_hold(tx, number, None, None, Some(name), matter, placed),
     }
 }
 
@@ -239,7 +253,7 @@ pub fn end_hold<S: Alter>(
 {
     change(
         tx,
-        "UPDATE hold SET released = ?2 WHERE number = ?1",
+        "UPDATE hold_4 SET released = ?2 WHERE number = ?1",
         params![number, day],
     )?;
     Ok(())
@@ -259,7 +273,7 @@ fn rows_of_holds_on<S: Alter>(
 {
     ask(
         tx,
-        "SELECT number FROM hold WHERE deposit = ?1 AND released IS NULL ORDER BY number",
+        "SELECT number FROM hold_4 WHERE deposit = ?1 AND released IS NULL ORDER BY number",
         params![deposit],
     )
 }
@@ -279,8 +293,30 @@ fn rows_of_holds_within<S: Alter>(
 {
     ask(
         tx,
-        "SELECT number FROM hold WHERE collection = ?2 AND deposit IS NOT ?1 AND released IS NULL ORDER BY number",
+        "SELECT number FROM hold_4 WHERE collection = ?2 AND deposit IS NOT ?1 AND released IS NULL ORDER BY number",
         params![deposit, collection],
+    )
+}
+
+/// The rows that show the numbers of the live holds on the class, without those on the deposit or on the
+/// collection.
+fn rows_of_holds_of_class<S: Alter>(
+    tx: &mut Transaction<'_, S>,
+    deposit: u32,
+    collection: &str,
+    class: &str,
+) -> Result<Vec<Row>, TableFault>
+    ensures same_reference { tx.new.conn.ghost_name ≡ tx.old.conn.ghost_name }
+    ensures stays { CommitsNothing S.Store tx.old.conn.now tx.new.conn.now }
+    ensures goes_on { Continues S.Store tx.old.conn.now tx.new.conn.now result }
+    ensures failure { IfErr result IsFailure }
+    ensures found { Shows S.Store tx.old.conn.now tx.new.conn.now result (λ tables rows.
+        map (λ h. h.number) (filter (is_live_of_class (pos deposit) collection.now class.now) tables.holds) ≡ map (λ row. int_at row 0) rows.items) }
+{
+    ask(
+        tx,
+        "SELECT number FROM hold_4 WHERE class = ?3 AND deposit IS NOT ?1 AND collection IS NOT ?2 AND released IS NULL ORDER BY number",
+        params![deposit, collection, class],
     )
 }
 
@@ -295,7 +331,8 @@ fn add_numbers(numbers: &mut Vec<u32>, rows: &[Row]) -> Result<(), TableFault>
     Ok(())
 }
 
-/// The numbers of the live holds on the deposit of that number or on the collection of that name, ascending.
+/// The numbers of the live holds on the deposit of that number, on the collection of that name or on the
+/// class of that name, ascending.
 ///
 /// Fails with `Memory` or `Store`.
 pub fn live_holds<S: Alter>(
@@ -303,6 +340,7 @@ pub fn live_holds<S: Alter>(
     tx: &mut Transaction<'_, S>,
     deposit: u32,
     collection: &str,
+    class: &str,
 ) -> Result<Vec<u32>, TableFault>
     ensures same_reference { tx.new.conn.ghost_name ≡ tx.old.conn.ghost_name }
     ensures stays { CommitsNothing S.Store tx.old.conn.now tx.new.conn.now }
@@ -310,22 +348,24 @@ pub fn live_holds<S: Alter>(
     ensures failure { IfErr result IsFailure }
     ensures same { Keeps S.Store tx.old.conn.now tx.new.conn.now result }
     ensures found { Tells S.Store tx.old.conn.now tx.new.conn.now result (λ tables numbers.
-        map pos numbers.items ≡ live_holds (pos deposit) collection.now tables) }
+        map pos numbers.items ≡ live_holds (pos deposit) collection.now class.now tables) }
 {
     let on_deposit = rows_of_holds_on(tx, deposit)?;
     let on_collection = rows_of_holds_within(tx, deposit, collection)?;
+    let on_class = rows_of_holds_of_class(tx, deposit, collection, class)?;
     let mut numbers = Vec::new(alloc);
     add_numbers(&mut numbers, &on_deposit)?;
     add_numbers(&mut numbers, &on_collection)?;
+    add_numbers(&mut numbers, &on_class)?;
     numbers.sort_unstable();
     Ok(numbers)
 }
 
-/// A row where some hold on the deposit has a day of release before the first or after the last of these
+/// A row where some hold on that target has a day of release before the first or after the last of these
 /// days, and else none.
-fn rows_of_releases_on<S: Alter>(
+fn rows_of_releases<S: Alter>(
     tx: &mut Transaction<'_, S>,
-    deposit: u32,
+    target: HoldTarget<'_>,
     first: i64,
     last: i64,
 ) -> Result<Vec<Row>, TableFault>
@@ -334,52 +374,54 @@ fn rows_of_releases_on<S: Alter>(
     ensures goes_on { Continues S.Store tx.old.conn.now tx.new.conn.now result }
     ensures failure { IfErr result IsFailure }
     ensures found { Shows S.Store tx.old.conn.now tx.new.conn.now result (λ tables rows.
-        list_any (is_outside_on first last (pos deposit)) tables.holds ≡ list_any (λ r. true) rows.items) }
+        list_any (is_outside_of (is_on target.entry) first last) tables.holds ≡ list_any (λ r. true) rows.items) }
 {
-    ask(
-        tx,
-        "SELECT number FROM hold WHERE deposit = ?1 AND (released < ?2 OR released > ?3) LIMIT 1",
-        params![deposit, first, last],
-    )
+    match target {
+        HoldTarget::Deposit(number) => ask(
+            tx,
+            "SELECT number FROM hold_4 WHERE deposit = ?1 AND (released < ?2 OR released > ?3) LIMIT 1",
+            params![number, first, last],
+        ),
+        HoldTarget::Collection(name) => ask(
+            tx,
+            "SELECT number FROM hold_4 WHERE collection = ?1 AND (released < ?2 OR released > ?3) LIMIT 1",
+            params![name, first, last],
+        ),
+        HoldTarget::Class(name) => ask(
+            tx,
+            "SELECT number FROM hold_4 WHERE class = ?1 AND (released < ?2 OR released > ?3) LIMIT 1",
+            params![name, first, last],
+        ),
+    }
 }
 
-/// A row where some hold on the collection has a day of release before the first or after the last of these
-/// days, and else none.
-fn rows_of_releases_within<S: Alter>(
+/// Whether some hold on that target has a day of release before the first or after the last of these days.
+fn has_release<S: Alter>(
     tx: &mut Transaction<'_, S>,
-    collection: &str,
+    target: HoldTarget<'_>,
     first: i64,
     last: i64,
-) -> Result<Vec<Row>, TableFault>
+) -> Result<bool, TableFault>
     ensures same_reference { tx.new.conn.ghost_name ≡ tx.old.conn.ghost_name }
     ensures stays { CommitsNothing S.Store tx.old.conn.now tx.new.conn.now }
     ensures goes_on { Continues S.Store tx.old.conn.now tx.new.conn.now result }
     ensures failure { IfErr result IsFailure }
-    ensures found { Shows S.Store tx.old.conn.now tx.new.conn.now result (λ tables rows.
-        list_any (is_outside_within first last collection.now) tables.holds ≡ list_any (λ r. true) rows.items) }
+    ensures found { Shows S.Store tx.old.conn.now tx.new.conn.now result (λ tables found.
+        found ≡ list_any (is_outside_of (is_on target.entry) first last) tables.holds) }
 {
-    ask(
-        tx,
-        "SELECT number FROM hold WHERE collection = ?1 AND (released < ?2 OR released > ?3) LIMIT 1",
-        params![collection, first, last],
-    )
+    let rows = rows_of_releases(tx, target, first, last)?;
+    Ok(!rows.is_empty())
 }
 
-/// Whether there is a row among these or those.
-fn are_some(rows: &[Row], more: &[Row]) -> bool
-    ensures { result ≡ (list_any (λ r. true) rows.now || list_any (λ r. true) more.now) }
-{
-    !rows.is_empty() || !more.is_empty()
-}
-
-/// Whether a hold on the deposit of that number or on the collection of that name has a day of release
-/// before the first or after the last of these days.
+/// Whether a hold on the deposit of that number, on the collection of that name or on the class of that name
+/// has a day of release before the first or after the last of these days.
 ///
 /// Fails with `Memory` or `Store`.
 pub fn has_release_outside<S: Alter>(
     tx: &mut Transaction<'_, S>,
     deposit: u32,
     collection: &str,
+    class: &str,
     first: i64,
     last: i64,
 ) -> Result<bool, TableFault>
@@ -389,9 +431,10 @@ pub fn has_release_outside<S: Alter>(
     ensures failure { IfErr result IsFailure }
     ensures same { Keeps S.Store tx.old.conn.now tx.new.conn.now result }
     ensures found { Tells S.Store tx.old.conn.now tx.new.conn.now result (λ tables found.
-        found ≡ list_any (is_released_outside first last (pos deposit) collection.now) tables.holds) }
+        found ≡ list_any (is_released_outside first last (pos deposit) collection.now class.now) tables.holds) }
 {
-    let on_deposit = rows_of_releases_on(tx, deposit, first, last)?;
-    let on_collection = rows_of_releases_within(tx, collection, first, last)?;
-    Ok(are_some(&on_deposit, &on_collection))
+    let on_deposit = has_release(tx, HoldTarget::Deposit(deposit), first, last)?;
+    let on_collection = has_release(tx, HoldTarget::Collection(collection), first, last)?;
+    let on_class = has_release(tx, HoldTarget::Class(class), first, last)?;
+    Ok(on_deposit | on_collection | on_class)
 }

@@ -10,9 +10,11 @@ mod files;
 mod holds;
 mod kept;
 pub mod laws;
+mod moving;
 mod opening;
 mod policy;
 mod run;
+mod version;
 
 pub use classes::{class_of, has_collection, put_class, put_collection};
 pub use creating::create;
@@ -21,8 +23,8 @@ pub use deposits::{
     put_deposit,
 };
 pub use dues::{
-    ClosingRow, DepositAndDue, DueRow, PlaceRow, add_holds, deposits_and_dues, due_row, due_rows,
-    rows_of_class, set_due, set_holds,
+    ClosingRow, DepositAndDue, DueRow, PlaceRow, add_holds, add_holds_class, deposits_and_dues,
+    due_row, due_rows, rows_of_class, set_due, set_holds,
 };
 pub use fault::TableFault;
 pub use files::{FileRow, drop_files, file_of, files_of, put_file, put_marked};
@@ -30,5 +32,7 @@ pub use holds::{
     HoldRow, HoldTarget, end_hold, has_release_outside, hold_row, last_hold, live_holds, put_hold,
 };
 pub use kept::{ContentSize, contents};
-pub use opening::{OfficeLimits, limits, open_tables};
+pub use moving::{renew_fourth, renew_third};
+pub use opening::{OfficeLimits, limits, open_tables, version_told};
 pub use policy::{CallerRow, RuleRow, match_rule, put_policy, role_of, rules};
+pub use version::TableVersion;

@@ -53,11 +53,15 @@ fn version_among(rows: &[Row]) -> Option<i64>
     None
 }
 
-/// The version that the table `office` shows.
-fn look<S: Alter>(tx: &mut Transaction<'_, S>) -> Result<Option<i64>, TableFault>
+/// The version that the table `office` shows: that of the first row 1 of whole numbers with limits in range, by version.
+///
+/// Fails with `Memory` or `Store`.
+pub fn version_told<S: Alter>(tx: &mut Transaction<'_, S>) -> Result<Option<i64>, TableFault>
     ensures same_reference { tx.new.conn.ghost_name ≡ tx.old.conn.ghost_name }
     ensures stays { CommitsNothing S.Store tx.old.conn.now tx.new.conn.now }
+    ensures goes_on { Continues S.Store tx.old.conn.now tx.new.conn.now result }
     ensures failure { IfErr result IsFailure }
+    ensures same { HasCleanDisk (state S.Store tx.new.conn.now) → OnOk result ((state S.Store tx.new.conn.now).now ≡ (state S.Store tx.old.conn.now).now) }
     ensures shown { HasCleanDisk (state S.Store tx.new.conn.now) → IfOk result (ShowsVersion (state S.Store tx.old.conn.now).now) }
 {
     let rows = ask(
@@ -84,7 +88,7 @@ fn has_office(schema: &Schema) -> bool
         && table.column_named(b"max_holds").is_some()
 }
 
-/// Finds by the table `office` whether the database is an office whose tables are of version 3. No answer changes a row, as long as
+/// Finds by the table `office` whether the database is an office whose tables are of version 5. No answer changes a row, as long as
 /// the connection is open.
 ///
 /// Fails with `NotAnOffice` where there is no table `office` with its columns, or no row 1 in it of whole numbers with limits from
@@ -112,10 +116,10 @@ pub fn open_tables<S: Alter>(conn: &mut Connection<S>) -> Result<(), TableFault>
         return Err(TableFault::NotAnOffice);
     }
     let mut tx = conn.transaction();
-    let seen = look(&mut tx);
+    let seen = version_told(&mut tx);
     tx.rollback();
     match seen {
-        Ok(Some(3)) => Ok(()),
+        Ok(Some(5)) => Ok(()),
         Ok(Some(_)) => Err(TableFault::OtherVersion),
         Ok(None) => Err(TableFault::NotAnOffice),
         Err(failure) => Err(failure),

@@ -45,6 +45,9 @@ pub struct RuleRow {
     pub action: String,
     pub collection: String,
     pub class: String,
+    /// The days, both included, between which it counts, as day numbers.
+    pub first: i64,
+    pub last: i64,
 }
 
 impl Model for RuleRow {
@@ -54,10 +57,10 @@ impl Model for RuleRow {
 
     ghost Value = { Rule };
 
-    ghost coded = { code_by (ℤ × (ℤ × (List ℕ × (List ℕ × (List ℕ × List ℕ)))))
-        (coded× coded_ℤ (coded× coded_ℤ (coded× (coded_list coded_ℕ) (coded× (coded_list coded_ℕ) (coded× (coded_list coded_ℕ) (coded_list coded_ℕ))))))
-        (λ (r : Rule). (r.place, (r.effect, (r.role, (r.action, (r.collection, r.class))))))
-        (λ p. record { place = p.0; effect = p.1.0; role = p.1.1.0; action = p.1.1.1.0; collection = p.1.1.1.1.0; class = p.1.1.1.1.1 })
+    ghost coded = { code_by (ℤ × (ℤ × (List ℕ × (List ℕ × (List ℕ × (List ℕ × (ℤ × ℤ)))))))
+        (coded× coded_ℤ (coded× coded_ℤ (coded× (coded_list coded_ℕ) (coded× (coded_list coded_ℕ) (coded× (coded_list coded_ℕ) (coded× (coded_list coded_ℕ) (coded× coded_ℤ coded_ℤ)))))))
+        (λ (r : Rule). (r.place, (r.effect, (r.role, (r.action, (r.collection, (r.class, (r.first, r.last))))))))
+        (λ p. record { place = p.0; effect = p.1.0; role = p.1.1.0; action = p.1.1.1.0; collection = p.1.1.1.1.0; class = p.1.1.1.1.1.0; first = p.1.1.1.1.1.1.0; last = p.1.1.1.1.1.1.1 })
         (λ _. refl) };
 
     ghost view = { λ r. record {
@@ -67,6 +70,8 @@ impl Model for RuleRow {
       action = string_bytes r.action;
       collection = string_bytes r.collection;
       class = string_bytes r.class;
+      first = r.first;
+      last = r.last;
     } };
 }
 
@@ -123,7 +128,7 @@ fn rows_of_rules<S: Alter>(tx: &mut Transaction<'_, S>) -> Result<Vec<Row>, Tabl
 {
     ask(
         tx,
-        "SELECT place, effect, role, action, collection, class FROM rule ORDER BY place",
+        "SELECT place, effect, role, action, collection, class, first, last FROM rule_5 ORDER BY place",
         &[],
     )
 }
@@ -140,6 +145,8 @@ fn rule_in(row: &Row) -> Result<RuleRow, TableFault>
         action: row.get(3)?,
         collection: row.get(4)?,
         class: row.get(5)?,
+        first: row.get(6)?,
+        last: row.get(7)?,
     })
 }
 
@@ -181,23 +188,24 @@ fn rows_of_match<S: Alter>(
     action: &str,
     collection: &str,
     class: &str,
+    day: i64,
 ) -> Result<Vec<Row>, TableFault>
     ensures same_reference { tx.new.conn.ghost_name ≡ tx.old.conn.ghost_name }
     ensures stays { CommitsNothing S.Store tx.old.conn.now tx.new.conn.now }
     ensures goes_on { Continues S.Store tx.old.conn.now tx.new.conn.now result }
     ensures failure { IfErr result IsFailure }
     ensures found { Shows S.Store tx.old.conn.now tx.new.conn.now result (λ tables rows.
-        matching_rule role.now action.now collection.now class.now tables.rules ≡ option_map shown_rule (slice_get rows.items 0)) }
+        matching_rule role.now action.now collection.now class.now day tables.rules ≡ option_map shown_rule (slice_get rows.items 0)) }
 {
     ask(
         tx,
-        "SELECT place, effect, role, action, collection, class FROM rule WHERE role IN ('*', ?1) AND action IN ('*', ?2) AND collection IN ('*', ?3) AND class IN ('*', ?4) ORDER BY place LIMIT 1",
-        params![role, action, collection, class],
+        "SELECT place, effect, role, action, collection, class, first, last FROM rule_5 WHERE role IN ('*', ?1) AND action IN ('*', ?2) AND collection IN ('*', ?3) AND class IN ('*', ?4) AND first <= ?5 AND last >= ?5 ORDER BY place LIMIT 1",
+        params![role, action, collection, class, day],
     )
 }
 
-/// The rule of the least place whose texts are `*` or these; an absent name is the empty text. `None`
-/// where no rule matches.
+/// The rule of the least place whose texts are `*` or these, and that counts on the day of that number; an absent
+/// name is the empty text. `None` where no rule matches.
 ///
 /// Fails with `Memory` or `Store`.
 pub fn match_rule<S: Alter>(
@@ -206,6 +214,7 @@ pub fn match_rule<S: Alter>(
     action: &str,
     collection: &str,
     class: &str,
+    day: i64,
 ) -> Result<Option<RuleRow>, TableFault>
     ensures same_reference { tx.new.conn.ghost_name ≡ tx.old.conn.ghost_name }
     ensures stays { CommitsNothing S.Store tx.old.conn.now tx.new.conn.now }
@@ -213,9 +222,9 @@ pub fn match_rule<S: Alter>(
     ensures failure { IfErr result IsFailure }
     ensures same { Keeps S.Store tx.old.conn.now tx.new.conn.now result }
     ensures found { Tells S.Store tx.old.conn.now tx.new.conn.now result (λ tables found.
-        found ≡ matching_rule role.now action.now collection.now class.now tables.rules) }
+        found ≡ matching_rule role.now action.now collection.now class.now day tables.rules) }
 {
-    let rows = rows_of_match(tx, role, action, collection, class)?;
+    let rows = rows_of_match(tx, role, action, collection, class, day)?;
     match rows.first() {
         Some(row) => Ok(Some(rule_in(row)?)),
         None => Ok(None),
@@ -243,7 +252,7 @@ fn drop_rules<S: Alter>(tx: &mut Transaction<'_, S>) -> Result<usize, TableFault
     ensures becomes { Writes S.Store tx.old.conn.now tx.new.conn.now result without_rules }
     ensures once { LeavesOnce S.Store tx.old.conn.now tx.new.conn.now result }
 {
-    change(tx, "DELETE FROM rule", &[])
+    change(tx, "DELETE FROM rule_5", &[])
 }
 
 /// Adds a caller at the end.
@@ -275,19 +284,21 @@ fn add_rule<S: Alter>(
     action: &str,
     collection: &str,
     class: &str,
+    first: i64,
+    last: i64,
 ) -> Result<usize, TableFault>
     ensures same_reference { tx.new.conn.ghost_name ≡ tx.old.conn.ghost_name }
     ensures stays { CommitsNothing S.Store tx.old.conn.now tx.new.conn.now }
     ensures goes_on { Continues S.Store tx.old.conn.now tx.new.conn.now result }
     ensures failure { IfErr result IsFailure }
     ensures becomes { Writes S.Store tx.old.conn.now tx.new.conn.now result
-        (with_rule (record { place = place; effect = effect; role = role.now; action = action.now; collection = collection.now; class = class.now })) }
+        (with_rule (record { place = place; effect = effect; role = role.now; action = action.now; collection = collection.now; class = class.now; first = first; last = last })) }
     ensures once { LeavesOnce S.Store tx.old.conn.now tx.new.conn.now result }
 {
     change(
         tx,
-        "INSERT INTO rule (place, effect, role, action, collection, class) VALUES (?1, ?2, ?3, ?4, ?5, ?6)",
-        params![place, effect, role, action, collection, class],
+        "INSERT INTO rule_5 (place, effect, role, action, collection, class, first, last) VALUES (?1, ?2, ?3, ?4, ?5, ?6, ?7, ?8)",
+        params![place, effect, role, action, collection, class, first, last],
     )
 }
 
@@ -327,6 +338,8 @@ fn add_rules<S: Alter>(tx: &mut Transaction<'_, S>, rules: &[RuleRow]) -> Result
             &rule.action,
             &rule.collection,
             &rule.class,
+            rule.first,
+            rule.last,
         )?;
     }
     Ok(())

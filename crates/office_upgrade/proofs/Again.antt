@@ -8,11 +8,10 @@ use Rattle.sqlite_trees.specs.Objects.{catalog_tree}
 use Rattle.sqlite_catalog.specs.Listing.{Lists}
 use Rattle.sqlite_catalog.proofs.ReadLemmas.{lists_once}
 use Rattle.office_tables.specs.Opening.{KeepsTables}
-use Rattle.office_upgrade.specs.Rows.{AllRows}
-use Rattle.office_upgrade.specs.Versions.{BecomesAt}
-use Rattle.office_upgrade.specs.Upgrading.{IsOfficeOf, IsUpgrade, IsLeftAt, Tells, Upgrades, UpgradeLasts, TakesUp, KeepsOffice, LeavesOffice, renewed}
-use Rattle.office_upgrade.specs.declared.version.TableVersion.{TableVersion}
-use Rattle.office_upgrade.specs.declared.version.TableVersion.TheVariants.{Fifth}
+use Rattle.office_tables.specs.Moving.{AllRows, BecomesAt, renewed}
+use Rattle.office_upgrade.specs.Upgrading.{IsOfficeOf, IsUpgrade, IsLeftAt, Tells, Upgrades, UpgradeLasts, TakesUp, KeepsOffice, LeavesOffice}
+use Rattle.office_tables.specs.declared.version.TableVersion.{TableVersion}
+use Rattle.office_tables.specs.declared.version.TableVersion.TheVariants.{Fifth}
 
 -- trees list one schema
 same_database : (a b : Database) → IsDatabase a → IsDatabase b → a.trees ≡ b.trees → a ≡ b

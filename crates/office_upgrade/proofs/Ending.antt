@@ -14,12 +14,13 @@ use Rattle.office_tables.specs.Opening.{ShowsVersion}
 use Rattle.office_tables.specs.Faults.{IsFailure}
 use Rattle.office_tables.specs.declared.fault.TableFault.{TableFault}
 use Rattle.office_tables.specs.declared.fault.TableFault.TheVariants.{NotAnOffice, OtherVersion, Memory, Store}
-use Rattle.office_upgrade.specs.Rows.{AllRows, version_of}
-use Rattle.office_upgrade.specs.Versions.{BecomesAt, version_number}
-use Rattle.office_upgrade.specs.Upgrading.{IsOfficeOf, IsRenewed, IsUpgrade, IsLeftAt, HasUnknownVersion, renewed}
-use Rattle.office_upgrade.specs.declared.version.TableVersion.{TableVersion}
-use Rattle.office_upgrade.specs.declared.version.TableVersion.TheVariants.{Fifth}
-use Rattle.office_upgrade.proofs.Known.{tells_version}
+use Rattle.office_rows.specs.Rows.{version_of}
+use Rattle.office_tables.specs.Moving.{AllRows, BecomesAt, renewed}
+use Rattle.office_tables.specs.Versions.{version_number}
+use Rattle.office_upgrade.specs.Upgrading.{IsOfficeOf, IsRenewed, IsUpgrade, IsLeftAt, HasUnknownVersion}
+use Rattle.office_tables.specs.declared.version.TableVersion.{TableVersion}
+use Rattle.office_tables.specs.declared.version.TableVersion.TheVariants.{Fifth}
+use Rattle.office_tables.proofs.OpenLemmas.{tells_version}
 
 -- the version that was seen is that of the office
 pub same_version : (version : TableVersion) (rows : AllRows) (db : Database) (seen : ℤ) → IsOfficeOf version db rows → ShowsVersion db (Some seen) → seen ≡ version_number version

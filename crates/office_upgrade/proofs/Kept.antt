@@ -4,11 +4,10 @@ use Rattle.sqlite.specs.Effect.{Database}
 use Rattle.office_rows.specs.Rows.{ContentRow, FileRow}
 use Rattle.office_tables.specs.Tables.{contents_of}
 use Rattle.office_tables.specs.Contents.{references_of, AreKeptOnce, KeepsOnce, AreContents}
-use Rattle.office_upgrade.specs.Rows.{AllRows}
-use Rattle.office_upgrade.specs.Versions.{BecomesAt, tables_at}
-use Rattle.office_upgrade.specs.Upgrading.{renewed}
-use Rattle.office_upgrade.specs.declared.version.TableVersion.{TableVersion}
-use Rattle.office_upgrade.specs.declared.version.TableVersion.TheVariants.{Third, Fourth, Fifth}
+use Rattle.office_tables.specs.Moving.{AllRows, BecomesAt, renewed}
+use Rattle.office_tables.specs.Versions.{tables_at}
+use Rattle.office_tables.specs.declared.version.TableVersion.{TableVersion}
+use Rattle.office_tables.specs.declared.version.TableVersion.TheVariants.{Third, Fourth, Fifth}
 
 abbrev contents_in : AllRows → List ContentRow
 contents_in rows = rows.contents

@@ -1,9 +1,3 @@
-pub mod Texts
-pub mod Holds
-pub mod Rules
-pub mod Versioned
-pub mod Known
 pub mod Ending
 pub mod Again
-pub mod Fresh
 pub mod Kept

@@ -1,3 +1,1 @@
-pub mod Rows
-pub mod Versions
 pub mod Upgrading

@@ -1,21 +1,15 @@
 -- What a call makes of an office whose tables are of one version, and what an upgrade leaves. `old` is the connection
 -- before it and `new` the connection after it.
-use Rattle.std.specs.Prelude.{◌⊎◌, ◌≡◌, ◌≢◌, ℤ, pos, Result, OnOk, IsTrue, Some}
+use Rattle.std.specs.Prelude.{◌⊎◌, ◌≡◌, ◌≢◌, ℤ, IsTrue, Some}
 use Rattle.sqlite.specs.Effect.{Database}
 use Rattle.sqlite.specs.Tree.{Trees}
-use Rattle.sqlite.specs.Store.{Ghosts}
-use Rattle.sqlite.specs.State.{State, HasCleanDisk}
-use Rattle.sqlite.specs.Held.{Held, state}
+use Rattle.sqlite.specs.State.{State}
+use Rattle.office_rows.specs.Rows.{version_of}
 use Rattle.office_tables.specs.Opening.{HasVersion}
-use Rattle.office_upgrade.specs.Rows.{AllRows, all_in_version, version_of}
-use Rattle.office_upgrade.specs.Versions.{BecomesAt, version_number}
-use Rattle.office_upgrade.specs.declared.version.TableVersion.{TableVersion}
-use Rattle.office_upgrade.specs.declared.version.TableVersion.TheVariants.{Third, Fourth, Fifth}
-
--- from the tables of one version to those of another, with the same rows
-abbrev pub Moves : {S T E : Type 0} → Ghosts S → TableVersion → TableVersion → Held S → Held S → Result T E → Type 0
-Moves g from to old new result = HasCleanDisk (state g new) → (rows : AllRows) → BecomesAt from (state g old).now rows
-    → OnOk result (BecomesAt to (state g new).now rows)
+use Rattle.office_tables.specs.Moving.{AllRows, BecomesAt, renewed}
+use Rattle.office_tables.specs.Versions.{version_number}
+use Rattle.office_tables.specs.declared.version.TableVersion.{TableVersion}
+use Rattle.office_tables.specs.declared.version.TableVersion.TheVariants.{Fifth}
 
 -- the rows tell the version
 abbrev pub Tells : TableVersion → AllRows → Type 0
@@ -25,12 +19,6 @@ Tells version rows = version_of rows.tables ≡ Some (version_number version)
 pub record IsOfficeOf (version : TableVersion) (db : Database) (rows : AllRows) : Type 0 where
   pub becomes : BecomesAt version db rows
   pub told : Tells version rows
-
--- the rows after an upgrade
-abbrev pub renewed : TableVersion → AllRows → AllRows
-renewed Third rows = all_in_version (pos 5) rows
-renewed Fourth rows = all_in_version (pos 5) rows
-renewed Fifth rows = rows
 
 -- what a crash may leave, where it leaves the trees of an office of that version with these rows
 abbrev pub IsLeftAt : TableVersion → AllRows → Trees → Type 0

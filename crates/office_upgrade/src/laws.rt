@@ -4,11 +4,10 @@ ghost use Rattle.std.specs.Prelude.{map};
 ghost use Rattle.sqlite.specs.Effect.{Database};
 ghost use Rattle.office_tables.specs.Tables.{contents_of};
 ghost use Rattle.office_tables.specs.Contents.{AreContents, KeepsOnce};
-ghost use Rattle.office_upgrade.specs.Rows.{AllRows};
-ghost use Rattle.office_upgrade.specs.Versions.{BecomesAt, tables_at};
-ghost use Rattle.office_upgrade.specs.Upgrading.{renewed};
-ghost use Rattle.office_upgrade.specs.declared.version.TableVersion.{TableVersion as Version};
-ghost use Rattle.office_upgrade.specs.declared.version.TableVersion.TheVariants.{Fifth};
+ghost use Rattle.office_tables.specs.Moving.{AllRows, BecomesAt, renewed};
+ghost use Rattle.office_tables.specs.Versions.{tables_at};
+ghost use Rattle.office_tables.specs.declared.version.TableVersion.{TableVersion as Version};
+ghost use Rattle.office_tables.specs.declared.version.TableVersion.TheVariants.{Fifth};
 
 /// What is told of contents goes through an upgrade: contents that were kept once still are, and contents that
 /// were exactly those of the files still are.

@@ -1,16 +1,18 @@
 //! An office that is opened, whatever known version its tables have.
 
-ghost use Rattle.std.specs.Prelude.{Err, ◌≡◌, false, IfOk, IfErr, IsTrue};
+ghost use Rattle.std.specs.Prelude.{Err, Some, ◌≡◌, false, IfOk, IfErr, IsTrue};
 ghost use Rattle.sqlite.specs.State.{HasCleanDisk, Survives};
 ghost use Rattle.sqlite.specs.Held.{state};
+ghost use Rattle.office_rows.specs.Rows.{this_version, version_of};
 ghost use Rattle.office_tables.specs.Faults.{IsFailure};
+ghost use Rattle.office_tables.specs.Tables.{IsOffice, tables_of};
 ghost use Rattle.office_tables.specs.Opening as opening;
 ghost use Rattle.office_tables.specs.Opening.{KeepsTables, HasVersion, has_office};
 ghost use Rattle.office_tables.specs.declared.fault.TableFault.TheVariants.{NotAnOffice, OtherVersion};
-ghost use Rattle.office_upgrade.specs.Rows.{AllRows};
-ghost use Rattle.office_upgrade.specs.Versions.{version_number};
+ghost use Rattle.office_tables.specs.Moving.{AllRows};
+ghost use Rattle.office_tables.specs.Versions.{version_number};
 ghost use Rattle.office_upgrade.specs.Upgrading.{IsUpgrade, IsOfficeOf, IsLeftAt, Tells, Upgrades, UpgradeLasts, TakesUp, KeepsOffice, LeavesOffice, HasUnknownVersion};
-ghost use Rattle.office_upgrade.specs.declared.version.TableVersion.{TableVersion as Version};
+ghost use Rattle.office_tables.specs.declared.version.TableVersion.{TableVersion as Version};
 
 use crate::upgrading::upgrade;
 use office_tables::TableFault;
@@ -27,6 +29,9 @@ pub fn upgrade_office<S: Alter>(
     requires outside { (state S.Store conn).in_transaction ≡ false }
     ensures outside { IfOk result (λ office. (state S.Store office).in_transaction ≡ false) }
     ensures was_open { IfOk result (λ office. HasCleanDisk (state S.Store office) → IsTrue (state S.Store conn).is_open) }
+    // Tables that are the newest stay as they are.
+    ensures newest { IfOk result (λ office. HasCleanDisk (state S.Store office) → IsOffice (state S.Store conn).now
+        → version_of (tables_of (state S.Store conn).now) ≡ Some this_version → KeepsTables (state S.Store conn) (state S.Store office)) }
     ensures upgraded { IfOk result (λ office. HasCleanDisk (state S.Store office) → Upgrades (state S.Store conn) (state S.Store office)) }
     ensures found { IfOk result (λ office. HasCleanDisk (state S.Store office) → TakesUp (state S.Store conn) (state S.Store office)) }
     ensures version { IfOk result (λ office. HasCleanDisk (state S.Store office) → IsTrue (has_office (state S.Store conn).now.schema)

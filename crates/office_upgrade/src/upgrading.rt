@@ -6,75 +6,21 @@ ghost use Rattle.sqlite.specs.Held.{state};
 ghost use Rattle.sqlite.specs.Order.{Row as SqlRow, column};
 ghost use Rattle.sqlite.specs.Tree.{Trees};
 ghost use Rattle.sqlite.specs.declared.types.Value.TheVariants.{Int};
+ghost use Rattle.office_rows.specs.Rows.{this_version, version_of};
 ghost use Rattle.office_tables.specs.Faults.{IsFailure};
+ghost use Rattle.office_tables.specs.Tables.{IsOffice, tables_of};
 ghost use Rattle.office_tables.specs.Calls.{CommitsNothing, Continues, ContinuesInTurn};
 ghost use Rattle.office_tables.specs.Opening.{shows_office, known_row, ShowsVersion, has_office, HasVersion, NotAnOffice, KeepsTables};
 ghost use Rattle.office_tables.specs.declared.fault.TableFault.TheVariants as fault;
-ghost use Rattle.office_upgrade.specs.Rows.{AllRows};
-ghost use Rattle.office_upgrade.specs.Versions.{BecomesAt, version_number};
-ghost use Rattle.office_upgrade.specs.Upgrading.{IsOfficeOf, IsUpgrade, IsRenewed, IsLeftAt, HasUnknownVersion, renewed};
-ghost use Rattle.office_upgrade.specs.declared.version.TableVersion.{TableVersion as Version};
-ghost use Rattle.office_upgrade.specs.declared.version.TableVersion.TheVariants.{Fifth};
+ghost use Rattle.office_tables.specs.Moving.{AllRows, BecomesAt, renewed};
+ghost use Rattle.office_tables.specs.Versions.{version_number};
+ghost use Rattle.office_upgrade.specs.Upgrading.{IsOfficeOf, IsUpgrade, IsRenewed, IsLeftAt, HasUnknownVersion};
+ghost use Rattle.office_tables.specs.declared.version.TableVersion.{TableVersion as Version};
+ghost use Rattle.office_tables.specs.declared.version.TableVersion.TheVariants.{Fifth};
 
-use crate::moving::{renew_fourth, renew_third};
-use crate::run::ask;
-use office_rows::is_limit;
-use office_tables::TableFault;
-use sqlite::types::ValueRef;
-use sqlite::{Alter, Connection, Row, Transaction};
+use office_tables::{TableFault, renew_fourth, renew_third, version_told};
+use sqlite::{Alter, Connection, Transaction};
 use sqlite_schema::schema::Schema;
-
-/// The version that a row tells, where it is the row of an office.
-fn version_in(row: &Row) -> Option<i64>
-    ensures { MatchOption result (shows_office row.now ≡ false) (λ version. (shows_office row.now ≡ true) × (column row.now 1 ≡ Int version)) }
-{
-    let Ok(ValueRef::Int(1)) = row.get_ref(0) else {
-        return None;
-    };
-    let Ok(ValueRef::Int(version)) = row.get_ref(1) else {
-        return None;
-    };
-    let Ok(ValueRef::Int(max_deposits)) = row.get_ref(2) else {
-        return None;
-    };
-    let Ok(ValueRef::Int(max_holds)) = row.get_ref(3) else {
-        return None;
-    };
-    if !is_limit(max_deposits) || !is_limit(max_holds) {
-        return None;
-    }
-    Some(version)
-}
-
-/// The version that the first row of an office among these tells.
-fn version_among(rows: &[Row]) -> Option<i64>
-    ensures { MatchOption result (known_row rows.now ≡ None)
-        (λ version. (row : SqlRow) × (known_row rows.now ≡ Some row) × (column row 1 ≡ Int version)) }
-{
-    for row in rows {
-        if let Some(version) = version_in(row) {
-            return Some(version);
-        }
-    }
-    None
-}
-
-/// The version that the table `office` shows.
-fn look<S: Alter>(tx: &mut Transaction<'_, S>) -> Result<Option<i64>, TableFault>
-    ensures same_reference { tx.new.conn.ghost_name ≡ tx.old.conn.ghost_name }
-    ensures stays { CommitsNothing S.Store tx.old.conn.now tx.new.conn.now }
-    ensures goes_on { Continues S.Store tx.old.conn.now tx.new.conn.now result }
-    ensures failure { IfErr result IsFailure }
-    ensures same { HasCleanDisk (state S.Store tx.new.conn.now) → OnOk result ((state S.Store tx.new.conn.now).now ≡ (state S.Store tx.old.conn.now).now) }
-    ensures shown { HasCleanDisk (state S.Store tx.new.conn.now) → IfOk result (ShowsVersion (state S.Store tx.old.conn.now).now) }
-{
-    let rows = ask(
-        tx,
-        "SELECT id, version, max_deposits, max_holds FROM office ORDER BY version",
-        &[],
-    )?;
-    Ok(version_among(&rows))
-}
 
 /// Whether the schema has a table `office` with its columns.
 fn has_office(schema: &Schema) -> bool
@@ -101,6 +47,7 @@ fn renew<S: Alter>(tx: &mut Transaction<'_, S>, version: i64) -> Result<bool, Ta
         → BecomesAt known (state S.Store tx.old.conn.now).now rows → BecomesAt Fifth (state S.Store tx.new.conn.now).now (renewed known rows)) }
     ensures known { OnOk result ((known : Version) × (version ≡ version_number known)) }
     ensures newest { result ≡ Ok false → (version ≡ version_number Fifth) × (tx.new ≡ tx.old) }
+    ensures older { result ≡ Ok true → version ≢ version_number Fifth }
     ensures is_office { result ≢ Err fault.NotAnOffice }
     ensures other { result ≡ Err fault.OtherVersion → (known : Version) → version ≢ version_number known }
 {
@@ -126,11 +73,13 @@ fn take_over<S: Alter>(tx: &mut Transaction<'_, S>) -> Result<bool, TableFault>
     ensures was_open { HasCleanDisk (state S.Store tx.new.conn.now) → OnOk result (IsTrue (state S.Store tx.old.conn.now).is_open) }
     ensures renewed { HasCleanDisk (state S.Store tx.new.conn.now) → OnOk result (IsRenewed (state S.Store tx.old.conn.now).now (state S.Store tx.new.conn.now).now) }
     ensures same { HasCleanDisk (state S.Store tx.new.conn.now) → result ≡ Ok false → (state S.Store tx.new.conn.now).now ≡ (state S.Store tx.old.conn.now).now }
+    ensures older { HasCleanDisk (state S.Store tx.new.conn.now) → result ≡ Ok true → IsOffice (state S.Store tx.old.conn.now).now
+        → version_of (tables_of (state S.Store tx.old.conn.now).now) ≢ Some this_version }
     ensures known { HasCleanDisk (state S.Store tx.new.conn.now) → OnOk result ((known : Version) × HasVersion (state S.Store tx.old.conn.now).now (version_number known)) }
     ensures not_office { HasCleanDisk (state S.Store tx.new.conn.now) → result ≡ Err fault.NotAnOffice → ShowsVersion (state S.Store tx.old.conn.now).now None }
     ensures other_version { HasCleanDisk (state S.Store tx.new.conn.now) → result ≡ Err fault.OtherVersion → HasUnknownVersion (state S.Store tx.old.conn.now).now }
 {
-    match look(tx)? {
+    match version_told(tx)? {
         Some(version) => renew(tx, version),
         None => Err(TableFault::NotAnOffice),
     }
@@ -155,6 +104,9 @@ pub fn upgrade<S: Alter>(conn: &mut Connection<S>) -> Result<(), TableFault>
         → (state S.Store conn.old).committed ≡ (state S.Store conn.old).now → IsTrue (state S.Store conn.old).is_open
         → (left : Trees) → (state S.Store conn.new).may_leave left → IsLeftAt Fifth (renewed version rows) left) }
     ensures was_open { HasCleanDisk (state S.Store conn.new) → OnOk result (IsTrue (state S.Store conn.old).is_open) }
+    // Tables that are the newest stay as they are.
+    ensures newest { HasCleanDisk (state S.Store conn.new) → OnOk result (IsOffice (state S.Store conn.old).now
+        → version_of (tables_of (state S.Store conn.old).now) ≡ Some this_version → KeepsTables (state S.Store conn.old) (state S.Store conn.new)) }
     ensures refused { HasCleanDisk (state S.Store conn.new) → OnErr result (KeepsTables (state S.Store conn.old) (state S.Store conn.new)) }
     ensures opened { HasCleanDisk (state S.Store conn.new) → OnOk result (IsTrue (has_office (state S.Store conn.old).now.schema)
         × ((known : Version) × HasVersion (state S.Store conn.old).now (version_number known))) }

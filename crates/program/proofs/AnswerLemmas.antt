@@ -1,10 +1,15 @@
 -- What is said is printed.
-use Rattle.std.proofs.Common.{◌≡◌, ap, ℕ, List, Option, Some, None, IfSome, Result, Ok, Err, IfErr, IfOk, MatchResult, subst}
+use Rattle.std.proofs.Common.{◌≡◌, ◌≢◌, ◌⊎◌, ap, inl, inr, ℕ, List, Option, Some, None, IfSome, Result, Ok, Err, IfErr, IfOk, MatchResult, subst, sym}
 use Rattle.std.specs.declared.io.Write.{Ghosts as Writes}
+use Rattle.commands.proofs.ExplainLemmas.{answers_dated}
+use Rattle.commands.specs.Printing.{IsAnswer}
+use Rattle.commands.specs.declared.asked.Asked.{Asked}
+use Rattle.commands.specs.declared.ending.Ending.{Ending}
+use Rattle.commands.specs.declared.ending.Ending.TheVariants.{Misused}
 use Rattle.commands.specs.declared.outcome.Outcome.{Outcome}
 use Rattle.desk_devices.specs.declared.counted.Counted.{Counted}
 use Rattle.office_commands.specs.declared.done.Done.{Done}
-use Rattle.program.specs.Answering.{Answers, IsPrinted, IsUnanswered, printed, unanswered}
+use Rattle.program.specs.Answering.{Answers, IsExplained, IsPrinted, IsUnanswered, printed, unanswered}
 use Rattle.program.specs.Streams.{counted_seen}
 use Rattle.program.specs.declared.stopped.Stopped.{Stopped}
 
@@ -16,6 +21,22 @@ either (Err e) P Q none is = is
 pub given_of : {T E : Type 0} (P : List ℕ → T → Type 0) (known : Option (List ℕ)) (r : Result T E) (x : T) → r ≡ Ok x → IfSome known (λ given. IfOk r (P given)) → IfSome known (λ given. P given x)
 given_of P None r x is says = tt
 given_of {T = T} {E = E} P (Some given) r x is says = subst (λ (r : Result T E). IfOk r (P given)) is says
+
+-- an explanation that is printed answers yes or no, unless no day is named
+pub explained_dated : {O : Type 0} (w : Writes O) (asked : Asked) (said : Result Outcome Stopped) (result : Result Done Stopped) (old new : Counted O) → IfOk said (IsExplained asked)
+    → MatchResult said (λ outcome. IsPrinted outcome result (counted_seen w old) (counted_seen w new)) (λ stopped. (result ≡ Err stopped) × (new ≡ old))
+    → IfOk result (λ done. IsAnswer done.ending ⊎ (asked.day ≡ None))
+explained_dated w asked (Ok outcome) (Ok done) old new says is =
+    subst (λ (ending : Ending). IsAnswer ending ⊎ (asked.day ≡ None)) (sym is.2) (answers_dated says.0 asked outcome says.1)
+explained_dated w asked said (Err stopped) old new says is = tt
+explained_dated w asked (Err stopped) (Ok done) old new says is = let never : Ok done ≡ Err stopped = is.0 in cc
+
+-- a run that answers yes or no, or fails, isn't misused
+pub used_dated : (ended : Result Done Stopped) (ending : Ending) (Undated : Type 0) → IfOk ended (λ done. IsAnswer done.ending ⊎ Undated)
+    → (IfOk ended (λ done. IsAnswer done.ending) → ending ≢ Misused) → ending ≡ Misused → Undated
+used_dated (Ok done) ending Undated (inl answer) used is = absurd (used answer is)
+used_dated (Ok done) ending Undated (inr undated) used is = undated
+used_dated (Err stopped) ending Undated answers used is = absurd (used tt is)
 
 module _ {O : Type 0} (w : Writes O) (IsSaid : Outcome → Type 0) (result : Result Done Stopped) (old new : Counted O) where
   -- it is printed, or there is nothing to say

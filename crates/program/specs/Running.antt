@@ -70,6 +70,15 @@ Does OnStore (Pack folder file) result was now = Answers IsPackSaid result was.o
 Does OnStore (Unpack file folder) result was now = Answers IsUnpackSaid result was.output now.output
 Does OnStore line result was now = IfSome (work_of line) (λ asked. DoesOnStore OnStore asked.store asked.work result was now)
 
+-- the line explains a policy, and names no day
+abbrev pub IsUndated : Line → Type 0
+IsUndated (Explain asked) = asked.day ≡ None
+IsUndated line = ⊥
+
+-- the words ask for such a line
+abbrev pub NameNoDay : List (List ℕ) → Type 0
+NameNoDay words = (line : Line) × Asks words line × IsUndated line
+
 -- ---- what is left alone
 
 -- the input is read for a check of `-`, and for work that reads it

@@ -1,11 +1,11 @@
 //! What each subcommand does, before standard error is told of it.
 
-ghost use Rattle.std.specs.Prelude.{◌≡◌, Err, IfOk, MatchResult, false};
+ghost use Rattle.std.specs.Prelude.{◌≡◌, ◌⊎◌, Err, IfOk, MatchResult, false};
 ghost use Rattle.sqlite.specs.WalFiles.{image_at};
 ghost use Rattle.office_commands.specs.Tasks.{reads_input as work_reads_input};
 ghost use Rattle.commands.specs.Printing.{IsAnswer};
 ghost use Rattle.program.specs.Answering.{IsPrinted};
-ghost use Rattle.program.specs.Running.{Does, DoesOnStore, is_on_store, on_store, reads_input};
+ghost use Rattle.program.specs.Running.{Does, DoesOnStore, IsUndated, is_on_store, on_store, reads_input};
 ghost use Rattle.program.specs.Streams.{counted_seen, seen_of};
 
 use crate::answering::{answer_check, answer_explain};
@@ -83,7 +83,7 @@ pub fn perform_line<S: Start, R: Read, O: Write, E: Write>(
     ensures input { reads_input line.now ≡ false → streams.new.input ≡ streams.old.input }
     ensures store { is_on_store line.now ≡ false → start.new ≡ start.old }
     ensures error { streams.new.error ≡ streams.old.error }
-    ensures answers { IfOk result (λ done. IsAnswer done.ending) }
+    ensures answers { IfOk result (λ done. IsAnswer done.ending ⊎ IsUndated line.now) }
 {
     match line {
         Line::Check { file } => say(

@@ -1,13 +1,13 @@
 //! The program's whole work.
 
-ghost use Rattle.std.specs.Prelude.{◌≡◌, ◌≢◌, ℕ, List};
+ghost use Rattle.std.specs.Prelude.{◌≡◌, ◌⊎◌, ℕ, List};
 ghost use Rattle.sqlite.specs.WalFiles.{image_at};
 ghost use Rattle.bag_text.specs.Text.{texts};
 ghost use Rattle.commands.specs.declared.ending.Ending.TheVariants.{Misused};
 ghost use Rattle.command_line.specs.Lines.{AskNothing, Asks};
 ghost use Rattle.command_line.specs.Usage.{NamesNone, usage_for};
 ghost use Rattle.command_line.specs.declared.line.Line.{Line};
-ghost use Rattle.program.specs.Running.{Comes, ComesOfWords, on_store};
+ghost use Rattle.program.specs.Running.{Comes, ComesOfWords, IsUndated, NameNoDay, on_store};
 ghost use Rattle.program.specs.Streams.{seen_of, writer_seen};
 ghost use Rattle.program.specs.Telling.{Refuses};
 
@@ -44,7 +44,7 @@ fn run_line<S: Start, R: Read, O: Write, E: Write>(
         (start.new ≡ start.old) line.now
         (seen_of R.Read O.Write E.Write streams.old) (seen_of R.Read O.Write E.Write streams.new)
         result }
-    ensures used { result ≢ Misused }
+    ensures used { result ≡ Misused → IsUndated line.now }
 {
     let ended = perform_line(rt, start, line, streams);
     let errors = last_errors(streams);
@@ -68,8 +68,10 @@ pub fn run<S: Start, R: Read, O: Write, E: Write>(
     // Where they name no subcommand, standard error is told so, and how the program is used.
     ensures uses { NamesNone (texts words.now) → Refuses (usage_for (texts words.now))
         (writer_seen E.Write streams.old.error) (writer_seen E.Write streams.new.error) result }
-    // No other words end as misused.
-    ensures misused { result ≡ Misused → AskNothing (texts words.now) }
+    // No other words end as misused, but for those that explain a policy and name no day: where its
+    // rules may have days, `Explains` says so.
+    ensures misused { result ≡ Misused
+        → AskNothing (texts words.now) ⊎ NameNoDay (texts words.now) }
     // What words ask for is done, and standard error is told of it, unless there was no memory to read
     // them.
     ensures asked { (line : Line) → Asks (texts words.now) line → ComesOfWords

@@ -31,10 +31,16 @@ static MARKS: &str = r#"
 {wanted} ; a bag's transfer form is wanted, which depot pack makes of a folder\n
 {no-path} the entry at byte 9 has no good path: it is not UTF-8, has a NUL, or has a segment that is empty, . or .. (S5)\n
 {stranger}  is not in the policy, and has the role stranger\n
-{no-rule}  of the policy is not well formed: it is effect, role, action, collection and class, each with a value that it may have (Y5)
-{policy} version = 1\n\n[callers]\nanna = "archivist"\ncarl = "clerk"\n\n[[rule]]\neffect = "deny"\nrole = "archivist"\naction = "dispose"\ncollection = "tax"\nclass = "*"\n\n[[rule]]\neffect = "allow"\nrole = "archivist"\naction = "*"\ncollection = "*"\nclass = "*"\n\n[[rule]]\neffect = "allow"\nrole = "clerk"\naction = "list"\ncollection = "*"\nclass = "y10"\n
+{no-rule}  of the policy is not well formed: it is effect, role, action, collection and class, each with a value that it may have, and under version 2 it may have first and last, days of which first is not after last (Y5)
+{policy} version = 1\n\n{callers}{rule-tax}\n{rule-archivist}\n{rule-clerk}
+{policy-2} version = 2\n\n{callers}{rule-tax}last = "2024-12-31"\n\n{rule-archivist}\n{rule-clerk}
+{callers} [callers]\nanna = "archivist"\ncarl = "clerk"\n\n
+{rule-tax} [[rule]]\neffect = "deny"\nrole = "archivist"\naction = "dispose"\ncollection = "tax"\nclass = "*"\n
+{rule-archivist} [[rule]]\neffect = "allow"\nrole = "archivist"\naction = "*"\ncollection = "*"\nclass = "*"\n
+{rule-clerk} [[rule]]\neffect = "allow"\nrole = "clerk"\naction = "list"\ncollection = "*"\nclass = "y10"\n
+{no-day} the option --day DAY is missing: the policy has version 2, in which rules may count on certain days alone\n
 {strangers} version = 1\n\n[callers]\nbert = "stranger"\n\n[[rule]]\neffect = "deny"\nrole = "stranger"\naction = "download"\ncollection = "-"\nclass = "*"\n\n[[rule]]\neffect = "allow"\nrole = "stranger"\naction = "download"\ncollection = "*"\nclass = "*"\n
-{uses} Usage: depot check FILE\n       depot pack DIR FILE\n       depot unpack FILE DIR\n       depot explain POLICY CALLER ACTION COLLECTION CLASS\n       depot policy STORE POLICY\n       depot ask STORE DAY\n       depot replay [--policy POLICY] STORE\n       depot serve --port P --count N STORE DAY\n\nDepot checks and keeps BagIt bags, serves them by a policy, and destroys them when due.\ndepot COMMAND --help says what each command takes.\n
+{uses} Usage: depot check FILE\n       depot pack DIR FILE\n       depot unpack FILE DIR\n       depot explain [--day DAY] POLICY CALLER ACTION COLLECTION CLASS\n       depot policy STORE POLICY\n       depot ask STORE DAY\n       depot replay [--policy POLICY] STORE\n       depot serve --port P --count N STORE DAY\n\nDepot checks and keeps BagIt bags, serves them by a policy, and destroys them when due.\ndepot COMMAND --help says what each command takes.\n
 "#;
 
 /// Marks of bytes. Two of them stand for a byte that no text has.

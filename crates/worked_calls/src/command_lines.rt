@@ -25,7 +25,11 @@ fn asked_text(alloc: Global, asked: Asked<'_>) -> Result<String, AllocError> {
     let action = asked.action.as_str();
     let collection = asked.collection.map_or("-", |name| name.as_str());
     let class = asked.class.map_or("-", |name| name.as_str());
-    format!(in alloc; "explain|{policy}|{caller}|{action}|{collection}|{class}")
+    let words = format!(in alloc; "explain|{policy}|{caller}|{action}|{collection}|{class}")?;
+    match asked.day {
+        Some(day) => format!(in alloc; "{words}|{day}"),
+        None => Ok(words),
+    }
 }
 
 /// A line on a store, between bars.
@@ -94,6 +98,12 @@ explain|p.toml|anna|list|tax|- => explain|p.toml|anna|list|tax|-
 explain|-||hold|-|y-1_0.a => explain|-||hold|-|y-1_0.a
 explain|p|--|-x|class|-a|- => explain|p|-x|class|-a|-
 explain|p|anna|list|tax|y1 => explain|p|anna|list|tax|y1
+# A day, before the other words or after them.
+explain|--day|2024-12-31|p|anna|list|tax|y1 => explain|p|anna|list|tax|y1|2024-12-31
+explain|p|anna|list|tax|y1|--day=1900-01-01 => explain|p|anna|list|tax|y1|1900-01-01
+explain|--day|2025-02-29|p|anna|list|tax|y1 => no use
+explain|--day|p|anna|list|tax|y1 => no use
+explain|--day|2024-12-31|--day|2025-01-01|p|anna|list|tax|y1 => no use
 # One word less, and one more.
 explain => no use
 explain|p|anna|list|tax => no use
@@ -153,7 +163,7 @@ fn words(rt: HostRuntime) -> Result<(), AllocError> {
             rows = rows.saturating_add(1);
         }
     }
-    assert!(rt; rows == 54);
+    assert!(rt; rows == 59);
     assert!(rt; MAX_COUNT == 1_000_000);
     Ok(())
 }
@@ -171,6 +181,7 @@ Check => depot has no subcommand Check\n{uses}
 a %é => depot has no subcommand a%20%25%C3%A9\n{uses}
 check|--help => Says whether a bag is valid, or its first fault.\n\nUsage: depot check <FILE>\n\nArguments:\n  <FILE>  the transfer form of the bag, or - for standard input
 check|a|b => error: unexpected argument 'b' found\n\nUsage: depot check <FILE>
+explain|--day|2025-02-29|p|anna|list|tax|y1 => DAY is a date such as 2024-03-01, from 1900-01-01 to 9799-12-31\n
 explain|p|anna|destroy|tax|y1 => ACTION is one of class, collection,
 explain|p|anna|list|TAX|y1 => COLLECTION is a name
 explain|p|anna|list|tax|Y1 => CLASS is a name
@@ -209,7 +220,7 @@ fn faults_of_use(rt: HostRuntime) -> Result<(), Fail> {
             rows = rows.saturating_add(1);
         }
     }
-    assert!(rt; rows == 16);
+    assert!(rt; rows == 17);
     assert!(rt; UseFault::Memory.to_string(rt.alloc())?.as_str() == "memory");
     Ok(())
 }

@@ -3,8 +3,9 @@
 use crate::rows::holds;
 use fault_words::InWords;
 use office_core::{
-    Accession, Action, Ask, Day, Decision, Due, Effect, Facts, Limits, Matter, Name, Policy, Text,
-    TextKind, Verdict, Years, decide, denial_verdict, due, first_match, read_policy, verdict,
+    Accession, Action, Ask, Day, Decision, Due, Effect, FIRST_DAY_NUMBER, Facts, LAST_DAY_NUMBER,
+    Limits, Matter, Name, Policy, Text, TextKind, Verdict, Years, decide, denial_verdict, due,
+    first_match, may_have_days, read_policy, verdict,
 };
 use office_rows::{MAX_LIMIT, is_limit};
 use std::alloc::{AllocError, Global};
@@ -54,6 +55,9 @@ fn day_again(alloc: Global, text: &str) -> Result<String, AllocError> {
 
 #[test]
 fn days(rt: HostRuntime) -> Result<(), AllocError> {
+    assert!(rt;
+        Day::first().number() == FIRST_DAY_NUMBER && Day::last().number() == LAST_DAY_NUMBER
+    );
     for (text, number, is_day) in &DAYS {
         holds(&rt, is_numbered(text, *number, *is_day), text);
         let again = day_again(rt.alloc(), text)?;
@@ -269,6 +273,7 @@ fn is_decided(policy: &Policy, case: &Case) -> bool {
         action: case.action,
         collection: case.collection,
         class: Some(case.class),
+        day: Day::first(),
     };
     ask.role == case.role
         && first_match(policy.rules(), &ask) == case.first
@@ -282,6 +287,54 @@ fn decisions(rt: HostRuntime) -> Result<(), Fail> {
     assert!(rt; policy.callers().len() == 2);
     for case in &CASES {
         holds(&rt, is_decided(&policy, case), case.caller);
+    }
+    Ok(())
+}
+
+/// Days, and the number of the rule that decides on each whether an archivist may dispose of what is in
+/// `tax`, where the rule that denies it counts until 2024-12-31.
+static DATED: [(&str, usize); 4] = [
+    ("1900-01-01", 1),
+    ("2024-12-31", 1),
+    ("2025-01-01", 2),
+    ("9799-12-31", 2),
+];
+
+/// The number of the rule that decides on that day.
+fn rule_on(policy: &Policy, day: &str) -> Option<usize> {
+    let ask = Ask {
+        role: "archivist",
+        action: Action::Dispose,
+        collection: Some("tax"),
+        class: Some("y1"),
+        day: Day::read(day)?,
+    };
+    Some(decide(policy.rules(), &ask)?.rule)
+}
+
+#[test]
+fn decisions_by_days(rt: HostRuntime) -> Result<(), Fail> {
+    let text = text_of(rt.alloc(), "{policy-2}")?;
+    let policy = read_policy(rt.alloc(), &text)?;
+    for (day, rule) in &DATED {
+        holds(&rt, rule_on(&policy, day) == Some(*rule), day);
+    }
+    Ok(())
+}
+
+/// Whether the rules of these texts may have days.
+static VERSIONS: [(&str, bool); 5] = [
+    ("version = 2\n", true),
+    ("version = +2\nrule = 1\n", true),
+    ("version = 1\n", false),
+    ("version = \"2\"\n", false),
+    ("version = 2\nversion = 2\n", false),
+];
+
+#[test]
+fn versions_with_days(rt: HostRuntime) -> Result<(), AllocError> {
+    for (text, may) in &VERSIONS {
+        holds(&rt, may_have_days(rt.alloc(), text)? == *may, text);
     }
     Ok(())
 }

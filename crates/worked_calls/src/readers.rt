@@ -2,15 +2,16 @@
 //! that fails.
 
 use crate::devices::{Given, told};
+use crate::rows::holds;
 use commands::{
     Asked, Ending, Outcome, Trouble, explain_outcome, explain_policy, judge, read_policy_from,
 };
-use office_core::{Action, Name, PolicyFault};
+use office_core::{Action, Day, Name, PolicyFault};
 use std::alloc::{AllocError, Global};
 use std::fs;
 use std::io::ErrorKind;
 use std::test::*;
-use worked_bags::bytes_of;
+use worked_bags::{bytes_of, text_of};
 
 /// Whether work is done with this line, and for no reason.
 fn is_done(outcome: &Outcome, line: &str) -> bool {
@@ -47,7 +48,7 @@ fn forms_from_readers(rt: HostRuntime) -> Result<(), Fail> {
     Ok(())
 }
 
-/// What `carl` asks.
+/// What `carl` asks, on some day.
 fn question<'a>() -> Asked<'a> {
     Asked {
         policy: "p.toml",
@@ -55,6 +56,7 @@ fn question<'a>() -> Asked<'a> {
         action: Action::List,
         collection: Name::read("tax"),
         class: Name::read("y10"),
+        day: Day::read("2024-03-01"),
     }
 }
 
@@ -170,6 +172,7 @@ fn question_of_a_stranger<'a>() -> Asked<'a> {
         action: Action::Download,
         collection: None,
         class: Name::read("y1"),
+        day: None,
     }
 }
 
@@ -178,6 +181,50 @@ fn a_decision_by_its_call(rt: HostRuntime) -> Result<(), Fail> {
     let policy = bytes_of(rt.alloc(), "{strangers}")?;
     let outcome = explain_outcome(rt.alloc(), policy.as_slice(), &question_of_a_stranger())?;
     assert!(rt; is_done(&outcome, "allow rule 2\n"));
+    Ok(())
+}
+
+/// What `anna` asks on that day, or on none.
+fn question_on<'a>(day: &str) -> Asked<'a> {
+    Asked {
+        policy: "p.toml",
+        caller: "anna",
+        action: Action::Dispose,
+        collection: Name::read("tax"),
+        class: Name::read("y1"),
+        day: Day::read(day),
+    }
+}
+
+/// Policies, the day of a question, and the line that is printed. None is where a day is missing.
+static DAYS: [(&str, &str, &str); 7] = [
+    ("{policy-2}", "2024-12-31", "deny rule 1\n"),
+    ("{policy-2}", "2025-01-01", "allow rule 2\n"),
+    ("{policy-2}", "", ""),
+    ("version = 2\n", "", ""),
+    ("{policy}", "2024-12-31", "deny rule 1\n"),
+    ("{policy}", "2025-01-01", "deny rule 1\n"),
+    ("{policy}", "", "deny rule 1\n"),
+];
+
+/// Whether the question is answered so on that day; without a line, standard error is told that a day
+/// is missing.
+fn is_answered_on(alloc: Global, row: &(&str, &str, &str)) -> Result<bool, AllocError> {
+    let (policy, day, line) = *row;
+    let policy = bytes_of(alloc, policy)?;
+    let outcome = explain_outcome(alloc, policy.as_slice(), &question_on(day))?;
+    if line.is_empty() {
+        let is_told = told(&outcome) == text_of(alloc, "{no-day}")?.as_str();
+        return Ok(is_told && outcome.text.is_empty() && outcome.ending == Ending::Misused);
+    }
+    Ok(outcome.text.as_str() == line && outcome.reason.is_none())
+}
+
+#[test]
+fn decisions_on_days(rt: HostRuntime) -> Result<(), AllocError> {
+    for row in &DAYS {
+        holds(&rt, is_answered_on(rt.alloc(), row)?, row.1);
+    }
     Ok(())
 }
 

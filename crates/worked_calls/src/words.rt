@@ -4,8 +4,8 @@ use crate::rows::holds;
 use bag_check::BagFault;
 use bag_text::{InfoFault, LineFault, SetFault};
 use fault_words::{
-    InWords, OddEntry, OtherFile, folder_words, form_lines, hint_for, policy_reason,
-    too_large_words,
+    InWords, OddEntry, OtherFile, folder_words, form_lines, hint_for, missing_day_words,
+    policy_reason, too_large_words,
 };
 use office_core::{PolicyFault, read_policy};
 use std::alloc::{AllocError, Global};
@@ -145,7 +145,7 @@ version = 1\n\n[callers]\nanna = "clerk"\nanna = "clerk"\ncarl = "clerk"\n => th
 version = 1\nrule = [\n]\n\n[callers\n => the policy is no text in TOML (Y1): line 5\n
 version = 1\nrule = [\n1,\n2,\n3,\n => the policy is no text in TOML (Y1): line 2\n
 = => the policy is no text in TOML (Y1): line 1\n
-version = 2\n => the policy has no version, or one that is not the whole number 1 (Y2)\n
+version = 3\n => the policy has no version, or one that is neither the whole number 1 nor 2 (Y2)\n
 version = 1\n"to do" = 1\nzone = 1\n => the policy has a key at the top other than version, callers and rule (Y3): the key to%20do\n
 version = 1\n[callers]\ncarl = "clerk"\nAnna = "clerk"\n => the callers of the policy are no table, or a caller or a role is no name (Y4): the caller Anna\n
 version = 1\n[callers]\nanna = "clerk"\ncarl = 1\neve = 2\n => the callers of the policy are no table, or a caller or a role is no name (Y4): the caller carl\n
@@ -155,6 +155,14 @@ version = 1\nrule = [1]\n => rule 1{no-rule}\n
 version = 1\nrule = [{effect="allow",role="*",action="list",collection="*",class="*",note="x",at=1}]\n => rule 1{no-rule}: the key at\n
 version = 1\nrule = [{effect="allow",role="*",action="list",collection="*",class="*"},{effect="allow",role="*",action="lists",collection="*",class=1}]\n => rule 2{no-rule}: the key action\n
 version = 1\nrule = [{effect="allow",role="*",action="list",collection="*"}]\n => rule 1{no-rule}: the key class\n
+# Days: none in version 1; a text that is no day, a date that is no text, and a first day after the last.
+version = 1\nrule = [{effect="allow",role="*",action="list",collection="*",class="*",last="2024-12-31"}]\n => rule 1{no-rule}: the key last\n
+version = 1\nrule = [{effect="allow",role="*",action="list",collection="*",class="*",first="x",last="y"}]\n => rule 1{no-rule}: the key first\n
+version = 2\nrule = [{effect="allow",role="*",action="list",collection="*",class="*",first="2024-02-29",last="9800-01-01"}]\n => rule 1{no-rule}: the key last\n
+version = 2\nrule = [{effect="allow",role="*",action="list",collection="*",class="*",last=2024-12-31}]\n => rule 1{no-rule}: the key last\n
+version = 2\nrule = [{effect="allow",role="*",action="list",collection="*",class="*",first="2024-12-31",last="2024-12-30"}]\n => rule 1{no-rule}: the key first\n
+version = 2\nrule = [{effect="allow",role="*",action="list",collection="*",class="",first="2025-02-29",note="x"}]\n => rule 1{no-rule}: the key note\n
+version = 2\nrule = [{effect="allow",role="*",action="list",collection="*",class="",first="2025-02-29"}]\n => rule 1{no-rule}: the key class\n
 "#;
 
 /// What is told of the bytes of a policy's file: nothing where they are one.
@@ -185,7 +193,7 @@ fn places_in_policies(rt: HostRuntime) -> Result<(), AllocError> {
             rows = rows.saturating_add(1);
         }
     }
-    assert!(rt; rows == 16, "{rows} rows");
+    assert!(rt; rows == 23, "{rows} rows");
     Ok(())
 }
 
@@ -204,5 +212,13 @@ fn an_odd_entry_by_its_path(rt: HostRuntime) -> Result<(), Fail> {
         said.as_str()
             == "the entry a%20b/link of the folder is neither a file nor a folder, such as a link, or has a name that is not UTF-8 (NAME)"
     );
+    Ok(())
+}
+
+#[test]
+fn a_missing_day_in_words(rt: HostRuntime) -> Result<(), AllocError> {
+    let words = missing_day_words();
+    let said = format!(in rt.alloc(); "{words}\n")?;
+    assert!(rt; said.as_str() == text_of(rt.alloc(), "{no-day}")?.as_str());
     Ok(())
 }

@@ -2,7 +2,9 @@
 
 use desk_answers::{answer_bytes, refusal_bytes};
 use desk_routes::DeskRefusal;
-use office_core::{Answer, AuditReport, FaultText, Refusal};
+use office_core::{
+    Answer, AuditReport, Day, FaultText, LiveHold, Matter, Refusal, Scope, Sequence,
+};
 use std::alloc::Global;
 use std::test::*;
 
@@ -17,6 +19,9 @@ const STORE: &str =
 
 const AUDITED: &str =
     "HTTP/1.1 200 OK\r\nContent-Type: application/json\r\nContent-Length: 63\r\nConnection: close\r\n\r\n{\"deposit\":1,\"fault\":\"B6 manifest-\\\"\\\\.txt L6 2\",\"valid\":false}";
+
+const HOLDS: &str =
+    "HTTP/1.1 200 OK\r\nContent-Type: application/json\r\nContent-Length: 210\r\nConnection: close\r\n\r\n{\"holds\":[{\"hold\":1,\"matter\":\"Case 7\",\"on\":\"class\",\"placed\":\"2024-03-02\"},{\"hold\":2,\"matter\":\"Case 7\",\"on\":\"collection\",\"placed\":\"2024-03-03\"},{\"hold\":3,\"matter\":\"Case 7\",\"on\":\"deposit\",\"placed\":\"2024-03-03\"}]}";
 
 const TOO_LARGE: &str =
     "HTTP/1.1 413 Content Too Large\r\nContent-Type: application/json\r\nContent-Length: 20\r\nConnection: close\r\n\r\n{\"error\":\"TooLarge\"}";
@@ -42,6 +47,27 @@ fn an_audit_of_what_is_no_bag(rt: HostRuntime) -> Result<(), Fail> {
     let fault = FaultText::of(String::from_str(rt.alloc(), "B6 manifest-\"\\.txt L6 2")?);
     let report = AuditReport::Invalid(fault);
     take(rt.alloc(), &Answer::Audit { deposit: 1, report }, AUDITED)
+}
+
+/// A hold for `Case 7`.
+fn hold(alloc: Global, number: u32, on: Scope, placed: &str) -> Result<LiveHold, Fail> {
+    let matter = Matter::read("Case 7").ok_or("no matter")?;
+    Ok(LiveHold {
+        number,
+        matter: matter.to_owned(alloc)?,
+        on,
+        placed: Day::read(placed).ok_or("no day")?,
+    })
+}
+
+#[test]
+fn holds_of_each_scope(rt: HostRuntime) -> Result<(), Fail> {
+    let mut holds = Vec::new(rt.alloc());
+    holds.push(hold(rt.alloc(), 1, Scope::Class, "2024-03-02")?)?;
+    holds.push(hold(rt.alloc(), 2, Scope::Collection, "2024-03-03")?)?;
+    holds.push(hold(rt.alloc(), 3, Scope::Deposit, "2024-03-03")?)?;
+    let holds = Sequence::of(holds);
+    take(rt.alloc(), &Answer::Holds { holds }, HOLDS)
 }
 
 #[test]

@@ -1,5 +1,5 @@
-//! The calls of `desk_forms`, on their happy paths, and what paths stand for. Each query and each body that
-//! is refused stands in the stored replay.
+//! The calls of `desk_forms`, on their happy paths, bodies that say no hold, and what paths stand for. Each
+//! query and each body that is refused stands in the stored replay.
 
 use desk_forms::{
     BodyFault, HoldBody, QueryFault, check_no_body, check_no_query, decode_path,
@@ -50,9 +50,45 @@ fn bodies_of_holds(rt: HostRuntime) -> Result<(), Fail> {
             assert!(rt; deposit == 7);
             assert!(rt; matter.as_str() == "\u{e9} \"q\" /");
         }
-        HoldBody::Collection { .. } => return Err("a collection".into()),
+        HoldBody::Collection { .. } | HoldBody::Class { .. } => return Err("no deposit".into()),
     }
     Ok(())
+}
+
+#[test]
+fn bodies_of_holds_on_classes(rt: HostRuntime) -> Result<(), Fail> {
+    for body in [
+        "{\"class\":\"y1\",\"matter\":\"Case 7\"}",
+        "{\"matter\":\"Case 7\",\"class\":\"y1\"}",
+    ] {
+        match read_hold(rt.alloc(), body.as_bytes())? {
+            HoldBody::Class { class, matter } => {
+                assert!(rt; class.as_str() == "y1");
+                assert!(rt; matter.as_str() == "Case 7");
+            }
+            HoldBody::Deposit { .. } | HoldBody::Collection { .. } => return Err("no class".into()),
+        }
+    }
+    Ok(())
+}
+
+/// Bodies with a class that say no hold.
+static NO_HOLDS: [&[u8]; 8] = [
+    b"{\"class\":\"y1\",\"collection\":\"maps\",\"matter\":\"m\"}",
+    b"{\"class\":\"y1\",\"deposit\":1,\"matter\":\"m\"}",
+    b"{\"class\":\"y1\",\"collection\":\"maps\",\"deposit\":1,\"matter\":\"m\"}",
+    b"{\"class\":\"y1\",\"collection\":\"maps\"}",
+    b"{\"class\":\"Y1\",\"matter\":\"m\"}",
+    b"{\"class\":1,\"matter\":\"m\"}",
+    b"{\"class\":\"y1\"}",
+    b"{\"class\":\"y1\",\"matter\":\"\"}",
+];
+
+#[test]
+fn bodies_that_say_no_hold(rt: HostRuntime) {
+    for body in &NO_HOLDS {
+        assert!(rt; matches!(read_hold(rt.alloc(), body), Err(BodyFault::BadBody)));
+    }
 }
 
 /// Paths, and the bytes that each stands for.

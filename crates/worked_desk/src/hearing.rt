@@ -12,6 +12,9 @@ const DEPOSIT: &[u8] =
     b"POST /deposits?collection=tax&class=y10&accession=A-1&closed=2024-02-29 HTTP/1.1\r\n\
     Depot-Caller: anna\r\nContent-Length: 5\r\n\r\nBAG\r\nGET /due HTTP/1.1\r\n\r\n";
 
+const HOLD: &[u8] =
+    b"POST /holds HTTP/1.1\r\nDepot-Caller: anna\r\nContent-Length: 32\r\n\r\n{\"class\":\"y1\",\"matter\":\"Case 7\"}";
+
 const DUE: &[u8] = b"GET /due HTTP/1.1\n\n";
 
 const TWO_CALLERS: &[u8] = b"GET /nothing HTTP/1.1\nDepot-Caller: anna\nDepot-Caller: carl\n\n";
@@ -44,6 +47,17 @@ fn hears_a_deposit(rt: HostRuntime) -> Result<(), Fail> {
         let heard = heard(rt.alloc(), DEPOSIT, portion)?;
         assert!(rt; deposits(&heard));
     }
+    Ok(())
+}
+
+#[test]
+fn hears_a_hold_on_a_class(rt: HostRuntime) -> Result<(), Fail> {
+    let heard = heard(rt.alloc(), HOLD, Portion::OneByte)?;
+    let Request::HoldClass { class, matter } = heard.request() else {
+        return Err("another request".into());
+    };
+    assert!(rt; class.as_str() == "y1");
+    assert!(rt; matter.as_str() == "Case 7");
     Ok(())
 }
 

@@ -436,14 +436,15 @@ pub static DUES: [Part; 9] = [
     ),
 ];
 
-/// Rules that neither allow nor deny, or that no policy has: one that asks for the empty name, and one at
-/// a place after the last that a policy may have. Then a role that is no name. The second rule lets `anna`
-/// do everything, the third lets `carl` list.
-pub static RULES: [Part; 7] = [
+/// Rules that neither allow nor deny, or that no policy has: one that asks for the empty name, one at
+/// a place after the last that a policy may have, and those with a bound that is no day. Then a role that is
+/// no name. The second rule lets `anna` do everything, the third lets `carl` list. A rule counts on its first
+/// day and on its last, and on none where these are in no order: day 21914 is 2029-12-31, day 21915 the next.
+pub static RULES: [Part; 13] = [
     (
         "",
-        "UPDATE rule SET effect = 2 WHERE place = 2\n\
-         UPDATE rule SET effect = 1 WHERE place = 2\n\
+        "UPDATE rule_5 SET effect = 2 WHERE place = 2\n\
+         UPDATE rule_5 SET effect = 1 WHERE place = 2\n\
          record 1 > Store\n\
          class y1 2 > Store\n\
          collection seals > Store\n\
@@ -465,8 +466,8 @@ pub static RULES: [Part; 7] = [
     ),
     (
         "",
-        "UPDATE rule SET effect = -1 WHERE place = 1\n\
-         UPDATE rule SET effect = 0 WHERE place = 1\n\
+        "UPDATE rule_5 SET effect = -1 WHERE place = 1\n\
+         UPDATE rule_5 SET effect = 0 WHERE place = 1\n\
          dispose 2 > Store\n\
          record 2 > record 2 A-2 tax y10 closed 2024-02-29 deposited 2024-03-01 due 2034-02-28 \
          files 1 bytes 3\n\
@@ -477,8 +478,8 @@ pub static RULES: [Part; 7] = [
     ),
     (
         "",
-        "UPDATE rule SET effect = 2 WHERE place = 3\n\
-         UPDATE rule SET effect = 1 WHERE place = 3\n\
+        "UPDATE rule_5 SET effect = 2 WHERE place = 3\n\
+         UPDATE rule_5 SET effect = 1 WHERE place = 3\n\
          2030-01-01 carl\n\
          list > Store\n\
          record 2 > Denied default\n\
@@ -488,9 +489,9 @@ pub static RULES: [Part; 7] = [
     ),
     (
         "",
-        "INSERT INTO rule (place, effect, role, action, collection, class) VALUES (4, 2, '*', \
-         '*', '*', '*')\n\
-         DELETE FROM rule WHERE place = 4\n\
+        "INSERT INTO rule_5 (place, effect, role, action, collection, class, first, last) VALUES (4, \
+         2, '*', '*', '*', '*', -25567, 2859848)\n\
+         DELETE FROM rule_5 WHERE place = 4\n\
          2030-01-01 eve\n\
          record 1 > Store\n\
          list > Store\n\
@@ -502,8 +503,8 @@ pub static RULES: [Part; 7] = [
     ),
     (
         "",
-        "UPDATE rule SET collection = '' WHERE place = 2\n\
-         UPDATE rule SET collection = '*' WHERE place = 2\n\
+        "UPDATE rule_5 SET collection = '' WHERE place = 2\n\
+         UPDATE rule_5 SET collection = '*' WHERE place = 2\n\
          class y1 2 > Store\n\
          record 1 > Denied default\n\
          dispose 2 > Denied rule 1\n\
@@ -514,14 +515,84 @@ pub static RULES: [Part; 7] = [
     ),
     (
         "",
-        "UPDATE rule SET place = 201 WHERE place = 3\n\
-         UPDATE rule SET place = 3 WHERE place = 201\n\
+        "UPDATE rule_5 SET place = 201 WHERE place = 3\n\
+         UPDATE rule_5 SET place = 3 WHERE place = 201\n\
          2030-01-01 carl\n\
          list > Store\n\
          record 2 > Denied default\n\
          2030-01-01 anna\n\
          list > list: 1 2 3\n\
          due > due on 2030-01-01: 1",
+    ),
+    (
+        "",
+        "UPDATE rule_5 SET last = 2859849 WHERE place = 2\n\
+         UPDATE rule_5 SET last = 2859848 WHERE place = 2\n\
+         record 1 > Store\n\
+         class y1 2 > Store\n\
+         hold-class y1 > Store\n\
+         list > Store\n\
+         dispose 2 > Denied rule 1\n\
+         2030-01-01 carl\n\
+         list > list: 2 3\n\
+         2030-01-01 anna\n\
+         due > Store",
+    ),
+    (
+        "",
+        "UPDATE rule_5 SET first = -25568 WHERE place = 3\n\
+         UPDATE rule_5 SET first = -25567 WHERE place = 3\n\
+         2030-01-01 carl\n\
+         list > Store\n\
+         record 2 > Denied default\n\
+         2030-01-01 anna\n\
+         list > list: 1 2 3\n\
+         due > due on 2030-01-01: 1",
+    ),
+    (
+        "",
+        "UPDATE rule_5 SET first = 21916, last = 21915 WHERE place = 1\n\
+         UPDATE rule_5 SET first = -25567, last = 2859848 WHERE place = 1\n\
+         dispose 2 > Held 2\n\
+         record 1 > record 1 A-1 maps y1 closed 2024-02-29 deposited 2024-03-01 due 2025-02-28 \
+         files 1 bytes 3\n\
+         due > due on 2030-01-01: 1",
+    ),
+    (
+        "",
+        "UPDATE rule_5 SET first = 21915, last = 21914 WHERE place = 2\n\
+         UPDATE rule_5 SET first = -25567, last = 2859848 WHERE place = 2\n\
+         record 1 > Denied default\n\
+         list > list:\n\
+         due > due on 2030-01-01:\n\
+         2029-12-31 anna\n\
+         record 1 > Denied default\n\
+         due > due on 2029-12-31:",
+    ),
+    (
+        "",
+        "UPDATE rule_5 SET first = 21915 WHERE place = 2\n\
+         UPDATE rule_5 SET first = -25567 WHERE place = 2\n\
+         list > list: 1 2 3\n\
+         2029-12-31 anna\n\
+         list > list:\n\
+         record 1 > Denied default\n\
+         due > due on 2029-12-31:\n\
+         2030-01-01 anna\n\
+         due > due on 2030-01-01: 1",
+    ),
+    (
+        "",
+        "UPDATE rule_5 SET last = 21914 WHERE place = 2\n\
+         UPDATE rule_5 SET last = 2859848 WHERE place = 2\n\
+         list > list:\n\
+         record 1 > Denied default\n\
+         2029-12-31 anna\n\
+         list > list: 1 2 3\n\
+         2030-01-01 anna\n\
+         due > due on 2030-01-01:\n\
+         2029-12-31 anna\n\
+         due > due on 2029-12-31: 1",
     ),
     (
         "",
@@ -537,15 +608,15 @@ pub static RULES: [Part; 7] = [
     ),
 ];
 
-/// A hold names nothing, two things, or what isn't there; its days, its matter and its number are
+/// A hold names nothing, two things or three, or what isn't there; its days, its matter and its number are
 /// none. The row of a hold that refuses a disposal is read, too; of the others that cover the deposit
 /// only the day of release is, and a hold that names nothing covers none. The due list reads no hold:
 /// holds are counted with the deposits.
-pub static HOLDS: [Part; 10] = [
+pub static HOLDS: [Part; 15] = [
     (
         "",
-        "UPDATE hold SET deposit = NULL WHERE number = 1\n\
-         UPDATE hold SET deposit = 3 WHERE number = 1\n\
+        "UPDATE hold_4 SET deposit = NULL WHERE number = 1\n\
+         UPDATE hold_4 SET deposit = 3 WHERE number = 1\n\
          release 1 > Store\n\
          release 3 > Released 2024-03-05\n\
          holds 2 > holds: 2 on collection placed 2024-03-02 for Case 7;\n\
@@ -557,8 +628,8 @@ pub static HOLDS: [Part; 10] = [
     ),
     (
         "",
-        "UPDATE hold SET collection = 'tax' WHERE number = 1\n\
-         UPDATE hold SET collection = NULL WHERE number = 1\n\
+        "UPDATE hold_4 SET collection = 'tax' WHERE number = 1\n\
+         UPDATE hold_4 SET collection = NULL WHERE number = 1\n\
          release 1 > Store\n\
          holds 3 > Store\n\
          holds 2 > Store\n\
@@ -571,23 +642,80 @@ pub static HOLDS: [Part; 10] = [
     ),
     (
         "",
-        "UPDATE hold SET deposit = 99 WHERE number = 1\n\
-         UPDATE hold SET deposit = 3 WHERE number = 1\n\
+        "UPDATE hold_4 SET class = 'y10' WHERE number = 1\n\
+         UPDATE hold_4 SET class = NULL WHERE number = 1\n\
+         release 1 > Store\n\
+         holds 3 > Store\n\
+         holds 2 > Store\n\
+         holds 1 > holds:\n\
+         2040-01-01 anna\n\
+         dispose 3 > Store\n\
+         due > due on 2040-01-01: 1",
+    ),
+    (
+        "",
+        "UPDATE hold_4 SET class = 'y1' WHERE number = 2\n\
+         UPDATE hold_4 SET class = NULL WHERE number = 2\n\
+         release 2 > Store\n\
+         holds 2 > Store\n\
+         holds 1 > Store\n\
+         holds 3 > holds: 1 on deposit placed 2024-03-02 for Case 7;\n\
+         2024-03-05 anna\n\
+         dispose 1 > NotDue 2025-02-28\n\
+         2030-01-01 anna\n\
+         due > due on 2030-01-01: 1",
+    ),
+    (
+        "",
+        "UPDATE hold_4 SET deposit = 2, class = 'y10' WHERE number = 2\n\
+         UPDATE hold_4 SET deposit = NULL, class = NULL WHERE number = 2\n\
+         release 2 > Store\n\
+         holds 2 > Store\n\
+         holds 3 > Store\n\
+         2040-01-01 anna\n\
+         dispose 3 > Held 1",
+    ),
+    (
+        "",
+        "UPDATE hold_4 SET deposit = NULL, class = 'z' WHERE number = 1\n\
+         UPDATE hold_4 SET deposit = 3, class = NULL WHERE number = 1\n\
+         release 1 > Store\n\
+         holds 3 > holds:\n\
+         2040-01-01 anna\n\
+         dispose 3 > Store\n\
+         due > due on 2040-01-01: 1",
+    ),
+    (
+        "",
+        "UPDATE hold_4 SET collection = NULL, class = 'y10' WHERE number = 2\n\
+         UPDATE hold_4 SET collection = 'tax', class = NULL WHERE number = 2\n\
+         holds 2 > holds: 2 on class placed 2024-03-02 for Case 7;\n\
+         holds 3 > holds: 1 on deposit placed 2024-03-02 for Case 7; 2 on class placed \
+         2024-03-02 for Case 7;\n\
+         holds 1 > holds:\n\
+         2040-01-01 anna\n\
+         dispose 3 > Held 1\n\
+         due > due on 2040-01-01: 1",
+    ),
+    (
+        "",
+        "UPDATE hold_4 SET deposit = 99 WHERE number = 1\n\
+         UPDATE hold_4 SET deposit = 3 WHERE number = 1\n\
          release 1 > Store\n\
          holds 99 > NoSuch deposit\n\
          holds 2 > holds: 2 on collection placed 2024-03-02 for Case 7;",
     ),
     (
         "",
-        "UPDATE hold SET collection = 'seals' WHERE number = 2\n\
-         UPDATE hold SET collection = 'tax' WHERE number = 2\n\
+        "UPDATE hold_4 SET collection = 'seals' WHERE number = 2\n\
+         UPDATE hold_4 SET collection = 'tax' WHERE number = 2\n\
          release 2 > Store\n\
          holds 2 > holds:",
     ),
     (
         "",
-        "UPDATE hold SET placed = 2859849 WHERE number = 1\n\
-         UPDATE hold SET placed = 19784 WHERE number = 1\n\
+        "UPDATE hold_4 SET placed = 2859849 WHERE number = 1\n\
+         UPDATE hold_4 SET placed = 19784 WHERE number = 1\n\
          holds 3 > Store\n\
          holds 1 > holds:\n\
          bag 3 > whole\n\
@@ -600,16 +728,16 @@ pub static HOLDS: [Part; 10] = [
     ),
     (
         "",
-        "UPDATE hold SET released = 2859849 WHERE number = 3\n\
-         UPDATE hold SET released = 19787 WHERE number = 3\n\
+        "UPDATE hold_4 SET released = 2859849 WHERE number = 3\n\
+         UPDATE hold_4 SET released = 19787 WHERE number = 3\n\
          release 3 > Store\n\
          2030-01-01 carl\n\
          release 2 > Denied default",
     ),
     (
         "",
-        "UPDATE hold SET released = 2859849 WHERE number = 1\n\
-         UPDATE hold SET released = NULL WHERE number = 1\n\
+        "UPDATE hold_4 SET released = 2859849 WHERE number = 1\n\
+         UPDATE hold_4 SET released = NULL WHERE number = 1\n\
          holds 3 > Store\n\
          holds 1 > holds:\n\
          holds 2 > holds: 2 on collection placed 2024-03-02 for Case 7;\n\
@@ -620,8 +748,8 @@ pub static HOLDS: [Part; 10] = [
     ),
     (
         "",
-        "UPDATE hold SET released = -25568 WHERE number = 2\n\
-         UPDATE hold SET released = NULL WHERE number = 2\n\
+        "UPDATE hold_4 SET released = -25568 WHERE number = 2\n\
+         UPDATE hold_4 SET released = NULL WHERE number = 2\n\
          holds 2 > Store\n\
          holds 3 > holds: 1 on deposit placed 2024-03-02 for Case 7;\n\
          release 2 > Store\n\
@@ -629,8 +757,8 @@ pub static HOLDS: [Part; 10] = [
     ),
     (
         "",
-        "UPDATE hold SET matter = '' WHERE number = 1\n\
-         UPDATE hold SET matter = 'Case 7' WHERE number = 1\n\
+        "UPDATE hold_4 SET matter = '' WHERE number = 1\n\
+         UPDATE hold_4 SET matter = 'Case 7' WHERE number = 1\n\
          holds 3 > Store\n\
          release 1 > Store\n\
          2040-01-01 anna\n\
@@ -639,8 +767,8 @@ pub static HOLDS: [Part; 10] = [
     ),
     (
         "",
-        "UPDATE hold SET number = -1 WHERE number = 1\n\
-         UPDATE hold SET number = 1 WHERE number = -1\n\
+        "UPDATE hold_4 SET number = -1 WHERE number = 1\n\
+         UPDATE hold_4 SET number = 1 WHERE number = -1\n\
          holds 3 > Store\n\
          2040-01-01 anna\n\
          dispose 3 > Store\n\
@@ -753,7 +881,7 @@ pub static BESIDE: [&[Part]; 4] = [
 
 /// What a look at the tables behind a request finds: each of what is kept beside the rows, where it is
 /// another.
-pub static FOUND: [Part; 18] = [
+pub static FOUND: [Part; 21] = [
     ("office", "1000000"),
     (
         "asks",
@@ -762,10 +890,14 @@ pub static FOUND: [Part; 18] = [
          deposit tax y1 A-2 > deposit 2\n\
          hold-all tax > hold 1\n\
          keep y10 > class y10 permanent\n\
+         hold-class y10 > hold 2\n\
          deposit tax y10 A-3 > deposit 3\n\
          2025-02-28 anna\n\
          dispose 1 > destroyed 1 2025-02-28",
     ),
+    ("alters", "UPDATE deposit SET holds = 1 WHERE number = 3"),
+    ("found", "deposit 3 has another count of holds"),
+    ("alters", "UPDATE deposit SET holds = 2 WHERE number = 3"),
     ("alters", "UPDATE deposit SET due = 20148 WHERE number = 1"),
     ("found", "deposit 1 has another due day"),
     ("alters", "UPDATE deposit SET due = 20147 WHERE number = 1"),
@@ -775,7 +907,7 @@ pub static FOUND: [Part; 18] = [
     ("alters", "UPDATE deposit SET due = NULL WHERE number = 3"),
     ("alters", "UPDATE deposit SET holds = 0 WHERE number = 2"),
     ("found", "deposit 2 has another count of holds"),
-    ("alters", "UPDATE hold SET released = 19783"),
+    ("alters", "UPDATE hold_4 SET released = 19783"),
     ("found", "deposit 3 has another count of holds"),
     ("alters", "UPDATE deposit SET holds = 0 WHERE number = 3"),
     (
@@ -795,34 +927,44 @@ pub static FOUND: [Part; 18] = [
 
 /// Which databases are taken for an office: none that is empty, has no row of an office, has one of
 /// another version, or limits that no office has. Nothing is lost of what the office held.
-pub static OPENINGS: [Part; 11] = [
+pub static OPENINGS: [Part; 13] = [
     ("refused", "Q1"),
     ("office", "1000000"),
     (
         "Q1",
         "DELETE FROM office\n\
-         INSERT INTO office (id, version, max_deposits, max_holds) VALUES (1, 3, 1000000, \
+         INSERT INTO office (id, version, max_deposits, max_holds) VALUES (1, 5, 1000000, \
          1000000)",
     ),
     (
         "Q2",
         "UPDATE office SET version = 9\n\
-         UPDATE office SET version = 3",
+         UPDATE office SET version = 5",
+    ),
+    (
+        "Q2",
+        "UPDATE office SET version = 4\n\
+         UPDATE office SET version = 5",
+    ),
+    (
+        "Q2",
+        "UPDATE office SET version = 3\n\
+         UPDATE office SET version = 5",
     ),
     (
         "Q2",
         "UPDATE office SET version = 2\n\
-         UPDATE office SET version = 3",
+         UPDATE office SET version = 5",
     ),
     (
         "Q2",
         "UPDATE office SET version = 1\n\
-         UPDATE office SET version = 3",
+         UPDATE office SET version = 5",
     ),
     (
         "Q2",
         "UPDATE office SET version = 0\n\
-         UPDATE office SET version = 3",
+         UPDATE office SET version = 5",
     ),
     (
         "Q1",

@@ -12,6 +12,12 @@ fn alter<S: Alter>(alloc: Global, conn: &mut Connection<S>, sql: &str) -> Option
     Some((before, held_rows(alloc, conn)?))
 }
 
+/// Runs SQL that makes tables: no text, or `None` where it fails.
+pub fn make<S: Alter>(alloc: Global, conn: &mut Connection<S>, sql: &str) -> Option<String> {
+    conn.execute_batch(sql).ok()?;
+    Some(String::new(alloc))
+}
+
 /// Alters rows for good: no text, but where none is altered.
 pub fn alter_for_good<S: Alter>(
     alloc: Global,

@@ -1,6 +1,7 @@
 //! Rows, put to an office. What is answered otherwise than a row says is told as a text, which is empty
 //! where nothing is; `None` is a row that asks nothing, or want of memory.
 
+use crate::policies::policy_named;
 use crate::rows::rows;
 use office_core::{Answer, Day, Limits, Sequence};
 use office_engine::Office;
@@ -8,7 +9,7 @@ use office_tables::TableFault;
 use sqlite::{Alter, Connection};
 use std::alloc::Global;
 use worked_sessions::{
-    AnyOffice, Asked, Row, answer_in_words, differs, differs_in_run, look, open, words,
+    AnyOffice, Asked, Row, answer_in_words, differs, differs_in_run, install, look, open, words,
 };
 
 /// How rows are put to an office.
@@ -30,6 +31,12 @@ pub fn limits(most: &str) -> Option<Limits> {
 pub fn equip<O: AnyOffice>(alloc: Global, office: &mut O) -> Option<String> {
     let differs = open(alloc, office).ok()?;
     Some(differs.unwrap_or(String::new(alloc)))
+}
+
+/// Installs the policy of that name, in the place of the one before.
+pub fn install_named<O: AnyOffice>(alloc: Global, office: &mut O, name: &str) -> Option<String> {
+    install(alloc, office, policy_named(name)?).ok()?;
+    Some(String::new(alloc))
 }
 
 /// Puts the rows to the office.
@@ -264,6 +271,40 @@ pub fn adopt_and_look<S: Alter + Drop>(
     }
     match Office::adopt(conn) {
         Ok(office) => look(alloc, office),
+        Err((conn, fault)) => (code(alloc, fault), conn),
+    }
+}
+
+/// Makes the tables of an office of an older version those of this one, and looks at them. The connection is handed
+/// back: with the code of the fault, where it isn't taken for an office.
+pub fn upgrade_and_look<S: Alter + Drop>(
+    alloc: Global,
+    conn: Connection<S>,
+) -> (Option<String>, Connection<S>) {
+    if !conn.is_autocommit() {
+        return (None, conn);
+    }
+    match Office::upgrade(conn) {
+        Ok(office) => look(alloc, office),
+        Err((conn, fault)) => (code(alloc, fault), conn),
+    }
+}
+
+/// Adopts the connection as an office, installs the policy of that name, and looks at the tables. The connection
+/// is handed back.
+pub fn adopt_and_install<S: Alter + Drop>(
+    alloc: Global,
+    conn: Connection<S>,
+    name: &str,
+) -> (Option<String>, Connection<S>) {
+    if !conn.is_autocommit() {
+        return (None, conn);
+    }
+    match Office::adopt(conn) {
+        Ok(mut office) => {
+            let differs = install_named(alloc, &mut office, name);
+            look_behind(alloc, office, differs)
+        }
         Err((conn, fault)) => (code(alloc, fault), conn),
     }
 }

@@ -1,8 +1,9 @@
 //! What is done between two openings of a database.
 
-use crate::altering::{alter_for_good, case};
+use crate::altering::{alter_for_good, case, make};
 use crate::offices::{
-    Way, adopt_and_look, adopt_and_put, ask_stock, create_and_equip, put_and_look,
+    Way, adopt_and_install, adopt_and_look, adopt_and_put, ask_stock, create_and_equip,
+    put_and_look, upgrade_and_look,
 };
 use crate::tables::steps::steps;
 use sqlite::{Alter, Connection};
@@ -14,6 +15,9 @@ use std::test::Fail;
 /// | Kind | Its text |
 /// |---|---|
 /// | `office` | how many deposits, and holds, the office may have that is made, and given the policy, the classes and the collections of `worked_sessions` |
+/// | `made` | SQL that makes an office of an older version in an empty database |
+/// | `upgraded` | none: the tables are made those of this version, and looked at |
+/// | `policy` | the name of a policy, which is installed in the place of the one before (`policies.rt`) |
 /// | `asks` | rows, which are put to the office; behind each what is kept beside the rows of the tables is compared with what the rows give |
 /// | `asks altered` | the same without that: rows of the tables are altered |
 /// | `stock` | how much the office keeps |
@@ -44,6 +48,12 @@ pub fn take_part<S: Alter + Drop>(
     let (kind, text) = part;
     match kind {
         "office" => create_and_equip(alloc, conn, text),
+        "made" => {
+            let mut conn = conn;
+            (make(alloc, &mut conn, text), conn)
+        }
+        "upgraded" => upgrade_and_look(alloc, conn),
+        "policy" => adopt_and_install(alloc, conn, text),
         "asks" => put_and_look(alloc, conn, way, text),
         "asks altered" => adopt_and_put(alloc, conn, way, text),
         "stock" => ask_stock(alloc, conn, text),

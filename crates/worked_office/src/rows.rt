@@ -73,6 +73,7 @@ fn question_of(words: &[&'static str]) -> Option<Asked> {
         "file" => Some(Asked::File(of, second)),
         "hold" => Some(Asked::HoldDeposit(of)),
         "hold-all" => Some(Asked::HoldCollection(name)),
+        "hold-class" => Some(Asked::HoldClass(name)),
         "release" => Some(Asked::Release(of)),
         "dispose" => Some(Asked::Dispose(of)),
         "due" => Some(Asked::DueList),

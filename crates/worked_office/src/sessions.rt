@@ -3,7 +3,7 @@
 use crate::parts::Part;
 
 /// What rules, holds and dates decide.
-pub static DECIDING: [&[Part]; 7] = [
+pub static DECIDING: [&[Part]; 12] = [
     // A file is served at its own path alone.
     &[
         ("office", "1000000"),
@@ -62,7 +62,11 @@ pub static DECIDING: [&[Part]; 7] = [
              release 1 > Denied default\n\
              2024-03-05 anna\n\
              release 1 > Released 2024-03-05\n\
-             hold-all x > NoSuch collection",
+             hold-all x > NoSuch collection\n\
+             hold-class x > NoSuch class\n\
+             2024-03-05 eve\n\
+             hold-class x > NoSuch class\n\
+             hold-class y1 > Denied default",
         ),
         ("stock", "3 contents, 130 bytes"),
     ],
@@ -183,6 +187,140 @@ pub static DECIDING: [&[Part]; 7] = [
         ),
         ("stock", "3 contents, 130 bytes"),
     ],
+    // A hold of a class covers what comes later, too; of the live holds the least is named.
+    &[
+        ("office", "1000000"),
+        (
+            "asks",
+            "2024-03-02 anna\n\
+             hold-class y1 > hold 1\n\
+             2024-03-03 anna\n\
+             deposit maps y1 A-1 > deposit 1\n\
+             holds 1 > holds: 1 on class placed 2024-03-02 for Case 7;\n\
+             hold-all maps > hold 2\n\
+             2030-01-01 anna\n\
+             dispose 1 > Held 1\n\
+             2030-01-02 anna\n\
+             release 1 > released 1 2030-01-02\n\
+             dispose 1 > Held 2\n\
+             hold-class z > NoSuch class",
+        ),
+        ("stock", "3 contents, 130 bytes"),
+    ],
+    // A hold of a class counts beside one of the collection and one of the deposit.
+    &[
+        ("office", "1000000"),
+        (
+            "asks",
+            "2024-03-01 anna\n\
+             deposit maps y1 A-1 > deposit 1\n\
+             deposit tax y10 A-2 > deposit 2\n\
+             hold-class y1 > hold 1\n\
+             hold-class y10 > hold 2\n\
+             hold-all maps > hold 3\n\
+             deposit maps y1 A-3 > deposit 3\n\
+             deposit maps y10 A-4 > deposit 4\n\
+             deposit tax y1 A-5 > deposit 5\n\
+             hold 4 > hold 4\n\
+             holds 4 > holds: 2 on class placed 2024-03-01 for Case 7; 3 on collection placed \
+             2024-03-01 for Case 7; 4 on deposit placed 2024-03-01 for Case 7;",
+        ),
+        (
+            "asks",
+            "due > due on 2030-01-01:\n\
+             dispose 3 > Held 1\n\
+             dispose 5 > Denied rule 1\n\
+             release 1 > released 1 2030-01-01\n\
+             dispose 3 > Held 3\n\
+             due > due on 2030-01-01:\n\
+             release 3 > released 3 2030-01-01\n\
+             due > due on 2030-01-01: 1 3\n\
+             dispose 3 > destroyed 3 2030-01-01\n\
+             hold-class y1 > hold 5\n\
+             due > due on 2030-01-01:\n\
+             release 5 > released 5 2030-01-01\n\
+             release 1 > Released 2030-01-01\n\
+             due > due on 2030-01-01: 1",
+        ),
+        ("stock", "3 contents, 130 bytes"),
+    ],
+    // The rules are asked for a hold of a class, and for its release, with the class alone.
+    &[
+        ("office", "1000000"),
+        (
+            "asks",
+            "2024-03-01 anna\n\
+             deposit maps y1 A-1 > deposit 1\n\
+             hold-class y1 > hold 1\n\
+             hold-all maps > hold 2",
+        ),
+        ("policy", "y1 stays as it is held"),
+        (
+            "asks",
+            "2024-03-02 anna\n\
+             hold-class y1 > Denied rule 1\n\
+             hold-class y10 > hold 3\n\
+             hold-all maps > hold 4\n\
+             hold 1 > Denied rule 1\n\
+             release 1 > Denied rule 2\n\
+             release 2 > released 2 2024-03-02\n\
+             release 3 > released 3 2024-03-02\n\
+             holds 1 > holds: 1 on class placed 2024-03-01 for Case 7; 4 on collection placed \
+             2024-03-02 for Case 7;",
+        ),
+        ("stock", "3 contents, 130 bytes"),
+    ],
+    // A rule counts up to its last day; a due list and a disposal are asked on theirs.
+    &[
+        ("office", "1000000"),
+        ("policy", "nothing of tax is destroyed in 2024"),
+        (
+            "asks",
+            "2024-03-01 anna\n\
+             deposit tax y10 A-1 > deposit 1\n\
+             class y10 0 > class y10 0\n\
+             2024-12-31 anna\n\
+             due > due on 2024-12-31:\n\
+             2025-01-01 anna\n\
+             due > due on 2025-01-01: 1",
+        ),
+        (
+            "asks",
+            "2025-01-01 anna\n\
+             due > due on 2025-01-01: 1\n\
+             2024-12-31 anna\n\
+             dispose 1 > Denied rule 1\n\
+             due > due on 2024-12-31:",
+        ),
+        (
+            "asks",
+            "2025-01-01 anna\n\
+             dispose 1 > destroyed 1 2025-01-01",
+        ),
+        ("stock", "0 contents, 0 bytes"),
+    ],
+    // A rule counts from its first day to its last; a list is asked on its day.
+    &[
+        ("office", "1000000"),
+        ("policy", "lists in January 2025"),
+        (
+            "asks",
+            "2024-03-01 anna\n\
+             deposit maps y10 A-1 > deposit 1\n\
+             2024-12-31 carl\n\
+             list > list:\n\
+             2025-01-01 carl\n\
+             list > list: 1\n\
+             record 1 > Denied default\n\
+             2025-01-31 carl\n\
+             list > list: 1\n\
+             2025-02-01 carl\n\
+             list > list:\n\
+             2025-02-01 anna\n\
+             list > list: 1",
+        ),
+        ("stock", "3 contents, 130 bytes"),
+    ],
 ];
 
 /// What is deposited, kept and listed.
@@ -279,6 +417,7 @@ pub static KEEPING: [&[Part]; 6] = [
              deposit maps y1 A-2 2024-02-29 nothing > BadBag S3\n\
              hold 1 > hold 1\n\
              hold-all maps > Full\n\
+             hold-class y1 > Full\n\
              release 1 > released 1 2024-03-01\n\
              hold 1 > Full",
         ),

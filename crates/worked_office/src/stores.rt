@@ -1,7 +1,7 @@
 //! Sessions over each store, and rows put to the plain office.
 
 use crate::files::take_once;
-use crate::offices::{Way, equip, limits, other_stock, put};
+use crate::offices::{Way, equip, install_named, limits, other_stock, put};
 use crate::parts::{Part, agree, take_part};
 use office_history::plain;
 use sqlite::Connection;
@@ -20,6 +20,7 @@ fn plain_office(alloc: Global, most: &str) -> Result<plain::Office, Fail> {
 fn take_plain(alloc: Global, office: &mut plain::Office, way: Way, part: Part) -> Option<String> {
     let (kind, text) = part;
     match kind {
+        "policy" => install_named(alloc, office, text),
         "asks" => put(alloc, office, way, text),
         "stock" => other_stock(alloc, office, text),
         _ => Some(String::new(alloc)),

@@ -6,7 +6,8 @@ use crate::altered::{
 use crate::offices::Way;
 use crate::parts::Part;
 use crate::sessions::{CONTENTS, DECIDING, KEEPING};
-use crate::stores::{in_memory, to_offices};
+use crate::stores::{in_memory, over_tables, to_offices};
+use crate::upgrades::UPGRADES;
 use std::alloc::Global;
 use std::test::Fail;
 
@@ -54,4 +55,11 @@ pub fn altered_rows_are_met_where_an_answer_rests_on_them(alloc: Global) -> Resu
 /// A database that is no office of this version isn't taken for one.
 pub fn only_an_office_of_this_version_is_taken_up(alloc: Global) -> Result<(), Fail> {
     in_memory(alloc, Way::Steps, &OPENINGS)
+}
+
+/// An office of an older version isn't taken for one of this version; once it is upgraded it goes on, in memory and in
+/// files that are closed in between.
+pub fn an_older_office_goes_on_once_it_is_upgraded(alloc: Global) -> Result<(), Fail> {
+    over_tables(alloc, Way::Steps, &UPGRADES)?;
+    over_tables(alloc, Way::OneRun, &UPGRADES)
 }

@@ -6,9 +6,13 @@ use std::fs;
 use std::net::{Ipv4Addr, TcpListener};
 use std::test::Fail;
 
-/// A policy, and texts that are none.
-static FILES: [(&str, &str); 4] = [
+/// A policy, one whose rule counts until a day, and texts that are none.
+static FILES: [(&str, &str); 5] = [
     ("o/policy.toml", "~policy~"),
+    (
+        "o/dated.toml",
+        "version = 2\n\n[callers]\nanna = \"archivist\"\n\n~rule~allow\"\nrole = \"archivist\"\naction = \"*\"\ncollection = \"*\"\nclass = \"*\"\nlast = \"2024-03-01\"\n",
+    ),
     ("o/other.toml", "version = 3\n"),
     ("o/torn.toml", "version = 1\n\n[callers\n"),
     (
@@ -65,7 +69,7 @@ static OUTPUT_FAILS: &str =
     "replay,--policy,o/policy.toml,o/office.db|~days~|Failed||device\ndepot: cannot write standard output: write zero\n";
 
 /// The office goes on, others are made, and one is served.
-static GOES_ON: [&str; 15] = [
+static GOES_ON: [&str; 18] = [
     "replay,o/office.db|~days~|Accepted|~days answered~|",
     // What was written is there in the next run. The second deposit is in a collection of which nothing
     // may be destroyed.
@@ -82,6 +86,10 @@ static GOES_ON: [&str; 15] = [
     "replay,--policy,o/policy.toml,:memory:|~records~|Accepted|~answers~|",
     "replay,--policy=o/other.toml,--,:memory:|~records~|Refused||policy Y2\n~Y2~depot: o/other.toml is no policy\n",
     "serve,--port,0,--count,1,:memory:,2024-03-01|~maps~|Accepted|~denied~#|",
+    // A rule decides on its days, and on no other.
+    "policy,o/dated.db,o/dated.toml||Accepted|installed 1 rules 1 callers\n|",
+    "ask,o/dated.db,2024-03-01|~maps~|Accepted|~maps made~|",
+    "ask,o/dated.db,2024-03-02|~maps~|Accepted|~denied~|",
     // An office that is served to peers, and what they wrote in the run that follows.
     "policy,o/served.db,o/policy.toml||Accepted|~installed~|",
     "serve,--port,0,--count,5,o/served.db,2024-03-01|~asks~#~maps~#~y1~#POST /deposits?collection=maps&class=y1&accession=A-1~closed~#GET /deposits~anna~|Accepted|~no such~#~maps made~#~y1 made~#~deposited~1}#~ok~165~close~{\"deposits\":[{\"accession\":\"A-1\",\"bytes\":3,\"class\":\"y1~shown~maps\",\"deposit\":1,\"deposited\":\"2024-03-01\",\"due\":\"2025-02-28\",\"files\":1}]}#|",

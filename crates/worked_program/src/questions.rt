@@ -7,9 +7,9 @@ use std::fs;
 use std::test::*;
 use worked_bags::{bytes_of, text_of};
 
-/// A policy; the caller, the action, the collection and the class; the line that is printed; and
-/// what standard error is told, where it is told a thing. All with marks. A line that is no row says
-/// what the rows below it are about.
+/// A policy; the caller, the action, the collection and the class, and the option of a day; the line
+/// that is printed, or nothing where the words leave out a day; and what standard error is told, where
+/// it is told a thing. All with marks. A line that is no row says what the rows below it are about.
 static QUESTIONS: &str = r#"
 version = 1\nrule = [{effect="deny",role="*",action="*",collection="*",class="*"}]\n => eve|list|maps|y10 => deny rule 1\n => the caller eve{stranger}
 {policy} => anna|dispose|tax|y1 => deny rule 1\n
@@ -26,13 +26,24 @@ version = 1\nrule = [{effect="deny",role="*",action="*",collection="*",class="*"
 {strangers} => -|download|maps|y10 => allow rule 2\n => the caller -{stranger}
 # The word - is none, and not the collection of that name.
 {strangers} => bert|download|-|- => allow rule 2\n
+# Days: a rule that counts until 2024-12-31; a day that is missing, and one that is no matter.
+{policy-2} => anna|dispose|tax|y1|--day|2024-12-31 => deny rule 1\n
+{policy-2} => anna|dispose|tax|y1|--day|2025-01-01 => allow rule 2\n
+{policy-2} => anna|dispose|tax|y1 =>  => {no-day}
+{policy-2} => eve|list|maps|y10 =>  => {no-day}
+version = 2\n => anna|list|maps|y1 =>  => {no-day}
+version = 2\n => anna|list|maps|y1|--day|1900-01-01 => deny default\n => the caller anna{stranger}
+{policy} => anna|dispose|tax|y1|--day|2025-01-01 => deny rule 1\n
+# Faults of the policy are found before a missing day.
+version = 2\n\n{callers}{rule-tax}last = "2024-12-31"\n\n{rule-archivist}first = "2025-02-29"\n\n{rule-clerk} => anna|dispose|tax|y1 => policy Y5 2\n => rule 2{no-rule}: the key first\n
+version = 1\n\n{callers}{rule-tax}last = "2024-12-31"\n\n{rule-archivist}\n{rule-clerk} => anna|dispose|tax|y1 => policy Y5 1\n => rule 1{no-rule}: the key last\n
 # The least policy, and texts that are none.
 version = 1\n => anna|list|maps|y1 => deny default\n => the caller anna{stranger}
 version = 1 # {ff}\n => anna|list|maps|y1 => policy Y1\n => the policy is no text in TOML (Y1): line 1\n
 version = \n => anna|list|maps|y1 => policy Y1\n => the policy is no text in TOML (Y1): line 1\n
 version = 1\n[callers]\nanna = "clerk"\n"anna" = "clerk"\n => anna|list|maps|y1 => policy Y1\n => the policy is no text in TOML (Y1): line 4\n
-version = 3\n => anna|list|maps|y1 => policy Y2\n => the policy has no version, or one that is not the whole number 1 (Y2)\n
- => anna|list|maps|y1 => policy Y2\n => the policy has no version, or one that is not the whole number 1 (Y2)\n
+version = 3\n => anna|list|maps|y1 => policy Y2\n => the policy has no version, or one that is neither the whole number 1 nor 2 (Y2)\n
+ => anna|list|maps|y1 => policy Y2\n => the policy has no version, or one that is neither the whole number 1 nor 2 (Y2)\n
 version = 1\nnote = 1\nrule = 1\n => anna|list|maps|y1 => policy Y3\n => the policy has a key at the top other than version, callers and rule (Y3): the key note\n
 version = 1\n[callers]\nanna = "Clerk"\n => anna|list|maps|y1 => policy Y4\n => the callers of the policy are no table, or a caller or a role is no name (Y4): the caller anna\n
 version = 1\ncallers = []\n => anna|list|maps|y1 => policy Y4\n => the callers of the policy are no table, or a caller or a role is no name (Y4): the key callers\n
@@ -73,7 +84,7 @@ fn explains_what_was_worked_out(rt: HostRuntime) -> Result<(), Fail> {
             rows = rows.saturating_add(1);
         }
     }
-    assert!(rt; rows == 24, "{rows} rows");
+    assert!(rt; rows == 33, "{rows} rows");
     fs::remove_file(&rt, "policy.toml")?;
     Ok(())
 }
@@ -96,7 +107,16 @@ static INSTALLS: [&str; 2] = [
 fn a_policy_is_read_whole(rt: HostRuntime) -> Result<(), Fail> {
     // In a file that is named as standard input is elsewhere.
     fs::write(&rt, "-", long_policy(rt.alloc())?.as_slice())?;
-    let words = ["explain", "-", "carl", "list", "tax", "y10"];
+    let words = [
+        "explain",
+        "--day",
+        "2024-03-01",
+        "-",
+        "carl",
+        "list",
+        "tax",
+        "y10",
+    ];
     assert!(rt; prints(&rt, words.as_slice(), b"", r"allow rule 3\n")?);
     run_all(&rt, &INSTALLS)?;
     fs::remove_file(&rt, "-")?;

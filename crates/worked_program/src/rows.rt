@@ -12,7 +12,8 @@ pub fn words_of(alloc: Global, text: &str) -> Result<Vec<&str>, AllocError> {
 }
 
 /// Whether a run on these words prints what a row says: a line, and what standard error is told. A
-/// row may leave out the latter where a bag is refused, and has none where nothing is told.
+/// row may leave out the latter where a bag is refused, and has none where nothing is told. Without a
+/// line, the words are no use.
 pub fn prints(rt: &HostRuntime, words: &[&str], given: &[u8], row: &str) -> Result<bool, Fail> {
     let (line, reason) = row.split_once(" => ").unwrap_or((row, ""));
     let came = came_of(rt, words, &Given::new(given))?;
@@ -25,6 +26,8 @@ pub fn prints(rt: &HostRuntime, words: &[&str], given: &[u8], row: &str) -> Resu
     let is_accepted = line.starts_with("valid ") || line.starts_with("allow ");
     let wanted = if is_accepted {
         Ending::Accepted
+    } else if line.is_empty() {
+        Ending::Misused
     } else {
         Ending::Refused
     };

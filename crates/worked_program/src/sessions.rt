@@ -18,6 +18,16 @@ fn altered_rows_are_met_where_an_answer_rests_on_them(rt: HostRuntime) -> Result
 }
 
 #[test]
+fn an_older_office_goes_on_once_it_is_upgraded(rt: HostRuntime) -> Result<(), Fail> {
+    worked_office::an_older_office_goes_on_once_it_is_upgraded(rt.alloc())
+}
+
+#[test]
+fn each_stop_in_an_upgrade_leaves_an_office_that_goes_on(rt: HostRuntime) -> Result<(), Fail> {
+    worked_office::each_stop_in_an_upgrade_leaves_an_office_that_goes_on(rt.alloc())
+}
+
+#[test]
 fn only_an_office_of_this_version_is_taken_up(rt: HostRuntime) -> Result<(), Fail> {
     worked_office::only_an_office_of_this_version_is_taken_up(rt.alloc())
 }

@@ -75,10 +75,10 @@ static STORES: [Store; 13] = [
         told: "~no office~STORE is another database, and no office\n",
         ..OFFICE
     },
-    // The row of the table `office`, with the version 2 in the place of 3.
+    // The row of the table `office`, with the version 2 in the place of 5.
     Store {
         path: "s/earlier.db",
-        from: b"\0\x01\x03\x03\x03\x0F\x42\x40\x0F\x42\x40",
+        from: b"\0\x01\x03\x03\x05\x0F\x42\x40\x0F\x42\x40",
         to: b"\0\x01\x03\x03\x02\x0F\x42\x40\x0F\x42\x40",
         told: "store Q2\ndepot: STORE is an office of another version\n",
         ..OFFICE

@@ -82,7 +82,7 @@ static MEANINGS: [(&str, &str); 46] = [
     // What standard error is told.
     (
         "~uses~",
-        "Usage: depot check FILE\n       depot pack DIR FILE\n       depot unpack FILE DIR\n       depot explain POLICY CALLER ACTION COLLECTION CLASS\n       depot policy STORE POLICY\n       depot ask STORE DAY\n       depot replay [--policy POLICY] STORE\n       depot serve --port P --count N STORE DAY\n\nDepot checks and keeps BagIt bags, serves them by a policy, and destroys them when due.\ndepot COMMAND --help says what each command takes.\n",
+        "Usage: depot check FILE\n       depot pack DIR FILE\n       depot unpack FILE DIR\n       depot explain [--day DAY] POLICY CALLER ACTION COLLECTION CLASS\n       depot policy STORE POLICY\n       depot ask STORE DAY\n       depot replay [--policy POLICY] STORE\n       depot serve --port P --count N STORE DAY\n\nDepot checks and keeps BagIt bags, serves them by a policy, and destroys them when due.\ndepot COMMAND --help says what each command takes.\n",
     ),
     (
         "~missing~",
@@ -109,7 +109,7 @@ static MEANINGS: [(&str, &str); 46] = [
     ),
     (
         "~Y2~",
-        "the policy has no version, or one that is not the whole number 1 (Y2)\n",
+        "the policy has no version, or one that is neither the whole number 1 nor 2 (Y2)\n",
     ),
     ("~unread~", "device\ndepot: cannot read "),
     ("~unopened~", "store Q4\ndepot: cannot open "),

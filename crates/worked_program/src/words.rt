@@ -1,7 +1,7 @@
 //! Words that are no use of the program.
 
 /// Runs on them.
-pub static FAULTS: [&str; 39] = [
+pub static FAULTS: [&str; 42] = [
     // No subcommand is named, or none that there is; or it is asked for help.
     "||Misused||~uses~",
     "judge||Misused||depot has no subcommand judge\n~uses~",
@@ -15,6 +15,9 @@ pub static FAULTS: [&str; 39] = [
     "check,--help||Misused||Says whether a bag is valid, or its first fault.\n\nUsage: depot check <FILE>\n\nArguments:\n  <FILE>  the transfer form of the bag, or - for standard input..",
     // The words come first: where they are no use, it is no matter that no policy is there.
     "explain,no such file,anna,list,tax||Misused||~missing~<CLASS>\n..",
+    "explain,--day,no such file,anna,list,tax,y1||Misused||~missing~<CLASS>\n..",
+    "explain,--day,2025-02-29,no such file,anna,list,tax,y1||Misused||~no day~",
+    "explain,--day,2024-12-31,--day,2025-01-01,p,anna,list,tax,y1||Misused||error: the argument '--day <DAY>' cannot be used multiple times\n..",
     "explain,no such file,anna,destroy,tax,y1||Misused||ACTION is one of class, collection,..",
     "explain,no such file,anna,*,tax,y1||Misused||ACTION is one of class, collection,..",
     "explain,no such file,anna,list,TAX,y1||Misused||COLLECTION is a name..",

@@ -39,7 +39,7 @@ struct Case {
 const NO_ROUTE: &[u8] = b"GET /deposits/07/bag HTTP/1.1\r\nDepot-Caller: anna\r\n\r\n";
 
 /// What the desk refuses, and the beginning of the day.
-static MORNING: [Case; 19] = [
+static MORNING: [Case; 20] = [
     Case {
         request: b"POST /deposits/7/bag HTTP/1.1\r\nDepot-Caller: anna\r\n\r\n",
         answer: b"HTTP/1.1 405 Method Not Allowed\r\nContent-Type: application/json\r\nContent-Length: 18\r\nAllow: GET\r\nConnection: close\r\n\r\n{\"error\":\"Method\"}",
@@ -70,6 +70,10 @@ static MORNING: [Case; 19] = [
     },
     Case {
         request: b"POST /holds HTTP/1.1\r\nDepot-Caller: anna\r\nContent-Length: 46\r\n\r\n{\"deposit\":1,\"collection\":\"maps\",\"matter\":\"m\"}",
+        answer: BAD_BODY,
+    },
+    Case {
+        request: b"POST /holds HTTP/1.1\r\nDepot-Caller: anna\r\nContent-Length: 47\r\n\r\n{\"class\":\"y1\",\"collection\":\"maps\",\"matter\":\"m\"}",
         answer: BAD_BODY,
     },
     Case {

@@ -12,6 +12,7 @@ mod listening;
 mod offices;
 mod peers;
 mod replays;
+mod sessions;
 mod stops;
 mod tests;
 

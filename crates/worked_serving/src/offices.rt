@@ -5,6 +5,7 @@ use crate::day::take_day;
 use crate::files::{leave, open};
 use crate::listening::take_peers;
 use crate::replays::take_records;
+use crate::sessions::{take_holds, take_rules};
 use crate::stops::{START, Visit, Way, visit_over};
 use office_core::Limits;
 use office_engine::Office;
@@ -23,6 +24,10 @@ pub enum Part {
     Records,
     /// Peers that connect.
     Peers,
+    /// A session with holds on classes.
+    Holds,
+    /// A session under rules with days.
+    Rules,
 }
 
 /// What is done with two files.
@@ -46,7 +51,9 @@ fn furnish<S: Alter>(rt: &HostRuntime, office: &mut Office<S>) -> Result<(), Fai
 fn serve<S: Alter>(rt: &HostRuntime, office: &mut Office<S>, part: Part) -> Result<(), Fail> {
     match part {
         Part::Nothing => return Ok(()),
-        Part::Requests | Part::Records | Part::Peers => furnish(rt, office)?,
+        Part::Requests | Part::Records | Part::Peers | Part::Holds | Part::Rules => {
+            furnish(rt, office)?
+        }
     }
     match part {
         Part::Nothing => Ok(()),
@@ -56,6 +63,8 @@ fn serve<S: Alter>(rt: &HostRuntime, office: &mut Office<S>, part: Part) -> Resu
             take_peers(rt, office)?;
             take_accepts(rt.alloc(), office)
         }
+        Part::Holds => take_holds(rt.alloc(), office),
+        Part::Rules => take_rules(rt.alloc(), office),
     }
 }
 

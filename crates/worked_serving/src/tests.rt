@@ -12,7 +12,14 @@ use worked_sessions::{MANY, empty};
 /// Each part is put to an office of its own, in files that don't stop, with caches that hold all
 /// pages.
 pub fn offices_are_served(rt: &HostRuntime) -> Result<(), Fail> {
-    for part in [Part::Requests, Part::Records, Part::Peers] {
+    let parts = [
+        Part::Requests,
+        Part::Records,
+        Part::Peers,
+        Part::Holds,
+        Part::Rules,
+    ];
+    for part in parts {
         let files = empty(rt.alloc(), MANY, MANY);
         let (visit, _) = perform(rt, files, Options::new(7), Task::Make(part))?;
         visit.ok_or("no office is served")?;

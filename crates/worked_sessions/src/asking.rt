@@ -34,6 +34,7 @@ pub enum Asked {
     File(u32, &'static str),
     HoldDeposit(u32),
     HoldCollection(&'static str),
+    HoldClass(&'static str),
     Release(u32),
     Dispose(u32),
     DueList,
@@ -93,6 +94,10 @@ impl Asked {
             }),
             Asked::HoldCollection(name) => Some(Request::HoldCollection {
                 collection: Name::read(name)?,
+                matter: Matter::read("Case 7")?,
+            }),
+            Asked::HoldClass(name) => Some(Request::HoldClass {
+                class: Name::read(name)?,
                 matter: Matter::read("Case 7")?,
             }),
             Asked::Release(hold) => Some(Request::Release { hold }),

@@ -12,11 +12,11 @@ use std::alloc::Global;
 
 /// Each deposit, destroyed ones too, with the years of its class.
 const DEPOSITS: &str =
-    "SELECT number, collection, closed, years, due, holds FROM deposit JOIN class ON class.name = deposit.class ORDER BY number";
+    "SELECT number, collection, closed, years, due, holds, deposit.class FROM deposit JOIN class ON class.name = deposit.class ORDER BY number";
 
 /// What each live hold is on.
 const LIVE_HOLDS: &str =
-    "SELECT deposit, collection FROM hold WHERE released IS NULL ORDER BY number";
+    "SELECT deposit, collection, class FROM hold_4 WHERE released IS NULL ORDER BY number";
 
 const CONTENTS: &str = "SELECT id, mark, size, bytes FROM content ORDER BY id";
 
@@ -45,24 +45,26 @@ fn due_number(closed: i64, years: i64) -> Option<Option<i64>> {
     Some(due(closed, years_of(years)?).number())
 }
 
-/// Whether the hold of the row is on the deposit or on its collection.
-fn covers(hold: &Row, number: i64, collection: &str) -> Option<bool> {
-    let deposit: Option<i64> = hold.get(0).ok()?;
-    if deposit == Some(number) {
-        return Some(true);
-    }
-    let held: Option<String> = hold.get(1).ok()?;
+/// Whether the hold of the row has that name in a column.
+fn names(hold: &Row, at: usize, name: &str) -> Option<bool> {
+    let held: Option<String> = hold.get(at).ok()?;
     match held {
-        Some(held) => Some(held.as_str() == collection),
+        Some(held) => Some(held.as_str() == name),
         None => Some(false),
     }
 }
 
+/// Whether the hold of the row is on the deposit, on its collection or on its class.
+fn covers(hold: &Row, number: i64, collection: &str, class: &str) -> Option<bool> {
+    let deposit: Option<i64> = hold.get(0).ok()?;
+    Some(deposit == Some(number) || names(hold, 1, collection)? || names(hold, 2, class)?)
+}
+
 /// How many of the live holds cover the deposit.
-fn count_holds(holds: &[Row], number: i64, collection: &str) -> Option<i64> {
+fn count_holds(holds: &[Row], number: i64, collection: &str, class: &str) -> Option<i64> {
     let mut count = 0i64;
     for hold in holds {
-        if covers(hold, number, collection)? {
+        if covers(hold, number, collection, class)? {
             count = count.saturating_add(1);
         }
     }
@@ -75,9 +77,10 @@ fn computed(row: &Row, holds: &[Row]) -> Option<Kept> {
     let collection: String = row.get(1).ok()?;
     let closed: i64 = row.get(2).ok()?;
     let years: i64 = row.get(3).ok()?;
+    let class: String = row.get(6).ok()?;
     Some(Kept {
         due: due_number(closed, years)?,
-        holds: count_holds(holds, number, collection.as_str())?,
+        holds: count_holds(holds, number, collection.as_str(), class.as_str())?,
     })
 }
 
@@ -185,8 +188,8 @@ fn contents_kept_otherwise<S: Alter>(alloc: Global, conn: &mut Connection<S>) ->
 }
 
 /// What the tables keep beside the rows otherwise than the rows give, or no text: each deposit has the due
-/// day of its closing day and its class, and the number of the live holds on it and on its collection; each
-/// content stands once, under its SHA-256 and with its size, and a kept deposit has it. `None` where the
+/// day of its closing day and its class, and the number of the live holds on it, on its collection and on its
+/// class; each content stands once, under its SHA-256 and with its size, and a kept deposit has it. `None` where the
 /// store fails.
 pub fn kept_otherwise<S: Alter>(alloc: Global, conn: &mut Connection<S>) -> Option<String> {
     let told = deposits_kept_otherwise(alloc, conn)?;

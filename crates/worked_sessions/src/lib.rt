@@ -18,6 +18,8 @@ pub use files::{Disks, MANY, SMALL_CACHES, copy_files, empty, has_stopped, lose}
 pub use keeping::{kept_otherwise, look};
 pub use offices::AnyOffice;
 pub use session_fault::SessionFault;
-pub use sessions::{OPENING, POLICY, Row, answer_in_words, differs, differs_in_run, open};
+pub use sessions::{
+    OPENING, POLICY, POLICY_WITH_DAYS, Row, answer_in_words, differs, differs_in_run, install, open,
+};
 pub use showing::{held_rows, shown_rows};
 pub use wording::words;

@@ -12,6 +12,10 @@ use std::alloc::{AllocError, Global};
 pub const POLICY: &str =
     "version = 1\n\n[callers]\nanna = \"archivist\"\ncarl = \"clerk\"\n\n[[rule]]\neffect = \"deny\"\nrole = \"archivist\"\naction = \"dispose\"\ncollection = \"tax\"\nclass = \"*\"\n\n[[rule]]\neffect = \"allow\"\nrole = \"archivist\"\naction = \"*\"\ncollection = \"*\"\nclass = \"*\"\n\n[[rule]]\neffect = \"allow\"\nrole = \"clerk\"\naction = \"list\"\ncollection = \"*\"\nclass = \"y10\"\n";
 
+/// The same in version 2, where the first rule counts until the end of 2024.
+pub const POLICY_WITH_DAYS: &str =
+    "version = 2\n\n[callers]\nanna = \"archivist\"\ncarl = \"clerk\"\n\n[[rule]]\neffect = \"deny\"\nrole = \"archivist\"\naction = \"dispose\"\ncollection = \"tax\"\nclass = \"*\"\nlast = \"2024-12-31\"\n\n[[rule]]\neffect = \"allow\"\nrole = \"archivist\"\naction = \"*\"\ncollection = \"*\"\nclass = \"*\"\n\n[[rule]]\neffect = \"allow\"\nrole = \"clerk\"\naction = \"list\"\ncollection = \"*\"\nclass = \"y10\"\n";
+
 /// A row: the day, who asks, what is asked, and the answer in words.
 pub type Row = (&'static str, &'static str, Asked, &'static str);
 
@@ -150,12 +154,21 @@ pub fn differs_in_run<O: AnyOffice>(
     Ok(first_other(alloc, answers.as_slice(), rows)?)
 }
 
+/// Installs the policy of a text, in the place of the one before.
+pub fn install<O: AnyOffice>(
+    alloc: Global,
+    office: &mut O,
+    policy: &str,
+) -> Result<(), SessionFault> {
+    let policy = read_policy(alloc, policy).map_err(|_| SessionFault::NoPolicy)?;
+    office
+        .install(alloc, policy)
+        .map_err(SessionFault::NotInstalled)
+}
+
 /// Gives the office the policy, the classes `y1` and `y10` and the collections `tax` and `maps`. As
 /// `differs` on the rows of `OPENING`.
 pub fn open<O: AnyOffice>(alloc: Global, office: &mut O) -> Result<Option<String>, SessionFault> {
-    let policy = read_policy(alloc, POLICY).map_err(|_| SessionFault::NoPolicy)?;
-    office
-        .install(alloc, policy)
-        .map_err(SessionFault::NotInstalled)?;
+    install(alloc, office, POLICY)?;
     differs(alloc, office, &OPENING)
 }

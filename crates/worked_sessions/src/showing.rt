@@ -8,12 +8,12 @@ use std::alloc::Global;
 static QUERIES: [&str; 9] = [
     "SELECT id, version, max_deposits, max_holds FROM office ORDER BY id",
     "SELECT name, role FROM caller ORDER BY name",
-    "SELECT place, effect, role, action, collection, class FROM rule ORDER BY place",
+    "SELECT place, effect, role, action, collection, class, first, last FROM rule_5 ORDER BY place",
     "SELECT name, years FROM class ORDER BY name",
     "SELECT name FROM collection ORDER BY name",
     "SELECT number, accession, collection, class, closed, deposited, files, bytes, gone, due, holds FROM deposit ORDER BY number",
     "SELECT deposit, path, bytes FROM file JOIN content ON content.id = file.content ORDER BY deposit, path",
-    "SELECT number, deposit, collection, matter, placed, released FROM hold ORDER BY number",
+    "SELECT number, deposit, collection, class, matter, placed, released FROM hold_4 ORDER BY number",
     "SELECT id, size FROM content ORDER BY id",
 ];
 

@@ -80,6 +80,7 @@ fn hold_words(alloc: Global, hold: &LiveHold) -> Result<String, AllocError> {
     let on = match hold.on {
         Scope::Deposit => "deposit",
         Scope::Collection => "collection",
+        Scope::Class => "class",
     };
     format!(in alloc; " {number} on {on} placed {placed} for {matter};")
 }

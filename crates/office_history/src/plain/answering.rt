@@ -57,35 +57,37 @@ fn is_asked(only: &Option<Name<'_>>, name: &OwnedName) -> bool
     }
 }
 
-/// A deposit that the caller may list.
+/// A deposit that the caller may list on that day.
 fn is_listed(
     office: &Office,
+    day: Day,
     caller: &str,
     collection: &Option<Name<'_>>,
     class: &Option<Name<'_>>,
     deposit: &Deposit,
 ) -> bool
-    ensures { result ≡ is_listed office.now caller.now collection.now class.now deposit.now }
+    ensures { result ≡ is_listed office.now day caller.now collection.now class.now deposit.now }
 {
     is_asked(collection, &deposit.collection)
         && is_asked(class, &deposit.class)
-        && denial_at(office, caller, Action::List, deposit).is_none()
+        && denial_at(office, day, caller, Action::List, deposit).is_none()
 }
 
 fn listed_record(
     alloc: Global,
     office: &Office,
+    day: Day,
     caller: &str,
     collection: &Option<Name<'_>>,
     class: &Option<Name<'_>>,
     number: u32,
 ) -> Result<Option<DepositRecord>, AllocError>
-    ensures { IfOk result (λ told. told ≡ listed_record office.now caller.now collection.now class.now number) }
+    ensures { IfOk result (λ told. told ≡ listed_record office.now day caller.now collection.now class.now number) }
 {
     match deposit_numbered(office, number) {
-        Some((day, deposit)) => {
-            if is_listed(office, caller, collection, class, deposit) {
-                Ok(Some(record_of(alloc, office, number, day, deposit)?))
+        Some((deposited, deposit)) => {
+            if is_listed(office, day, caller, collection, class, deposit) {
+                Ok(Some(record_of(alloc, office, number, deposited, deposit)?))
             } else {
                 Ok(None)
             }
@@ -94,20 +96,24 @@ fn listed_record(
     }
 }
 
-/// The kept deposits, of the collection and class asked for, that the caller may list, ascending.
+/// The kept deposits, of the collection and class asked for, that the caller may list on that day,
+/// ascending.
 fn listed_records(
     alloc: Global,
     office: &Office,
+    day: Day,
     caller: &str,
     collection: &Option<Name<'_>>,
     class: &Option<Name<'_>>,
 ) -> Result<Vec<DepositRecord>, AllocError>
-    ensures { IfOk result (λ told. told.items ≡ listed_records office.now caller.now collection.now class.now) }
+    ensures { IfOk result (λ told. told.items ≡ listed_records office.now day caller.now collection.now class.now) }
 {
     let numbers = kept_numbers(alloc, office)?;
     let mut records = Vec::new(alloc);
     for number in &numbers {
-        if let Some(record) = listed_record(alloc, office, caller, collection, class, *number)? {
+        if let Some(record) = listed_record(
+            alloc, office, day, caller, collection, class, *number,
+        )? {
             records.push(record)?;
         }
     }
@@ -134,6 +140,7 @@ fn scope_of(hold: &Hold) -> Scope
     match &hold.target {
         Target::Deposit(_) => Scope::Deposit,
         Target::Collection(_) => Scope::Collection,
+        Target::Class(_) => Scope::Class,
     }
 }
 
@@ -273,7 +280,7 @@ pub fn allowed_answer(
             deposit: deposit_count(office) + 1,
         }),
         Request::List { collection, class } => Ok(Answer::List {
-            deposits: Sequence::of(listed_records(alloc, office, caller, collection, class)?),
+            deposits: Sequence::of(listed_records(alloc, office, day, caller, collection, class)?),
         }),
         Request::Record { deposit } => record_answer(alloc, office, *deposit),
         Request::Holds { deposit } => holds_answer(alloc, office, *deposit),
@@ -284,6 +291,9 @@ pub fn allowed_answer(
             hold: hold_count(office) + 1,
         }),
         Request::HoldCollection { .. } => Ok(Answer::HoldPlaced {
+            hold: hold_count(office) + 1,
+        }),
+        Request::HoldClass { .. } => Ok(Answer::HoldPlaced {
             hold: hold_count(office) + 1,
         }),
         Request::Release { hold } => Ok(Answer::HoldReleased { hold: *hold, day }),

@@ -13,6 +13,7 @@ use std::marker::Model;
 pub enum Target {
     Deposit(u32),
     Collection(OwnedName),
+    Class(OwnedName),
 }
 
 /// A deposit, with its bag.

@@ -209,13 +209,15 @@ fn is_live(office: &Office, hold: u32) -> bool
     release_day(office, hold).is_none()
 }
 
-/// A hold on a deposit covers it, and one on a collection each deposit of the collection, whichever came first.
+/// A hold on a deposit covers it, one on a collection each deposit of the collection, and one on a
+/// class each deposit of the class, whichever came first.
 fn reaches(hold: &Hold, number: u32, deposit: &Deposit) -> bool
     ensures { result ≡ reaches hold.now.target number deposit.now }
 {
     match &hold.target {
         Target::Deposit(of) => *of == number,
         Target::Collection(name) => name.as_str() == deposit.collection.as_str(),
+        Target::Class(name) => name.as_str() == deposit.class.as_str(),
     }
 }
 

@@ -4,7 +4,7 @@ ghost use Rattle.std.specs.Prelude.{◌≡◌, IfOk};
 ghost use Rattle.office_core.specs.FirstOf.{first_some};
 ghost use Rattle.office_core.specs.declared.request.Request.TheVariants as requests;
 ghost use Rattle.office_history.specs.Histories.{deposit_numbered, hold_numbered};
-ghost use Rattle.office_history.specs.Refusals.{of_deposit, of_hold, release_denial, asked_refusals, file_refusals, hold_refusals, collection_hold_refusals, release_refusals, place_refusals, bag_refusals, refusal};
+ghost use Rattle.office_history.specs.Refusals.{of_deposit, of_hold, release_denial, asked_refusals, file_refusals, hold_refusals, collection_hold_refusals, class_hold_refusals, release_refusals, place_refusals, bag_refusals, refusal};
 
 use crate::judging::refusal_of;
 use crate::plain::change::{Deposit, Hold, Target};
@@ -30,7 +30,7 @@ fn first_asked_refusal(
     ensures { IfOk result (λ found. found
         ≡ first_some (asked_refusals office.now day caller.now action number deposit.now)) }
 {
-    let facts = facts_of(alloc, office, caller, action, number, deposit)?;
+    let facts = facts_of(alloc, office, day, caller, action, number, deposit)?;
     Ok(refusal_of(verdict(&facts, day)))
 }
 
@@ -81,11 +81,12 @@ fn first_bag_refusal(
 /// E1 and E2.
 fn first_place_refusal(
     office: &Office,
+    day: Day,
     caller: &str,
     collection: &str,
     class: &str,
 ) -> Option<Refusal>
-    ensures { result ≡ first_some (place_refusals office.now caller.now collection.now class.now) }
+    ensures { result ≡ first_some (place_refusals office.now day caller.now collection.now class.now) }
 {
     if let Some(refusal) = no_such_collection(office, collection) {
         return Some(refusal);
@@ -95,6 +96,7 @@ fn first_place_refusal(
     }
     denial(
         office,
+        day,
         caller,
         Action::Deposit,
         Some(collection),
@@ -113,7 +115,7 @@ fn first_file_refusal(
     path: &[u8],
 ) -> Result<Option<Refusal>, AllocError>
     ensures { IfOk result (λ found. found
-        ≡ first_some (file_refusals office.now caller.now number path.now deposit.now)) }
+        ≡ first_some (file_refusals office.now day caller.now number path.now deposit.now)) }
 {
     match first_asked_refusal(
         alloc,
@@ -157,7 +159,7 @@ fn first_hold_refusal(
     deposit: &Deposit,
 ) -> Result<Option<Refusal>, AllocError>
     ensures { IfOk result (λ found. found
-        ≡ first_some (hold_refusals office.now caller.now number deposit.now)) }
+        ≡ first_some (hold_refusals office.now day caller.now number deposit.now)) }
 {
     match first_asked_refusal(alloc, office, day, caller, Action::Hold, number, deposit)? {
         Some(refusal) => Ok(Some(refusal)),
@@ -174,7 +176,7 @@ fn hold_refusal(
     number: u32,
 ) -> Result<Option<Refusal>, AllocError>
     ensures { IfOk result (λ found. found ≡ first_some (of_deposit
-        (deposit_numbered office.now number) (hold_refusals office.now caller.now number))) }
+        (deposit_numbered office.now number) (hold_refusals office.now day caller.now number))) }
 {
     match deposit_numbered(office, number) {
         Some((_, deposit)) => first_hold_refusal(alloc, office, day, caller, number, deposit),
@@ -183,46 +185,73 @@ fn hold_refusal(
 }
 
 /// E1, E2 and E10.
-fn collection_hold_refusal(office: &Office, caller: &str, name: &Name<'_>) -> Option<Refusal>
-    ensures { result ≡ first_some (collection_hold_refusals office.now caller.now name.now) }
+fn collection_hold_refusal(
+    office: &Office,
+    day: Day,
+    caller: &str,
+    name: &Name<'_>,
+) -> Option<Refusal>
+    ensures { result ≡ first_some (collection_hold_refusals office.now day caller.now name.now) }
 {
     if let Some(refusal) = no_such_collection(office, name.as_str()) {
         return Some(refusal);
     }
-    if let Some(refusal) = denial(office, caller, Action::Hold, Some(name.as_str()), None) {
+    if let Some(refusal) = denial(office, day, caller, Action::Hold, Some(name.as_str()), None) {
+        return Some(refusal);
+    }
+    full_of_holds(office)
+}
+
+/// E1, E2 and E10.
+fn class_hold_refusal(office: &Office, day: Day, caller: &str, name: &Name<'_>) -> Option<Refusal>
+    ensures { result ≡ first_some (class_hold_refusals office.now day caller.now name.now) }
+{
+    if let Some(refusal) = no_such_class(office, name.as_str()) {
+        return Some(refusal);
+    }
+    if let Some(refusal) = denial(office, day, caller, Action::Hold, None, Some(name.as_str())) {
         return Some(refusal);
     }
     full_of_holds(office)
 }
 
 /// E2: a release is asked of what the hold names.
-fn release_denial(office: &Office, caller: &str, hold: &Hold) -> Option<Refusal>
-    ensures { result ≡ release_denial office.now caller.now hold.now.target }
+fn release_denial(office: &Office, day: Day, caller: &str, hold: &Hold) -> Option<Refusal>
+    ensures { result ≡ release_denial office.now day caller.now hold.now.target }
 {
     match &hold.target {
         Target::Deposit(number) => match deposit_numbered(office, *number) {
-            Some((_, deposit)) => denial_at(office, caller, Action::Release, deposit),
+            Some((_, deposit)) => denial_at(office, day, caller, Action::Release, deposit),
             None => Some(Refusal::NoSuch(Subject::Deposit)),
         },
         Target::Collection(name) => denial(
             office,
+            day,
             caller,
             Action::Release,
             Some(name.as_str()),
             None,
         ),
+        Target::Class(name) => denial(
+            office,
+            day,
+            caller,
+            Action::Release,
+            None,
+            Some(name.as_str()),
+        ),
     }
 }
 
 /// E1, E2 and E9.
-fn release_refusal(office: &Office, caller: &str, number: u32) -> Option<Refusal>
+fn release_refusal(office: &Office, day: Day, caller: &str, number: u32) -> Option<Refusal>
     ensures { result ≡ first_some (of_hold (hold_numbered office.now number)
-        (release_refusals office.now caller.now number)) }
+        (release_refusals office.now day caller.now number)) }
 {
     let Some((_, hold)) = hold_numbered(office, number) else {
         return Some(Refusal::NoSuch(Subject::Hold));
     };
-    if let Some(refusal) = release_denial(office, caller, hold) {
+    if let Some(refusal) = release_denial(office, day, caller, hold) {
         return Some(refusal);
     }
     released_refusal(office, number)
@@ -254,6 +283,7 @@ pub fn refusal(
     match request {
         Request::DefineClass { name, .. } => Ok(denial(
             office,
+            day,
             caller,
             Action::Class,
             None,
@@ -261,6 +291,7 @@ pub fn refusal(
         )),
         Request::DefineCollection { name } => Ok(denial(
             office,
+            day,
             caller,
             Action::Collection,
             Some(name.as_str()),
@@ -272,7 +303,7 @@ pub fn refusal(
             accession,
             closed,
             bag,
-        } => match first_place_refusal(office, caller, collection.as_str(), class.as_str()) {
+        } => match first_place_refusal(office, day, caller, collection.as_str(), class.as_str()) {
             Some(refusal) => Ok(Some(refusal)),
             None => first_bag_refusal(alloc, office, day, accession.as_str(), *closed, *bag),
         },
@@ -314,9 +345,10 @@ pub fn refusal(
         ),
         Request::HoldDeposit { deposit, .. } => hold_refusal(alloc, office, day, caller, *deposit),
         Request::HoldCollection { collection, .. } => Ok(collection_hold_refusal(
-            office, caller, collection,
+            office, day, caller, collection,
         )),
-        Request::Release { hold } => Ok(release_refusal(office, caller, *hold)),
+        Request::HoldClass { class, .. } => Ok(class_hold_refusal(office, day, caller, class)),
+        Request::Release { hold } => Ok(release_refusal(office, day, caller, *hold)),
         Request::Dispose { deposit } => dispose_refusal(alloc, office, day, caller, *deposit),
         Request::DueList => Ok(None),
     }

@@ -39,12 +39,13 @@ fn rules_of(office: &Office) -> &[Rule]
 /// The rule that decides what a caller asks.
 fn deciding_rule(
     office: &Office,
+    day: Day,
     caller: &str,
     action: Action,
     collection: Option<&str>,
     class: Option<&str>,
 ) -> Option<Decision>
-    ensures { result ≡ deciding_rule office.now caller.now action
+    ensures { result ≡ deciding_rule office.now day caller.now action
         (option_copied collection.entry) (option_copied class.entry) }
 {
     let ask = Ask {
@@ -52,6 +53,7 @@ fn deciding_rule(
         action,
         collection,
         class,
+        day,
     };
     decide(rules_of(office), &ask)
 }
@@ -60,20 +62,21 @@ fn deciding_rule(
 pub fn facts_of(
     alloc: Global,
     office: &Office,
+    day: Day,
     caller: &str,
     action: Action,
     number: u32,
     deposit: &Deposit,
 ) -> Result<Facts, AllocError>
     ensures { IfOk result (λ facts.
-        facts ≡ facts_of office.now caller.now action number deposit.now) }
+        facts ≡ facts_of office.now day caller.now action number deposit.now) }
 {
     let holds = live_holds(alloc, office, number, deposit)?;
     let collection = deposit.collection.as_str();
     let class = deposit.class.as_str();
     Ok(Facts {
         action,
-        decision: deciding_rule(office, caller, action, Some(collection), Some(class)),
+        decision: deciding_rule(office, day, caller, action, Some(collection), Some(class)),
         gone: destruction_day(office, number),
         hold: holds.first().copied(),
         due: due(office, deposit),
@@ -83,15 +86,18 @@ pub fn facts_of(
 /// E2
 pub fn denial(
     office: &Office,
+    day: Day,
     caller: &str,
     action: Action,
     collection: Option<&str>,
     class: Option<&str>,
 ) -> Option<Refusal>
-    ensures { result ≡ denial office.now caller.now action
+    ensures { result ≡ denial office.now day caller.now action
         (option_copied collection.entry) (option_copied class.entry) }
 {
-    match office_core::denial_verdict(deciding_rule(office, caller, action, collection, class)) {
+    match office_core::denial_verdict(deciding_rule(
+        office, day, caller, action, collection, class,
+    )) {
         Some(verdict) => refusal_of(verdict),
         None => None,
     }
@@ -100,14 +106,16 @@ pub fn denial(
 /// E2, asked of a deposit: of its collection and its class.
 pub fn denial_at(
     office: &Office,
+    day: Day,
     caller: &str,
     action: Action,
     deposit: &Deposit,
 ) -> Option<Refusal>
-    ensures { result ≡ denial_at office.now caller.now action deposit.now }
+    ensures { result ≡ denial_at office.now day caller.now action deposit.now }
 {
     denial(
         office,
+        day,
         caller,
         action,
         Some(deposit.collection.as_str()),

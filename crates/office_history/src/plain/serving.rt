@@ -91,6 +91,10 @@ fn allowed_change(
             let collection = collection.to_owned(alloc)?;
             Ok(Some(placed_hold(alloc, day, Target::Collection(collection), matter)?))
         }
+        Request::HoldClass { class, matter } => {
+            let class = class.to_owned(alloc)?;
+            Ok(Some(placed_hold(alloc, day, Target::Class(class), matter)?))
+        }
         Request::Release { hold } => Ok(Some(Kind::ReleasedHold(day, *hold))),
         Request::Dispose { deposit } => Ok(Some(Kind::Destroyed(day, *deposit))),
         _ => Ok(None),

@@ -38,31 +38,37 @@ pub fn answer<S: Alter>(alloc: Global, tx: &mut Transaction<'_, S>, read: &str) 
         "last deposit" => answer_text(alloc, last_deposit(tx)),
         "rule" => {
             let (collection, class) = (word(&words, 3), word(&words, 4));
+            let day = i64::from(number(&words, 5));
             answer_text(
                 alloc,
-                match_rule(tx, name, word(&words, 2), collection, class),
+                match_rule(tx, name, word(&words, 2), collection, class, day),
             )
         }
         "closings" => answer_text(alloc, rows_of_class(alloc, tx, name)),
-        other => answer_of_files_and_holds(alloc, tx, other, of, word(&words, 2)),
+        other => {
+            answer_of_files_and_holds(alloc, tx, other, of, word(&words, 2), word(&words, 3))
+        }
     }
 }
 
-/// What a read of files or holds answers.
+/// What a read of files or holds answers: of those over a deposit by its number, its collection and its class.
 fn answer_of_files_and_holds<S: Alter>(
     alloc: Global,
     tx: &mut Transaction<'_, S>,
     read: &str,
     of: u32,
     name: &str,
+    class: &str,
 ) -> Option<String> {
     match read {
         "files" => answer_text(alloc, files_of(alloc, tx, of)),
         "content" => answer_text(alloc, file_of(tx, of, name)),
         "hold" => answer_text(alloc, hold_row(tx, of)),
-        "live holds" => answer_text(alloc, live_holds(alloc, tx, of, name)),
+        "live holds" => answer_text(alloc, live_holds(alloc, tx, of, name, class)),
         "last hold" => answer_text(alloc, last_hold(tx)),
-        "released outside" => answer_text(alloc, has_release_outside(tx, of, name, 100, 149)),
+        "released outside" => {
+            answer_text(alloc, has_release_outside(tx, of, name, class, 100, 149))
+        }
         _ => answer_of_kept(alloc, tx, read, of),
     }
 }

@@ -15,7 +15,7 @@ pub static CALLS: [&[Part]; 9] = [
             "steps",
             "open\n\
              read|limits > OfficeLimits { max_deposits: 10, max_holds: 20 }\n\
-             held > 1|3|10|20;--;--;--;--;--;--;--;--;--;\n\
+             held > 1|5|10|20;--;--;--;--;--;--;--;--;--;\n\
              create > Q4\n\
              open",
         ),
@@ -36,7 +36,7 @@ pub static CALLS: [&[Part]; 9] = [
             "read|years|y2 > Some(3)\n\
              read|years|kept > Some(-1)\n\
              read|collection|maps > true\n\
-             held > 1|3|10|20;--;--;--;kept|-1;y2|3;--;maps;--;--;--;--;--;",
+             held > 1|5|10|20;--;--;--;kept|-1;y2|3;--;maps;--;--;--;--;--;",
         ),
     ],
     // A policy lasts.
@@ -52,9 +52,10 @@ pub static CALLS: [&[Part]; 9] = [
             "read|role|ben > Some(\"reader\")\n\
              read|role|ada > None\n\
              read|rules > [RuleRow { place: 1, effect: 0, role: \"keeper\", action: \"list\", \
-             collection: \"*\", class: \"y2\" }, RuleRow { place: 7, effect: 1, role: \"*\", \
-             action: \"list\", collection: \"*\", class: \"y2\" }]\n\
-             held > 1|3|10|20;--;ben|reader;cy|reader;--;1|0|keeper|list|*|y2;7|1|*|list|*|y2;--;\
+             collection: \"*\", class: \"y2\", first: -25567, last: 2859848 }, RuleRow { place: 7, effect: 1, role: \"*\", \
+             action: \"list\", collection: \"*\", class: \"y2\", first: -25567, last: 2859848 }]\n\
+             held > 1|5|10|20;--;ben|reader;cy|reader;--;1|0|keeper|list|*|y2|-25567|2859848;\
+             7|1|*|list|*|y2|-25567|2859848;--;\
              --;--;--;--;--;--;",
         ),
     ],
@@ -85,7 +86,7 @@ pub static CALLS: [&[Part]; 9] = [
              \"y2\", closed: 10, deposited: 11, files: 2, bytes: 300, gone: Some(900) }, \
              DepositRow { number: 9, accession: \"2026/9\", collection: \"maps\", class: \"y2\", \
              closed: 10, deposited: 11, files: 2, bytes: 300, gone: None }]\n\
-             held > 1|3|10|20;--;--;--;y2|2;--;maps;--;1|2026/1|maps|y2|10|11|2|300|||0;\
+             held > 1|5|10|20;--;--;--;y2|2;--;maps;--;1|2026/1|maps|y2|10|11|2|300|||0;\
              4|2026/4|maps|y2|10|11|2|300|900||0;9|2026/9|maps|y2|10|11|2|300|||0;--;--;--;--;",
         ),
     ],
@@ -105,7 +106,7 @@ pub static CALLS: [&[Part]; 9] = [
             "read|content|2|data/b > Some([98, 98])\n\
              read|files|2 > [FileRow { deposit: 2, path: \"bagit.txt\", content: [116, 101, 120, \
              116] }, FileRow { deposit: 2, path: \"data/b\", content: [98, 98] }]\n\
-             held > 1|3|10|20;--;--;--;--;--;--;1|data/b|one;2|bagit.txt|text;2|data/b|bb;--;--;\
+             held > 1|5|10|20;--;--;--;--;--;--;1|data/b|one;2|bagit.txt|text;2|data/b|bb;--;--;\
              1|2;2|4;3|3;--;",
         ),
     ],
@@ -118,19 +119,31 @@ pub static CALLS: [&[Part]; 9] = [
              do|hold on collection|2|maps|suit\n\
              do|hold on deposit|5|8|audit\n\
              do|hold on deposit|3|7|audit\n\
+             do|hold on class|7|y2|suit\n\
              do|end hold|1|150",
         ),
         (
             "steps",
-            "read|last hold > Some(5)\n\
-             read|live holds|7|maps > [2, 3]\n\
-             read|live holds|8|plans > [5]\n\
-             read|released outside|7|plans > true\n\
-             read|released outside|8|maps > false\n\
-             read|hold|1 > Some(HoldRow { number: 1, deposit: Some(7), collection: None, matter: \
-             \"tax 1\", placed: 100, released: Some(150) })\n\
-             held > 1|3|10|20;--;--;--;--;--;--;--;1|7||tax 1|100|150;2||maps|suit|100|;\
-             3|7||audit|100|;5|8||audit|100|;--;--;",
+            "read|last hold > Some(7)\n\
+             read|live holds|7|maps|y2 > [2, 3, 7]\n\
+             read|live holds|7|maps|y9 > [2, 3]\n\
+             read|live holds|8|plans|y9 > [5]\n\
+             read|live holds|9|plans|y2 > [7]\n\
+             read|released outside|7|plans|y9 > true\n\
+             read|released outside|8|maps|y2 > false\n\
+             read|hold|1 > Some(HoldRow { number: 1, deposit: Some(7), collection: None, class: \
+             None, matter: \"tax 1\", placed: 100, released: Some(150) })\n\
+             read|hold|7 > Some(HoldRow { number: 7, deposit: None, collection: None, class: \
+             Some(\"y2\"), matter: \"suit\", placed: 100, released: None })\n\
+             held > 1|5|10|20;--;--;--;--;--;--;--;1|7|||tax 1|100|150;2||maps||suit|100|;\
+             3|7|||audit|100|;5|8|||audit|100|;7|||y2|suit|100|;--;--;",
+        ),
+        (
+            "steps",
+            "do|end hold|7|90\n\
+             read|live holds|7|maps|y2 > [2, 3]\n\
+             read|released outside|9|plans|y2 > true\n\
+             read|released outside|9|plans|y9 > false",
         ),
     ],
     // Contents of one mark stand side by side, each with its own bytes.
@@ -170,6 +183,8 @@ pub static CALLS: [&[Part]; 9] = [
              do|due|4|\n\
              do|more holds|maps|3\n\
              do|more holds|maps|-3\n\
+             do|more holds of class|y2|4\n\
+             do|more holds of class|y2|-4\n\
              do|holds|2|0\n\
              do|gone|5|800",
         ),
@@ -194,34 +209,50 @@ pub static CALLS: [&[Part]; 9] = [
             "steps",
             "do|more holds|maps|2\n\
              do|more holds|plans|2\n\
+             do|more holds of class|kept|2\n\
+             do|more holds of class|y9|2\n\
              do|due|1|;due|9|5;holds|9|5\n\
              read|due|1 > Some(DueRow { number: 1, due: None, holds: 2 })\n\
              read|due|2 > Some(DueRow { number: 2, due: Some(741), holds: 0 })\n\
              read|due|3 > Some(DueRow { number: 3, due: Some(740), holds: 4 })\n\
+             read|due|4 > Some(DueRow { number: 4, due: None, holds: 4 })\n\
              read|due|5 > Some(DueRow { number: 5, due: Some(739), holds: 2 })\n\
              read|due rows|741 > [PlaceRow { number: 2, collection: \"tax\", class: \"y2\", due: \
              Some(741) }]\n\
              do|drop files|1",
         ),
     ],
-    // The rule of the least place that fits decides; a name that is absent fits `*` alone.
+    // The rule of the least place that fits on the day decides; a name that is absent fits `*` alone.
     &[(
         "steps",
         "create\n\
          do|policy|anna archivist,carl clerk|3 1 clerk list * y10,2 1 archivist * * *,1 0 archivist \
          dispose tax *\n\
          read|rule|archivist|dispose|tax|y1 > Some(RuleRow { place: 1, effect: 0, role: \
-         \"archivist\", action: \"dispose\", collection: \"tax\", class: \"*\" })\n\
+         \"archivist\", action: \"dispose\", collection: \"tax\", class: \"*\", first: -25567, last: 2859848 })\n\
          read|rule|archivist|dispose|maps|y1 > Some(RuleRow { place: 2, effect: 1, role: \
-         \"archivist\", action: \"*\", collection: \"*\", class: \"*\" })\n\
+         \"archivist\", action: \"*\", collection: \"*\", class: \"*\", first: -25567, last: 2859848 })\n\
          read|rule|stranger|list|maps|y10 > None\n\
          read|rule|archivist|class||y1 > Some(RuleRow { place: 2, effect: 1, role: \"archivist\", \
-         action: \"*\", collection: \"*\", class: \"*\" })\n\
+         action: \"*\", collection: \"*\", class: \"*\", first: -25567, last: 2859848 })\n\
          read|rule|archivist|dispose||y1 > Some(RuleRow { place: 2, effect: 1, role: \
-         \"archivist\", action: \"*\", collection: \"*\", class: \"*\" })\n\
+         \"archivist\", action: \"*\", collection: \"*\", class: \"*\", first: -25567, last: 2859848 })\n\
          read|rule|clerk|list|maps|y10 > Some(RuleRow { place: 3, effect: 1, role: \"clerk\", \
-         action: \"list\", collection: \"*\", class: \"y10\" })\n\
+         action: \"list\", collection: \"*\", class: \"y10\", first: -25567, last: 2859848 })\n\
          read|rule|clerk|list|maps| > None\n\
-         read|rule|Clerk|list|maps|y10 > None",
+         read|rule|Clerk|list|maps|y10 > None\n\
+         do|policy|anna archivist|1 0 archivist * tax * 100 200,2 1 archivist * * * 99 201\n\
+         read|rule|archivist|dispose|tax|y1|98 > None\n\
+         read|rule|archivist|dispose|tax|y1|99 > Some(RuleRow { place: 2, effect: 1, role: \
+         \"archivist\", action: \"*\", collection: \"*\", class: \"*\", first: 99, last: 201 })\n\
+         read|rule|archivist|dispose|tax|y1|100 > Some(RuleRow { place: 1, effect: 0, role: \
+         \"archivist\", action: \"*\", collection: \"tax\", class: \"*\", first: 100, last: 200 \
+         })\n\
+         read|rule|archivist|dispose|tax|y1|200 > Some(RuleRow { place: 1, effect: 0, role: \
+         \"archivist\", action: \"*\", collection: \"tax\", class: \"*\", first: 100, last: 200 \
+         })\n\
+         read|rule|archivist|dispose|tax|y1|201 > Some(RuleRow { place: 2, effect: 1, role: \
+         \"archivist\", action: \"*\", collection: \"*\", class: \"*\", first: 99, last: 201 })\n\
+         read|rule|archivist|dispose|tax|y1|202 > None",
     )],
 ];

@@ -2,9 +2,9 @@
 
 use crate::words::{number, word};
 use office_tables::{
-    CallerRow, HoldTarget, NewDeposit, RuleRow, TableFault, add_holds, drop_files, end_hold,
-    mark_gone, put_class, put_collection, put_deposit, put_file, put_hold, put_marked, put_policy,
-    set_due, set_holds,
+    CallerRow, HoldTarget, NewDeposit, RuleRow, TableFault, add_holds, add_holds_class, drop_files,
+    end_hold, mark_gone, put_class, put_collection, put_deposit, put_file, put_hold, put_marked,
+    put_policy, set_due, set_holds,
 };
 use sqlite::{Alter, Transaction};
 use std::alloc::{AllocError, Global};
@@ -46,6 +46,10 @@ fn change_hold<S: Alter>(tx: &mut Transaction<'_, S>, words: &[&str]) -> Result<
             let target = HoldTarget::Collection(word(words, 2));
             put_hold(tx, hold, target, word(words, 3), 100)
         }
+        "hold on class" => {
+            let target = HoldTarget::Class(word(words, 2));
+            put_hold(tx, hold, target, word(words, 3), 100)
+        }
         "end hold" => end_hold(tx, hold, i64::from(number(words, 2))),
         _ => Err(TableFault::Memory),
     }
@@ -76,6 +80,9 @@ fn change_kept<S: Alter>(tx: &mut Transaction<'_, S>, words: &[&str]) -> Result<
         "due" => set_due(tx, deposit, word(words, 2).parse().ok()),
         "holds" => set_holds(tx, deposit, word(words, 2).parse().unwrap_or(0)),
         "more holds" => add_holds(tx, word(words, 1), word(words, 2).parse().unwrap_or(0)),
+        "more holds of class" => {
+            add_holds_class(tx, word(words, 1), word(words, 2).parse().unwrap_or(0))
+        }
         _ => change_hold(tx, words),
     }
 }
@@ -137,7 +144,13 @@ fn rules_of(alloc: Global, rules: &str) -> Result<Vec<RuleRow>, AllocError> {
     Ok(rows)
 }
 
-/// A rule: its place and its effect, a role, an action, a collection and a class.
+/// The number of a day, or where there is none the other.
+fn day_or(word: &str, other: i64) -> i64 {
+    word.parse().unwrap_or(other)
+}
+
+/// A rule: its place and its effect, a role, an action, a collection and a class, and the numbers of its
+/// first and its last day, where it has such.
 fn rule_of(alloc: Global, words: &[&str]) -> Result<RuleRow, AllocError> {
     Ok(RuleRow {
         place: i64::from(number(words, 0)),
@@ -146,5 +159,7 @@ fn rule_of(alloc: Global, words: &[&str]) -> Result<RuleRow, AllocError> {
         action: String::from_str(alloc, word(words, 3))?,
         collection: String::from_str(alloc, word(words, 4))?,
         class: String::from_str(alloc, word(words, 5))?,
+        first: day_or(word(words, 6), -25_567),
+        last: day_or(word(words, 7), 2_859_848),
     })
 }

@@ -28,13 +28,13 @@ pub static REFUSALS: [&[Part]; 4] = [
              do|gone|3|9\n\
              do|drop files|3\n\
              do|end hold|3|9\n\
-             held > 1|3|10|20;--;--;--;y2|2;--;maps;--;1|2026/1|maps|y2|10|11|2|300|||0;--;\
-             1|data/a|abc;--;1|1||suit|100|;--;1|3;--;",
+             held > 1|5|10|20;--;--;--;y2|2;--;maps;--;1|2026/1|maps|y2|10|11|2|300|||0;--;\
+             1|data/a|abc;--;1|1|||suit|100|;--;1|3;--;",
         ),
         (
             "steps",
-            "held > 1|3|10|20;--;--;--;y2|2;--;maps;--;1|2026/1|maps|y2|10|11|2|300|||0;--;\
-             1|data/a|abc;--;1|1||suit|100|;--;1|3;--;\n\
+            "held > 1|5|10|20;--;--;--;y2|2;--;maps;--;1|2026/1|maps|y2|10|11|2|300|||0;--;\
+             1|data/a|abc;--;1|1|||suit|100|;--;1|3;--;\n\
              read|role|eve > None\n\
              read|years|Y2 > None\n\
              read|collection|map > false\n\
@@ -44,7 +44,7 @@ pub static REFUSALS: [&[Part]; 4] = [
              read|content|1|data/A > None\n\
              read|content|3|data/a > None\n\
              read|hold|3 > None\n\
-             read|live holds|3|plans > []\n\
+             read|live holds|3|plans|y9 > []\n\
              read|rules > []\n\
              read|deposits > [DepositRow { number: 1, accession: \"2026/1\", collection: \
              \"maps\", class: \"y2\", closed: 10, deposited: 11, files: 2, bytes: 300, gone: \
@@ -59,8 +59,9 @@ pub static REFUSALS: [&[Part]; 4] = [
              * * > Q4\n\
              do|class|new|5;policy|ada keeper,ben keeper|3 1 keeper * * *,4 1 keeper * * *,4 1 \
              keeper * * * > Q4\n\
-             held > 1|3|10|20;--;ada|keeper;ben|keeper;--;1|1|keeper|*|*|*;2|1|keeper|*|*|*;--;\
-             y2|2;--;maps;--;1|2026/1|maps|y2|10|11|2|300|||0;--;1|data/a|abc;--;1|1||suit|100|;\
+             held > 1|5|10|20;--;ada|keeper;ben|keeper;--;1|1|keeper|*|*|*|-25567|2859848;\
+             2|1|keeper|*|*|*|-25567|2859848;--;\
+             y2|2;--;maps;--;1|2026/1|maps|y2|10|11|2|300|||0;--;1|data/a|abc;--;1|1|||suit|100|;\
              --;1|3;--;",
         ),
         (
@@ -71,7 +72,8 @@ pub static REFUSALS: [&[Part]; 4] = [
              do|class|new|5;hold on deposit|2|1|other\n\
              do|hold on deposit|3|77|no such deposit\n\
              do|hold on collection|4|plans|no such collection\n\
-             read|last hold > Some(4)",
+             do|hold on class|5|y9|no such class\n\
+             read|last hold > Some(5)",
         ),
     ],
     // Nothing is found in an empty office.
@@ -88,7 +90,7 @@ pub static REFUSALS: [&[Part]; 4] = [
              read|content|1|data/A > None\n\
              read|content|3|data/a > None\n\
              read|hold|3 > None\n\
-             read|live holds|3|plans > []",
+             read|live holds|3|plans|y9 > []",
         ),
         (
             "steps",
@@ -110,18 +112,19 @@ pub static REFUSALS: [&[Part]; 4] = [
              read|rule|keeper|list|maps|y2 > Q4\n\
              do|due|1|9 > Q4\n\
              do|more holds|maps|1 > Q4\n\
+             do|more holds of class|y2|1 > Q4\n\
              do|file|1|data/a| > Q4",
     )],
     // Strange rows are refused: those that the schema takes and no row of the office can be.
     &[(
         "steps",
         "create\n\
-             run|INSERT INTO hold VALUES (-1, 1, NULL, 'suit', 1, NULL)\n\
+             run|INSERT INTO hold_4 VALUES (-1, 1, NULL, NULL, 'suit', 1, NULL)\n\
              read|last hold > Q4\n\
-             read|live holds|1|maps > Q4\n\
-             run|INSERT INTO hold VALUES (4294967296, 1, NULL, 'suit', 1, NULL)\n\
+             read|live holds|1|maps|y2 > Q4\n\
+             run|INSERT INTO hold_4 VALUES (4294967296, 1, NULL, NULL, 'suit', 1, NULL)\n\
              read|last hold > Q4\n\
-             run|INSERT INTO hold VALUES (5, -1, NULL, 'suit', 1, NULL)\n\
+             run|INSERT INTO hold_4 VALUES (5, -1, NULL, NULL, 'suit', 1, NULL)\n\
              read|hold|5 > Q4\n\
              run|INSERT INTO caller VALUES ('anna', CAST(x'ff' AS TEXT))\n\
              read|role|anna > Q4\n\

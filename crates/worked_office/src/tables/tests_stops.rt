@@ -8,16 +8,17 @@ use std::alloc::Global;
 use std::test::Fail;
 use worked_sessions::{Disks, MANY, copy_files, empty, has_stopped, lose};
 
-/// The whole empty office: the nine tables of an office, and its indexes, those that keys make too.
+/// The whole empty office: the eleven tables of an office, and its indexes, those that keys make too.
 const WHOLE: &str = "open\n\
      read|limits > OfficeLimits { max_deposits: 10, max_holds: 20 }\n\
-     held > 1|3|10|20;--;--;--;--;--;--;--;--;--;\n\
+     held > 1|5|10|20;--;--;--;--;--;--;--;--;--;\n\
      show|SELECT type, name FROM sqlite_schema > table|office;table|caller;\
      index|sqlite_autoindex_caller_1;table|rule;table|class;index|sqlite_autoindex_class_1;\
      table|collection;index|sqlite_autoindex_collection_1;table|deposit;\
      index|sqlite_autoindex_deposit_1;table|file;index|sqlite_autoindex_file_1;table|hold;\
      table|content;index|hold_deposit;index|hold_collection;index|file_content;\
-     index|content_mark;index|deposit_due;";
+     index|content_mark;index|deposit_due;table|hold_4;index|hold_4_deposit;\
+     index|hold_4_collection;index|hold_4_class;table|rule_5;";
 
 /// An empty database.
 const EMPTY: &str = "open > Q1\n\

@@ -1,19 +1,22 @@
 use Rattle.std.proofs.Common.{Some, None}
 use Rattle.office_core.specs.declared.rule.Effect.TheVariants.{Allow, Deny}
-use Rattle.commands.proofs.ExplainLemmas.{decision_is_said, fault_is_said}
+use Rattle.commands.proofs.ExplainLemmas.{decision_is_said, fault_is_said, missing_day_is_said}
 use Rattle.commands.proofs.explain.explain_outcome.Goals as goal
 
 pub returns-clause-allowed : goal.returns-clause-allowed
-returns-clause-allowed c = λ policy rule of is.
-    decision_is_said c.args.bytes.now c.args.asked.now c.bytes_outcome.result c.bytes_outcome.ensures policy (Some (record { rule = rule; effect = Allow })) of is
+returns-clause-allowed c = λ policy day rule of on is.
+    decision_is_said c.args.bytes.now c.args.asked.now c.bytes_outcome.result c.bytes_outcome.ensures policy day (Some (record { rule = rule; effect = Allow })) of on is
 
 pub returns-clause-denied : goal.returns-clause-denied
-returns-clause-denied c = λ policy rule of is.
-    decision_is_said c.args.bytes.now c.args.asked.now c.bytes_outcome.result c.bytes_outcome.ensures policy (Some (record { rule = rule; effect = Deny })) of is
+returns-clause-denied c = λ policy day rule of on is.
+    decision_is_said c.args.bytes.now c.args.asked.now c.bytes_outcome.result c.bytes_outcome.ensures policy day (Some (record { rule = rule; effect = Deny })) of on is
 
 pub returns-clause-by_default : goal.returns-clause-by_default
-returns-clause-by_default c = λ policy of is.
-    decision_is_said c.args.bytes.now c.args.asked.now c.bytes_outcome.result c.bytes_outcome.ensures policy None of is
+returns-clause-by_default c = λ policy day of on is.
+    decision_is_said c.args.bytes.now c.args.asked.now c.bytes_outcome.result c.bytes_outcome.ensures policy day None of on is
 
 pub returns-clause-refused : goal.returns-clause-refused
 returns-clause-refused c = fault_is_said c.args.bytes.now c.args.asked.now c.bytes_outcome.result c.bytes_outcome.ensures
+
+pub returns-clause-undated : goal.returns-clause-undated
+returns-clause-undated c = missing_day_is_said c.args.bytes.now c.args.asked.now c.bytes_outcome.result c.bytes_outcome.ensures

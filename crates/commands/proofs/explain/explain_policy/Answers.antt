@@ -1,9 +1,15 @@
+use Rattle.std.proofs.Common.{List, ℕ, subst}
 use Rattle.commands.specs.Explaining.{Explains}
-use Rattle.commands.specs.PolicyFiles.{IsRead}
-use Rattle.commands.proofs.KnownLemmas.{known_so}
+use Rattle.commands.proofs.KnownLemmas.{of_known}
 use Rattle.commands.proofs.explain.explain_policy.Goals as goal
+
+pub returns-clause-says : goal.returns-clause-says
+returns-clause-says g c =
+    let explains = subst (λ (bytes : List ℕ). Explains bytes c.args.asked.now c.in_ok-bytes_outcome.field-0) c.as_slice.ensures.value c.in_ok-bytes_outcome.ensures in
+    (c.in_ok-bytes.bytes.items, (c.in_ok-bytes.ensures.consumed, c.in_ok-bytes.ensures.end), explains)
 
 pub returns-clause-given : goal.returns-clause-given
 returns-clause-given g c =
-    known_so (g.R.Read.remaining c.args.policy.now) (λ given. IsRead given c.in_ok-read.read) (λ given. Explains given c.args.asked.now c.in_ok-read_outcome.field-0)
-    c.in_ok-read_outcome.ensures c.in_ok-read.ensures.given
+    let explains = subst (λ (bytes : List ℕ). Explains bytes c.args.asked.now c.in_ok-bytes_outcome.field-0) c.as_slice.ensures.value c.in_ok-bytes_outcome.ensures in
+    of_known (g.R.Read.remaining c.args.policy.now) c.in_ok-bytes.bytes.items (λ given. given) (λ bytes. Explains bytes c.args.asked.now c.in_ok-bytes_outcome.field-0) c.in_ok-bytes.ensures.given
+    explains

@@ -14,3 +14,6 @@ returns-in-Deposit-clause-asked c = (c.in_ok-deposit.field-0, c.in_ok-deposit.en
 
 pub returns-in-Collection-clause-asked : goal.returns-in-Collection-clause-asked
 returns-in-Collection-clause-asked c = (c.in_ok-deposit.field-0, c.in_ok-deposit.ensures.hold, sym (ap hold_asked c.in-Collection.is))
+
+pub returns-in-Class-clause-asked : goal.returns-in-Class-clause-asked
+returns-in-Class-clause-asked c = (c.in_ok-deposit.field-0, c.in_ok-deposit.ensures.hold, sym (ap hold_asked c.in-Class.is))

@@ -17,8 +17,8 @@ returns-in-Some c =
     let within : place < length values = search rules in
     let is : value ≡ slice_index_or values place value = search rules in
     c.value_key.ensures
-    ∙ key_at c.args.number place values (Some value) next (sym (slice_get-get_or values place value within ∙ ap Some (sym is)))
-    ∙ ap (λ (xs : List Value). numbered_key c.args.number (Some (elements (items_view xs)))) c.deref.ensures.value
+    ∙ key_at c.args.with_days c.args.number place values (Some value) next (sym (slice_get-get_or values place value within ∙ ap Some (sym is)))
+    ∙ ap (λ (xs : List Value). numbered_key c.args.with_days c.args.number (Some (elements (items_view xs)))) c.deref.ensures.value
 
 pub returns-in-None : goal.returns-in-None
 returns-in-None c =
@@ -27,5 +27,5 @@ returns-in-None c =
     let some : c.args.number ≢ 0 = search rules in
     let next : c.args.number ≡ suc place = omega (arith, some) in
     let past : length values ≤ place = search rules in
-    key_at c.args.number place values None next (sym (slice_get_past values place past))
-    ∙ ap (λ (xs : List Value). numbered_key c.args.number (Some (elements (items_view xs)))) c.deref.ensures.value
+    key_at c.args.with_days c.args.number place values None next (sym (slice_get_past values place past))
+    ∙ ap (λ (xs : List Value). numbered_key c.args.with_days c.args.number (Some (elements (items_view xs)))) c.deref.ensures.value

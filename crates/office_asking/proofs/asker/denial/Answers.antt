@@ -14,7 +14,7 @@ returns-clause-denied g c clean h legal pictured =
     let mid = state g.S.Store c.read.new.tx.conn.now in
     let early : HasCleanDisk mid = clean_before mid (state g.S.Store c.denial.new.tx.conn.now) c.denial.ensures.stays clean in
     let asked = c.in_ok-asker.ensures.asker early h legal pictured in
-    IfOk-weaker c.denial.result _ _ (λ why says. (says.0, says.1 c.args.caller.now asked.1)) (c.denial.ensures.denied clean h legal asked.0)
+    IfOk-weaker c.denial.result _ _ (λ why says. (says.0, says.1 c.args.day c.args.caller.now asked.1)) (c.denial.ensures.denied clean h legal asked.0)
 
 pub returns-clause-stays : goal.returns-clause-stays
 returns-clause-stays g c = stays_then (state g.S.Store c.args.tx.now.conn.now) (state g.S.Store c.read.new.tx.conn.now) (state g.S.Store c.denial.new.tx.conn.now) c.read.ensures.stays c.in_ok-asker.ensures.goes_on c.denial.ensures.stays
@@ -33,5 +33,5 @@ returns-clause-rows g c clean office =
     let mid = state g.S.Store c.read.new.tx.conn.now in
     let early : HasCleanDisk mid = clean_before mid (state g.S.Store c.denial.new.tx.conn.now) c.denial.ensures.stays clean in
     let same = c.in_ok-asker.ensures.same early office in
-    let is = told_before mid.now old.now (sym same) (λ t. IsAskerIn t a.caller.now c.in_ok-asker.asker) (c.in_ok-asker.ensures.rows early office) in
-    IfOk-weaker c.denial.result _ _ (λ why says. told_before old.now mid.now same (λ t. IsDenialIn t a.caller.now a.action (option_copied a.collection) (option_copied a.class) why) (says a.caller.now is)) (c.denial.ensures.rows clean (office_still old.now mid.now same office))
+    let is = told_before mid.now old.now (sym same) (λ t. IsAskerIn t a.day a.caller.now c.in_ok-asker.asker) (c.in_ok-asker.ensures.rows early office) in
+    IfOk-weaker c.denial.result _ _ (λ why says. told_before old.now mid.now same (λ t. IsDenialIn t a.day a.caller.now a.action (option_copied a.collection) (option_copied a.class) why) (says a.day a.caller.now is)) (c.denial.ensures.rows clean (office_still old.now mid.now same office))

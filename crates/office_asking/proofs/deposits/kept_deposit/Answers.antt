@@ -22,7 +22,7 @@ returns-in_default-clause-asked g c clean h legal pictured =
     let new = state g.S.Store c.deposit_row.new.tx.conn.now in
     let read = deposit_read h old.now pictured a.number c.in_ok-deposit.field-0 (c.in_ok-deposit.ensures.found clean pictured.office) in
     let none : None ≡ option_map (deposit_row h a.number) (histories.deposit_numbered h a.number) = search (rules, read) in
-    (pictured_still h old.now pictured new.now (c.in_ok-deposit.ensures.same clean pictured.office), none_there h a.number (kept_refusals h a.caller.now a.action a.number) none)
+    (pictured_still h old.now pictured new.now (c.in_ok-deposit.ensures.same clean pictured.office), none_there h a.number (kept_refusals h a.day a.caller.now a.action a.number) none)
 
 pub returns-clause-asked : goal.returns-clause-asked
 returns-clause-asked g c clean h legal pictured =
@@ -37,8 +37,8 @@ returns-clause-asked g c clean h legal pictured =
     let denied = c.in_ok-denied.ensures.denied clean h legal still in
     let collection : c.deref.result.now ≡ row.collection = search rules in
     let class : c.deref-2.result.now ≡ row.class = search rules in
-    let said : c.in_ok-denied.denied ≡ denial h a.caller.now a.action (Some row.collection) (Some row.class) = denied.1 ∙ (λ i. denial h a.caller.now a.action (Some (collection i)) (Some (class i))) in
-    IfOk-weaker c.unless_refused.result _ _ (λ asked says. (denied.0, says h a.caller.now a.action a.number some said)) c.unless_refused.ensures.asked
+    let said : c.in_ok-denied.denied ≡ denial h a.day a.caller.now a.action (Some row.collection) (Some row.class) = denied.1 ∙ (λ i. denial h a.day a.caller.now a.action (Some (collection i)) (Some (class i))) in
+    IfOk-weaker c.unless_refused.result _ _ (λ asked says. (denied.0, says h a.day a.caller.now a.action a.number some said)) c.unless_refused.ensures.asked
 
 pub returns-in_err-denied-clause-stays : goal.returns-in_err-denied-clause-stays
 returns-in_err-denied-clause-stays g c = stays_then (state g.S.Store c.args.tx.now.conn.now) (state g.S.Store c.deposit_row.new.tx.conn.now) (state g.S.Store c.denial.new.tx.conn.now) c.deposit_row.ensures.stays c.in_ok-deposit.ensures.goes_on c.denial.ensures.stays
@@ -61,7 +61,7 @@ returns-in_default-clause-rows g c clean office =
     let a = c.args in
     let old = state g.S.Store a.tx.now.conn.now in
     let found = c.in_ok-deposit.ensures.found clean office in
-    none_asked (tables_of old.now) a.caller.now a.action a.number (search (rules, found))
+    none_asked (tables_of old.now) a.day a.caller.now a.action a.number (search (rules, found))
 
 pub returns-clause-rows : goal.returns-clause-rows
 returns-clause-rows g c clean office =
@@ -74,6 +74,6 @@ returns-clause-rows g c clean office =
     let there = sym c.in-Some.is ∙ c.in_ok-deposit.ensures.found early office in
     let collection : c.deref.result.now ≡ row.collection = search rules in
     let class : c.deref-2.result.now ≡ row.class = search rules in
-    let told = told_before old.now mid.now same (λ t. IsDenialIn t a.caller.now a.action (Some c.deref.result.now) (Some c.deref-2.result.now) c.in_ok-denied.denied) (c.in_ok-denied.ensures.rows clean (office_still old.now mid.now same office)) in
-    let denial : IsDenialIn (tables_of old.now) a.caller.now a.action (Some row.collection) (Some row.class) c.in_ok-denied.denied = rw (collection, class) at told in
-    row_asked (tables_of old.now) a.caller.now a.action a.number row there c.in_ok-denied.denied denial c.unless_refused.result c.unless_refused.ensures.kept c.unless_refused.ensures.refused
+    let told = told_before old.now mid.now same (λ t. IsDenialIn t a.day a.caller.now a.action (Some c.deref.result.now) (Some c.deref-2.result.now) c.in_ok-denied.denied) (c.in_ok-denied.ensures.rows clean (office_still old.now mid.now same office)) in
+    let denial : IsDenialIn (tables_of old.now) a.day a.caller.now a.action (Some row.collection) (Some row.class) c.in_ok-denied.denied = rw (collection, class) at told in
+    row_asked (tables_of old.now) a.day a.caller.now a.action a.number row there c.in_ok-denied.denied denial c.unless_refused.result c.unless_refused.ensures.kept c.unless_refused.ensures.refused

@@ -5,17 +5,17 @@ use Rattle.office_asking.proofs.DepositAsked.{asked_denied, asked_gone, asked_ke
 use Rattle.office_asking.proofs.deposits.unless_refused.Goals as goal
 
 pub returns-in-Some-clause-asked : goal.returns-in-Some-clause-asked
-returns-in-Some-clause-asked c h caller action n read is = asked_denied h caller action n c.args.deposit read c.in-Some.why (sym c.in-Some.is ∙ is)
+returns-in-Some-clause-asked c h day caller action n read is = asked_denied h day caller action n c.args.deposit read c.in-Some.why (sym c.in-Some.is ∙ is)
 
 pub returns-in-Some-gone-clause-asked : goal.returns-in-Some-gone-clause-asked
-returns-in-Some-gone-clause-asked c h caller action n read is =
+returns-in-Some-gone-clause-asked c h day caller action n read is =
     let allowed : None ≡ c.args.denied = search rules in
-    asked_gone h caller action n c.args.deposit read c.in-Some-gone.day (allowed ∙ is) (search rules)
+    asked_gone h day caller action n c.args.deposit read c.in-Some-gone.day (allowed ∙ is) (search rules)
 
 pub returns-in-None-clause-asked : goal.returns-in-None-clause-asked
-returns-in-None-clause-asked c h caller action n read is =
+returns-in-None-clause-asked c h day caller action n read is =
     let allowed : None ≡ c.args.denied = search rules in
-    asked_kept h caller action n c.args.deposit read (allowed ∙ is) (search rules)
+    asked_kept h day caller action n c.args.deposit read (allowed ∙ is) (search rules)
 
 pub returns-in-Some-gone-clause-refused : goal.returns-in-Some-gone-clause-refused
 returns-in-Some-gone-clause-refused c =

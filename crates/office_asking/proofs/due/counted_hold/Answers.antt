@@ -16,7 +16,7 @@ use Rattle.office_asking.proofs.due.counted_hold.Goals as goal
 pub returns-then-count-eq0-clause-least : goal.returns-then-count-eq0-clause-least
 returns-then-count-eq0-clause-least g c clean h legal pictured =
     let none : c.args.count ≡ pos 0 = search rules in
-    (pictured, λ deposit is counted. sym (unheld h c.args.number deposit (sym counted ∙ none)))
+    (pictured, λ deposit within of counted. sym (unheld h c.args.number deposit (sym counted ∙ none)))
 
 pub returns-then-count-eq0-clause-rows : goal.returns-then-count-eq0-clause-rows
 returns-then-count-eq0-clause-rows g c clean office = search rules
@@ -35,7 +35,7 @@ returns-clause-least g c clean h legal pictured =
     let still = pictured_still h old.now pictured mid.now (c.in_ok-check_count.ensures.same early pictured.office) in
     let found = c.in_ok-found.ensures.least clean h legal still in
     let some : Some c.in_ok-hold.hold ≡ c.in_ok-found.found = there_is c.in_ok-found.found Store c.in_ok-hold.hold c.in_ok-hold.ensures in
-    (found.0, λ deposit is counted. some ∙ found.1 deposit is)
+    (found.0, λ deposit within of counted. some ∙ found.1 deposit within of)
 
 pub returns-clause-rows : goal.returns-clause-rows
 returns-clause-rows g c clean office =
@@ -45,9 +45,9 @@ returns-clause-rows g c clean office =
     let same = c.in_ok-check_count.ensures.same early office in
     let some : Some c.in_ok-hold.hold ≡ c.in_ok-found.found = there_is c.in_ok-found.found Store c.in_ok-hold.hold c.in_ok-hold.ensures in
     let least = c.in_ok-found.ensures.rows clean (office_still old.now mid.now same office) in
-    let is : IsLeastIn (tables_of mid.now) c.args.number c.args.collection.now c.in_ok-hold.hold = subst (λ o. IfSome o (λ k. IsLeastIn (tables_of mid.now) c.args.number c.args.collection.now k)) (sym some) least in
+    let is : IsLeastIn (tables_of mid.now) c.args.number c.args.collection.now c.args.class.now c.in_ok-hold.hold = subst (λ o. IfSome o (λ k. IsLeastIn (tables_of mid.now) c.args.number c.args.collection.now c.args.class.now k)) (sym some) least in
     let fits : SFits w64 c.args.count = search rules in
-    (rw (to_z-of_z w64 c.args.count fits) at c.in_ok-check_count.ensures.rows early office, told_before old.now mid.now same (λ t. IsLeastIn t c.args.number c.args.collection.now c.in_ok-hold.hold) is)
+    (rw (to_z-of_z w64 c.args.count fits) at c.in_ok-check_count.ensures.rows early office, told_before old.now mid.now same (λ t. IsLeastIn t c.args.number c.args.collection.now c.args.class.now c.in_ok-hold.hold) is)
 
 pub returns-clause-goes_on : goal.returns-clause-goes_on
 returns-clause-goes_on g c clean =

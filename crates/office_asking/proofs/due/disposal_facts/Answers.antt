@@ -37,18 +37,19 @@ returns-clause-facts g c clean h legal pictured =
     let collection : c.deref.result.now ≡ row.collection = search rules in
     let class : c.deref-2.result.now ≡ row.class = search rules in
     let covered : c.deref-3.result.now ≡ row.collection = search rules in
+    let covered_of : c.deref-4.result.now ≡ row.class = search rules in
     let gone : option_map epoch_day c.in_ok-days.days.gone ≡ row.gone = search rules in
     let fits : SFits w64 c.kept.inside.holds = search rules in
     let counts : c.kept.inside.holds ≡ c.in_ok-kept.kept.holds = search rules in
     let falls : due_number c.in_ok-due.due ≡ c.in_ok-kept.kept.due = search rules in (
       held.0,
-      λ caller is n found there row_is.
+      λ day caller is n found there row_is.
           let same : c.row.inside.number ≡ n = same_count c.row.inside.number n (count ∙ ap (λ (r : DepositRow). r.number) row_is) in
           let kept_is : c.in_ok-kept.kept ≡ due_row h c.row.inside.number found = kept.1 found (ap (deposit_numbered h) same ∙ there) in
-          same_facts h caller n found row row_is c.in_ok-decision.decision c.in_ok-days.days.gone c.in_ok-hold.hold c.in_ok-due.due
-          (decided.1 caller is ∙ (λ i. deciding_rule h caller acts.Dispose (Some (collection i)) (Some (class i))))
+          same_facts h day caller n found row row_is c.in_ok-decision.decision c.in_ok-days.days.gone c.in_ok-hold.hold c.in_ok-due.due
+          (decided.1 day caller is ∙ (λ i. deciding_rule h day caller acts.Dispose (Some (collection i)) (Some (class i))))
           gone
-          (held.1 found.1 (sym (ap (λ (r : DepositRow). r.collection) row_is) ∙ sym covered) (to_z-of_z w64 c.kept.inside.holds fits ∙ counts ∙ ap (λ (k : DueRow). k.holds) kept_is) ∙ ap (λ m. least_hold h m found.1) same)
+          (held.1 found.1 (sym (ap (λ (r : DepositRow). r.collection) row_is) ∙ sym covered) (sym (ap (λ (r : DepositRow). r.class) row_is) ∙ sym covered_of) (to_z-of_z w64 c.kept.inside.holds fits ∙ counts ∙ ap (λ (k : DueRow). k.holds) kept_is) ∙ ap (λ m. least_hold h m found.1) same)
           (due_back c.in_ok-due.due (due h found.1) (falls ∙ ap (λ (k : DueRow). k.due) kept_is)),
     )
 
@@ -78,7 +79,7 @@ pub returns-in_err-days-clause-stays : goal.returns-in_err-days-clause-stays
 returns-in_err-days-clause-stays g c = stays_still (state g.S.Store c.args.tx.now.conn.now)
 
 pub returns-clause-rows : goal.returns-clause-rows
-returns-clause-rows g c clean office caller is n numbered =
+returns-clause-rows g c clean office day caller is n numbered =
     let a = c.args in
     let s0 = state g.S.Store a.tx.now.conn.now in
     let s1 = state g.S.Store c.decision.new.tx.conn.now in
@@ -93,14 +94,15 @@ returns-clause-rows g c clean office caller is n numbered =
     let collection : c.deref.result.now ≡ row.collection = search rules in
     let class : c.deref-2.result.now ≡ row.class = search rules in
     let covered : c.deref-3.result.now ≡ row.collection = search rules in
+    let covered_of : c.deref-4.result.now ≡ row.class = search rules in
     let fits : SFits w64 c.kept.inside.holds = search rules in
     let counts : c.kept.inside.holds ≡ c.in_ok-kept.kept.holds = search rules in
     let kept = c.in_ok-kept.kept in
     let there = told_before s0.now s1.now same1 (λ t. Some kept ≡ due_numbered (pos c.row.inside.number) t.dues) (c.in_ok-kept.ensures.rows before_last office1) in
-    let held = told_before s0.now s2.now same2 (λ t. IsCountedIn t (to_z w64 (of_z w64 c.kept.inside.holds)) c.row.inside.number c.deref-3.result.now c.in_ok-hold.hold) (c.in_ok-hold.ensures.rows clean (office_still s0.now s2.now same2 office)) in
+    let held = told_before s0.now s2.now same2 (λ t. IsCountedIn t (to_z w64 (of_z w64 c.kept.inside.holds)) c.row.inside.number c.deref-3.result.now c.deref-4.result.now c.in_ok-hold.hold) (c.in_ok-hold.ensures.rows clean (office_still s0.now s2.now same2 office)) in
     record {
       action = refl;
-      decided = rw (collection, class) at (c.in_ok-decision.ensures.rows early office caller is);
+      decided = rw (collection, class) at (c.in_ok-decision.ensures.rows early office day caller is);
       days = c.in_ok-days.days;
       are_days = c.in_ok-days.ensures.days;
       gone = refl;
@@ -108,5 +110,5 @@ returns-clause-rows g c clean office caller is n numbered =
       there = subst (λ m. Some kept ≡ due_numbered (pos m) (tables_of s0.now).dues) number there;
       due = search rules;
       is_due = search rules;
-      hold = rw (to_z-of_z w64 c.kept.inside.holds fits ∙ counts, number, covered) at held;
+      hold = rw (to_z-of_z w64 c.kept.inside.holds fits ∙ counts, number, covered, covered_of) at held;
     }

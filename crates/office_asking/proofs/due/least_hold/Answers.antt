@@ -11,7 +11,7 @@ pub returns-in_default-clause-least : goal.returns-in_default-clause-least
 returns-in_default-clause-least g c clean h legal pictured =
     let live = c.in_ok-holds.ensures.live clean h legal pictured in
     let first : None ≡ slice_get c.in_ok-holds.holds.items 0 = search rules in
-    (live.0, λ deposit is. first ∙ ap (λ ks. slice_get ks 0) (live.1 deposit is))
+    (live.0, λ deposit within of. first ∙ ap (λ ks. slice_get ks 0) (live.1 deposit within of))
 
 pub returns-clause-least : goal.returns-clause-least
 returns-clause-least g c clean h legal pictured =
@@ -20,7 +20,7 @@ returns-clause-least g c clean h legal pictured =
     let live = c.in_ok-holds.ensures.live early h legal pictured in
     let told = c.in_ok-told_hold.ensures.told clean h legal live.0 in
     let first : Some c.in-Some.least ≡ slice_get c.in_ok-holds.holds.items 0 = search rules in
-    (told.0, λ deposit is. first ∙ ap (λ ks. slice_get ks 0) (live.1 deposit is))
+    (told.0, λ deposit within of. first ∙ ap (λ ks. slice_get ks 0) (live.1 deposit within of))
 
 pub returns-in_err-told_hold-clause-stays : goal.returns-in_err-told_hold-clause-stays
 returns-in_err-told_hold-clause-stays g c = stays_then (state g.S.Store c.args.tx.now.conn.now) (state g.S.Store c.holds_over.new.tx.conn.now) (state g.S.Store c.told_hold.new.tx.conn.now) c.holds_over.ensures.stays c.in_ok-holds.ensures.goes_on c.told_hold.ensures.stays

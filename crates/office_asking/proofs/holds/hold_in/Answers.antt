@@ -11,7 +11,8 @@ pub returns-clause-told : goal.returns-clause-told
 returns-clause-told c =
     let deposit = c.in_ok-named.ensures.deposit in
     let collection = c.in_ok-named.ensures.collection in
-    record { number = search rules; matter = search rules; on = c.scope_of-on.ensures ∙ (λ i. scope_in (deposit i) (collection i)); placed = search rules; is_day = search rules; is_matter = search rules }
+    let class = c.in_ok-named.ensures.class in
+    record { number = search rules; matter = search rules; on = c.scope_of-on.ensures ∙ (λ i. scope_in (deposit i) (collection i) (class i)); placed = search rules; is_day = search rules; is_matter = search rules }
 
 pub returns-in_err-text_of_kind-clause-memory : goal.returns-in_err-text_of_kind-clause-memory
 returns-in_err-text_of_kind-clause-memory c =
@@ -19,7 +20,8 @@ returns-in_err-text_of_kind-clause-memory c =
     let text : c.deref.result.now ≡ row.matter = search rules in
     let deposit = c.in_ok-named.ensures.deposit in
     let collection = c.in_ok-named.ensures.collection in
-    let on : Some c.scope_of-on.result ≡ scope_in row.deposit row.collection = c.scope_of-on.ensures ∙ (λ i. scope_in (deposit i) (collection i)) in
+    let class = c.in_ok-named.ensures.class in
+    let on : Some c.scope_of-on.result ≡ scope_in row.deposit row.collection row.class = c.scope_of-on.ensures ∙ (λ i. scope_in (deposit i) (collection i) (class i)) in
     let wanted : c.in_err-text_of_kind.field-0.0 ≡ Memory → (told : LiveHold) × IsHoldOf row told = λ is. elim (cases_Bool (is_matter row.matter)) [
       | inl kind ↦ (
         record { number = c.row.inside.number; matter = row.matter; on = c.scope_of-on.result; placed = c.in_ok-placed.placed },

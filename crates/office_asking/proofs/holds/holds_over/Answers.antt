@@ -25,7 +25,7 @@ returns-clause-live g c clean h legal pictured =
     let still = pictured_still h old.now pictured mid.now (c.in_ok-outside.ensures.same early pictured.office) in
     ok_both c.live_holds.result (λ numbers same are. (
       pictured_still h mid.now still new.now same,
-      λ deposit is. live_read h mid.now still a.number a.collection.now numbers.items are deposit is,
+      λ deposit within of. live_read h mid.now still a.number a.collection.now a.class.now numbers.items are deposit within of,
     ))
     (c.live_holds.ensures.same clean still.office) (c.live_holds.ensures.found clean still.office)
 
@@ -54,10 +54,10 @@ returns-clause-rows g c clean office =
     let early : HasCleanDisk mid = clean_before mid (state g.S.Store c.live_holds.new.tx.conn.now) c.live_holds.ensures.stays clean in
     let same = c.in_ok-outside.ensures.same early office in
     let inside : c.in_ok-outside.outside ≡ false = search rules in
-    let none : list_any (is_released_outside first_day_number last_day_number (pos a.number) a.collection.now) (tables_of old.now).holds ≡ false =
+    let none : list_any (is_released_outside first_day_number last_day_number (pos a.number) a.collection.now a.class.now) (tables_of old.now).holds ≡ false =
     sym (c.in_ok-outside.ensures.found early office) ∙ inside in
     IfOk-weaker c.live_holds.result _ _ (λ numbers are. (
-      told_before old.now mid.now same (λ t. map pos numbers.items ≡ live_holds (pos a.number) a.collection.now t) are,
-      released_on_days (pos a.number) a.collection.now (tables_of old.now).holds none,
+      told_before old.now mid.now same (λ t. map pos numbers.items ≡ live_holds (pos a.number) a.collection.now a.class.now t) are,
+      released_on_days (pos a.number) a.collection.now a.class.now (tables_of old.now).holds none,
     ))
     (c.live_holds.ensures.found clean (office_still old.now mid.now same office))

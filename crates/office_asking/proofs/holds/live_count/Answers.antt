@@ -9,7 +9,7 @@ returns-in-Ok-clause-count g c clean h legal pictured =
     let live = c.in_ok-holds.ensures.live clean h legal pictured in
     let fits : SFits w64 c.in-Ok.count = search rules in
     let counted : c.in-Ok.count ≡ pos (length c.in_ok-holds.holds.items) = search rules in
-    (live.0, λ deposit is. to_z-of_z w64 c.in-Ok.count fits ∙ counted ∙ ap (λ ks. pos (length ks)) (live.1 deposit is))
+    (live.0, λ deposit within of. to_z-of_z w64 c.in-Ok.count fits ∙ counted ∙ ap (λ ks. pos (length ks)) (live.1 deposit within of))
 
 pub returns-in-Ok-clause-rows : goal.returns-in-Ok-clause-rows
 returns-in-Ok-clause-rows g c clean office =

@@ -1,6 +1,6 @@
 use Rattle.std.proofs.Common.{◌≡◌, Ok, arith}
 use Rattle.toml.specs.View.{table_view}
-use Rattle.office_core.specs.Policies.{caller_entries, rule_values}
+use Rattle.office_core.specs.Policies.{caller_entries, has_days, rule_values}
 use Rattle.office_core.specs.PolicyReading.{read_callers, read_rules}
 use Rattle.office_core.proofs.PolicyNames.{read_policy_is}
 use Rattle.office_core.proofs.policy.read_tree.Goals as goal
@@ -9,5 +9,5 @@ pub invariant_of-result : goal.invariant_of-result
 invariant_of-result c =
     let tree = table_view c.args.tree.now in
     let callers : read_callers (caller_entries tree) ≡ Ok c.in_ok-callers.callers.items = rw c.in_ok-callers.was at c.callers_of.ensures in
-    let rules : read_rules (rule_values tree) ≡ Ok c.in_ok-rules.rules.items = rw c.in_ok-rules.was at c.rules_of.ensures in
+    let rules : read_rules (has_days tree) (rule_values tree) ≡ Ok c.in_ok-rules.rules.items = rw c.in_ok-rules.was at c.rules_of.ensures in
     read_policy_is tree c.in_ok-callers.callers.items c.in_ok-rules.rules.items c.requires callers rules (omega arith) (omega arith)

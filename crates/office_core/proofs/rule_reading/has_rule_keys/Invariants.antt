@@ -1,11 +1,11 @@
 use Rattle.std.proofs.Common.{◌≡◌}
 use Rattle.std.specs.List.{list_all}
 use Rattle.toml.specs.View.{members_view}
-use Rattle.office_core.specs.Policies.{entries, is_one_of, rule_keys}
+use Rattle.office_core.specs.Policies.{entries, is_one_of, keys_of_rule}
 use Rattle.office_core.proofs.rule_reading.has_rule_keys.Given as goal
 
 abbrev pub invariant-loop-key : goal.invariant-loop-key
 invariant-loop-key l =
     (goal.iterator-loop-key).can_next l.key-iterator
     × (goal.iterator-loop-key).is_finite l.key-iterator
-    × (list_all (λ entry. is_one_of rule_keys entry.0) (entries (members_view l.key-iterator)) ≡ list_all (λ entry. is_one_of rule_keys entry.0) (entries (members_view l.table.entries)))
+    × (list_all (λ entry. is_one_of (keys_of_rule l.with_days) entry.0) (entries (members_view l.key-iterator)) ≡ list_all (λ entry. is_one_of (keys_of_rule l.with_days) entry.0) (entries (members_view l.table.entries)))

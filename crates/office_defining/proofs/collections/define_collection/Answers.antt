@@ -22,7 +22,7 @@ pub returns-in-Some-clause-decides : goal.returns-in-Some-clause-decides
 returns-in-Some-clause-decides g c clean h legal pictured =
     let a = c.args in
     let asked = c.in_ok-why.ensures.denied clean h legal pictured in
-    let said : Some c.in-Some.why ≡ denial h a.caller.now acts.Collection (Some a.name.now) None = search (rules, asked.1) in
+    let said : Some c.in-Some.why ≡ denial h a.day a.caller.now acts.Collection (Some a.name.now) None = search (rules, asked.1) in
     refused_serves h a.day a.caller.now (requests.DefineCollection a.name.now) _ c.in-Some.why (said ∙ one_refusal _) asked.0
 
 pub returns-in_err-put_collection-clause-stays : goal.returns-in_err-put_collection-clause-stays
@@ -40,7 +40,7 @@ returns-clause-decides g c clean h legal pictured =
     let new = state g.S.Store c.put_collection.new.tx.conn.now in
     let early : HasCleanDisk mid = clean_before mid new c.put_collection.ensures.stays clean in
     let asked = c.in_ok-why.ensures.denied early h legal pictured in
-    let said : None ≡ denial h a.caller.now acts.Collection (Some a.name.now) None = search (rules, asked.1) in
+    let said : None ≡ denial h a.day a.caller.now acts.Collection (Some a.name.now) None = search (rules, asked.1) in
     let name = c.as_str-2.ensures.text in
     let put : Becomes new.now (with_collection a.name.now (tables_of mid.now)) = rw name at (c.in_ok-put_collection.ensures.becomes clean asked.0.office) in
     let grew = pictures_grown h (with_changes h (allowed_change h a.day (requests.DefineCollection a.name.now))) (with_collection a.name.now) mid.now new.now (collection_told h a.day a.name.now) asked.0 put (c.in_ok-put_collection.ensures.once clean asked.0.office) in
@@ -53,8 +53,8 @@ pub returns-in-Some-clause-rows : goal.returns-in-Some-clause-rows
 returns-in-Some-clause-rows g c clean office =
     let a = c.args in
     let t = tables_of (state g.S.Store a.tx.now.conn.now).now in
-    let denied = subst (λ (n : List ℕ). IsDenialIn t a.caller.now acts.Collection (Some n) None c.in_ok-why.field-0) c.as_str.ensures.text (c.in_ok-why.ensures.rows clean office) in
-    collection_denied t a.caller.now a.name.now c.in_ok-why.field-0 c.in-Some.why c.in-Some.is denied
+    let denied = subst (λ (n : List ℕ). IsDenialIn t a.day a.caller.now acts.Collection (Some n) None c.in_ok-why.field-0) c.as_str.ensures.text (c.in_ok-why.ensures.rows clean office) in
+    collection_denied t a.day a.caller.now a.name.now c.in_ok-why.field-0 c.in-Some.why c.in-Some.is denied
 
 pub returns-clause-rows : goal.returns-clause-rows
 returns-clause-rows g c clean office =
@@ -63,5 +63,5 @@ returns-clause-rows g c clean office =
     let mid = state g.S.Store c.denial.new.tx.conn.now in
     let early : HasCleanDisk mid = clean_before mid (state g.S.Store c.put_collection.new.tx.conn.now) c.put_collection.ensures.stays clean in
     let none : c.in_ok-why.field-0 ≡ None = search rules in
-    let denied = subst (λ (n : List ℕ). IsDenialIn (tables_of old.now) a.caller.now acts.Collection (Some n) None c.in_ok-why.field-0) c.as_str.ensures.text (c.in_ok-why.ensures.rows early office) in
-    subst (λ (n : List ℕ). IsCollectionDefinedIn (tables_of old.now) a.caller.now a.name.now (answers.Collection n)) (sym c.in_ok-defined.ensures) (collection_allowed (tables_of old.now) a.caller.now a.name.now c.in_ok-why.field-0 none denied)
+    let denied = subst (λ (n : List ℕ). IsDenialIn (tables_of old.now) a.day a.caller.now acts.Collection (Some n) None c.in_ok-why.field-0) c.as_str.ensures.text (c.in_ok-why.ensures.rows early office) in
+    subst (λ (n : List ℕ). IsCollectionDefinedIn (tables_of old.now) a.day a.caller.now a.name.now (answers.Collection n)) (sym c.in_ok-defined.ensures) (collection_allowed (tables_of old.now) a.day a.caller.now a.name.now c.in_ok-why.field-0 none denied)

@@ -21,7 +21,7 @@ returns-then-not-branch-clause-denied g c clean h legal pictured =
     let new = state g.S.Store c.has_collection.new.tx.conn.now in
     let none : false ≡ c.in_ok-has_collection.field-0 = search rules in (
       pictured_still h old.now pictured new.now (c.in_ok-has_collection.ensures.same clean pictured.office),
-      not_there h a.caller.now a.collection.now (none ∙ c.in_ok-has_collection.ensures.found clean pictured.office ∙ collection_told h old.now pictured a.collection.now),
+      not_there h a.day a.caller.now a.collection.now (none ∙ c.in_ok-has_collection.ensures.found clean pictured.office ∙ collection_told h old.now pictured a.collection.now),
     )
 
 pub returns-clause-denied : goal.returns-clause-denied
@@ -33,7 +33,7 @@ returns-clause-denied g c clean h legal pictured =
     let still = pictured_still h old.now pictured mid.now (c.in_ok-has_collection.ensures.same early pictured.office) in
     let some : true ≡ c.in_ok-has_collection.field-0 = search rules in
     let there = some ∙ c.in_ok-has_collection.ensures.found early pictured.office ∙ collection_told h old.now pictured a.collection.now in
-    IfOk-weaker c.denial.result _ _ (λ why p. (p.0, is_there h a.caller.now a.collection.now there why p.1)) (c.denial.ensures.denied clean h legal still)
+    IfOk-weaker c.denial.result _ _ (λ why p. (p.0, is_there h a.day a.caller.now a.collection.now there why p.1)) (c.denial.ensures.denied clean h legal still)
 
 pub returns-clause-stays : goal.returns-clause-stays
 returns-clause-stays g c = stays_then (state g.S.Store c.args.tx.now.conn.now) (state g.S.Store c.has_collection.new.tx.conn.now) (state g.S.Store c.denial.new.tx.conn.now) c.has_collection.ensures.stays c.in_ok-has_collection.ensures.goes_on c.denial.ensures.stays
@@ -58,7 +58,7 @@ returns-then-not-branch-clause-rows g c clean office =
     let a = c.args in
     let old = state g.S.Store a.tx.now.conn.now in
     let none : false ≡ c.in_ok-has_collection.field-0 = search rules in
-    none_there (tables_of old.now) a.caller.now a.collection.now (none ∙ c.in_ok-has_collection.ensures.found clean office)
+    none_there (tables_of old.now) a.day a.caller.now a.collection.now (none ∙ c.in_ok-has_collection.ensures.found clean office)
 
 pub returns-clause-rows : goal.returns-clause-rows
 returns-clause-rows g c clean office =
@@ -69,5 +69,5 @@ returns-clause-rows g c clean office =
     let same : mid.now ≡ old.now = c.in_ok-has_collection.ensures.same early office in
     let some : true ≡ c.in_ok-has_collection.field-0 = search rules in
     let there = some ∙ c.in_ok-has_collection.ensures.found early office in
-    IfOk-weaker c.denial.result _ _ (λ why is. asked_there (tables_of old.now) a.caller.now a.collection.now there why (told_before old.now mid.now same (λ t. IsDenialIn t a.caller.now acts.Hold (Some a.collection.now) None why) is))
+    IfOk-weaker c.denial.result _ _ (λ why is. asked_there (tables_of old.now) a.day a.caller.now a.collection.now there why (told_before old.now mid.now same (λ t. IsDenialIn t a.day a.caller.now acts.Hold (Some a.collection.now) None why) is))
     (c.denial.ensures.rows clean (office_still old.now mid.now same office))

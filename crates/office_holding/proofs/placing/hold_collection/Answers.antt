@@ -21,7 +21,7 @@ returns-in_ok-place_on_collection-in-Ok-clause-decides g c clean h legal picture
     let new = state g.S.Store c.place_on_collection.new.tx.conn.now in
     let early : HasCleanDisk mid = clean_before mid new c.place_on_collection.ensures.stays clean in
     let found = c.in_ok-hold.ensures.found early h legal pictured in
-    let place = subst (λ name. IsPlace h (collection_hold_refusals h a.caller.now name) (Ok c.in-Ok.hold)) c.as_str.ensures.text (subst (IsPlace h (collection_hold_refusals h a.caller.now c.as_str.result.now)) c.in-Ok.is found.1) in
+    let place = subst (λ name. IsPlace h (collection_hold_refusals h a.day a.caller.now name) (Ok c.in-Ok.hold)) c.as_str.ensures.text (subst (IsPlace h (collection_hold_refusals h a.day a.caller.now c.as_str.result.now)) c.in-Ok.is found.1) in
     let put : Pictures (with_changes h (PlacedHold a.day (record { target = OnCollection a.name.now; matter = a.matter.now }) ∷ [])) new.now =
     rw (c.as_str-in-Ok.ensures.text, c.as_str-in-Ok-2.ensures.text) at (c.in_ok-place_on_collection-in-Ok.ensures.placed clean h legal found.0 place.1) in
     allowed_serves h a.day a.caller.now (requests.HoldCollection a.name.now a.matter.now) new.now (answers.HoldPlaced c.in-Ok.hold) place.0 (ap answers.HoldPlaced place.1) put
@@ -31,7 +31,7 @@ returns-in-Err-clause-decides g c clean h legal pictured =
     let a = c.args in
     let new = state g.S.Store c.place_for_collection.new.tx.conn.now in
     let found = c.in_ok-hold.ensures.found clean h legal pictured in
-    let said = subst (λ name. IsPlace h (collection_hold_refusals h a.caller.now name) (Err c.in-Err.why)) c.as_str.ensures.text (subst (IsPlace h (collection_hold_refusals h a.caller.now c.as_str.result.now)) c.in-Err.is found.1) in
+    let said = subst (λ name. IsPlace h (collection_hold_refusals h a.day a.caller.now name) (Err c.in-Err.why)) c.as_str.ensures.text (subst (IsPlace h (collection_hold_refusals h a.day a.caller.now c.as_str.result.now)) c.in-Err.is found.1) in
     refused_serves h a.day a.caller.now (requests.HoldCollection a.name.now a.matter.now) new.now c.in-Err.why said found.0
 
 pub returns-in_err-place_on_collection-in-Ok-clause-stays : goal.returns-in_err-place_on_collection-in-Ok-clause-stays
@@ -49,12 +49,12 @@ returns-in_ok-place_on_collection-in-Ok-clause-rows g c clean office =
     let t = tables_of (state g.S.Store a.tx.now.conn.now).now in
     let mid = state g.S.Store c.place_for_collection.new.tx.conn.now in
     let early : HasCleanDisk mid = clean_before mid (state g.S.Store c.place_on_collection.new.tx.conn.now) c.place_on_collection.ensures.stays clean in
-    let found = subst (IsCollectionPlaceIn t a.caller.now c.as_str.result.now) c.in-Ok.is (c.in_ok-hold.ensures.rows early office) in
-    record { place = Ok c.in-Ok.hold; is_place = subst (λ name. IsCollectionPlaceIn t a.caller.now name (Ok c.in-Ok.hold)) c.as_str.ensures.text found; is = refl }
+    let found = subst (IsCollectionPlaceIn t a.day a.caller.now c.as_str.result.now) c.in-Ok.is (c.in_ok-hold.ensures.rows early office) in
+    record { place = Ok c.in-Ok.hold; is_place = subst (λ name. IsCollectionPlaceIn t a.day a.caller.now name (Ok c.in-Ok.hold)) c.as_str.ensures.text found; is = refl }
 
 pub returns-in-Err-clause-rows : goal.returns-in-Err-clause-rows
 returns-in-Err-clause-rows g c clean office =
     let a = c.args in
     let t = tables_of (state g.S.Store a.tx.now.conn.now).now in
-    let found = subst (IsCollectionPlaceIn t a.caller.now c.as_str.result.now) c.in-Err.is (c.in_ok-hold.ensures.rows clean office) in
-    record { place = Err c.in-Err.why; is_place = subst (λ name. IsCollectionPlaceIn t a.caller.now name (Err c.in-Err.why)) c.as_str.ensures.text found; is = refl }
+    let found = subst (IsCollectionPlaceIn t a.day a.caller.now c.as_str.result.now) c.in-Err.is (c.in_ok-hold.ensures.rows clean office) in
+    record { place = Err c.in-Err.why; is_place = subst (λ name. IsCollectionPlaceIn t a.day a.caller.now name (Err c.in-Err.why)) c.as_str.ensures.text found; is = refl }

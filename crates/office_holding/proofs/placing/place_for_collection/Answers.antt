@@ -17,7 +17,7 @@ pub returns-in-Some-clause-found : goal.returns-in-Some-clause-found
 returns-in-Some-clause-found g c clean h legal pictured =
     let a = c.args in
     let asked = c.in_ok-why.ensures.denied clean h legal pictured in
-    (asked.0, collection_denied h a.caller.now a.collection.now c.in-Some.why (sym c.in-Some.is ∙ asked.1))
+    (asked.0, collection_denied h a.day a.caller.now a.collection.now c.in-Some.why (sym c.in-Some.is ∙ asked.1))
 
 pub returns-clause-found : goal.returns-clause-found
 returns-clause-found g c clean h legal pictured =
@@ -25,8 +25,8 @@ returns-clause-found g c clean h legal pictured =
     let mid = state g.S.Store c.collection_denial.new.tx.conn.now in
     let early : HasCleanDisk mid = clean_before mid (state g.S.Store c.next_hold.new.tx.conn.now) c.next_hold.ensures.stays clean in
     let asked = c.in_ok-why.ensures.denied early h legal pictured in
-    let none : None ≡ first_some (collection_denials h a.caller.now a.collection.now) = search (rules, asked.1) in
-    IfOk-weaker c.next_hold.result _ _ (λ place p. (p.0, collection_placed h a.caller.now a.collection.now place none p.1)) (c.next_hold.ensures.next clean h legal asked.0)
+    let none : None ≡ first_some (collection_denials h a.day a.caller.now a.collection.now) = search (rules, asked.1) in
+    IfOk-weaker c.next_hold.result _ _ (λ place p. (p.0, collection_placed h a.day a.caller.now a.collection.now place none p.1)) (c.next_hold.ensures.next clean h legal asked.0)
 
 pub returns-clause-stays : goal.returns-clause-stays
 returns-clause-stays g c = stays_then (state g.S.Store c.args.tx.now.conn.now) (state g.S.Store c.collection_denial.new.tx.conn.now) (state g.S.Store c.next_hold.new.tx.conn.now) c.collection_denial.ensures.stays c.in_ok-why.ensures.goes_on c.next_hold.ensures.stays
@@ -42,7 +42,7 @@ pub returns-in-Some-clause-rows : goal.returns-in-Some-clause-rows
 returns-in-Some-clause-rows g c clean office =
     let a = c.args in
     let t = tables_of (state g.S.Store a.tx.now.conn.now).now in
-    collection_refused t a.caller.now a.collection.now c.in-Some.why (subst (IsCollectionDenialIn t a.caller.now a.collection.now) c.in-Some.is (c.in_ok-why.ensures.rows clean office))
+    collection_refused t a.day a.caller.now a.collection.now c.in-Some.why (subst (IsCollectionDenialIn t a.day a.caller.now a.collection.now) c.in-Some.is (c.in_ok-why.ensures.rows clean office))
 
 pub returns-clause-rows : goal.returns-clause-rows
 returns-clause-rows g c clean office =
@@ -52,8 +52,8 @@ returns-clause-rows g c clean office =
     let early : HasCleanDisk mid = clean_before mid (state g.S.Store c.next_hold.new.tx.conn.now) c.next_hold.ensures.stays clean in
     let same : mid.now ≡ old.now = c.in_ok-why.ensures.same early office in
     let none : c.in_ok-why.field-0 ≡ None = search rules in
-    let denial = subst (IsCollectionDenialIn (tables_of old.now) a.caller.now a.collection.now) none (c.in_ok-why.ensures.rows early office) in
-    IfOk-weaker c.next_hold.result _ _ (λ place next. collection_next (tables_of old.now) a.caller.now a.collection.now denial place (told_before old.now mid.now same (λ t. IsNextHoldIn t place) next))
+    let denial = subst (IsCollectionDenialIn (tables_of old.now) a.day a.caller.now a.collection.now) none (c.in_ok-why.ensures.rows early office) in
+    IfOk-weaker c.next_hold.result _ _ (λ place next. collection_next (tables_of old.now) a.day a.caller.now a.collection.now denial place (told_before old.now mid.now same (λ t. IsNextHoldIn t place) next))
     (c.next_hold.ensures.rows clean (office_still old.now mid.now same office))
 
 pub returns-clause-same : goal.returns-clause-same

@@ -38,7 +38,7 @@ returns-clause-rows g c clean office =
     let early : HasCleanDisk mid = clean_before mid (state g.S.Store c.denial.new.tx.conn.now) c.denial.ensures.stays clean in
     let same : mid.now ≡ old.now = c.in_ok-found.ensures.same early office in
     let there = is_there c.in_ok-found.found Store c.in_ok-check_there.ensures ∙ c.in_ok-found.ensures.found early office in
-    IfOk-weaker c.denial.result _ _ (λ why is. record { there = there; is = told_before old.now mid.now same (λ t. IsDenialIn t a.caller.now acts.Release (Some a.collection.now) None why) is })
+    IfOk-weaker c.denial.result _ _ (λ why is. record { there = there; is = told_before old.now mid.now same (λ t. IsDenialIn t a.day a.caller.now acts.Release (Some a.collection.now) None why) is })
     (c.denial.ensures.rows clean (office_still old.now mid.now same office))
 
 pub returns-clause-same : goal.returns-clause-same

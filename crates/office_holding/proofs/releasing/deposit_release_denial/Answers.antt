@@ -28,7 +28,7 @@ returns-clause-denied g c clean h legal pictured =
     let some : Some row ≡ option_map (deposit_row h a.number) (deposit_numbered h a.number) = there_is c.in_ok-found.found Store row c.in_ok-deposit.ensures ∙ read in
     let collection : c.deref.result.now ≡ row.collection = search rules in
     let class : c.deref-2.result.now ≡ row.class = search rules in
-    IfOk-weaker c.denial.result _ _ (λ why p. (p.0, asked_of_deposit h a.caller.now a.number row some why (p.1 ∙ (λ i. denial h a.caller.now acts.Release (Some (collection i)) (Some (class i)))))) (c.denial.ensures.denied clean h legal still)
+    IfOk-weaker c.denial.result _ _ (λ why p. (p.0, asked_of_deposit h a.day a.caller.now a.number row some why (p.1 ∙ (λ i. denial h a.day a.caller.now acts.Release (Some (collection i)) (Some (class i)))))) (c.denial.ensures.denied clean h legal still)
 
 pub returns-clause-stays : goal.returns-clause-stays
 returns-clause-stays g c = stays_then (state g.S.Store c.args.tx.now.conn.now) (state g.S.Store c.deposit_row.new.tx.conn.now) (state g.S.Store c.denial.new.tx.conn.now) c.deposit_row.ensures.stays c.in_ok-found.ensures.goes_on c.denial.ensures.stays
@@ -51,7 +51,7 @@ returns-clause-rows g c clean office =
     let there = there_is c.in_ok-found.found Store row c.in_ok-deposit.ensures ∙ c.in_ok-found.ensures.found early office in
     let collection : c.deref.result.now ≡ row.collection = search rules in
     let class : c.deref-2.result.now ≡ row.class = search rules in
-    IfOk-weaker c.denial.result _ _ (λ why is. record { row = row; there = there; is = told_before old.now mid.now same (λ t. IsDenialIn t a.caller.now acts.Release (Some row.collection) (Some row.class) why) (rw (collection, class) at is) })
+    IfOk-weaker c.denial.result _ _ (λ why is. record { row = row; there = there; is = told_before old.now mid.now same (λ t. IsDenialIn t a.day a.caller.now acts.Release (Some row.collection) (Some row.class) why) (rw (collection, class) at is) })
     (c.denial.ensures.rows clean (office_still old.now mid.now same office))
 
 pub returns-clause-same : goal.returns-clause-same

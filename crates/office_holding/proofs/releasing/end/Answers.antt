@@ -27,3 +27,13 @@ pub returns-in-Collection-clause-rows : goal.returns-in-Collection-clause-rows
 returns-in-Collection-clause-rows g c clean office =
     let t = tables_of (state g.S.Store c.args.tx.now.conn.now).now in
     subst (λ (named : HoldTarget). OnOk c.end_collection.result (CountsFewer t (held_deposit named))) (sym c.in-Collection.is) (IfOk-weaker c.end_collection.result _ _ (λ _ _. tt) (c.end_collection.ensures.goes_on clean))
+
+pub returns-in-Class-clause-ended : goal.returns-in-Class-clause-ended
+returns-in-Class-clause-ended g c clean h legal pictured was =
+    let a = c.args in
+    c.end_class.ensures.ended clean h legal pictured (subst (λ target. IsLiveOn h a.number (target_of target)) c.in-Class.is was)
+
+pub returns-in-Class-clause-rows : goal.returns-in-Class-clause-rows
+returns-in-Class-clause-rows g c clean office =
+    let t = tables_of (state g.S.Store c.args.tx.now.conn.now).now in
+    subst (λ (named : HoldTarget). OnOk c.end_class.result (CountsFewer t (held_deposit named))) (sym c.in-Class.is) (IfOk-weaker c.end_class.result _ _ (λ _ _. tt) (c.end_class.ensures.goes_on clean))

@@ -24,7 +24,7 @@ returns-in_default-clause-asked g c clean h legal pictured =
     let new = state g.S.Store c.hold_row.new.tx.conn.now in
     let read = hold_read h old.now pictured a.number c.in_ok-hold.field-0 (c.in_ok-hold.ensures.found clean pictured.office) in
     let none : None ≡ option_map (hold_row h a.number) (hold_numbered h a.number) = search (rules, read) in
-    (pictured_still h old.now pictured new.now (c.in_ok-hold.ensures.same clean pictured.office), no_hold h a.number a.caller.now none)
+    (pictured_still h old.now pictured new.now (c.in_ok-hold.ensures.same clean pictured.office), no_hold h a.number a.day a.caller.now none)
 
 pub returns-clause-asked : goal.returns-clause-asked
 returns-clause-asked g c clean h legal pictured =
@@ -40,7 +40,8 @@ returns-clause-asked g c clean h legal pictured =
     let target = c.in_ok-target.target in
     let deposit : shown.held_deposit target ≡ row.deposit = search rules in
     let collection : shown.held_collection target ≡ row.collection = search rules in
-    IfOk-weaker c.unless_refused.result _ _ (λ found first. (denied.0, release_asked h a.number row some a.caller.now target c.in_ok-denied.denied found deposit collection denied.1 first)) c.unless_refused.ensures.first
+    let class : shown.held_class target ≡ row.class = search rules in
+    IfOk-weaker c.unless_refused.result _ _ (λ found first. (denied.0, release_asked h a.number row some a.day a.caller.now target c.in_ok-denied.denied found deposit collection class denied.1 first)) c.unless_refused.ensures.first
 
 pub returns-in_err-denied-clause-stays : goal.returns-in_err-denied-clause-stays
 returns-in_err-denied-clause-stays g c = stays_then (state g.S.Store c.args.tx.now.conn.now) (state g.S.Store c.hold_row.new.tx.conn.now) (state g.S.Store c.release_denial.new.tx.conn.now) c.hold_row.ensures.stays c.in_ok-hold.ensures.goes_on c.release_denial.ensures.stays
@@ -58,7 +59,7 @@ returns-in_default-clause-rows g c clean office =
     let a = c.args in
     let t = tables_of (state g.S.Store a.tx.now.conn.now).now in
     let none : None ≡ c.in_ok-hold.field-0 = search rules in
-    no_row t a.caller.now a.number (none ∙ c.in_ok-hold.ensures.found clean office)
+    no_row t a.day a.caller.now a.number (none ∙ c.in_ok-hold.ensures.found clean office)
 
 pub returns-clause-rows : goal.returns-clause-rows
 returns-clause-rows g c clean office =
@@ -73,8 +74,9 @@ returns-clause-rows g c clean office =
     let denied = c.in_ok-denied.denied in
     let deposit : shown.held_deposit target ≡ row.deposit = search rules in
     let collection : shown.held_collection target ≡ row.collection = search rules in
-    let denial = told_before old.now mid.now same (λ t. IsReleaseDenialIn t a.caller.now (shown.held_deposit target) (shown.held_collection target) denied) (c.in_ok-denied.ensures.rows clean (office_still old.now mid.now same office)) in
-    IfOk-weaker c.unless_refused.result _ _ (row_asked (tables_of old.now) a.caller.now a.number row there target denied deposit collection denial) c.unless_refused.ensures.rows
+    let class : shown.held_class target ≡ row.class = search rules in
+    let denial = told_before old.now mid.now same (λ t. IsReleaseDenialIn t a.day a.caller.now (shown.held_deposit target) (shown.held_collection target) (shown.held_class target) denied) (c.in_ok-denied.ensures.rows clean (office_still old.now mid.now same office)) in
+    IfOk-weaker c.unless_refused.result _ _ (row_asked (tables_of old.now) a.day a.caller.now a.number row there target denied deposit collection class denial) c.unless_refused.ensures.rows
 
 pub returns-clause-same : goal.returns-clause-same
 returns-clause-same g c clean office =

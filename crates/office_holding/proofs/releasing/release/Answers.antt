@@ -20,7 +20,7 @@ returns-in-Err-clause-decides g c clean h legal pictured =
     let a = c.args in
     let new = state g.S.Store c.releasable_hold.new.tx.conn.now in
     let asked = c.in_ok-row.ensures.asked clean h legal pictured in
-    let said = subst (IsReleaseAsked h a.caller.now a.hold) c.in-Err.is asked.1 in
+    let said = subst (IsReleaseAsked h a.day a.caller.now a.hold) c.in-Err.is asked.1 in
     refused_serves h a.day a.caller.now (requests.Release a.hold) new.now c.in-Err.why said asked.0
 
 pub returns-in_ok-end-in-Ok-clause-decides : goal.returns-in_ok-end-in-Ok-clause-decides
@@ -31,11 +31,12 @@ returns-in_ok-end-in-Ok-clause-decides g c clean h legal pictured =
     let early : HasCleanDisk mid = clean_before mid new c.end.ensures.stays clean in
     let asked = c.in_ok-row.ensures.asked early h legal pictured in
     let row = c.in-Ok.row in
-    let found = subst (IsReleaseAsked h a.caller.now a.hold) c.in-Ok.is asked.1 in
+    let found = subst (IsReleaseAsked h a.day a.caller.now a.hold) c.in-Ok.is asked.1 in
     let target = c.in_ok-target-in-Ok.target in
     let deposit : shown.held_deposit target ≡ row.deposit = search rules in
     let collection : shown.held_collection target ≡ row.collection = search rules in
-    let live = live_on h a.hold row found.1 (releasable h a.day a.caller.now a.hold (sym found.0)) target deposit collection in
+    let class : shown.held_class target ≡ row.class = search rules in
+    let live = live_on h a.hold row found.1 (releasable h a.day a.caller.now a.hold (sym found.0)) target deposit collection class in
     allowed_serves h a.day a.caller.now (requests.Release a.hold) new.now (answers.HoldReleased a.hold a.day) found.0 refl (c.in_ok-end-in-Ok.ensures.ended clean h legal asked.0 live)
 
 pub returns-in_err-end-in-Ok-clause-stays : goal.returns-in_err-end-in-Ok-clause-stays
@@ -51,7 +52,7 @@ pub returns-in-Err-clause-rows : goal.returns-in-Err-clause-rows
 returns-in-Err-clause-rows g c clean office =
     let a = c.args in
     let t = tables_of (state g.S.Store a.tx.now.conn.now).now in
-    record { asked = Err c.in-Err.why; is_asked = subst (IsReleasableIn t a.caller.now a.hold) c.in-Err.is (c.in_ok-row.ensures.rows clean office); counts = tt; is = refl }
+    record { asked = Err c.in-Err.why; is_asked = subst (IsReleasableIn t a.day a.caller.now a.hold) c.in-Err.is (c.in_ok-row.ensures.rows clean office); counts = tt; is = refl }
 
 pub returns-in_ok-end-in-Ok-clause-rows : goal.returns-in_ok-end-in-Ok-clause-rows
 returns-in_ok-end-in-Ok-clause-rows g c clean office =
@@ -64,7 +65,7 @@ returns-in_ok-end-in-Ok-clause-rows g c clean office =
     let target = c.in_ok-target-in-Ok.target in
     let deposit : shown.held_deposit target ≡ row.deposit = search rules in record {
       asked = Ok row;
-      is_asked = subst (IsReleasableIn (tables_of old.now) a.caller.now a.hold) c.in-Ok.is (c.in_ok-row.ensures.rows early office);
+      is_asked = subst (IsReleasableIn (tables_of old.now) a.day a.caller.now a.hold) c.in-Ok.is (c.in_ok-row.ensures.rows early office);
       counts = subst (CountsFewer (tables_of old.now)) deposit (told_before old.now mid.now same (λ t. CountsFewer t (shown.held_deposit target)) (c.in_ok-end-in-Ok.ensures.rows clean (office_still old.now mid.now same office)));
       is = refl;
     }

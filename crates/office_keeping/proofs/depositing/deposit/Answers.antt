@@ -90,11 +90,13 @@ returns-clause-rows g c clean office =
     let asking : List ℕ → List ℕ → List ℕ → DepositAsked = λ collection class accession. record { day = a.day; caller = a.caller.now; collection = collection; class = class; accession = accession; closed = a.closed } in
     let next = subst (λ new. IsAskedOfDeposit (tables_of old.now) (asking c.as_str-collection.result.now c.as_str-class.result.now c.as_str-accession.result.now) a.bag.now (number_of new)) c.in-Ok.is (c.in_ok-new.ensures.rows early office) in
     let due = told_before old.now mid.now same (λ t. (due : Due) × IsDueIn t c.as_str-class.result.now a.closed due) (c.in_ok-keep.ensures.rows clean (office_still old.now mid.now same office)) in
-    let released = told_before old.now mid.now same (λ t. AreReleasedOnDays t c.in-Ok.new.number c.as_str-collection.result.now) (c.in_ok-keep.ensures.released clean (office_still old.now mid.now same office)) in
+    let released = told_before old.now mid.now same (λ t. AreReleasedOnDays t c.in-Ok.new.number c.as_str-collection.result.now c.as_str-class.result.now) (c.in_ok-keep.ensures.released clean (office_still old.now mid.now same office)) in
     record {
       next = Ok c.in-Ok.new.number;
       is_next = subst (λ asked. IsAskedOfDeposit (tables_of old.now) asked a.bag.now (Ok c.in-Ok.new.number)) (λ i. asking (collection i) (class i) (accession i)) next;
       due = subst (λ name. (due : Due) × IsDueIn (tables_of old.now) name a.closed due) class due;
-      released = subst (λ name. AreReleasedOnDays (tables_of old.now) c.in-Ok.new.number name) collection released;
+      released =
+          subst (λ name. AreReleasedOnDays (tables_of old.now) c.in-Ok.new.number a.collection.now name) class
+          (subst (λ name. AreReleasedOnDays (tables_of old.now) c.in-Ok.new.number name c.as_str-class.result.now) collection released);
       answer = refl;
     }

@@ -3,9 +3,9 @@ use Rattle.std.proofs.lemmas.Result.{IfOk-weaker}
 use Rattle.sqlite.specs.State.{HasCleanDisk}
 use Rattle.sqlite.specs.Held.{state}
 use Rattle.office_asking.proofs.Readings.{pictured_still}
-use Rattle.office_asking.proofs.DueTold.{years_read_back}
+use Rattle.office_asking.proofs.DueTold.{class_there, years_read_back}
 use Rattle.office_asking.proofs.CollectionTold.{collection_told}
-use Rattle.office_keeping.proofs.Placing.{class_there, no_collection, no_class, both_there}
+use Rattle.office_keeping.proofs.Placing.{no_collection, no_class, both_there}
 use Rattle.office_rows.specs.Rows.{ClassRow, class_named}
 use Rattle.office_tables.specs.Tables.{tables_of}
 use Rattle.office_asking.proofs.InTurn.{clean_before, goes_twice, on_after, same_twice, stays_thrice}
@@ -23,7 +23,7 @@ returns-then-not-branch-clause-refusal g c clean h legal pictured =
     let new = state g.S.Store c.has_collection.new.tx.conn.now in
     let none : false ≡ c.in_ok-has_collection.field-0 = search rules in (
       pictured_still h old.now pictured new.now (c.in_ok-has_collection.ensures.same clean pictured.office),
-      no_collection h a.caller.now a.collection.now a.class.now (none ∙ c.in_ok-has_collection.ensures.found clean pictured.office ∙ collection_told h old.now pictured a.collection.now),
+      no_collection h a.day a.caller.now a.collection.now a.class.now (none ∙ c.in_ok-has_collection.ensures.found clean pictured.office ∙ collection_told h old.now pictured a.collection.now),
     )
 
 pub returns-then-is_none-clause-refusal : goal.returns-then-is_none-clause-refusal
@@ -37,7 +37,7 @@ returns-then-is_none-clause-refusal g c clean h legal pictured =
     let some : true ≡ c.in_ok-has_collection.field-0 = search rules in
     let none : false ≡ is_some c.in_ok-class_of.field-0 = search rules in (
       pictured_still h mid.now still new.now (c.in_ok-class_of.ensures.same clean still.office),
-      no_class h a.caller.now a.collection.now a.class.now (some ∙ c.in_ok-has_collection.ensures.found early pictured.office ∙ collection_told h old.now pictured a.collection.now)
+      no_class h a.day a.caller.now a.collection.now a.class.now (some ∙ c.in_ok-has_collection.ensures.found early pictured.office ∙ collection_told h old.now pictured a.collection.now)
           (none ∙ class_there h a.class.now c.in_ok-class_of.field-0 (years_read_back h mid.now still a.class.now c.in_ok-class_of.field-0 (c.in_ok-class_of.ensures.found clean still.office))),
     )
 
@@ -55,7 +55,7 @@ returns-clause-refusal g c clean h legal pictured =
     let some : true ≡ is_some c.in_ok-class_of.field-0 = search rules in
     let collection = there ∙ c.in_ok-has_collection.ensures.found clean1 pictured.office ∙ collection_told h old.now pictured a.collection.now in
     let class = some ∙ class_there h a.class.now c.in_ok-class_of.field-0 (years_read_back h s1.now p1 a.class.now c.in_ok-class_of.field-0 (c.in_ok-class_of.ensures.found clean2 p1.office)) in
-    IfOk-weaker c.denial.result _ _ (λ why p. (p.0, both_there h a.caller.now a.collection.now a.class.now collection class why p.1)) (c.denial.ensures.denied clean h legal p2)
+    IfOk-weaker c.denial.result _ _ (λ why p. (p.0, both_there h a.day a.caller.now a.collection.now a.class.now collection class why p.1)) (c.denial.ensures.denied clean h legal p2)
 
 pub returns-in_err-class_of-clause-stays : goal.returns-in_err-class_of-clause-stays
 returns-in_err-class_of-clause-stays g c = stays_then (state g.S.Store c.args.tx.now.conn.now) (state g.S.Store c.has_collection.new.tx.conn.now) (state g.S.Store c.class_of.new.tx.conn.now) c.has_collection.ensures.stays c.in_ok-has_collection.ensures.goes_on c.class_of.ensures.stays
@@ -96,7 +96,7 @@ pub returns-then-not-branch-clause-rows : goal.returns-then-not-branch-clause-ro
 returns-then-not-branch-clause-rows g c clean office =
     let a = c.args in
     let none : false ≡ c.in_ok-has_collection.field-0 = search rules in
-    collection_missing (tables_of (state g.S.Store a.tx.now.conn.now).now) a.caller.now a.collection.now a.class.now (none ∙ c.in_ok-has_collection.ensures.found clean office)
+    collection_missing (tables_of (state g.S.Store a.tx.now.conn.now).now) a.day a.caller.now a.collection.now a.class.now (none ∙ c.in_ok-has_collection.ensures.found clean office)
 
 pub returns-then-is_none-clause-rows : goal.returns-then-is_none-clause-rows
 returns-then-is_none-clause-rows g c clean office =
@@ -108,7 +108,7 @@ returns-then-is_none-clause-rows g c clean office =
     let some : true ≡ c.in_ok-has_collection.field-0 = search rules in
     let none : false ≡ is_some c.in_ok-class_of.field-0 = search rules in
     let read = told_before old.now mid.now same (λ t. c.in_ok-class_of.field-0 ≡ option_map (λ (r : ClassRow). r.years) (class_named a.class.now t.classes)) (c.in_ok-class_of.ensures.found clean (office_still old.now mid.now same office)) in
-    class_missing (tables_of old.now) a.caller.now a.collection.now a.class.now (some ∙ c.in_ok-has_collection.ensures.found early office) c.in_ok-class_of.field-0 read none
+    class_missing (tables_of old.now) a.day a.caller.now a.collection.now a.class.now (some ∙ c.in_ok-has_collection.ensures.found early office) c.in_ok-class_of.field-0 read none
 
 pub returns-clause-rows : goal.returns-clause-rows
 returns-clause-rows g c clean office =
@@ -125,6 +125,6 @@ returns-clause-rows g c clean office =
     let some : true ≡ is_some c.in_ok-class_of.field-0 = search rules in
     let read = told_before old.now s1.now same1 (λ t. c.in_ok-class_of.field-0 ≡ option_map (λ (r : ClassRow). r.years) (class_named a.class.now t.classes)) (c.in_ok-class_of.ensures.found clean2 office1) in
     IfOk-weaker c.denial.result _ _
-    (λ why denial. both_there_in (tables_of old.now) a.caller.now a.collection.now a.class.now (there ∙ c.in_ok-has_collection.ensures.found clean1 office) c.in_ok-class_of.field-0 read some why
-    (told_before old.now s2.now same2 (λ t. IsDenialIn t a.caller.now acts.Deposit (Some a.collection.now) (Some a.class.now) why) denial))
+    (λ why denial. both_there_in (tables_of old.now) a.day a.caller.now a.collection.now a.class.now (there ∙ c.in_ok-has_collection.ensures.found clean1 office) c.in_ok-class_of.field-0 read some why
+    (told_before old.now s2.now same2 (λ t. IsDenialIn t a.day a.caller.now acts.Deposit (Some a.collection.now) (Some a.class.now) why) denial))
     (c.denial.ensures.rows clean (office_still old.now s2.now same2 office))

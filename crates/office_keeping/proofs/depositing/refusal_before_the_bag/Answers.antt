@@ -15,8 +15,8 @@ pub returns-in-Some-clause-refusal : goal.returns-in-Some-clause-refusal
 returns-in-Some-clause-refusal g c clean h legal pictured =
     let a = c.args in
     let asked = c.in_ok-why.ensures.refusal clean h legal pictured in
-    let stands : first_some (place_refusals h a.caller.now a.collection.now a.class.now) ≡ Some c.in-Some.why = sym asked.1 ∙ c.in-Some.is in
-    (asked.0, sym (first_in_front (place_refusals h a.caller.now a.collection.now a.class.now) (taken_refusal h a.accession.now ∷ closed_ahead_refusal a.day a.closed ∷ []) c.in-Some.why stands))
+    let stands : first_some (place_refusals h a.day a.caller.now a.collection.now a.class.now) ≡ Some c.in-Some.why = sym asked.1 ∙ c.in-Some.is in
+    (asked.0, sym (first_in_front (place_refusals h a.day a.caller.now a.collection.now a.class.now) (taken_refusal h a.accession.now ∷ closed_ahead_refusal a.day a.closed ∷ []) c.in-Some.why stands))
 
 pub returns-clause-refusal : goal.returns-clause-refusal
 returns-clause-refusal g c clean h legal pictured =
@@ -25,12 +25,12 @@ returns-clause-refusal g c clean h legal pictured =
     let early : HasCleanDisk mid = clean_before mid (state g.S.Store c.taken_refusal.new.tx.conn.now) c.taken_refusal.ensures.stays clean in
     let place = c.in_ok-why.ensures.refusal early h legal pictured in
     let asked = c.in_ok-why-2.ensures.taken clean h legal place.0 in
-    let free : first_some (place_refusals h a.caller.now a.collection.now a.class.now) ≡ None = search (rules, place.1) in
+    let free : first_some (place_refusals h a.day a.caller.now a.collection.now a.class.now) ≡ None = search (rules, place.1) in
     let untaken : None ≡ taken_refusal h a.accession.now = search (rules, asked.1) in
     let ahead : c.closed_ahead.result ≡ closed_ahead_refusal a.day a.closed = c.closed_ahead.ensures in (
       asked.0,
       one_only c.closed_ahead.result ∙ (λ i. first_some (untaken i ∷ ahead i ∷ []))
-          ∙ sym (first_behind (place_refusals h a.caller.now a.collection.now a.class.now) (taken_refusal h a.accession.now ∷ closed_ahead_refusal a.day a.closed ∷ []) free),
+          ∙ sym (first_behind (place_refusals h a.day a.caller.now a.collection.now a.class.now) (taken_refusal h a.accession.now ∷ closed_ahead_refusal a.day a.closed ∷ []) free),
     )
 
 pub returns-in_err-why-2-clause-stays : goal.returns-in_err-why-2-clause-stays
@@ -58,7 +58,7 @@ pub returns-in-Some-clause-rows : goal.returns-in-Some-clause-rows
 returns-in-Some-clause-rows g c clean office =
     let a = c.args in
     let t = tables_of (state g.S.Store a.tx.now.conn.now).now in
-    record { place = Some c.in-Some.why; of_place = subst (IsPlaceRefusalIn t a.caller.now a.collection.now a.class.now) c.in-Some.is (c.in_ok-why.ensures.rows clean office); first = refl }
+    record { place = Some c.in-Some.why; of_place = subst (IsPlaceRefusalIn t a.day a.caller.now a.collection.now a.class.now) c.in-Some.is (c.in_ok-why.ensures.rows clean office); first = refl }
 
 pub returns-in-Some-2-clause-rows : goal.returns-in-Some-2-clause-rows
 returns-in-Some-2-clause-rows g c clean office =
@@ -71,7 +71,7 @@ returns-in-Some-2-clause-rows g c clean office =
     let taken = told_before old.now mid.now same (λ t. IsTakenIn t a.accession.now c.in_ok-why-2.field-0) (c.in_ok-why-2.ensures.rows clean (office_still old.now mid.now same office)) in
     record {
       place = None;
-      of_place = subst (IsPlaceRefusalIn (tables_of old.now) a.caller.now a.collection.now a.class.now) none (c.in_ok-why.ensures.rows early office);
+      of_place = subst (IsPlaceRefusalIn (tables_of old.now) a.day a.caller.now a.collection.now a.class.now) none (c.in_ok-why.ensures.rows early office);
       first = record { taken = Some c.in-Some-2.why; is_taken = subst (IsTakenIn (tables_of old.now) a.accession.now) c.in-Some-2.is taken; first = refl };
     }
 
@@ -87,6 +87,6 @@ returns-clause-rows g c clean office =
     let taken = told_before old.now mid.now same (λ t. IsTakenIn t a.accession.now c.in_ok-why-2.field-0) (c.in_ok-why-2.ensures.rows clean (office_still old.now mid.now same office)) in
     record {
       place = None;
-      of_place = subst (IsPlaceRefusalIn (tables_of old.now) a.caller.now a.collection.now a.class.now) none (c.in_ok-why.ensures.rows early office);
+      of_place = subst (IsPlaceRefusalIn (tables_of old.now) a.day a.caller.now a.collection.now a.class.now) none (c.in_ok-why.ensures.rows early office);
       first = record { taken = None; is_taken = subst (IsTakenIn (tables_of old.now) a.accession.now) untaken taken; first = c.closed_ahead.ensures };
     }

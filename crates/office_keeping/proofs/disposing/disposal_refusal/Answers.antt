@@ -41,10 +41,10 @@ returns-clause-refusal g c clean h legal pictured =
     let still = pictured_still h old.now pictured s1.now (c.in_ok-deposit.ensures.same clean1 pictured.office) in
     let row = c.in-Some.deposit in
     let some : Some row ≡ option_map (deposit_row h a.number) (histories.deposit_numbered h a.number) = sym c.in-Some.is ∙ read in
-    let found = there h a.caller.now acts.Dispose a.number row some in
+    let found = there h a.day a.caller.now acts.Dispose a.number row some in
     let asked = c.in_ok-asker.ensures.asker clean2 h legal still in
     let known = c.in_ok-facts.ensures.facts clean h legal asked.0 in
-    let facts = known.1 a.caller.now asked.1 a.number found.0 found.1 found.2 in
+    let facts = known.1 a.day a.caller.now asked.1 a.number found.0 found.1 found.2 in
     let told : c.refusal_of.result ≡ refusal_of (verdict_of c.in_ok-facts.facts a.day) = search rules in
     (known.0, told ∙ ap (λ f. refusal_of (verdict_of f a.day)) facts ∙ sym (c.verdicts_decide.ensures.disposal h a.day a.caller.now a.number found.0 found.1))
 
@@ -92,8 +92,8 @@ returns-clause-rows g c clean office =
     let same2 : s2.now ≡ s1.now = c.in_ok-asker.ensures.same clean2 office1 in
     let row = c.in-Some.deposit in
     let found : Some row ≡ deposit_numbered (pos a.number) (tables_of old.now).deposits = sym c.in-Some.is ∙ c.in_ok-deposit.ensures.found clean1 office in
-    let asker = subst (λ db. IsAskerIn (tables_of db) a.caller.now c.in_ok-asker.asker) (sym same2) (c.in_ok-asker.ensures.rows clean2 office1) in
-    let facts = c.in_ok-facts.ensures.rows clean (office_still s1.now s2.now same2 office1) a.caller.now asker a.number (row_number (tables_of old.now) a.number row found) in
+    let asker = subst (λ db. IsAskerIn (tables_of db) a.day a.caller.now c.in_ok-asker.asker) (sym same2) (c.in_ok-asker.ensures.rows clean2 office1) in
+    let facts = c.in_ok-facts.ensures.rows clean (office_still s1.now s2.now same2 office1) a.day a.caller.now asker a.number (row_number (tables_of old.now) a.number row found) in
     let told : c.refusal_of.result ≡ refusal_of (verdict_of c.in_ok-facts.facts a.day) = search rules in
-    let verdict : IsVerdictIn (tables_of old.now) a.day a.caller.now a.number row c.refusal_of.result = record { facts = c.in_ok-facts.facts; are = told_before old.now s2.now (same2 ∙ same1) (λ t. AreFactsIn t a.caller.now a.number row c.in_ok-facts.facts) facts; comes_to = told } in
+    let verdict : IsVerdictIn (tables_of old.now) a.day a.caller.now a.number row c.refusal_of.result = record { facts = c.in_ok-facts.facts; are = told_before old.now s2.now (same2 ∙ same1) (λ t. AreFactsIn t a.day a.caller.now a.number row c.in_ok-facts.facts) facts; comes_to = told } in
     subst (λ o. IsDisposalRefusalOf (tables_of old.now) a.day a.caller.now a.number o c.refusal_of.result) found verdict

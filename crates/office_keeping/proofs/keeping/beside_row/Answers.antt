@@ -29,7 +29,7 @@ returns-clause-holds g c clean h legal pictured =
     let first = c.in_ok-due.ensures.due early h legal pictured in
     let second = c.in_ok-holds.ensures.count clean h legal first.0 in
     let fits : SFits w64 c.in_ok-holds.holds = search rules in
-    (second.0, λ deposit is. to_z-of_z w64 c.in_ok-holds.holds fits ∙ second.1 deposit is)
+    (second.0, λ deposit is within. to_z-of_z w64 c.in_ok-holds.holds fits ∙ second.1 deposit is within)
 
 pub returns-in_err-holds-clause-stays : goal.returns-in_err-holds-clause-stays
 returns-in_err-holds-clause-stays g c = stays_then (state g.S.Store c.args.tx.now.conn.now) (state g.S.Store c.due_day.new.tx.conn.now) (state g.S.Store c.live_count.new.tx.conn.now) c.due_day.ensures.stays c.in_ok-due.ensures.goes_on c.live_count.ensures.stays
@@ -55,7 +55,7 @@ returns-clause-counted g c clean office =
     let same : mid.now ≡ old.now = c.in_ok-due.ensures.same early office in
     let fits : SFits w64 c.in_ok-holds.holds = search rules in
     let counted = c.in_ok-holds.ensures.rows clean (office_still old.now mid.now same office) in
-    to_z-of_z w64 c.in_ok-holds.holds fits ∙ counted.0 ∙ ap (λ db. pos (length (live_holds (pos a.number) a.collection.now (tables_of db)))) same
+    to_z-of_z w64 c.in_ok-holds.holds fits ∙ counted.0 ∙ ap (λ db. pos (length (live_holds (pos a.number) a.collection.now a.class.now (tables_of db)))) same
 
 pub returns-clause-released : goal.returns-clause-released
 returns-clause-released g c clean office =
@@ -65,4 +65,4 @@ returns-clause-released g c clean office =
     let early : HasCleanDisk mid = clean_before mid (state g.S.Store c.live_count.new.tx.conn.now) c.live_count.ensures.stays clean in
     let same : mid.now ≡ old.now = c.in_ok-due.ensures.same early office in
     let counted = c.in_ok-holds.ensures.rows clean (office_still old.now mid.now same office) in
-    told_before old.now mid.now same (λ t. AreReleasedOnDays t a.number a.collection.now) counted.1
+    told_before old.now mid.now same (λ t. AreReleasedOnDays t a.number a.collection.now a.class.now) counted.1

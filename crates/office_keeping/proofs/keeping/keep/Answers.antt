@@ -27,7 +27,7 @@ returns-clause-kept g c clean h legal pictured next =
     let still = due.0 in
     let put = c.in_ok-put_row.ensures.becomes clean2 still.office in
     let added : Becomes mid.now (with_kept (row_by_gone a.number None (a.day, d)) beside.due beside.holds (tables_of old.now)) = search (rules, put) in
-    on_both c.add_files.result (kept_deposit h legal a.day d a.number beside.due beside.holds old.now mid.now new.now next (due.1 d refl refl) (holds.1 d refl) still added)
+    on_both c.add_files.result (kept_deposit h legal a.day d a.number beside.due beside.holds old.now mid.now new.now next (due.1 d refl refl) (holds.1 d refl refl) still added)
     (subst (λ fs. OnOk c.add_files.result (Becomes new.now (with_files (pos a.number) fs (tables_of mid.now)))) c.files.ensures.whole (c.add_files.ensures.becomes clean added.office))
     (c.add_files.ensures.once clean added.office (c.in_ok-put_row.ensures.once clean2 still.office still.once))
 

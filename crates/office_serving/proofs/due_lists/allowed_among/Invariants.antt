@@ -1,4 +1,5 @@
 use Rattle.std.proofs.Common.{◌≡◌, List, ℕ, pos, map, filter, take}
+use Rattle.jiff.specs.Types.{Date}
 use Rattle.sqlite.specs.State.{HasCleanDisk}
 use Rattle.sqlite.specs.Held.{state}
 use Rattle.sql_meaning.specs.Inside.{Stays, Stands}
@@ -24,9 +25,9 @@ invariant-loop-place g l =
       stays : Stays old now;
       goes_on : HasCleanDisk now → Stands old now;
       told : HasCleanDisk now → (h : History) → IsLegal h → Pictures h old.now → Pictures h now.now
-          × ((caller : List ℕ) → IsAsker h caller l.asker → AreOf h caller acts.Dispose l.allowances
-          × (map pos l.numbers.items ≡ map (λ (p : PlaceRow). p.number) (filter (may_destroy h caller) (take l.place-index l.places))));
+          × ((day : Date) (caller : List ℕ) → IsAsker h day caller l.asker → AreOf h day caller acts.Dispose l.allowances
+          × (map pos l.numbers.items ≡ map (λ (p : PlaceRow). p.number) (filter (may_destroy h day caller) (take l.place-index l.places))));
       same : HasCleanDisk now → IsOffice old.now → now.now ≡ old.now;
-      by_rows : HasCleanDisk now → IsOffice old.now → (caller : List ℕ) → IsAskerIn (tables_of old.now) caller l.asker
-          → AreIn (tables_of old.now) caller acts.Dispose l.allowances × AreAllowedIn (tables_of old.now) caller (take l.place-index l.places) l.numbers.items;
+      by_rows : HasCleanDisk now → IsOffice old.now → (day : Date) (caller : List ℕ) → IsAskerIn (tables_of old.now) day caller l.asker
+          → AreIn (tables_of old.now) day caller acts.Dispose l.allowances × AreAllowedIn (tables_of old.now) day caller (take l.place-index l.places) l.numbers.items;
     }

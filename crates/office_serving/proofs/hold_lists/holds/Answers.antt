@@ -22,9 +22,10 @@ returns-in_ok-told_holds-in-Ok-clause-decides g c clean h legal pictured =
     let it = asked.1 in
     let told = c.in_ok-told_holds-in-Ok.ensures.told clean h legal asked.0 in
     let collection : c.deref.result.now ≡ c.in-Ok.row.collection = search rules in
+    let class : c.deref-in-Ok.result.now ≡ c.in-Ok.row.class = search rules in
     let given : c.of.result ≡ c.in_ok-told_holds-in-Ok.field-0.items = search rules in
-    told_serves a.caller.now acts.Holds it refl (λ found. answers.Holds (told_holds h a.number found.1)) refl refl
-    (ap answers.Holds (given ∙ told.1 it.found.1 (sym (ap (λ (r : DepositRow). r.collection) it.row_is) ∙ sym collection))) told.0
+    told_serves a.day a.caller.now acts.Holds it refl (λ found. answers.Holds (told_holds h a.number found.1)) refl refl
+    (ap answers.Holds (given ∙ told.1 it.found.1 (sym (ap (λ (r : DepositRow). r.collection) it.row_is) ∙ sym collection) (sym (ap (λ (r : DepositRow). r.class) it.row_is) ∙ sym class))) told.0
 
 pub returns-in-Err-clause-decides : goal.returns-in-Err-clause-decides
 returns-in-Err-clause-decides g c clean h legal pictured =
@@ -50,12 +51,17 @@ returns-in_ok-told_holds-in-Ok-clause-rows g c clean office =
     let row = c.in-Ok.row in
     let told = c.in_ok-told_holds-in-Ok.field-0.items in
     let collection : c.deref.result.now ≡ row.collection = search rules in
+    let class : c.deref-in-Ok.result.now ≡ row.class = search rules in
     let given : c.of.result ≡ told = search rules in
-    let says = told_before old.now mid.now same (λ t. AreHoldsOver t a.number c.deref.result.now told) (c.in_ok-told_holds-in-Ok.ensures.rows clean (office_still old.now mid.now same office)) in
+    let says = told_before old.now mid.now same (λ t. AreHoldsOver t a.number c.deref.result.now c.deref-in-Ok.result.now told) (c.in_ok-told_holds-in-Ok.ensures.rows clean (office_still old.now mid.now same office)) in
     record {
       asked = Ok row;
       is_asked = rw c.in-Ok.is at c.in_ok-row.ensures.rows early office;
-      answers = (told, subst (λ name. AreHoldsOver (tables_of old.now) a.number name told) collection says, ap answers.Holds given);
+      answers = (
+        told,
+        subst (λ name. AreHoldsOver (tables_of old.now) a.number row.collection name told) class (subst (λ name. AreHoldsOver (tables_of old.now) a.number name c.deref-in-Ok.result.now told) collection says),
+        ap answers.Holds given,
+      );
     }
 
 pub returns-in-Err-clause-rows : goal.returns-in-Err-clause-rows

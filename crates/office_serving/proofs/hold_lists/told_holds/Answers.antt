@@ -19,7 +19,7 @@ returns-clause-told g c clean h legal pictured =
     let live = c.in_ok-numbers.ensures.live early h legal pictured in
     IfOk-weaker c.told_each.result _ _ (λ told says. (
       says.0,
-      λ deposit is. says.1 ∙ ap (filter_map (told_hold h)) (c.deref.ensures.value ∙ live.1 deposit is),
+      λ deposit is within. says.1 ∙ ap (filter_map (told_hold h)) (c.deref.ensures.value ∙ live.1 deposit is within),
     ))
     (c.told_each.ensures.told clean h legal live.0)
 

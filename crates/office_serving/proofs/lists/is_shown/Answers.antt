@@ -20,9 +20,9 @@ returns-clause-shown g c clean h legal pictured =
     let kept : row.gone ≡ None = search rules in
     IfOk-weaker c.allows.result _ _ (λ is says. (
       says.0,
-      λ caller these.
-          let said = says.1 caller acts.List these in
-          (said.0, λ n found row_is. rules_asked h caller collection class n found row row_is wanted kept is (said.1 ∙ (λ i. is_allowed h caller acts.List (of_collection i) (of_class i)))),
+      λ day caller these.
+          let said = says.1 day caller acts.List these in
+          (said.0, λ n found row_is. rules_asked h day caller collection class n found row row_is wanted kept is (said.1 ∙ (λ i. is_allowed h day caller acts.List (of_collection i) (of_class i)))),
     ))
     (c.allows.ensures.allowed clean h legal pictured)
 
@@ -35,8 +35,8 @@ returns-clause-rows g c clean office =
     let of_class : c.deref-2.result.now ≡ row.class = search rules in
     let wanted : true ≡ is_wanted (option_copied a.collection) (option_copied a.class) row = search rules in
     let kept : row.gone ≡ None = search rules in
-    IfOk-weaker c.allows.result _ _ (λ is says caller these.
-    let said = says caller acts.List these in
-    let allowed : IsAllowedIn t caller acts.List row.collection row.class is = subst (λ text. IsAllowedIn t caller acts.List row.collection text is) of_class (subst (λ text. IsAllowedIn t caller acts.List text c.deref-2.result.now is) of_collection said.1) in
-    (said.0, subst (λ b. IsShownIf b t caller row is) wanted (subst (λ o. IsShownUnless o t caller row is) (sym kept) allowed)))
+    IfOk-weaker c.allows.result _ _ (λ is says day caller these.
+    let said = says day caller acts.List these in
+    let allowed : IsAllowedIn t day caller acts.List row.collection row.class is = subst (λ text. IsAllowedIn t day caller acts.List row.collection text is) of_class (subst (λ text. IsAllowedIn t day caller acts.List text c.deref-2.result.now is) of_collection said.1) in
+    (said.0, subst (λ b. IsShownIf b t day caller row is) wanted (subst (λ o. IsShownUnless o t day caller row is) (sym kept) allowed)))
     (c.allows.ensures.rows clean office)

@@ -1,4 +1,5 @@
 use Rattle.std.proofs.Common.{rules, ◌≡◌, List, ℕ, refl, ap, subst, ◌∙◌, option_copied}
+use Rattle.jiff.specs.Types.{Date}
 use Rattle.sqlite.specs.State.{HasCleanDisk}
 use Rattle.sqlite.specs.Held.{state}
 use Rattle.office_core.specs.declared.answer.Answer.TheVariants as answers
@@ -29,7 +30,7 @@ returns-clause-decides g c clean h legal pictured =
     let rows_are = c.deref.ensures.value ∙ c.in_ok-rows.ensures.found clean2 asked.0.office ∙ in_picture h s1.now asked.0 (λ t. beside t.deposits t.dues) in
     let found = c.in_ok-told.ensures.listed clean h legal still in
     let given : c.of.result ≡ c.in_ok-told.told.items = search rules in
-    read_serves h a.day a.caller.now (requests.List (option_copied a.collection) (option_copied a.class)) s3.now (answers.List c.of.result) refl (ap answers.List (given ∙ found.1 a.caller.now asked.1 rows_are)) refl found.0
+    read_serves h a.day a.caller.now (requests.List (option_copied a.collection) (option_copied a.class)) s3.now (answers.List c.of.result) refl (ap answers.List (given ∙ found.1 a.day a.caller.now asked.1 rows_are)) refl found.0
 
 pub returns-clause-rows : goal.returns-clause-rows
 returns-clause-rows g c clean office =
@@ -46,10 +47,10 @@ returns-clause-rows g c clean office =
     let still = office_still s0.now s1.now first office in
     let same : s2.now ≡ s0.now = c.in_ok-rows.ensures.same clean2 still ∙ first in
     let rows_are = c.deref.ensures.value ∙ c.in_ok-rows.ensures.found clean2 still ∙ ap (λ db. beside (tables_of db).deposits (tables_of db).dues) first in
-    let found = told_before s0.now s2.now same (λ t. (caller : List ℕ) → IsAskerIn t caller c.in_ok-asker.asker → AreListedIn t caller collection class c.deref.result.now c.in_ok-told.told.items)
-    (c.in_ok-told.ensures.rows clean (office_still s0.now s2.now same office)) a.caller.now (c.in_ok-asker.ensures.rows clean1 office) in
+    let found = told_before s0.now s2.now same (λ t. (day : Date) (caller : List ℕ) → IsAskerIn t day caller c.in_ok-asker.asker → AreListedIn t day caller collection class c.deref.result.now c.in_ok-told.told.items)
+    (c.in_ok-told.ensures.rows clean (office_still s0.now s2.now same office)) a.day a.caller.now (c.in_ok-asker.ensures.rows clean1 office) in
     let given : c.of.result ≡ c.in_ok-told.told.items = search rules in
-    (c.in_ok-told.told.items, subst (λ rows. AreListedIn (tables_of s0.now) a.caller.now collection class rows c.in_ok-told.told.items) rows_are found, ap answers.List given)
+    (c.in_ok-told.told.items, subst (λ rows. AreListedIn (tables_of s0.now) a.day a.caller.now collection class rows c.in_ok-told.told.items) rows_are found, ap answers.List given)
 
 pub returns-clause-same : goal.returns-clause-same
 returns-clause-same g c =

@@ -1,5 +1,6 @@
 use Rattle.std.proofs.Common.{◌≡◌, List, ℕ, option_copied, take}
 use Rattle.std.specs.List.{filter_map}
+use Rattle.jiff.specs.Types.{Date}
 use Rattle.sqlite.specs.State.{HasCleanDisk}
 use Rattle.sqlite.specs.Held.{state}
 use Rattle.sql_meaning.specs.Inside.{Stays, Stands}
@@ -27,11 +28,11 @@ invariant-loop-row g l =
       stays : Stays old now;
       goes_on : HasCleanDisk now → Stands old now;
       told : HasCleanDisk now → (h : History) → IsLegal h → Pictures h old.now → Pictures h now.now
-          × ((caller : List ℕ) → IsAsker h caller l.asker → l.rows ≡ beside (deposit_rows h) (due_rows h)
-          → AreOf h caller acts.List l.allowances
-          × (l.told.items ≡ filter_map (shown_record h caller (option_copied l.collection) (option_copied l.class)) (numbers l.row-index)));
+          × ((day : Date) (caller : List ℕ) → IsAsker h day caller l.asker → l.rows ≡ beside (deposit_rows h) (due_rows h)
+          → AreOf h day caller acts.List l.allowances
+          × (l.told.items ≡ filter_map (shown_record h day caller (option_copied l.collection) (option_copied l.class)) (numbers l.row-index)));
       same : HasCleanDisk now → IsOffice old.now → now.now ≡ old.now;
-      by_rows : HasCleanDisk now → IsOffice old.now → (caller : List ℕ) → IsAskerIn (tables_of old.now) caller l.asker
-          → AreIn (tables_of old.now) caller acts.List l.allowances
-          × AreListedIn (tables_of old.now) caller (option_copied l.collection) (option_copied l.class) (take l.row-index l.rows) l.told.items;
+      by_rows : HasCleanDisk now → IsOffice old.now → (day : Date) (caller : List ℕ) → IsAskerIn (tables_of old.now) day caller l.asker
+          → AreIn (tables_of old.now) day caller acts.List l.allowances
+          × AreListedIn (tables_of old.now) day caller (option_copied l.collection) (option_copied l.class) (take l.row-index l.rows) l.told.items;
     }

@@ -22,7 +22,7 @@ returns-in_ok-record_of-in-Ok-clause-decides g c clean h legal pictured =
     let asked = rw c.in-Ok.is at c.in_ok-row.ensures.asked (clean_before mid new c.record_of.ensures.stays clean) h legal pictured in
     let it = asked.1 in
     let told = c.in_ok-record_of-in-Ok.ensures.told clean h legal asked.0 in
-    told_serves a.caller.now acts.Record it refl (λ found. answers.Record (record_of h a.number found)) refl refl (ap answers.Record (told.1 a.number it.found it.there it.row_is)) told.0
+    told_serves a.day a.caller.now acts.Record it refl (λ found. answers.Record (record_of h a.number found)) refl refl (ap answers.Record (told.1 a.number it.found it.there it.row_is)) told.0
 
 pub returns-in-Err-clause-decides : goal.returns-in-Err-clause-decides
 returns-in-Err-clause-decides g c clean h legal pictured =
@@ -45,7 +45,7 @@ returns-in_ok-record_of-in-Ok-clause-rows g c clean office =
     let mid = state g.S.Store c.kept_deposit.new.tx.conn.now in
     let new = state g.S.Store c.record_of.new.tx.conn.now in
     let early = clean_before mid new c.record_of.ensures.stays clean in
-    let asked : IsAskedIn (tables_of old.now) a.caller.now acts.Record a.number (Ok c.in-Ok.row) = rw c.in-Ok.is at c.in_ok-row.ensures.rows early office in
+    let asked : IsAskedIn (tables_of old.now) a.day a.caller.now acts.Record a.number (Ok c.in-Ok.row) = rw c.in-Ok.is at c.in_ok-row.ensures.rows early office in
     let same = c.in_ok-row.ensures.same early office in
     let told = told_before old.now mid.now same (λ t. (n : ℕ) → pos n ≡ c.in-Ok.row.number → IsRecordBy t n c.in-Ok.row c.in_ok-record_of-in-Ok.field-0) (c.in_ok-record_of-in-Ok.ensures.rows clean (office_still old.now mid.now same office)) in
     let number = sym (found_number (pos a.number) (tables_of old.now).deposits c.in-Ok.row asked.0) in
@@ -53,7 +53,7 @@ returns-in_ok-record_of-in-Ok-clause-rows g c clean office =
 
 pub returns-in-Err-clause-rows : goal.returns-in-Err-clause-rows
 returns-in-Err-clause-rows g c clean office =
-    let asked : IsAskedIn (tables_of (state g.S.Store c.args.tx.now.conn.now).now) c.args.caller.now acts.Record c.args.number (Err c.in-Err.why) = rw c.in-Err.is at c.in_ok-row.ensures.rows clean office in
+    let asked : IsAskedIn (tables_of (state g.S.Store c.args.tx.now.conn.now).now) c.args.day c.args.caller.now acts.Record c.args.number (Err c.in-Err.why) = rw c.in-Err.is at c.in_ok-row.ensures.rows clean office in
     record { asked = Err c.in-Err.why; is_asked = asked; answers = refl }
 
 pub returns-in_ok-record_of-in-Ok-clause-same : goal.returns-in_ok-record_of-in-Ok-clause-same

@@ -4,6 +4,7 @@ use Rattle.sqlite.specs.State.{HasCleanDisk}
 use Rattle.sqlite.specs.Held.{state}
 use Rattle.sql_meaning.specs.Making.{Builds}
 use Rattle.sql_meaning.proofs.Creating.{makes_next}
+use Rattle.sql_meaning.proofs.Growing.{grows_next, grown_none}
 use Rattle.sql_meaning.proofs.Inside.{stays_on, stands_then}
 use Rattle.office_tables.proofs.creating.define.Goals as goal
 
@@ -25,4 +26,18 @@ loop-text-preserved g c =
           let one : words (drop c.loop-text.text-index texts) ≡ words (get_or texts c.loop-text.text-index _ ∷ drop (c.loop-text.text-index + 1) texts) = at_drop_more words texts c.loop-text.text-index _ (search rules) in
           let step = subst (λ (xs : List (List ℕ)). Builds there.0 xs after) one there.1 in
           (step.0, step.2, makes_next there.0 _ step.0 step.1 now new c.in_ok-change.field-0 there.2 (c.in_ok-change.ensures.ran clean));
+      grown = λ clean before after builds whole.
+          let there = inv.grown (early clean) before after builds whole in
+          let one : words (drop c.loop-text.text-index texts) ≡ words (get_or texts c.loop-text.text-index _ ∷ drop (c.loop-text.text-index + 1) texts) = at_drop_more words texts c.loop-text.text-index _ (search rules) in
+          let step = subst (λ (xs : List (List ℕ)). Builds there.0 xs after) one there.1 in
+          (step.0, step.2, grows_next before there.0 _ step.0 step.1 old.now now new c.in_ok-change.field-0 there.2 (c.in_ok-change.ensures.ran clean));
     }
+
+pub loop-text-init : goal.loop-text-init
+loop-text-init g c = record {
+  same_reference = search rules;
+  stays = search rules;
+  goes_on = search rules;
+  made = λ clean before after builds blank. (before, builds, blank);
+  grown = λ clean before after builds whole. (before, builds, grown_none before _ whole.schema_is);
+}

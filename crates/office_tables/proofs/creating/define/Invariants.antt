@@ -4,7 +4,8 @@ use Rattle.sqlite.specs.State.{HasCleanDisk}
 use Rattle.sqlite.specs.Held.{state}
 use Rattle.sql_meaning.specs.Inside.{Stays, Stands}
 use Rattle.sql_meaning.specs.Making.{Builds}
-use Rattle.sql_meaning.specs.Whole.{IsBlank}
+use Rattle.sql_meaning.specs.Growing.{Grows}
+use Rattle.sql_meaning.specs.Whole.{IsBlank, IsWhole}
 use Rattle.office_tables.proofs.creating.define.Given as goal
 
 abbrev pub invariant-loop-text : goal.invariant-loop-text
@@ -17,4 +18,6 @@ invariant-loop-text g l =
       goes_on : HasCleanDisk now → Stands old now;
       made : HasCleanDisk now → (before after : Schema) → Builds before (map (λ t. t.now) l.texts) after → IsBlank before old.now
           → (mid : Schema) × Builds mid (map (λ t. t.now) (drop l.text-index l.texts)) after × IsBlank mid now.now;
+      grown : HasCleanDisk now → (before after : Schema) → Builds before (map (λ t. t.now) l.texts) after → IsWhole before old.now
+          → (mid : Schema) × Builds mid (map (λ t. t.now) (drop l.text-index l.texts)) after × Grows before mid old.now now.now;
     }

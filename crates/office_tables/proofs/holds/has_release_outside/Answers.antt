@@ -1,7 +1,5 @@
-use Rattle.std.proofs.Common.{pos, sym, subst, arith, ap₂, ◌||◌, ◌∙◌, true, w64}
-use Rattle.std.specs.List.{list_any}
+use Rattle.std.proofs.Common.{pos, sym, subst, arith, w64}
 use Rattle.std.proofs.lemmas.Int.{to_z-of_z}
-use Rattle.sqlite.specs.Order.{Row}
 use Rattle.sqlite.specs.State.{HasCleanDisk}
 use Rattle.sqlite.specs.Held.{state}
 use Rattle.sql_meaning.proofs.Inside.{stays_then}
@@ -13,15 +11,33 @@ pub returns-clause-found : goal.returns-clause-found
 returns-clause-found g c clean office =
     let a = c.args in
     let old = state g.S.Store a.tx.now.conn.now in
-    let mid = state g.S.Store c.rows_of_releases_on.new.tx.conn.now in
-    let clean_mid : HasCleanDisk mid = omega (arith, clean, c.rows_of_releases_within.ensures.stays.survives.clean) in
+    let one = state g.S.Store c.has_release.new.tx.conn.now in
+    let two = state g.S.Store c.has_release-2.new.tx.conn.now in
+    let clean_two : HasCleanDisk two = omega (arith, clean, c.has_release-3.ensures.stays.survives.clean) in
+    let clean_one : HasCleanDisk one = omega (arith, clean_two, c.has_release-2.ensures.stays.survives.clean) in
     let from = to_z-of_z w64 a.first c.ranges.first in
     let to = to_z-of_z w64 a.last c.ranges.last in
-    let first = rw (from, to) at (c.in_ok-on_deposit.ensures.found clean_mid office) in
-    let second = rw (from, to) at (c.in_ok-on_collection.ensures.found clean (subst IsOffice (sym first.0) office)) in
-    c.are_some.ensures
-    ∙ ap₂ (λ rows more. list_any (λ (r : Row). true) rows || list_any (λ (r : Row). true) more) c.deref.ensures.value c.deref-2.ensures.value
-    ∙ gathers_outside old.now mid.now first.0 a.first a.last (pos a.deposit) a.collection.now c.in_ok-on_deposit.on_deposit.items c.in_ok-on_collection.on_collection.items first.1 second.1
+    let on = rw (from, to) at (c.in_ok-on_deposit.ensures.found clean_one office) in
+    let office_one = subst IsOffice (sym on.0) office in
+    let within = rw (from, to) at (c.in_ok-on_collection.ensures.found clean_two office_one) in
+    let of_class = rw (from, to) at (c.in_ok-on_class.ensures.found clean (subst IsOffice (sym within.0) office_one)) in
+    gathers_outside old.now one.now two.now on.0 within.0 a.first a.last (pos a.deposit) a.collection.now a.class.now
+    c.in_ok-on_deposit.on_deposit c.in_ok-on_collection.on_collection c.in_ok-on_class.on_class on.1 within.1 of_class.1
 
 pub returns-clause-stays : goal.returns-clause-stays
-returns-clause-stays g c = stays_then (state g.S.Store c.args.tx.now.conn.now) (state g.S.Store c.rows_of_releases_on.new.tx.conn.now) (state g.S.Store c.rows_of_releases_within.new.tx.conn.now) c.rows_of_releases_on.ensures.stays c.in_ok-on_deposit.ensures.goes_on c.rows_of_releases_within.ensures.stays
+returns-clause-stays g c =
+    let old = state g.S.Store c.args.tx.now.conn.now in
+    let one = state g.S.Store c.has_release.new.tx.conn.now in
+    let two = state g.S.Store c.has_release-2.new.tx.conn.now in
+    let three = state g.S.Store c.has_release-3.new.tx.conn.now in
+    stays_then old one three c.has_release.ensures.stays c.in_ok-on_deposit.ensures.goes_on
+    (stays_then one two three c.has_release-2.ensures.stays c.in_ok-on_collection.ensures.goes_on c.has_release-3.ensures.stays)
+
+pub returns-in_err-on_class-clause-stays : goal.returns-in_err-on_class-clause-stays
+returns-in_err-on_class-clause-stays g c =
+    let old = state g.S.Store c.args.tx.now.conn.now in
+    let one = state g.S.Store c.has_release.new.tx.conn.now in
+    let two = state g.S.Store c.has_release-2.new.tx.conn.now in
+    let three = state g.S.Store c.has_release-3.new.tx.conn.now in
+    stays_then old one three c.has_release.ensures.stays c.in_ok-on_deposit.ensures.goes_on
+    (stays_then one two three c.has_release-2.ensures.stays c.in_ok-on_collection.ensures.goes_on c.has_release-3.ensures.stays)

@@ -10,10 +10,12 @@ use Rattle.office_tables.proofs.policy.add_rule.Goals as goal
 pub returns-clause-becomes : goal.returns-clause-becomes
 returns-clause-becomes g c clean office =
     let a = c.args in
-    let rule : RuleRow = record { place = a.place; effect = a.effect; role = a.role.now; action = a.action.now; collection = a.collection.now; class = a.class.now } in
+    let rule : RuleRow = record { place = a.place; effect = a.effect; role = a.role.now; action = a.action.now; collection = a.collection.now; class = a.class.now; first = a.first; last = a.last } in
     let place = to_z-of_z w64 a.place c.ranges.place in
     let effect = to_z-of_z w64 a.effect c.ranges.effect in
-    let ran = rw (c.params-to_sql.ensures, c.params-to_sql-2.ensures, c.params-to_sql-3.ensures, c.params-to_sql-4.ensures, c.params-to_sql-5.ensures, c.params-to_sql-6.ensures, place, effect) at (c.change.ensures.ran clean) in
+    let first = to_z-of_z w64 a.first c.ranges.first in
+    let last = to_z-of_z w64 a.last c.ranges.last in
+    let ran = rw (c.params-to_sql.ensures, c.params-to_sql-2.ensures, c.params-to_sql-3.ensures, c.params-to_sql-4.ensures, c.params-to_sql-5.ensures, c.params-to_sql-6.ensures, c.params-to_sql-7.ensures, c.params-to_sql-8.ensures, place, effect, first, last) at (c.change.ensures.ran clean) in
     on_ok c.change.result (λ count h. adds_rule (state g.S.Store a.tx.now.conn.now) (state g.S.Store c.change.new.tx.conn.now) rule count office h) ran
 
 pub returns-clause-once : goal.returns-clause-once

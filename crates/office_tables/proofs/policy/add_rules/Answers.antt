@@ -19,13 +19,15 @@ loop-rule-preserved g c =
     let y = c.rule.inside in
     let place = to_z-of_z w64 y.place (search rules) in
     let effect = to_z-of_z w64 y.effect (search rules) in
+    let first = to_z-of_z w64 y.first (search rules) in
+    let last = to_z-of_z w64 y.last (search rules) in
     record {
       same_reference = search rules;
       stays = stays_on old now new inv.stays inv.goes_on c.add_rule.ensures.stays;
       goes_on = λ clean. stands_then old now new (inv.goes_on (early clean)) (c.in_ok-add_rule.ensures.goes_on clean);
       becomes = λ clean office.
           let there = inv.becomes (early clean) office in
-          let named = rw (place, effect, c.deref.ensures, c.deref-in-loop-rule.ensures, c.deref-in-loop-rule-2.ensures, c.deref-in-loop-rule-3.ensures) at (c.in_ok-add_rule.ensures.becomes clean there.0) in
+          let named = rw (place, effect, first, last, c.deref.ensures, c.deref-in-loop-rule.ensures, c.deref-in-loop-rule-2.ensures, c.deref-in-loop-rule-3.ensures) at (c.in_ok-add_rule.ensures.becomes clean there.0) in
           let added : Becomes new.now (with_rule x (tables_of now.now)) = subst (λ (r : RuleRow). Becomes new.now (with_rule r (tables_of now.now))) c.rule.view_is named in
           next_added with_rule with_rules (λ x xs t. refl) c.args.rules.now c.loop-rule.rule-index x c.rule-item.is (search rules) (tables_of old.now) now.now new.now added there.1;
       once = λ clean office kept. c.in_ok-add_rule.ensures.once clean (inv.becomes (early clean) office).0 (inv.once (early clean) office kept);

@@ -3,12 +3,12 @@ use Rattle.sqlite.specs.Held.{state}
 use Rattle.sqlite.specs.Tree.{Trees}
 use Rattle.sqlite.specs.State.{HasCleanDisk, Survives}
 use Rattle.office_tables.specs.declared.fault.TableFault.TheVariants as fault
-use Rattle.office_upgrade.specs.Rows.{AllRows}
-use Rattle.office_upgrade.specs.Upgrading.{IsUpgrade, IsLeftAt, IsOfficeOf, renewed}
-use Rattle.office_upgrade.specs.declared.version.TableVersion.{TableVersion}
-use Rattle.office_upgrade.specs.declared.version.TableVersion.TheVariants.{Fifth}
+use Rattle.office_tables.specs.Moving.{AllRows, renewed}
+use Rattle.office_upgrade.specs.Upgrading.{IsUpgrade, IsLeftAt, IsOfficeOf}
+use Rattle.office_tables.specs.declared.version.TableVersion.{TableVersion}
+use Rattle.office_tables.specs.declared.version.TableVersion.TheVariants.{Fifth}
 use Rattle.office_upgrade.proofs.Ending.{IsTaken, commits, lasts, lasts_back, fails_only}
-use Rattle.office_upgrade.proofs.Known.{is_there}
+use Rattle.office_tables.proofs.OpenLemmas.{is_there}
 use Rattle.office_upgrade.proofs.upgrading.upgrade.Goals as goal
 
 pub returns-then-not-has_office-clause-failure : goal.returns-then-not-has_office-clause-failure

@@ -1,4 +1,4 @@
-use Rattle.program.proofs.AnswerLemmas.{answers}
+use Rattle.program.proofs.AnswerLemmas.{answers, explained_dated}
 use Rattle.program.proofs.performing.perform_line.Goals as goal
 
 pub returns-in-Check-clause-does : goal.returns-in-Check-clause-does
@@ -32,3 +32,9 @@ returns-in-Ask-clause-does g c = rw c.in-Ask.is c.work_on-in-Ask.ensures.does
 
 pub returns-in-Serve-clause-does : goal.returns-in-Serve-clause-does
 returns-in-Serve-clause-does g c = rw c.in-Serve.is c.work_on-in-Serve.ensures.does
+
+pub returns-in-Explain-clause-answers : goal.returns-in-Explain-clause-answers
+returns-in-Explain-clause-answers g c =
+    rw c.in-Explain.is
+    (explained_dated g.O.Write c.in-Explain.asked c.answer_explain.result c.say-in-Explain.result c.args.streams.now.output c.say-in-Explain.new.output c.answer_explain.ensures.explained
+    c.say-in-Explain.ensures)

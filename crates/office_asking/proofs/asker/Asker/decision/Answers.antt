@@ -1,4 +1,6 @@
-use Rattle.std.proofs.Common.{option_copied, rules}
+use Rattle.std.proofs.Common.{option_copied, rules, w32, w64}
+use mir.Val.{SFits}
+use Rattle.std.proofs.lemmas.Int.{to_z-of_z}
 use Rattle.sqlite.specs.Held.{state}
 use Rattle.office_asking.proofs.Readings.{pictured_still, none_found, rule_found}
 use Rattle.office_tables.specs.Tables.{tables_of}
@@ -10,9 +12,11 @@ returns-in_ok-decision_in-in-Some-clause-decided g c clean h legal pictured =
     let a = c.args in
     let old = state g.S.Store a.tx.now.conn.now in
     let new = state g.S.Store c.match_rule.new.tx.conn.now in
-    let found = c.in_ok-found.ensures.found clean pictured.office in (
+    let small : SFits w32 c.number.result = search rules in
+    let fits : SFits w64 c.number.result = search rules in
+    let found = rw (to_z-of_z w32 c.number.result small, to_z-of_z w64 c.number.result fits, c.number.ensures.value) at (c.in_ok-found.ensures.found clean pictured.office) in (
       pictured_still h old.now pictured new.now (c.in_ok-found.ensures.same clean pictured.office),
-      λ caller is. rule_found h old.now legal pictured caller a.self.now is a.action (option_copied a.collection) (option_copied a.class) c.in-Some.row (search (rules, found)) c.in_ok-decision_in-in-Some.field-0 (search rules),
+      λ day caller is. rule_found h old.now legal pictured day caller a.self.now is a.action (option_copied a.collection) (option_copied a.class) c.in-Some.row (search (rules, found)) c.in_ok-decision_in-in-Some.field-0 (search rules),
     )
 
 pub returns-in-None-clause-decided : goal.returns-in-None-clause-decided
@@ -20,21 +24,27 @@ returns-in-None-clause-decided g c clean h legal pictured =
     let a = c.args in
     let old = state g.S.Store a.tx.now.conn.now in
     let new = state g.S.Store c.match_rule.new.tx.conn.now in
-    let found = c.in_ok-found.ensures.found clean pictured.office in (
+    let small : SFits w32 c.number.result = search rules in
+    let fits : SFits w64 c.number.result = search rules in
+    let found = rw (to_z-of_z w32 c.number.result small, to_z-of_z w64 c.number.result fits, c.number.ensures.value) at (c.in_ok-found.ensures.found clean pictured.office) in (
       pictured_still h old.now pictured new.now (c.in_ok-found.ensures.same clean pictured.office),
-      λ caller is. none_found h old.now legal pictured caller a.self.now is a.action (option_copied a.collection) (option_copied a.class) (search (rules, found)),
+      λ day caller is. none_found h old.now legal pictured day caller a.self.now is a.action (option_copied a.collection) (option_copied a.class) (search (rules, found)),
     )
 
 pub returns-in_ok-decision_in-in-Some-clause-rows : goal.returns-in_ok-decision_in-in-Some-clause-rows
-returns-in_ok-decision_in-in-Some-clause-rows g c clean office caller is =
+returns-in_ok-decision_in-in-Some-clause-rows g c clean office day caller is =
     let a = c.args in
     let old = state g.S.Store a.tx.now.conn.now in
-    let found = c.in_ok-found.ensures.found clean office in
-    decided_by_row (tables_of old.now) caller a.self.now is a.action (option_copied a.collection) (option_copied a.class) c.in-Some.row (search (rules, found)) c.in_ok-decision_in-in-Some.field-0 (search rules)
+    let small : SFits w32 c.number.result = search rules in
+    let fits : SFits w64 c.number.result = search rules in
+    let found = rw (to_z-of_z w32 c.number.result small, to_z-of_z w64 c.number.result fits, c.number.ensures.value) at (c.in_ok-found.ensures.found clean office) in
+    decided_by_row (tables_of old.now) day caller a.self.now is a.action (option_copied a.collection) (option_copied a.class) c.in-Some.row (search (rules, found)) c.in_ok-decision_in-in-Some.field-0 (search rules)
 
 pub returns-in-None-clause-rows : goal.returns-in-None-clause-rows
-returns-in-None-clause-rows g c clean office caller is =
+returns-in-None-clause-rows g c clean office day caller is =
     let a = c.args in
     let old = state g.S.Store a.tx.now.conn.now in
-    let found = c.in_ok-found.ensures.found clean office in
-    none_by_row (tables_of old.now) caller a.self.now is a.action (option_copied a.collection) (option_copied a.class) (search (rules, found))
+    let small : SFits w32 c.number.result = search rules in
+    let fits : SFits w64 c.number.result = search rules in
+    let found = rw (to_z-of_z w32 c.number.result small, to_z-of_z w64 c.number.result fits, c.number.ensures.value) at (c.in_ok-found.ensures.found clean office) in
+    none_by_row (tables_of old.now) day caller a.self.now is a.action (option_copied a.collection) (option_copied a.class) (search (rules, found))

@@ -1,4 +1,4 @@
-use Rattle.std.proofs.Common.{rules, List, ℕ, Option, IfSome, option_map, string_bytes, ap}
+use Rattle.std.proofs.Common.{rules, List, ℕ, Option, IfSome, option_map, string_bytes, ap, refl}
 use Rattle.sqlite.specs.Held.{state}
 use Rattle.office_core.specs.Names.{IsName}
 use Rattle.office_core.specs.Policies.{or_stranger}
@@ -12,7 +12,7 @@ returns-clause-asker g c clean h legal pictured =
     let old = state g.S.Store c.args.tx.now.conn.now in
     let new = state g.S.Store c.role_of.new.tx.conn.now in (
       pictured_still h old.now pictured new.now (c.in_ok-role.ensures.same clean pictured.office),
-      role_read h old.now pictured c.args.caller.now (option_map string_bytes c.in_ok-role.role) (c.in_ok-role.ensures.found clean pictured.office),
+      record { role = role_read h old.now pictured c.args.caller.now (option_map string_bytes c.in_ok-role.role) (c.in_ok-role.ensures.found clean pictured.office); on = refl },
     )
 
 pub returns-clause-rows : goal.returns-clause-rows
@@ -22,4 +22,4 @@ returns-clause-rows g c clean office =
     let role : Option (List ℕ) = option_map string_bytes c.in_ok-role.role in
     let found = c.in_ok-role.ensures.found clean office in
     let names : IfSome role (λ r. IsName caller × IsName r) = search rules in
-    record { role = ap or_stranger found; in_range = caller_in_range caller t.callers role found names }
+    record { role = ap or_stranger found; on = refl; in_range = caller_in_range caller t.callers role found names }

@@ -7,6 +7,6 @@ use Rattle.office_history.proofs.plain.refusals.first_hold_refusal.Goals as goal
 
 pub returns-in-Some : goal.returns-in-Some
 returns-in-Some c =
-    let row = kept_refusals c.args.office.now c.args.caller.now acts.Hold c.args.number c.args.deposit.now in
+    let row = kept_refusals c.args.office.now c.args.day c.args.caller.now acts.Hold c.args.number c.args.deposit.now in
     let asked : c.in_ok-refusal.field-0 ≡ first_some row = rw c.in_ok-refusal.was at c.first_asked_refusal.ensures in
     sym (first_in_front row (full_of_holds c.args.office.now ∷ []) c.in-Some.refusal (sym asked ∙ c.in-Some.is))

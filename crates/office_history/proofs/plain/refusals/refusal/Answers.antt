@@ -4,6 +4,9 @@ use Rattle.office_history.proofs.plain.refusals.refusal.Goals as goal
 pub returns-in-HoldDeposit : goal.returns-in-HoldDeposit
 returns-in-HoldDeposit c = rw c.in-HoldDeposit.is c.hold_refusal.ensures
 
+pub returns-in-HoldClass : goal.returns-in-HoldClass
+returns-in-HoldClass c = rw c.in-HoldClass.is c.class_hold_refusal.ensures
+
 pub returns-in-Some : goal.returns-in-Some
 returns-in-Some c =
     rw c.in-Deposit.is (place_stands c.args.office.now c.args.day c.args.caller.now c.in-Deposit.collection c.in-Deposit.class c.in-Deposit.accession c.in-Deposit.closed c.in-Deposit.bag c.in-Some.refusal _ _ c.first_place_refusal.result c.as_str-in-Deposit.ensures.text c.as_str-in-Deposit-2.ensures.text c.first_place_refusal.ensures c.in-Some.is)

@@ -1,0 +1,9 @@
+use Rattle.std.proofs.Common.{subst}
+use Rattle.commands.specs.PolicyFiles.{IsRead}
+use Rattle.commands.proofs.ExplainLemmas.{refusal_is_explained}
+use Rattle.commands.proofs.explain.bytes_outcome.Goals as goal
+
+pub returns-in-Err : goal.returns-in-Err
+returns-in-Err c =
+    refusal_is_explained c.args.bytes.now c.args.asked.now c.in-Err.refused c.refused_outcome.result
+    (subst (IsRead c.args.bytes.now) c.in-Err.is c.in_ok-policy.ensures) c.refused_outcome.ensures

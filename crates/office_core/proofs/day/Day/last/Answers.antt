@@ -1,0 +1,10 @@
+use Rattle.std.proofs.Common.{ap}
+use Rattle.jiff.specs.Types.{Date}
+use Rattle.office_core.specs.Days.{last_day}
+use Rattle.office_core.proofs.DayLemmas.{same_date}
+use Rattle.office_core.proofs.day.Day.last.Goals as goal
+
+pub returns : goal.returns
+returns c =
+    let is = c.of_plain.ensures in
+    same_date c.of_plain.result last_day (ap (λ (d : Date). d.year) is) (ap (λ (d : Date). d.month) is) (ap (λ (d : Date). d.day) is)

@@ -1,0 +1,106 @@
+-- Histories through an upgrade, from what is said of rows.
+use Rattle.std.proofs.Common.{◌≡◌, Some, pos, refl, sym, ap, subst, subst₂, ◌∙◌, IsTrue, inl, inr}
+use Rattle.sqlite.specs.Tree.{Trees}
+use Rattle.sqlite.specs.Effect.{Database}
+use Rattle.sqlite.specs.State.{State, Survives}
+use Rattle.sqlite.proofs.StateLemmas.{survives_weaker}
+use Rattle.office_rows.specs.Rows.{version_of, this_version}
+use Rattle.office_tables.specs.Tables.{contents_of}
+use Rattle.office_tables.specs.Contents.{references_of, AreKeptOnce, KeepsOnce}
+use Rattle.office_tables.specs.Opening.{KeepsTables}
+use Rattle.office_tables.specs.Faults.{IsFailure}
+use Rattle.office_tables.specs.declared.fault.TableFault.{TableFault}
+use Rattle.office_tables.specs.Moving.{AllRows, BecomesAt, renewed}
+use Rattle.office_tables.specs.Versions.{version_number}
+use Rattle.office_tables.specs.declared.version.TableVersion.{TableVersion}
+use Rattle.office_tables.specs.declared.version.TableVersion.TheVariants.{Third, Fourth, Fifth}
+use Rattle.office_upgrade.specs.Upgrading as rows
+use Rattle.office_upgrade.proofs.Kept.{stays_once}
+use Rattle.office_history.specs.Histories.{History}
+use Rattle.office_history.specs.Pictures.{picture}
+use Rattle.office_history.specs.Runs.{IsLegal}
+use Rattle.office_history.proofs.RangeLemmas.{limits_hold}
+use Rattle.office_asking.specs.Pictures.{Pictures, PicturesAt}
+use Rattle.office_engine.specs.Keeping.{IsKeptAt, IsKeptBy, IsLeftAt, IsLeftOf}
+use Rattle.office_engine.specs.Upgrading.{Upgrades, UpgradeLasts, TakesUp, StaysAt, LeavesAt, IsUpgradeOf}
+
+-- the rows by which a version pictures a history, with the contents of a database
+abbrev rows_of : TableVersion → History → Database → AllRows
+rows_of version h db = record { tables = picture (version_number version) h; contents = contents_of db; references = references_of db }
+
+-- the tables of a legal history tell their version
+tells : (version : TableVersion) (h : History) (db : Database) → IsLegal h → rows.Tells version (rows_of version h db)
+tells version h db legal = let within = limits_hold h legal in rw (within.deposits_limit, within.holds_limit) refl
+
+becomes : (version : TableVersion) (h : History) (db : Database) → PicturesAt version h db → BecomesAt version db (rows_of version h db)
+becomes version h db pictured =
+    record { office = pictured.office; are = λ i. record { tables = pictured.are i; contents = contents_of db; references = references_of db } }
+
+-- the picture of each version is renewed into that of the newest
+renewed_picture : (version : TableVersion) (h : History) (db : Database) → (renewed version (rows_of version h db)).tables ≡ picture this_version h
+renewed_picture Third h db = refl
+renewed_picture Fourth h db = refl
+renewed_picture Fifth h db = refl
+
+module _ (version : TableVersion) (h : History) (old : Database) (pictured : PicturesAt version h old) where
+  -- what has the rows renewed pictures the history
+  pictures_new : (new : Database) → BecomesAt Fifth new (renewed version (rows_of version h old)) → Pictures h new
+  pictures_new new now = record {
+    office = now.office;
+    are = ap (λ (r : AllRows). r.tables) now.are ∙ renewed_picture version h old;
+    once = stays_once version (rows_of version h old) old new (becomes version h old pictured) now pictured.once;
+  }
+
+  -- and so does what still has the rows
+  pictures_still : (other : Database) → BecomesAt version other (rows_of version h old) → PicturesAt version h other
+  pictures_still other still = record {
+    office = still.office;
+    are = ap (λ (r : AllRows). r.tables) still.are;
+    once = subst₂ AreKeptOnce (sym (ap (λ (r : AllRows). r.references) still.are)) (sym (ap (λ (r : AllRows). r.contents) still.are)) pictured.once;
+  }
+
+  left_new : (left : Trees) → rows.IsLeftAt Fifth (renewed version (rows_of version h old)) left → IsLeftOf h left
+  left_new left it = (it.0, pictures_new it.0 it.1, it.2)
+
+  left_still : (left : Trees) → rows.IsLeftAt version (rows_of version h old) left → IsLeftAt version h left
+  left_still left it = (it.0, pictures_still it.0 it.1, it.2)
+
+-- what was kept, as rows
+kept_rows : (version : TableVersion) (h : History) (old : State) → IsKeptAt version h old → rows.IsKeptAt version (rows_of version h old.now) old
+kept_rows version h old kept is_open = (becomes version h old.now (kept is_open).0, (kept is_open).1)
+
+pub upgrades : (old new : State) → IsTrue old.is_open → rows.Upgrades old new → Upgrades old new
+upgrades old new was_open made version h legal kept is_open =
+    let it = made version (rows_of version h old.now) (tells version h old.now legal) (kept_rows version h old kept) is_open in
+    (pictures_new version h old.now (kept was_open).0 new.now it.0, it.1)
+
+pub takes_up : (old new : State) → rows.TakesUp old new → TakesUp old new
+takes_up old new made version h legal left is_open =
+    let it = made version (rows_of version h left.0) (tells version h left.0 legal) (left.0, becomes version h left.0 left.1, left.2) is_open in
+    (pictures_new version h left.0 left.1 new.now it.0, it.1)
+
+pub lasts : (old new : State) → rows.UpgradeLasts old new → UpgradeLasts old new
+lasts old new made version h legal was_open kept left may =
+    left_new version h old.now (kept was_open).0 left (made version (rows_of version h old.now) (tells version h old.now legal) was_open (kept_rows version h old kept) left may)
+
+pub leaves : (old new : State) → rows.LeavesOffice old new → LeavesAt old new
+leaves old new made version h legal was_open kept left may =
+    elim (made version (rows_of version h old.now) (tells version h old.now legal) was_open (kept_rows version h old kept) left may) [
+      | inl still ↦ inl (left_still version h old.now (kept was_open).0 left still)
+      | inr renewed ↦ inr (left_new version h old.now (kept was_open).0 left renewed)
+    ]
+
+pub stays : (old new : State) → KeepsTables old new → StaysAt old new
+stays old new same version h kept is_open =
+    let it = same is_open in
+    let before = kept it.0 in
+    (subst (λ (d : Database). PicturesAt version h d) (sym it.1) before.0, it.2 ∙ sym it.1)
+
+pub upgrade_survives : (old new : State) → Survives old new (rows.IsUpgrade old.now) → Survives old new (IsUpgradeOf old.now)
+upgrade_survives old new = survives_weaker old new _ _ (λ clean left made version h legal pictured.
+    left_new version h old.now pictured left (made version (rows_of version h old.now) (record { becomes = becomes version h old.now pictured; told = tells version h old.now legal })))
+
+-- of an office of a known version, and of what was left of one, nothing but a failure is said
+pub left_fails : (stopped : TableFault) (old : State) → ((version : TableVersion) (all : AllRows) → rows.Tells version all → rows.IsLeftAt version all old.now.trees → IsFailure stopped)
+    → (version : TableVersion) (h : History) → IsLegal h → IsLeftAt version h old.now.trees → IsFailure stopped
+left_fails stopped old fails version h legal left = fails version (rows_of version h left.0) (tells version h left.0 legal) (left.0, becomes version h left.0 left.1, left.2)

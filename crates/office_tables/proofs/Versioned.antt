@@ -1,0 +1,84 @@
+-- The version in the row of the office.
+use Rattle.std.proofs.Common.{◌≡◌, ℕ, ℤ, pos, [], ◌∷◌, map, codes, Ok, IsTrue, refl, ap, ◌∙◌, inr, if◌then◌else◌}
+use Rattle.std.specs.List.{AllByRecursion}
+use Rattle.sqlite.specs.declared.types.Value.TheVariants.{Null, Int}
+use Rattle.sqlite.specs.Order.{Row, column}
+use Rattle.sqlite.specs.Cast.{cast, cast_row}
+use Rattle.sqlite.specs.Kind.TheVariants as kind
+use Rattle.sqlite.specs.Edit.{edit_of}
+use Rattle.sqlite.specs.Rowids.TheVariants.{Given}
+use Rattle.sqlite.specs.Schema.{Schema}
+use Rattle.sqlite.specs.Tree.{rowid}
+use Rattle.sqlite.specs.Effect.{Database}
+use Rattle.sqlite.specs.State.{State, Executes}
+use Rattle.sqlite_schema.specs.declared.schema.Constraint.TheVariants.{Datatype, NotNull}
+use Rattle.sqlite_trees.specs.View.{is_int}
+use Rattle.sqlite_rules.specs.Calls.{ids_of}
+use Rattle.sqlite_rules.proofs.ListLemmas.{all_has}
+use Rattle.sqlite_rules.proofs.TableLemmas.{int_is}
+use Rattle.sql_meaning.specs.Columns.{int_at}
+use Rattle.sql_meaning.specs.Whole.{IsWhole, Sets}
+use Rattle.sql_meaning.proofs.Typed.{int_in, all_both}
+use Rattle.sql_meaning.proofs.Edits.{decoded, cast_null, cast_int}
+use Rattle.sql_meaning.proofs.Whole.{keeps_rule, sets}
+use Rattle.sql_meaning.proofs.Changing.{revises}
+use Rattle.sql_meaning.proofs.RowidKeys.{by_number, has_number, each_numbered, few_numbered}
+use Rattle.office_rows.specs.Rows.{OfficeRow, is_office_row}
+use Rattle.office_tables.specs.Schema.{office_table, needed}
+use Rattle.office_tables.specs.Tables.{office_in}
+use Rattle.office_tables.specs.Moving.{AllRows, all_in_version, in_version, BecomesAt, rows_at}
+use Rattle.office_tables.specs.Versions.{schema_at}
+use Rattle.office_tables.specs.declared.version.TableVersion.TheVariants.{Fifth}
+use Rattle.office_tables.proofs.MovingTexts.{version_text, versioned, version_means}
+use Rattle.office_tables.proofs.MovedHolds.{keeps_int}
+use Rattle.office_tables.proofs.Frames.{idle}
+
+abbrev fifth : Schema
+fifth = schema_at Fifth
+
+abbrev IsStored : Row → Type 0
+IsStored r = (column r 2 ≡ Int (int_at r 2)) × (column r 3 ≡ Int (int_at r 3)) × (column r 4 ≡ Int (int_at r 4))
+
+stored_rows : (db : Database) → IsWhole fifth db → AllByRecursion IsStored (db.trees 0)
+stored_rows db whole = all_both (λ r t p. (
+  int_in fifth db.trees office_table r t p 1 (needed (codes "version") kind.Integer) refl refl refl refl refl,
+  int_in fifth db.trees office_table r t p 2 (needed (codes "max_deposits") kind.Integer) refl refl refl refl refl,
+  int_in fifth db.trees office_table r t p 3 (needed (codes "max_holds") kind.Integer) refl refl refl refl refl,
+)) (db.trees 0) (keeps_rule whole Datatype).0 (keeps_rule whole NotNull).0
+
+abbrev set_to : ℤ → Row → Row
+set_to version r = rowid r ∷ Null ∷ Int version ∷ column r 3 ∷ column r 4 ∷ []
+
+cast_set : (version : ℤ) (r : Row) → IsStored r → IsTrue (is_int (rowid r)) → cast_row office_table (rowid r ∷ Null ∷ Int version ∷ column r 3 ∷ column r 4 ∷ []) ≡ set_to version r
+cast_set version r it whole =
+    let casts : cast kind.Integer (rowid r) ≡ rowid r = keeps_int (rowid r) (inr (int_is (rowid r) whole)) in
+    rw (casts, cast_null, cast_int version, keeps_int (column r 3) (inr it.1), keeps_int (column r 4) (inr it.2)) refl
+
+pub sets_version : (old new : State) (version : ℤ) (rows : AllRows) (count : ℕ) → BecomesAt Fifth old.now rows → Executes version_text (Int (pos 1) ∷ Int version ∷ []) old new (Ok count)
+    → BecomesAt Fifth new.now (all_in_version version rows)
+sets_version old new version rows count was h =
+    let db = old.now.trees in
+    let whole = was.office.whole in
+    let shaped = whole.shaped.0 in
+    let done = revises version_text (Int (pos 1) ∷ Int version ∷ []) old new fifth whole.schema_is 0 office_table refl idle shaped by_number versioned
+    (has_number (pos 1)) (each_numbered (pos 1) (Int version ∷ []) (db 0) shaped) version_means (set_to version) (few_numbered (pos 1) (db 0) shaped)
+    (λ r there. (refl, cast_set version r (all_has IsStored (db 0) r (stored_rows old.now whole) there) (all_has _ (db 0) r shaped.1 there), refl)) count h in
+    let changed : Sets fifth 0 (map (λ r. if has_number (pos 1) r then set_to version r else r) (db 0)) old.now new.now = sets fifth old new (edit_of db office_table (ids_of done.answer) Given 1 done.answer) count _ done.change _ whole done.made in
+    let e = changed.given_rows in
+    let typed : map office_in (new.now.trees 0) ≡ map (in_version version) (map office_in (db 0)) =
+    ap (map office_in) e.0 ∙ decoded office_in (has_number (pos 1)) (set_to version) is_office_row (λ (o : OfficeRow). record o { version = version }) (λ r. refl) (λ r. refl) (db 0) in
+    let same : rows_at Fifth new.now ≡ all_in_version version (rows_at Fifth old.now) = rw (
+      typed,
+      e.1.0,
+      e.1.1.1.0,
+      e.1.1.1.1.0,
+      e.1.1.1.1.1.0,
+      e.1.1.1.1.1.1.0,
+      e.1.1.1.1.1.1.1.1.0,
+      e.1.1.1.1.1.1.1.1.1.0,
+      e.1.1.1.1.1.1.1.1.1.1.0,
+    ) refl in
+    record {
+      office = record { whole = changed.whole; emptied = (e.1.1.1.1.1.1.1.0 ∙ was.office.emptied.0, (e.1.1.0 ∙ was.office.emptied.1.0, tt)) };
+      are = same ∙ ap (all_in_version version) was.are;
+    }

@@ -1,8 +1,0 @@
-use Rattle.sqlite.specs.Held.{state}
-use Rattle.office_tables.proofs.Looking.{looks, shows_version}
-use Rattle.office_tables.proofs.opening.look.Goals as goal
-
-pub returns-clause-shown : goal.returns-clause-shown
-returns-clause-shown g c clean =
-    let it = looks (state g.S.Store c.args.tx.now.conn.now) (state g.S.Store c.ask.new.tx.conn.now) c.in_ok-rows.rows.items (c.in_ok-rows.ensures.shown clean) in
-    shows_version _ c.in_ok-rows.rows.items c.version_among.result it.0 (rw c.deref.ensures.value at c.version_among.ensures)

@@ -1,0 +1,185 @@
+//! The tables of an older version: the newer ones are made beside them, and have their rows.
+
+ghost use Rattle.std.specs.Prelude.{◌≡◌, [], map, pos, IfErr, OnOk};
+ghost use Rattle.sqlite.specs.State.{HasCleanDisk};
+ghost use Rattle.sqlite.specs.Held.{state};
+ghost use Rattle.sql_meaning.specs.Growing.{Grows};
+ghost use Rattle.sql_meaning.specs.Whole.{IsWhole, Sets};
+ghost use Rattle.office_tables.specs.Calls.{CommitsNothing, Continues, ContinuesInTurn};
+ghost use Rattle.office_tables.specs.Faults.{IsFailure};
+ghost use Rattle.office_tables.specs.Moving.{AllRows, all_in_version, BecomesAt, moved_hold, moved_rule, Moves};
+ghost use Rattle.office_tables.specs.Versions.{schema_at};
+ghost use Rattle.office_tables.specs.declared.version.TableVersion.TheVariants.{Third, Fourth, Fifth};
+
+use crate::creating::define;
+use crate::fault::TableFault;
+use crate::run::change;
+use sqlite::{Alter, Transaction, params};
+
+/// Makes the table of holds that may name a class.
+fn define_holds<S: Alter>(tx: &mut Transaction<'_, S>) -> Result<(), TableFault>
+    ensures same_reference { tx.new.conn.ghost_name ≡ tx.old.conn.ghost_name }
+    ensures stays { CommitsNothing S.Store tx.old.conn.now tx.new.conn.now }
+    ensures goes_on { ContinuesInTurn S.Store tx.old.conn.now tx.new.conn.now result }
+    ensures failure { IfErr result IsFailure }
+    ensures grown { HasCleanDisk (state S.Store tx.new.conn.now) → IsWhole (schema_at Third) (state S.Store tx.old.conn.now).now
+        → OnOk result (Grows (schema_at Third) (schema_at Fourth) (state S.Store tx.old.conn.now).now (state S.Store tx.new.conn.now).now) }
+{
+    define(
+        tx,
+        &[
+            "CREATE TABLE hold_4 (number INTEGER PRIMARY KEY, deposit INTEGER, collection TEXT, class TEXT, matter TEXT NOT NULL, placed INTEGER NOT NULL, released INTEGER) STRICT",
+            "CREATE INDEX hold_4_deposit ON hold_4 (deposit)",
+            "CREATE INDEX hold_4_collection ON hold_4 (collection)",
+            "CREATE INDEX hold_4_class ON hold_4 (class)",
+        ],
+    )
+}
+
+/// Makes the table of rules with days.
+fn define_rules<S: Alter>(tx: &mut Transaction<'_, S>) -> Result<(), TableFault>
+    ensures same_reference { tx.new.conn.ghost_name ≡ tx.old.conn.ghost_name }
+    ensures stays { CommitsNothing S.Store tx.old.conn.now tx.new.conn.now }
+    ensures goes_on { ContinuesInTurn S.Store tx.old.conn.now tx.new.conn.now result }
+    ensures failure { IfErr result IsFailure }
+    ensures grown { HasCleanDisk (state S.Store tx.new.conn.now) → IsWhole (schema_at Fourth) (state S.Store tx.old.conn.now).now
+        → OnOk result (Grows (schema_at Fourth) (schema_at Fifth) (state S.Store tx.old.conn.now).now (state S.Store tx.new.conn.now).now) }
+{
+    define(
+        tx,
+        &[
+            "CREATE TABLE rule_5 (place INTEGER PRIMARY KEY, effect INTEGER NOT NULL, role TEXT NOT NULL, action TEXT NOT NULL, collection TEXT NOT NULL, class TEXT NOT NULL, first INTEGER NOT NULL, last INTEGER NOT NULL) STRICT",
+        ],
+    )
+}
+
+/// Copies the holds into the table whose holds may name a class.
+fn copy_holds<S: Alter>(tx: &mut Transaction<'_, S>) -> Result<(), TableFault>
+    ensures same_reference { tx.new.conn.ghost_name ≡ tx.old.conn.ghost_name }
+    ensures stays { CommitsNothing S.Store tx.old.conn.now tx.new.conn.now }
+    ensures goes_on { Continues S.Store tx.old.conn.now tx.new.conn.now result }
+    ensures failure { IfErr result IsFailure }
+    ensures copied { HasCleanDisk (state S.Store tx.new.conn.now) → IsWhole (schema_at Fourth) (state S.Store tx.old.conn.now).now
+        → (state S.Store tx.old.conn.now).now.trees 19 ≡ []
+        → OnOk result (Sets (schema_at Fourth) 19 (map moved_hold ((state S.Store tx.old.conn.now).now.trees 12)) (state S.Store tx.old.conn.now).now (state S.Store tx.new.conn.now).now) }
+{
+    change(
+        tx,
+        "INSERT INTO hold_4 (number, deposit, collection, class, matter, placed, released) SELECT number, deposit, collection, NULL, matter, placed, released FROM hold ORDER BY number",
+        &[],
+    )?;
+    Ok(())
+}
+
+/// Empties the table of holds that can't name a class.
+fn empty_holds<S: Alter>(tx: &mut Transaction<'_, S>) -> Result<(), TableFault>
+    ensures same_reference { tx.new.conn.ghost_name ≡ tx.old.conn.ghost_name }
+    ensures stays { CommitsNothing S.Store tx.old.conn.now tx.new.conn.now }
+    ensures goes_on { Continues S.Store tx.old.conn.now tx.new.conn.now result }
+    ensures failure { IfErr result IsFailure }
+    ensures emptied { HasCleanDisk (state S.Store tx.new.conn.now) → IsWhole (schema_at Fourth) (state S.Store tx.old.conn.now).now
+        → OnOk result (Sets (schema_at Fourth) 12 [] (state S.Store tx.old.conn.now).now (state S.Store tx.new.conn.now).now) }
+{
+    change(tx, "DELETE FROM hold", &[])?;
+    Ok(())
+}
+
+/// Makes the table of holds that may name a class, and takes the holds over.
+fn move_holds<S: Alter>(tx: &mut Transaction<'_, S>) -> Result<(), TableFault>
+    ensures same_reference { tx.new.conn.ghost_name ≡ tx.old.conn.ghost_name }
+    ensures stays { CommitsNothing S.Store tx.old.conn.now tx.new.conn.now }
+    ensures goes_on { ContinuesInTurn S.Store tx.old.conn.now tx.new.conn.now result }
+    ensures failure { IfErr result IsFailure }
+    ensures moved { Moves S.Store Third Fourth tx.old.conn.now tx.new.conn.now result }
+{
+    define_holds(tx)?;
+    copy_holds(tx)?;
+    empty_holds(tx)
+}
+
+/// Copies the rules into the table whose rules have days.
+fn copy_rules<S: Alter>(tx: &mut Transaction<'_, S>) -> Result<(), TableFault>
+    ensures same_reference { tx.new.conn.ghost_name ≡ tx.old.conn.ghost_name }
+    ensures stays { CommitsNothing S.Store tx.old.conn.now tx.new.conn.now }
+    ensures goes_on { Continues S.Store tx.old.conn.now tx.new.conn.now result }
+    ensures failure { IfErr result IsFailure }
+    ensures copied { HasCleanDisk (state S.Store tx.new.conn.now) → IsWhole (schema_at Fifth) (state S.Store tx.old.conn.now).now
+        → (state S.Store tx.old.conn.now).now.trees 23 ≡ []
+        → OnOk result (Sets (schema_at Fifth) 23 (map moved_rule ((state S.Store tx.old.conn.now).now.trees 3)) (state S.Store tx.old.conn.now).now (state S.Store tx.new.conn.now).now) }
+{
+    change(
+        tx,
+        "INSERT INTO rule_5 (place, effect, role, action, collection, class, first, last) SELECT place, effect, role, action, collection, class, -25567, 2859848 FROM rule ORDER BY place",
+        &[],
+    )?;
+    Ok(())
+}
+
+/// Empties the table of rules without days.
+fn empty_rules<S: Alter>(tx: &mut Transaction<'_, S>) -> Result<(), TableFault>
+    ensures same_reference { tx.new.conn.ghost_name ≡ tx.old.conn.ghost_name }
+    ensures stays { CommitsNothing S.Store tx.old.conn.now tx.new.conn.now }
+    ensures goes_on { Continues S.Store tx.old.conn.now tx.new.conn.now result }
+    ensures failure { IfErr result IsFailure }
+    ensures emptied { HasCleanDisk (state S.Store tx.new.conn.now) → IsWhole (schema_at Fifth) (state S.Store tx.old.conn.now).now
+        → OnOk result (Sets (schema_at Fifth) 3 [] (state S.Store tx.old.conn.now).now (state S.Store tx.new.conn.now).now) }
+{
+    change(tx, "DELETE FROM rule", &[])?;
+    Ok(())
+}
+
+/// Makes the table of rules with days, and takes the rules over.
+fn move_rules<S: Alter>(tx: &mut Transaction<'_, S>) -> Result<(), TableFault>
+    ensures same_reference { tx.new.conn.ghost_name ≡ tx.old.conn.ghost_name }
+    ensures stays { CommitsNothing S.Store tx.old.conn.now tx.new.conn.now }
+    ensures goes_on { ContinuesInTurn S.Store tx.old.conn.now tx.new.conn.now result }
+    ensures failure { IfErr result IsFailure }
+    ensures moved { Moves S.Store Fourth Fifth tx.old.conn.now tx.new.conn.now result }
+{
+    define_rules(tx)?;
+    copy_rules(tx)?;
+    empty_rules(tx)
+}
+
+/// Notes the newest version in the row of the office.
+fn set_version<S: Alter>(tx: &mut Transaction<'_, S>) -> Result<(), TableFault>
+    ensures same_reference { tx.new.conn.ghost_name ≡ tx.old.conn.ghost_name }
+    ensures stays { CommitsNothing S.Store tx.old.conn.now tx.new.conn.now }
+    ensures goes_on { Continues S.Store tx.old.conn.now tx.new.conn.now result }
+    ensures failure { IfErr result IsFailure }
+    ensures told { HasCleanDisk (state S.Store tx.new.conn.now) → (rows : AllRows) → BecomesAt Fifth (state S.Store tx.old.conn.now).now rows
+        → OnOk result (BecomesAt Fifth (state S.Store tx.new.conn.now).now (all_in_version (pos 5) rows)) }
+{
+    change(
+        tx,
+        "UPDATE office SET version = ?2 WHERE id = ?1",
+        params![1u32, 5u32],
+    )?;
+    Ok(())
+}
+
+/// Makes the tables of the newest version of those of version 4.
+pub fn renew_fourth<S: Alter>(tx: &mut Transaction<'_, S>) -> Result<(), TableFault>
+    ensures same_reference { tx.new.conn.ghost_name ≡ tx.old.conn.ghost_name }
+    ensures stays { CommitsNothing S.Store tx.old.conn.now tx.new.conn.now }
+    ensures goes_on { ContinuesInTurn S.Store tx.old.conn.now tx.new.conn.now result }
+    ensures failure { IfErr result IsFailure }
+    ensures renewed { HasCleanDisk (state S.Store tx.new.conn.now) → (rows : AllRows) → BecomesAt Fourth (state S.Store tx.old.conn.now).now rows
+        → OnOk result (BecomesAt Fifth (state S.Store tx.new.conn.now).now (all_in_version (pos 5) rows)) }
+{
+    move_rules(tx)?;
+    set_version(tx)
+}
+
+/// Makes the tables of the newest version of those of version 3.
+pub fn renew_third<S: Alter>(tx: &mut Transaction<'_, S>) -> Result<(), TableFault>
+    ensures same_reference { tx.new.conn.ghost_name ≡ tx.old.conn.ghost_name }
+    ensures stays { CommitsNothing S.Store tx.old.conn.now tx.new.conn.now }
+    ensures goes_on { ContinuesInTurn S.Store tx.old.conn.now tx.new.conn.now result }
+    ensures failure { IfErr result IsFailure }
+    ensures renewed { HasCleanDisk (state S.Store tx.new.conn.now) → (rows : AllRows) → BecomesAt Third (state S.Store tx.old.conn.now).now rows
+        → OnOk result (BecomesAt Fifth (state S.Store tx.new.conn.now).now (all_in_version (pos 5) rows)) }
+{
+    move_holds(tx)?;
+    renew_fourth(tx)
+}

@@ -1,0 +1,37 @@
+#!/usr/bin/env python3
+"""Puts the tables of an office into those of an older version, through Python's sqlite3 and SQL of its own: those of version
+3, where no hold on a class stands and no rule has days; else those of version 4, where no rule has days; else it leaves them.
+The word is the office's file. Prints the version.
+"""
+import sqlite3
+import sys
+
+RULES = (
+    "INSERT INTO rule SELECT place, effect, role, action, collection, class FROM rule_5",
+    "DROP TABLE rule_5",
+    "UPDATE office SET version = 4",
+)
+HOLDS = (
+    "INSERT INTO hold SELECT number, deposit, collection, matter, placed, released FROM hold_4",
+    "DROP TABLE hold_4",
+    "UPDATE office SET version = 3",
+)
+
+
+def main():
+    base = sqlite3.connect(sys.argv[1])
+    version = 5
+    texts = ()
+    if not base.execute("SELECT 1 FROM rule_5 WHERE first <> -25567 OR last <> 2859848").fetchone():
+        version, texts = 4, RULES
+        if not base.execute("SELECT 1 FROM hold_4 WHERE class IS NOT NULL").fetchone():
+            version, texts = 3, RULES + HOLDS
+    with base:
+        for text in texts:
+            base.execute(text)
+    base.close()
+    print(version)
+
+
+if __name__ == "__main__":
+    main()
