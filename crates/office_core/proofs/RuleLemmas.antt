@@ -2,6 +2,7 @@
 use Rattle.std.proofs.Common.{◌≡◌, ◌<◌, ◌<ℤ◌, ◌≤ℤ◌, ℕ, zero, suc, ◌+◌, Bool, true, false, ◌&&◌, ◌++◌, List, [], ◌∷◌, length, Option, Some, None, refl, sym, ap, ◌∙◌, inl, inr, arith, rules, slice_get, get_or, ◌≤◌, ◌↔◌, position, unwrap_or, int_lt, int_le, cond, if◌then◌else◌, option_and_then, option_map, not, nat_lt, length-append}
 use Rattle.std.specs.List.{position_or_len, prefix_len, AllByRecursion}
 use Rattle.std.proofs.lemmas.Bool.{cases_Bool, false≢true, and_parts}
+use Rattle.std.proofs.Math.Bool.{and-true}
 use Rattle.std.proofs.lemmas.Bool.Decides.{nat_tests}
 use Rattle.std.proofs.lemmas.Int.{by_lt_z}
 use Rattle.std.proofs.lemmas.Option.{none-some, same_Some, cond_some, option_and_then_some, slice_get_within, slice_get-get_or, get_or_from_slice_get}
@@ -11,7 +12,7 @@ use Rattle.jiff.specs.Words.{epoch_day}
 use Rattle.std.proofs.lemmas.Map.Keys.{any_passes_from_place}
 use Rattle.office_core.specs.FirstOf.{first_some}
 use Rattle.office_core.specs.Days.{first_day, last_day, IsDay}
-use Rattle.office_core.specs.Rules.{Question, HasNoDays, IsFirstMatch, NoneMatches, asked_on, counts_on, matches, matches_name, matches_optional, matches_action, first_place, decision_of, decision_at, some_rule_allows, allows}
+use Rattle.office_core.specs.Rules.{Question, HasNoDays, IsFirstMatch, NoneMatches, asked_on, counts_on, patterns_match, matches, matches_name, matches_optional, matches_action, first_place, decision_of, decision_at, some_rule_allows, allows}
 use Rattle.office_core.specs.Verdicts.{verdict_of, is_denied, IsReadyForDisposal, hold_verdict, due_verdict}
 use Rattle.office_core.specs.declared.action.Action.TheVariants.{Dispose}
 use Rattle.office_core.specs.declared.rule.Rule.{Rule}
@@ -114,9 +115,7 @@ off_its_days rules asked place rule at off first =
     let is = place_matches rules asked place first in
     let same : is.rule ≡ rule = same_Some _ _ (sym is.at ∙ at) in
     let counts : counts_on is.rule asked.day ≡ true =
-    (and_parts
-    (matches_name is.rule.role asked.role && matches_action is.rule.action asked.action && matches_optional is.rule.collection asked.collection && matches_optional is.rule.class asked.class)
-    (counts_on is.rule asked.day) is.matched).1 in
+    (and_parts (patterns_match is.rule asked) (counts_on is.rule asked.day) is.matched).1 in
     false≢true (sym off ∙ ap (λ r. counts_on r asked.day) (sym same) ∙ counts)
 
 -- a rule that counts on each day counts on a day
@@ -126,6 +125,10 @@ counts_each_day rule day none is =
     let low : int_le (epoch_day first_day) (epoch_day day) ≡ true = rw first_number (search (rules, number.0)) in
     let high : int_le (epoch_day day) (epoch_day last_day) ≡ true = rw last_number (search (rules, number.1)) in
     rw (none.first, none.last, low, high) refl
+
+-- and so matches where its patterns do
+pub matches_by_patterns : (rule : Rule) (asked : Question) → HasNoDays rule → IsDay asked.day → matches rule asked ≡ patterns_match rule asked
+matches_by_patterns rule asked none is = ap (λ counts. patterns_match rule asked && counts) (counts_each_day rule asked.day none is) ∙ and-true (patterns_match rule asked)
 
 -- and so matches on each of them alike
 matches_alike : (rule : Rule) (asked : Question) (day other : Date) → HasNoDays rule → IsDay day → IsDay other → matches rule (asked_on day asked) ≡ matches rule (asked_on other asked)

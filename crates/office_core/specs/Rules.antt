@@ -65,12 +65,15 @@ pub record HasNoDays (rule : Rule) : Type 0 where
   pub first : rule.first ≡ first_day
   pub last : rule.last ≡ last_day
 
--- all four patterns match, on a day on which the rule counts
-abbrev pub matches : Rule → Question → Bool
-matches rule asked =
+-- all four patterns match
+abbrev pub patterns_match : Rule → Question → Bool
+patterns_match rule asked =
     matches_name rule.role asked.role && matches_action rule.action asked.action
     && matches_optional rule.collection asked.collection && matches_optional rule.class asked.class
-    && counts_on rule asked.day
+
+-- and the rule counts on the day
+abbrev pub matches : Rule → Question → Bool
+matches rule asked = patterns_match rule asked && counts_on rule asked.day
 
 -- the least place, from 0, of a rule that matches
 abbrev pub first_place : List Rule → Question → Option ℕ

@@ -5,7 +5,7 @@ ghost use Rattle.std.specs.List.{AllByRecursion};
 ghost use Rattle.jiff.specs.Types.{Date};
 ghost use Rattle.jiff.specs.Words.{epoch_day};
 ghost use Rattle.office_core.specs.Policies.{PolicyValue, SpellsPolicy, SpellsRules, SpellsCallers, IsPolicy, WritesDays, may_have_days, rule_table, version_in};
-ghost use Rattle.office_core.specs.Rules.{Question, HasNoDays, IsFirstMatch, NoneMatches, asked_on, counts_on, matches, first_place, decision_of, some_rule_allows};
+ghost use Rattle.office_core.specs.Rules.{Question, HasNoDays, IsFirstMatch, NoneMatches, asked_on, counts_on, matches, patterns_match, first_place, decision_of, some_rule_allows};
 ghost use Rattle.office_core.specs.Days.{IsDay};
 ghost use Rattle.office_core.specs.Requests.{IsYears};
 ghost use Rattle.office_core.specs.Retention.{IsDue};
@@ -47,9 +47,13 @@ pub fn rule_outside_its_days()
         → first_place rules asked ≢ Some place }
 {}
 
-/// Rules that count on each day of the office answer a question on each of its days alike.
+/// A rule that counts on each day of the office matches exactly where its four patterns do, as a rule
+/// of version 1 of the policy file does. Such rules answer a question on each of its days alike.
 pub fn rules_without_days()
-    ensures { (rules : List Rule) (asked : Question) (day other : Date)
+    ensures matches { (rule : Rule) (asked : Question)
+        → HasNoDays rule → IsDay asked.day
+        → matches rule asked ≡ patterns_match rule asked }
+    ensures alike { (rules : List Rule) (asked : Question) (day other : Date)
         → AllByRecursion HasNoDays rules → IsDay day → IsDay other
         → decision_of rules (asked_on day asked) ≡ decision_of rules (asked_on other asked) }
 {}

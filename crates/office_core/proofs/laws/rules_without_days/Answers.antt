@@ -1,5 +1,8 @@
-use Rattle.office_core.proofs.RuleLemmas.{decided_alike}
+use Rattle.office_core.proofs.RuleLemmas.{decided_alike, matches_by_patterns}
 use Rattle.office_core.proofs.laws.rules_without_days.Goals as goal
 
-pub returns : goal.returns
-returns c = decided_alike
+pub returns-clause-matches : goal.returns-clause-matches
+returns-clause-matches c = matches_by_patterns
+
+pub returns-clause-alike : goal.returns-clause-alike
+returns-clause-alike c = decided_alike
