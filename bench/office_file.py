@@ -43,9 +43,10 @@ PUT_CONTENT = "INSERT INTO content (mark, size, bytes) VALUES (?1, ?2, ?3)"
 LAST_CONTENT = "SELECT id FROM content ORDER BY id DESC LIMIT 1"
 PUT_FILE = "INSERT INTO file (deposit, path, content) VALUES (?1, ?2, ?3)"
 PUT_HOLD = (
-    "INSERT INTO hold_4 (number, deposit, collection, matter, placed, released)"
+    "INSERT INTO hold_4 (number, deposit, collection, class, matter, placed)"
     " VALUES (?1, ?2, ?3, ?4, ?5, ?6)"
 )
+END_HOLD = "UPDATE hold_4 SET released = ?2 WHERE number = ?1"
 CONTENT_ID = "SELECT content FROM file WHERE deposit = ?1 AND path = ?2"
 CONTENT_OF = "SELECT bytes FROM content WHERE id = ?1"
 
@@ -118,9 +119,18 @@ def own_files(number, like=RECORD):
     return [("bagit.txt", DECLARATION), ("data/record", record), ("manifest-sha256.txt", manifest)]
 
 
+def held_elsewhere(number):
+    """What the hold of that number is on, where it isn't to be over deposit 1: the next deposit, another
+    collection or another class."""
+    if number % 2:
+        return number + 1, None, None
+    other = f"other {number % 50}"
+    return (None, other, None) if number % 4 else (None, None, other)
+
+
 def filled(folder, rows):
     """An office with so many deposits, each of a bag of its own, and holds; three live holds are over
-    deposit 1."""
+    deposit 1: one on it, one on its collection and one on its class."""
     file = pathlib.Path(folder) / f"{rows}.db"
     if file.exists():
         return file
@@ -131,14 +141,11 @@ def filled(folder, rows):
         put_row(conn, number)
         conn.execute(SET_DUE, (number, DUE))
         put_files(conn, number, own_files(number))
-    few = {rows // 4: (1, None), rows // 2: (None, "tax"), rows: (1, None)}
+    few = {rows // 4: (1, None, None), rows // 2: (None, "tax", None), rows: (None, None, "y10")}
     for number in range(1, rows + 1):
-        if number in few:
-            held, released = few[number], None
-        else:
-            other = (number + 1, None) if number % 2 else (None, f"other {number % 50}")
-            held, released = other, (20_700 if number % 3 else None)
-        conn.execute(PUT_HOLD, (number, *held, "suit", 20_600, released))
+        conn.execute(PUT_HOLD, (number, *few.get(number, held_elsewhere(number)), "suit", 20_600))
+        if number not in few and number % 3:
+            conn.execute(END_HOLD, (number, 20_700))
     conn.execute(COUNT_HOLDS)
     conn.execute("COMMIT")
     conn.execute("PRAGMA wal_checkpoint(TRUNCATE)").fetchall()

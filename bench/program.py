@@ -21,8 +21,10 @@ from statistics import median
 
 from bench import DEPOT, TOP, bag, form
 from desk import record as request_record
-from office_file import FILES, PUT_HOLD, SET_HOLDS, copy, filled, main, opened, put_file, say, turns
-from statements import DUE_ROW, HOLD, Statements
+from office_file import END_HOLD, FILES, PUT_HOLD, SET_HOLDS
+from office_file import copy, filled, main, opened, put_file, say, turns
+from statements import DAY as DAY_NUMBER
+from statements import DUE_ROW, HOLD, LIMITS, Statements
 
 SERVING = TOP / "bench" / "serving.py"
 DAY = "2026-02-16"
@@ -94,26 +96,23 @@ class Mixed(Statements):
 
     HOLDS = 100
 
-    def __init__(self, file):
-        super().__init__(file)
-        self.day = 20_500
-
     def count(self, number, by):
         """So many more live holds over the deposit."""
+        self.rows(LIMITS, 1)
         self.rows(SET_HOLDS, number, self.rows(DUE_ROW, number)[0][2] + by)
 
     def hold(self, number, other):
         self.row(other)
         self.asker("hold")
         self.next_hold()
-        self.rows(PUT_HOLD, number, other, None, "suit", self.day, None)
+        self.rows(PUT_HOLD, number, other, None, None, "suit", DAY_NUMBER)
         self.count(other, 1)
 
     def release(self, number):
         found = self.rows(HOLD + " WHERE number = ?1", number)
         self.row(found[0][1])
         self.asker("release")
-        self.rows("UPDATE hold_4 SET released = ?2 WHERE number = ?1", number, self.day)
+        self.rows(END_HOLD, number, DAY_NUMBER)
         self.count(found[0][1], -1)
 
 

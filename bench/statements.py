@@ -132,7 +132,7 @@ class Statements:
     def hold_collection(self, _number):
         self.rows("SELECT name FROM collection WHERE name = ?1", "tax")
         self.asker("hold", klass="")
-        self.rows(PUT_HOLD, self.next_hold(), None, "tax", "suit", DAY, None)
+        self.rows(PUT_HOLD, self.next_hold(), None, "tax", None, "suit", DAY)
         self.rows("UPDATE deposit SET holds = holds + ?2 WHERE collection = ?1", "tax", 1)
 
     def revise(self, number):

@@ -75,7 +75,7 @@ def put_deposits(conn, deposits, bag):
     ids = put_contents(conn, map(bag, kept))
     conn.executemany(PUT_FILE, ((n, path, ids[content]) for n in kept for path, content in bag(n)))
     held = (n for n, it in deposits.items() if it["held"])
-    conn.executemany(PUT_HOLD, ((at, n, None, "suit", 20_500, None) for at, n in enumerate(held, 1)))
+    conn.executemany(PUT_HOLD, ((at, n, None, None, "suit", 20_500) for at, n in enumerate(held, 1)))
 
 
 def stored(folder, name, rows, of=lambda number: {}, policy=SMALL, bag=shared_bag):

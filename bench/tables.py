@@ -78,4 +78,5 @@ def last(folder):
 
 CASES = {"deposit": deposit, "read": read, "live": live, "last": last}
 
-main(CASES)
+if __name__ == "__main__":
+    main(CASES)
