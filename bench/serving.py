@@ -18,6 +18,9 @@ BEGINNING = date(1970, 1, 1)
 LIVE_HOLDS = (
     "SELECT count(*) FROM hold_4 WHERE (deposit = ?1 OR collection = ?2 OR class = ?3) AND released IS NULL"
 )
+RULES = (
+    "SELECT effect, role, action, collection, class FROM rule_5 WHERE first <= ?1 AND last >= ?1 ORDER BY place"
+)
 
 
 def number_of(day):
@@ -77,10 +80,10 @@ class Desk(BaseHTTPRequestHandler):
         return self.server.office.execute(text, values).fetchall()
 
     def may(self, caller, action, collection, kind):
-        """Whether the first rule that matches allows it."""
+        """Whether the first rule that matches on the day allows it."""
         role = self.rows("SELECT role FROM caller WHERE name = ?1", caller)
         asked = (role[0][0] if role else "stranger", action, collection, kind)
-        rules = self.rows("SELECT effect, role, action, collection, class FROM rule_5 ORDER BY place")
+        rules = self.rows(RULES, self.server.day)
         for effect, *wanted in rules:
             if all(want in ("*", it) for want, it in zip(wanted, asked)):
                 return effect == 1
