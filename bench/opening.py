@@ -1,11 +1,11 @@
 #!/usr/bin/env python3
 """How long the opening of a file takes, at 100,000 deposits with three small files each and as many holds.
 
-The same deposits are opened in the tables of today, in those of version 1, in those of today without each
-of their indexes, and with an index more on the class or the collection of deposits. Prints the size of each
-file and the seconds of each, elapsed and of the processor, beside those of the tables of today: medians of
-runs that take turns (RUNS=n, 7 if left out). The program crates/office_file, which opens them, has to be
-built.
+The same deposits are opened in the tables of today, in those of versions 3 and 1, in those of today without each
+of the indexes that have entries, and with an index more on the class or the collection of deposits. Prints the
+size of each file and the seconds of each, elapsed and of the processor, beside those of the tables of today:
+medians of runs that take turns (RUNS=n, 7 if left out). The program crates/office_file, which opens them, has to
+be built.
 """
 import re
 import resource
@@ -13,17 +13,20 @@ import time
 from statistics import median
 
 from office_file import RUNS, TOP, main, opened, ours
-from stores import small_bag, stored
+from stores import SCHEMA, VERSION_3, small_bag, stored
 
-TEXTS = (TOP / "diff" / "schema.sql").read_text()
+TEXTS = "".join(f"{text};\n" for text in SCHEMA)
+TEXTS_3 = "".join(f"{text};\n" for text in VERSION_3)
 INDEX = r"CREATE INDEX {} ON .*\n"
 CONTENT = r"content INTEGER NOT NULL REFERENCES content \(id\)"
 WHOLE_FILES = "(SELECT deposit, path, bytes AS content FROM base.file JOIN base.content ON id = content)"
+# The tables that have the rows of an older one, which hold none any more.
+SUCCESSORS = {"hold": "hold_4", "rule": "rule_5"}
 
 
 def version_1():
     """The tables of version 1: each file's content in its row, and no due days or counts of holds."""
-    texts = re.sub(CONTENT, "content BLOB NOT NULL", TEXTS)
+    texts = re.sub(CONTENT, "content BLOB NOT NULL", TEXTS_3)
     texts = texts.replace(", due INTEGER, holds INTEGER NOT NULL", "")
     indexes = map(INDEX.format, ("file_content", "content_mark", "deposit_due"))
     for gone in (r"CREATE TABLE content .*\n", *indexes):
@@ -33,14 +36,23 @@ def version_1():
 
 def layouts():
     """The texts of the tables, by what is other in them."""
-    found = {"the tables of today": TEXTS, "version 1": version_1()}
-    for name in re.findall(INDEX.format(r"(\w+)"), TEXTS):
-        found[f"without {name}"] = re.sub(INDEX.format(name), "", TEXTS)
+    found = {"the tables of today": TEXTS, "version 3": TEXTS_3, "version 1": version_1()}
+    for name, table in re.findall(r"CREATE INDEX (\w+) ON (\w+)", TEXTS):
+        if table not in SUCCESSORS:
+            found[f"without {name}"] = re.sub(INDEX.format(name), "", TEXTS)
     found["without the index of accessions"] = TEXTS.replace(" UNIQUE", "")
     found["without the index of paths"] = TEXTS.replace(", PRIMARY KEY (deposit, path)", "")
     for column in ("class", "collection"):
         found[f"with deposit_{column}"] = f"{TEXTS}CREATE INDEX deposit_{column} ON deposit ({column});\n"
     return found
+
+
+def rows_for(table, texts):
+    """Where the rows of a table of these texts stand in the base."""
+    if table == "file" and "content BLOB" in texts:
+        return WHOLE_FILES
+    successor = SUCCESSORS.get(table, table)
+    return f"base.{table if successor in texts else successor}"
 
 
 def laid_out(base, name, texts):
@@ -52,9 +64,8 @@ def laid_out(base, name, texts):
     conn.execute("ATTACH ?1 AS base", (str(base),))
     conn.execute("BEGIN")
     for table in re.findall(r"CREATE TABLE (\w+)", texts):
-        rows = WHOLE_FILES if "content BLOB" in texts and table == "file" else f"base.{table}"
         columns = ", ".join(it[1] for it in conn.execute(f"PRAGMA main.table_info({table})"))
-        conn.execute(f"INSERT INTO main.{table} ({columns}) SELECT {columns} FROM {rows}")
+        conn.execute(f"INSERT INTO main.{table} ({columns}) SELECT {columns} FROM {rows_for(table, texts)}")
     conn.execute("COMMIT")
     conn.execute("PRAGMA wal_checkpoint(TRUNCATE)").fetchall()
     conn.close()

@@ -1,10 +1,18 @@
 """Files that hold an office with many deposits: Python puts the rows in, as the office writes them."""
 import hashlib
 import pathlib
+import sys
 import tomllib
 
 from office_file import PUT_CONTENT, PUT_FILE, PUT_HOLD, RECORD, TOP, due_day, opened, ours, own_files
 
+# Stores of older versions are made as `diff/upgrade.py` makes them.
+sys.path.append(str(TOP / "diff"))
+from upgrade import FOURTH as VERSION_4
+from upgrade import THIRD as VERSION_3
+
+# The texts of the tables and indexes of today, which begin with those of versions 3 and 4.
+SCHEMA = (TOP / "diff" / "schema.sql").read_text().replace(";", "").splitlines()
 # The policy of the examples, by which `anna` may do all but dispose in the collection `tax`.
 SMALL = tomllib.loads((TOP / "examples" / "policy.toml").read_text())
 
