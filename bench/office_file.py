@@ -70,6 +70,27 @@ def ours(*words):
     return found.stdout
 
 
+# Runs the program that its words name, and prints the most memory that it took, in bytes.
+WAIT = """
+import os, sys
+_, status, used = os.wait4(os.posix_spawn(sys.argv[1], sys.argv[1:], os.environ), 0)
+if status != 0:
+    sys.exit(f"{sys.argv[2:]} ended with {status}")
+print(used.ru_maxrss * 1024)
+"""
+
+
+def watched(*words):
+    """The microseconds that the program prints, and the most memory that it takes, in bytes. A small process starts
+    it, since a process counts as its own what the one that starts it holds."""
+    words = [sys.executable, "-c", WAIT, str(PROGRAM), *map(str, words)]
+    found = subprocess.run(words, capture_output=True, text=True)
+    if found.returncode != 0:
+        sys.exit(found.stderr)
+    took, peak = map(int, found.stdout.split())
+    return took, peak
+
+
 def opened(file):
     """The file, as Python opens it. Like the program, it copies a log of 1,000 pages into the file."""
     conn = sqlite3.connect(file, isolation_level=None)

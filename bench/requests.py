@@ -8,11 +8,8 @@ ratios of peak memory. The program crates/office_file, which makes the requests,
 doesn't count the opening of the file, and nor does the other side. Words behind `requests.py` name the
 cases that are run; with none, all are.
 """
-import subprocess
-import sys
-
-from office_file import FILES, PROGRAM, PUT_DEPOSIT
-from office_file import copy, filled, main, opened, ours, own_files, put_file, say, turns
+from office_file import FILES, PUT_DEPOSIT
+from office_file import copy, filled, main, opened, ours, own_files, put_file, say, turns, watched
 from statements import scattered, theirs
 from stores import LONG, put_policy, stored
 
@@ -143,35 +140,6 @@ def revision(folder):
     over_many(folder, "class", ("ask-classes", "revise"), 2)
 
 
-# Runs the program that its words name, and prints the most memory that it took, in bytes.
-WAIT = """
-import os, sys
-child = os.posix_spawn(
-    sys.argv[1],
-    sys.argv[1:],
-    os.environ,
-    file_actions=[(os.POSIX_SPAWN_OPEN, 1, os.devnull, os.O_WRONLY, 0)],
-)
-_, status, used = os.wait4(child, 0)
-if status != 0:
-    sys.exit(f"{sys.argv[2:]} ended with {status}")
-print(used.ru_maxrss * 1024)
-"""
-
-
-def peak(*words):
-    """The most memory that the program takes, in bytes. A small process starts it, since a process
-    counts as its own what the one that starts it holds."""
-    found = subprocess.run(
-        [sys.executable, "-c", WAIT, str(PROGRAM), *map(str, words)],
-        capture_output=True,
-        text=True,
-    )
-    if found.returncode != 0:
-        sys.exit(found.stderr)
-    return int(found.stdout)
-
-
 def peak_of(folder, name, count):
     """A download of a bag of 16 MiB in so many payload files: peak memory beside the same program's
     once it had opened the file."""
@@ -192,8 +160,8 @@ def peak_of(folder, name, count):
         put_file(conn, 1, path, it)
     conn.execute("PRAGMA wal_checkpoint(TRUNCATE)").fetchall()
     conn.close()
-    opening = peak("ask-records", file, 0)
-    whole = peak("ask-bags", file, 1)
+    _, opening = watched("ask-records", file, 0)
+    _, whole = watched("ask-bags", file, 1)
     print(
         f"{name}: {(whole - opening) / size:.2f} times 16 MiB above {opening / 2**20:.1f} MiB"
         " (at most 3)",

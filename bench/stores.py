@@ -3,13 +3,16 @@ import hashlib
 import pathlib
 import sys
 import tomllib
+from collections import Counter
 
-from office_file import PUT_CONTENT, PUT_FILE, PUT_HOLD, RECORD, TOP, due_day, opened, ours, own_files
+from office_file import PUT_CONTENT, PUT_FILE, PUT_HOLD, RECORD, SET_HOLDS, TOP
+from office_file import due_day, opened, ours, own_files
 
 # Stores of older versions are made as `diff/upgrade.py` makes them.
 sys.path.append(str(TOP / "diff"))
 from upgrade import FOURTH as VERSION_4
 from upgrade import THIRD as VERSION_3
+from upgrade import holds_of, rules_of
 
 # The texts of the tables and indexes of today, which begin with those of versions 3 and 4.
 SCHEMA = (TOP / "diff" / "schema.sql").read_text().replace(";", "").splitlines()
@@ -82,6 +85,10 @@ def put_deposits(conn, deposits, bag):
     kept = [n for n, it in deposits.items() if it["gone"] is None]
     ids = put_contents(conn, map(bag, kept))
     conn.executemany(PUT_FILE, ((n, path, ids[content]) for n in kept for path, content in bag(n)))
+
+
+def put_holds(conn, deposits):
+    """A hold on each deposit that is to have one."""
     held = (n for n, it in deposits.items() if it["held"])
     conn.executemany(PUT_HOLD, ((at, n, None, None, "suit", 20_500) for at, n in enumerate(held, 1)))
 
@@ -96,7 +103,40 @@ def stored(folder, name, rows, of=lambda number: {}, policy=SMALL, bag=shared_ba
     conn = opened(file)
     conn.execute("BEGIN")
     put_policy(conn, policy)
-    put_deposits(conn, {number: USUAL | of(number) for number in range(1, rows + 1)}, bag)
+    deposits = {number: USUAL | of(number) for number in range(1, rows + 1)}
+    put_deposits(conn, deposits, bag)
+    put_holds(conn, deposits)
+    conn.execute("COMMIT")
+    conn.execute("PRAGMA wal_checkpoint(TRUNCATE)").fetchall()
+    conn.close()
+    return file
+
+
+def stored_before(folder, version, holds, rows=100_000):
+    """An office in the tables of version 3 or 4, with so many deposits in 20 collections and 10 classes, so many
+    holds, of each kind that the version has and a third of them released, and 200 rules."""
+    file = pathlib.Path(folder) / f"version {version}, {holds} holds.db"
+    if file.exists():
+        return file
+    deposits = {n: USUAL | {"collection": f"c{n % 20}", "klass": f"y{n % 10}"} for n in range(1, rows + 1)}
+    kinds = 2 if version == 3 else 3
+    held = holds_of(version, rows, -(-holds // kinds))[:holds]
+    live = Counter(it[1:4] for it in held if it[6] is None)
+    conn = opened(file)
+    conn.execute("BEGIN")
+    for text in VERSION_3 if version == 3 else VERSION_4:
+        conn.execute(text)
+    conn.execute("INSERT INTO office VALUES (1, ?1, 1000000, 1000000)", (version,))
+    conn.executemany("INSERT INTO caller VALUES (?1, ?2)", SMALL["callers"].items())
+    conn.executemany("INSERT INTO rule VALUES (?1, ?2, ?3, ?4, ?5, ?6)", rules_of(200))
+    put_deposits(conn, deposits, shared_bag)
+    if version == 3:
+        conn.executemany("INSERT INTO hold VALUES (?1, ?2, ?3, ?4, ?5, ?6)", (it[:3] + it[4:] for it in held))
+    else:
+        conn.executemany("INSERT INTO hold_4 VALUES (?1, ?2, ?3, ?4, ?5, ?6, ?7)", held)
+    for number, it in deposits.items():
+        over = (number, None, None), (None, it["collection"], None), (None, None, it["klass"])
+        conn.execute(SET_HOLDS, (number, sum(live[target] for target in over)))
     conn.execute("COMMIT")
     conn.execute("PRAGMA wal_checkpoint(TRUNCATE)").fetchall()
     conn.close()
