@@ -1,17 +1,21 @@
 -- What was kept, and what was left, of an office of a known version, after an upgrade and after a refusal.
-use Rattle.std.proofs.Common.{◌≡◌, List, IsTrue, refl, sym, ap, subst, ◌∙◌, inl, inr}
+use Rattle.std.proofs.Common.{◌≡◌, List, None, Some, IsTrue, refl, sym, ap, subst, ◌∙◌, inl, inr}
 use Rattle.sqlite.specs.Effect.{Database, IsDatabase}
 use Rattle.sqlite.specs.Tree.{Trees}
 use Rattle.sqlite.specs.Order.{Row}
 use Rattle.sqlite.specs.State.{State, HasCleanDisk, Survives, IsLive}
+use Rattle.sqlite.proofs.StateLemmas.{survives_weaker}
 use Rattle.sqlite_trees.specs.Objects.{catalog_tree}
 use Rattle.sqlite_catalog.specs.Listing.{Lists}
 use Rattle.sqlite_catalog.proofs.ReadLemmas.{lists_once}
-use Rattle.office_tables.specs.Opening.{KeepsTables}
+use Rattle.office_rows.specs.Rows.{version_of}
+use Rattle.office_tables.specs.Opening.{HasVersion, KeepsTables, NotAnOffice}
 use Rattle.office_tables.specs.Moving.{AllRows, BecomesAt, renewed}
-use Rattle.office_upgrade.specs.Upgrading.{IsOfficeOf, IsUpgrade, IsLeftAt, Tells, Upgrades, UpgradeLasts, TakesUp, KeepsOffice, LeavesOffice}
+use Rattle.office_tables.specs.Versions.{IsOfficeAt, tables_at, version_number}
+use Rattle.office_upgrade.specs.Upgrading.{IsOfficeOf, IsUpgrade, IsLeftAt, Upgrades, UpgradeLasts, TakesUp, KeepsOffice, LeavesOffice, GoesBack, NewestSurvives, TellsKnown, TellsUnknown, HasUnknownVersion}
 use Rattle.office_tables.specs.declared.version.TableVersion.{TableVersion}
 use Rattle.office_tables.specs.declared.version.TableVersion.TheVariants.{Fifth}
+use Rattle.office_tables.proofs.OpenLemmas.{is_there, tells_version}
 
 -- trees list one schema
 same_database : (a b : Database) → IsDatabase a → IsDatabase b → a.trees ≡ b.trees → a ≡ b
@@ -24,8 +28,8 @@ becomes_again : (version : TableVersion) (rows : AllRows) (left : Trees) (b : Da
 becomes_again version rows left b h q e = subst (λ d. BecomesAt version d rows) (same_database h.0 b h.1.office.whole.listed q (sym (e ∙ h.2))) h.1
 
 -- what was left of an office is that office, where it is found
-pub found_office : (version : TableVersion) (rows : AllRows) (old : State) → IsLive old → IsTrue old.is_open → Tells version rows → IsLeftAt version rows old.now.trees → IsOfficeOf version old.now rows
-found_office version rows old live was_open told left = record { becomes = becomes_again version rows old.now.trees old.now left (live was_open).0 refl; told = told }
+pub found_becomes : (version : TableVersion) (rows : AllRows) (old : State) → IsLive old → IsTrue old.is_open → IsLeftAt version rows old.now.trees → BecomesAt version old.now rows
+found_becomes version rows old live was_open left = becomes_again version rows old.now.trees old.now left (live was_open).0 refl
 
 module _ (old new : State) (was_open : IsTrue old.is_open) (settled : IsTrue old.is_open → old.now ≡ old.committed)
     (made : (version : TableVersion) (rows : AllRows) → IsOfficeOf version old.now rows → old.committed ≡ old.now → IsTrue new.is_open → BecomesAt Fifth new.now (renewed version rows) × (new.committed ≡ new.now)) where
@@ -33,21 +37,23 @@ module _ (old new : State) (was_open : IsTrue old.is_open) (settled : IsTrue old
   upgrades version rows told kept is_open = let was = kept was_open in made version rows (record { becomes = was.0; told = told }) was.1 is_open
 
   pub takes_up : IsLive old → TakesUp old new
-  takes_up live version rows told left is_open = made version rows (found_office version rows old live was_open told left) (sym (settled was_open)) is_open
+  takes_up live version rows told left is_open =
+      made version rows (record { becomes = found_becomes version rows old live was_open left; told = told }) (sym (settled was_open)) is_open
 
-pub lasts_kept : (old new : State)
+pub lasts_found : (old new : State) → IsLive old → (IsTrue old.is_open → old.now ≡ old.committed)
     → ((version : TableVersion) (rows : AllRows) → IsOfficeOf version old.now rows → old.committed ≡ old.now → IsTrue old.is_open → (left : Trees) → new.may_leave left → IsLeftAt Fifth (renewed version rows) left)
     → UpgradeLasts old new
-lasts_kept old new lasts version rows told was_open kept left may =
-    let was = kept was_open in lasts version rows (record { becomes = was.0; told = told }) was.1 was_open left may
+lasts_found old new live outside lasts version rows told was_open found left may =
+    lasts version rows (record { becomes = found_becomes version rows old live was_open found; told = told }) (sym (outside was_open)) was_open left may
 
 -- at every exit
-pub leaves_office : (old new : State) → Survives old new (IsUpgrade old.now) → HasCleanDisk new → ((db : Trees) → IsTrue old.is_open → old.may_leave db → db ≡ old.committed.trees) → LeavesOffice old new
-leaves_office old new s clean settled version rows told was_open kept left may =
-    let was = kept was_open in
+pub leaves_office : (old new : State) → IsLive old → (IsTrue old.is_open → old.now ≡ old.committed) → Survives old new (IsUpgrade old.now) → HasCleanDisk new
+    → ((db : Trees) → IsTrue old.is_open → old.may_leave db → db ≡ old.committed.trees) → LeavesOffice old new
+leaves_office old new live outside s clean settled version rows told was_open found left may =
+    let becomes = found_becomes version rows old live was_open found in
     elim (s.crash clean left may) [
-      | inl before ↦ inl (old.now, was.0, settled left was_open before ∙ ap (λ (d : Database). d.trees) was.1)
-      | inr upgraded ↦ inr (upgraded version rows (record { becomes = was.0; told = told }))
+      | inl before ↦ inl (old.now, becomes, settled left was_open before ∙ sym (ap (λ (d : Database). d.trees) (outside was_open)))
+      | inr upgraded ↦ inr (upgraded.leaves version rows (record { becomes = becomes; told = told }))
     ]
 
 pub keeps_office : (old new : State) → KeepsTables old new → KeepsOffice old new
@@ -55,3 +61,26 @@ keeps_office old new kept version rows was is_open =
     let it = kept is_open in
     let before = was it.0 in
     (subst (λ (d : Database). BecomesAt version d rows) (sym it.1) before.0, it.2 ∙ sym it.1)
+
+pub goes_back : (old new : State) → IsLive old → KeepsTables old new → GoesBack old new
+goes_back old new live kept version rows left is_open =
+    let it = kept is_open in
+    (subst (λ (d : Database). BecomesAt version d rows) (sym it.1) (found_becomes version rows old live it.0 left), it.2 ∙ sym it.1)
+
+-- ---- what the rows of an office tell
+
+-- of the newest tables nothing is made
+pub newest_survives : (old new : State) → Survives old new (IsUpgrade old.now) → NewestSurvives old new
+newest_survives old new s office told = survives_weaker old new _ _ (λ clean left made.
+    let older = made.was_older in
+    absurd (older.1 (let same : Some (version_number older.0) ≡ Some (version_number Fifth) = sym (tells_version Fifth old.now office.whole (Some (version_number older.0)) older.2) ∙ told in cc))) s
+
+pub told_known : (version : TableVersion) (db : Database) → IsOfficeAt version db → (known : TableVersion) → HasVersion db (version_number known) → TellsKnown (tables_at version db)
+told_known version db office known has = (known, tells_version version db office.whole (Some (version_number known)) has)
+
+pub told_none : (version : TableVersion) (db : Database) → IsOfficeAt version db → NotAnOffice db → version_of (tables_at version db) ≡ None
+told_none version db office (inl missing) = absurd (let there = is_there version db.schema office.whole.schema_is in cc)
+told_none version db office (inr shown) = tells_version version db office.whole None shown
+
+pub told_unknown : (version : TableVersion) (db : Database) → IsOfficeAt version db → HasUnknownVersion db → TellsUnknown (tables_at version db)
+told_unknown version db office it = (it.0, it.1, tells_version version db office.whole (Some it.0) it.2)

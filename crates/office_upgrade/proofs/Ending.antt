@@ -17,7 +17,7 @@ use Rattle.office_tables.specs.declared.fault.TableFault.TheVariants.{NotAnOffic
 use Rattle.office_rows.specs.Rows.{version_of}
 use Rattle.office_tables.specs.Moving.{AllRows, BecomesAt, renewed}
 use Rattle.office_tables.specs.Versions.{version_number}
-use Rattle.office_upgrade.specs.Upgrading.{IsOfficeOf, IsRenewed, IsUpgrade, IsLeftAt, HasUnknownVersion}
+use Rattle.office_upgrade.specs.Upgrading.{IsOfficeOf, IsOlder, IsRenewed, IsUpgrade, IsLeftAt, HasUnknownVersion, Tells}
 use Rattle.office_tables.specs.declared.version.TableVersion.{TableVersion}
 use Rattle.office_tables.specs.declared.version.TableVersion.TheVariants.{Fifth}
 use Rattle.office_tables.proofs.OpenLemmas.{tells_version}
@@ -25,7 +25,7 @@ use Rattle.office_tables.proofs.OpenLemmas.{tells_version}
 -- the version that was seen is that of the office
 pub same_version : (version : TableVersion) (rows : AllRows) (db : Database) (seen : ℤ) → IsOfficeOf version db rows → ShowsVersion db (Some seen) → seen ≡ version_number version
 same_version version rows db seen office shown =
-    let told : Some seen ≡ Some (version_number version) = sym (tells_version version db office.becomes.office.whole (Some seen) shown) ∙ ap (λ (r : AllRows). version_of r.tables) office.becomes.are ∙ office.told in cc
+    office.told seen (sym (ap (λ (r : AllRows). version_of r.tables) office.becomes.are) ∙ tells_version version db office.becomes.office.whole (Some seen) shown)
 
 pub is_renewed : (seen : ℤ) (old mid new : Database) → ShowsVersion old (Some seen) → mid ≡ old
     → ((known : TableVersion) (rows : AllRows) → seen ≡ version_number known → BecomesAt known mid rows → BecomesAt Fifth new (renewed known rows)) → IsRenewed old new
@@ -37,6 +37,7 @@ pub record IsTaken {S : Type 0} (g : Ghosts S) (first last : Held S) (taken : Re
   pub stays : Stays (state g (record first { in_transaction = true })) (state g last)
   pub renewed : HasCleanDisk (state g last) → OnOk taken (IsRenewed (state g first).now (state g last).now)
   pub same : HasCleanDisk (state g last) → taken ≡ Ok false → (state g last).now ≡ (state g first).now
+  pub older : HasCleanDisk (state g last) → taken ≡ Ok true → IsOlder (state g first).now
   pub not_office : HasCleanDisk (state g last) → taken ≡ Err NotAnOffice → ShowsVersion (state g first).now None
   pub other_version : HasCleanDisk (state g last) → taken ≡ Err OtherVersion → HasUnknownVersion (state g first).now
 
@@ -45,8 +46,11 @@ module _ {S : Type 0} (g : Ghosts S) (first last end : Held S) (taken : Result B
   made_by done is clean = subst (λ r. OnOk r (IsRenewed (state g first).now (state g last).now)) is (it.renewed clean)
 
   -- the commit, whether it was answered or not
-  pub commits : (done : Bool) → taken ≡ Ok done → Survives (state g last) (state g end) (λ db. db ≡ (state g last).now.trees) → Survives (state g first) (state g end) (IsUpgrade (state g first).now)
-  commits done is s = survives_commit g first (state g last) (state g end) it.stays (IsUpgrade (state g first).now) (λ clean db same version rows office. ((state g last).now, made_by done is clean version rows office, same)) s
+  pub commits : taken ≡ Ok true → Survives (state g last) (state g end) (λ db. db ≡ (state g last).now.trees) → Survives (state g first) (state g end) (IsUpgrade (state g first).now)
+  commits is s = survives_commit g first (state g last) (state g end) it.stays (IsUpgrade (state g first).now) (λ clean db same. record {
+    was_older = it.older clean is;
+    leaves = λ version rows office. ((state g last).now, made_by true is clean version rows office, same);
+  }) s
 
   -- after it a crash leaves the new tables alone
   pub lasts : (done : Bool) → taken ≡ Ok done → HasCleanDisk (state g last) → IsTrue (state g end).is_open → (state g end).now ≡ (state g last).now → (state g end).committed ≡ (state g end).now
@@ -55,7 +59,8 @@ module _ {S : Type 0} (g : Ghosts S) (first last end : Held S) (taken : Result B
   lasts done is clean was_opened now committed settled version rows office left may =
       ((state g last).now, made_by done is clean version rows office, settled left was_opened may ∙ ap (λ (d : Database). d.trees) (committed ∙ now))
 
-  survives_back : Survives (state g last) (state g end) (λ _. ⊥) → Survives (state g first) (state g end) (λ _. ⊥)
+  -- nothing of it is left where it is rolled back
+  pub survives_back : Survives (state g last) (state g end) (λ _. ⊥) → Survives (state g first) (state g end) (λ _. ⊥)
   survives_back s =
       survives_begin g first (state g end) (λ _. ⊥) (survives_then (state g (record first { in_transaction = true })) (state g last) (state g end) _ _ (λ _. ⊥) (λ _ db none. none) (λ _ db none. none) it.stays.survives s)
 
@@ -72,10 +77,11 @@ module _ {S : Type 0} (g : Ghosts S) (first last end : Held S) (taken : Result B
 
 -- of an office of a known version nothing but a failure is said
 pub fails_only : (stopped : TableFault) (db : Database) → (stopped ≡ NotAnOffice → ShowsVersion db None) → (stopped ≡ OtherVersion → HasUnknownVersion db)
-    → (version : TableVersion) (rows : AllRows) → IsOfficeOf version db rows → IsFailure stopped
-fails_only NotAnOffice db none other version rows office =
-    absurd (let told : None ≡ Some (version_number version) = sym (tells_version version db office.becomes.office.whole None (none refl)) ∙ ap (λ (r : AllRows). version_of r.tables) office.becomes.are ∙ office.told in cc)
-fails_only OtherVersion db none other version rows office =
-    let it = other refl in absurd (it.1 version (same_version version rows db it.0 office it.2))
-fails_only Memory db none other version rows office = tt
-fails_only Store db none other version rows office = tt
+    → (version : TableVersion) (rows : AllRows) → BecomesAt version db rows → Tells version rows → IsFailure stopped
+fails_only NotAnOffice db none other version rows becomes told =
+    absurd (let none_told : None ≡ Some (version_number version) = sym (tells_version version db becomes.office.whole None (none refl)) ∙ ap (λ (r : AllRows). version_of r.tables) becomes.are ∙ told in cc)
+fails_only OtherVersion db none other version rows becomes told =
+    let it = other refl in
+    absurd (it.1 version (let same : Some it.0 ≡ Some (version_number version) = sym (tells_version version db becomes.office.whole (Some it.0) it.2) ∙ ap (λ (r : AllRows). version_of r.tables) becomes.are ∙ told in cc))
+fails_only Memory db none other version rows becomes told = tt
+fails_only Store db none other version rows becomes told = tt

@@ -3,9 +3,10 @@
 use Rattle.std.specs.Prelude.{◌⊎◌, ◌≡◌, ◌≢◌, ℤ, IsTrue, Some}
 use Rattle.sqlite.specs.Effect.{Database}
 use Rattle.sqlite.specs.Tree.{Trees}
-use Rattle.sqlite.specs.State.{State}
-use Rattle.office_rows.specs.Rows.{version_of}
+use Rattle.sqlite.specs.State.{State, Survives}
+use Rattle.office_rows.specs.Rows.{Tables, this_version, version_of}
 use Rattle.office_tables.specs.Opening.{HasVersion}
+use Rattle.office_tables.specs.Tables.{IsOffice, tables_of}
 use Rattle.office_tables.specs.Moving.{AllRows, BecomesAt, renewed}
 use Rattle.office_tables.specs.Versions.{version_number}
 use Rattle.office_tables.specs.declared.version.TableVersion.{TableVersion}
@@ -15,18 +16,36 @@ use Rattle.office_tables.specs.declared.version.TableVersion.TheVariants.{Fifth}
 abbrev pub Tells : TableVersion → AllRows → Type 0
 Tells version rows = version_of rows.tables ≡ Some (version_number version)
 
--- an office whose tables are of the version that its row tells, with these rows
+-- if the rows tell a version, it is this one
+abbrev pub TellsNoOther : TableVersion → AllRows → Type 0
+TellsNoOther version rows = (told : ℤ) → version_of rows.tables ≡ Some told → told ≡ version_number version
+
+-- the rows tell one of the known versions
+abbrev pub TellsKnown : Tables → Type 0
+TellsKnown tables = (version : TableVersion) × (version_of tables ≡ Some (version_number version))
+
+-- the rows tell a version that is none of those known
+abbrev pub TellsUnknown : Tables → Type 0
+TellsUnknown tables = (other : ℤ) × ((version : TableVersion) → other ≢ version_number version) × (version_of tables ≡ Some other)
+
+-- an office whose tables are of that version, with these rows, which tell no other
 pub record IsOfficeOf (version : TableVersion) (db : Database) (rows : AllRows) : Type 0 where
   pub becomes : BecomesAt version db rows
-  pub told : Tells version rows
+  pub told : TellsNoOther version rows
 
 -- what a crash may leave, where it leaves the trees of an office of that version with these rows
 abbrev pub IsLeftAt : TableVersion → AllRows → Trees → Type 0
 IsLeftAt version rows left = (made : Database) × BecomesAt version made rows × (left ≡ made.trees)
 
--- whichever office of a known version the database was, a crash leaves it renewed
-abbrev pub IsUpgrade : Database → Trees → Type 0
-IsUpgrade db left = (version : TableVersion) (rows : AllRows) → IsOfficeOf version db rows → IsLeftAt Fifth (renewed version rows) left
+-- the table `office` shows a known version, and not the newest
+abbrev pub IsOlder : Database → Type 0
+IsOlder db = (version : TableVersion) × (version_number version ≢ version_number Fifth) × HasVersion db (version_number version)
+
+-- what an upgrade makes of a database: it showed an older version, and whichever office of a known version it was, a crash
+-- leaves it renewed
+pub record IsUpgrade (db : Database) (left : Trees) : Type 0 where
+  pub was_older : IsOlder db
+  pub leaves : (version : TableVersion) (rows : AllRows) → IsOfficeOf version db rows → IsLeftAt Fifth (renewed version rows) left
 
 -- whichever office of a known version was there, it stands renewed
 abbrev pub IsRenewed : Database → Database → Type 0
@@ -44,23 +63,32 @@ IsKeptAt version rows s = IsTrue s.is_open → BecomesAt version s.now rows × (
 
 -- whichever office of a known version was kept, it is kept with the newest tables
 abbrev pub Upgrades : State → State → Type 0
-Upgrades old new = (version : TableVersion) (rows : AllRows) → Tells version rows → IsKeptAt version rows old → IsKeptAt Fifth (renewed version rows) new
+Upgrades old new = (version : TableVersion) (rows : AllRows) → TellsNoOther version rows → IsKeptAt version rows old
+    → IsKeptAt Fifth (renewed version rows) new
 
--- and a crash leaves that, and nothing else
+-- whichever a crash may have left, it is taken up, with the newest tables
+abbrev pub TakesUp : State → State → Type 0
+TakesUp old new = (version : TableVersion) (rows : AllRows) → TellsNoOther version rows → IsLeftAt version rows old.now.trees
+    → IsKeptAt Fifth (renewed version rows) new
+
+-- whichever stood there, kept or left by a crash, a crash leaves it with the newest tables, and leaves nothing else
 abbrev pub UpgradeLasts : State → State → Type 0
-UpgradeLasts old new = (version : TableVersion) (rows : AllRows) → Tells version rows → IsTrue old.is_open → IsKeptAt version rows old
+UpgradeLasts old new = (version : TableVersion) (rows : AllRows) → TellsNoOther version rows → IsTrue old.is_open → IsLeftAt version rows old.now.trees
     → (left : Trees) → new.may_leave left → IsLeftAt Fifth (renewed version rows) left
 
--- what a crash may have left of an office of a known version is taken up, with the newest tables
-abbrev pub TakesUp : State → State → Type 0
-TakesUp old new = (version : TableVersion) (rows : AllRows) → Tells version rows → IsLeftAt version rows old.now.trees
-    → IsKeptAt Fifth (renewed version rows) new
+-- whichever stood there, at every exit a crash leaves it, or leaves it with the newest tables
+abbrev pub LeavesOffice : State → State → Type 0
+LeavesOffice old new = (version : TableVersion) (rows : AllRows) → TellsNoOther version rows → IsTrue old.is_open → IsLeftAt version rows old.now.trees
+    → (left : Trees) → new.may_leave left → IsLeftAt version rows left ⊎ IsLeftAt Fifth (renewed version rows) left
+
+-- of tables that are the newest, a crash leaves no other trees than it could leave before
+abbrev pub NewestSurvives : State → State → Type 0
+NewestSurvives old new = IsOffice old.now → version_of (tables_of old.now) ≡ Some this_version → Survives old new (λ _. ⊥)
 
 -- whatever office was kept, it still is
 abbrev pub KeepsOffice : State → State → Type 0
 KeepsOffice old new = (version : TableVersion) (rows : AllRows) → IsKeptAt version rows old → IsKeptAt version rows new
 
--- at every exit a crash leaves the office that was kept, or that office with the newest tables
-abbrev pub LeavesOffice : State → State → Type 0
-LeavesOffice old new = (version : TableVersion) (rows : AllRows) → Tells version rows → IsTrue old.is_open → IsKeptAt version rows old
-    → (left : Trees) → new.may_leave left → IsLeftAt version rows left ⊎ IsLeftAt Fifth (renewed version rows) left
+-- whatever office a crash may have left, it is kept by its own version
+abbrev pub GoesBack : State → State → Type 0
+GoesBack old new = (version : TableVersion) (rows : AllRows) → IsLeftAt version rows old.now.trees → IsKeptAt version rows new

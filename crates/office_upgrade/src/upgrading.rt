@@ -14,7 +14,7 @@ ghost use Rattle.office_tables.specs.Opening.{shows_office, known_row, ShowsVers
 ghost use Rattle.office_tables.specs.declared.fault.TableFault.TheVariants as fault;
 ghost use Rattle.office_tables.specs.Moving.{AllRows, BecomesAt, renewed};
 ghost use Rattle.office_tables.specs.Versions.{version_number};
-ghost use Rattle.office_upgrade.specs.Upgrading.{IsOfficeOf, IsUpgrade, IsRenewed, IsLeftAt, HasUnknownVersion};
+ghost use Rattle.office_upgrade.specs.Upgrading.{IsOfficeOf, IsOlder, IsUpgrade, IsRenewed, IsLeftAt, HasUnknownVersion, Tells};
 ghost use Rattle.office_tables.specs.declared.version.TableVersion.{TableVersion as Version};
 ghost use Rattle.office_tables.specs.declared.version.TableVersion.TheVariants.{Fifth};
 
@@ -75,6 +75,7 @@ fn take_over<S: Alter>(tx: &mut Transaction<'_, S>) -> Result<bool, TableFault>
     ensures same { HasCleanDisk (state S.Store tx.new.conn.now) → result ≡ Ok false → (state S.Store tx.new.conn.now).now ≡ (state S.Store tx.old.conn.now).now }
     ensures older { HasCleanDisk (state S.Store tx.new.conn.now) → result ≡ Ok true → IsOffice (state S.Store tx.old.conn.now).now
         → version_of (tables_of (state S.Store tx.old.conn.now).now) ≢ Some this_version }
+    ensures was_older { HasCleanDisk (state S.Store tx.new.conn.now) → result ≡ Ok true → IsOlder (state S.Store tx.old.conn.now).now }
     ensures known { HasCleanDisk (state S.Store tx.new.conn.now) → OnOk result ((known : Version) × HasVersion (state S.Store tx.old.conn.now).now (version_number known)) }
     ensures not_office { HasCleanDisk (state S.Store tx.new.conn.now) → result ≡ Err fault.NotAnOffice → ShowsVersion (state S.Store tx.old.conn.now).now None }
     ensures other_version { HasCleanDisk (state S.Store tx.new.conn.now) → result ≡ Err fault.OtherVersion → HasUnknownVersion (state S.Store tx.old.conn.now).now }
@@ -93,8 +94,12 @@ fn take_over<S: Alter>(tx: &mut Transaction<'_, S>) -> Result<bool, TableFault>
 pub fn upgrade<S: Alter>(conn: &mut Connection<S>) -> Result<(), TableFault>
     requires outside { (state S.Store conn.old).in_transaction ≡ false }
     ensures outside { (state S.Store conn.new).in_transaction ≡ false }
-    // Whichever office was there, a crash leaves what it could leave before, or that office with the newest tables.
+    // A crash leaves what it could leave before. Of an older version it may also leave the office that was there, with
+    // the newest tables.
     ensures survives { Survives (state S.Store conn.old) (state S.Store conn.new) (IsUpgrade (state S.Store conn.old).now) }
+    // An answer that is no failure makes nothing.
+    ensures told_survives { IfErr result (λ stopped. (IsFailure stopped → ⊥)
+        → Survives (state S.Store conn.old) (state S.Store conn.new) (λ _. ⊥)) }
     // That office stands with the newest tables, and all of it is committed.
     ensures upgraded { HasCleanDisk (state S.Store conn.new) → OnOk result ((version : Version) (rows : AllRows) → IsOfficeOf version (state S.Store conn.old).now rows
         → (state S.Store conn.old).committed ≡ (state S.Store conn.old).now → IsTrue (state S.Store conn.new).is_open
@@ -116,7 +121,7 @@ pub fn upgrade<S: Alter>(conn: &mut Connection<S>) -> Result<(), TableFault>
     ensures untouched { has_office (state S.Store conn.old).now.schema ≡ false → conn.new ≡ conn.old }
     // Of an office of a known version it says neither.
     ensures failure { HasCleanDisk (state S.Store conn.new) → IfErr result (λ stopped. (version : Version) (rows : AllRows)
-        → IsOfficeOf version (state S.Store conn.old).now rows → IsFailure stopped) }
+        → BecomesAt version (state S.Store conn.old).now rows → Tells version rows → IsFailure stopped) }
 {
     // What the connection says of its state.
     let _is_settled = conn.is_autocommit();

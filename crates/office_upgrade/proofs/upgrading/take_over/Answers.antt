@@ -1,10 +1,10 @@
-use Rattle.std.proofs.Common.{arith, rules, ◌≡◌, ◌≢◌, Ok, true, Some, w64, SFits, sym, ◌∙◌}
+use Rattle.std.proofs.Common.{arith, rules, ◌≡◌, ◌≢◌, ℤ, Some, w64, SFits, sym, subst, ◌∙◌}
 use Rattle.std.proofs.lemmas.Int.{to_z-of_z}
 use Rattle.std.specs.Prelude.{OnOk}
 use Rattle.std.proofs.lemmas.Result.{on_ok_weaker}
 use Rattle.sqlite.specs.Held.{state}
 use Rattle.sqlite.specs.State.{HasCleanDisk}
-use Rattle.office_tables.specs.Opening.{ShowsVersion}
+use Rattle.office_tables.specs.Opening.{HasVersion, ShowsVersion}
 use Rattle.office_tables.specs.Moving.{AllRows, BecomesAt, renewed}
 use Rattle.office_tables.specs.Versions.{version_number}
 use Rattle.office_tables.specs.declared.version.TableVersion.{TableVersion}
@@ -36,3 +36,16 @@ returns-in-Some-clause-older g c clean made office told =
     let apart : c.in-Some.version ≢ version_number Fifth = rw whole at (c.renew.ensures.older made) in
     let seen : Some c.in-Some.version ≡ Some (version_number Fifth) = sym (tells_version Fifth old.now office.whole (Some c.in-Some.version) shown) ∙ told in
     apart cc
+
+pub returns-in-Some-clause-was_older : goal.returns-in-Some-clause-was_older
+returns-in-Some-clause-was_older g c clean made =
+    let old = state g.S.Store c.args.tx.now.conn.now in
+    let mid = state g.S.Store c.version_told.new.tx.conn.now in
+    let early : HasCleanDisk mid = omega (arith, clean, c.renew.ensures.stays.survives.clean) in
+    let shown : ShowsVersion old.now (Some c.in-Some.version) = rw c.in-Some.is at (c.in_ok-version.ensures.shown early) in
+    let fits : SFits w64 c.in-Some.version = search rules in
+    let whole = to_z-of_z w64 c.in-Some.version fits in
+    let apart : c.in-Some.version ≢ version_number Fifth = rw whole at (c.renew.ensures.older made) in
+    let known : OnOk c.renew.result ((version : TableVersion) × (c.in-Some.version ≡ version_number version)) = rw whole at c.renew.ensures.known in
+    let it : (version : TableVersion) × (c.in-Some.version ≡ version_number version) = subst (λ r. OnOk r ((version : TableVersion) × (c.in-Some.version ≡ version_number version))) made known in
+    (it.0, (λ same. apart (it.1 ∙ same)), subst (λ (v : ℤ). HasVersion old.now v) it.1 shown)

@@ -12,8 +12,8 @@ use Rattle.office_tables.proofs.OpenLemmas.{is_there}
 use Rattle.office_upgrade.proofs.upgrading.upgrade.Goals as goal
 
 pub returns-then-not-has_office-clause-failure : goal.returns-then-not-has_office-clause-failure
-returns-then-not-has_office-clause-failure g c clean version rows office = absurd (
-    let there = is_there version c.args.conn.now.schema office.becomes.office.whole.schema_is in
+returns-then-not-has_office-clause-failure g c clean version rows becomes told = absurd (
+    let there = is_there version c.args.conn.now.schema becomes.office.whole.schema_is in
     let seen = c.has_office.ensures in
     let same = c.schema.ensures.value in
     let missing = c.if-not-has_office.true in
@@ -28,13 +28,14 @@ returns-in-Ok-clause-survives g c =
       stays = rw begun at c.take_over.ensures.stays;
       renewed = rw begun at c.take_over.ensures.renewed;
       same = rw begun at c.take_over.ensures.same;
+      older = rw begun at c.take_over.ensures.was_older;
       not_office = rw begun at c.take_over.ensures.not_office;
       other_version = rw begun at c.take_over.ensures.other_version;
     } in
     let end = c.commit.new.self.0 in
     let same : end ≡ c.conn-1.given.0 = search rules in
     let is : c.take_over.result ≡ Ok true = search rules in
-    subst (λ x. Survives (state g.S.Store first) (state g.S.Store x) (IsUpgrade (state g.S.Store first).now)) same (commits g.S.Store first last end c.take_over.result it true is c.commit.ensures.survives)
+    subst (λ x. Survives (state g.S.Store first) (state g.S.Store x) (IsUpgrade (state g.S.Store first).now)) same (commits g.S.Store first last end c.take_over.result it is c.commit.ensures.survives)
 
 pub returns-in-Err-commit-clause-survives : goal.returns-in-Err-commit-clause-survives
 returns-in-Err-commit-clause-survives g c =
@@ -45,13 +46,14 @@ returns-in-Err-commit-clause-survives g c =
       stays = rw begun at c.take_over.ensures.stays;
       renewed = rw begun at c.take_over.ensures.renewed;
       same = rw begun at c.take_over.ensures.same;
+      older = rw begun at c.take_over.ensures.was_older;
       not_office = rw begun at c.take_over.ensures.not_office;
       other_version = rw begun at c.take_over.ensures.other_version;
     } in
     let end = c.commit.new.self.0 in
     let same : end ≡ c.conn-1.given.0 = search rules in
     let is : c.take_over.result ≡ Ok true = search rules in
-    subst (λ x. Survives (state g.S.Store first) (state g.S.Store x) (IsUpgrade (state g.S.Store first).now)) same (commits g.S.Store first last end c.take_over.result it true is c.commit.ensures.survives)
+    subst (λ x. Survives (state g.S.Store first) (state g.S.Store x) (IsUpgrade (state g.S.Store first).now)) same (commits g.S.Store first last end c.take_over.result it is c.commit.ensures.survives)
 
 pub returns-in-Ok-clause-durable : goal.returns-in-Ok-clause-durable
 returns-in-Ok-clause-durable g c =
@@ -62,6 +64,7 @@ returns-in-Ok-clause-durable g c =
       stays = rw begun at c.take_over.ensures.stays;
       renewed = rw begun at c.take_over.ensures.renewed;
       same = rw begun at c.take_over.ensures.same;
+      older = rw begun at c.take_over.ensures.was_older;
       not_office = rw begun at c.take_over.ensures.not_office;
       other_version = rw begun at c.take_over.ensures.other_version;
     } in
@@ -84,6 +87,7 @@ returns-in-Ok-false-clause-durable g c =
       stays = rw begun at c.take_over.ensures.stays;
       renewed = rw begun at c.take_over.ensures.renewed;
       same = rw begun at c.take_over.ensures.same;
+      older = rw begun at c.take_over.ensures.was_older;
       not_office = rw begun at c.take_over.ensures.not_office;
       other_version = rw begun at c.take_over.ensures.other_version;
     } in
@@ -105,6 +109,7 @@ returns-in-Err-clause-not_office g c clean told =
       stays = rw begun at c.take_over.ensures.stays;
       renewed = rw begun at c.take_over.ensures.renewed;
       same = rw begun at c.take_over.ensures.same;
+      older = rw begun at c.take_over.ensures.was_older;
       not_office = rw begun at c.take_over.ensures.not_office;
       other_version = rw begun at c.take_over.ensures.other_version;
     } in
@@ -125,6 +130,7 @@ returns-in-Err-clause-failure g c clean =
       stays = rw begun at c.take_over.ensures.stays;
       renewed = rw begun at c.take_over.ensures.renewed;
       same = rw begun at c.take_over.ensures.same;
+      older = rw begun at c.take_over.ensures.was_older;
       not_office = rw begun at c.take_over.ensures.not_office;
       other_version = rw begun at c.take_over.ensures.other_version;
     } in
