@@ -1,10 +1,11 @@
 -- Histories through an upgrade, from what is said of rows.
-use Rattle.std.proofs.Common.{◌≡◌, Some, pos, refl, sym, ap, subst, subst₂, ◌∙◌, IsTrue, inl, inr}
+use Rattle.std.proofs.Common.{◌≡◌, ℤ, List, [], ◌∷◌, find, option_map, None, Some, pos, refl, sym, ap, subst, subst₂, ◌∙◌, IsTrue, inl, inr}
+use Rattle.std.proofs.lemmas.Bool.{cases_Bool}
 use Rattle.sqlite.specs.Tree.{Trees}
 use Rattle.sqlite.specs.Effect.{Database}
 use Rattle.sqlite.specs.State.{State, Survives}
 use Rattle.sqlite.proofs.StateLemmas.{survives_weaker}
-use Rattle.office_rows.specs.Rows.{version_of, this_version}
+use Rattle.office_rows.specs.Rows.{OfficeRow, is_known, version_of, this_version}
 use Rattle.office_tables.specs.Tables.{contents_of}
 use Rattle.office_tables.specs.Contents.{references_of, AreKeptOnce, KeepsOnce}
 use Rattle.office_tables.specs.Opening.{KeepsTables}
@@ -17,16 +18,26 @@ use Rattle.office_tables.specs.declared.version.TableVersion.TheVariants.{Third,
 use Rattle.office_upgrade.specs.Upgrading as rows
 use Rattle.office_upgrade.proofs.Kept.{stays_once}
 use Rattle.office_history.specs.Histories.{History}
-use Rattle.office_history.specs.Pictures.{picture}
+use Rattle.office_history.specs.Pictures.{office_row, picture}
 use Rattle.office_history.specs.Runs.{IsLegal}
 use Rattle.office_history.proofs.RangeLemmas.{limits_hold}
 use Rattle.office_asking.specs.Pictures.{Pictures, PicturesAt}
-use Rattle.office_engine.specs.Keeping.{IsKeptAt, IsKeptBy, IsLeftAt, IsLeftOf}
-use Rattle.office_engine.specs.Upgrading.{Upgrades, UpgradeLasts, TakesUp, StaysAt, LeavesAt, IsUpgradeOf}
+use Rattle.office_engine.specs.Keeping.{IsKeptAt, IsLeftAt, IsLeftOf}
+use Rattle.office_engine.specs.Upgrading.{Upgrades, UpgradeLasts, TakesUp, StaysAt, GoesBackAt, LeavesAt, IsUpgradeOf}
 
 -- the rows by which a version pictures a history, with the contents of a database
 abbrev rows_of : TableVersion → History → Database → AllRows
 rows_of version h db = record { tables = picture (version_number version) h; contents = contents_of db; references = references_of db }
+
+-- the row of the office that the version writes tells no other
+tells_no_other : (version : TableVersion) (h : History) (db : Database) → rows.TellsNoOther version (rows_of version h db)
+tells_no_other version h db told is = one_told (office_row (version_number version) h) told is
+  where
+    one_told : (o : OfficeRow) (seen : ℤ) → option_map (λ (x : OfficeRow). x.version) (find is_known (o ∷ [])) ≡ Some seen → seen ≡ o.version
+    one_told o seen e = elim (cases_Bool (is_known o)) [
+      | inl known ↦ let it : Some o.version ≡ Some seen = rw known at e in cc
+      | inr unknown ↦ absurd (let it : None ≡ Some seen = rw unknown at e in cc)
+    ]
 
 -- the tables of a legal history tell their version
 tells : (version : TableVersion) (h : History) (db : Database) → IsLegal h → rows.Tells version (rows_of version h db)
@@ -65,29 +76,32 @@ module _ (version : TableVersion) (h : History) (old : Database) (pictured : Pic
   left_still : (left : Trees) → rows.IsLeftAt version (rows_of version h old) left → IsLeftAt version h left
   left_still left it = (it.0, pictures_still it.0 it.1, it.2)
 
--- what was kept, as rows
+-- what was kept, and what was left, as rows
 kept_rows : (version : TableVersion) (h : History) (old : State) → IsKeptAt version h old → rows.IsKeptAt version (rows_of version h old.now) old
 kept_rows version h old kept is_open = (becomes version h old.now (kept is_open).0, (kept is_open).1)
 
+left_rows : (version : TableVersion) (h : History) (left : Trees) (it : IsLeftAt version h left) → rows.IsLeftAt version (rows_of version h it.0) left
+left_rows version h left it = (it.0, becomes version h it.0 it.1, it.2)
+
 pub upgrades : (old new : State) → IsTrue old.is_open → rows.Upgrades old new → Upgrades old new
-upgrades old new was_open made version h legal kept is_open =
-    let it = made version (rows_of version h old.now) (tells version h old.now legal) (kept_rows version h old kept) is_open in
+upgrades old new was_open made version h kept is_open =
+    let it = made version (rows_of version h old.now) (tells_no_other version h old.now) (kept_rows version h old kept) is_open in
     (pictures_new version h old.now (kept was_open).0 new.now it.0, it.1)
 
 pub takes_up : (old new : State) → rows.TakesUp old new → TakesUp old new
-takes_up old new made version h legal left is_open =
-    let it = made version (rows_of version h left.0) (tells version h left.0 legal) (left.0, becomes version h left.0 left.1, left.2) is_open in
+takes_up old new made version h left is_open =
+    let it = made version (rows_of version h left.0) (tells_no_other version h left.0) (left_rows version h old.now.trees left) is_open in
     (pictures_new version h left.0 left.1 new.now it.0, it.1)
 
 pub lasts : (old new : State) → rows.UpgradeLasts old new → UpgradeLasts old new
-lasts old new made version h legal was_open kept left may =
-    left_new version h old.now (kept was_open).0 left (made version (rows_of version h old.now) (tells version h old.now legal) was_open (kept_rows version h old kept) left may)
+lasts old new made version h was_open found left may =
+    left_new version h found.0 found.1 left (made version (rows_of version h found.0) (tells_no_other version h found.0) was_open (left_rows version h old.now.trees found) left may)
 
 pub leaves : (old new : State) → rows.LeavesOffice old new → LeavesAt old new
-leaves old new made version h legal was_open kept left may =
-    elim (made version (rows_of version h old.now) (tells version h old.now legal) was_open (kept_rows version h old kept) left may) [
-      | inl still ↦ inl (left_still version h old.now (kept was_open).0 left still)
-      | inr renewed ↦ inr (left_new version h old.now (kept was_open).0 left renewed)
+leaves old new made version h was_open found left may =
+    elim (made version (rows_of version h found.0) (tells_no_other version h found.0) was_open (left_rows version h old.now.trees found) left may) [
+      | inl still ↦ inl (left_still version h found.0 found.1 left still)
+      | inr renewed ↦ inr (left_new version h found.0 found.1 left renewed)
     ]
 
 pub stays : (old new : State) → KeepsTables old new → StaysAt old new
@@ -96,11 +110,16 @@ stays old new same version h kept is_open =
     let before = kept it.0 in
     (subst (λ (d : Database). PicturesAt version h d) (sym it.1) before.0, it.2 ∙ sym it.1)
 
+pub goes_back : (old new : State) → rows.GoesBack old new → GoesBackAt old new
+goes_back old new back version h left is_open =
+    let it = back version (rows_of version h left.0) (left_rows version h old.now.trees left) is_open in
+    (pictures_still version h left.0 left.1 new.now it.0, it.1)
+
 pub upgrade_survives : (old new : State) → Survives old new (rows.IsUpgrade old.now) → Survives old new (IsUpgradeOf old.now)
-upgrade_survives old new = survives_weaker old new _ _ (λ clean left made version h legal pictured.
-    left_new version h old.now pictured left (made version (rows_of version h old.now) (record { becomes = becomes version h old.now pictured; told = tells version h old.now legal })))
+upgrade_survives old new = survives_weaker old new _ _ (λ clean left made version h pictured.
+    left_new version h old.now pictured left (made.leaves version (rows_of version h old.now) (record { becomes = becomes version h old.now pictured; told = tells_no_other version h old.now })))
 
 -- of an office of a known version, and of what was left of one, nothing but a failure is said
 pub left_fails : (stopped : TableFault) (old : State) → ((version : TableVersion) (all : AllRows) → rows.Tells version all → rows.IsLeftAt version all old.now.trees → IsFailure stopped)
     → (version : TableVersion) (h : History) → IsLegal h → IsLeftAt version h old.now.trees → IsFailure stopped
-left_fails stopped old fails version h legal left = fails version (rows_of version h left.0) (tells version h left.0 legal) (left.0, becomes version h left.0 left.1, left.2)
+left_fails stopped old fails version h legal left = fails version (rows_of version h left.0) (tells version h left.0 legal) (left_rows version h old.now.trees left)

@@ -5,32 +5,39 @@ use Rattle.sqlite.specs.Effect.{Database}
 use Rattle.sqlite.specs.State.{State}
 use Rattle.office_tables.specs.declared.version.TableVersion.{TableVersion}
 use Rattle.office_history.specs.Histories.{History}
-use Rattle.office_history.specs.Runs.{IsLegal}
 use Rattle.office_asking.specs.Pictures.{PicturesAt}
 use Rattle.office_engine.specs.Keeping.{IsKeptAt, IsKeptBy, IsLeftAt, IsLeftOf}
 
--- whichever legal history was kept, by tables of any known version, it is kept by those of this one
+-- whichever history was kept, by tables of any known version, it is kept by those of this one
 abbrev pub Upgrades : State → State → Type 0
-Upgrades old new = (version : TableVersion) (h : History) → IsLegal h → IsKeptAt version h old → IsKeptBy h new
+Upgrades old new = (version : TableVersion) (h : History) → IsKeptAt version h old → IsKeptBy h new
 
--- and a crash leaves that, and nothing else
+-- whichever a crash may have left, it is taken up, with the tables of this version
+abbrev pub TakesUp : State → State → Type 0
+TakesUp old new = (version : TableVersion) (h : History) → IsLeftAt version h old.now.trees → IsKeptBy h new
+
+-- whichever stood there, kept or left by a crash, a crash leaves it by the tables of this version, and leaves nothing else
 abbrev pub UpgradeLasts : State → State → Type 0
-UpgradeLasts old new = (version : TableVersion) (h : History) → IsLegal h → IsTrue old.is_open → IsKeptAt version h old
+UpgradeLasts old new = (version : TableVersion) (h : History) → IsTrue old.is_open → IsLeftAt version h old.now.trees
     → (left : Trees) → new.may_leave left → IsLeftOf h left
 
--- what a crash may have left of it is taken up, with the tables of this version
-abbrev pub TakesUp : State → State → Type 0
-TakesUp old new = (version : TableVersion) (h : History) → IsLegal h → IsLeftAt version h old.now.trees → IsKeptBy h new
+-- what a crash leaves of an upgrade: the history, by the tables that it had, or by those of this version
+abbrev pub IsLeftOfUpgrade : TableVersion → History → Trees → Type 0
+IsLeftOfUpgrade version h left = IsLeftAt version h left ⊎ IsLeftOf h left
+
+-- whichever stood there, at every exit a crash leaves it so
+abbrev pub LeavesAt : State → State → Type 0
+LeavesAt old new = (version : TableVersion) (h : History) → IsTrue old.is_open → IsLeftAt version h old.now.trees
+    → (left : Trees) → new.may_leave left → IsLeftOfUpgrade version h left
 
 -- whichever history was kept, it still is, by the tables that it had
 abbrev pub StaysAt : State → State → Type 0
 StaysAt old new = (version : TableVersion) (h : History) → IsKeptAt version h old → IsKeptAt version h new
 
--- at every exit a crash leaves the history that was kept, by the tables that it had, or by those of this version
-abbrev pub LeavesAt : State → State → Type 0
-LeavesAt old new = (version : TableVersion) (h : History) → IsLegal h → IsTrue old.is_open → IsKeptAt version h old
-    → (left : Trees) → new.may_leave left → IsLeftAt version h left ⊎ IsLeftOf h left
+-- whichever a crash may have left, it is kept by the tables that it had
+abbrev pub GoesBackAt : State → State → Type 0
+GoesBackAt old new = (version : TableVersion) (h : History) → IsLeftAt version h old.now.trees → IsKeptAt version h new
 
--- whichever legal history the database pictured, a crash leaves it by the tables of this version
+-- whichever history the database pictured, a crash leaves it by the tables of this version
 abbrev pub IsUpgradeOf : Database → Trees → Type 0
-IsUpgradeOf db left = (version : TableVersion) (h : History) → IsLegal h → PicturesAt version h db → IsLeftOf h left
+IsUpgradeOf db left = (version : TableVersion) (h : History) → PicturesAt version h db → IsLeftOf h left

@@ -20,10 +20,12 @@ ghost use Rattle.office_history.specs.Histories.{History};
 ghost use Rattle.office_history.specs.Answers.{after};
 ghost use Rattle.office_history.specs.Runs.{IsLegal, Item, new_history};
 ghost use Rattle.office_recovery.specs.Found.{HoldsWhere, PicksUp};
-ghost use Rattle.office_tables.specs.Versions.{version_number};
+ghost use Rattle.office_tables.specs.Versions.{IsOfficeAt, tables_at, version_number};
+ghost use Rattle.office_tables.specs.Moving.{AllRows, BecomesAt};
 ghost use Rattle.office_tables.specs.declared.version.TableVersion.{TableVersion};
-ghost use Rattle.office_upgrade.specs.Upgrading.{HasUnknownVersion};
-ghost use Rattle.office_engine.specs.Upgrading.{IsUpgradeOf, LeavesAt, StaysAt, TakesUp, UpgradeLasts, Upgrades};
+ghost use Rattle.office_upgrade.specs.Upgrading as rows;
+ghost use Rattle.office_upgrade.specs.Upgrading.{HasUnknownVersion, IsUpgrade, NewestSurvives, Tells, TellsKnown, TellsUnknown};
+ghost use Rattle.office_engine.specs.Upgrading.{GoesBackAt, IsUpgradeOf, LeavesAt, StaysAt, TakesUp, UpgradeLasts, Upgrades};
 ghost use Rattle.office_engine.specs.Keeping.{AllStayShut, AreToldDue, CommitsRun, CommitsTo, CountsStock, InTurn, InstallLasts, Installs, IsKeptBy, IsKeptOfRun, IsLeftAt, IsLeftOf, IsLeftOfEither, IsLeftOfRun, IsToldByRows, IsToldStock, Lasts, LeavesEither, LeavesInstalled, LeavesKept, LeavesMade, LeavesRun, ListsDue, Runs, Serves, StaysShut, after_item, is_accepted, after_policy};
 
 use crate::installing::install;
@@ -146,24 +148,51 @@ impl<S: Alter> Office<S> {
         ensures found { IfOk result (λ office. HasCleanDisk (state S.Store office) → TakesUp (state S.Store conn) (state S.Store office)) }
         ensures newest { IfOk result (λ office. HasCleanDisk (state S.Store office) → IsOffice (state S.Store conn).now
             → version_of (tables_of (state S.Store conn).now) ≡ Some this_version → KeepsTables (state S.Store conn) (state S.Store office)) }
+        ensures newest_survives { IfOk result (λ office. NewestSurvives (state S.Store conn) (state S.Store office)) }
         ensures open { IfOk result (λ office. HasCleanDisk (state S.Store office) → IsTrue (state S.Store conn).is_open) }
         ensures version { IfOk result (λ office. HasCleanDisk (state S.Store office) → IsTrue (has_office (state S.Store conn).now.schema)
             × ((known : TableVersion) × HasVersion (state S.Store conn).now (version_number known))) }
+        ensures known_as_one { IfOk result (λ office. HasCleanDisk (state S.Store office) → (version : TableVersion)
+            → IsOfficeAt version (state S.Store conn).now → TellsKnown (tables_at version (state S.Store conn).now)) }
         ensures survives { IfOk result (λ office. Survives (state S.Store conn) (state S.Store office) (IsUpgradeOf (state S.Store conn).now)) }
         ensures durable { IfOk result (λ office. HasCleanDisk (state S.Store office) → UpgradeLasts (state S.Store conn) (state S.Store office)) }
         ensures leaves { IfOk result (λ office. HasCleanDisk (state S.Store office) → LeavesAt (state S.Store conn) (state S.Store office)) }
+        // The same of whatever rows an office of a known version has, where no history pictures them.
+        ensures upgraded_rows { IfOk result (λ office. HasCleanDisk (state S.Store office)
+            → rows.Upgrades (state S.Store conn) (state S.Store office)) }
+        ensures found_rows { IfOk result (λ office. HasCleanDisk (state S.Store office)
+            → rows.TakesUp (state S.Store conn) (state S.Store office)) }
+        ensures survives_rows { IfOk result (λ office. Survives (state S.Store conn) (state S.Store office) (IsUpgrade (state S.Store conn).now)) }
+        ensures durable_rows { IfOk result (λ office. HasCleanDisk (state S.Store office)
+            → rows.UpgradeLasts (state S.Store conn) (state S.Store office)) }
 
         ensures refused_same { IfErr result (λ e. HasCleanDisk (state S.Store e.0) → KeepsTables (state S.Store conn) (state S.Store e.0)) }
         ensures refused { IfErr result (λ e. HasCleanDisk (state S.Store e.0) → StaysAt (state S.Store conn) (state S.Store e.0)) }
+        ensures goes_back { IfErr result (λ e. HasCleanDisk (state S.Store e.0) → GoesBackAt (state S.Store conn) (state S.Store e.0)) }
         ensures refused_outside { IfErr result (λ e. (state S.Store e.0).in_transaction ≡ false) }
         ensures refused_survives { IfErr result (λ e. Survives (state S.Store conn) (state S.Store e.0) (IsUpgradeOf (state S.Store conn).now)) }
+        ensures refused_survives_rows { IfErr result (λ e. Survives (state S.Store conn) (state S.Store e.0) (IsUpgrade (state S.Store conn).now)) }
+        ensures refused_newest_survives { IfErr result (λ e. NewestSurvives (state S.Store conn) (state S.Store e.0)) }
+        // `NotAnOffice` and `OtherVersion` leave no other trees than those that were there.
+        ensures told_survives { IfErr result (λ e. (faults.IsFailure e.1 → ⊥) → Survives (state S.Store conn) (state S.Store e.0) (λ _. ⊥)) }
         ensures refused_leaves { IfErr result (λ e. HasCleanDisk (state S.Store e.0) → LeavesAt (state S.Store conn) (state S.Store e.0)) }
         ensures not_office { IfErr result (λ e. HasCleanDisk (state S.Store e.0) → e.1 ≡ NotAnOffice → opening.NotAnOffice (state S.Store conn).now) }
         ensures other_version { IfErr result (λ e. HasCleanDisk (state S.Store e.0) → e.1 ≡ OtherVersion → HasUnknownVersion (state S.Store conn).now) }
         ensures no_table { has_office (state S.Store conn).now.schema ≡ false → result ≡ Err (conn, NotAnOffice) }
-        // An office of one of these versions, and what a crash left of one, is never told to be none, or one of another version.
+        // Where the tables are an office's, it says so of their own version.
+        ensures unknown { IfErr result (λ e. HasCleanDisk (state S.Store e.0) → (version : TableVersion) → IsOfficeAt version (state S.Store conn).now
+            → e.1 ≡ NotAnOffice → version_of (tables_at version (state S.Store conn).now) ≡ None) }
+        ensures known_as_other { IfErr result (λ e. HasCleanDisk (state S.Store e.0) → (version : TableVersion) → IsOfficeAt version (state S.Store conn).now
+            → e.1 ≡ OtherVersion → TellsUnknown (tables_at version (state S.Store conn).now)) }
+        // An office of one of these versions, and what a crash left of one, is never told to be none, or one of another version:
+        // whatever its rows are, where they tell their version.
         ensures known { IfErr result (λ e. HasCleanDisk (state S.Store e.0) → IsTrue (state S.Store conn).is_open
             → (version : TableVersion) (h : History) → IsLegal h → IsLeftAt version h (state S.Store conn).now.trees → faults.IsFailure e.1) }
+        ensures failure { IfErr result (λ e. HasCleanDisk (state S.Store e.0) → (version : TableVersion) (all : AllRows)
+            → BecomesAt version (state S.Store conn).now all → Tells version all → faults.IsFailure e.1) }
+        ensures left_failure { IfErr result (λ e. HasCleanDisk (state S.Store e.0) → IsTrue (state S.Store conn).is_open
+            → (version : TableVersion) (all : AllRows) → Tells version all → rows.IsLeftAt version all (state S.Store conn).now.trees
+            → faults.IsFailure e.1) }
     {
         match office_upgrade::upgrade_office(conn) {
             Ok(conn) => Ok(Office { conn }),

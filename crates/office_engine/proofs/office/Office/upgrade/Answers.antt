@@ -1,6 +1,6 @@
 use Rattle.std.proofs.Common.{◌≡◌}
 use Rattle.sqlite.specs.Held.{state}
-use Rattle.office_engine.proofs.Upgraded.{upgrades, takes_up, lasts, leaves, stays, upgrade_survives, left_fails}
+use Rattle.office_engine.proofs.Upgraded.{upgrades, takes_up, lasts, leaves, stays, goes_back, upgrade_survives, left_fails}
 use Rattle.office_engine.proofs.office.Office.upgrade.Goals as goal
 
 pub returns-in-Ok-clause-upgraded : goal.returns-in-Ok-clause-upgraded
@@ -20,6 +20,9 @@ returns-in-Ok-clause-survives g c = upgrade_survives (state g.S.Store c.args.con
 
 pub returns-in-Err-clause-refused : goal.returns-in-Err-clause-refused
 returns-in-Err-clause-refused g c clean = stays (state g.S.Store c.args.conn) (state g.S.Store c.in-Err.handed_back.0) (c.in-Err.ensures.refused_same clean)
+
+pub returns-in-Err-clause-goes_back : goal.returns-in-Err-clause-goes_back
+returns-in-Err-clause-goes_back g c clean = goes_back (state g.S.Store c.args.conn) (state g.S.Store c.in-Err.handed_back.0) (c.in-Err.ensures.goes_back clean)
 
 pub returns-in-Err-clause-refused_leaves : goal.returns-in-Err-clause-refused_leaves
 returns-in-Err-clause-refused_leaves g c clean = leaves (state g.S.Store c.args.conn) (state g.S.Store c.in-Err.handed_back.0) (c.in-Err.ensures.refused_leaves clean)
