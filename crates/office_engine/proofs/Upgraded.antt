@@ -3,7 +3,9 @@ use Rattle.std.proofs.Common.{◌≡◌, ℤ, List, [], ◌∷◌, find, option_
 use Rattle.std.proofs.lemmas.Bool.{cases_Bool}
 use Rattle.sqlite.specs.Tree.{Trees}
 use Rattle.sqlite.specs.Effect.{Database}
+use Rattle.sqlite.specs.Store.{Ghosts}
 use Rattle.sqlite.specs.State.{State, Survives}
+use Rattle.sqlite.specs.Held.{Held, state}
 use Rattle.sqlite.proofs.StateLemmas.{survives_weaker}
 use Rattle.office_rows.specs.Rows.{OfficeRow, is_known, version_of, this_version}
 use Rattle.office_tables.specs.Tables.{contents_of}
@@ -22,8 +24,8 @@ use Rattle.office_history.specs.Pictures.{office_row, picture}
 use Rattle.office_history.specs.Runs.{IsLegal}
 use Rattle.office_history.proofs.RangeLemmas.{limits_hold}
 use Rattle.office_asking.specs.Pictures.{Pictures, PicturesAt}
-use Rattle.office_engine.specs.Keeping.{IsKeptAt, IsLeftAt, IsLeftOf}
-use Rattle.office_engine.specs.Upgrading.{Upgrades, UpgradeLasts, TakesUp, StaysAt, GoesBackAt, LeavesAt, IsUpgradeOf}
+use Rattle.office_engine.specs.Keeping.{IsKeptAt, IsKeptBy, IsLeftAt, IsLeftOf}
+use Rattle.office_engine.specs.Upgrading.{Upgrades, UpgradeLasts, TakesUp, StaysAt, GoesBackAt, LeavesAt, IsLeftOfUpgrade, IsUpgradeOf, StoppedInTurn}
 
 -- the rows by which a version pictures a history, with the contents of a database
 abbrev rows_of : TableVersion → History → Database → AllRows
@@ -123,3 +125,26 @@ upgrade_survives old new = survives_weaker old new _ _ (λ clean left made versi
 pub left_fails : (stopped : TableFault) (old : State) → ((version : TableVersion) (all : AllRows) → rows.Tells version all → rows.IsLeftAt version all old.now.trees → IsFailure stopped)
     → (version : TableVersion) (h : History) → IsLegal h → IsLeftAt version h old.now.trees → IsFailure stopped
 left_fails stopped old fails version h legal left = fails version (rows_of version h left.0) (tells version h left.0 legal) (left_rows version h old.now.trees left)
+
+-- ---- upgrades that are stopped
+
+-- what was left of one goes on
+pub stopped_goes_on : (again done : State) (version : TableVersion) (h : History) → TakesUp again done → IsLeftOfUpgrade version h again.now.trees → IsKeptBy h done
+stopped_goes_on again done version h takes (inl before) = takes version h before
+stopped_goes_on again done version h takes (inr after) = takes Fifth h after
+
+-- one more leaves what one leaves
+stopped_again : (begun stopped : State) (version : TableVersion) (h : History) → IsTrue begun.is_open → LeavesAt begun stopped → IsLeftOfUpgrade version h begun.now.trees
+    → (left : Trees) → stopped.may_leave left → IsLeftOfUpgrade version h left
+stopped_again begun stopped version h was_open leaves_at (inl before) left may = leaves_at version h was_open before left may
+stopped_again begun stopped version h was_open leaves_at (inr after) left may = elim (leaves_at Fifth h was_open after left may) [ inl it ↦ inr it | inr it ↦ inr it ]
+
+pub stopped_in_turn : {S : Type 0} (g : Ghosts S) (first : Trees) (stops : List (Held S × Held S)) (left : Trees) (version : TableVersion) (h : History)
+    → StoppedInTurn g first stops left → IsLeftOfUpgrade version h first → IsLeftOfUpgrade version h left
+stopped_in_turn g first [] left version h same it = subst (IsLeftOfUpgrade version h) (sym same) it
+stopped_in_turn g first ((begun, stopped) ∷ more) left version h (was_open, is, leaves_at, between, may, rest) it =
+    stopped_in_turn g between more left version h rest (stopped_again (state g begun) (state g stopped) version h was_open leaves_at (subst (IsLeftOfUpgrade version h) (sym is) it) between may)
+
+-- what was kept stands in the trees
+pub kept_stands : (version : TableVersion) (h : History) (old : State) → IsTrue old.is_open → IsKeptAt version h old → IsLeftAt version h old.now.trees
+kept_stands version h old was_open kept = (old.now, (kept was_open).0, refl)

@@ -1,8 +1,10 @@
 -- What an upgrade makes of an office whose tables may be of an older version. `old` is the store before it and `new` the store after it.
-use Rattle.std.specs.Prelude.{◌⊎◌, IsTrue}
+use Rattle.std.specs.Prelude.{◌⊎◌, ◌≡◌, IsTrue, List, [], ◌∷◌}
 use Rattle.sqlite.specs.Tree.{Trees}
 use Rattle.sqlite.specs.Effect.{Database}
+use Rattle.sqlite.specs.Store.{Ghosts}
 use Rattle.sqlite.specs.State.{State}
+use Rattle.sqlite.specs.Held.{Held, state}
 use Rattle.office_tables.specs.declared.version.TableVersion.{TableVersion}
 use Rattle.office_history.specs.Histories.{History}
 use Rattle.office_asking.specs.Pictures.{PicturesAt}
@@ -41,3 +43,11 @@ GoesBackAt old new = (version : TableVersion) (h : History) → IsLeftAt version
 -- whichever history the database pictured, a crash leaves it by the tables of this version
 abbrev pub IsUpgradeOf : Database → Trees → Type 0
 IsUpgradeOf db left = (version : TableVersion) (h : History) → PicturesAt version h db → IsLeftOf h left
+
+-- upgrades that were begun over the first store of each pair and stopped as the second: each was begun over trees that a crash may leave of
+-- the one before it, and these are the trees that a crash leaves of the last
+abbrev pub StoppedInTurn : {S : Type 0} → Ghosts S → Trees → List (Held S × Held S) → Trees → Type 0
+StoppedInTurn g first [] left = left ≡ first
+StoppedInTurn g first ((begun, stopped) ∷ more) left =
+    IsTrue (state g begun).is_open × ((state g begun).now.trees ≡ first) × LeavesAt (state g begun) (state g stopped)
+    × (between : Trees) × (state g stopped).may_leave between × StoppedInTurn g between more left

@@ -1,15 +1,18 @@
 //! Laws of the office: those of its histories, and what its tables tell of them.
 
-ghost use Rattle.std.specs.Prelude.{◌≡◌, ◌↔◌, ◌++◌, ℕ, List, [], ◌∷◌, map, pos};
+ghost use Rattle.std.specs.Prelude.{◌≡◌, ◌↔◌, ◌++◌, ℕ, IsTrue, List, [], ◌∷◌, map, pos};
 ghost use Rattle.std.specs.List.{AllByRecursion};
 ghost use Rattle.std.specs.List.Sorted.{IsPermutation};
 ghost use Rattle.jiff.specs.Types.{Date};
 ghost use Rattle.sqlite.specs.Effect.{Database};
+ghost use Rattle.sqlite.specs.Held.{Held, state};
+ghost use Rattle.sqlite.specs.Tree.{Trees};
 ghost use Rattle.office_core.specs.declared.answer.Answer.{Answer};
 ghost use Rattle.office_core.specs.declared.request.Request.{Request};
 ghost use Rattle.office_rows.specs.Rows.{Tables, empty_office, this_version};
 ghost use Rattle.office_tables.specs.Tables.{Becomes, contents_of, tables_of};
 ghost use Rattle.office_tables.specs.Contents.{IsMarked, KeepsOnce};
+ghost use Rattle.office_tables.specs.declared.version.TableVersion.{TableVersion};
 ghost use Rattle.office_history.specs.Histories.{History};
 ghost use Rattle.office_history.specs.Answers.{answer};
 ghost use Rattle.office_history.specs.Pictures.{due_rows};
@@ -19,7 +22,8 @@ ghost use Rattle.office_history.specs.Runs.{IsFailure, IsLater, IsLegal, Item, R
 ghost use Rattle.office_asking.specs.Pictures.{Pictures};
 ghost use Rattle.office_serving.specs.ListsByRows.{AreDueIn, IsStockIn};
 ghost use Rattle.office_engine.specs.ByRows.{RowsTell};
-ghost use Rattle.office_engine.specs.Keeping.{IsFoundAfter};
+ghost use Rattle.office_engine.specs.Keeping.{IsFoundAfter, IsKeptAt, IsKeptBy, IsLeftAt};
+ghost use Rattle.office_engine.specs.Upgrading.{IsLeftOfUpgrade, LeavesAt, StoppedInTurn, TakesUp};
 
 pub use office_history::laws::{
     a_class_that_gets_its_old_years_back_has_its_old_due_days,
@@ -34,6 +38,7 @@ pub use office_history::laws::{
     what_may_be_destroyed_is_on_the_due_list,
 };
 use office_tables::laws::contents_are_those_of_files;
+use sqlite::Alter;
 
 /// What `create` of the tables leaves pictures the history of a new office with those limits, and
 /// nothing else does.
@@ -92,4 +97,19 @@ pub fn accepted_changes_are_found()
     ensures exact { (h found : History) (items : List Item) (given : List Answer) (last : Answer)
         → IsFoundAfter h items (given ++ last ∷ []) found
         → (IsFailure last → ⊥) → Run h items (given ++ last ∷ []) found }
+{}
+
+/// What a crash leaves of an upgrade, whenever it was stopped, opened again and upgraded again, is the same history. It was
+/// kept, by tables of any known version, or was itself left by a crash; and the upgrade may be stopped any number of times
+/// before one ends.
+pub fn a_stopped_upgrade_goes_on<S: Alter>()
+    ensures once { (old stopped again done : Held S) (version : TableVersion) (h : History)
+        → IsTrue (state S.Store old).is_open → IsKeptAt version h (state S.Store old) → LeavesAt (state S.Store old) (state S.Store stopped)
+        → (state S.Store stopped).may_leave (state S.Store again).now.trees → TakesUp (state S.Store again) (state S.Store done)
+        → IsKeptBy h (state S.Store done) }
+    ensures often { (first left : Trees) (stops : List (Held S × Held S)) (version : TableVersion) (h : History)
+        → IsLeftAt version h first → StoppedInTurn S.Store first stops left → IsLeftOfUpgrade version h left }
+    ensures done { (again done : Held S) (version : TableVersion) (h : History)
+        → IsLeftOfUpgrade version h (state S.Store again).now.trees → TakesUp (state S.Store again) (state S.Store done)
+        → IsKeptBy h (state S.Store done) }
 {}
