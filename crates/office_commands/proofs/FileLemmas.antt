@@ -72,7 +72,7 @@ pub made_where_none : {A E : Type 0} (r : Result A E) (shown : A → State) (ima
     → (HasCleanDisk s → Opens s × IsLive s) → (HasCleanDisk s → FindsIn image s)
     → IfOk r (λ o. HasCleanDisk (shown o) → GoesOnFrom (λ version h. HoldsWhere (IsLeftAt version h) image) (shown o))
 made_where_none (Err e) shown image s cleans empty opened found = tt
-made_where_none (Ok o) shown image s cleans empty opened found = λ clean version h legal holds.
+made_where_none (Ok o) shown image s cleans empty opened found = λ clean version h holds.
     let was = cleans clean in
     let left = found_of image s (opened was).0 (opened was).1 (found was) version h holds in
     let never : false ≡ true = empty (shows_more s (opened was).1 (opened was).0.is_open version h left) in
@@ -84,8 +84,8 @@ pub taken_as_held : {A E : Type 0} (r : Result A E) (shown : A → State) (image
     → (HasCleanDisk s → Opens s × IsLive s) → (HasCleanDisk s → FindsIn image s)
     → IfOk r (λ o. HasCleanDisk (shown o) → GoesOnFrom (λ version h. HoldsWhere (IsLeftAt version h) image) (shown o))
 taken_as_held (Err e) shown image s cleans goes_on opened found = tt
-taken_as_held (Ok o) shown image s cleans goes_on opened found = λ clean version h legal holds.
-    let was = cleans clean in goes_on clean version h legal (found_of image s (opened was).0 (opened was).1 (found was) version h holds)
+taken_as_held (Ok o) shown image s cleans goes_on opened found = λ clean version h holds.
+    let was = cleans clean in goes_on clean version h (found_of image s (opened was).0 (opened was).1 (found was) version h holds)
 
 -- an office that is made, where one may be made
 pub opened_as_made : {D E : Type 0} (g : Disks D) (r : Result (Held (FileStore D g)) E) (image : Image) (s : State) (makes : Bool) → makes ≡ true

@@ -56,7 +56,7 @@ pub files_lead : {D : Type 0} (g : Disks D) (first : Image) (makes : Bool) (deed
 files_lead g first makes deeds office clean version h legal holds =
     let closed = office.closed in
     let it = closed.copied clean in
-    let kept = office.opened.found (deeds_clean over_files deeds office.old closed.new closed.done it.was_clean) version h legal holds in
+    let kept = office.opened.found (deeds_clean over_files deeds office.old closed.new closed.done it.was_clean) version h holds in
     let at = deeds_lead over_files deeds office.old closed.new closed.done it.was_clean h legal kept in
     (at.0, at.1, at.2.legal, held_of (image_of g office.files) (file_state closed.new) it.was_open it.seen.both at.0 at.2)
 

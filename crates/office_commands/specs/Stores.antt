@@ -32,9 +32,9 @@ use Rattle.office_commands.specs.declared.fault.CommandFault.{CommandFault}
 abbrev pub made_office : History
 made_office = new_history max_limit max_limit
 
--- whichever legal history was left so, by tables of any known version, is kept
+-- whichever history was left so, by tables of any known version, is kept
 abbrev pub GoesOnFrom : (TableVersion → History → Type 0) → State → Type 0
-GoesOnFrom Left s = (version : TableVersion) (h : History) → IsLegal h → Left version h → IsKeptBy h s
+GoesOnFrom Left s = (version : TableVersion) (h : History) → Left version h → IsKeptBy h s
 
 -- An office is had over a connection: it is made there, where `is_new`, and then the database was empty; or it was there. On an honest disk it keeps then
 -- the new history, or whichever was left there.
