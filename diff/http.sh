@@ -81,3 +81,5 @@ for section in 'Each route by an example' 'What the desk refuses' 'What the offi
 done
 [ "$asked" -ge 51 ] || { echo "docs/HTTP.md has $asked examples, and 51 or more are wanted" >&2; exit 1; }
 echo "http: $asked examples of docs/HTTP.md, answered as the page says"
+# Where Python has what this needs, the page and the program are compared with docs/openapi.yaml too.
+python3 "$top/diff/openapi.py" "$program" || [ $? -eq 3 ]
