@@ -30,13 +30,17 @@ struct Step {
     answer: &'static [u8],
 }
 
-/// The session installs this policy, and then takes its steps. `anna` may do all. To `carl` a rule
-/// denies to define a class; the rest is denied by default.
-static POLICY: &str =
-    "version = 1\n\n[callers]\nanna = \"archivist\"\ncarl = \"clerk\"\n\n[[rule]]\neffect = \"allow\"\nrole = \"archivist\"\naction = \"*\"\ncollection = \"*\"\nclass = \"*\"\n\n[[rule]]\neffect = \"deny\"\nrole = \"clerk\"\naction = \"class\"\ncollection = \"*\"\nclass = \"*\"\n";
+/// The session installs these policies, one in the place of the other, and then takes its steps. Under the first `anna` may
+/// do all, and to `carl` a rule denies to define a class; the rest is denied by default. Under the second, whose rules have
+/// days, `anna` may do all from the first day of the session to the last, but destroy nothing before the last.
+static POLICIES: [&str; 2] = [
+    "version = 1\n\n[callers]\nanna = \"archivist\"\ncarl = \"clerk\"\n\n[[rule]]\neffect = \"allow\"\nrole = \"archivist\"\naction = \"*\"\ncollection = \"*\"\nclass = \"*\"\n\n[[rule]]\neffect = \"deny\"\nrole = \"clerk\"\naction = \"class\"\ncollection = \"*\"\nclass = \"*\"\n",
+    "version = 2\n\n[callers]\nanna = \"archivist\"\ncarl = \"clerk\"\n\n[[rule]]\neffect = \"deny\"\nrole = \"archivist\"\naction = \"dispose\"\ncollection = \"*\"\nclass = \"*\"\nlast = \"2029-12-31\"\n\n[[rule]]\neffect = \"allow\"\nrole = \"archivist\"\naction = \"*\"\ncollection = \"*\"\nclass = \"*\"\nfirst = \"2024-03-01\"\nlast = \"2030-01-01\"\n\n[[rule]]\neffect = \"deny\"\nrole = \"clerk\"\naction = \"class\"\ncollection = \"*\"\nclass = \"*\"\n",
+];
 
-/// Two bags with two files alike, under a class that is revised, and holds of one and of both.
-static STEPS: [Step; 10] = [
+/// Bags with two files alike, under a class that is revised, and holds of one, of their collection and of their class; the
+/// last deposit comes later than those.
+static STEPS: [Step; 13] = [
     Step {
         day: "2024-03-01",
         asked: Asked::Collection("maps"),
@@ -99,6 +103,26 @@ static STEPS: [Step; 10] = [
         answer: b"HTTP/1.1 201 Created\r\nContent-Type: application/json\r\nContent-Length: 10\r\nConnection: close\r\n\r\n{\"hold\":2}",
     },
     Step {
+        day: "2024-03-02",
+        asked: Asked::HoldClass("y1"),
+        told: b"hold 3",
+        request: b"POST /holds HTTP/1.1\r\nDepot-Caller: anna\r\nContent-Length: 32\r\n\r\n{\"class\":\"y1\",\"matter\":\"Case 7\"}",
+        answer: b"HTTP/1.1 201 Created\r\nContent-Type: application/json\r\nContent-Length: 10\r\nConnection: close\r\n\r\n{\"hold\":3}",
+    },
+    Step {
+        day: "2024-03-05",
+        asked: Asked::Deposit {
+            collection: "maps",
+            class: "y1",
+            accession: "A-3",
+            closed: "2024-02-29",
+            bag: BAG_0_97,
+        },
+        told: b"deposit 3",
+        request: b"POST /deposits?collection=maps&class=y1&accession=A-3&closed=2024-02-29 HTTP/1.1\r\nDepot-Caller: anna\r\nContent-Length: 211\r\n\r\nBAGSET 1\nFILE 9 55\nbagit.txtBagIt-Version: 0.97\nTag-File-Character-Encoding: UTF-8\n\nFILE 6 3\ndata/aabc\nFILE 19 73\nmanifest-sha256.txtba7816bf8f01cfea414140de5dae2223b00361a396177a9cb410ff61f20015ad  data/a\n\nEND\n",
+        answer: b"HTTP/1.1 201 Created\r\nContent-Type: application/json\r\nContent-Length: 13\r\nConnection: close\r\n\r\n{\"deposit\":3}",
+    },
+    Step {
         day: "2024-03-05",
         asked: Asked::Release(2),
         told: b"released 2 2024-03-05",
@@ -113,6 +137,13 @@ static STEPS: [Step; 10] = [
         answer: b"HTTP/1.1 200 OK\r\nContent-Type: application/json\r\nContent-Length: 34\r\nConnection: close\r\n\r\n{\"hold\":1,\"released\":\"2024-03-05\"}",
     },
     Step {
+        day: "2024-03-05",
+        asked: Asked::Release(3),
+        told: b"released 3 2024-03-05",
+        request: b"DELETE /holds/3 HTTP/1.1\r\nDepot-Caller: anna\r\n\r\n",
+        answer: b"HTTP/1.1 200 OK\r\nContent-Type: application/json\r\nContent-Length: 34\r\nConnection: close\r\n\r\n{\"hold\":3,\"released\":\"2024-03-05\"}",
+    },
+    Step {
         day: "2030-01-01",
         asked: Asked::Dispose(1),
         told: b"destroyed 1 2030-01-01",
@@ -121,32 +152,40 @@ static STEPS: [Step; 10] = [
     },
 ];
 
-/// How far the session goes: the policy is installed, and each step is taken.
-pub const WHOLE: usize = 11;
+/// How far the session goes: both policies are installed, and each step is taken.
+pub const WHOLE: usize = 15;
 
-/// What `held_rows` shows of the tables before the session, behind its policy and behind each step.
-pub static TABLES: [&[u8]; 12] = [
+/// What `held_rows` shows of the tables before the session, behind each of its policies and behind each step.
+pub static TABLES: [&[u8]; 16] = [
     b"1|5|1000000|1000000\n--\n--\n--\n--\n--\n--\n--\n--\n--\n",
     b"1|5|1000000|1000000\n--\nanna|archivist\ncarl|clerk\n--\n1|1|archivist|*|*|*|-25567|2859848\n2|0|clerk|class|*|*|-25567|2859848\n--\n--\n--\n--\n--\n--\n--\n",
-    b"1|5|1000000|1000000\n--\nanna|archivist\ncarl|clerk\n--\n1|1|archivist|*|*|*|-25567|2859848\n2|0|clerk|class|*|*|-25567|2859848\n--\n--\nmaps\n--\n--\n--\n--\n--\n",
-    b"1|5|1000000|1000000\n--\nanna|archivist\ncarl|clerk\n--\n1|1|archivist|*|*|*|-25567|2859848\n2|0|clerk|class|*|*|-25567|2859848\n--\ny1|1\n--\nmaps\n--\n--\n--\n--\n--\n",
-    b"1|5|1000000|1000000\n--\nanna|archivist\ncarl|clerk\n--\n1|1|archivist|*|*|*|-25567|2859848\n2|0|clerk|class|*|*|-25567|2859848\n--\ny1|1\n--\nmaps\n--\n1|A-1|maps|y1|19782|19783|1|3||20147|0\n--\n1|bagit.txt|BagIt-Version: 1.0\nTag-File-Character-Encoding: UTF-8\n\n1|data/a|abc\n1|manifest-sha256.txt|ba7816bf8f01cfea414140de5dae2223b00361a396177a9cb410ff61f20015ad  data/a\n\n--\n--\n1|54\n2|3\n3|73\n--\n",
-    b"1|5|1000000|1000000\n--\nanna|archivist\ncarl|clerk\n--\n1|1|archivist|*|*|*|-25567|2859848\n2|0|clerk|class|*|*|-25567|2859848\n--\ny1|1\n--\nmaps\n--\n1|A-1|maps|y1|19782|19783|1|3||20147|0\n2|A-2|maps|y1|19782|19783|1|3||20147|0\n--\n1|bagit.txt|BagIt-Version: 1.0\nTag-File-Character-Encoding: UTF-8\n\n1|data/a|abc\n1|manifest-sha256.txt|ba7816bf8f01cfea414140de5dae2223b00361a396177a9cb410ff61f20015ad  data/a\n\n2|bagit.txt|BagIt-Version: 0.97\nTag-File-Character-Encoding: UTF-8\n\n2|data/a|abc\n2|manifest-sha256.txt|ba7816bf8f01cfea414140de5dae2223b00361a396177a9cb410ff61f20015ad  data/a\n\n--\n--\n1|54\n2|3\n3|73\n4|55\n--\n",
-    b"1|5|1000000|1000000\n--\nanna|archivist\ncarl|clerk\n--\n1|1|archivist|*|*|*|-25567|2859848\n2|0|clerk|class|*|*|-25567|2859848\n--\ny1|2\n--\nmaps\n--\n1|A-1|maps|y1|19782|19783|1|3||20512|0\n2|A-2|maps|y1|19782|19783|1|3||20512|0\n--\n1|bagit.txt|BagIt-Version: 1.0\nTag-File-Character-Encoding: UTF-8\n\n1|data/a|abc\n1|manifest-sha256.txt|ba7816bf8f01cfea414140de5dae2223b00361a396177a9cb410ff61f20015ad  data/a\n\n2|bagit.txt|BagIt-Version: 0.97\nTag-File-Character-Encoding: UTF-8\n\n2|data/a|abc\n2|manifest-sha256.txt|ba7816bf8f01cfea414140de5dae2223b00361a396177a9cb410ff61f20015ad  data/a\n\n--\n--\n1|54\n2|3\n3|73\n4|55\n--\n",
-    b"1|5|1000000|1000000\n--\nanna|archivist\ncarl|clerk\n--\n1|1|archivist|*|*|*|-25567|2859848\n2|0|clerk|class|*|*|-25567|2859848\n--\ny1|2\n--\nmaps\n--\n1|A-1|maps|y1|19782|19783|1|3||20512|1\n2|A-2|maps|y1|19782|19783|1|3||20512|0\n--\n1|bagit.txt|BagIt-Version: 1.0\nTag-File-Character-Encoding: UTF-8\n\n1|data/a|abc\n1|manifest-sha256.txt|ba7816bf8f01cfea414140de5dae2223b00361a396177a9cb410ff61f20015ad  data/a\n\n2|bagit.txt|BagIt-Version: 0.97\nTag-File-Character-Encoding: UTF-8\n\n2|data/a|abc\n2|manifest-sha256.txt|ba7816bf8f01cfea414140de5dae2223b00361a396177a9cb410ff61f20015ad  data/a\n\n--\n1|1|||Case 7|19784|\n--\n1|54\n2|3\n3|73\n4|55\n--\n",
-    b"1|5|1000000|1000000\n--\nanna|archivist\ncarl|clerk\n--\n1|1|archivist|*|*|*|-25567|2859848\n2|0|clerk|class|*|*|-25567|2859848\n--\ny1|2\n--\nmaps\n--\n1|A-1|maps|y1|19782|19783|1|3||20512|2\n2|A-2|maps|y1|19782|19783|1|3||20512|1\n--\n1|bagit.txt|BagIt-Version: 1.0\nTag-File-Character-Encoding: UTF-8\n\n1|data/a|abc\n1|manifest-sha256.txt|ba7816bf8f01cfea414140de5dae2223b00361a396177a9cb410ff61f20015ad  data/a\n\n2|bagit.txt|BagIt-Version: 0.97\nTag-File-Character-Encoding: UTF-8\n\n2|data/a|abc\n2|manifest-sha256.txt|ba7816bf8f01cfea414140de5dae2223b00361a396177a9cb410ff61f20015ad  data/a\n\n--\n1|1|||Case 7|19784|\n2||maps||Case 7|19784|\n--\n1|54\n2|3\n3|73\n4|55\n--\n",
-    b"1|5|1000000|1000000\n--\nanna|archivist\ncarl|clerk\n--\n1|1|archivist|*|*|*|-25567|2859848\n2|0|clerk|class|*|*|-25567|2859848\n--\ny1|2\n--\nmaps\n--\n1|A-1|maps|y1|19782|19783|1|3||20512|1\n2|A-2|maps|y1|19782|19783|1|3||20512|0\n--\n1|bagit.txt|BagIt-Version: 1.0\nTag-File-Character-Encoding: UTF-8\n\n1|data/a|abc\n1|manifest-sha256.txt|ba7816bf8f01cfea414140de5dae2223b00361a396177a9cb410ff61f20015ad  data/a\n\n2|bagit.txt|BagIt-Version: 0.97\nTag-File-Character-Encoding: UTF-8\n\n2|data/a|abc\n2|manifest-sha256.txt|ba7816bf8f01cfea414140de5dae2223b00361a396177a9cb410ff61f20015ad  data/a\n\n--\n1|1|||Case 7|19784|\n2||maps||Case 7|19784|19787\n--\n1|54\n2|3\n3|73\n4|55\n--\n",
-    b"1|5|1000000|1000000\n--\nanna|archivist\ncarl|clerk\n--\n1|1|archivist|*|*|*|-25567|2859848\n2|0|clerk|class|*|*|-25567|2859848\n--\ny1|2\n--\nmaps\n--\n1|A-1|maps|y1|19782|19783|1|3||20512|0\n2|A-2|maps|y1|19782|19783|1|3||20512|0\n--\n1|bagit.txt|BagIt-Version: 1.0\nTag-File-Character-Encoding: UTF-8\n\n1|data/a|abc\n1|manifest-sha256.txt|ba7816bf8f01cfea414140de5dae2223b00361a396177a9cb410ff61f20015ad  data/a\n\n2|bagit.txt|BagIt-Version: 0.97\nTag-File-Character-Encoding: UTF-8\n\n2|data/a|abc\n2|manifest-sha256.txt|ba7816bf8f01cfea414140de5dae2223b00361a396177a9cb410ff61f20015ad  data/a\n\n--\n1|1|||Case 7|19784|19787\n2||maps||Case 7|19784|19787\n--\n1|54\n2|3\n3|73\n4|55\n--\n",
-    b"1|5|1000000|1000000\n--\nanna|archivist\ncarl|clerk\n--\n1|1|archivist|*|*|*|-25567|2859848\n2|0|clerk|class|*|*|-25567|2859848\n--\ny1|2\n--\nmaps\n--\n1|A-1|maps|y1|19782|19783|1|3|21915|20512|0\n2|A-2|maps|y1|19782|19783|1|3||20512|0\n--\n2|bagit.txt|BagIt-Version: 0.97\nTag-File-Character-Encoding: UTF-8\n\n2|data/a|abc\n2|manifest-sha256.txt|ba7816bf8f01cfea414140de5dae2223b00361a396177a9cb410ff61f20015ad  data/a\n\n--\n1|1|||Case 7|19784|19787\n2||maps||Case 7|19784|19787\n--\n2|3\n3|73\n4|55\n--\n",
+    b"1|5|1000000|1000000\n--\nanna|archivist\ncarl|clerk\n--\n1|0|archivist|dispose|*|*|-25567|21914\n2|1|archivist|*|*|*|19783|21915\n3|0|clerk|class|*|*|-25567|2859848\n--\n--\n--\n--\n--\n--\n--\n",
+    b"1|5|1000000|1000000\n--\nanna|archivist\ncarl|clerk\n--\n1|0|archivist|dispose|*|*|-25567|21914\n2|1|archivist|*|*|*|19783|21915\n3|0|clerk|class|*|*|-25567|2859848\n--\n--\nmaps\n--\n--\n--\n--\n--\n",
+    b"1|5|1000000|1000000\n--\nanna|archivist\ncarl|clerk\n--\n1|0|archivist|dispose|*|*|-25567|21914\n2|1|archivist|*|*|*|19783|21915\n3|0|clerk|class|*|*|-25567|2859848\n--\ny1|1\n--\nmaps\n--\n--\n--\n--\n--\n",
+    b"1|5|1000000|1000000\n--\nanna|archivist\ncarl|clerk\n--\n1|0|archivist|dispose|*|*|-25567|21914\n2|1|archivist|*|*|*|19783|21915\n3|0|clerk|class|*|*|-25567|2859848\n--\ny1|1\n--\nmaps\n--\n1|A-1|maps|y1|19782|19783|1|3||20147|0\n--\n1|bagit.txt|BagIt-Version: 1.0\nTag-File-Character-Encoding: UTF-8\n\n1|data/a|abc\n1|manifest-sha256.txt|ba7816bf8f01cfea414140de5dae2223b00361a396177a9cb410ff61f20015ad  data/a\n\n--\n--\n1|54\n2|3\n3|73\n--\n",
+    b"1|5|1000000|1000000\n--\nanna|archivist\ncarl|clerk\n--\n1|0|archivist|dispose|*|*|-25567|21914\n2|1|archivist|*|*|*|19783|21915\n3|0|clerk|class|*|*|-25567|2859848\n--\ny1|1\n--\nmaps\n--\n1|A-1|maps|y1|19782|19783|1|3||20147|0\n2|A-2|maps|y1|19782|19783|1|3||20147|0\n--\n1|bagit.txt|BagIt-Version: 1.0\nTag-File-Character-Encoding: UTF-8\n\n1|data/a|abc\n1|manifest-sha256.txt|ba7816bf8f01cfea414140de5dae2223b00361a396177a9cb410ff61f20015ad  data/a\n\n2|bagit.txt|BagIt-Version: 0.97\nTag-File-Character-Encoding: UTF-8\n\n2|data/a|abc\n2|manifest-sha256.txt|ba7816bf8f01cfea414140de5dae2223b00361a396177a9cb410ff61f20015ad  data/a\n\n--\n--\n1|54\n2|3\n3|73\n4|55\n--\n",
+    b"1|5|1000000|1000000\n--\nanna|archivist\ncarl|clerk\n--\n1|0|archivist|dispose|*|*|-25567|21914\n2|1|archivist|*|*|*|19783|21915\n3|0|clerk|class|*|*|-25567|2859848\n--\ny1|2\n--\nmaps\n--\n1|A-1|maps|y1|19782|19783|1|3||20512|0\n2|A-2|maps|y1|19782|19783|1|3||20512|0\n--\n1|bagit.txt|BagIt-Version: 1.0\nTag-File-Character-Encoding: UTF-8\n\n1|data/a|abc\n1|manifest-sha256.txt|ba7816bf8f01cfea414140de5dae2223b00361a396177a9cb410ff61f20015ad  data/a\n\n2|bagit.txt|BagIt-Version: 0.97\nTag-File-Character-Encoding: UTF-8\n\n2|data/a|abc\n2|manifest-sha256.txt|ba7816bf8f01cfea414140de5dae2223b00361a396177a9cb410ff61f20015ad  data/a\n\n--\n--\n1|54\n2|3\n3|73\n4|55\n--\n",
+    b"1|5|1000000|1000000\n--\nanna|archivist\ncarl|clerk\n--\n1|0|archivist|dispose|*|*|-25567|21914\n2|1|archivist|*|*|*|19783|21915\n3|0|clerk|class|*|*|-25567|2859848\n--\ny1|2\n--\nmaps\n--\n1|A-1|maps|y1|19782|19783|1|3||20512|1\n2|A-2|maps|y1|19782|19783|1|3||20512|0\n--\n1|bagit.txt|BagIt-Version: 1.0\nTag-File-Character-Encoding: UTF-8\n\n1|data/a|abc\n1|manifest-sha256.txt|ba7816bf8f01cfea414140de5dae2223b00361a396177a9cb410ff61f20015ad  data/a\n\n2|bagit.txt|BagIt-Version: 0.97\nTag-File-Character-Encoding: UTF-8\n\n2|data/a|abc\n2|manifest-sha256.txt|ba7816bf8f01cfea414140de5dae2223b00361a396177a9cb410ff61f20015ad  data/a\n\n--\n1|1|||Case 7|19784|\n--\n1|54\n2|3\n3|73\n4|55\n--\n",
+    b"1|5|1000000|1000000\n--\nanna|archivist\ncarl|clerk\n--\n1|0|archivist|dispose|*|*|-25567|21914\n2|1|archivist|*|*|*|19783|21915\n3|0|clerk|class|*|*|-25567|2859848\n--\ny1|2\n--\nmaps\n--\n1|A-1|maps|y1|19782|19783|1|3||20512|2\n2|A-2|maps|y1|19782|19783|1|3||20512|1\n--\n1|bagit.txt|BagIt-Version: 1.0\nTag-File-Character-Encoding: UTF-8\n\n1|data/a|abc\n1|manifest-sha256.txt|ba7816bf8f01cfea414140de5dae2223b00361a396177a9cb410ff61f20015ad  data/a\n\n2|bagit.txt|BagIt-Version: 0.97\nTag-File-Character-Encoding: UTF-8\n\n2|data/a|abc\n2|manifest-sha256.txt|ba7816bf8f01cfea414140de5dae2223b00361a396177a9cb410ff61f20015ad  data/a\n\n--\n1|1|||Case 7|19784|\n2||maps||Case 7|19784|\n--\n1|54\n2|3\n3|73\n4|55\n--\n",
+    b"1|5|1000000|1000000\n--\nanna|archivist\ncarl|clerk\n--\n1|0|archivist|dispose|*|*|-25567|21914\n2|1|archivist|*|*|*|19783|21915\n3|0|clerk|class|*|*|-25567|2859848\n--\ny1|2\n--\nmaps\n--\n1|A-1|maps|y1|19782|19783|1|3||20512|3\n2|A-2|maps|y1|19782|19783|1|3||20512|2\n--\n1|bagit.txt|BagIt-Version: 1.0\nTag-File-Character-Encoding: UTF-8\n\n1|data/a|abc\n1|manifest-sha256.txt|ba7816bf8f01cfea414140de5dae2223b00361a396177a9cb410ff61f20015ad  data/a\n\n2|bagit.txt|BagIt-Version: 0.97\nTag-File-Character-Encoding: UTF-8\n\n2|data/a|abc\n2|manifest-sha256.txt|ba7816bf8f01cfea414140de5dae2223b00361a396177a9cb410ff61f20015ad  data/a\n\n--\n1|1|||Case 7|19784|\n2||maps||Case 7|19784|\n3|||y1|Case 7|19784|\n--\n1|54\n2|3\n3|73\n4|55\n--\n",
+    b"1|5|1000000|1000000\n--\nanna|archivist\ncarl|clerk\n--\n1|0|archivist|dispose|*|*|-25567|21914\n2|1|archivist|*|*|*|19783|21915\n3|0|clerk|class|*|*|-25567|2859848\n--\ny1|2\n--\nmaps\n--\n1|A-1|maps|y1|19782|19783|1|3||20512|3\n2|A-2|maps|y1|19782|19783|1|3||20512|2\n3|A-3|maps|y1|19782|19787|1|3||20512|2\n--\n1|bagit.txt|BagIt-Version: 1.0\nTag-File-Character-Encoding: UTF-8\n\n1|data/a|abc\n1|manifest-sha256.txt|ba7816bf8f01cfea414140de5dae2223b00361a396177a9cb410ff61f20015ad  data/a\n\n2|bagit.txt|BagIt-Version: 0.97\nTag-File-Character-Encoding: UTF-8\n\n2|data/a|abc\n2|manifest-sha256.txt|ba7816bf8f01cfea414140de5dae2223b00361a396177a9cb410ff61f20015ad  data/a\n\n3|bagit.txt|BagIt-Version: 0.97\nTag-File-Character-Encoding: UTF-8\n\n3|data/a|abc\n3|manifest-sha256.txt|ba7816bf8f01cfea414140de5dae2223b00361a396177a9cb410ff61f20015ad  data/a\n\n--\n1|1|||Case 7|19784|\n2||maps||Case 7|19784|\n3|||y1|Case 7|19784|\n--\n1|54\n2|3\n3|73\n4|55\n--\n",
+    b"1|5|1000000|1000000\n--\nanna|archivist\ncarl|clerk\n--\n1|0|archivist|dispose|*|*|-25567|21914\n2|1|archivist|*|*|*|19783|21915\n3|0|clerk|class|*|*|-25567|2859848\n--\ny1|2\n--\nmaps\n--\n1|A-1|maps|y1|19782|19783|1|3||20512|2\n2|A-2|maps|y1|19782|19783|1|3||20512|1\n3|A-3|maps|y1|19782|19787|1|3||20512|1\n--\n1|bagit.txt|BagIt-Version: 1.0\nTag-File-Character-Encoding: UTF-8\n\n1|data/a|abc\n1|manifest-sha256.txt|ba7816bf8f01cfea414140de5dae2223b00361a396177a9cb410ff61f20015ad  data/a\n\n2|bagit.txt|BagIt-Version: 0.97\nTag-File-Character-Encoding: UTF-8\n\n2|data/a|abc\n2|manifest-sha256.txt|ba7816bf8f01cfea414140de5dae2223b00361a396177a9cb410ff61f20015ad  data/a\n\n3|bagit.txt|BagIt-Version: 0.97\nTag-File-Character-Encoding: UTF-8\n\n3|data/a|abc\n3|manifest-sha256.txt|ba7816bf8f01cfea414140de5dae2223b00361a396177a9cb410ff61f20015ad  data/a\n\n--\n1|1|||Case 7|19784|\n2||maps||Case 7|19784|19787\n3|||y1|Case 7|19784|\n--\n1|54\n2|3\n3|73\n4|55\n--\n",
+    b"1|5|1000000|1000000\n--\nanna|archivist\ncarl|clerk\n--\n1|0|archivist|dispose|*|*|-25567|21914\n2|1|archivist|*|*|*|19783|21915\n3|0|clerk|class|*|*|-25567|2859848\n--\ny1|2\n--\nmaps\n--\n1|A-1|maps|y1|19782|19783|1|3||20512|1\n2|A-2|maps|y1|19782|19783|1|3||20512|1\n3|A-3|maps|y1|19782|19787|1|3||20512|1\n--\n1|bagit.txt|BagIt-Version: 1.0\nTag-File-Character-Encoding: UTF-8\n\n1|data/a|abc\n1|manifest-sha256.txt|ba7816bf8f01cfea414140de5dae2223b00361a396177a9cb410ff61f20015ad  data/a\n\n2|bagit.txt|BagIt-Version: 0.97\nTag-File-Character-Encoding: UTF-8\n\n2|data/a|abc\n2|manifest-sha256.txt|ba7816bf8f01cfea414140de5dae2223b00361a396177a9cb410ff61f20015ad  data/a\n\n3|bagit.txt|BagIt-Version: 0.97\nTag-File-Character-Encoding: UTF-8\n\n3|data/a|abc\n3|manifest-sha256.txt|ba7816bf8f01cfea414140de5dae2223b00361a396177a9cb410ff61f20015ad  data/a\n\n--\n1|1|||Case 7|19784|19787\n2||maps||Case 7|19784|19787\n3|||y1|Case 7|19784|\n--\n1|54\n2|3\n3|73\n4|55\n--\n",
+    b"1|5|1000000|1000000\n--\nanna|archivist\ncarl|clerk\n--\n1|0|archivist|dispose|*|*|-25567|21914\n2|1|archivist|*|*|*|19783|21915\n3|0|clerk|class|*|*|-25567|2859848\n--\ny1|2\n--\nmaps\n--\n1|A-1|maps|y1|19782|19783|1|3||20512|0\n2|A-2|maps|y1|19782|19783|1|3||20512|0\n3|A-3|maps|y1|19782|19787|1|3||20512|0\n--\n1|bagit.txt|BagIt-Version: 1.0\nTag-File-Character-Encoding: UTF-8\n\n1|data/a|abc\n1|manifest-sha256.txt|ba7816bf8f01cfea414140de5dae2223b00361a396177a9cb410ff61f20015ad  data/a\n\n2|bagit.txt|BagIt-Version: 0.97\nTag-File-Character-Encoding: UTF-8\n\n2|data/a|abc\n2|manifest-sha256.txt|ba7816bf8f01cfea414140de5dae2223b00361a396177a9cb410ff61f20015ad  data/a\n\n3|bagit.txt|BagIt-Version: 0.97\nTag-File-Character-Encoding: UTF-8\n\n3|data/a|abc\n3|manifest-sha256.txt|ba7816bf8f01cfea414140de5dae2223b00361a396177a9cb410ff61f20015ad  data/a\n\n--\n1|1|||Case 7|19784|19787\n2||maps||Case 7|19784|19787\n3|||y1|Case 7|19784|19787\n--\n1|54\n2|3\n3|73\n4|55\n--\n",
+    b"1|5|1000000|1000000\n--\nanna|archivist\ncarl|clerk\n--\n1|0|archivist|dispose|*|*|-25567|21914\n2|1|archivist|*|*|*|19783|21915\n3|0|clerk|class|*|*|-25567|2859848\n--\ny1|2\n--\nmaps\n--\n1|A-1|maps|y1|19782|19783|1|3|21915|20512|0\n2|A-2|maps|y1|19782|19783|1|3||20512|0\n3|A-3|maps|y1|19782|19787|1|3||20512|0\n--\n2|bagit.txt|BagIt-Version: 0.97\nTag-File-Character-Encoding: UTF-8\n\n2|data/a|abc\n2|manifest-sha256.txt|ba7816bf8f01cfea414140de5dae2223b00361a396177a9cb410ff61f20015ad  data/a\n\n3|bagit.txt|BagIt-Version: 0.97\nTag-File-Character-Encoding: UTF-8\n\n3|data/a|abc\n3|manifest-sha256.txt|ba7816bf8f01cfea414140de5dae2223b00361a396177a9cb410ff61f20015ad  data/a\n\n--\n1|1|||Case 7|19784|19787\n2||maps||Case 7|19784|19787\n3|||y1|Case 7|19784|19787\n--\n2|3\n3|73\n4|55\n--\n",
 ];
 
 /// The stock of the office then: how many contents, and how many bytes.
-pub static STOCKS: [(usize, usize); 12] = [
+pub static STOCKS: [(usize, usize); 16] = [
+    (0, 0),
     (0, 0),
     (0, 0),
     (0, 0),
     (0, 0),
     (3, 130),
+    (4, 185),
+    (4, 185),
+    (4, 185),
     (4, 185),
     (4, 185),
     (4, 185),
@@ -162,8 +201,8 @@ static STORE_FAILED: &[u8] =
 
 /// Installs the policy: whether it was installed. Fails where another fault than the store's is
 /// told.
-fn installs<S: Alter>(alloc: Global, office: &mut Office<S>) -> Result<bool, Fail> {
-    let policy = read_policy(alloc, POLICY)?;
+fn installs<S: Alter>(alloc: Global, office: &mut Office<S>, text: &str) -> Result<bool, Fail> {
+    let policy = read_policy(alloc, text)?;
     match office.install(alloc, &policy) {
         Ok(()) => Ok(true),
         Err(TableFault::Store) => Ok(false),
@@ -215,11 +254,14 @@ pub fn go_on<S: Alter>(
     way: Way,
     found: usize,
 ) -> Result<usize, Fail> {
-    if found == 0 && !installs(alloc, office)? {
-        return Ok(0);
+    let mut reached = found;
+    for text in POLICIES.iter().skip(found) {
+        if !installs(alloc, office, *text)? {
+            return Ok(reached);
+        }
+        reached = reached.saturating_add(1);
     }
-    let mut reached = found.max(1);
-    for step in STEPS.iter().skip(found.saturating_sub(1)) {
+    for step in STEPS.iter().skip(found.saturating_sub(POLICIES.len())) {
         if !takes(alloc, office, way, step)? {
             return Ok(reached);
         }
