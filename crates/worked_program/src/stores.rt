@@ -3,6 +3,7 @@
 
 use crate::runs::{begin, run_all, run_one};
 use os::RangeLock;
+use sqlite::{Connection, Unknown};
 use std::alloc::{AllocError, Global};
 use std::fs;
 use std::fs::{File, OpenOptions, Permissions};
@@ -139,6 +140,57 @@ static STORES: [Store; 13] = [
         length: Some(40_000),
         told: "~unopened~STORE~malformed~",
         ..OFFICE
+    },
+];
+
+/// An office whose tables are put into those of an older version.
+struct Older {
+    version: u8,
+    /// The runs that make it, with the tables of this version.
+    made: &'static [&'static str],
+    /// The SQL that puts them into those of the older one.
+    puts: &'static [&'static str],
+    /// Each command, put to a store of its own.
+    runs: [&'static str; 4],
+}
+
+/// To the tables of version 4, and from those to the tables of version 3.
+const TO_FOURTH: &str =
+    "INSERT INTO rule (place, effect, role, action, collection, class) SELECT place, effect, role, action, collection, class FROM rule_5; DROP TABLE rule_5; UPDATE office SET version = 4";
+
+const TO_THIRD: &str =
+    "INSERT INTO hold (number, deposit, collection, matter, placed, released) SELECT number, deposit, collection, matter, placed, released FROM hold_4; DROP TABLE hold_4; UPDATE office SET version = 3";
+
+/// Offices with three deposits, and with a hold on one, one on a collection and a released one; from version 4 on with
+/// one on a class, too. Holds of each kind go on, and are released; a new one on a class is placed.
+static OLDER: [Older; 2] = [
+    Older {
+        version: 3,
+        made: &[
+            "policy,STORE,v/policy.toml||Accepted|~installed~|",
+            "replay,STORE|~days~REQ 2024-03-05 95\nPOST /holds~anna sends~31\r\n\r\n{\"deposit\":1,\"matter\":\"Case 7\"}\nREQ 2024-03-05 102\nPOST /holds~anna sends~38\r\n\r\n{\"collection\":\"tax\",\"matter\":\"Case 8\"}\nREQ 2024-03-05 95\nPOST /holds~anna sends~31\r\n\r\n{\"deposit\":3,\"matter\":\"Case 9\"}\nREQ 2024-03-05 48\nDELETE /holds/3~anna~\n|Accepted|~days answered~ANS 105\nHTTP/1.1 201 Created~json~10~close~{\"hold\":1}\nANS 105\nHTTP/1.1 201 Created~json~10~close~{\"hold\":2}\nANS 105\nHTTP/1.1 201 Created~json~10~close~{\"hold\":3}\nANS 124\n~ok~34~close~{\"hold\":3,\"released\":\"2024-03-05\"}\n|",
+        ],
+        puts: &[TO_FOURTH, TO_THIRD],
+        runs: [
+            "ask,STORE,2024-03-05|GET /deposits/2/holds~anna~|Accepted|~ok~80~close~{\"holds\":[{\"hold\":2,\"matter\":\"Case 8\",\"on\":\"collection\",\"placed\":\"2024-03-05\"}]}|",
+            "replay,STORE|REQ 2024-03-05 41\nGET /due~anna~\nREQ 2024-03-05 48\nDELETE /holds/3~anna~\nREQ 2024-03-05 51\nDELETE /deposits/1~anna~\nREQ 2024-03-05 48\nDELETE /holds/1~anna~\nREQ 2024-03-05 51\nDELETE /deposits/1~anna~\nREQ 2024-03-05 96\nPOST /holds~anna sends~32\r\n\r\n{\"class\":\"y1\",\"matter\":\"Case 7\"}\nREQ 2024-03-05 54\nGET /deposits/3/holds~anna~\n|Accepted|ANS 124\n~ok~34~close~{\"day\":\"2024-03-05\",\"deposits\":[]}\nANS 135\nHTTP/1.1 409 Conflict~json~39~close~{\"day\":\"2024-03-05\",\"error\":\"Released\"}\nANS 121\nHTTP/1.1 409 Conflict~json~25~close~{\"error\":\"Held\",\"hold\":1}\nANS 124\n~ok~34~close~{\"hold\":1,\"released\":\"2024-03-05\"}\nANS 124\n~ok~34~close~{\"day\":\"2024-03-05\",\"destroyed\":1}\nANS 105\nHTTP/1.1 201 Created~json~10~close~{\"hold\":4}\nANS 165\n~ok~75~close~{\"holds\":[{\"hold\":4,\"matter\":\"Case 7\",\"on\":\"class\",\"placed\":\"2024-03-05\"}]}\n|",
+            "serve,--port,0,--count,2,STORE,2024-03-05|GET /deposits/1~anna~#GET /deposits/1/holds~anna~|Accepted|~ok~151~close~{\"accession\":\"A-1\",\"bytes\":3,\"class\":\"y10\",\"closed\":\"2024-02-29\",\"collection\":\"maps\",\"deposit\":1,\"deposited\":\"2024-03-01\",\"due\":\"2024-02-29\",\"files\":1}#~ok~77~close~{\"holds\":[{\"hold\":1,\"matter\":\"Case 7\",\"on\":\"deposit\",\"placed\":\"2024-03-05\"}]}#|",
+            "policy,STORE,v/policy.toml||Accepted|~installed~|",
+        ],
+    },
+    Older {
+        version: 4,
+        made: &[
+            "policy,STORE,v/policy.toml||Accepted|~installed~|",
+            "replay,STORE|~days~REQ 2024-03-05 95\nPOST /holds~anna sends~31\r\n\r\n{\"deposit\":1,\"matter\":\"Case 7\"}\nREQ 2024-03-05 102\nPOST /holds~anna sends~38\r\n\r\n{\"collection\":\"tax\",\"matter\":\"Case 8\"}\nREQ 2024-03-05 95\nPOST /holds~anna sends~31\r\n\r\n{\"deposit\":3,\"matter\":\"Case 9\"}\nREQ 2024-03-05 48\nDELETE /holds/3~anna~\nREQ 2024-03-05 98\nPOST /holds~anna sends~34\r\n\r\n{\"class\":\"y10\",\"matter\":\"Case 10\"}\n|Accepted|~days answered~ANS 105\nHTTP/1.1 201 Created~json~10~close~{\"hold\":1}\nANS 105\nHTTP/1.1 201 Created~json~10~close~{\"hold\":2}\nANS 105\nHTTP/1.1 201 Created~json~10~close~{\"hold\":3}\nANS 124\n~ok~34~close~{\"hold\":3,\"released\":\"2024-03-05\"}\nANS 105\nHTTP/1.1 201 Created~json~10~close~{\"hold\":4}\n|",
+        ],
+        puts: &[TO_FOURTH],
+        runs: [
+            "ask,STORE,2024-03-05|GET /deposits/2/holds~anna~|Accepted|~ok~145~close~{\"holds\":[{\"hold\":2,\"matter\":\"Case 8\",\"on\":\"collection\",\"placed\":\"2024-03-05\"},{\"hold\":4,\"matter\":\"Case 10\",\"on\":\"class\",\"placed\":\"2024-03-05\"}]}|",
+            "replay,STORE|REQ 2024-03-05 41\nGET /due~anna~\nREQ 2024-03-05 48\nDELETE /holds/3~anna~\nREQ 2024-03-05 51\nDELETE /deposits/1~anna~\nREQ 2024-03-05 48\nDELETE /holds/1~anna~\nREQ 2024-03-05 51\nDELETE /deposits/1~anna~\nREQ 2024-03-05 48\nDELETE /holds/4~anna~\nREQ 2024-03-05 51\nDELETE /deposits/1~anna~\nREQ 2024-03-05 96\nPOST /holds~anna sends~32\r\n\r\n{\"class\":\"y1\",\"matter\":\"Case 7\"}\nREQ 2024-03-05 54\nGET /deposits/3/holds~anna~\n|Accepted|ANS 124\n~ok~34~close~{\"day\":\"2024-03-05\",\"deposits\":[]}\nANS 135\nHTTP/1.1 409 Conflict~json~39~close~{\"day\":\"2024-03-05\",\"error\":\"Released\"}\nANS 121\nHTTP/1.1 409 Conflict~json~25~close~{\"error\":\"Held\",\"hold\":1}\nANS 124\n~ok~34~close~{\"hold\":1,\"released\":\"2024-03-05\"}\nANS 121\nHTTP/1.1 409 Conflict~json~25~close~{\"error\":\"Held\",\"hold\":4}\nANS 124\n~ok~34~close~{\"hold\":4,\"released\":\"2024-03-05\"}\nANS 124\n~ok~34~close~{\"day\":\"2024-03-05\",\"destroyed\":1}\nANS 105\nHTTP/1.1 201 Created~json~10~close~{\"hold\":5}\nANS 165\n~ok~75~close~{\"holds\":[{\"hold\":5,\"matter\":\"Case 7\",\"on\":\"class\",\"placed\":\"2024-03-05\"}]}\n|",
+            "serve,--port,0,--count,2,STORE,2024-03-05|GET /deposits/1~anna~#GET /deposits/1/holds~anna~|Accepted|~ok~151~close~{\"accession\":\"A-1\",\"bytes\":3,\"class\":\"y10\",\"closed\":\"2024-02-29\",\"collection\":\"maps\",\"deposit\":1,\"deposited\":\"2024-03-01\",\"due\":\"2024-02-29\",\"files\":1}#~ok~142~close~{\"holds\":[{\"hold\":1,\"matter\":\"Case 7\",\"on\":\"deposit\",\"placed\":\"2024-03-05\"},{\"hold\":4,\"matter\":\"Case 10\",\"on\":\"class\",\"placed\":\"2024-03-05\"}]}#|",
+            "policy,STORE,v/policy.toml||Accepted|~installed~|",
+        ],
     },
 ];
 
@@ -301,5 +353,71 @@ fn what_is_no_office(rt: HostRuntime) -> Result<(), Fail> {
         assert!(rt; !fs::exists(&rt, path)?);
     }
     fs::remove_dir_all(&rt, "s")?;
+    Ok(())
+}
+
+/// Runs SQL on the store.
+fn put(rt: &HostRuntime, path: &str, sql: &str) -> Result<(), Fail> {
+    let Ok(mut conn) = Connection::open_from(rt, path, false, Unknown) else {
+        return Err("the store is not opened".into());
+    };
+    let ran = conn.execute_batch(sql);
+    let closed = conn.close();
+    if ran.is_err() || closed.is_err() {
+        return Err(Fail::new(sql));
+    }
+    Ok(())
+}
+
+/// Fails where the row of the table `office` has another version.
+fn compare_version(rt: &HostRuntime, path: &str, version: u8) -> Result<(), Fail> {
+    let bytes = fs::read(rt, path)?;
+    let row = [0, 1, 3, 3, version, 0x0F, 0x42, 0x40, 0x0F, 0x42, 0x40];
+    let without = replace_bytes(rt.alloc(), bytes.as_slice(), &row, &[0; 11])?;
+    if without.as_slice() == bytes.as_slice() {
+        return Err(Fail::new(path));
+    }
+    Ok(())
+}
+
+/// Runs the text over the store at that path.
+fn run_over(rt: &HostRuntime, text: &str, path: &str) -> Result<(), Fail> {
+    run_one(rt, text.replace(rt.alloc(), "STORE", path)?.as_str())
+}
+
+/// The bytes of the older office.
+fn older_office(rt: &HostRuntime, older: &Older) -> Result<Vec<u8>, Fail> {
+    let version = older.version;
+    let path = format!(in rt.alloc(); "v/{version}.db")?;
+    for text in older.made {
+        run_over(rt, text, path.as_str())?;
+    }
+    for sql in older.puts {
+        put(rt, path.as_str(), sql)?;
+    }
+    compare_version(rt, path.as_str(), version)?;
+    Ok(fs::read(rt, path.as_str())?)
+}
+
+/// Puts each command to a store of the older office, which has the tables of this version afterwards.
+fn upgrade(rt: &HostRuntime, older: &Older) -> Result<(), Fail> {
+    let office = older_office(rt, older)?;
+    let version = older.version;
+    for (at, text) in older.runs.iter().enumerate() {
+        let path = format!(in rt.alloc(); "v/{version}-{at}.db")?;
+        fs::write(rt, path.as_str(), office.as_slice())?;
+        run_over(rt, text, path.as_str())?;
+        compare_version(rt, path.as_str(), 5)?;
+    }
+    Ok(())
+}
+
+#[test]
+fn offices_of_older_versions(rt: HostRuntime) -> Result<(), Fail> {
+    begin(&rt, "v", &[("v/policy.toml", "~policy~")])?;
+    for older in &OLDER {
+        upgrade(&rt, older)?;
+    }
+    fs::remove_dir_all(&rt, "v")?;
     Ok(())
 }
