@@ -16,7 +16,7 @@ use std::test::Fail;
 /// |---|---|
 /// | `office` | how many deposits, and holds, the office may have that is made, and given the policy, the classes and the collections of `worked_sessions` |
 /// | `made` | SQL that makes an office of an older version in an empty database |
-/// | `upgraded` | none: the tables are made those of this version, and looked at |
+/// | `upgraded` | none, where the tables are made those of this version, and looked at; else the code of the fault |
 /// | `policy` | the name of a policy, which is installed in the place of the one before (`policies.rt`) |
 /// | `asks` | rows, which are put to the office; behind each what is kept beside the rows of the tables is compared with what the rows give |
 /// | `asks altered` | the same without that: rows of the tables are altered |
@@ -52,7 +52,10 @@ pub fn take_part<S: Alter + Drop>(
             let mut conn = conn;
             (make(alloc, &mut conn, text), conn)
         }
-        "upgraded" => upgrade_and_look(alloc, conn),
+        "upgraded" => {
+            let (told, conn) = upgrade_and_look(alloc, conn);
+            (but_for(alloc, told, text), conn)
+        }
         "policy" => adopt_and_install(alloc, conn, text),
         "asks" => put_and_look(alloc, conn, way, text),
         "asks altered" => adopt_and_put(alloc, conn, way, text),

@@ -7,7 +7,7 @@ use crate::offices::Way;
 use crate::parts::Part;
 use crate::sessions::{CONTENTS, DECIDING, KEEPING};
 use crate::stores::{in_memory, over_tables, to_offices};
-use crate::upgrades::UPGRADES;
+use crate::upgrades::{NOT_UPGRADED, UPGRADES, WHOLE_SESSIONS};
 use std::alloc::Global;
 use std::test::Fail;
 
@@ -52,14 +52,18 @@ pub fn altered_rows_are_met_where_an_answer_rests_on_them(alloc: Global) -> Resu
     in_memory(alloc, Way::Steps, &FOUND)
 }
 
-/// A database that is no office of this version isn't taken for one.
+/// A database that is no office of this version isn't taken for one, and only one of an older version is upgraded.
 pub fn only_an_office_of_this_version_is_taken_up(alloc: Global) -> Result<(), Fail> {
-    in_memory(alloc, Way::Steps, &OPENINGS)
+    in_memory(alloc, Way::Steps, &OPENINGS)?;
+    over_tables(alloc, Way::Steps, &[&NOT_UPGRADED])
 }
 
 /// An office of an older version isn't taken for one of this version; once it is upgraded it goes on, in memory and in
 /// files that are closed in between.
 pub fn an_older_office_goes_on_once_it_is_upgraded(alloc: Global) -> Result<(), Fail> {
-    over_tables(alloc, Way::Steps, &UPGRADES)?;
-    over_tables(alloc, Way::OneRun, &UPGRADES)
+    for way in [Way::Steps, Way::OneRun] {
+        over_tables(alloc, way, &UPGRADES)?;
+        over_tables(alloc, way, &WHOLE_SESSIONS)?;
+    }
+    Ok(())
 }
