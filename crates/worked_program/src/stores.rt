@@ -53,7 +53,7 @@ static REFUSED: [&str; 2] = [
     "replay,--policy,s/other.toml,STORE|~records~|Refused||policy Y2\n~Y2~depot: s/other.toml is no policy\n",
 ];
 
-static STORES: [Store; 13] = [
+static STORES: [Store; 15] = [
     Store {
         path: "s/empty.db",
         length: Some(0),
@@ -76,12 +76,27 @@ static STORES: [Store; 13] = [
         told: "~no office~STORE is another database, and no office\n",
         ..OFFICE
     },
-    // The row of the table `office`, with the version 2 in the place of 5.
+    // The row of the table `office`, with the version 2 in the place of 5, and with 6; and with 3, where the tables are
+    // not those of version 3.
     Store {
         path: "s/earlier.db",
         from: b"\0\x01\x03\x03\x05\x0F\x42\x40\x0F\x42\x40",
         to: b"\0\x01\x03\x03\x02\x0F\x42\x40\x0F\x42\x40",
         told: "store Q2\ndepot: STORE is an office of another version\n",
+        ..OFFICE
+    },
+    Store {
+        path: "s/later.db",
+        from: b"\0\x01\x03\x03\x05\x0F\x42\x40\x0F\x42\x40",
+        to: b"\0\x01\x03\x03\x06\x0F\x42\x40\x0F\x42\x40",
+        told: "store Q2\ndepot: STORE is an office of another version\n",
+        ..OFFICE
+    },
+    Store {
+        path: "s/mixed.db",
+        from: b"\0\x01\x03\x03\x05\x0F\x42\x40\x0F\x42\x40",
+        to: b"\0\x01\x03\x03\x03\x0F\x42\x40\x0F\x42\x40",
+        told: "store Q4\ndepot: STORE failed\n",
         ..OFFICE
     },
     Store {
