@@ -3,14 +3,19 @@
 a run has none left to refuse. `cc` compiles a small library whose `malloc`, `calloc` and `realloc` come
 before those of the C library (`LD_PRELOAD`). Each run ends by itself, and prints nothing wrong:
 
-`desk`: `depot replay` over memory of a session of records, each sent twice in a row. A request has the
-answer of the session that nothing is refused to, or 503, and then it has done nothing: the next time it
-has the answer that it would have had. Or the program ends with `memory`, and what was answered before.
+`desk`: `depot replay` over memory of two sessions of records, the second under a policy with days and with a hold on a
+class, each record sent twice in a row. A request has the answer of the session that nothing is refused to, or 503, and
+then it has done nothing: the next time it has the answer that it would have had. Or the program ends with `memory`, and
+what was answered before.
 
-`ask`: `depot ask` over a file, a request each: a deposit, a class that is revised over two deposits, a download,
-a due list, a release that the office refuses, and a request that the desk refuses. It is answered as with all memory, or by 503, or the program ends with
-`memory`; and the same request to the same file, with all memory, is then answered as the second time that it
-is asked where it was answered, as the first time where 503 was answered for want of memory, else as one of both.
+`ask`: `depot ask` over a file, a request each: a deposit under a hold on its class, a class that is revised over two
+deposits, a download, a due list, a hold on a class, the list of those of a deposit, the release of one, and a request
+that the desk refuses. It is answered as with all memory, or by 503, or the program ends with `memory`; and the same
+request to the same file, with all memory, is then answered as the second time that it is asked where it was answered, as
+the first time where 503 was answered for want of memory, else as one of both.
+
+`policy`: `depot policy` installs a policy with days in the place of another: afterwards the file has the rows from before
+or those that are wanted, and the next command with all memory installs it.
 
 `upgrade`: `depot ask` over a file with the tables of version 3, and of version 4: afterwards it has the rows from before or
 those that are wanted, and the next command with all memory upgrades it.
@@ -37,6 +42,29 @@ TOP = pathlib.Path(__file__).resolve().parent.parent
 DEPOT = os.environ.get("DEPOT", str(TOP / "crates/depot/out/depot-program"))
 OFFICE_FILE = os.environ.get("OFFICE_FILE", str(TOP / "crates/office_file/out/office_file"))
 POLICY = TOP / "examples/policy.toml"
+# The archivist destroys nothing of the collection `maps` before 28 February 2025.
+DATED_POLICY = """version = 2
+
+[callers]
+anna = "archivist"
+
+[[rule]]
+effect = "deny"
+role = "archivist"
+action = "dispose"
+collection = "maps"
+class = "*"
+first = "2024-03-01"
+last = "2025-02-27"
+
+[[rule]]
+effect = "allow"
+role = "archivist"
+action = "*"
+collection = "*"
+class = "*"
+"""
+DEPOSIT = "POST /deposits?collection=maps&class=y1&accession=A-%d&closed=2024-02-29"
 LAST = 100_000
 
 # Refuses the allocation whose number the environment has, counted from the start of the program, and says
@@ -98,14 +126,13 @@ def session():
     """Records of every route, of refusals of the office and of the desk; a class is revised over two deposits of one bag,
     and one of them destroyed. What follows a hold doesn't tell whether it was placed once or twice."""
     bag = (TOP / "examples/bag-a.bagset").read_bytes()
-    deposit = "POST /deposits?collection=maps&class=y1&accession=A-1&closed=2024-02-29"
     early, late = "2024-03-01", "2025-02-28"
     return [
         record(early, "anna", "PUT /classes/y1", b'{"years":1}'),
         record(early, "anna", "PUT /collections/maps"),
-        record(early, "anna", deposit, bag),
-        record(early, "anna", deposit.replace("A-1", "A-2"), bag[:-4]),
-        record(early, "anna", deposit.replace("A-1", "A-3"), bag),
+        record(early, "anna", DEPOSIT % 1, bag),
+        record(early, "anna", DEPOSIT % 2, bag[:-4]),
+        record(early, "anna", DEPOSIT % 3, bag),
         record(early, "anna", "PUT /classes/y1", b'{"years":0}'),
         record(early, "anna", "GET /due"),
         record(early, "anna", "DELETE /deposits/2"),
@@ -122,6 +149,26 @@ def session():
         record(early, "anna", "POST /holds", b'{"collection":"maps","matter":"Case 7"}'),
         record(late, "anna", "GET /due"),
         record(late, "anna", "DELETE /deposits/1"),
+        record(late, "anna", "DELETE /holds/1"),
+    ]
+
+
+def session_of_days():
+    """Records under `DATED_POLICY`: a disposal and a due list on a day on which a rule denies it and on one on which it
+    doesn't, a hold on the class, under which another deposit comes, and its release."""
+    bag = (TOP / "examples/bag-a.bagset").read_bytes()
+    early, late = "2024-03-01", "2025-02-28"
+    return [
+        record(early, "anna", "PUT /classes/y1", b'{"years":0}'),
+        record(early, "anna", "PUT /collections/maps"),
+        record(early, "anna", DEPOSIT % 1, bag),
+        record(early, "anna", "DELETE /deposits/1"),
+        record(early, "anna", "GET /due"),
+        record(late, "anna", "GET /due"),
+        record(early, "anna", "POST /holds", b'{"class":"y1","matter":"Case 7"}'),
+        record(early, "anna", DEPOSIT % 2, bag),
+        record(late, "anna", "GET /due"),
+        record(late, "anna", "DELETE /deposits/2"),
         record(late, "anna", "DELETE /holds/1"),
     ]
 
@@ -167,13 +214,13 @@ def fault_of_replay(ended, wanted):
     return f"it ended with {ended.returncode} and {ended.stderr!r}"
 
 
-def desk(library, first, last):
-    """A session over the desk."""
-    given = b"".join(it * 2 for it in session())
-    words = [DEPOT, "replay", "--policy", POLICY, ":memory:"]
+def replays(library, first, last, policy, records):
+    """How many replays of the records under the policy, with one allocation refused in turn, ended in which way."""
+    given = b"".join(it * 2 for it in records)
+    words = [DEPOT, "replay", "--policy", policy, ":memory:"]
     plain = run(library, 0, words, given)[0]
     found, rest = answers(plain.stdout)
-    if plain.returncode != 0 or rest or len(found) != 2 * len(session()):
+    if plain.returncode != 0 or rest or len(found) != 2 * len(records):
         sys.exit(f"desk: with all memory it ends with {plain.returncode}, {plain.stderr!r}, {len(found)} answers")
     wanted = list(zip(found[::2], found[1::2]))
     tally = {"ended": 0, "answered": 0, "did without": 0}
@@ -191,6 +238,19 @@ def desk(library, first, last):
     return sum(tally.values())
 
 
+def desk(library, first, last):
+    """Two sessions over the desk."""
+    with tempfile.TemporaryDirectory() as room:
+        dated = pathlib.Path(room, "dated.toml")
+        dated.write_text(DATED_POLICY)
+        return replays(library, first, last, POLICY, session()) + replays(library, first, last, dated, session_of_days())
+
+
+def is_failure(ended):
+    """Whether the program ended for want of memory, as it or the store told it."""
+    return ended.returncode == 3 and ended.stderr.split(b"\n")[0] in (b"memory", b"device", b"store Q4")
+
+
 def fault_of_asking(ended, again, wanted):
     """What is wrong with the end of `ask`, or of the same request asked again, if anything is."""
     # (what was answered is done, what wanted memory isn't, and of a failure of the store nothing is known)
@@ -201,7 +261,7 @@ def fault_of_asking(ended, again, wanted):
         if not is_wanting(ended.stdout):
             return f"it answers {ended.stdout!r}"
         wants = wanted[:1] if ended.stdout.endswith(b'{"error":"Memory"}') else wanted
-    elif ended.returncode != 3 or ended.stderr.split(b"\n")[0] not in (b"memory", b"device", b"store Q4"):
+    elif not is_failure(ended):
         return f"it ended with {ended.returncode} and {ended.stderr!r}"
     elif not wanted[0].startswith(ended.stdout) and not is_wanting(ended.stdout):
         return f"it wrote {ended.stdout!r}"
@@ -213,13 +273,15 @@ def fault_of_asking(ended, again, wanted):
 def ask(library, first, last):
     """Single requests over a file."""
     bag = (TOP / "examples/bag-a.bagset").read_bytes()
-    deposit = "POST /deposits?collection=maps&class=y1&accession=A-%d&closed=2024-02-29"
     day = "2024-03-01"
+    hold = request("anna", "POST /holds", b'{"class":"y1","matter":"Case 7"}')
     given = [
-        request("anna", deposit % 3, bag),
+        request("anna", DEPOSIT % 3, bag),
         request("anna", "PUT /classes/y1", b'{"years":0}'),
         request("anna", "GET /deposits/1/bag"),
         request("anna", "GET /due"),
+        hold,
+        request("anna", "GET /deposits/1/holds"),
         request("anna", "DELETE /holds/1"),
         request("anna", "GET /nothing"),
     ]
@@ -229,7 +291,7 @@ def ask(library, first, last):
         kept.mkdir()
         subprocess.run([DEPOT, "policy", kept / "office.db", POLICY], check=True, capture_output=True, timeout=60)
         definitions = request("anna", "PUT /classes/y1", b'{"years":1}'), request("anna", "PUT /collections/maps")
-        for text in (*definitions, request("anna", deposit % 1, bag), request("anna", deposit % 2, bag)):
+        for text in (*definitions, request("anna", DEPOSIT % 1, bag), request("anna", DEPOSIT % 2, bag), hold):
             subprocess.run([DEPOT, "ask", kept / "office.db", day], input=text, check=True, capture_output=True, timeout=60)
 
         def asks(number, text):
@@ -254,30 +316,71 @@ def ask(library, first, last):
     return refused
 
 
+def sweep(library, first, last, kept, wanted, words, given):
+    """How many allocations of a command on a copy of the store are refused in turn, where each time the rows are those from
+    before or those that are wanted, and the latter once it is given again with all memory."""
+    before = stores.rows(str(kept / "office.db"))[1]
+    used = kept.with_name("used")
+    store = str(used / "office.db")
+
+    def given_with(number):
+        ended, was_refused = run(library, number, [DEPOT, words[0], store, *words[1:]], given)
+        return ended, was_refused, stores.rows(store)[1]
+
+    shutil.copytree(kept, used)
+    plain, _, found = given_with(0)
+    shutil.rmtree(used)
+    if plain.returncode != 0 or found != wanted:
+        why = stores.differs(found, wanted)
+        sys.exit(f"{words[0]}: with all memory it ends with {plain.returncode}, {plain.stderr!r}, {why}")
+    refused = 0
+    for number in range(first, last + 1):
+        shutil.copytree(kept, used)
+        ended, was_refused, found = given_with(number)
+        again, _, later = given_with(0)
+        shutil.rmtree(used)
+        if not was_refused:
+            break
+        is_done = ended.returncode == 0 and (ended.stdout == plain.stdout or is_wanting(ended.stdout))
+        if not is_done and not is_failure(ended):
+            sys.exit(f"{words[0]}, allocation {number}: it ended with {ended.returncode}, {ended.stdout!r} {ended.stderr!r}")
+        if found != wanted and (is_done or found != before):
+            sys.exit(f"{words[0]}, allocation {number}: {stores.differs(found, wanted)}")
+        if (again.returncode, again.stdout) != (0, plain.stdout) or later != wanted:
+            why = stores.differs(later, wanted)
+            sys.exit(f"{words[0]}, allocation {number}, given again: {again.returncode}, {again.stdout!r}, {why}")
+        refused += 1
+    return refused
+
+
+def policy(library, first, last):
+    """An install of a policy with days in a small store."""
+    with tempfile.TemporaryDirectory() as room:
+        kept, dated = pathlib.Path(room, "kept"), pathlib.Path(room, "dated.toml")
+        kept.mkdir()
+        dated.write_text(DATED_POLICY)
+        subprocess.run([DEPOT, "policy", kept / "office.db", POLICY], check=True, capture_output=True, timeout=60)
+        wanted = dict(stores.rows(str(kept / "office.db"))[1])
+        wanted["caller"] = [(1, "anna", "archivist")]
+        wanted["rule_5"] = [
+            (1, 1, 0, "archivist", "dispose", "maps", "*", 19783, 20146),
+            (2, 2, 1, "archivist", "*", "*", "*", -25567, 2859848),
+        ]
+        refused = sweep(library, first, last, kept, wanted, ["policy", dated], b"")
+    print(f"policy: one with days, {refused} allocations refused", flush=True)
+    return refused
+
+
 def upgrade(library, first, last):
     """An upgrade of a small store of each version."""
     refused = 0
     with tempfile.TemporaryDirectory() as room:
-        kept, used = pathlib.Path(room, "kept"), pathlib.Path(room, "used")
         for version in (3, 4):
+            kept = pathlib.Path(room, f"version-{version}")
             kept.mkdir()
             stores.make(kept / "office.db", version, deposits=4, each=2, rules=3)
-            before = stores.rows(str(kept / "office.db"))[1]
-            wanted = stores.upgraded(version, before)
-            for number in range(first, last + 1):
-                shutil.copytree(kept, used)
-                store = str(used / "office.db")
-                was_refused = run(library, number, [DEPOT, "ask", store, stores.DAY], b"")[1]
-                found = stores.rows(store)[1]
-                again = run(library, 0, [DEPOT, "ask", store, stores.DAY], b"")[0]
-                upgraded = stores.rows(store)[1]
-                shutil.rmtree(used)
-                if not was_refused:
-                    break
-                if found not in (before, wanted) or again.returncode != 0 or upgraded != wanted:
-                    sys.exit(f"upgrade from version {version}, allocation {number}: {stores.differs(found, wanted)}")
-                refused += 1
-            shutil.rmtree(kept)
+            wanted = stores.upgraded(version, stores.rows(str(kept / "office.db"))[1])
+            refused += sweep(library, first, last, kept, wanted, ["ask", stores.DAY], b"")
     print(f"upgrade: from 2 versions, {refused} allocations refused", flush=True)
     return refused
 
@@ -334,7 +437,10 @@ def cases(group):
 
 
 # Each group gives how many allocations were refused.
-GROUPS = {"desk": desk, "ask": ask, "upgrade": upgrade, "hear": hear, **{it: cases(it) for it in ("bags", "office", "tables", "stored")}}
+GROUPS = {
+    "desk": desk, "ask": ask, "policy": policy, "upgrade": upgrade, "hear": hear,
+    **{it: cases(it) for it in ("bags", "office", "tables", "stored")},
+}
 
 
 def main():
