@@ -1,26 +1,22 @@
 //! The same requests, put to both offices.
 
 use crate::drawing::{Drawn, Draws};
+use crate::tally::{Came, Known, Tally};
 use crate::texts::{FIRST_CLASSES, FIRST_COLLECTIONS, POLICIES};
+use crate::upgrading::upgraded;
 use anyhow::{Context, Result, bail};
 use office_core::{Answer, Day, Limits, Name, Request, Years, read_policy};
 use office_engine::Office;
 use office_history::plain;
-use sqlite::{Alter, Connection};
+use sqlite::{Alter, Connection, MemStore};
 use std::alloc::Global;
-
-/// How many requests were accepted, and how many refused.
-#[derive(Clone, Copy)]
-pub struct Tally {
-    pub accepted: u64,
-    pub refused: u64,
-}
 
 /// The two offices.
 #[derive(Drop)]
 struct Offices<S: Alter> {
     plain: plain::Office,
     kept: Office<S>,
+    known: Known,
 }
 
 /// What the two answer to one request.
@@ -28,16 +24,8 @@ struct Offices<S: Alter> {
 struct Answers {
     wanted: String,
     found: String,
-    /// Whether the plain office accepts it.
-    is_accepted: bool,
-}
-
-/// All that an answer says, and whether the request was accepted.
-fn read_answer(alloc: Global, answer: Answer) -> Result<(String, bool)> {
-    Ok((
-        format!(in alloc; "{answer:?}")?,
-        !matches!(answer, Answer::Refused(_)),
-    ))
+    /// What came of it, by the answer of the plain office.
+    came: Came,
 }
 
 impl<S: Alter + Drop> Offices<S> {
@@ -53,11 +41,14 @@ impl<S: Alter + Drop> Offices<S> {
         Ok(Offices {
             plain: plain::Office::create(alloc, limits),
             kept,
+            known: Known::new(alloc),
         })
     }
 
     fn install(&mut self, alloc: Global, policy: &str) -> Result<()> {
-        self.kept.install(alloc, &read_policy(alloc, policy)?)?;
+        let policy_read = read_policy(alloc, policy)?;
+        self.known.note_policy(alloc, &policy_read)?;
+        self.kept.install(alloc, &policy_read)?;
         self.plain.install(read_policy(alloc, policy)?)?;
         Ok(())
     }
@@ -71,34 +62,36 @@ impl<S: Alter + Drop> Offices<S> {
         request: &Request<'_>,
     ) -> Result<Answers> {
         let answer = self.plain.step(alloc, day, caller, request);
-        let (wanted, is_accepted) = read_answer(alloc, answer)?;
-        let (found, _) = read_answer(alloc, self.kept.step(alloc, day, caller, request))?;
+        let kept = self.kept.step(alloc, day, caller, request);
+        let wanted = format!(in alloc; "{answer:?}")?;
+        let found = format!(in alloc; "{kept:?}")?;
+        let came = self.known.note(request, &answer)?;
         Ok(Answers {
             wanted,
             found,
-            is_accepted,
+            came,
         })
     }
 
-    /// Whether the request is accepted. Fails where the answers differ.
+    /// What comes of the request. Fails where the answers differ.
     fn step(
         &mut self,
         alloc: Global,
         day: Day,
         caller: &str,
         request: &Request<'_>,
-    ) -> Result<bool> {
+    ) -> Result<Came> {
         let Answers {
             wanted,
             found,
-            is_accepted,
+            came,
         } = self.answers(alloc, day, caller, request)?;
         if wanted != found {
             bail!(
                 "{request:?} on {day} by {caller:?} is answered {found}, by the plain office {wanted}"
             );
         }
-        Ok(is_accepted)
+        Ok(came)
     }
 
     /// Defines what is there from the beginning.
@@ -133,6 +126,7 @@ impl<S: Alter + Drop> Offices<S> {
         }
         bail!("the due list on {day} for {caller:?} is another one")
     }
+
     /// Compares what either office has in stock.
     fn compare_stock(&mut self, alloc: Global) -> Result<()> {
         let found = self.kept.stock(alloc)?;
@@ -143,46 +137,40 @@ impl<S: Alter + Drop> Offices<S> {
         Ok(())
     }
 
-    /// Puts what is drawn to both offices: whether the request is accepted. Fails where the answers differ,
-    /// or, behind an accepted request, the due lists or the stocks.
-    fn take(&mut self, alloc: Global, drawn: &Drawn) -> Result<bool> {
+    /// Puts what is drawn to both offices, and counts what comes of it. Fails where the answers differ, or,
+    /// behind an accepted request, the due lists or the stocks.
+    fn take(&mut self, alloc: Global, drawn: &Drawn, tally: &mut Tally) -> Result<()> {
         if let Some(policy) = drawn.policy {
             self.install(alloc, policy)?;
         }
-        let is_accepted = self.step(alloc, drawn.day, drawn.caller, &drawn.request)?;
-        if is_accepted {
+        let came = self.step(alloc, drawn.day, drawn.caller, &drawn.request)?;
+        tally.count(came, self.known.is_under_days());
+        if came.is_accepted() {
             self.compare_due(alloc, drawn.day, drawn.caller)?;
             self.compare_stock(alloc)?;
         }
-        Ok(is_accepted)
+        Ok(())
     }
 }
 
-/// Puts so many requests, which are drawn, to the two offices. How many were accepted and refused.
+/// Puts so many requests, which are drawn, to the two offices. What came of them.
 fn take_all<S: Alter + Drop>(
     alloc: Global,
     offices: &mut Offices<S>,
     draws: &mut Draws,
     count: u32,
 ) -> Result<Tally> {
-    let mut tally = Tally {
-        accepted: 0,
-        refused: 0,
-    };
+    let mut tally = Tally::new();
     for _ in 0..count {
         let drawn = draws.next().context("a draw")?;
-        if offices.take(alloc, &drawn)? {
-            tally.accepted = tally.accepted.saturating_add(1);
-        } else {
-            tally.refused = tally.refused.saturating_add(1);
-        }
+        offices.take(alloc, &drawn, &mut tally)?;
     }
     Ok(tally)
 }
 
 /// Puts so many requests, which are drawn, to two new offices, one of them in the empty database, with
 /// installs before some of them. Fails where an answer of the one isn't the answer of the other. The two
-/// offices, and how many were accepted and refused.
+/// offices, and what came of the requests.
 fn compare_new<S: Alter + Drop>(
     alloc: Global,
     conn: Connection<S>,
@@ -196,7 +184,7 @@ fn compare_new<S: Alter + Drop>(
     Ok((offices, tally))
 }
 
-/// The same by a seed. The connection again, and how many were accepted and refused.
+/// The same by a seed. The connection again, and what came of the requests.
 pub fn compare<S: Alter + Drop>(
     alloc: Global,
     conn: Connection<S>,
@@ -204,32 +192,29 @@ pub fn compare<S: Alter + Drop>(
     count: u32,
 ) -> Result<(Connection<S>, Tally)> {
     let (offices, tally) = compare_new(alloc, conn, &mut Draws::new(seed), count)?;
-    let Offices { plain: _, kept } = offices;
+    let Offices { kept, .. } = offices;
     Ok((kept.into_connection(), tally))
 }
 
-/// The plain office after so many draws, which were put to one in memory, too; and how many were accepted and
-/// refused.
-fn compare_beside_memory(
+/// The same with an office in memory. The two offices, and what came of the requests.
+fn compare_with_memory(
     alloc: Global,
     draws: &mut Draws,
     count: u32,
-) -> Result<(plain::Office, Tally)> {
+) -> Result<(Offices<MemStore>, Tally)> {
     let conn = Connection::open_in_memory(alloc).context("opening memory")?;
-    let (offices, tally) = compare_new(alloc, conn, draws, count)?;
-    let Offices { plain, kept: _ } = offices;
-    Ok((plain, tally))
+    compare_new(alloc, conn, draws, count)
 }
 
 /// Puts so many requests, drawn by the seed, to an office in memory and to the plain office.
 pub fn compare_in_memory(alloc: Global, seed: u64, count: u32) -> Result<Tally> {
-    let (_, tally) = compare_beside_memory(alloc, &mut Draws::new(seed), count)?;
+    let (_, tally) = compare_with_memory(alloc, &mut Draws::new(seed), count)?;
     Ok(tally)
 }
 
-/// Goes on where `compare` left an office after so many requests, with as many more: its tables may be those of an
-/// older version by now, and are upgraded first. Fails where an answer isn't that of the plain office that is
-/// brought to the same place. The connection again, and how many were accepted and refused.
+/// Goes on where `compare` left an office after so many requests, with as many more: its tables may be
+/// those of an older version by now, and are upgraded first. Fails where an answer isn't that of the plain
+/// office that is brought to the same place. The connection again, and what came of the further requests.
 pub fn compare_on<S: Alter + Drop>(
     alloc: Global,
     conn: Connection<S>,
@@ -237,16 +222,12 @@ pub fn compare_on<S: Alter + Drop>(
     count: u32,
 ) -> Result<(Connection<S>, Tally)> {
     let mut draws = Draws::new(seed);
-    let (plain, _) = compare_beside_memory(alloc, &mut draws, count)?;
-    if !conn.is_autocommit() {
-        bail!("a transaction is open");
-    }
-    let Ok(kept) = Office::upgrade(conn) else {
-        bail!("the office isn't upgraded");
-    };
-    let mut offices = Offices { plain, kept };
+    let (before, _) = compare_with_memory(alloc, &mut draws, count)?;
+    let kept = upgraded(conn)?;
+    let Offices { plain, known, .. } = before;
+    let mut offices = Offices { plain, kept, known };
     offices.compare_stock(alloc)?;
     let tally = take_all(alloc, &mut offices, &mut draws, count)?;
-    let Offices { plain: _, kept } = offices;
+    let Offices { kept, .. } = offices;
     Ok((kept.into_connection(), tally))
 }

@@ -4,7 +4,7 @@ use crate::outcome::Outcome;
 use crate::{calls, offices, tables};
 use sqlite::{Connection, MemStore};
 use std::io;
-use worked_sessions::AnyOffice;
+use worked_sessions::{AnyOffice, POLICY};
 
 /// Prints how a case came out.
 pub fn say(rt: &HostRuntime, name: &str, outcome: Outcome) -> io::Result<()> {
@@ -76,7 +76,7 @@ fn ask_session<O: AnyOffice>(rt: &HostRuntime, office: &mut O) -> io::Result<()>
     say(
         rt,
         "a policy installed",
-        offices::install_policy(rt.alloc(), office),
+        offices::install_policy(rt.alloc(), office, POLICY),
     )?;
     for (name, day, part) in &offices::SESSION {
         say(rt, name, offices::come_out(rt.alloc(), office, day, *part))?;
@@ -92,6 +92,11 @@ fn ask_session<O: AnyOffice>(rt: &HostRuntime, office: &mut O) -> io::Result<()>
 fn ask_end<O: AnyOffice>(rt: &HostRuntime, office: &mut O) -> io::Result<()> {
     let outcome = offices::count(rt.alloc(), office, offices::KEPT);
     say(rt, "contents counted", outcome)?;
+    say(
+        rt,
+        "a policy with days installed",
+        offices::install_policy(rt.alloc(), office, offices::DATED_POLICY),
+    )?;
     for (name, day, part) in &offices::END {
         say(rt, name, offices::come_out(rt.alloc(), office, day, *part))?;
     }

@@ -18,14 +18,17 @@ mod outcome;
 mod replaying;
 mod requests;
 mod tables;
+mod tally;
 mod tasks;
 mod texts;
 mod timed;
+mod upgrading;
 
 use anyhow::{Context, Result, bail};
-use comparing::{Tally, compare_in_memory};
+use comparing::compare_in_memory;
 use input::Input;
 use std::env::{Env, FillError};
+use tally::Tally;
 use tasks::{Report, Task};
 
 const USAGE: &str =
@@ -48,19 +51,33 @@ fn say(rt: &HostRuntime, report: Report) -> Result<()> {
     match report {
         Report::Done => {}
         Report::Took(took) => println!(rt; "{}", took.as_micros())?,
+        Report::Upgraded(version, took) => {
+            println!(rt; "{}", took.as_micros())?;
+            if let Some(version) = version {
+                eprintln!(rt; "the tables were of version {version}")?;
+            }
+        }
         Report::Drew(tally) => say_tally(rt, tally)?,
     }
     Ok(())
 }
 
-/// Prints how many requests were accepted and how many refused.
+/// Prints what came of requests.
 fn say_tally(rt: &HostRuntime, tally: Tally) -> Result<()> {
     println!(rt; "{} accepted {} refused", tally.accepted, tally.refused)?;
+    println!(rt;
+        "on a class: {} held {} released {} listed",
+        tally.class_holds, tally.class_releases, tally.class_lists
+    )?;
+    println!(rt;
+        "under rules with days: {} asked {} denied",
+        tally.under_days, tally.denied_on_day
+    )?;
     Ok(())
 }
 
-/// Puts so many requests, drawn by the seed, to an office in memory and to the plain office. Prints how
-/// many were accepted and how many refused.
+/// Puts so many requests, drawn by the seed, to an office in memory and to the plain office. Prints what
+/// came of them.
 fn draw(rt: &HostRuntime, count: u32, seed: u64) -> Result<()> {
     say_tally(rt, compare_in_memory(rt.alloc(), seed, count)?)
 }

@@ -3,14 +3,14 @@
 use crate::outcome::Outcome;
 use office_core::{
     Accession, Answer, AuditReport, Day, DepositRecord, Limits, LiveHold, Matter, Name,
-    PolicyFault, Refusal, Request, Years, read_policy,
+    PolicyFault, Refusal, Request, Scope, Years, read_policy,
 };
 use office_engine::Office;
 use office_history::{Stock, plain};
 use office_tables::TableFault;
 use sqlite::{Connection, MemStore};
 use std::alloc::{AllocError, Global};
-use worked_bags::{BAG, POLICY};
+use worked_bags::BAG;
 use worked_sessions::AnyOffice;
 
 /// What is asked.
@@ -24,6 +24,7 @@ pub enum Part {
     Revision,
     Hold,
     DepositHold,
+    ClassHold,
     List,
     Record,
     Holds,
@@ -33,14 +34,16 @@ pub enum Part {
     HeldDisposal,
     Release,
     DepositRelease,
+    ClassRelease,
     DueList,
+    DeniedDisposal,
     Disposal,
     DisposalAgain,
     Taken,
 }
 
 /// The session up to the releases: each request with its name and its day, in turn.
-pub static SESSION: [(&str, &str, Part); 17] = [
+pub static SESSION: [(&str, &str, Part); 19] = [
     ("a class defined", "2024-03-01", Part::Class),
     ("a collection defined", "2024-03-01", Part::Collection),
     ("a bad bag refused", "2024-03-01", Part::BadBag),
@@ -49,6 +52,7 @@ pub static SESSION: [(&str, &str, Part); 17] = [
     ("its class revised", "2024-03-02", Part::Revision),
     ("a hold placed", "2024-03-02", Part::Hold),
     ("a deposit held", "2024-03-02", Part::DepositHold),
+    ("a class held", "2024-03-02", Part::ClassHold),
     ("a list", "2024-03-02", Part::List),
     ("a record", "2024-03-02", Part::Record),
     ("holds listed", "2024-03-02", Part::Holds),
@@ -58,13 +62,23 @@ pub static SESSION: [(&str, &str, Part); 17] = [
     ("a disposal refused", "2030-01-01", Part::HeldDisposal),
     ("a hold released", "2030-01-01", Part::Release),
     ("a deposit released", "2030-01-01", Part::DepositRelease),
+    ("a class released", "2030-01-01", Part::ClassRelease),
 ];
 
 /// What one run asks then. None of it changes anything.
 static TOGETHER: [Part; 3] = [Part::DueList, Part::List, Part::Bag];
 
+/// The policy of the end of the session, whose first rule denies disposals until the end of 2029.
+pub const DATED_POLICY: &str =
+    "version = 2\n\n[callers]\nanna = \"archivist\"\n\n[[rule]]\neffect = \"deny\"\nrole = \"archivist\"\naction = \"dispose\"\ncollection = \"maps\"\nclass = \"*\"\nfirst = \"2024-03-01\"\nlast = \"2029-12-31\"\n\n[[rule]]\neffect = \"allow\"\nrole = \"archivist\"\naction = \"*\"\ncollection = \"*\"\nclass = \"*\"\n";
+
 /// And the end of the session.
-pub static END: [(&str, &str, Part); 4] = [
+pub static END: [(&str, &str, Part); 5] = [
+    (
+        "a disposal denied on its day",
+        "2029-12-31",
+        Part::DeniedDisposal,
+    ),
     ("a due list", "2030-01-02", Part::DueList),
     ("a disposal", "2030-01-02", Part::Disposal),
     ("another disposal", "2030-01-02", Part::DisposalAgain),
@@ -139,10 +153,7 @@ pub fn due(alloc: Global, office: &mut Office<MemStore>) -> Outcome {
 }
 
 /// Reads the policy and installs it.
-fn install_once<O: AnyOffice>(alloc: Global, office: &mut O) -> Outcome {
-    let Ok(text) = str::from_utf8(POLICY) else {
-        return Outcome::Wrong;
-    };
+fn install_once<O: AnyOffice>(alloc: Global, office: &mut O, text: &str) -> Outcome {
     match read_policy(alloc, text) {
         Ok(policy) => match office.install(alloc, policy) {
             Ok(()) => Outcome::Expected,
@@ -154,9 +165,9 @@ fn install_once<O: AnyOffice>(alloc: Global, office: &mut O) -> Outcome {
 
 /// Installs the policy; where memory was refused, once more, and then it has to be installed: what
 /// is asked next is denied by an office that has none.
-pub fn install_policy<O: AnyOffice>(alloc: Global, office: &mut O) -> Outcome {
-    match install_once(alloc, office) {
-        Outcome::Memory => install_once(alloc, office).again(),
+pub fn install_policy<O: AnyOffice>(alloc: Global, office: &mut O, text: &str) -> Outcome {
+    match install_once(alloc, office, text) {
+        Outcome::Memory => install_once(alloc, office, text).again(),
         outcome => outcome,
     }
 }
@@ -198,6 +209,10 @@ fn request_to_change(part: Part) -> Option<Request<'static>> {
             deposit: 1,
             matter: Matter::read("audit")?,
         }),
+        Part::ClassHold => Some(Request::HoldClass {
+            class: Name::read("y1")?,
+            matter: Matter::read("claim")?,
+        }),
         _ => deposit("A-1", BAG),
     }
 }
@@ -217,10 +232,13 @@ fn request(part: Part) -> Option<Request<'static>> {
             path: b"data/a",
         }),
         Part::Audit => Some(Request::Audit { deposit: 1 }),
-        Part::HeldDisposal | Part::Disposal => Some(Request::Dispose { deposit: 1 }),
+        Part::HeldDisposal | Part::DeniedDisposal | Part::Disposal => {
+            Some(Request::Dispose { deposit: 1 })
+        }
         Part::DisposalAgain => Some(Request::Dispose { deposit: 2 }),
         Part::Release => Some(Request::Release { hold: 1 }),
         Part::DepositRelease => Some(Request::Release { hold: 2 }),
+        Part::ClassRelease => Some(Request::Release { hold: 3 }),
         Part::DueList => Some(Request::DueList),
         _ => request_to_change(part),
     }
@@ -246,10 +264,13 @@ fn is_valid(report: &AuditReport) -> bool {
 /// Whether these are the holds of deposit 1.
 fn are_worked(holds: &[LiveHold]) -> bool {
     match holds {
-        [first, second] => {
-            (first.number, second.number) == (1, 2)
+        [first, second, third] => {
+            (first.number, second.number, third.number) == (1, 2, 3)
                 && first.matter.as_str() == "suit"
                 && second.matter.as_str() == "audit"
+                && third.matter.as_str() == "claim"
+                && (first.on, second.on, third.on)
+                    == (Scope::Collection, Scope::Deposit, Scope::Class)
         }
         _ => false,
     }
@@ -284,9 +305,12 @@ fn fits(part: Part, answer: &Answer) -> bool {
         (Part::DepositAgain, Answer::Deposited { deposit }) => *deposit == 2,
         (Part::Hold, Answer::HoldPlaced { hold }) => *hold == 1,
         (Part::DepositHold, Answer::HoldPlaced { hold }) => *hold == 2,
+        (Part::ClassHold, Answer::HoldPlaced { hold }) => *hold == 3,
         (Part::HeldDisposal, Answer::Refused(Refusal::Held(hold))) => *hold == 1,
         (Part::Release, Answer::HoldReleased { hold, .. }) => *hold == 1,
         (Part::DepositRelease, Answer::HoldReleased { hold, .. }) => *hold == 2,
+        (Part::ClassRelease, Answer::HoldReleased { hold, .. }) => *hold == 3,
+        (Part::DeniedDisposal, Answer::Refused(Refusal::DeniedByRule(rule))) => *rule == 1,
         (Part::Disposal, Answer::Destroyed { deposit, .. }) => *deposit == 1,
         (Part::DisposalAgain, Answer::Destroyed { deposit, .. }) => *deposit == 2,
         (Part::Taken, Answer::Refused(Refusal::Taken(number))) => *number == 1,

@@ -35,7 +35,7 @@ pub static SESSION: [(&str, Step); 9] = [
     ("a deposit with files", Step::Deposit),
     ("holds", Step::Hold),
     ("rows read", Step::Read),
-    ("a deposit destroyed, a hold ended", Step::Destroy),
+    ("a deposit destroyed, holds ended", Step::Destroy),
     ("rows read again", Step::ReadAgain),
 ];
 
@@ -109,6 +109,8 @@ fn change<S: Alter>(
             drop_files(tx, 1)?;
             end_hold(tx, 1, 102)?;
             add_holds(tx, "maps", -1)?;
+            end_hold(tx, 3, 104)?;
+            add_holds_class(tx, "short", -1)?;
             set_due(tx, 1, None)
         }
     }
@@ -229,9 +231,10 @@ fn read_again<S: Alter>(alloc: Global, tx: &mut Transaction<'_, S>) -> Result<bo
         deposit_row(tx, 1)?.is_some_and(|found| found.gone == Some(99))
             && file_of(tx, 1, "data/a")?.is_none()
             && contents(alloc, tx)?.is_empty()
-            && due_row(tx, 1)?.is_some_and(|kept| kept.due.is_none() && kept.holds == 2)
+            && due_row(tx, 1)?.is_some_and(|kept| kept.due.is_none() && kept.holds == 1)
             && hold_row(tx, 1)?.is_some_and(|hold| hold.released == Some(102))
             && has_release_outside(tx, 1, "maps", "short", 103, 200)?
-            && live_holds(alloc, tx, 1, "maps", "short")?.as_slice() == [2, 3].as_slice(),
+            && hold_row(tx, 3)?.is_some_and(|hold| hold.released == Some(104))
+            && live_holds(alloc, tx, 1, "maps", "short")?.as_slice() == [2].as_slice(),
     )
 }

@@ -1,9 +1,11 @@
 //! What is done with an office in a file.
 
-use crate::comparing::{Tally, compare, compare_on};
+use crate::comparing::{compare, compare_on};
 use crate::office;
 use crate::requests::{self, Asked};
+use crate::tally::Tally;
 use crate::timed::{self, Call};
+use crate::upgrading::{told_version, upgraded};
 use anyhow::{Context, Result, bail};
 use office_engine::Office;
 use office_recovery::open_file;
@@ -35,7 +37,9 @@ pub enum Report {
     Done,
     /// The time of the calls or requests: the opening of the file doesn't count.
     Took(Duration),
-    /// How many requests were accepted and refused.
+    /// The version of the tables before an upgrade, where they told one, and its time.
+    Upgraded(Option<i64>, Duration),
+    /// What came of requests.
     Drew(Tally),
 }
 
@@ -73,20 +77,16 @@ fn ask<S: Alter + Drop>(
     Ok((office.into_connection(), took))
 }
 
-/// Upgrades the office. The connection again, and the time that it took.
+/// Upgrades the office. The connection again, the version that its tables told, and the time.
 fn upgrade<S: Alter + Drop>(
     rt: &HostRuntime,
-    conn: Connection<S>,
-) -> Result<(Connection<S>, Duration)> {
-    if !conn.is_autocommit() {
-        bail!("a transaction is open");
-    }
+    mut conn: Connection<S>,
+) -> Result<(Connection<S>, Option<i64>, Duration)> {
+    let version = told_version(&mut conn);
     let start = Instant::now(rt)?;
-    let Ok(office) = Office::upgrade(conn) else {
-        bail!("the office isn't upgraded");
-    };
+    let office = upgraded(conn)?;
     let took = start.elapsed(rt)?;
-    Ok((office.into_connection(), took))
+    Ok((office.into_connection(), version, took))
 }
 
 /// Does the task over the open file. The connection again, and what the task comes to.
@@ -115,8 +115,8 @@ fn perform<S: Alter + Drop>(
             return Ok((conn, Report::Drew(tally)));
         }
         Task::Upgrade => {
-            let (conn, took) = upgrade(rt, conn)?;
-            return Ok((conn, Report::Took(took)));
+            let (conn, version, took) = upgrade(rt, conn)?;
+            return Ok((conn, Report::Upgraded(version, took)));
         }
     }
     Ok((conn, Report::Done))

@@ -76,7 +76,7 @@ const EVERYBODY: &str =
 
 /// The first, in version 2, where the rules that deny and that let list count on some of the days alone.
 const ON_DAYS: &str =
-    "version = 2\n\n[callers]\nanna = \"archivist\"\ncarl = \"clerk\"\n\n[[rule]]\neffect = \"deny\"\nrole = \"archivist\"\naction = \"dispose\"\ncollection = \"tax\"\nclass = \"*\"\nlast = \"2024-02-29\"\n\n[[rule]]\neffect = \"deny\"\nrole = \"archivist\"\naction = \"release\"\ncollection = \"*\"\nclass = \"y1\"\nfirst = \"2024-03-01\"\nlast = \"2024-03-01\"\n\n[[rule]]\neffect = \"allow\"\nrole = \"archivist\"\naction = \"*\"\ncollection = \"*\"\nclass = \"*\"\n\n[[rule]]\neffect = \"allow\"\nrole = \"clerk\"\naction = \"list\"\ncollection = \"*\"\nclass = \"y10\"\nfirst = \"2025-02-28\"\n";
+    "version = 2\n\n[callers]\nanna = \"archivist\"\ncarl = \"clerk\"\n\n[[rule]]\neffect = \"deny\"\nrole = \"archivist\"\naction = \"dispose\"\ncollection = \"tax\"\nclass = \"*\"\nlast = \"2024-02-29\"\n\n[[rule]]\neffect = \"deny\"\nrole = \"archivist\"\naction = \"*\"\ncollection = \"*\"\nclass = \"y1\"\nfirst = \"2024-03-01\"\nlast = \"2024-03-01\"\n\n[[rule]]\neffect = \"allow\"\nrole = \"archivist\"\naction = \"*\"\ncollection = \"*\"\nclass = \"*\"\n\n[[rule]]\neffect = \"allow\"\nrole = \"clerk\"\naction = \"list\"\ncollection = \"*\"\nclass = \"y10\"\nfirst = \"2025-02-28\"\n";
 
 /// The policies. The first is installed before the first request.
 pub static POLICIES: [&str; 3] = [ARCHIVIST_AND_CLERK, EVERYBODY, ON_DAYS];
