@@ -2,9 +2,11 @@
 # Has the proved program `office_file` put 100 requests by each of 100 seeds to an office over
 # tables and to the plain office, which have to give the same answers, the same due lists and the same stock:
 # over tables in memory, and over a file, in which `kept.py` then finds contents, due days and counts of holds
-# as the rows give them. By each second seed a file after 10 or 50 requests is put into the tables of an older version
-# (`older.py`), upgraded, and asked as many more. Words: the first seed and the last, 1 and 100 if left out. Needs
-# python3; proves and builds the program where it is missing, or its sources have changed.
+# as the rows give them. By each seed, too, a file after 10 or 50 requests is put into the tables of an older version
+# (`older.py`), unless a rule has days then, and it is upgraded and asked as many more. Words: the first seed and the
+# last, 1 and 100 if left out. Over 100 seeds and more half of them have to be upgraded, some from each version, and
+# requests about classes and under rules with days have to come before and after. Needs python3; proves and builds
+# the program where it is missing, or its sources have changed.
 set -eu
 top=$(dirname "$(readlink -f "$0")")/..
 . "$top/diff/built.sh"
@@ -13,9 +15,29 @@ folder=$(mktemp -d)
 trap 'rm -rf "$folder"' EXIT
 first=${1:-1}
 last=${2:-100}
-accepted=0
-refused=0
-declare -A upgraded=([3]=0 [4]=0 [5]=0)
+seeds=$((last - first + 1))
+
+# What is counted of all seeds (`all`), and of the requests behind an upgrade (`on`), as `office_file` tells it.
+counts=(accepted refused held released listed asked denied)
+declare -A all on upgraded=([3]=0 [4]=0 [5]=0)
+for name in "${counts[@]}"; do
+    all[$name]=0
+    on[$name]=0
+done
+
+# add KIND TOLD: adds each number that comes before one of these words.
+add() {
+    local -n sums=$1
+    local number=0 word
+    for word in $2; do
+        if [[ $word =~ ^[0-9]+$ ]]; then
+            number=$word
+        elif [ -n "${sums[$word]-}" ]; then
+            sums[$word]=$((${sums[$word]} + number))
+        fi
+    done
+}
+
 for seed in $(seq "$first" "$last"); do
     said=$("$program" draw 100 "$seed" 2>&1) || { echo "seed $seed: $said" >&2; exit 1; }
     again=$("$program" draw 100 "$seed" "$folder/$seed.db" 2>&1) || { echo "seed $seed over a file: $again" >&2; exit 1; }
@@ -23,19 +45,47 @@ for seed in $(seq "$first" "$last"); do
         echo "seed $seed: $said in memory, and $again over a file" >&2
         exit 1
     fi
-    if [ $((seed % 2)) -eq 1 ]; then
-        half=$folder/half-$seed.db
-        # (after 50 requests there is mostly a hold on a class, which tables of version 3 can't have)
-        count=$((seed % 4 == 1 ? 50 : 10))
-        "$program" draw "$count" "$seed" "$half" >/dev/null
-        version=$("$top/diff/older.py" "$half")
-        on=$("$program" draw-on "$count" "$seed" "$half" 2>&1) || { echo "seed $seed, upgraded from version $version: $on" >&2; exit 1; }
-        upgraded[$version]=$((upgraded[$version] + 1))
+    add all "$said"
+    half=$folder/half-$seed.db
+    # (after 50 requests there is mostly a hold on a class, which tables of version 3 can't have)
+    count=$((seed % 2 ? 50 : 10))
+    "$program" draw "$count" "$seed" "$half" >/dev/null
+    version=$("$top/diff/older.py" "$half")
+    said=$("$program" draw-on "$count" "$seed" "$half" 2>&1) ||
+        { echo "seed $seed, upgraded from version $version: $said" >&2; exit 1; }
+    upgraded[$version]=$((upgraded[$version] + 1))
+    if [ "$version" -ne 5 ]; then
+        add on "$said"
     fi
-    read -r yes _ no _ <<<"$said"
-    accepted=$((accepted + yes))
-    refused=$((refused + no))
 done
-echo "seeds $first to $last: the same answers, $accepted accepted and $refused refused"
-echo "upgraded in the middle: ${upgraded[3]} from version 3, ${upgraded[4]} from version 4, ${upgraded[5]} were left"
+
+# about KIND: what came to classes and days.
+about() {
+    local -n sums=$1
+    echo "${sums[held]} holds on a class, ${sums[released]} released, ${sums[listed]} lists of holds with one;" \
+        "${sums[asked]} requests under rules with days, ${sums[denied]} denied by one"
+}
+
+echo "seeds $first to $last: the same answers, ${all[accepted]} accepted and ${all[refused]} refused: $(about all)"
+echo "upgraded in the middle: ${upgraded[3]} from version 3, ${upgraded[4]} from version 4, ${upgraded[5]} were left;" \
+    "then ${on[accepted]} accepted and ${on[refused]} refused: $(about on)"
+
+# wants NUMBER LEAST WHAT: ends where there are fewer, over 100 seeds.
+wants() {
+    if [ "$seeds" -ge 100 ] && [ "$1" -lt "$2" ]; then
+        echo "$1 $3, and at least $2 are wanted" >&2
+        exit 1
+    fi
+}
+wants $((upgraded[3] + upgraded[4])) 50 "seeds were upgraded in the middle"
+wants "${upgraded[3]}" 12 "seeds were upgraded from version 3"
+wants "${upgraded[4]}" 12 "seeds were upgraded from version 4"
+wants "${all[held]}" 100 "holds on a class were placed"
+wants "${all[released]}" 50 "holds on a class were released"
+wants "${all[listed]}" 10 "lists of holds have one on a class"
+wants "${all[asked]}" 1000 "requests came under rules with days"
+wants "${all[denied]}" 20 "requests were denied by a rule with days"
+wants "${on[held]}" 20 "holds on a class were placed after an upgrade"
+wants "${on[released]}" 5 "holds on a class were released after an upgrade"
+wants "${on[asked]}" 100 "requests came under rules with days after an upgrade"
 python3 "$top/diff/kept.py" "$folder"/*.db

@@ -5,7 +5,8 @@
 - each content stands once, under its SHA-256 and with its size, and a file of a kept deposit has it; each kept
   deposit has as many payload files, and as many bytes of them, as its row says, and no other deposit has files;
 - each deposit, a destroyed one too, has the due day of its closing day and of the years of its class, and the
-  number of the live holds on it, on its collection and on its class.
+  number of the live holds on it, on its collection and on its class;
+- the version is 5, and the tables that older versions have for holds and rules are empty.
 
 It prints how many offices, deposits, contents and files there are, and how many files share a content.
 """
@@ -76,13 +77,21 @@ def faults_of_deposits(base):
             yield f"deposit {number} has {count} holds, and not {covering}"
 
 
+def faults_of_versions(base):
+    """What is wrong with the version, and with the tables of older ones."""
+    version, = base.execute("SELECT version FROM office").fetchone()
+    if version != 5:
+        yield f"the version is {version}"
+    for table in ("hold", "rule"):
+        count, = base.execute(f"SELECT count(*) FROM {table}").fetchone()
+        if count:
+            yield f"{table} has {count} rows"
+
+
 def look(file):
     """What is wrong with the office in the file, and how much it has."""
     base = sqlite3.connect(pathlib.Path(file).resolve().as_uri() + "?mode=ro", uri=True)
-    faults = [*faults_of_contents(base), *faults_of_files(base), *faults_of_deposits(base)]
-    version, = base.execute("SELECT version FROM office").fetchone()
-    if version != 5:
-        faults.append(f"the version is {version}")
+    faults = [*faults_of_versions(base), *faults_of_contents(base), *faults_of_files(base), *faults_of_deposits(base)]
     deposits, contents, files = (base.execute(f"SELECT count(*) FROM {table}").fetchone()[0] for table in ("deposit", "content", "file"))
     shared, = base.execute("SELECT count(*) FROM file WHERE content IN (SELECT content FROM file GROUP BY content HAVING count(*) > 1)").fetchone()
     base.close()
