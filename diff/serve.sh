@@ -1,10 +1,12 @@
 #!/usr/bin/env bash
-# Has `depot serve` answer curl, each route and each refusal but want of memory once. Puts each command to
-# databases that have commits in a log and are no office of this version, and to offices that another process has
-# open: each is refused, and leaves what is there as it was. Serves with too few descriptors to accept a connection:
-# the command stops, and says why. And then `serve_client.py`, which sends
-# bytes that are cut, dribbled, stopped or too many, and kills the office 200 times, between requests
-# and in them, to compare what is there after each restart with what was answered.
+# Has `depot serve` answer curl, each route and each refusal but want of memory once. Installs a policy of version 2,
+# whose rules have days, and serves one office on three days, on which the same requests are decided by other rules;
+# `explain --day` says the same of each. What is no policy, and a day that is none, is refused by each command that
+# takes one. Puts each command to databases that have commits in a log and are no office of this version, and to offices
+# that another process has open: each is refused, and leaves what is there as it was. Serves with too few descriptors to
+# accept a connection: the command stops, and says why. And then `serve_client.py`, which sends bytes that are cut,
+# dribbled, stopped or too many, and kills the office 200 times, between requests and in them, to compare what is there
+# after each restart with what was answered.
 # Needs curl, python3 and sqlite3. Words: the program, `depot` of the repository if left out, and how
 # many times it is killed. Takes some minutes.
 set -eu
@@ -18,12 +20,17 @@ kills=${2:-200}
 folder=$(mktemp -d)
 trap 'kill $(jobs -p) 2>/dev/null || true; rm -rf "$folder"' EXIT
 policy=$top/examples/policy.toml
+dated=$folder/dated.toml
 day=2024-03-01
 store=$folder/office.db
 commands=(policy ask replay 'replay --policy' serve)
 refusals=0
+questions=0
 first='{"accession":"A-1","bytes":3,"class":"y0","closed":"2024-02-29","collection":"maps","deposit":1,"deposited":"2024-03-01","due":"2024-02-29","files":1}'
 second='{"accession":"A-2","bytes":3,"class":"y10","closed":"2024-02-29","collection":"tax","deposit":2,"deposited":"2024-03-01","due":"2034-02-28","files":1}'
+listed=${first/y0/drawn}
+on_class='{"hold":1,"matter":"Case 7","on":"class","placed":"2024-03-01"}'
+on_collection='{"hold":2,"matter":"Case 8","on":"collection","placed":"2024-03-01"}'
 long=$(printf 'x%.0s' {1..9000})
 
 # Who asks, the status (for a wrong method with what `Allow` says) and the body that are wanted, the
@@ -109,6 +116,191 @@ all() {
     asks anna 413 '{"error":"TooLarge"}' /due -H 'Content-Length: 16777217'
     asks anna 413 '{"error":"TooLarge"}' /due -H "X-Long: $long"
     asks anna 400 '{"error":"TwoCallers"}' /due -H 'depot-caller: carl'
+}
+
+# A policy of version 2. Rule 1 counts in the year 2024, rule 2 up to the first of the days below, rule 3 from the second
+# on, rule 4 on the first alone, and rule 5 on each.
+cat >"$dated" <<'POLICY'
+version = 2
+
+[callers]
+anna = "archivist"
+carl = "clerk"
+
+[[rule]]
+effect = "deny"
+role = "archivist"
+action = "dispose"
+collection = "tax"
+class = "*"
+first = "2024-01-01"
+last = "2024-12-31"
+
+[[rule]]
+effect = "allow"
+role = "clerk"
+action = "list"
+collection = "*"
+class = "*"
+last = "2024-03-01"
+
+[[rule]]
+effect = "allow"
+role = "clerk"
+action = "record"
+collection = "*"
+class = "*"
+first = "2024-12-31"
+
+[[rule]]
+effect = "deny"
+role = "archivist"
+action = "release"
+collection = "*"
+class = "drawn"
+first = "2024-03-01"
+last = "2024-03-01"
+
+[[rule]]
+effect = "allow"
+role = "archivist"
+action = "*"
+collection = "*"
+class = "*"
+POLICY
+
+# The requests of the first day, 2024-03-01: a clerk lists, and reads no record; the hold on a class can't be released,
+# and covers a deposit that comes later.
+on_the_first() {
+    asks anna 200 '{"class":"drawn","years":0}' /classes/drawn -X PUT -d '{"years":0}'
+    asks anna 200 '{"class":"y10","years":10}' /classes/y10 -X PUT -d '{"years":10}'
+    asks anna 200 '{"collection":"maps"}' /collections/maps -X PUT
+    asks anna 200 '{"collection":"tax"}' /collections/tax -X PUT
+    asks anna 201 '{"deposit":1}' '/deposits?collection=maps&class=drawn&accession=A-1&closed=2024-02-29' --data-binary "@$bag"
+    asks anna 201 '{"deposit":2}' '/deposits?collection=tax&class=drawn&accession=A-2&closed=2024-02-29' --data-binary "@$bag"
+    asks carl 200 "{\"deposits\":[$listed]}" '/deposits?collection=maps'
+    asks carl 403 '{"error":"Denied","rule":"default"}' /deposits/1
+    asks anna 201 '{"hold":1}' /holds -d '{"class":"drawn","matter":"Case 7"}'
+    asks anna 201 '{"hold":2}' /holds -d '{"collection":"maps","matter":"Case 8"}'
+    asks anna 200 "{\"holds\":[$on_class,$on_collection]}" /deposits/1/holds
+    asks anna 200 "{\"holds\":[$on_class]}" /deposits/2/holds
+    asks anna 409 '{"error":"Held","hold":1}' /deposits/1 -X DELETE
+    asks anna 403 '{"error":"Denied","rule":1}' /deposits/2 -X DELETE
+    asks anna 403 '{"error":"Denied","rule":4}' /holds/1 -X DELETE
+    asks carl 403 '{"error":"Denied","rule":"default"}' /holds/1 -X DELETE
+    asks anna 200 '{"hold":2,"released":"2024-03-01"}' /holds/2 -X DELETE
+    asks anna 201 '{"deposit":3}' '/deposits?collection=maps&class=drawn&accession=A-3&closed=2024-02-29' --data-binary "@$bag"
+    asks anna 409 '{"error":"Held","hold":1}' /deposits/3 -X DELETE
+    asks anna 200 "{\"holds\":[$on_class]}" /deposits/3/holds
+    asks anna 404 '{"error":"NoSuch","what":"class"}' /holds -d '{"class":"maps","matter":"Case 9"}'
+    asks anna 404 '{"error":"NoSuch","what":"collection"}' /holds -d '{"collection":"drawn","matter":"Case 9"}'
+    asks anna 400 '{"error":"BadBody"}' /holds -d '{"class":"drawn","collection":"maps","matter":"Case 9"}'
+    asks anna 400 '{"error":"BadBody"}' /holds -d '{"matter":"Case 9"}'
+    asks anna 400 '{"error":"BadBody"}' /holds -d '{"class":"drawn"}'
+    asks anna 404 '{"error":"NoSuch","what":"hold"}' /holds/3 -X DELETE
+    asks anna 200 '{"day":"2024-03-01","deposits":[]}' /due
+}
+
+# Those of 2024-12-31: a clerk reads records, and lists nothing; the hold is released; rule 1 keeps what is in `tax`.
+on_the_last() {
+    asks carl 200 '{"deposits":[]}' '/deposits?collection=maps'
+    asks carl 200 "$listed" /deposits/1
+    asks anna 200 '{"day":"2024-12-31","deposits":[]}' /due
+    asks anna 200 '{"hold":1,"released":"2024-12-31"}' /holds/1 -X DELETE
+    asks anna 409 '{"day":"2024-12-31","error":"Released"}' /holds/1 -X DELETE
+    asks anna 200 '{"holds":[]}' /deposits/2/holds
+    asks anna 200 '{"day":"2024-12-31","deposits":[1,3]}' /due
+    asks anna 403 '{"error":"Denied","rule":1}' /deposits/2 -X DELETE
+    asks anna 200 '{"day":"2024-12-31","destroyed":1}' /deposits/1 -X DELETE
+    asks carl 410 '{"day":"2024-12-31","error":"Gone"}' /deposits/1
+}
+
+# Those of 2025-01-01: rule 1 is over, and the deposit in `tax` can be destroyed.
+on_the_next() {
+    asks anna 200 '{"day":"2025-01-01","deposits":[2,3]}' /due
+    asks anna 200 '{"day":"2025-01-01","destroyed":2}' /deposits/2 -X DELETE
+    asks anna 201 '{"hold":3}' /holds -d '{"class":"drawn","matter":"Case 9"}'
+    asks anna 409 '{"error":"Held","hold":3}' /deposits/3 -X DELETE
+}
+
+# Serves a store on a day, and asks what a function asks.
+on_day() {
+    day=$1 serve "$(declare -f "$2" | grep -c '^ *asks ')" "$3"
+    "$2"
+    ended "$serving" || { echo "serve is to end with 0 after its last connection, and ended with $?" >&2; exit 1; }
+}
+
+# What is wanted of a command, on its outputs and as its status, and its words. It gets the record of a request, or `input`.
+prints() {
+    local out=$1 err=$2 wanted=$3 status=0
+    shift 3
+    questions=$((questions + 1))
+    timeout 60 "$program" "$@" <"${input:-$folder/record}" >"$folder/out" 2>"$folder/err" || status=$?
+    printf %s "$out" >"$folder/wanted-out"
+    printf %s "$err" >"$folder/wanted-err"
+    if ! cmp -s "$folder/out" "$folder/wanted-out" || ! cmp -s "$folder/err" "$folder/wanted-err" || [ "$status" -ne "$wanted" ]; then
+        echo "$*: '$out', '$err' and $wanted are wanted, and this came: '$(cat "$folder/out")', '$(cat "$folder/err")' and $status" >&2
+        exit 1
+    fi
+}
+
+# What is no policy: its fault, its sentence with the place, and words for sed that make it of the policy of the days.
+# Each command that reads a policy refuses it, and the office is as it was.
+no_policy() {
+    local file=$folder/other.toml
+    sed "${@:3}" "$dated" >"$file"
+    cp "$dated_store" "$folder/before"
+    prints "policy $1"$'\n' "$2"$'\n' 1 policy "$dated_store" "$file"
+    prints '' "policy $1"$'\n'"$2"$'\n'"depot: $file is no policy"$'\n' 1 replay --policy "$file" "$dated_store"
+    prints "policy $1"$'\n' "$2"$'\n' 1 explain --day 2024-03-01 "$file" anna dispose tax drawn
+    prints "policy $1"$'\n' "$2"$'\n' 1 explain "$file" anna dispose tax drawn
+    cmp "$folder/before" "$dated_store" >&2 || { echo "policy was refused, and changed the office" >&2; exit 1; }
+}
+
+# The sentence of a rule that is none, with the key at fault.
+no_rule() {
+    echo "rule $1 of the policy is not well formed: it is effect, role, action, collection and class, each with a value that" \
+        "it may have, and under version 2 it may have first and last, days of which first is not after last (Y5): the key $2"
+}
+
+# What `explain` says of the policy on days, and what is no policy, or no day.
+days_and_faults() {
+    local missing='the option --day DAY is missing: the policy has version 2, in which rules may count on certain days alone'
+    local no_day='DAY is a date such as 2024-03-01, from 1900-01-01 to 9799-12-31' asked
+    prints $'allow rule 5\n' '' 0 explain --day 2023-12-31 "$dated" anna dispose tax drawn
+    prints $'deny rule 1\n' '' 1 explain --day 2024-01-01 "$dated" anna dispose tax drawn
+    prints $'deny rule 1\n' '' 1 explain --day 2024-12-31 "$dated" anna dispose tax drawn
+    prints $'allow rule 5\n' '' 0 explain --day 2025-01-01 "$dated" anna dispose tax drawn
+    prints $'allow rule 2\n' '' 0 explain --day 1900-01-01 "$dated" carl list maps drawn
+    prints $'allow rule 2\n' '' 0 explain --day 2024-03-01 "$dated" carl list maps drawn
+    prints $'deny default\n' '' 1 explain --day 2024-03-02 "$dated" carl list maps drawn
+    prints $'deny default\n' '' 1 explain --day 2024-12-30 "$dated" carl record maps drawn
+    prints $'allow rule 3\n' '' 0 explain --day 2024-12-31 "$dated" carl record maps drawn
+    prints $'allow rule 3\n' '' 0 explain --day 9799-12-31 "$dated" carl record maps drawn
+    prints $'allow rule 5\n' '' 0 explain --day 2024-02-29 "$dated" anna release - drawn
+    prints $'deny rule 4\n' '' 1 explain --day 2024-03-01 "$dated" anna release - drawn
+    prints $'allow rule 5\n' '' 0 explain --day 2024-03-01 "$dated" anna release maps -
+    prints $'allow rule 5\n' '' 0 explain --day 2024-03-02 "$dated" anna release - drawn
+    prints $'deny rule 1\n' '' 1 explain --day 2025-01-01 "$policy" anna dispose tax drawn
+    prints '' "$missing"$'\n' 2 explain "$dated" anna dispose tax drawn
+    for asked in 2024-02-30 1899-12-31 9800-01-01 2024-3-1 ''; do
+        prints '' "$no_day"$'\n' 2 explain --day "$asked" "$dated" anna dispose tax drawn
+        prints '' "$no_day"$'\n' 2 ask "$dated_store" "$asked"
+        prints '' "$no_day"$'\n' 2 serve --port 0 --count 1 "$dated_store" "$asked"
+        sed "1s/$day/$asked/" "$folder/record" >"$folder/no-day"
+        input=$folder/no-day prints '' $'record 1\ndepot: record 1 of the input is malformed\n' 1 replay "$dated_store"
+    done
+
+    no_policy 'Y5 1' "$(no_rule 1 last)" 's/version = 2/version = 1/; s/^first.*01-01"$//'
+    no_policy 'Y5 1' "$(no_rule 1 first)" 's/version = 2/version = 1/'
+    no_policy 'Y5 1' "$(no_rule 1 first)" 's/"2024-12-31"/"2023-12-31"/'
+    no_policy 'Y5 1' "$(no_rule 1 first)" 's/"2024-01-01"/"2025-01-01"/'
+    no_policy 'Y5 2' "$(no_rule 2 last)" '/list/,/last/ s/"2024-03-01"/"2024-02-30"/'
+    no_policy 'Y5 3' "$(no_rule 3 first)" '/record/,/first/ s/"2024-12-31"/"1899-12-31"/'
+    no_policy 'Y5 3' "$(no_rule 3 first)" '/record/,/first/ s/"2024-12-31"/"2024-12-31 "/'
+    no_policy 'Y5 3' "$(no_rule 3 first)" '/record/,/first/ s/"2024-12-31"/2024-12-31/'
+    no_policy 'Y5 3' "$(no_rule 3 from)" '/record/,/first/ s/^first/from/'
+    no_policy Y2 'the policy has no version, or one that is neither the whole number 1 nor 2 (Y2)' 's/version = 2/version = 3/'
 }
 
 # Has so many connections served from a store.
@@ -271,6 +463,17 @@ echo "curl: ${#cases[@]} requests answered as worked out"
 
 printf 'PUT /collections/maps HTTP/1.1\r\nDepot-Caller: anna\r\n\r\n' >"$folder/request"
 { echo "REQ $day $(stat -c %s "$folder/request")"; cat "$folder/request"; echo; } >"$folder/record"
+
+dated_store=$folder/dated.db
+before=${#cases[@]}
+prints $'installed 3 rules 2 callers\n' '' 0 policy "$dated_store" "$policy"
+prints $'installed 5 rules 2 callers\n' '' 0 policy "$dated_store" "$dated"
+on_day 2024-03-01 on_the_first "$dated_store"
+days_and_faults
+on_day 2024-12-31 on_the_last "$dated_store"
+on_day 2025-01-01 on_the_next "$dated_store"
+echo "days: $((${#cases[@]} - before)) requests on three days are decided by a policy of version 2, and $questions commands are answered or refused"
+
 mkdir "$folder/made" "$folder/logged" "$folder/held" "$folder/taken"
 logged "$folder/made/notes.db" "$folder/logged/notes.db" \
     "CREATE TABLE note (number INTEGER PRIMARY KEY, said TEXT NOT NULL); INSERT INTO note VALUES (1, 'first')" \
@@ -316,5 +519,5 @@ asks anna 200 '{"collection":"maps"}' /collections/maps -X PUT
 asks anna 200 '{"deposits":[]}' /deposits
 ended "$serving" || { echo "serve is to end with 0 after its last connection, and ended with $?" >&2; exit 1; }
 
-python3 "$top/diff/serve_client.py" "$program" "$folder" "$policy" "$kills"
-echo "serve: ${#cases[@]} requests by curl, $refusals refused commands on databases with a log and stores that are open elsewhere, all kinds of peers and $kills kills: as docs/ says"
+python3 "$top/diff/serve_client.py" "$program" "$folder" "$dated" "$kills"
+echo "serve: ${#cases[@]} requests by curl, $questions commands on policies and days, $refusals refused commands on databases with a log and stores that are open elsewhere, all kinds of peers and $kills kills: as docs/ says"

@@ -1,7 +1,7 @@
 """What `depot serve` does with peers that cut, dribble, go, reset, stop, stay and go on, and with being killed.
 
-Words: the program, a folder of its own, a policy, how many times the office is killed. Called by
-`serve.sh`. Fails at the first thing that is otherwise than `docs/HTTP.md` says.
+Words: the program, a folder of its own, a policy of version 2 by which anna may do everything on the day below, how
+many times the office is killed. Called by `serve.sh`. Fails at the first thing that is otherwise than `docs/HTTP.md` says.
 """
 
 import atexit
@@ -44,7 +44,9 @@ COUNTED = {
     "contents": "content",
     "live holds": "hold_4 WHERE released IS NULL",
     "released holds": "hold_4 WHERE released IS NOT NULL",
+    "holds on a class": "hold_4 WHERE class IS NOT NULL",
     "rules": "rule_5",
+    "rules with days": "rule_5 WHERE first > -25567 OR last < 2859848",
     "callers": "caller",
 }
 
@@ -132,8 +134,8 @@ def bag(payload):
     return form + b"END\n"
 
 
-def deposit_target(accession):
-    return f"/deposits?collection=maps&class=y0&accession={accession}&closed=2024-02-29"
+def deposit_target(accession, name="y0"):
+    return f"/deposits?collection=maps&class={name}&accession={accession}&closed=2024-02-29"
 
 
 def opened(name):
@@ -304,39 +306,65 @@ def never_reading():
     print("a peer that resets in its answer, and one that reads nothing of it: its connection ends, and the next is served")
 
 
+# The classes of the deposits of an office that is killed.
+CLASSES = ("y0", "y1")
+
+
 class Kept:
     """What an office has to have: what was answered, and what may have been done."""
 
     def __init__(self):
         self.bags = {}
+        # The class of each deposit.
+        self.classes = {}
         self.gone = set()
+        # What each hold names: a deposit, a class or the collection.
         self.holds = {}
         self.released = set()
         self.last = 0
         self.asked = 0
 
+    def kept(self):
+        return [number for number in self.bags if number not in self.gone]
+
+    def live(self):
+        return [hold for hold in self.holds if hold not in self.released]
+
+    def covers(self, named, number):
+        """Whether a hold that names this covers a deposit."""
+        kind, name = named
+        return kind == "collection" or name == (number if kind == "deposit" else self.classes[number])
+
+    def over(self, number):
+        """The live holds that cover a deposit."""
+        return {hold for hold in self.live() if self.covers(self.holds[hold], number)}
+
     def next_request(self, chance, sizes):
         """A request, and what it does where it is served. The file of a bag has one of these sizes."""
-        kept = [n for n in self.bags if n not in self.gone]
-        live = [k for k in self.holds if k not in self.released]
-        free = [n for n in kept if n not in {self.holds[k] for k in live}]
+        kept, live = self.kept(), self.live()
+        free = [number for number in kept if not self.over(number)]
+        # A hold on a class or on the collection, of which one is live at most.
+        wide = [hold for hold in live if self.holds[hold][0] != "deposit"]
         pick = chance.random()
         if pick < 0.15 and kept:
             number = chance.choice(kept)
-            body = json.dumps({"deposit": number, "matter": f"Case {len(self.holds)}"}).encode()
-            return ("POST", "/holds", body), ("hold", len(self.holds) + 1, number)
+            named = ("deposit", number)
+            if not wide and chance.random() < 0.4:
+                named = chance.choice((("class", self.classes[number]), ("class", self.classes[number]), ("collection", "maps")))
+            body = json.dumps({named[0]: named[1], "matter": f"Case {len(self.holds)}"}).encode()
+            return ("POST", "/holds", body), ("hold", len(self.holds) + 1, named)
         if pick < 0.25 and live:
-            return ("DELETE", f"/holds/{(hold := chance.choice(live))}", b""), ("release", hold, None)
+            return ("DELETE", f"/holds/{(hold := chance.choice(wide or live))}", b""), ("release", hold, None)
         if pick < 0.40 and free:
             return ("DELETE", f"/deposits/{(number := chance.choice(free))}", b""), ("dispose", number, None)
         self.asked += 1
-        form = bag(chance.randbytes(chance.choice(sizes)))
-        return ("POST", deposit_target(f"B-{self.asked}"), form), ("deposit", self.last + 1, form)
+        form, name = bag(chance.randbytes(chance.choice(sizes))), chance.choice(CLASSES)
+        return ("POST", deposit_target(f"B-{self.asked}", name), form), ("deposit", self.last + 1, (form, name))
 
     def done(self, change):
         kind, number, more = change
         if kind == "deposit":
-            self.bags[number] = more
+            self.bags[number], self.classes[number] = more
             self.last = number
         elif kind == "hold":
             self.holds[number] = more
@@ -349,21 +377,23 @@ class Kept:
         """How many rows there have to be, of all that `COUNTED` names."""
         with open(POLICY, "rb") as file:
             policy = tomllib.load(file)
-        kept = len(self.bags) - len(self.gone)
-        forms = {form for number, form in self.bags.items() if number not in self.gone}
+        kept = self.kept()
+        forms = {self.bags[number] for number in kept}
         return {
+            "classes": len(CLASSES),
             # (what `opened` puts there)
-            "classes": 1,
             "collections": 1,
-            "kept deposits": kept,
+            "kept deposits": len(kept),
             "destroyed deposits": len(self.gone),
             # (each bag has three)
-            "files": 3 * kept,
+            "files": 3 * len(kept),
             # (and all bags have the first of them alike)
             "contents": 2 * len(forms) + (1 if forms else 0),
             "live holds": len(self.holds) - len(self.released),
             "released holds": len(self.released),
+            "holds on a class": sum(1 for kind, _ in self.holds.values() if kind == "class"),
             "rules": len(policy["rule"]),
+            "rules with days": sum(1 for rule in policy["rule"] if rule.keys() & {"first", "last"}),
             "callers": len(policy["callers"]),
         }
 
@@ -377,17 +407,18 @@ ANSWERS = {
 
 
 def holds_over(office, number):
+    """The holds that the office tells of a deposit, each with what it names."""
     found = json.loads(ask(office, "GET", f"/deposits/{number}/holds")[1])["holds"]
-    return {hold["hold"] for hold in found}
+    return {hold["hold"]: hold["on"] for hold in found}
 
 
 def was_done(office, kept, change):
     """Whether the office did what was asked when it was killed."""
     kind, number, more = change
-    if kind == "hold":
-        return number in holds_over(office, more)
-    if kind == "release":
-        return number not in holds_over(office, kept.holds[number])
+    if kind in ("hold", "release"):
+        named = more if kind == "hold" else kept.holds[number]
+        covered = next(it for it in kept.kept() if kept.covers(named, it))
+        return (number in holds_over(office, covered)) == (kind == "hold")
     status, _ = ask(office, "GET", f"/deposits/{number}")
     return status == (200 if kind == "deposit" else 410)
 
@@ -395,12 +426,16 @@ def was_done(office, kept, change):
 def compare(office, kept, numbers):
     """The office has just what is kept; of these deposits the bags too."""
     listed = json.loads(ask(office, "GET", "/deposits")[1])["deposits"]
-    assert [record["deposit"] for record in listed] == sorted(set(kept.bags) - kept.gone)
+    found = [(record["deposit"], record["class"]) for record in listed]
+    assert found == [(number, kept.classes[number]) for number in sorted(kept.kept())], found
+    # (each was closed before the day, and its class keeps it for no years)
+    due = ",".join(str(number) for number in sorted(kept.kept()) if not kept.over(number))
+    wants(ask(office, "GET", "/due"), 200, f'{{"day":"2024-03-01","deposits":[{due}]}}')
     for number in kept.gone:
         wants(ask(office, "GET", f"/deposits/{number}"), 410, '{"day":"2024-03-01","error":"Gone"}')
-    covered = set(kept.holds.values()) | set(numbers) & set(kept.bags)
+    covered = {name for kind, name in kept.holds.values() if kind == "deposit"} | set(numbers) & set(kept.bags)
     for number in covered - kept.gone:
-        live = {k for k, n in kept.holds.items() if n == number and k not in kept.released}
+        live = {hold: kept.holds[hold][0] for hold in kept.over(number)}
         assert holds_over(office, number) == live, (number, live)
     for number in numbers:
         if number in kept.bags and number not in kept.gone:
@@ -430,6 +465,8 @@ def killed():
     kept = Kept()
     store = os.path.join(FOLDER, "killed.db")
     office = opened("killed.db")
+    for name in CLASSES:
+        wants(ask(office, "PUT", f"/classes/{name}", b'{"years":0}'), 200, f'{{"class":"{name}","years":0}}')
     answered, found_done, found_undone, halves = 0, 0, 0, 0
     for turn in range(KILLS):
         for _ in range(chance.randrange(1, 5)):
