@@ -2,8 +2,9 @@
 # Asks an office all that docs/HTTP.md has by an example, in the order of the page: each route, what the desk
 # refuses and what the office refuses. A new office is made and served as the page says, on a port that the
 # machine picks, and each answer is compared with the page's: its status and its body (of the desk's refusals
-# the name). Needs curl and python3, which stands in for `nc`. Words: the program, `depot` of the
-# repository if left out.
+# the name). And once more with a policy of version 2: the rules of the page's policy count on the page's day alone,
+# and beside them two rules deny everything until the day before, and from the day after on. Needs curl and python3,
+# which stands in for `nc`. Words: the program, `depot` of the repository if left out.
 set -eu
 top=$(dirname "$(readlink -f "$0")")/..
 . "$top/diff/waits.sh"
@@ -48,38 +49,56 @@ while chunk := peer.recv(65536):
 ' "$@"
 }
 
-"$program" policy office.db examples/policy.toml >/dev/null
-"$program" serve --port 0 --count 1000 office.db 2024-03-01 >said &
-serving=$!
-await "$serving" said listening
-port=$(sed 's/listening //' said)
-OFFICE=http://127.0.0.1:$port
+# The policy of the page with days.
+sed -e 's/^version = 1/version = 2/' -e 's/^class = .*/&\nfirst = "2024-03-01"\nlast = "2024-03-01"/' examples/policy.toml >dated.toml
+for days in 'last = "2024-02-29"' 'first = "2024-03-02"'; do
+    printf '\n[[rule]]\neffect = "deny"\nrole = "*"\naction = "*"\ncollection = "*"\nclass = "*"\n%s\n' "$days"
+done >others
+sed -i '/^collection = "tax"/,/^last/ { /^last/r others
+}' dated.toml
 
-asked=0
-for section in 'Each route by an example' 'What the desk refuses' 'What the office refuses'; do
-    while IFS=$'\t' read -r request wanted <&3; do
-        came=$(eval "${request//127.0.0.1 8080/127.0.0.1 $port}" 2>&1 </dev/null | tr -d '\r')
-        if [[ $request == printf* ]]; then
-            came="$(sed -n '1s/HTTP.1.1 \([0-9]*\).*/\1/p' <<<"$came") $(tail -n 1 <<<"$came")"
-        else
-            body=$(sed '$d' <<<"$came")
-            allow=$(sed -n 's/^Allow: //p' <<<"$body")
-            came="$(tail -n 1 <<<"$came") $(tail -n 1 <<<"$body")${allow:+, and Allow: $allow}"
-        fi
-        if [ "$section" = 'What the desk refuses' ]; then
-            came=$(sed 's/{"error":"\([A-Za-z]*\)"}/\1/' <<<"$came")
-        fi
-        if [[ $request == *back.bagset* ]] && cmp -s back.bagset examples/bag-a.bagset; then
-            came="200, and back.bagset is what was deposited, byte for byte"
-        fi
-        if [ "$came" != "${wanted#E[0-9]*: }" ]; then
-            printf 'docs/HTTP.md: %s\nis answered there with: %s\nand this came: %s\n' "$request" "$wanted" "$came" >&2
-            exit 1
-        fi
-        asked=$((asked + 1))
-    done 3< <(examples "$section")
-done
-[ "$asked" -ge 51 ] || { echo "docs/HTTP.md has $asked examples, and 51 or more are wanted" >&2; exit 1; }
-echo "http: $asked examples of docs/HTTP.md, answered as the page says"
+# Asks all of a new office with this policy, and what its install is answered with.
+page() {
+    local section request wanted came body allow port said
+    rm -rf office.db* back.bagset said
+    said=$("$program" policy office.db "$1")
+    [ "$said" = "$2" ] || { echo "of $1 '$2' is wanted, and this came: '$said'" >&2; exit 1; }
+    "$program" serve --port 0 --count 1000 office.db 2024-03-01 >said &
+    serving=$!
+    await "$serving" said listening
+    port=$(sed 's/listening //' said)
+    OFFICE=http://127.0.0.1:$port
+    asked=0
+    for section in 'Each route by an example' 'What the desk refuses' 'What the office refuses'; do
+        while IFS=$'\t' read -r request wanted <&3; do
+            came=$(eval "${request//127.0.0.1 8080/127.0.0.1 $port}" 2>&1 </dev/null | tr -d '\r')
+            if [[ $request == printf* ]]; then
+                came="$(sed -n '1s/HTTP.1.1 \([0-9]*\).*/\1/p' <<<"$came") $(tail -n 1 <<<"$came")"
+            else
+                body=$(sed '$d' <<<"$came")
+                allow=$(sed -n 's/^Allow: //p' <<<"$body")
+                came="$(tail -n 1 <<<"$came") $(tail -n 1 <<<"$body")${allow:+, and Allow: $allow}"
+            fi
+            if [ "$section" = 'What the desk refuses' ]; then
+                came=$(sed 's/{"error":"\([A-Za-z]*\)"}/\1/' <<<"$came")
+            fi
+            if [[ $request == *back.bagset* ]] && cmp -s back.bagset examples/bag-a.bagset; then
+                came="200, and back.bagset is what was deposited, byte for byte"
+            fi
+            if [ "$came" != "${wanted#E[0-9]*: }" ]; then
+                printf 'docs/HTTP.md: %s\nis answered there with: %s\nand this came: %s\n' "$request" "$wanted" "$came" >&2
+                exit 1
+            fi
+            asked=$((asked + 1))
+        done 3< <(examples "$section")
+    done
+    { kill "$serving" && ended "$serving"; } 2>/dev/null || true
+    serving=
+    [ "$asked" -ge 51 ] || { echo "docs/HTTP.md has $asked examples, and 51 or more are wanted" >&2; exit 1; }
+}
+
+page examples/policy.toml 'installed 3 rules 2 callers'
+page dated.toml 'installed 5 rules 2 callers'
+echo "http: $asked examples of docs/HTTP.md, answered as the page says, by a policy of version 1 and by one of version 2"
 # Where Python has what this needs, the page and the program are compared with docs/openapi.yaml too.
 python3 "$top/diff/openapi.py" "$program" || [ $? -eq 3 ]
