@@ -6,13 +6,15 @@ too; then a session with every kind of answer and every refusal of the office th
 
 `desk.py` says whether `stdin` and `stdout` of `crates/office_file` have these rows, `stdout` after the lines of its
 cases; `desk.py write` writes them. Then the built program answers the requests, to the byte as the rows have
-it. DEPOT names another program than the one in `crates/depot/out` (`./depot check examples/bag-a.bagset` builds it); where neither is there, the
+it, and those of a second table, which the gate doesn't repeat: an office with a policy of version 2, whose rules have
+days, asked on both sides of each of them, and then with a policy of version 1 in its place. DEPOT names another program than the one in `crates/depot/out` (`./depot check examples/bag-a.bagset` builds it); where neither is there, the
 last line says that the program wasn't asked.
 """
 import os
 import pathlib
 import subprocess
 import sys
+import tempfile
 
 TOP = pathlib.Path(__file__).resolve().parent.parent
 CRATE = TOP / "crates/office_file"
@@ -266,9 +268,9 @@ def deposited(accession, closed="2024-02-29", collection="maps", kind="y1", bag=
     return f"{line} HTTP/1.1\r\nDepot-Caller: anna\r\nContent-Length: {len(bag)}\r\n\r\n".encode() + bag
 
 
-def told(number, accession, kind, until):
+def told(number, accession, kind, until, closed="2024-02-29"):
     """A record."""
-    return (f'{{"accession":"{accession}","bytes":3,"class":"{kind}","closed":"2024-02-29","collection":"maps",'
+    return (f'{{"accession":"{accession}","bytes":3,"class":"{kind}","closed":"{closed}","collection":"maps",'
             f'"deposit":{number},"deposited":"2024-03-01","due":"{until}","files":1}}')
 
 
@@ -460,6 +462,146 @@ class = "*"
 """
 
 
+DATED_POLICY = """version = 2
+
+[callers]
+anna = "archivist"
+carl = "clerk"
+
+[[rule]]
+effect = "deny"
+role = "clerk"
+action = "dispose"
+collection = "*"
+class = "*"
+last = "2024-03-01"
+
+[[rule]]
+effect = "deny"
+role = "clerk"
+action = "class"
+collection = "*"
+class = "*"
+first = "2024-03-02"
+last = "2024-03-02"
+
+[[rule]]
+effect = "allow"
+role = "clerk"
+action = "*"
+collection = "*"
+class = "*"
+last = "2024-12-31"
+
+[[rule]]
+effect = "deny"
+role = "archivist"
+action = "hold"
+collection = "*"
+class = "y1"
+first = "2024-03-02"
+
+[[rule]]
+effect = "allow"
+role = "archivist"
+action = "*"
+collection = "*"
+class = "*"
+first = "1900-01-01"
+last = "9799-12-31"
+
+[[rule]]
+effect = "allow"
+role = "*"
+action = "list"
+collection = "*"
+class = "*"
+first = "9799-12-31"
+"""
+
+
+def denied(rule):
+    return 403, '{"error":"Denied","rule":%s}' % (rule if isinstance(rule, int) else '"default"')
+
+
+def told_hold(number, on, placed=DAY):
+    return f'{{"hold":{number},"matter":"Case {number}","on":"{on}","placed":"{placed}"}}'
+
+
+EARLY = told(2, "A-2", "y1", "2024-02-28", closed="2023-02-28")
+
+# An office with that policy, on the days about those of its rules.
+DATED = [
+    (body("PUT /classes/y1", '{"years":1}'), years("y1", 1)),
+    (asked("PUT /collections/maps"), (200, '{"collection":"maps"}')),
+    (deposited("A-1"), (201, '{"deposit":1}')),
+    # Rule 2 counts on one day, and rule 3 up to its last.
+    (body("PUT /classes/y2", '{"years":2}', caller="carl"), years("y2", 2)),
+    (body("PUT /classes/y2", '{"years":2}', caller="carl"), denied(2), "2024-03-02"),
+    (body("PUT /classes/y2", '{"years":2}', caller="carl"), years("y2", 2), "2024-03-03"),
+    (body("PUT /classes/y2", '{"years":2}', caller="carl"), years("y2", 2), "2024-12-31"),
+    (body("PUT /classes/y2", '{"years":2}', caller="carl"), denied(None), "2025-01-01"),
+    # Rule 4 denies a hold on its class, and of a deposit in it, from its first day on; one on a collection names no class.
+    (body(HOLD, '{"class":"y1","matter":"Case 1"}'), (201, '{"hold":1}')),
+    (body(HOLD, '{"class":"y1","matter":"Case 2"}'), denied(4), "2024-03-02"),
+    (body(HOLD, '{"class":"y1","matter":"Case 2"}'), denied(4), "9799-12-31"),
+    (body(HOLD, '{"deposit":1,"matter":"Case 2"}'), denied(4), "2024-03-02"),
+    (body(HOLD, '{"collection":"maps","matter":"Case 2"}'), (201, '{"hold":2}'), "2024-03-02"),
+    (body(HOLD, '{"class":"y2","matter":"Case 3"}'), (201, '{"hold":3}'), "2024-03-02"),
+    (body(HOLD, '{"class":"maps","matter":"Case 4"}'), none("class"), "2024-03-02"),
+    (body(HOLD, '{"class":"none","matter":"Case 4"}', caller="eve"), none("class")),
+    (body(HOLD, '{"class":"y1","matter":"Case 4"}', caller="eve"), denied(None)),
+    (body(HOLD, '{"class":"y1","collection":"maps","matter":"Case 4"}'), refused("BadBody"), "2024-03-02"),
+    (body(HOLD, '{"matter":"Case 4"}'), refused("BadBody"), "2024-03-02"),
+    (body(HOLD, '{"class":"y1"}'), refused("BadBody"), "2024-03-02"),
+    # A deposit that comes later is held, too: by the class and by the collection.
+    (deposited("A-2", closed="2023-02-28"), (201, '{"deposit":2}'), "2024-03-01"),
+    (asked("GET /deposits/2/holds"), (200, '{"holds":[%s,%s]}' % (told_hold(1, "class"), told_hold(2, "collection", "2024-03-02")))),
+    (asked("DELETE /deposits/2"), (409, '{"error":"Held","hold":1}'), "2024-03-02"),
+    (asked("DELETE /deposits/2", caller="carl"), denied(1)),
+    (asked("DELETE /deposits/2", caller="carl"), (409, '{"error":"Held","hold":1}'), "2024-03-02"),
+    (asked("DELETE /holds/1", caller="eve"), denied(None)),
+    (asked("DELETE /holds/1", caller="carl"), denied(None), "2025-01-01"),
+    (asked("DELETE /holds/1", caller="carl"), (200, '{"hold":1,"released":"2024-12-31"}'), "2024-12-31"),
+    (asked("DELETE /holds/1"), (409, '{"day":"2024-12-31","error":"Released"}'), "2025-01-01"),
+    (asked("DELETE /holds/1", caller="eve"), denied(None), "2025-01-01"),
+    (asked("GET /deposits/1/holds"), (200, '{"holds":[%s]}' % told_hold(2, "collection", "2024-03-02"))),
+    (asked("GET /due"), due(day="2025-02-28"), "2025-02-28"),
+    (asked("DELETE /holds/2"), (200, '{"hold":2,"released":"2025-01-01"}'), "2025-01-01"),
+    # What is due to a caller is so by the rules of the day that is asked about.
+    (asked("GET /due"), due(day="2024-02-27"), "2024-02-27"),
+    (asked("GET /due"), due(2, day="2024-02-28"), "2024-02-28"),
+    (asked("GET /due"), due(1, 2, day="2025-02-28"), "2025-02-28"),
+    (asked("GET /due", caller="carl"), due()),
+    (asked("GET /due", caller="carl"), due(2, day="2024-03-02"), "2024-03-02"),
+    (asked("GET /due", caller="carl"), due(2, day="2024-12-31"), "2024-12-31"),
+    (asked("GET /due", caller="carl"), due(day="2025-01-01"), "2025-01-01"),
+    # So is a list.
+    (asked("GET /deposits", caller="carl"), (200, '{"deposits":[%s,%s]}' % (ONE, EARLY)), "2024-12-31"),
+    (asked("GET /deposits", caller="carl"), NO_DEPOSITS, "2025-01-01"),
+    (asked("GET /deposits", caller="eve"), NO_DEPOSITS, "9799-12-30"),
+    (asked("GET /deposits", caller="eve"), (200, '{"deposits":[%s,%s]}' % (ONE, EARLY)), "9799-12-31"),
+    (asked("GET /deposits", caller="carl"), (200, '{"deposits":[%s,%s]}' % (ONE, EARLY)), "1900-01-01"),
+    (asked("DELETE /deposits/2", caller="carl"), denied(1)),
+    (asked("DELETE /deposits/2", caller="carl"), (200, '{"day":"2024-03-02","destroyed":2}'), "2024-03-02"),
+    (asked("DELETE /deposits/2", caller="carl"), denied(None), "2025-01-01"),
+    (asked("GET /deposits/2"), (410, '{"day":"2024-03-02","error":"Gone"}')),
+    (asked("GET /due"), due(1, day="2025-02-28"), "2025-02-28"),
+]
+
+# The same office with the policy of the first table in the place of that one: its rules count on each day.
+UNDATED = [
+    (body("PUT /classes/y2", '{"years":2}', caller="carl"), CLERK, "2024-03-01"),
+    (body("PUT /classes/y2", '{"years":2}', caller="carl"), CLERK, "2024-03-03"),
+    (body(HOLD, '{"class":"y1","matter":"Case 4"}'), (201, '{"hold":4}'), "2024-03-02"),
+    (asked("DELETE /holds/3", caller="carl"), (200, '{"hold":3,"released":"9799-12-31"}'), "9799-12-31"),
+    (asked("GET /deposits/1/holds"), (200, '{"holds":[%s]}' % told_hold(4, "class", "2024-03-02"))),
+    (asked("DELETE /deposits/1"), (409, '{"error":"Held","hold":4}'), "2025-02-28"),
+    (asked("DELETE /holds/4", caller="eve"), (200, '{"hold":4,"released":"2025-02-28"}'), "2025-02-28"),
+    (asked("DELETE /deposits/1"), (200, '{"day":"2025-02-28","destroyed":1}'), "2025-02-28"),
+]
+
+
 def record(day, request):
     """The record of a request on that day."""
     data = request if isinstance(request, bytes) else request.encode()
@@ -475,25 +617,35 @@ def answer(status, text, fields=""):
     return b"ANS %d\n" % len(whole) + whole + b"\n"
 
 
-def rows():
+def rows(*tables):
     """Each request with its day, and its answer."""
-    for table in (HEADS, CALLERS, PATHS, METHODS, QUERIES, BODIES, SESSION, LISTS, DEPOSITS, YEARS, HOLDS):
+    for table in tables or (HEADS, CALLERS, PATHS, METHODS, QUERIES, BODIES, SESSION, LISTS, DEPOSITS, YEARS, HOLDS):
         for request, given, *day in table:
             yield record(day[0] if day else DAY, request), answer(*given)
 
 
-def run_program(policy):
+def run_program(policy, store=":memory:", *tables):
     """Ends where the program doesn't answer each request as its row has it."""
-    words = [DEPOT, "replay", "--policy", str(policy), ":memory:"]
-    done = subprocess.run(words, input=b"".join(request for request, _ in rows()), capture_output=True, timeout=60)
+    words = [DEPOT, "replay", "--policy", str(policy), store]
+    done = subprocess.run(words, input=b"".join(request for request, _ in rows(*tables)), capture_output=True, timeout=60)
     at = 0
-    for place, (request, wanted) in enumerate(rows(), 1):
+    for place, (request, wanted) in enumerate(rows(*tables), 1):
         if not done.stdout.startswith(wanted, at):
             found = done.stdout[at : at + len(wanted) + 200]
             sys.exit(f"request {place}, {request[:200]!r}: {wanted!r} is wanted, and this came: {found!r}; {done.stderr!r}")
         at += len(wanted)
     if (len(done.stdout), done.stderr, done.returncode) != (at, b"", 0):
         sys.exit(f"the program ended with {done.returncode}, {done.stderr!r} and {len(done.stdout) - at} bytes behind its answers")
+
+
+def run_dated():
+    """Has the program answer on days, in one store: by the policy with days, then by the one without."""
+    with tempfile.TemporaryDirectory() as folder:
+        policy = pathlib.Path(folder, "policy.toml")
+        policy.write_text(DATED_POLICY, encoding="utf-8")
+        run_program(policy, f"{folder}/office.db", DATED)
+        run_program(CRATE / "data/policy.toml", f"{folder}/office.db", UNDATED)
+    return len(DATED) + len(UNDATED)
 
 
 def lines_of_cases():
@@ -519,7 +671,7 @@ def main():
             sys.exit(f"{path.relative_to(TOP)} isn't as the tables have it")
     if os.access(DEPOT, os.X_OK):
         run_program(CRATE / "data/policy.toml")
-        said = "and the built program answers them to the byte"
+        said = f"and the built program answers them to the byte, and {run_dated()} more by rules with days"
     elif "DEPOT" in os.environ:
         sys.exit(f"{DEPOT} isn't there")
     else:
