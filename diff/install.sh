@@ -1,0 +1,76 @@
+#!/usr/bin/env bash
+# Installs the program by `./depot install DIR`: the program, its man page and its completions stand under DIR, and nothing
+# else. There the program runs in a tree that has nothing but what `ldd` names, `man` shows the page, and bash loads the
+# completions. A tiny tree stands for the repository, with an `rt` of this script's own that hands out the program.
+# Needs man, and root or a user namespace for the tree. Words: the program, that of the variable DEPOT or `depot` if left out.
+set -eu
+top=$(readlink -f "$(dirname "$(readlink -f "$0")")/..")
+[ $# -gt 0 ] || [ -n "${DEPOT-}" ] || "$top/depot" check "$top/examples/bag-a.bagset" >/dev/null
+program=$(readlink -f "${1:-${DEPOT:-$top/crates/depot/out/depot-program}}")
+room=$(mktemp -d)
+trap 'rm -rf "$room"' EXIT
+cases=0
+
+# What was done, and what is wanted and was found.
+compare() {
+    if [ "$2" != "$3" ]; then
+        echo "$1: '$2' is wanted, and this came: '$3'" >&2
+        exit 1
+    fi
+    cases=$((cases + 1))
+}
+
+# The repository, as far as the script needs it, and a kit.
+mkdir -p "$room"/tree/crates/depot/src "$room"/kit/bin
+cp "$top/depot" "$room/tree/"
+cp -r "$top/docs" "$top/examples" "$room/tree/"
+echo 'depot:' >"$room/tree/crates.txt"
+echo '//' >"$room/tree/crates/depot/src/main.rt"
+echo 'kit' >"$room/kit/KIT-ID"
+printf '#!/bin/sh\ncp "%s" out/depot\n' "$program" >"$room/kit/bin/rt"
+chmod 755 "$room/kit/bin/rt"
+
+cd "$room/tree"
+PATH=$room/kit/bin:$PATH
+for words in 'install' 'install a b'; do
+    status=0
+    # shellcheck disable=SC2086 # these are words
+    ./depot $words >../said 2>../told || status=$?
+    compare "./depot $words" '2; Usage: ./depot install DIR, where DIR is a folder such as /usr/local' "$status; $(cat ../said ../told)"
+done
+[ ! -e crates/depot/out ] || { echo "wrong words began a build" >&2; exit 1; }
+mkdir "$room/root"
+for _ in once again; do
+    ./depot install "$room/root/usr/local" 2>../told
+    compare "what stands under DIR" "644 share/bash-completion/completions/depot 644 share/man/man1/depot.1 755 bin/depot" \
+        "$(cd "$room/root/usr/local" && find . -type f -printf '%m %P\n' | LC_ALL=C sort | paste -sd' ')"
+done
+cmp "$program" "$room/root/usr/local/bin/depot"
+cmp "$top/docs/depot.1" "$room/root/usr/local/share/man/man1/depot.1"
+
+# The program, in a tree with nothing but the libraries that it names.
+for library in $(ldd "$program" | grep -o '/[^ ]*'); do
+    install -D "$library" "$room/root$library"
+done
+cp "$top/examples/bag-a.bagset" "$top/examples/policy.toml" "$room/root/"
+user=()
+[ "$(id -u)" -eq 0 ] || user=(--map-root-user)
+within() {
+    unshare "${user[@]}" --root="$room/root" /usr/local/bin/depot "$@"
+}
+if unshare "${user[@]}" true 2>../told; then
+    compare "a bag is checked" 'valid 1.0 files 1 bytes 3 manifests 1' "$(within check bag-a.bagset)"
+    compare "an office is made" 'installed 3 rules 2 callers' "$(within policy office.db policy.toml)"
+    compare "it is asked" '{"day":"2024-03-01","deposits":[]}' \
+        "$(printf 'GET /due HTTP/1.1\r\n\r\n' | within ask office.db 2024-03-01 | tail -n 1)"
+    alone=
+else
+    alone=", but for the program by itself, since this machine has no namespaces: $(head -n 1 ../told)"
+fi
+
+# Its page, and its completions as the package `bash-completion` loads them.
+compare "man finds the page" "$room/root/usr/local/share/man/man1/depot.1" "$(MANPATH=$room/root/usr/local/share/man man -w depot)"
+# shellcheck disable=SC2016 # for the inner shell
+compare "bash completes" 'serve' "$(bash -euc '. "$0"; COMP_WORDS=(depot se) COMP_CWORD=1; _depot; echo "${COMPREPLY[*]}"' \
+    "$room/root/usr/local/share/bash-completion/completions/depot")"
+echo "install: $cases cases: the program, its page and its completions, and it needs nothing else$alone"
