@@ -1,13 +1,13 @@
 #!/usr/bin/env bash
-# Has `systemd-analyze verify` read each unit of `examples/systemd`, as it would be installed, and `systemd-analyze security`
-# say how far the office is shut in. Runs the two programs that the units run: a backup of an office that was killed has
-# what was answered, and an audit names the deposit whose content was changed.
-# Needs systemd, sqlite3 and curl. Words: the program, `depot` of the repository if left out.
+# Has `systemd-analyze verify` read each unit of `examples/systemd`, as it would be installed, and find the man page that it
+# names; has `systemd-analyze security` say how far the office is shut in. Runs the two programs that the units run: a backup
+# of an office that was killed has what was answered, and an audit names the deposit whose content was changed.
+# Needs systemd, man, sqlite3 and curl. Words: the program, that of the variable DEPOT or `depot` of the repository if left out.
 set -eu
 top=$(dirname "$(readlink -f "$0")")/..
 . "$top/diff/waits.sh"
-[ $# -gt 0 ] || "$top/depot" check "$top/examples/bag-a.bagset" >/dev/null
-program=$(readlink -f "${1:-$top/crates/depot/out/depot-program}")
+[ $# -gt 0 ] || [ -n "${DEPOT-}" ] || "$top/depot" check "$top/examples/bag-a.bagset" >/dev/null
+program=$(readlink -f "${1:-${DEPOT:-$top/crates/depot/out/depot-program}}")
 folder=$(mktemp -d)
 trap 'kill $(jobs -p) 2>/dev/null || true; rm -rf "$folder"' EXIT
 units=$top/examples/systemd
@@ -25,9 +25,12 @@ for it in bin/sh bin/true usr/bin/systemctl; do
     chmod 755 "$root/$it"
 done
 cp -r /usr/lib/systemd/system "$root/usr/lib/systemd/"
+# The man page that they name, where `./depot install /usr/local` puts it. (A colon at the end: the machine's pages too.)
+install -D -m 644 "$top/docs/depot.1" "$root/usr/local/share/man/man1/depot.1"
+export MANPATH=$root/usr/local/share/man:
 verified=0
 for unit in "$root"/etc/systemd/system/*; do
-    said=$(systemd-analyze verify --recursive-errors=no --root="$root" "$(basename "$unit")" 2>&1) || true
+    said=$(systemd-analyze verify --man=yes --recursive-errors=no --root="$root" "$(basename "$unit")" 2>&1) || true
     if [ -n "$said" ]; then
         echo "$(basename "$unit"): $said" >&2
         exit 1
