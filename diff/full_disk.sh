@@ -1,0 +1,132 @@
+#!/usr/bin/env bash
+# Fills the disk of an office that serves: a file system of 6 MiB in memory. Shows what docs/OPERATING.md says under "A full
+# disk": the deposit that has no room is answered 503, and what was answered before is there once there is room, by the
+# page's commands; a backup and a `pack` that have no room leave nothing under their names.
+# Needs curl, and root or a user namespace. Words: the program, that of the variable DEPOT or `depot` if left out.
+set -eu
+top=$(readlink -f "$(dirname "$(readlink -f "$0")")/..")
+. "$top/diff/waits.sh"
+. "$top/diff/pages.sh"
+program=$(readlink -f "${1:-${DEPOT:-$top/depot}}")
+# The rest goes on where this script has mounts of its own.
+if [ -z "${HAS_MOUNTS-}" ]; then
+    user=()
+    [ "$(id -u)" -eq 0 ] || user=(--map-root-user)
+    exec env HAS_MOUNTS=yes unshare --mount "${user[@]}" "$0" "$program"
+fi
+room=$(mktemp -d)
+trap 'kill $(jobs -p) 2>/dev/null || true; cd /; umount "$room/disk" "$room/other"; rm -rf "$room"' EXIT
+mkdir "$room/disk" "$room/other"
+mount -t tmpfs -o size=6m office "$room/disk"
+mount -t tmpfs -o size=1m backups "$room/other"
+day=2024-03-02
+cases=0
+
+# What was done, and what is wanted and was found, as a pattern.
+compare() {
+    # shellcheck disable=SC2254 # it is a pattern
+    case $3 in
+    $2) cases=$((cases + 1)) ;;
+    *)
+        echo "$1: '$2' is wanted, and this came: '$3'" >&2
+        exit 1
+        ;;
+    esac
+}
+
+# A bag of 700 kB, each with bytes of its own.
+mkdir -p "$room/bag/data"
+printf 'BagIt-Version: 1.0\nTag-File-Character-Encoding: UTF-8\n' >"$room/bag/bagit.txt"
+make_bag() {
+    head -c 700000 /dev/urandom >"$room/bag/data/a"
+    (cd "$room/bag" && sha256sum data/a >manifest-sha256.txt)
+    rm -f "$room/form-$1"
+    ./depot pack "$room/bag" "$room/form-$1" >said
+}
+
+# Asks the office as anna: the body and the status.
+asks() {
+    curl -sS --max-time 60 -H 'Depot-Caller: anna' -w ' %{http_code}' "$@"
+}
+
+deposit() {
+    asks --data-binary "@$room/form-$1" "$address/deposits?collection=maps&class=y1&accession=A-$1&closed=2024-02-29"
+}
+
+serve() {
+    ./depot serve --port 0 --count 1000 office.db "$day" >"$room/listening" &
+    office=$!
+    await "$office" "$room/listening" listening
+    address=http://127.0.0.1:$(sed 's/listening //' "$room/listening")
+}
+
+cd "$room/disk"
+ln -s "$program" depot
+./depot policy office.db "$top/examples/policy.toml" >said
+serve
+asks -X PUT -d '{"years":1}' "$address/classes/y1" >said
+asks -X PUT "$address/collections/maps" >said
+
+# Deposits, until one has no room, and sets how many are kept.
+kept=0
+until_full() {
+    local answer
+    while [ "$kept" -lt 20 ]; do
+        make_bag $((kept + 1))
+        answer=$(deposit $((kept + 1)))
+        [ "$answer" = "{\"deposit\":$((kept + 1))} 201" ] || break
+        kept=$((kept + 1))
+    done
+    compare "a deposit that has no room" '{"error":"Store"} 503' "$answer"
+}
+
+until_full
+# What is asked goes on; what changes something has no room either, until there is some. It needs no new start.
+has_all() {
+    local each
+    compare "$1: the deposits" "$kept" "$(asks "$address/deposits" | grep -o '"deposit":[0-9]*' | wc -l)"
+    for each in $(seq "$kept"); do
+        asks "$address/deposits/$each/bag" -o "$room/bag-back" >/dev/null
+        cmp "$room/bag-back" "$room/form-$each"
+        cases=$((cases + 1))
+    done
+}
+has_all "the disk is full"
+compare "another change" '{"error":"Store"} 503' "$(asks -X PUT "$address/collections/tax")"
+mount -o remount,size=9m office "$room/disk"
+kept=$((kept + 1))
+compare "there is room again" "{\"deposit\":$kept} 201" "$(deposit "$kept")"
+has_all "there is room again"
+
+# Full again, and stopped meanwhile: each command says that the log can't be folded in, and what was answered stands in it.
+until_full
+# (to the last byte)
+dd if=/dev/zero of=filling bs=4096 2>/dev/null || true
+kill "$office"
+ended "$office" || true
+status=0
+./depot ask office.db "$day" </dev/null >"$room/said" 2>"$room/told" || status=$?
+compare "the log is to be folded in" '3; store Q4 depot: cannot close office.db: database or disk is full' "$status; $(paste -sd' ' "$room/told")"
+status=0
+DEPOT=./depot "$top/examples/systemd/backup" office.db "$room/other" >"$room/said" 2>"$room/told" || status=$?
+compare "a backup" '3; store Q4 depot: cannot close office.db: database or disk is full' "$status; $(paste -sd' ' "$room/told")"
+compare "it leaves" '' "$(ls -A "$room/other")"
+status=0
+./depot pack "$room/bag" form >"$room/said" 2>"$room/told" || status=$?
+compare "a folder is packed" '3; device depot: cannot write form: No space left on device (os error 28)' "$status; $(paste -sd' ' "$room/told")"
+compare "it leaves" 'depot filling office.db office.db-wal said' "$(find . -mindepth 1 -printf '%P\n' | LC_ALL=C sort | paste -sd' ')"
+
+# Room, and the page's commands. Where the disk of the backups is the full one, no backup has its name.
+rm filling
+mount -o remount,size=64m office "$room/disk"
+status=0
+DEPOT=./depot "$top/examples/systemd/backup" office.db "$room/other" >"$room/said" 2>"$room/told" || status=$?
+compare "a backup to a full disk" '1; *No space left on device' "$status; $(cat "$room/told")"
+compare "it leaves" '????-??-??-??????.db.part' "$(ls -A "$room/other")"
+follow "A full disk" 1 >"$room/said"
+compare "the page's look" 'HTTP/1.1 200 OK' "$(head -n 1 "$room/said" | tr -d '\r')"
+serve
+has_all "after a new start"
+kill "$office"
+ended "$office" || true
+echo "full_disk: $cases cases: what was answered is there, before there is room and after"

@@ -1,0 +1,48 @@
+#!/usr/bin/env bash
+# Goes to a new version of the program, and back, by the commands that docs/OPERATING.md gives for it, word for word. The
+# office has the tables of version 4, as an older program made them: then it has those of version 5 and all its deposits. The
+# way back puts the old program and the file of before in their places, byte for byte. (The old program is here a copy of
+# the new one: what it answers isn't tried. `diff/upgrade.py` compares each row.) Needs python3.
+# Words: the program, that of the variable DEPOT or `depot` if left out.
+set -eu
+top=$(readlink -f "$(dirname "$(readlink -f "$0")")/..")
+. "$top/diff/pages.sh"
+program=$(readlink -f "${1:-${DEPOT:-$top/depot}}")
+section="A new version of the program"
+room=$(mktemp -d)
+trap 'rm -rf "$room"' EXIT
+cd "$room"
+cases=0
+
+# What was done, and what is wanted and was found.
+compare() {
+    if [ "$2" != "$3" ]; then
+        echo "$1: '$2' is wanted, and this came: '$3'" >&2
+        exit 1
+    fi
+    cases=$((cases + 1))
+}
+
+# The version of the tables, of a copy of the file.
+version() {
+    cp office.db look.db
+    python3 -c 'import sqlite3; print(sqlite3.connect("look.db").execute("SELECT version FROM office").fetchone()[0])'
+}
+
+ln -s "$program" depot.new
+cp "$program" depot
+python3 -c 'import sys; sys.path.insert(0, sys.argv[1]); import upgrade; upgrade.make("office.db", 4, 200, 60, 20)' "$top/diff"
+kept=$(python3 -c 'import sqlite3; print(sqlite3.connect("office.db").execute("SELECT count(*) FROM deposit WHERE gone IS NULL").fetchone()[0])')
+compare "an older program's office" 4 "$(version)"
+mkdir backup
+cp office.db backup/2024-03-02.db
+follow "$section" 1 >said
+compare "the answer of the new program" '{"deposits":[' "$(tail -n 1 said | head -c 13)"
+compare "its deposits" "$kept" "$(grep -o '"deposit":[0-9]*' said | wc -l)"
+compare "its tables" 5 "$(version)"
+cmp depot depot.old
+follow "$section" 2
+cmp office.db backup/2024-03-02.db
+compare "the tables after the way back" 4 "$(version)"
+[ -x depot ] && [ ! -e depot.old ] && [ -e depot.new ] && [ -e upgraded/office.db ]
+echo "upgrading: $cases cases: to the new program and back, by the commands of docs/OPERATING.md, word for word"
