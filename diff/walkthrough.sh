@@ -29,10 +29,13 @@ BEGUN = """begun() {
     until [ "$(wc -l <"$1")" -ge "$2" ] || [ "$SECONDS" -ge "$end" ]; do sleep 0.05; done
     cat "$1"
 }"""
-# Waits until no command runs in the background, and lists those that still do.
-OVER = """end=$((SECONDS + 60))
-while [ -n "$(jobs -r)" ] && [ "$SECONDS" -lt "$end" ]; do sleep 0.05; done
-jobs -r"""
+# Waits until no command runs in the background, and lists those that still do. So does a command that is to run there,
+# since it may need what the one before it has open.
+OVER = """over() {
+    local end=$((SECONDS + 60))
+    while [ -n "$(jobs -r)" ] && [ "$SECONDS" -lt "$end" ]; do sleep 0.05; done
+    jobs -r
+}"""
 
 commands = []
 for block in re.findall(r"^ *```console\n(.*?)^ *```$", page, re.M | re.S):
@@ -45,14 +48,14 @@ for block in re.findall(r"^ *```console\n(.*?)^ *```$", page, re.M | re.S):
         else:
             commands[-1][1].append(line)
 
-lines = [BEGUN]
+lines = [BEGUN, OVER]
 for number, (command, wanted) in enumerate(commands):
     if command.endswith("&"):
         # What it prints goes to a file, so that nothing waits for its end to read it.
         said = f"{room}/said-{number}"
-        command = f"{{ {command}\n}} >{said} 2>&1\nbegun {said} {len(wanted)}"
+        command = f"over\n{{ {command}\n}} >{said} 2>&1\nbegun {said} {len(wanted)}"
     lines += [command, f"echo '{MARK}'"]
-lines.append(OVER)
+lines.append("over")
 
 shell = subprocess.Popen(
     ["bash"], stdin=subprocess.PIPE, stdout=subprocess.PIPE, stderr=subprocess.STDOUT, cwd=room, text=True, start_new_session=True
