@@ -400,9 +400,9 @@ def ask(program, store):
     return given.returncode, given.stdout
 
 
-def replay(program, store, requests):
+def replay(program, store, requests, *options):
     records = b"".join(b"REQ %s %d\n%s\n" % (DAY.encode(), len(it), it) for it in requests)
-    given = subprocess.run([program, "replay", store], input=records, capture_output=True, timeout=600)
+    given = subprocess.run([program, "replay", *options, store], input=records, capture_output=True, timeout=600)
     return given.returncode, given.stdout
 
 
@@ -420,17 +420,27 @@ def serve(program, store):
         return running.wait(120), said
 
 
-def policy(program, store):
-    """The policy of a file in the place of the one that was copied."""
+def written(store, days=""):
+    """The path of a policy with the rules that were copied, those of clerks with these days."""
     path = store + ".toml"
-    text = ["version = 1\n[callers]\nanna = \"archivist\"\ncarl = \"clerk\"\n"]
+    text = [f'version = {2 if days else 1}\n[callers]\nanna = "archivist"\ncarl = "clerk"\n']
     for _, effect, *patterns in rules_of(RULES):
         keys = zip(("effect", "role", "action", "collection", "class"), ("allow" if effect else "deny", *patterns))
         text.append("[[rule]]\n" + "".join(f'{key} = "{value}"\n' for key, value in keys))
+        text.append(days if patterns[0] == "clerk" else "")
     with open(path, "w", encoding="ascii") as file:
         file.writelines(text)
-    given = subprocess.run([program, "policy", store, path], capture_output=True, timeout=120)
+    return path
+
+
+def policy(program, store, days=""):
+    """The policy of a file in the place of the one that was copied."""
+    given = subprocess.run([program, "policy", store, written(store, days)], capture_output=True, timeout=120)
     return given.returncode, given.stdout
+
+
+def policy_with_days(program, store):
+    return policy(program, store, 'first = "2024-01-01"\nlast = "2024-12-31"\n')
 
 
 def first_other(said, wanted):
@@ -446,12 +456,17 @@ def commands(program, folder, version, first, office):
     fresh = os.path.join(folder, "fresh.db")
     if not os.path.exists(fresh):
         policy(program, fresh)
+    dated = {**wanted, "rule_5": [(*it[:-2], 19723, 20088) if it[3] == "clerk" else it for it in wanted["rule_5"]]}
     asked = list(reads(office))
-    for name, command, said in (
-        ("ask", ask, office.due(TODAY)),
-        ("replay", lambda *words: replay(*words, [it[0] for it in asked]), answered(it[1] for it in asked)),
-        ("serve", serve, office.due(TODAY)),
-        ("policy", policy, b"installed %d rules 2 callers\n" % RULES),
+    requests, answers = [it[0] for it in asked], answered(it[1] for it in asked)
+    installed = b"installed %d rules 2 callers\n" % RULES
+    for name, command, said, left in (
+        ("ask", ask, office.due(TODAY), wanted),
+        ("replay", lambda *words: replay(*words, requests), answers, wanted),
+        ("replay --policy", lambda *words: replay(*words, requests, "--policy", written(words[1])), installed + answers, wanted),
+        ("serve", serve, office.due(TODAY), wanted),
+        ("policy", policy, installed, wanted),
+        ("policy with days", policy_with_days, installed, dated),
     ):
         store = os.path.join(folder, f"{name}-{version}.db")
         shutil.copyfile(first, store)
@@ -462,7 +477,7 @@ def commands(program, folder, version, first, office):
             schema, found = rows(store)
             if schema != rows(fresh)[0]:
                 fail(f"the schema of version {version} after {name} isn't that of a new store")
-            other = differs(found, wanted)
+            other = differs(found, left)
             if other:
                 fail(f"{name} of version {version}: {other}")
         keeps(store, f"{name} of version {version}")
@@ -488,14 +503,14 @@ def go_on(program, folder, version, first, office):
 
 
 def kills(program, folder, version, first, said, times):
-    """Kills the program while it upgrades."""
+    """Kills the program while it upgrades, so late that about half of the kills come after its commit."""
     before = rows(first)
     wanted = rows(os.path.join(folder, "fresh.db"))[0], upgraded(version, before[1])
     store = os.path.join(folder, "killed.db")
     shutil.copyfile(first, store)
     began = time.monotonic()
     ask(program, store)
-    whole = time.monotonic() - began
+    most = time.monotonic() - began
     draw = random.Random(version)
     old = new = 0
     for _ in range(times):
@@ -504,18 +519,21 @@ def kills(program, folder, version, first, said, times):
                 os.remove(store + end)
         shutil.copyfile(first, store)
         with subprocess.Popen([program, "ask", store, DAY], stdin=subprocess.DEVNULL, stdout=subprocess.DEVNULL) as running:
-            # (most of the time goes by before the commit)
-            time.sleep(draw.uniform(0, 1.5 * whole))
+            time.sleep(draw.uniform(0, most))
             running.kill()
         found = rows(store)
         if found == before:
             old += 1
+            most *= 1.1
         elif found == wanted:
             new += 1
+            most /= 1.1
         else:
             fail(f"a kill left neither the rows of version {version} nor those after: {differs(found[1], wanted[1])}")
         if ask(program, store) != (0, said) or rows(store) != wanted:
             fail(f"what a kill left of version {version} isn't upgraded: {differs(rows(store)[1], wanted[1])}")
+    if times >= 50 and not (old and new):
+        fail(f"kills before and after the commit are wanted, and of version {version} {old} came before and {new} after")
     return old, new
 
 
@@ -541,7 +559,7 @@ def main():
             asked = commands(program, folder, version, first, office)
             old, new = kills(program, folder, version, first, said, times)
             print(f"version {version}: {asked} answers, {gone} deposits destroyed, of which {covered} are held since, {due} due")
-            print(f"version {version}: 4 commands, {old + new} kills, of which {old} left the rows of that version and {new} those after")
+            print(f"version {version}: 6 commands, {old + new} kills, of which {old} left the rows of that version and {new} those after")
 
 
 if __name__ == "__main__":
