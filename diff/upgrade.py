@@ -463,7 +463,7 @@ def commands(program, folder, version, first, office):
     for name, command, said, left in (
         ("ask", ask, office.due(TODAY), wanted),
         ("replay", lambda *words: replay(*words, requests), answers, wanted),
-        ("replay --policy", lambda *words: replay(*words, requests, "--policy", written(words[1])), installed + answers, wanted),
+        ("replay --policy", lambda *words: replay(*words, requests, "--policy", written(words[1])), answers, wanted),
         ("serve", serve, office.due(TODAY), wanted),
         ("policy", policy, installed, wanted),
         ("policy with days", policy_with_days, installed, dated),

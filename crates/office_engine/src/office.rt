@@ -24,7 +24,7 @@ ghost use Rattle.office_tables.specs.Versions.{IsOfficeAt, tables_at, version_nu
 ghost use Rattle.office_tables.specs.Moving.{AllRows, BecomesAt};
 ghost use Rattle.office_tables.specs.declared.version.TableVersion.{TableVersion};
 ghost use Rattle.office_upgrade.specs.Upgrading as rows;
-ghost use Rattle.office_upgrade.specs.Upgrading.{HasUnknownVersion, IsUpgrade, NewestSurvives, Tells, TellsKnown, TellsUnknown};
+ghost use Rattle.office_upgrade.specs.Upgrading.{HasUnknownVersion, IsOlder, IsUpgrade, NewestSurvives, Tells, TellsKnown, TellsUnknown};
 ghost use Rattle.office_engine.specs.Upgrading.{GoesBackAt, IsUpgradeOf, LeavesAt, StaysAt, TakesUp, UpgradeLasts, Upgrades};
 ghost use Rattle.office_engine.specs.Keeping.{AllStayShut, AreToldDue, CommitsRun, CommitsTo, CountsStock, InTurn, InstallLasts, Installs, IsKeptBy, IsKeptOfRun, IsLeftAt, IsLeftOf, IsLeftOfEither, IsLeftOfRun, IsToldByRows, IsToldStock, Lasts, LeavesEither, LeavesInstalled, LeavesKept, LeavesMade, LeavesRun, ListsDue, Runs, Serves, StaysShut, after_item, is_accepted, after_policy};
 
@@ -146,6 +146,9 @@ impl<S: Alter> Office<S> {
         ensures upgraded { IfOk result (λ office. HasCleanDisk (state S.Store office) → Upgrades (state S.Store conn) (state S.Store office)) }
         // What a crash left of an office of any of these versions goes on as that office.
         ensures found { IfOk result (λ office. HasCleanDisk (state S.Store office) → TakesUp (state S.Store conn) (state S.Store office)) }
+        // Tables that show no older version stay as they are, those of this version among them.
+        ensures kept { IfOk result (λ office. HasCleanDisk (state S.Store office) → (IsOlder (state S.Store conn).now → ⊥)
+            → KeepsTables (state S.Store conn) (state S.Store office)) }
         ensures newest { IfOk result (λ office. HasCleanDisk (state S.Store office) → IsOffice (state S.Store conn).now
             → version_of (tables_of (state S.Store conn).now) ≡ Some this_version → KeepsTables (state S.Store conn) (state S.Store office)) }
         ensures newest_survives { IfOk result (λ office. NewestSurvives (state S.Store conn) (state S.Store office)) }

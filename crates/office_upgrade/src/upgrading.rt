@@ -109,7 +109,9 @@ pub fn upgrade<S: Alter>(conn: &mut Connection<S>) -> Result<(), TableFault>
         → (state S.Store conn.old).committed ≡ (state S.Store conn.old).now → IsTrue (state S.Store conn.old).is_open
         → (left : Trees) → (state S.Store conn.new).may_leave left → IsLeftAt Fifth (renewed version rows) left) }
     ensures was_open { HasCleanDisk (state S.Store conn.new) → OnOk result (IsTrue (state S.Store conn.old).is_open) }
-    // Tables that are the newest stay as they are.
+    // Tables that show no older version stay as they are, those that are the newest among them.
+    ensures kept { HasCleanDisk (state S.Store conn.new) → OnOk result ((IsOlder (state S.Store conn.old).now → ⊥)
+        → KeepsTables (state S.Store conn.old) (state S.Store conn.new)) }
     ensures newest { HasCleanDisk (state S.Store conn.new) → OnOk result (IsOffice (state S.Store conn.old).now
         → version_of (tables_of (state S.Store conn.old).now) ≡ Some this_version → KeepsTables (state S.Store conn.old) (state S.Store conn.new)) }
     ensures refused { HasCleanDisk (state S.Store conn.new) → OnErr result (KeepsTables (state S.Store conn.old) (state S.Store conn.new)) }

@@ -4,7 +4,7 @@ use Rattle.sqlite.specs.Tree.{Trees}
 use Rattle.sqlite.specs.State.{HasCleanDisk, Survives}
 use Rattle.office_tables.specs.declared.fault.TableFault.TheVariants as fault
 use Rattle.office_tables.specs.Moving.{AllRows, renewed}
-use Rattle.office_upgrade.specs.Upgrading.{IsUpgrade, IsLeftAt, IsOfficeOf}
+use Rattle.office_upgrade.specs.Upgrading.{IsOlder, IsUpgrade, IsLeftAt, IsOfficeOf}
 use Rattle.office_tables.specs.declared.version.TableVersion.{TableVersion}
 use Rattle.office_tables.specs.declared.version.TableVersion.TheVariants.{Fifth}
 use Rattle.office_upgrade.proofs.Ending.{IsTaken, commits, lasts, lasts_back, fails_only}
@@ -77,6 +77,19 @@ returns-in-Ok-clause-durable g c =
     let early : HasCleanDisk (state g.S.Store last) = omega (arith, late, c.commit.ensures.survives.clean) in
     let shown = (c.in-Ok.ensures.ok late).1 in
     lasts g.S.Store first last end c.take_over.result it true is early shown.is_open shown.now_is (shown.committed_is ∙ sym shown.now_is) (λ db is_open left. g.met.S.Store.settled end.store db is_open left) version rows office left may)
+
+pub returns-in-Ok-clause-kept : goal.returns-in-Ok-clause-kept
+returns-in-Ok-clause-kept g c clean not_older =
+    let first = c.args.conn.now in
+    let last = c.take_over.new.tx.conn.now in
+    let begun = c.transaction-tx.ensures.begun in
+    let end = c.commit.new.self.0 in
+    let same : end ≡ c.conn-1.given.0 = search rules in
+    let late : HasCleanDisk (state g.S.Store end) = rw same clean in
+    let early : HasCleanDisk (state g.S.Store last) = omega (arith, late, c.commit.ensures.survives.clean) in
+    let is : c.take_over.result ≡ Ok true = search rules in
+    let was_older : HasCleanDisk (state g.S.Store last) → c.take_over.result ≡ Ok true → IsOlder (state g.S.Store first).now = rw begun at c.take_over.ensures.was_older in
+    absurd (not_older (was_older early is))
 
 pub returns-in-Ok-false-clause-durable : goal.returns-in-Ok-false-clause-durable
 returns-in-Ok-false-clause-durable g c =
