@@ -2,11 +2,12 @@
 # Has the proved program `office_file` put 100 requests by each of 100 seeds to an office over
 # tables and to the plain office, which have to give the same answers, the same due lists and the same stock:
 # over tables in memory, and over a file, in which `kept.py` then finds contents, due days and counts of holds
-# as the rows give them. By each seed, too, a file after 10 or 50 requests is put into the tables of an older version
-# (`older.py`), unless a rule has days then, and it is upgraded and asked as many more. Words: the first seed and the
-# last, 1 and 100 if left out. Over 100 seeds and more half of them have to be upgraded, some from each version, and
-# requests about classes and under rules with days have to come before and after. Needs python3; proves and builds
-# the program where it is missing, or its sources have changed.
+# as the rows give them. By each seed, too, a file after at most 50 requests is put into the tables of an older version
+# (`older.py`), unless a rule has days then, and it is upgraded and asked as many more: by an odd seed after 50, by
+# an even one after the most at which version 3 can have its rows. Words: the first seed and the last, 1 and 100 if
+# left out. Over 100 seeds and more half of them have to be upgraded, from each version some that have holds, released
+# ones too, and deposits; and requests about classes and under rules with days have to come before and after. Needs
+# python3; proves and builds the program where it is missing, or its sources have changed.
 set -eu
 top=$(dirname "$(readlink -f "$0")")/..
 . "$top/diff/built.sh"
@@ -19,7 +20,7 @@ seeds=$((last - first + 1))
 
 # What is counted of all seeds (`all`), and of the requests behind an upgrade (`on`), as `office_file` tells it.
 counts=(accepted refused held released listed asked denied)
-declare -A all on upgraded=([3]=0 [4]=0 [5]=0)
+declare -A all on upgraded=([3]=0 [4]=0 [5]=0) holds=([3]=0 [4]=0 [5]=0) freed=([3]=0 [4]=0 [5]=0) bags=([3]=0 [4]=0 [5]=0)
 for name in "${counts[@]}"; do
     all[$name]=0
     on[$name]=0
@@ -48,12 +49,18 @@ for seed in $(seq "$first" "$last"); do
     add all "$said"
     half=$folder/half-$seed.db
     # (after 50 requests there is mostly a hold on a class, which tables of version 3 can't have)
-    count=$((seed % 2 ? 50 : 10))
-    "$program" draw "$count" "$seed" "$half" >/dev/null
-    version=$("$top/diff/older.py" "$half")
+    for count in $(seq 50 -5 5); do
+        rm -f "$half"*
+        "$program" draw "$count" "$seed" "$half" >/dev/null
+        read -r version placed released kept < <("$top/diff/older.py" "$half")
+        [ $((seed % 2)) -eq 0 ] && [ "$version" -ne 3 ] || break
+    done
     said=$("$program" draw-on "$count" "$seed" "$half" 2>&1) ||
         { echo "seed $seed, upgraded from version $version: $said" >&2; exit 1; }
     upgraded[$version]=$((upgraded[$version] + 1))
+    holds[$version]=$((holds[$version] + placed))
+    freed[$version]=$((freed[$version] + released))
+    bags[$version]=$((bags[$version] + kept))
     if [ "$version" -ne 5 ]; then
         add on "$said"
     fi
@@ -69,6 +76,9 @@ about() {
 echo "seeds $first to $last: the same answers, ${all[accepted]} accepted and ${all[refused]} refused: $(about all)"
 echo "upgraded in the middle: ${upgraded[3]} from version 3, ${upgraded[4]} from version 4, ${upgraded[5]} were left;" \
     "then ${on[accepted]} accepted and ${on[refused]} refused: $(about on)"
+for version in 3 4; do
+    echo "of version $version: ${bags[$version]} deposits, ${holds[$version]} holds, ${freed[$version]} of them released"
+done
 
 # wants NUMBER LEAST WHAT: ends where there are fewer, over 100 seeds.
 wants() {
@@ -80,6 +90,11 @@ wants() {
 wants $((upgraded[3] + upgraded[4])) 50 "seeds were upgraded in the middle"
 wants "${upgraded[3]}" 12 "seeds were upgraded from version 3"
 wants "${upgraded[4]}" 12 "seeds were upgraded from version 4"
+for version in 3 4; do
+    wants "${bags[$version]}" 30 "deposits were upgraded from version $version"
+    wants "${holds[$version]}" 30 "holds were upgraded from version $version"
+    wants "${freed[$version]}" 5 "released holds were upgraded from version $version"
+done
 wants "${all[held]}" 100 "holds on a class were placed"
 wants "${all[released]}" 50 "holds on a class were released"
 wants "${all[listed]}" 10 "lists of holds have one on a class"

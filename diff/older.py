@@ -1,7 +1,8 @@
 #!/usr/bin/env python3
 """Puts the tables of an office into those of an older version, through Python's sqlite3 and SQL of its own: those of version
-3, where no hold on a class stands and no rule has days; else those of version 4, where no rule has days; else it leaves them.
-The word is the office's file. Prints the version.
+3, where no hold names a class and no rule has days; else those of version 4, where no rule has days; else it leaves them.
+The word is the office's file. Prints the version, and how many holds the office has, how many of them are released, and
+how many deposits.
 """
 import sqlite3
 import sys
@@ -26,11 +27,12 @@ def main():
         version, texts = 4, RULES
         if not base.execute("SELECT 1 FROM hold_4 WHERE class IS NOT NULL").fetchone():
             version, texts = 3, RULES + HOLDS
+    counts = base.execute("SELECT count(*), count(released), (SELECT count(*) FROM deposit) FROM hold_4").fetchone()
     with base:
         for text in texts:
             base.execute(text)
     base.close()
-    print(version)
+    print(version, *counts)
 
 
 if __name__ == "__main__":
