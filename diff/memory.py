@@ -317,21 +317,24 @@ def ask(library, first, last):
 
 
 def sweep(library, first, last, kept, wanted, words, given):
-    """How many allocations of a command on a copy of the store are refused in turn, where each time the rows are those from
-    before or those that are wanted, and the latter once it is given again with all memory."""
-    before = stores.rows(str(kept / "office.db"))[1]
+    """How many allocations of a command on a copy of the store are refused in turn, where each time the schema and the rows
+    are those from before or those that are wanted, and the latter once it is given again with all memory."""
+    before = stores.rows(str(kept / "office.db"))
     used = kept.with_name("used")
     store = str(used / "office.db")
 
     def given_with(number):
         ended, was_refused = run(library, number, [DEPOT, words[0], store, *words[1:]], given)
-        return ended, was_refused, stores.rows(store)[1]
+        return ended, was_refused, stores.rows(store)
+
+    def other(found):
+        return stores.differs(found[1], wanted[1]) or f"the schema {found[0]}"
 
     shutil.copytree(kept, used)
     plain, _, found = given_with(0)
     shutil.rmtree(used)
     if plain.returncode != 0 or found != wanted:
-        why = stores.differs(found, wanted)
+        why = other(found)
         sys.exit(f"{words[0]}: with all memory it ends with {plain.returncode}, {plain.stderr!r}, {why}")
     refused = 0
     for number in range(first, last + 1):
@@ -345,9 +348,9 @@ def sweep(library, first, last, kept, wanted, words, given):
         if not is_done and not is_failure(ended):
             sys.exit(f"{words[0]}, allocation {number}: it ended with {ended.returncode}, {ended.stdout!r} {ended.stderr!r}")
         if found != wanted and (is_done or found != before):
-            sys.exit(f"{words[0]}, allocation {number}: {stores.differs(found, wanted)}")
+            sys.exit(f"{words[0]}, allocation {number}: {other(found)}")
         if (again.returncode, again.stdout) != (0, plain.stdout) or later != wanted:
-            why = stores.differs(later, wanted)
+            why = other(later)
             sys.exit(f"{words[0]}, allocation {number}, given again: {again.returncode}, {again.stdout!r}, {why}")
         refused += 1
     return refused
@@ -360,27 +363,31 @@ def policy(library, first, last):
         kept.mkdir()
         dated.write_text(DATED_POLICY)
         subprocess.run([DEPOT, "policy", kept / "office.db", POLICY], check=True, capture_output=True, timeout=60)
-        wanted = dict(stores.rows(str(kept / "office.db"))[1])
+        schema, found = stores.rows(str(kept / "office.db"))
+        wanted = dict(found)
         wanted["caller"] = [(1, "anna", "archivist")]
         wanted["rule_5"] = [
             (1, 1, 0, "archivist", "dispose", "maps", "*", 19783, 20146),
             (2, 2, 1, "archivist", "*", "*", "*", -25567, 2859848),
         ]
-        refused = sweep(library, first, last, kept, wanted, ["policy", dated], b"")
+        refused = sweep(library, first, last, kept, (schema, wanted), ["policy", dated], b"")
     print(f"policy: one with days, {refused} allocations refused", flush=True)
     return refused
 
 
 def upgrade(library, first, last):
-    """An upgrade of a small store of each version."""
+    """An upgrade of a small store of each version, and a request after it."""
     refused = 0
     with tempfile.TemporaryDirectory() as room:
+        fresh = pathlib.Path(room, "fresh.db")
+        subprocess.run([DEPOT, "policy", fresh, POLICY], check=True, capture_output=True, timeout=60)
+        schema = stores.rows(str(fresh))[0]
         for version in (3, 4):
             kept = pathlib.Path(room, f"version-{version}")
             kept.mkdir()
             stores.make(kept / "office.db", version, deposits=4, each=2, rules=3)
             wanted = stores.upgraded(version, stores.rows(str(kept / "office.db"))[1])
-            refused += sweep(library, first, last, kept, wanted, ["ask", stores.DAY], b"")
+            refused += sweep(library, first, last, kept, (schema, wanted), ["ask", stores.DAY], stores.request("GET", "/due"))
     print(f"upgrade: from 2 versions, {refused} allocations refused", flush=True)
     return refused
 
