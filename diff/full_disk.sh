@@ -54,6 +54,7 @@ deposit() {
 }
 
 serve() {
+    rm -f "$room/listening"
     ./depot serve --port 0 --count 1000 office.db "$day" >"$room/listening" &
     office=$!
     await "$office" "$room/listening" listening
