@@ -6,7 +6,6 @@
 #   diff/edits.sh 2/3            those of the second of three groups of crates, about as many in each
 #   diff/edits.sh CRATE..        those of these crates
 #   diff/edits.sh CRATE/NAME..   these alone, each by the name of its file without `.md`
-#   diff/edits.sh listed         none: whether docs/TRIALS.md lists each one of the gate, and counts the others, as they stand
 #
 # Each crate is proved before its edits, and so are the libraries below it where no checkout on this
 # machine has built them: where a session ends after three hours, take the groups one by one. A crate's
@@ -15,42 +14,6 @@
 set -eu
 shopt -s nullglob
 top=$(dirname "$(readlink -f "$0")")/..
-
-# Compares the lists and the counts of docs/TRIALS.md with the folders.
-if [ "${1-}" = listed ]; then
-    exec python3 - "$top" <<'SCRIPT'
-import re
-import sys
-from collections import Counter
-from pathlib import Path
-
-top, wrong = Path(sys.argv[1]), []
-page = (top / "docs/TRIALS.md").read_text(encoding="utf-8")
-inside, outside = (page.split(f"\n## Wrong bodies {it} the gate\n")[1].split("\n## ")[0] for it in ("in", "outside"))
-
-
-def compare(what, told, found):
-    if told != found:
-        wrong.append(f"{what}: docs/TRIALS.md has {told}, and there are {found}")
-
-
-edits = [(it.parts[-3], it.stem) for it in sorted(top.glob("crates/*/must-fail/*.edit"))]
-rows = Counter(re.findall(r"\| `(\w+)` \| `(\w+)` \|$", inside, re.M))
-wrong += [f"{crate}: {name} is listed {rows[crate, name]} times" for crate, name in edits if rows[crate, name] != 1]
-wrong += [f"{crate}: {name} is listed, and isn't there" for crate, name in rows if (crate, name) not in edits]
-told = re.search(r"The gate tries (\d+) wrong bodies, in (\d+) crates", inside).groups()
-compare("wrong bodies of the gate, and crates", told, (str(len(edits)), str(len({crate for crate, _ in edits}))))
-
-others = Counter(it.parts[-3] for it in top.glob("crates/*/must-fail/*.md"))
-counts = {crate: int(count) for crate, count in re.findall(r"^\| `(\w+)` \| (\d+) \|$", outside, re.M)}
-for crate in sorted(others.keys() | counts.keys()):
-    compare(f"{crate}, outside", counts.get(crate, 0), others[crate])
-for words in (r"^\| all \| (\d+) \|$", r"^(\d+) wrong bodies are tried by"):
-    compare("all outside", int(re.search(words, outside, re.M)[1]), others.total())
-print("\n".join([*wrong, f"{len(edits)} wrong bodies of the gate and {others.total()} others, and {len(wrong)} are not as listed"]))
-sys.exit(1 if wrong else 0)
-SCRIPT
-fi
 
 room=$(mktemp -d)
 trap 'rm -rf "$room"' EXIT
