@@ -75,7 +75,8 @@ fn need_payload_manifest<'a>(found: &[Named<'a>]) -> Result<(), BagFault<'a>>
 
 /// The fault of a rule that is broken at a place.
 fn fault_at<'a>(rule: Rule, manifest: &'a str, path: CowStr<'a, Global>) -> BagFault<'a>
-    ensures { named_fault result ≡ Some (Breaks rule manifest.entry.now (cow_str_bytes path.entry)) }
+    ensures { named_fault result
+        ≡ Some (Breaks rule manifest.entry.now (cow_str_bytes path.entry)) }
 {
     match rule {
         Rule::OutsidePayload => BagFault::OutsidePayload { manifest, path },
@@ -121,7 +122,8 @@ fn keep_contents<'a>(
     bag: &BagSet<'a>,
     listed: &[Listed<'a>],
 ) -> Result<(), BagFault<'a>>
-    ensures { Gives named_fault (λ unit. unit) result (keeps_contents bag.now (map listed_seen listed.now)) }
+    ensures { Gives named_fault (λ unit.
+        unit) result (keeps_contents bag.now (map listed_seen listed.now)) }
 {
     keep_info(alloc, bag)?;
     keep_rule(bag, Rule::ChecksumWrong, listed)?;

@@ -74,7 +74,9 @@ fn write_place<W: fmt::Write>(
     path: &CowStr<'_, Global>,
 ) -> fmt::Result
     ensures { DisplaysOnOk W.write_str_gives f.old result
-        (Some (code.now ++ 32 ∷ printed_text manifest.now ++ 32 ∷ printed_text (cow_str_bytes path.now))) f.new }
+        (Some
+        (code.now ++ 32 ∷ printed_text manifest.now
+        ++ 32 ∷ printed_text (cow_str_bytes path.now))) f.new }
 {
     write_named(f, code, manifest)?;
     let path = utf8_percent_encode(path.as_str(), escaped_bytes());

@@ -84,7 +84,8 @@ fn keep_oxums<'a>(
     bag: &BagSet<'_>,
     pairs: &[(&str, CowStr<'_, Global>)],
 ) -> Result<(), BagFault<'a>>
-    ensures { Gives named_fault (λ unit. unit) result (oxums_kept bag.now (oxums_of (pairs_of pairs.now))) }
+    ensures { Gives named_fault (λ unit.
+        unit) result (oxums_kept bag.now (oxums_of (pairs_of pairs.now))) }
 {
     if has_formless(pairs) {
         return Err(BagFault::OxumForm);

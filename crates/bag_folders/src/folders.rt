@@ -54,7 +54,8 @@ fn path_in(alloc: Global, folder: &str, name: &str) -> Result<String, AllocError
 /// What an entry is.
 fn kind_of(metadata: &Metadata) -> Kind
     ensures folder { IsDir (file_type metadata.now) → result ≡ Kind.Folder }
-    ensures file { IsFile (file_type metadata.now) → result ≡ Kind.File (metadata_len metadata.now) }
+    ensures file { IsFile (file_type metadata.now)
+        → result ≡ Kind.File (metadata_len metadata.now) }
     ensures odd { ¬ (IsDir (file_type metadata.now)) → ¬ (IsFile (file_type metadata.now))
         → result ≡ Kind.Odd }
 {

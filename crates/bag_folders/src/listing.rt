@@ -15,7 +15,8 @@ use std::alloc::{AllocError, Global};
 /// The entries that an entry leads to: those of a folder.
 fn entries_at<F: Folders>(alloc: Global, folders: &F, entry: &Entry) -> Result<Vec<Entry>, Failed>
     ensures listed { IfOk result (λ entries.
-        AreListedAt (F.lists folders.now) (string_bytes entry.now.path) entry.now.kind entries.items) }
+        AreListedAt (F.lists folders.now)
+        (string_bytes entry.now.path) entry.now.kind entries.items) }
     ensures failed { IfErr result (CanFail (F.fails folders.now)) }
 {
     match entry.kind {

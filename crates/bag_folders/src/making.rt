@@ -60,8 +60,10 @@ fn folder_of<'a>(path: &'a str) -> Option<&'a str>
 
 /// Adds the folder in which a file stands, where it stands in one.
 fn add_folder<'a>(folders: &mut Vec<&'a str>, path: &'a str) -> Result<(), AllocError>
-    ensures { OnOk result (map (λ folder. folder.now) folders.new.items
-        ≡ map (λ folder. folder.now) folders.old.items ++ cons_option (folder_of path.entry.now) []) }
+    ensures { OnOk result
+        (map (λ folder. folder.now) folders.new.items
+        ≡ map (λ folder. folder.now) folders.old.items
+        ++ cons_option (folder_of path.entry.now) []) }
 {
     let Some(folder) = folder_of(path) else {
         return Ok(());

@@ -54,7 +54,8 @@ fn file_reason(alloc: Global, fault: SetFault, path: &str) -> Result<String, All
 
 /// Why the files of a folder aren't packed, with the path of the one at fault in front.
 fn files_reason(alloc: Global, fault: SetFault, path: &Option<String>) -> Result<String, AllocError>
-    ensures { IfOk result (λ line. string_bytes line ≡ files_reason fault (option_map string_bytes path.now)) }
+    ensures { IfOk result (λ line.
+        string_bytes line ≡ files_reason fault (option_map string_bytes path.now)) }
 {
     match path {
         Some(path) => file_reason(alloc, fault, path.as_str()),

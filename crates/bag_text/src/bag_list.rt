@@ -21,7 +21,8 @@ fn is_good(path: &str) -> bool
 
 /// The first fault of the file at this place of a list, behind the path before it.
 fn fault_at(place: usize, before: &[u8], path: &str, content: &[u8]) -> Option<SetFault>
-    ensures { result ≡ file_fault place before.now (record { path = path.now; content = content.now }) }
+    ensures { result
+        ≡ file_fault place before.now (record { path = path.now; content = content.now }) }
 {
     if content.len() > MAX_CONTENT {
         Some(SetFault::BadEntry(place))
@@ -73,7 +74,8 @@ pub fn copy_list<'a>(
     alloc: Global,
     files: &[(&'a str, &'a [u8])],
 ) -> Result<Vec<(&'a str, &'a [u8])>, SetFault>
-    ensures { Makes (λ v. files_of v.items) (files_of files.now) (list_fault (files_of files.now)) result }
+    ensures { Makes (λ v.
+        files_of v.items) (files_of files.now) (list_fault (files_of files.now)) result }
 {
     match fault_in(files) {
         Some(fault) => Err(fault),

@@ -73,7 +73,8 @@ fn join_line<'a>(
     value: CowStr<'a, Global>,
     line: &str,
 ) -> Result<CowStr<'a, Global>, AllocError>
-    ensures value { IfOk result (λ now. cow_str_bytes now ≡ cow_str_bytes value.entry ++ 10 ∷ line.now) }
+    ensures value { IfOk result (λ now.
+        cow_str_bytes now ≡ cow_str_bytes value.entry ++ 10 ∷ line.now) }
     ensures owned { IfOk result (λ now. is_owned now ≡ true) }
 {
     let mut text = value.into_owned(alloc)?;
@@ -89,8 +90,10 @@ fn continue_last<'a>(
     line: &str,
     pairs: &mut Vec<(&'a str, CowStr<'a, Global>)>,
 ) -> Result<(), InfoFault>
-    ensures value { Gives named_info_fault (λ x. pairs_of pairs.new.items) result (if length (pairs_of pairs.old.items) == 0
-        then Err (StrayContinuation number) else Ok (extend_last (pairs_of pairs.old.items) line.now)) }
+    ensures value { Gives named_info_fault (λ x.
+        pairs_of pairs.new.items) result
+        (if length (pairs_of pairs.old.items) == 0 then Err (StrayContinuation number) else Ok
+        (extend_last (pairs_of pairs.old.items) line.now)) }
     ensures marked { AreMarked pairs.old.items → IfOk result (λ x. AreMarked pairs.new.items) }
 {
     let Some((label, value)) = pairs.pop() else {
@@ -120,8 +123,11 @@ fn add_line<'a>(
     pairs: &mut Vec<(&'a str, CowStr<'a, Global>)>,
 ) -> Result<(), InfoFault>
     requires { utf8.is_utf8 line.now ≡ true }
-    ensures value { Gives named_info_fault (λ x. pairs_of pairs.new.items) result (add_info_line number (pairs_of pairs.old.items) line.now) }
-    ensures marked { list_any is_end line.now ≡ false → AreMarked pairs.old.items → IfOk result (λ x. AreMarked pairs.new.items) }
+    ensures value { Gives named_info_fault (λ x.
+        pairs_of pairs.new.items) result
+        (add_info_line number (pairs_of pairs.old.items) line.now) }
+    ensures marked { list_any is_end line.now ≡ false → AreMarked pairs.old.items
+        → IfOk result (λ x. AreMarked pairs.new.items) }
 {
     let rest = without_first_blanks(line);
     if rest.is_empty() {
@@ -141,7 +147,8 @@ fn read_pairs<'a>(
     text: &'a [u8],
 ) -> Result<Vec<(&'a str, CowStr<'a, Global>)>, InfoFault>
     requires { utf8.is_utf8 text.now ≡ true }
-    ensures value { Gives named_info_fault (λ pairs. pairs_of pairs.items) result (pairs_from 1 [] (lines text.now)) }
+    ensures value { Gives named_info_fault (λ pairs.
+        pairs_of pairs.items) result (pairs_from 1 [] (lines text.now)) }
     ensures marked { IfOk result (λ pairs. AreMarked pairs.items) }
 {
     let mut pairs: Vec<(&'a str, CowStr<'a, Global>)> = Vec::new(alloc);
@@ -185,8 +192,9 @@ pub fn read_bag_info<'a>(alloc: Global, text: &'a [u8]) -> Result<BagInfo<'a>, I
         MatchResult result (λ info. pairs_in info ≡ pairs) (λ fault. fault ≡ Memory) }
 
     // A value is borrowed exactly where it has no LF, so where no line continues it.
-    ensures borrowed { IfOk result (λ info. (label : Bor (List ℕ)) (value : CowStr Global) → Contains info.pairs.items (label, value) →
-        IsBorrowedStr value ↔ (has_line_feed (cow_str_bytes value) ≡ false)) }
+    ensures borrowed { IfOk result (λ info.
+        (label : Bor (List ℕ)) (value : CowStr Global) → Contains info.pairs.items (label, value)
+        → IsBorrowedStr value ↔ (has_line_feed (cow_str_bytes value) ≡ false)) }
 
     // A refusal names the first fault of the text, and where one stands it is the answer, unless memory runs out.
     ensures refused { IfErr result (λ fault. (fault ≡ Memory) ⊎ InfoFaultIs text.now fault) }

@@ -25,20 +25,25 @@ ghost use Rattle.bag_text.specs.declared.set_fault.SetFault.{SetFault};
 /// Two bags have two texts, and no text begins another.
 pub fn one_text()
     ensures one { (a b : List File) → IsBag a → IsBag b → set_text a ≡ set_text b → a ≡ b }
-    ensures apart { (a b : List File) → IsBag a → IsBag b → (more : List ℕ) → set_text a ≡ set_text b ++ more → more ≡ [] }
+    ensures apart { (a b : List File) → IsBag a → IsBag b → (more : List ℕ)
+        → set_text a ≡ set_text b ++ more → more ≡ [] }
 {}
 
 /// A text is the form of a bag or has a fault of the table, not both, and no two faults.
 pub fn one_fault()
-    ensures whole { (t : List ℕ) → ((files : List File) × IsBag files × (t ≡ set_text files)) ⊎ ((fault : SetFault) × FaultIs t fault) }
-    ensures apart { (files : List File) (fault : SetFault) → IsBag files → FaultIs (set_text files) fault → ⊥ }
+    ensures whole { (t : List ℕ)
+        → ((files : List File) × IsBag files × (t ≡ set_text files))
+        ⊎ ((fault : SetFault) × FaultIs t fault) }
+    ensures apart { (files : List File) (fault : SetFault) → IsBag files
+        → FaultIs (set_text files) fault → ⊥ }
     ensures one { (t : List ℕ) (a b : SetFault) → FaultIs t a → FaultIs t b → a ≡ b }
 {}
 
 /// Reading a text answers a bag exactly where the text is the bag's transfer form, and a fault exactly where it is the
 /// text's first.
 pub fn transfer_forms()
-    ensures read { (t : List ℕ) (files : List File) → (set_of t ≡ Ok files) ↔ (IsBag files × (t ≡ set_text files)) }
+    ensures read { (t : List ℕ) (files : List File) → (set_of t ≡ Ok files)
+        ↔ (IsBag files × (t ≡ set_text files)) }
     ensures first { (t : List ℕ) (fault : SetFault) → (set_of t ≡ Err fault) ↔ FaultIs t fault }
 {}
 
@@ -49,7 +54,8 @@ pub fn one_clash()
 
 /// The fault that is computed of a list of files is the first one of the table, and none is exactly in a bag.
 pub fn one_list_fault()
-    ensures first { (files : List File) (fault : SetFault) → (list_fault files ≡ Some fault) ↔ ListFault files fault }
+    ensures first { (files : List File) (fault : SetFault) → (list_fault files ≡ Some fault)
+        ↔ ListFault files fault }
     ensures none { (files : List File) → (list_fault files ≡ None) ↔ IsBag files }
 {}
 
@@ -96,7 +102,10 @@ pub fn manifests()
         ((es : Entries) × (manifest_of v a text ≡ Ok es)) ↔ IsManifest v a text }
     ensures first { (v : Version) (a : Algorithm) (text : List ℕ) (fault : LineFault) →
         (manifest_of v a text ≡ Err fault) ↔ ManifestFault v a text fault }
-    ensures listed { (v : Version) (a : Algorithm) (text : List ℕ) (es : Entries) (path : List ℕ) (checksum : Checksum) (number : ℕ) →
-        manifest_of v a text ≡ Ok es →
-        ((is_decoded : Bool) × Contains es (path, record { checksum = checksum; line = number; is_decoded = is_decoded })) ↔ LineLists v a text number path checksum }
+    ensures listed { (v : Version) (a : Algorithm) (text : List ℕ) (es : Entries) (path : List ℕ)
+        (checksum : Checksum) (number : ℕ) → manifest_of v a text ≡ Ok es
+        → ((is_decoded : Bool)
+        × Contains es
+        (path, record { checksum = checksum; line = number; is_decoded = is_decoded }))
+        ↔ LineLists v a text number path checksum }
 {}

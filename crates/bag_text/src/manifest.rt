@@ -205,7 +205,9 @@ fn add_line<'a>(
     line: &'a [u8],
     entries: &mut BTreeMap<CowStr<'a, Global>, Listing>,
 ) -> Result<(), LineFault>
-    ensures { Gives named_line_fault (λ x. map entry_in entries.new.entries) result (add_line_of version algorithm number (map entry_in entries.old.entries) line.now) }
+    ensures { Gives named_line_fault (λ x.
+        map entry_in entries.new.entries) result
+        (add_line_of version algorithm number (map entry_in entries.old.entries) line.now) }
 {
     if is_blank_line(line) {
         return Ok(());
@@ -224,7 +226,8 @@ fn read_entries<'a>(
     algorithm: Algorithm,
     text: &'a [u8],
 ) -> Result<BTreeMap<CowStr<'a, Global>, Listing>, LineFault>
-    ensures { Gives named_line_fault (λ m. map entry_in m.entries) result (entries_of version algorithm 1 [] (lines text.now)) }
+    ensures { Gives named_line_fault (λ m.
+        map entry_in m.entries) result (entries_of version algorithm 1 [] (lines text.now)) }
 {
     let mut entries: BTreeMap<CowStr<'a, Global>, Listing> = BTreeMap::new(alloc);
     let mut rest = text;
@@ -284,12 +287,14 @@ pub fn read_manifest<'a>(
         → IsBorrowedStr path ↔ (has_coded version (path_text line) ≡ false)) }
 
     // A refusal names the first fault of the text, and where one stands it is the answer, unless memory runs out.
-    ensures refused { IfErr result (λ fault. (fault ≡ Memory) ⊎ ManifestFault version algorithm text.now fault) }
+    ensures refused { IfErr result (λ fault.
+        (fault ≡ Memory) ⊎ ManifestFault version algorithm text.now fault) }
     ensures first_fault { (fault : LineFault) → ManifestFault version algorithm text.now fault
         → (result ≡ Err fault) ⊎ (result ≡ Err Memory) }
 
     // The same by computing.
-    ensures exact { Gives named_line_fault entries_in result (manifest_of version algorithm text.now) }
+    ensures exact { Gives named_line_fault entries_in result
+        (manifest_of version algorithm text.now) }
 {
     read_lines(alloc, version, algorithm, text)
 }
@@ -297,7 +302,8 @@ pub fn read_manifest<'a>(
 impl<'a> Manifest<'a> {
     /// What the manifest says of the path.
     pub fn get(&self, path: &str) -> Option<Listing>
-        ensures entry { IfSome result (λ listing. HasEntry self.now path.now listing.checksum listing.line) }
+        ensures entry { IfSome result (λ listing.
+            HasEntry self.now path.now listing.checksum listing.line) }
         ensures found { IsSome result ↔ HasPath self.now path.now }
         ensures exact { result ≡ listing_at path.now self.now }
     {

@@ -37,11 +37,14 @@ impl<'a> BagSet<'a> {
         // What is made is the list itself, and it is a bag.
         ensures made { IfOk result (λ set. (set ≡ files_of files.now) × IsBag set) }
         // A list that is a bag is made, unless memory runs out.
-        ensures only { IsBag (files_of files.now) → Answers named_set_fault result (Ok (files_of files.now)) }
+        ensures only { IsBag (files_of files.now)
+            → Answers named_set_fault result (Ok (files_of files.now)) }
         // A list that is refused has the fault that is named, its first one.
-        ensures fault { IfErr result (λ fault. fault ≢ Memory → ListFault (files_of files.now) fault) }
+        ensures fault { IfErr result (λ fault.
+            fault ≢ Memory → ListFault (files_of files.now) fault) }
         // A list that has a fault is refused with it.
-        ensures refused { (fault : SetFault) → ListFault (files_of files.now) fault → result ≡ Err fault }
+        ensures refused { (fault : SetFault) → ListFault (files_of files.now) fault
+            → result ≡ Err fault }
     {
         make(alloc, files)
     }
@@ -57,7 +60,8 @@ impl<'a> BagSet<'a> {
     /// The content of the file that has this path.
     pub fn get(&self, path: &str) -> Option<&'a [u8]>
         // A content is given exactly where a file of the bag has this path and that content.
-        ensures found { (content : List ℕ) → (option_copied result ≡ Some content) ↔ Contains self.now (record { path = path.now; content = content }) }
+        ensures found { (content : List ℕ) → (option_copied result ≡ Some content)
+            ↔ Contains self.now (record { path = path.now; content = content }) }
         // None is given exactly where no file of the bag has this path.
         ensures none { IsNone result ↔ ((f : File) → Contains self.now f → f.path ≢ path.now) }
         ensures exact { option_copied result ≡ content_at self.now path.now }
@@ -71,11 +75,13 @@ pub fn read_bagset<'a>(alloc: Global, text: &'a [u8]) -> Result<BagSet<'a>, SetF
     // What is read is the transfer form of a bag.
     ensures found { IfOk result (λ set. IsBag set × (text.now ≡ set_text set)) }
     // A bag's transfer form is read, unless memory runs out.
-    ensures only { (files : List File) → IsBag files → text.now ≡ set_text files → Answers named_set_fault result (Ok files) }
+    ensures only { (files : List File) → IsBag files → text.now ≡ set_text files
+        → Answers named_set_fault result (Ok files) }
     // A text that is refused has the fault that is named.
     ensures fault { IfErr result (λ fault. fault ≢ Memory → FaultIs text.now fault) }
     // A text that has a fault is refused with it, unless memory runs out.
-    ensures refused { (fault : SetFault) → FaultIs text.now fault → Answers named_set_fault result (Err fault) }
+    ensures refused { (fault : SetFault) → FaultIs text.now fault
+        → Answers named_set_fault result (Err fault) }
     // What reading the text byte by byte gives.
     ensures exact { Answers named_set_fault result (set_of text.now) }
 {

@@ -25,7 +25,8 @@ pub const MAX_FORM: u64 = 16_777_216;
 /// What stands behind the bytes that a text must begin with.
 #[tactic(auto, unfolding(crate::specs::TransferReading::literal_at))]
 fn literal<'a>(wanted: &[u8], text: &'a [u8]) -> Result<&'a [u8], Flaw>
-    ensures { MatchResult result (λ rest. literal_at wanted.now text.now ≡ Ok rest.now) (λ flaw. literal_at wanted.now text.now ≡ Err flaw) }
+    ensures { MatchResult result (λ rest. literal_at wanted.now text.now ≡ Ok rest.now)
+        (λ flaw. literal_at wanted.now text.now ≡ Err flaw) }
 {
     let mut rest = text;
     for byte in wanted {
@@ -53,7 +54,8 @@ fn digits<'a>(
     requires most { most < 2 ^ 32 }
     requires first { first ≤ most }
     ensures bound { IfOk result (λ x. x.0 ≤ most) }
-    ensures value { MatchResult result (λ x. digits_at stop most first text.now ≡ Ok (x.0, x.1.now)) (λ flaw. digits_at stop most first text.now ≡ Err flaw) }
+    ensures value { MatchResult result (λ x. digits_at stop most first text.now ≡ Ok (x.0, x.1.now))
+        (λ flaw. digits_at stop most first text.now ≡ Err flaw) }
 {
     let mut number = first;
     let mut rest = text;
@@ -85,7 +87,8 @@ fn number<'a>(
     requires most { most < 2 ^ 32 }
     requires digit { 9 ≤ most }
     ensures bound { IfOk result (λ x. x.0 ≤ most) }
-    ensures value { MatchResult result (λ x. number_at stop least most text.now ≡ Ok (x.0, x.1.now)) (λ flaw. number_at stop least most text.now ≡ Err flaw) }
+    ensures value { MatchResult result (λ x. number_at stop least most text.now ≡ Ok (x.0, x.1.now))
+        (λ flaw. number_at stop least most text.now ≡ Err flaw) }
 {
     match text {
         [] => Err(Flaw::Short),
@@ -104,7 +107,8 @@ fn number<'a>(
 
 #[tactic(auto, unfolding(crate::specs::TransferReading::header_at))]
 fn read_header<'a>(text: &'a [u8]) -> Result<Header<'a>, Flaw>
-    ensures { MatchResult result (λ h. header_at text.now ≡ Ok (head_of h)) (λ flaw. header_at text.now ≡ Err flaw) }
+    ensures { MatchResult result (λ h. header_at text.now ≡ Ok (head_of h))
+        (λ flaw. header_at text.now ≡ Err flaw) }
 {
     let rest = literal(b"FILE ", text)?;
     let (path_len, rest) = number(b' ', 1, MAX_PATH, rest)?;
@@ -118,7 +122,8 @@ fn read_header<'a>(text: &'a [u8]) -> Result<Header<'a>, Flaw>
 
 #[tactic(auto, unfolding(crate::specs::TransferReading::place_at))]
 fn read_place<'a>(text: &'a [u8]) -> Result<EntryPlace<'a>, Flaw>
-    ensures { MatchResult result (λ p. place_at text.now ≡ Ok (place_of p)) (λ flaw. place_at text.now ≡ Err flaw) }
+    ensures { MatchResult result (λ p. place_at text.now ≡ Ok (place_of p))
+        (λ flaw. place_at text.now ≡ Err flaw) }
 {
     match text {
         [] => Err(Flaw::Short),
@@ -134,7 +139,9 @@ fn read_file<'a>(
     before: &[u8],
     header: Header<'a>,
 ) -> Result<((&'a str, &'a [u8]), &'a [u8]), SetFault>
-    ensures { MatchResult result (λ x. file_at offset before.now (head_of header.entry) ≡ Ok (file_of x.0, x.1.now)) (λ fault. file_at offset before.now (head_of header.entry) ≡ Err fault) }
+    ensures { MatchResult result
+        (λ x. file_at offset before.now (head_of header.entry) ≡ Ok (file_of x.0, x.1.now))
+        (λ fault. file_at offset before.now (head_of header.entry) ≡ Err fault) }
 {
     let Header {
         path_len,
@@ -167,7 +174,8 @@ fn fault_at(offset: usize, flaw: Flaw) -> SetFault
 }
 
 fn place_or_fault<'a>(offset: usize, text: &'a [u8]) -> Result<EntryPlace<'a>, SetFault>
-    ensures { MatchResult result (λ p. result_at offset (place_at text.now) ≡ Ok (place_of p)) (λ fault. result_at offset (place_at text.now) ≡ Err fault) }
+    ensures { MatchResult result (λ p. result_at offset (place_at text.now) ≡ Ok (place_of p))
+        (λ fault. result_at offset (place_at text.now) ≡ Err fault) }
 {
     match read_place(text) {
         Ok(place) => Ok(place),
@@ -184,7 +192,11 @@ fn read_entry<'a>(
     text: &'a [u8],
 ) -> Result<Option<((&'a str, &'a [u8]), &'a [u8])>, SetFault>
     ensures room { IfOk result (λ found. IfSome found (λ x. 0 < left)) }
-    ensures value { MatchResult result (λ found. entry_at offset left before.now text.now ≡ Ok (option_map (λ x. (file_of x.0, x.1.now)) found)) (λ fault. entry_at offset left before.now text.now ≡ Err fault) }
+    ensures value { MatchResult result
+        (λ found.
+        entry_at offset left before.now text.now
+        ≡ Ok (option_map (λ x. (file_of x.0, x.1.now)) found))
+        (λ fault. entry_at offset left before.now text.now ≡ Err fault) }
 {
     match place_or_fault(offset, text)? {
         EntryPlace::End(behind) => {
@@ -210,7 +222,8 @@ fn read_files<'a>(
     whole: usize,
     body: &'a [u8],
 ) -> Result<Vec<(&'a str, &'a [u8])>, SetFault>
-    ensures { Gives named_set_fault (λ v. files_of v.items) result (files_at whole max_files [] body.now) }
+    ensures { Gives named_set_fault (λ v.
+        files_of v.items) result (files_at whole max_files [] body.now) }
 {
     let mut files: Vec<(&'a str, &'a [u8])> = Vec::new(alloc);
     let mut before: &'a [u8] = &[];
@@ -244,7 +257,8 @@ pub fn read_set<'a>(alloc: Global, text: &'a [u8]) -> Result<Vec<(&'a str, &'a [
 }
 
 fn read_opening(text: &[u8]) -> Result<&[u8], SetFault>
-    ensures { MatchResult result (λ rest. after_opening (literal_at opening text.now) ≡ Ok rest.now) (λ fault. after_opening (literal_at opening text.now) ≡ Err fault) }
+    ensures { MatchResult result (λ rest. after_opening (literal_at opening text.now) ≡ Ok rest.now)
+        (λ fault. after_opening (literal_at opening text.now) ≡ Err fault) }
 {
     match literal(b"BAGSET 1\n", text) {
         Ok(rest) => Ok(rest),

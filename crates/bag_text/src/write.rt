@@ -32,7 +32,9 @@ fn write_entry(
     path: &str,
     content: &[u8],
 ) -> Result<(), AllocError>
-    ensures { OnOk result (text.new.items ≡ text.old.items ++ entry (record { path = path.now; content = content.now })) }
+    ensures { OnOk result
+        (text.new.items
+        ≡ text.old.items ++ entry (record { path = path.now; content = content.now })) }
 {
     let header = format!(in alloc; "FILE {} {}\n", path.len(), content.len())?;
     text.extend_from_slice(header.as_bytes())?;
@@ -74,7 +76,8 @@ pub fn write_bagset(alloc: Global, bag: &BagSet<'_>) -> Result<Vec<u8>, AllocErr
     // Reading what was written gives the bag.
     ensures read { IfOk result (λ text. set_of text.items ≡ Ok bag.now) }
     // Writing what was read gives the bytes: where a text is read as this bag, that text is written.
-    ensures written { (text : List ℕ) → set_of text ≡ Ok bag.now → IfOk result (λ written. written.items ≡ text) }
+    ensures written { (text : List ℕ) → set_of text ≡ Ok bag.now
+        → IfOk result (λ written. written.items ≡ text) }
 {
     write_files(alloc, bag.files())
 }

@@ -40,7 +40,8 @@ fn is_listed(policy: &Policy, caller: &str) -> bool
 
 /// What standard error is told of the caller: that the policy doesn't list it, where that is so.
 fn unlisted_line(alloc: Global, policy: &Policy, caller: &str) -> Result<Option<String>, AllocError>
-    ensures { IfOk result (λ line. option_map string_bytes line ≡ unlisted_line policy.now caller.now) }
+    ensures { IfOk result (λ line.
+        option_map string_bytes line ≡ unlisted_line policy.now caller.now) }
 {
     if is_listed(policy, caller) {
         return Ok(None);
@@ -219,8 +220,8 @@ pub fn explain_outcome(
         (unlisted_line policy asked.now.caller.now) Refused) }
     // Where rules of the policy may have days and none is named, nothing is printed, standard error is
     // told that a day is missing and why, and it ends as misused.
-    ensures undated { (policy : PolicyValue) → Spells bytes.now policy → WantsDay bytes.now asked.now
-        → IfOk result SaysDayMissing }
+    ensures undated { (policy : PolicyValue) → Spells bytes.now policy
+        → WantsDay bytes.now asked.now → IfOk result SaysDayMissing }
     // A file that is no policy is refused with its first fault, and standard error is told it in words,
     // with its place.
     ensures refused { (fault : PolicyFault) → HasFault bytes.now fault

@@ -76,7 +76,8 @@ impl<R: Read> Read for Counted<R> {
 
     fn read(&mut self, buf: &mut [u8]) -> io::Result<usize>
         ensures bound { ReadsAtMost result buf.new }
-        ensures bytes { ReadConsumes (R.remaining (device_of self.old)) (R.remaining (device_of self.new)) result buf.new }
+        ensures bytes { ReadConsumes (R.remaining (device_of self.old))
+            (R.remaining (device_of self.new)) result buf.new }
         ensures counted { CountsFailure (failures_of self.old) (failures_of self.new) result }
         ensures error { KeepsError (last_error_of self.old) (last_error_of self.new) result }
     {
@@ -93,9 +94,12 @@ impl<W: Write> Write for Counted<W> {
 
     fn write(&mut self, buf: &[u8]) -> io::Result<usize>
         ensures bound { WritesAtMost result buf.now }
-        ensures bytes { WriteAppends (W.contents (device_of self.old)) (W.contents (device_of self.new)) result buf.now }
-        ensures counted { CountsFailedWrite (failures_of self.old) (failures_of self.new) result buf.now }
-        ensures error { KeepsWriteError (last_error_of self.old) (last_error_of self.new) result buf.now }
+        ensures bytes { WriteAppends (W.contents (device_of self.old))
+            (W.contents (device_of self.new)) result buf.now }
+        ensures counted { CountsFailedWrite (failures_of self.old)
+            (failures_of self.new) result buf.now }
+        ensures error { KeepsWriteError (last_error_of self.old)
+            (last_error_of self.new) result buf.now }
     {
         let result = self.device.write(buf);
         match &result {

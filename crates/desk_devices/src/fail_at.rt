@@ -76,10 +76,12 @@ impl Read for FailAt<&[u8]> {
 
     fn read(&mut self, buf: &mut [u8]) -> io::Result<usize>
         ensures bound { ReadsAtMost result buf.new }
-        ensures bytes { ReadConsumes (Some self.old.memory.now) (Some self.new.memory.now) result buf.new }
+        ensures bytes { ReadConsumes (Some self.old.memory.now)
+            (Some self.new.memory.now) result buf.new }
         ensures fails { self.old.calls_left ≡ 0 → IsErr result }
         ensures gives { 0 < self.old.calls_left
-            → result ≡ Ok (count_in self.old.portion (min (length self.old.memory.now) (length buf.old))) }
+            → result
+            ≡ Ok (count_in self.old.portion (min (length self.old.memory.now) (length buf.old))) }
         ensures calls { self.new.calls_left ≡ self.old.calls_left - 1 }
         ensures portion { self.new.portion ≡ self.old.portion }
     {
@@ -94,10 +96,12 @@ impl Write for FailAt<Vec<u8>> {
 
     fn write(&mut self, buf: &[u8]) -> io::Result<usize>
         ensures bound { WritesAtMost result buf.now }
-        ensures bytes { WriteAppends (Some self.old.memory.items) (Some self.new.memory.items) result buf.now }
+        ensures bytes { WriteAppends (Some self.old.memory.items)
+            (Some self.new.memory.items) result buf.now }
         ensures fails { self.old.calls_left ≡ 0 → IsErr result }
         ensures takes { IfOk result (λ n. n ≡ count_in self.old.portion (length buf.now)) }
-        ensures works { 0 < self.old.calls_left → IfErr result (λ e. error_kind e ≡ ErrorKind.OutOfMemory) }
+        ensures works { 0 < self.old.calls_left
+            → IfErr result (λ e. error_kind e ≡ ErrorKind.OutOfMemory) }
         ensures calls { self.new.calls_left ≡ self.old.calls_left - 1 }
         ensures portion { self.new.portion ≡ self.old.portion }
     {

@@ -26,13 +26,15 @@ pub fn fill<R: Read>(
     bytes: &mut Vec<u8>,
     want: usize,
 ) -> Result<(), FillFault>
-    ensures given { result ≢ Err FillFault.Memory → (more : List ℕ) × (bytes.new.items ≡ bytes.old.items ++ more)
+    ensures given { result ≢ Err FillFault.Memory
+        → (more : List ℕ) × (bytes.new.items ≡ bytes.old.items ++ more)
         × Consumes (R.remaining (device_of reader.old)) (R.remaining (device_of reader.new)) more }
     ensures ok { OnOk result (want ≤ vec_len bytes.new) }
     ensures short { OnErr result (vec_len bytes.new < want) }
     ensures end { result ≡ Err FillFault.Truncated → IsAtEnd (R.remaining (device_of reader.new)) }
     ensures calm { result ≢ Err FillFault.Read → failures_of reader.new ≡ failures_of reader.old }
-    ensures failed { result ≡ Err FillFault.Read → HasFailed (failures_of reader.old) (failures_of reader.new) }
+    ensures failed { result ≡ Err FillFault.Read
+        → HasFailed (failures_of reader.old) (failures_of reader.new) }
     ensures reason { result ≡ Err FillFault.Read → IsSome (last_error_of reader.new) }
 {
     let mut chunk = [0u8; 16384];

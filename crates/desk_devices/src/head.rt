@@ -51,10 +51,12 @@ fn read_to_end_of_head<R: Read>(
 ) -> Result<usize, HeadFault>
     requires { bytes.old.items ≡ [] }
     ensures given { result ≢ Err HeadFault.Memory
-        → Consumes (R.remaining (device_of reader.old)) (R.remaining (device_of reader.new)) bytes.new.items }
+        → Consumes (R.remaining (device_of reader.old))
+        (R.remaining (device_of reader.new)) bytes.new.items }
     ensures head { EndRead bytes.new.items result (R.remaining (device_of reader.new)) }
     ensures calm { result ≢ Err HeadFault.Read → failures_of reader.new ≡ failures_of reader.old }
-    ensures failed { result ≡ Err HeadFault.Read → HasFailed (failures_of reader.old) (failures_of reader.new) }
+    ensures failed { result ≡ Err HeadFault.Read
+        → HasFailed (failures_of reader.old) (failures_of reader.new) }
     ensures reason { result ≡ Err HeadFault.Read → IsSome (last_error_of reader.new) }
     ensures within { IfOk result (λ n. (n ≤ length bytes.new.items) × (n ≤ max_head)) }
     ensures whole { IfSome (R.remaining (device_of reader.old)) (λ input. EndOf input result) }
@@ -81,7 +83,8 @@ pub fn read_head<R: Read>(alloc: Global, reader: &mut Counted<R>) -> Result<Requ
         × Consumes (R.remaining (device_of reader.old)) (R.remaining (device_of reader.new)) given
         × HeadRead given result (R.remaining (device_of reader.new)) }
     ensures calm { result ≢ Err HeadFault.Read → failures_of reader.new ≡ failures_of reader.old }
-    ensures failed { result ≡ Err HeadFault.Read → HasFailed (failures_of reader.old) (failures_of reader.new) }
+    ensures failed { result ≡ Err HeadFault.Read
+        → HasFailed (failures_of reader.old) (failures_of reader.new) }
     ensures reason { result ≡ Err HeadFault.Read → IsSome (last_error_of reader.new) }
     ensures within { IfOk result (λ head. (head.end ≤ vec_len head.bytes) × (head.end ≤ max_head)) }
     ensures whole { IfSome (R.remaining (device_of reader.old)) (λ input. HeadOf input result) }

@@ -17,5 +17,6 @@ pub fn shortest_front()
 
 /// More bytes change nothing once the head is decided.
 pub fn longer_input()
-    ensures { (input more : List ℕ) → head_at input ≢ Short → head_at (input ++ more) ≡ head_at input }
+    ensures { (input more : List ℕ) → head_at input ≢ Short
+        → head_at (input ++ more) ≡ head_at input }
 {}

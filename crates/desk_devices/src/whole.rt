@@ -14,10 +14,14 @@ pub struct WriteFailed;
 /// Writes all of the bytes. Where the writer fails, it isn't called again, and what has been
 /// written is a beginning of the bytes, not all of them.
 pub fn write_whole<W: Write>(writer: &mut Counted<W>, bytes: &[u8]) -> Result<(), WriteFailed>
-    ensures ok { OnOk result (Appends (W.contents (device_of writer.old)) (W.contents (device_of writer.new)) bytes.now) }
+    ensures ok { OnOk result
+        (Appends (W.contents (device_of writer.old))
+        (W.contents (device_of writer.new)) bytes.now) }
     ensures calm { OnOk result (failures_of writer.new ≡ failures_of writer.old) }
-    ensures beginning { OnErr result ((n : ℕ) × (n < length bytes.now)
-        × Appends (W.contents (device_of writer.old)) (W.contents (device_of writer.new)) (take n bytes.now)) }
+    ensures beginning { OnErr result
+        ((n : ℕ) × (n < length bytes.now)
+        × Appends (W.contents (device_of writer.old)) (W.contents (device_of writer.new))
+        (take n bytes.now)) }
     ensures failed { OnErr result (HasFailed (failures_of writer.old) (failures_of writer.new)) }
     ensures reason { OnErr result (IsSome (last_error_of writer.new)) }
 {

@@ -32,9 +32,11 @@ pub struct Head<'a> {
 
 /// Where the parts of a front are that is a head, whole.
 fn parse_front(front: &[u8], headers: &mut [HeaderSpan; MAX_FIELDS]) -> Option<RequestSpans>
-    ensures head { MatchOption result (IsHead front.now → ⊥)
-        (λ spans. (head : RequestHead) × SpellsHead front.now head × IsRequestAt front.now headers.new spans head) }
-    ensures within { IfSome result (λ spans. IsRequestWithin front.now headers.new spans × (spans.len ≡ length front.now)) }
+    ensures head { MatchOption result (IsHead front.now → ⊥) (λ spans.
+        (head : RequestHead) × SpellsHead front.now head
+        × IsRequestAt front.now headers.new spans head) }
+    ensures within { IfSome result (λ spans.
+        IsRequestWithin front.now headers.new spans × (spans.len ≡ length front.now)) }
 {
     match parse_request(front, headers) {
         Ok(Status::Complete(spans)) if spans.len == front.len() => Some(spans),
@@ -74,7 +76,9 @@ fn name_of(bytes: &[u8]) -> Option<Name<'_>>
 /// Who asks.
 fn caller_of(field: Field<'_>) -> Result<Option<Name<'_>>, HeadRefusal>
     ensures { MatchResult result
-        (λ caller. (caller_refusal (occurrence_seen field.entry) ≡ None) × (caller ≡ caller_of (occurrence_seen field.entry)))
+        (λ caller.
+        (caller_refusal (occurrence_seen field.entry) ≡ None)
+        × (caller ≡ caller_of (occurrence_seen field.entry)))
         (λ refusal. caller_refusal (occurrence_seen field.entry) ≡ Some refusal) }
 {
     match field {

@@ -21,6 +21,6 @@ pub fn first_refusal()
 
 /// A front is taken as saying something exactly where its head says that and no refusal stands.
 pub fn taken_heads()
-    ensures { (front : List ℕ) (contents : HeadContents)
-        → Judges front (Ok contents) ↔ (Says front contents × ((refusal : HeadRefusal) → Stands front refusal → ⊥)) }
+    ensures { (front : List ℕ) (contents : HeadContents) → Judges front (Ok contents)
+        ↔ (Says front contents × ((refusal : HeadRefusal) → Stands front refusal → ⊥)) }
 {}

@@ -38,7 +38,9 @@ fn number_of(digits: &[u8]) -> u128
 pub(crate) fn body_length(field: Field<'_>) -> Result<usize, HeadRefusal>
     ensures small { IfOk result (λ count. count ≤ max_body) }
     ensures judged { MatchResult result
-        (λ count. (length_refusal (occurrence_seen field.entry) ≡ None) × (count ≡ body_length_of (occurrence_seen field.entry)))
+        (λ count.
+        (length_refusal (occurrence_seen field.entry) ≡ None)
+        × (count ≡ body_length_of (occurrence_seen field.entry)))
         (λ refusal. length_refusal (occurrence_seen field.entry) ≡ Some refusal) }
 {
     let text = match field {

@@ -21,11 +21,15 @@ pub fn hear_request<R: Read>(
     routes: &Routes,
     reader: &mut Counted<R>,
 ) -> Result<Heard, HeardFault>
-    ensures given { result ≢ Err HeardFault.Memory → (given : List ℕ)
-        × Consumes (R.remaining (device_of reader.old)) (R.remaining (device_of reader.new)) given × HeardOf given result }
-    ensures end { result ≡ Err (HeardFault.Refused DeskRefusal.Truncated) → IsAtEnd (R.remaining (device_of reader.new)) }
+    ensures given { result ≢ Err HeardFault.Memory
+        → (given : List ℕ)
+        × Consumes (R.remaining (device_of reader.old)) (R.remaining (device_of reader.new)) given
+        × HeardOf given result }
+    ensures end { result ≡ Err (HeardFault.Refused DeskRefusal.Truncated)
+        → IsAtEnd (R.remaining (device_of reader.new)) }
     ensures calm { result ≢ Err HeardFault.Read → failures_of reader.new ≡ failures_of reader.old }
-    ensures failed { result ≡ Err HeardFault.Read → HasFailed (failures_of reader.old) (failures_of reader.new) }
+    ensures failed { result ≡ Err HeardFault.Read
+        → HasFailed (failures_of reader.old) (failures_of reader.new) }
     ensures reason { result ≡ Err HeardFault.Read → IsSome (last_error_of reader.new) }
     ensures whole { IfSome (R.remaining (device_of reader.old)) (λ input. HeardOfAll input result) }
 {
@@ -47,11 +51,15 @@ pub fn hear_request<R: Read>(
 
 /// Hears one request, as `hear_request`, with a table of the routes of its own.
 pub fn read_request<R: Read>(alloc: Global, reader: &mut Counted<R>) -> Result<Heard, HeardFault>
-    ensures given { result ≢ Err HeardFault.Memory → (given : List ℕ)
-        × Consumes (R.remaining (device_of reader.old)) (R.remaining (device_of reader.new)) given × HeardOf given result }
-    ensures end { result ≡ Err (HeardFault.Refused DeskRefusal.Truncated) → IsAtEnd (R.remaining (device_of reader.new)) }
+    ensures given { result ≢ Err HeardFault.Memory
+        → (given : List ℕ)
+        × Consumes (R.remaining (device_of reader.old)) (R.remaining (device_of reader.new)) given
+        × HeardOf given result }
+    ensures end { result ≡ Err (HeardFault.Refused DeskRefusal.Truncated)
+        → IsAtEnd (R.remaining (device_of reader.new)) }
     ensures calm { result ≢ Err HeardFault.Read → failures_of reader.new ≡ failures_of reader.old }
-    ensures failed { result ≡ Err HeardFault.Read → HasFailed (failures_of reader.old) (failures_of reader.new) }
+    ensures failed { result ≡ Err HeardFault.Read
+        → HasFailed (failures_of reader.old) (failures_of reader.new) }
     ensures reason { result ≡ Err HeardFault.Read → IsSome (last_error_of reader.new) }
     ensures whole { IfSome (R.remaining (device_of reader.old)) (λ input. HeardOfAll input result) }
 {

@@ -21,11 +21,13 @@ pub enum Drained {
 /// Reads and drops what still comes, so many bytes at most. The reader isn't called again after an
 /// end or a failure.
 pub fn drain<R: Read>(reader: &mut Counted<R>, most: usize) -> Drained
-    ensures given { (given : List ℕ) × Consumes (R.remaining (device_of reader.old)) (R.remaining (device_of reader.new)) given
+    ensures given { (given : List ℕ)
+        × Consumes (R.remaining (device_of reader.old)) (R.remaining (device_of reader.new)) given
         × (length given ≤ most) × (result ≡ Drained.Enough → length given ≡ most) }
     ensures end { result ≡ Drained.End → IsAtEnd (R.remaining (device_of reader.new)) }
     ensures calm { result ≢ Drained.Failed → failures_of reader.new ≡ failures_of reader.old }
-    ensures failed { result ≡ Drained.Failed → failures_of reader.new ≡ one_more (failures_of reader.old) }
+    ensures failed { result ≡ Drained.Failed
+        → failures_of reader.new ≡ one_more (failures_of reader.old) }
 {
     let mut chunk = [0u8; 8192];
     let mut dropped = 0;

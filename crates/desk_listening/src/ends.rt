@@ -39,8 +39,10 @@ pub(crate) fn hang_up<P: Peer>(
     patience: &Patience,
 ) -> io::Result<Drained>
     ensures shut { OnOk result (Works P.Peer.does (leaving patience.now.rest) peer.old peer.new) }
-    ensures dropped { IfOk result (Drops P.Reader.Read patience.now.rest_bytes reader.old reader.new) }
-    ensures failed { OnErr result (Fails P.Peer.does (leaving patience.now.rest) peer.old peer.new) }
+    ensures dropped { IfOk result
+        (Drops P.Reader.Read patience.now.rest_bytes reader.old reader.new) }
+    ensures failed { OnErr result
+        (Fails P.Peer.does (leaving patience.now.rest) peer.old peer.new) }
     ensures kept { OnErr result (reader.new ≡ reader.old) }
 {
     peer.shut(Shutdown::Write)?;

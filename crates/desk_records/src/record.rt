@@ -52,7 +52,8 @@ fn has_marks(line: &[u8]) -> bool
 
 /// The day and the number of bytes that a record's line says.
 fn read_line(line: &[u8]) -> Option<(Day, usize)>
-    ensures written { IfSome result (λ said. IsLine said.0 said.1 × (line.now ≡ line_text said.0 said.1)) }
+    ensures written { IfSome result (λ said.
+        IsLine said.0 said.1 × (line.now ≡ line_text said.0 said.1)) }
     ensures only { (day : Date) (count : ℕ) → IsLine day count → line.now ≡ line_text day count
         → result ≡ Some (day, count) }
 {
@@ -110,7 +111,8 @@ fn after_line<'a>(line: &'a [u8], body: &'a [u8]) -> Found<'a>
 pub fn record_at(bytes: &[u8]) -> Found<'_>
     ensures found { FoundIn result bytes.now }
     ensures only { (day : Date) (request rest : List ℕ) → IsRecord day request
-        → bytes.now ≡ record_text day request ++ rest → whole_of result ≡ Some (day, request, rest) }
+        → bytes.now ≡ record_text day request ++ rest
+        → whole_of result ≡ Some (day, request, rest) }
 {
     match first_line(bytes) {
         Some((line, body)) => after_line(line, body),

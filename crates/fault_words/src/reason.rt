@@ -100,7 +100,8 @@ fn place_in(tree: &Table, fault: PolicyFault) -> Place<'_>
 
 /// The fault's sentence and the place.
 fn sentence_at(alloc: Global, fault: PolicyFault, place: Place<'_>) -> Result<String, AllocError>
-    ensures { IfOk result (λ text. string_bytes text ≡ policy_words fault ++ place_words place.entry ++ 10 ∷ []) }
+    ensures { IfOk result (λ text.
+        string_bytes text ≡ policy_words fault ++ place_words place.entry ++ 10 ∷ []) }
 {
     let words = InWords(&fault);
     let mut text = format!(in alloc; "{words}")?;

@@ -36,9 +36,11 @@ pub(crate) fn answer_next<S: Alter, W: Write>(
     day: Day,
     bytes: &[u8],
 ) -> Result<(), Unwritten>
-    ensures answered { AnswersNext S.Store office.old office.new (record { day = day; bytes = bytes.now })
-        (W.contents (device_of writer.old)) (W.contents (device_of writer.new)) result }
-    ensures failed { result ≡ Err Unwritten.Write → HasFailed (failures_of writer.old) (failures_of writer.new) }
+    ensures answered { AnswersNext S.Store office.old office.new
+        (record { day = day; bytes = bytes.now }) (W.contents (device_of writer.old))
+        (W.contents (device_of writer.new)) result }
+    ensures failed { result ≡ Err Unwritten.Write
+        → HasFailed (failures_of writer.old) (failures_of writer.new) }
     ensures calm { result ≢ Err Unwritten.Write → failures_of writer.new ≡ failures_of writer.old }
 {
     let mut request = Counted::new(bytes);

@@ -28,8 +28,9 @@ use sqlite::Alter;
 /// Bytes that the desk refuses are answered by the text of that refusal, and leave the office as it
 /// is.
 pub fn refusals_change_nothing<S: Alter>()
-    ensures { (done : Bool) (day : Date) (bytes text : List ℕ) (refusal : DeskRefusal) (old new : Held S)
-        → Hears bytes (Err refusal) → IsAnswered S.Store done day bytes old new text
+    ensures { (done : Bool) (day : Date) (bytes text : List ℕ) (refusal : DeskRefusal)
+        (old new : Held S) → Hears bytes (Err refusal)
+        → IsAnswered S.Store done day bytes old new text
         → (new ≡ old) × (text ≡ refusal_text refusal) }
 {}
 

@@ -60,7 +60,8 @@ impl ReplayFault {
     /// A stop where no record stands behind so many.
     fn bad_record(count: u64) -> ReplayFault
         requires { count ≤ max_records }
-        ensures { result ≡ record { stop = ReplayStop.BadRecord (count + 1); done = count; answered = count } }
+        ensures { result
+            ≡ record { stop = ReplayStop.BadRecord (count + 1); done = count; answered = count } }
     {
         ReplayFault::between(ReplayStop::BadRecord { index: count + 1 }, count)
     }
@@ -106,8 +107,10 @@ fn found_behind(count: u64, pending: &[u8]) -> Found<'_>
 /// Reads on, by one call of the reader, and adds what it gives. Whether it gave anything: it gives
 /// nothing at the end of the input.
 fn read_more<R: Read>(reader: &mut Counted<R>, pending: &mut Vec<u8>) -> Result<bool, ReplayStop>
-    ensures more { ReadsMore (R.remaining (device_of reader.old)) (R.remaining (device_of reader.new)) pending.old.items pending.new.items result }
-    ensures failed { result ≡ Err ReplayStop.Read → HasFailed (failures_of reader.old) (failures_of reader.new) }
+    ensures more { ReadsMore (R.remaining (device_of reader.old))
+        (R.remaining (device_of reader.new)) pending.old.items pending.new.items result }
+    ensures failed { result ≡ Err ReplayStop.Read
+        → HasFailed (failures_of reader.old) (failures_of reader.new) }
     ensures calm { result ≢ Err ReplayStop.Read → failures_of reader.new ≡ failures_of reader.old }
 {
     let mut chunk = [0u8; 4096];
@@ -130,10 +133,15 @@ pub fn replay<S: Alter, R: Read, W: Write>(
     reader: &mut Counted<R>,
     writer: &mut Counted<W>,
 ) -> Result<u64, ReplayFault>
-    ensures replayed { Replayed S.Store office.old office.new (R.remaining (device_of reader.old)) (R.remaining (device_of reader.new))
-        (W.contents (device_of writer.old)) (W.contents (device_of writer.new)) result }
-    ensures read { IfErr result (λ fault. fault.stop ≡ ReplayStop.Read → HasFailed (failures_of reader.old) (failures_of reader.new)) }
-    ensures written { IfErr result (λ fault. fault.stop ≡ ReplayStop.Write → HasFailed (failures_of writer.old) (failures_of writer.new)) }
+    ensures replayed { Replayed S.Store office.old office.new (R.remaining (device_of reader.old))
+        (R.remaining (device_of reader.new)) (W.contents (device_of writer.old))
+        (W.contents (device_of writer.new)) result }
+    ensures read { IfErr result (λ fault.
+        fault.stop ≡ ReplayStop.Read
+        → HasFailed (failures_of reader.old) (failures_of reader.new)) }
+    ensures written { IfErr result (λ fault.
+        fault.stop ≡ ReplayStop.Write
+        → HasFailed (failures_of writer.old) (failures_of writer.new)) }
     ensures calm_reader { MatchResult result (λ _. failures_of reader.new ≡ failures_of reader.old)
         (λ fault. fault.stop ≢ ReplayStop.Read → failures_of reader.new ≡ failures_of reader.old) }
     ensures calm_writer { MatchResult result (λ _. failures_of writer.new ≡ failures_of writer.old)

@@ -79,13 +79,17 @@ pub(crate) fn respond<S: Alter, R: Read>(
     day: Day,
     reader: &mut Counted<R>,
 ) -> Result<Response, Unanswered>
-    ensures answered { IfOk result (λ response. (given : List ℕ)
+    ensures answered { IfOk result (λ response.
+        (given : List ℕ)
         × Consumes (R.remaining (device_of reader.old)) (R.remaining (device_of reader.new)) given
         × IsAnswered S.Store response.done day given office.old office.new response.bytes.items
-        × (Hears given (Err DeskRefusal.Truncated) → IsAtEnd (R.remaining (device_of reader.new)))) }
-    ensures read { result ≡ Err Unanswered.Read → (given : List ℕ)
+        × (Hears given (Err DeskRefusal.Truncated)
+        → IsAtEnd (R.remaining (device_of reader.new)))) }
+    ensures read { result ≡ Err Unanswered.Read
+        → (given : List ℕ)
         × Consumes (R.remaining (device_of reader.old)) (R.remaining (device_of reader.new)) given
-        × Hears given (Err DeskRefusal.Truncated) × HasFailed (failures_of reader.old) (failures_of reader.new) × (office.new ≡ office.old) }
+        × Hears given (Err DeskRefusal.Truncated)
+        × HasFailed (failures_of reader.old) (failures_of reader.new) × (office.new ≡ office.old) }
     ensures served { result ≡ Err (Unanswered.Memory true) → (given : List ℕ) × (answer : Answer)
         × Consumes (R.remaining (device_of reader.old)) (R.remaining (device_of reader.new)) given
         × ServesBytes day given (state S.Store office.old) (state S.Store office.new) answer }
@@ -94,8 +98,10 @@ pub(crate) fn respond<S: Alter, R: Read>(
     // Where all that the reader has is known, it is all that is heard.
     ensures whole { IfSome (R.remaining (device_of reader.old)) (λ input. IfOk result (λ response.
         IsAnswered S.Store response.done day input office.old office.new response.bytes.items)) }
-    ensures whole_served { result ≡ Err (Unanswered.Memory true) → IfSome (R.remaining (device_of reader.old)) (λ input.
-        (answer : Answer) × ServesBytes day input (state S.Store office.old) (state S.Store office.new) answer) }
+    ensures whole_served { result ≡ Err (Unanswered.Memory true)
+        → IfSome (R.remaining (device_of reader.old)) (λ input.
+        (answer : Answer)
+        × ServesBytes day input (state S.Store office.old) (state S.Store office.new) answer) }
 {
     match hear_request(alloc, routes, reader) {
         Ok(heard) => match answer_heard(alloc, office, day, &heard) {
@@ -123,39 +129,56 @@ pub fn serve_one<S: Alter, R: Read, W: Write>(
     writer: &mut Counted<W>,
 ) -> Result<(), DeskFault>
     // The whole answer was written. What was given is cut short only at the end of the input.
-    ensures answered { OnOk result ((given text : List ℕ) × (done : Bool)
+    ensures answered { OnOk result
+        ((given text : List ℕ) × (done : Bool)
         × Consumes (R.remaining (device_of reader.old)) (R.remaining (device_of reader.new)) given
         × IsAnswered S.Store done day given office.old office.new text
         × Appends (W.contents (device_of writer.old)) (W.contents (device_of writer.new)) text
-        × (Hears given (Err DeskRefusal.Truncated) → IsAtEnd (R.remaining (device_of reader.new)))) }
+        × (Hears given (Err DeskRefusal.Truncated)
+        → IsAtEnd (R.remaining (device_of reader.new)))) }
     // The reader failed in this call, and what it gave is no whole request.
-    ensures read { result ≡ Err DeskFault.Read → (given : List ℕ)
+    ensures read { result ≡ Err DeskFault.Read
+        → (given : List ℕ)
         × Consumes (R.remaining (device_of reader.old)) (R.remaining (device_of reader.new)) given
-        × Hears given (Err DeskRefusal.Truncated) × HasFailed (failures_of reader.old) (failures_of reader.new)
-        × (office.new ≡ office.old) × (writer.new ≡ writer.old) }
+        × Hears given (Err DeskRefusal.Truncated)
+        × HasFailed (failures_of reader.old) (failures_of reader.new) × (office.new ≡ office.old)
+        × (writer.new ≡ writer.old) }
     // The writer failed in this call, and has a beginning of the answer.
-    ensures write { (done : Bool) → result ≡ Err (DeskFault.Write done) → (given text : List ℕ) × (count : ℕ)
+    ensures write { (done : Bool) → result ≡ Err (DeskFault.Write done)
+        → (given text : List ℕ) × (count : ℕ)
         × Consumes (R.remaining (device_of reader.old)) (R.remaining (device_of reader.new)) given
         × IsAnswered S.Store done day given office.old office.new text × (count < length text)
-        × Appends (W.contents (device_of writer.old)) (W.contents (device_of writer.new)) (take count text)
-        × HasFailed (failures_of writer.old) (failures_of writer.new)
+        × Appends (W.contents (device_of writer.old)) (W.contents (device_of writer.new))
+        (take count text) × HasFailed (failures_of writer.old) (failures_of writer.new)
         × (Hears given (Err DeskRefusal.Truncated) → IsAtEnd (R.remaining (device_of reader.new))) }
     // Memory ran out behind the office's answer, or before the office was asked.
-    ensures memory_done { result ≡ Err (DeskFault.Memory true) → (given : List ℕ) × (answer : Answer)
+    ensures memory_done { result ≡ Err (DeskFault.Memory true)
+        → (given : List ℕ) × (answer : Answer)
         × Consumes (R.remaining (device_of reader.old)) (R.remaining (device_of reader.new)) given
-        × ServesBytes day given (state S.Store office.old) (state S.Store office.new) answer × (writer.new ≡ writer.old) }
-    ensures memory { result ≡ Err (DeskFault.Memory false) → (office.new ≡ office.old) × (writer.new ≡ writer.old) }
+        × ServesBytes day given (state S.Store office.old) (state S.Store office.new) answer
+        × (writer.new ≡ writer.old) }
+    ensures memory { result ≡ Err (DeskFault.Memory false)
+        → (office.new ≡ office.old) × (writer.new ≡ writer.old) }
     // Where all that the reader has is known, it is all that is answered.
-    ensures whole { OnOk result (IfSome (R.remaining (device_of reader.old)) (λ input. (text : List ℕ) × (done : Bool)
+    ensures whole { OnOk result
+        (IfSome (R.remaining (device_of reader.old)) (λ input.
+        (text : List ℕ) × (done : Bool)
         × IsAnswered S.Store done day input office.old office.new text
         × Appends (W.contents (device_of writer.old)) (W.contents (device_of writer.new)) text)) }
-    ensures whole_write { (done : Bool) → result ≡ Err (DeskFault.Write done) → IfSome (R.remaining (device_of reader.old)) (λ input.
-        (text : List ℕ) × (count : ℕ) × IsAnswered S.Store done day input office.old office.new text × (count < length text)
-        × Appends (W.contents (device_of writer.old)) (W.contents (device_of writer.new)) (take count text)) }
-    ensures whole_memory_done { result ≡ Err (DeskFault.Memory true) → IfSome (R.remaining (device_of reader.old)) (λ input.
-        (answer : Answer) × ServesBytes day input (state S.Store office.old) (state S.Store office.new) answer) }
-    ensures calm_reader { result ≢ Err DeskFault.Read → failures_of reader.new ≡ failures_of reader.old }
-    ensures calm_writer { ((done : Bool) → result ≢ Err (DeskFault.Write done)) → failures_of writer.new ≡ failures_of writer.old }
+    ensures whole_write { (done : Bool) → result ≡ Err (DeskFault.Write done)
+        → IfSome (R.remaining (device_of reader.old)) (λ input.
+        (text : List ℕ) × (count : ℕ) × IsAnswered S.Store done day input office.old office.new text
+        × (count < length text)
+        × Appends (W.contents (device_of writer.old)) (W.contents (device_of writer.new))
+        (take count text)) }
+    ensures whole_memory_done { result ≡ Err (DeskFault.Memory true)
+        → IfSome (R.remaining (device_of reader.old)) (λ input.
+        (answer : Answer)
+        × ServesBytes day input (state S.Store office.old) (state S.Store office.new) answer) }
+    ensures calm_reader { result ≢ Err DeskFault.Read
+        → failures_of reader.new ≡ failures_of reader.old }
+    ensures calm_writer { ((done : Bool) → result ≢ Err (DeskFault.Write done))
+        → failures_of writer.new ≡ failures_of writer.old }
 {
     let Ok(routes) = Routes::new(alloc) else {
         return Err(DeskFault::Memory { done: false });

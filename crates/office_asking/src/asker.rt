@@ -46,7 +46,9 @@ fn is_action_pattern(text: &str) -> bool
 
 /// Whether a rule may ask what the row asks.
 fn asks_as_rules_do(rule: &RuleRow) -> bool
-    ensures { IsTrue result ↔ (IsPatternText rule.now.role × IsActionText rule.now.action × IsPatternText rule.now.collection × IsPatternText rule.now.class) }
+    ensures { IsTrue result
+        ↔ (IsPatternText rule.now.role × IsActionText rule.now.action
+        × IsPatternText rule.now.collection × IsPatternText rule.now.class) }
 {
     is_pattern(&rule.role)
         && is_action_pattern(&rule.action)
@@ -79,8 +81,11 @@ fn effect_of(rule: &RuleRow) -> Result<Effect, TableFault>
 
 /// Whether a rule may ask what the row asks, and count on the days of the row.
 fn is_rule(row: &RuleRow) -> bool
-    ensures { IsTrue result ↔ ((IsPatternText row.now.role × IsActionText row.now.action × IsPatternText row.now.collection × IsPatternText row.now.class)
-        × (IsDayNumber row.now.first × IsDayNumber row.now.last × (row.now.first ≤ℤ row.now.last))) }
+    ensures { IsTrue result
+        ↔ ((IsPatternText row.now.role × IsActionText row.now.action
+        × IsPatternText row.now.collection × IsPatternText row.now.class)
+        × (IsDayNumber row.now.first × IsDayNumber row.now.last
+        × (row.now.first ≤ℤ row.now.last))) }
 {
     asks_as_rules_do(row) && are_bounds(row.first, row.last)
 }
@@ -88,7 +93,8 @@ fn is_rule(row: &RuleRow) -> bool
 /// The decision that a rule's row tells.
 fn decision_in(row: &RuleRow) -> Result<Decision, TableFault>
     ensures decision { IfOk result (IsDecisionOf row.now) }
-    ensures told { IsRuleRow row.now → IsBetween (pos 1) (pos max_rules) row.now.place → IfErr result (λ fault. ⊥) }
+    ensures told { IsRuleRow row.now → IsBetween (pos 1) (pos max_rules) row.now.place
+        → IfErr result (λ fault. ⊥) }
     ensures failure { IfErr result IsFailure }
     ensures store { IfErr result (λ fault. fault ≡ TableFault.Store) }
 {
@@ -110,7 +116,8 @@ fn or_empty<'a>(name: Option<&'a str>) -> &'a str
 
 /// Whether a caller and its role, where it has one, are names.
 fn are_names(caller: &str, role: Option<&str>) -> bool
-    ensures { IsTrue result ↔ IfSome (option_copied role.entry) (λ role. IsName caller.now × IsName role) }
+    ensures { IsTrue result
+        ↔ IfSome (option_copied role.entry) (λ role. IsName caller.now × IsName role) }
 {
     match role {
         Some(role) => is_name(caller) && is_name(role),
@@ -139,8 +146,10 @@ impl Asker {
         ensures goes_on { Continues S.Store tx.old.conn.now tx.new.conn.now result }
         ensures failure { IfErr result IsFailure }
         ensures same { Keeps S.Store tx.old.conn.now tx.new.conn.now result }
-        ensures asker { Finds S.Store tx.old.conn.now tx.new.conn.now result (λ h asker. IsAsker h day caller.now asker) }
-        ensures rows { Tells S.Store tx.old.conn.now tx.new.conn.now result (λ tables asker. IsAskerIn tables day caller.now asker) }
+        ensures asker { Finds S.Store tx.old.conn.now tx.new.conn.now result (λ h asker.
+            IsAsker h day caller.now asker) }
+        ensures rows { Tells S.Store tx.old.conn.now tx.new.conn.now result (λ tables asker.
+            IsAskerIn tables day caller.now asker) }
     {
         let role = role_of(tx, caller)?;
         if !are_names(caller, role.as_ref().map(|role| role.as_str())) {
@@ -171,10 +180,16 @@ impl Asker {
         ensures goes_on { Continues S.Store tx.old.conn.now tx.new.conn.now result }
         ensures failure { IfErr result IsFailure }
         ensures same { Keeps S.Store tx.old.conn.now tx.new.conn.now result }
-        ensures decided { Finds S.Store tx.old.conn.now tx.new.conn.now result (λ h decision. (day : Date) (caller : List ℕ) → IsAsker h day caller self.now
-            → decision ≡ deciding_rule h day caller action (option_copied collection.entry) (option_copied class.entry)) }
-        ensures rows { Tells S.Store tx.old.conn.now tx.new.conn.now result (λ tables decision. (day : Date) (caller : List ℕ) → IsAskerIn tables day caller self.now
-            → IsDecisionBy (deciding_row tables day caller action (option_copied collection.entry) (option_copied class.entry)) decision) }
+        ensures decided { Finds S.Store tx.old.conn.now tx.new.conn.now result (λ h decision.
+            (day : Date) (caller : List ℕ) → IsAsker h day caller self.now
+            → decision
+            ≡ deciding_rule h day caller action (option_copied collection.entry)
+            (option_copied class.entry)) }
+        ensures rows { Tells S.Store tx.old.conn.now tx.new.conn.now result (λ tables decision.
+            (day : Date) (caller : List ℕ) → IsAskerIn tables day caller self.now
+            → IsDecisionBy
+            (deciding_row tables day caller action (option_copied collection.entry)
+            (option_copied class.entry)) decision) }
     {
         let found = match_rule(
             tx,
@@ -205,10 +220,15 @@ impl Asker {
         ensures goes_on { Continues S.Store tx.old.conn.now tx.new.conn.now result }
         ensures failure { IfErr result IsFailure }
         ensures same { Keeps S.Store tx.old.conn.now tx.new.conn.now result }
-        ensures denied { Finds S.Store tx.old.conn.now tx.new.conn.now result (λ h why. (day : Date) (caller : List ℕ) → IsAsker h day caller self.now
-            → why ≡ denial h day caller action (option_copied collection.entry) (option_copied class.entry)) }
-        ensures rows { Tells S.Store tx.old.conn.now tx.new.conn.now result (λ tables why. (day : Date) (caller : List ℕ) → IsAskerIn tables day caller self.now
-            → IsDenialIn tables day caller action (option_copied collection.entry) (option_copied class.entry) why) }
+        ensures denied { Finds S.Store tx.old.conn.now tx.new.conn.now result (λ h why.
+            (day : Date) (caller : List ℕ) → IsAsker h day caller self.now
+            → why
+            ≡ denial h day caller action (option_copied collection.entry)
+            (option_copied class.entry)) }
+        ensures rows { Tells S.Store tx.old.conn.now tx.new.conn.now result (λ tables why.
+            (day : Date) (caller : List ℕ) → IsAskerIn tables day caller self.now
+            → IsDenialIn tables day caller action (option_copied collection.entry)
+            (option_copied class.entry) why) }
     {
         match denial_verdict(self.decision(tx, action, collection, class)?) {
             Some(verdict) => Ok(refusal_of(verdict)),
@@ -235,9 +255,12 @@ pub fn denial<S: Alter>(
     ensures failure { IfErr result IsFailure }
     ensures same { Keeps S.Store tx.old.conn.now tx.new.conn.now result }
     ensures denied { Finds S.Store tx.old.conn.now tx.new.conn.now result (λ h why.
-        why ≡ denial h day caller.now action (option_copied collection.entry) (option_copied class.entry)) }
+        why
+        ≡ denial h day caller.now action (option_copied collection.entry)
+        (option_copied class.entry)) }
     ensures rows { Tells S.Store tx.old.conn.now tx.new.conn.now result (λ tables why.
-        IsDenialIn tables day caller.now action (option_copied collection.entry) (option_copied class.entry) why) }
+        IsDenialIn tables day caller.now action (option_copied collection.entry)
+        (option_copied class.entry) why) }
 {
     let asker = Asker::read(tx, day, caller)?;
     asker.denial(tx, action, collection, class)

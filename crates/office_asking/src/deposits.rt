@@ -59,12 +59,16 @@ fn unless_refused(
     denied: Option<Refusal>,
 ) -> Result<Result<DepositRow, Refusal>, TableFault>
     ensures failure { IfErr result IsFailure }
-    ensures asked { IfOk result (λ asked. (h : History) (day : Date) (caller : List ℕ) (action : Action) (n : ℕ)
+    ensures asked { IfOk result (λ asked.
+        (h : History) (day : Date) (caller : List ℕ) (action : Action) (n : ℕ)
         → Some deposit ≡ option_map (pictures.deposit_row h n) (deposit_numbered h n)
-        → denied ≡ refusals.denial h day caller action (Some deposit.collection) (Some deposit.class)
+        → denied
+        ≡ refusals.denial h day caller action (Some deposit.collection) (Some deposit.class)
         → IsAsked h n (kept_refusals h day caller action n) asked) }
-    ensures kept { IfOk result (λ asked. IfOk asked (λ row. (row ≡ deposit) × IsFirst denied deposit None)) }
-    ensures refused { IfOk result (λ asked. IfErr asked (λ why. IsFirst denied deposit (Some why))) }
+    ensures kept { IfOk result (λ asked.
+        IfOk asked (λ row. (row ≡ deposit) × IsFirst denied deposit None)) }
+    ensures refused { IfOk result (λ asked.
+        IfErr asked (λ why. IsFirst denied deposit (Some why))) }
     ensures store { IfErr result (λ fault. fault ≡ TableFault.Store) }
 {
     if let Some(why) = denied {
@@ -95,7 +99,8 @@ pub fn kept_deposit<S: Alter>(
     ensures same { Keeps S.Store tx.old.conn.now tx.new.conn.now result }
     ensures asked { Finds S.Store tx.old.conn.now tx.new.conn.now result (λ h asked.
         IsAsked h number (kept_refusals h day caller.now action number) asked) }
-    ensures rows { Tells S.Store tx.old.conn.now tx.new.conn.now result (λ tables asked. IsAskedIn tables day caller.now action number asked) }
+    ensures rows { Tells S.Store tx.old.conn.now tx.new.conn.now result (λ tables asked.
+        IsAskedIn tables day caller.now action number asked) }
 {
     let Some(deposit) = deposit_row(tx, number)? else {
         return Ok(Err(Refusal::NoSuch(Subject::Deposit)));

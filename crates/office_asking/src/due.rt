@@ -154,12 +154,12 @@ pub fn disposal_facts<S: Alter>(
     ensures goes_on { Continues S.Store tx.old.conn.now tx.new.conn.now result }
     ensures failure { IfErr result IsFailure }
     ensures facts { Finds S.Store tx.old.conn.now tx.new.conn.now result (λ h facts.
-        (day : Date) (caller : List ℕ) → IsAsker h day caller asker.now → (n : ℕ) (found : Date × Deposit)
-        → deposit_numbered h n ≡ Some found → row.now ≡ deposit_row h n found
-        → facts ≡ facts_of h day caller acts.Dispose n found.1) }
+        (day : Date) (caller : List ℕ) → IsAsker h day caller asker.now
+        → (n : ℕ) (found : Date × Deposit) → deposit_numbered h n ≡ Some found
+        → row.now ≡ deposit_row h n found → facts ≡ facts_of h day caller acts.Dispose n found.1) }
     ensures rows { Tells S.Store tx.old.conn.now tx.new.conn.now result (λ tables facts.
-        (day : Date) (caller : List ℕ) → IsAskerIn tables day caller asker.now → (n : ℕ) → pos n ≡ row.now.number
-        → AreFactsIn tables day caller n row.now facts) }
+        (day : Date) (caller : List ℕ) → IsAskerIn tables day caller asker.now → (n : ℕ)
+        → pos n ≡ row.now.number → AreFactsIn tables day caller n row.now facts) }
 {
     let days = days_in(row)?;
     let decision = asker.decision(tx, Action::Dispose, Some(&row.collection), Some(&row.class))?;

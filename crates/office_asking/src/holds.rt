@@ -38,7 +38,9 @@ pub fn named_in(row: &HoldRow) -> Result<HoldTarget<'_>, TableFault>
 
 /// Whether what a hold is on is a deposit, a collection or a class.
 fn scope_of(named: HoldTarget<'_>) -> Scope
-    ensures { Some result ≡ scope_in (held_deposit named.entry) (held_collection named.entry) (held_class named.entry) }
+    ensures { Some result
+        ≡ scope_in (held_deposit named.entry) (held_collection named.entry)
+        (held_class named.entry) }
 {
     match named {
         HoldTarget::Deposit(_) => Scope::Deposit,

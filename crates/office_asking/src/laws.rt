@@ -13,6 +13,8 @@ ghost use Rattle.office_asking.specs.Asking.{or_empty, place_and_effect, rule_an
 /// with its number as its place.
 pub fn matching_rules_decide()
     ensures { (policy : PolicyValue) (asked : Question) → IsPolicy policy
-        → option_map place_and_effect (matching_rule asked.role (action_text asked.action) (or_empty asked.collection) (or_empty asked.class) (epoch_day asked.day) (rule_rows 1 policy.rules))
+        → option_map place_and_effect
+        (matching_rule asked.role (action_text asked.action) (or_empty asked.collection)
+        (or_empty asked.class) (epoch_day asked.day) (rule_rows 1 policy.rules))
         ≡ option_map rule_and_effect (decision_of policy.rules asked) }
 {}

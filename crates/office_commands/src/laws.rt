@@ -27,22 +27,25 @@ use sqlite_disk::Disk;
 /// honest disk, whichever legal history it was.
 pub fn deeds_lead_on<S: Alter>()
     ensures { (deeds : List Deed) (old new : Held S) → AreDone S.Store deeds old new
-        → HasCleanDisk (state S.Store new) → (h : History) → IsLegal h → IsKeptBy h (state S.Store old)
+        → HasCleanDisk (state S.Store new) → (h : History) → IsLegal h
+        → IsKeptBy h (state S.Store old)
         → (next : History) × LeadOn deeds h next × IsReached next (state S.Store new) }
 {}
 
 /// An office that was just made in memory keeps a history that the deeds lead to.
 pub fn memory_leads_on()
     ensures { (deeds : List Deed) (office : InMemory deeds)
-        → (next : History) × LeadOn deeds made_office next × IsReached next (state over_memory office.new) }
+        → (next : History) × LeadOn deeds made_office next
+        × IsReached next (state over_memory office.new) }
 {}
 
 /// The files that an office was closed into hold a history that the deeds lead to: on an honest disk, from
 /// whichever legal history they held at first, by tables of any known version.
 pub fn files_lead_on<D: Disk>()
-    ensures { (first : Image) (makes : Bool) (deeds : List Deed) (office : InFile D.Disk first makes deeds)
-        → AreClean D.Disk office.files.log office.files.db
-        → (version : Version) (h : History) → IsLegal h → HoldsWhere (IsLeftAt version h) first
+    ensures { (first : Image) (makes : Bool) (deeds : List Deed)
+        (office : InFile D.Disk first makes deeds)
+        → AreClean D.Disk office.files.log office.files.db → (version : Version) (h : History)
+        → IsLegal h → HoldsWhere (IsLeftAt version h) first
         → LeadsInto deeds h (image_of D.Disk office.files) }
 {}
 
@@ -51,8 +54,11 @@ pub fn files_lead_on<D: Disk>()
 pub fn answers_are_runs()
     ensures records { (items : List RequestRecord) (texts : List (List ℕ)) (h next : History)
         → length texts ≡ length items → LeadOn (deeds_of_records items texts) h next
-        → (run : List Item) × (answers : List Answer) × IsRunOf items texts run answers × Run h run answers next }
+        → (run : List Item) × (answers : List Answer) × IsRunOf items texts run answers
+        × Run h run answers next }
     ensures connections { (day : Date) (connections : List Connection) (h next : History)
-        → LeadOn (deeds_of_connections day connections) h next → (run : List Item) × (answers : List Answer)
-        × IsRunOf (records_of_connections day connections) (texts_of_connections connections) run answers × Run h run answers next }
+        → LeadOn (deeds_of_connections day connections) h next
+        → (run : List Item) × (answers : List Answer)
+        × IsRunOf (records_of_connections day connections)
+        (texts_of_connections connections) run answers × Run h run answers next }
 {}

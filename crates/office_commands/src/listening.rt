@@ -94,8 +94,11 @@ fn say_listening<O: Write>(
     port: u16,
     out: &mut Counted<O>,
 ) -> Result<Done, CommandFault>
-    ensures said { OnOk result (Appends (O.contents (device_of out.old)) (O.contents (device_of out.new)) (listening_text port)) }
-    ensures front { IsCutShort (listening_text port) (O.contents (device_of out.old)) (O.contents (device_of out.new)) }
+    ensures said { OnOk result
+        (Appends (O.contents (device_of out.old)) (O.contents (device_of out.new))
+        (listening_text port)) }
+    ensures front { IsCutShort (listening_text port) (O.contents (device_of out.old))
+        (O.contents (device_of out.new)) }
     ensures unsaid { IfErr result IsUnsaid }
 {
     match listening_line(alloc, port) {
@@ -134,8 +137,9 @@ fn serve_office<S: Alter, O: Write>(
     count: u32,
     out: &mut Counted<O>,
 ) -> Result<Done, CommandFault>
-    ensures serves { (deeds : List Deed) × Listens day desk.now.port count result deeds
-        (O.contents (device_of out.old)) (O.contents (device_of out.new)) × AreDone S.Store deeds office.old office.new }
+    ensures serves { (deeds : List Deed)
+        × Listens day desk.now.port count result deeds (O.contents (device_of out.old))
+        (O.contents (device_of out.new)) × AreDone S.Store deeds office.old office.new }
     ensures quiet { IfOk result IsQuiet }
 {
     match say_listening(alloc, desk.port, out) {
@@ -154,8 +158,9 @@ pub fn serve_at<S: Alter, O: Write>(
     count: u32,
     out: &mut Counted<O>,
 ) -> Result<Done, CommandFault>
-    ensures serves { (told : ℕ) × (deeds : List Deed) × IsPortFor port told × Listens day told count result deeds
-        (O.contents (device_of out.old)) (O.contents (device_of out.new)) × AreDone S.Store deeds office.old office.new }
+    ensures serves { (told : ℕ) × (deeds : List Deed) × IsPortFor port told
+        × Listens day told count result deeds (O.contents (device_of out.old))
+        (O.contents (device_of out.new)) × AreDone S.Store deeds office.old office.new }
     ensures quiet { IfOk result IsQuiet }
 {
     match desk_at(rt, port) {

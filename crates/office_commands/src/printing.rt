@@ -33,8 +33,10 @@ pub fn flush<O: Write>(out: &mut Counted<O>) -> Result<Done, CommandFault>
 
 /// Prints a text, which ends with a line's end. Where that fails, a beginning of it is written.
 pub fn print<O: Write>(text: &str, out: &mut Counted<O>) -> Result<Done, CommandFault>
-    ensures whole { OnOk result (Appends (O.contents (device_of out.old)) (O.contents (device_of out.new)) text.now) }
-    ensures front { IsCutShort text.now (O.contents (device_of out.old)) (O.contents (device_of out.new)) }
+    ensures whole { OnOk result
+        (Appends (O.contents (device_of out.old)) (O.contents (device_of out.new)) text.now) }
+    ensures front { IsCutShort text.now (O.contents (device_of out.old))
+        (O.contents (device_of out.new)) }
     ensures quiet { IfOk result IsQuiet }
     ensures unsaid { IfErr result IsUnsaid }
 {

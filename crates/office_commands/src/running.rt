@@ -35,8 +35,11 @@ fn say_installed<O: Write>(
     policy: &Policy,
     out: &mut Counted<O>,
 ) -> Result<Done, CommandFault>
-    ensures said { OnOk result (Appends (O.contents (device_of out.old)) (O.contents (device_of out.new)) (installed_text policy.now)) }
-    ensures front { IsCutShort (installed_text policy.now) (O.contents (device_of out.old)) (O.contents (device_of out.new)) }
+    ensures said { OnOk result
+        (Appends (O.contents (device_of out.old)) (O.contents (device_of out.new))
+        (installed_text policy.now)) }
+    ensures front { IsCutShort (installed_text policy.now) (O.contents (device_of out.old))
+        (O.contents (device_of out.new)) }
     ensures quiet { IfOk result IsQuiet }
     ensures unsaid { IfErr result IsUnsaid }
 {
@@ -52,9 +55,13 @@ fn say_refused<O: Write>(
     refused: RefusedPolicy,
     out: &mut Counted<O>,
 ) -> Result<Done, CommandFault>
-    ensures printed { OnOk result (Appends (O.contents (device_of out.old)) (O.contents (device_of out.new)) (bad_policy_text refused.fault)) }
-    ensures front { IsCutShort (bad_policy_text refused.fault) (O.contents (device_of out.old)) (O.contents (device_of out.new)) }
-    ensures reason { IfOk result (λ done. option_map string_bytes done.reason ≡ Some (string_bytes refused.reason)) }
+    ensures printed { OnOk result
+        (Appends (O.contents (device_of out.old)) (O.contents (device_of out.new))
+        (bad_policy_text refused.fault)) }
+    ensures front { IsCutShort (bad_policy_text refused.fault) (O.contents (device_of out.old))
+        (O.contents (device_of out.new)) }
+    ensures reason { IfOk result (λ done.
+        option_map string_bytes done.reason ≡ Some (string_bytes refused.reason)) }
     ensures ending { IfOk result (λ done. done.ending ≡ Refused) }
     ensures unsaid { IfErr result IsUnsaid }
 {
@@ -80,9 +87,11 @@ fn install_from<S: Start, P: Read, R: Read, O: Write>(
     out: &mut Counted<O>,
 ) -> Result<Done, CommandFault>
     ensures comes { ComesOfFile (P.remaining file.old)
-        (IsUnreadFirst (start.new ≡ start.old) result (traffic_of R.Read O.Write input.old out.old) (traffic_of R.Read O.Write input.new out.new))
-        (InstallsOf ⟦<FileFrom<S> as Disk>⟧ (image_at S.Start) store.now (start.new ≡ start.old) result
-        (traffic_of R.Read O.Write input.old out.old) (traffic_of R.Read O.Write input.new out.new)) }
+        (IsUnreadFirst (start.new ≡ start.old) result (traffic_of R.Read O.Write input.old out.old)
+        (traffic_of R.Read O.Write input.new out.new))
+        (InstallsOf ⟦<FileFrom<S> as Disk>⟧ (image_at S.Start) store.now
+        (start.new ≡ start.old) result (traffic_of R.Read O.Write input.old out.old)
+        (traffic_of R.Read O.Write input.new out.new)) }
     ensures left { input.new ≡ input.old }
 {
     let policy = match policy_from(rt.alloc(), file) {
@@ -108,9 +117,11 @@ fn install_in<F: Files, S: Start, R: Read, O: Write>(
     out: &mut Counted<O>,
 ) -> Result<Done, CommandFault>
     ensures comes { ComesOfNamed ⟦<F::File as Read>⟧
-        (IsUnreadFirst (start.new ≡ start.old) result (traffic_of R.Read O.Write input.old out.old) (traffic_of R.Read O.Write input.new out.new))
-        (InstallsOf ⟦<FileFrom<S> as Disk>⟧ (image_at S.Start) store.now (start.new ≡ start.old) result
-        (traffic_of R.Read O.Write input.old out.old) (traffic_of R.Read O.Write input.new out.new)) }
+        (IsUnreadFirst (start.new ≡ start.old) result (traffic_of R.Read O.Write input.old out.old)
+        (traffic_of R.Read O.Write input.new out.new))
+        (InstallsOf ⟦<FileFrom<S> as Disk>⟧ (image_at S.Start) store.now
+        (start.new ≡ start.old) result (traffic_of R.Read O.Write input.old out.old)
+        (traffic_of R.Read O.Write input.new out.new)) }
     ensures left { input.new ≡ input.old }
 {
     match open_policy(files, path) {
@@ -130,9 +141,11 @@ fn replay_from<S: Start, P: Read, R: Read, O: Write>(
     out: &mut Counted<O>,
 ) -> Result<Done, CommandFault>
     ensures comes { ComesOfFile (P.remaining file.old)
-        (IsUnreadFirst (start.new ≡ start.old) result (traffic_of R.Read O.Write input.old out.old) (traffic_of R.Read O.Write input.new out.new))
-        (ReplaysOf ⟦<FileFrom<S> as Disk>⟧ (image_at S.Start) store.now (start.new ≡ start.old) result
-        (traffic_of R.Read O.Write input.old out.old) (traffic_of R.Read O.Write input.new out.new)) }
+        (IsUnreadFirst (start.new ≡ start.old) result (traffic_of R.Read O.Write input.old out.old)
+        (traffic_of R.Read O.Write input.new out.new))
+        (ReplaysOf ⟦<FileFrom<S> as Disk>⟧ (image_at S.Start) store.now
+        (start.new ≡ start.old) result (traffic_of R.Read O.Write input.old out.old)
+        (traffic_of R.Read O.Write input.new out.new)) }
     ensures quiet { IfOk result IsQuiet }
 {
     match policy_from(rt.alloc(), file) {
@@ -157,9 +170,11 @@ fn replay_under<F: Files, S: Start, R: Read, O: Write>(
     out: &mut Counted<O>,
 ) -> Result<Done, CommandFault>
     ensures comes { ComesOfNamed ⟦<F::File as Read>⟧
-        (IsUnreadFirst (start.new ≡ start.old) result (traffic_of R.Read O.Write input.old out.old) (traffic_of R.Read O.Write input.new out.new))
-        (ReplaysOf ⟦<FileFrom<S> as Disk>⟧ (image_at S.Start) store.now (start.new ≡ start.old) result
-        (traffic_of R.Read O.Write input.old out.old) (traffic_of R.Read O.Write input.new out.new)) }
+        (IsUnreadFirst (start.new ≡ start.old) result (traffic_of R.Read O.Write input.old out.old)
+        (traffic_of R.Read O.Write input.new out.new))
+        (ReplaysOf ⟦<FileFrom<S> as Disk>⟧ (image_at S.Start) store.now
+        (start.new ≡ start.old) result (traffic_of R.Read O.Write input.old out.old)
+        (traffic_of R.Read O.Write input.new out.new)) }
     ensures quiet { IfOk result IsQuiet }
 {
     match open_policy(files, path) {
@@ -178,8 +193,10 @@ fn replay_in<S: Start, R: Read, O: Write>(
     input: &mut Counted<R>,
     out: &mut Counted<O>,
 ) -> Result<Done, CommandFault>
-    ensures comes { ComesOfWork ⟦<FileFrom<S> as Disk>⟧ (image_at S.Start) store.now (works.Replay policy.entry) (start.new ≡ start.old) result
-        (traffic_of R.Read O.Write input.old out.old) (traffic_of R.Read O.Write input.new out.new) }
+    ensures comes { ComesOfWork ⟦<FileFrom<S> as Disk>⟧ (image_at S.Start) store.now
+        (works.Replay policy.entry) (start.new ≡ start.old) result
+        (traffic_of R.Read O.Write input.old out.old)
+        (traffic_of R.Read O.Write input.new out.new) }
 {
     match policy {
         Some(path) => replay_under(rt, rt, start, store, path, input, out),
@@ -200,8 +217,9 @@ pub fn perform<S: Start, R: Read, O: Write>(
     input: &mut Counted<R>,
     out: &mut Counted<O>,
 ) -> Result<Done, CommandFault>
-    ensures comes { ComesOfWork ⟦<FileFrom<S> as Disk>⟧ (image_at S.Start) store.now work.now (start.new ≡ start.old) result
-        (traffic_of R.Read O.Write input.old out.old) (traffic_of R.Read O.Write input.new out.new) }
+    ensures comes { ComesOfWork ⟦<FileFrom<S> as Disk>⟧ (image_at S.Start) store.now work.now
+        (start.new ≡ start.old) result (traffic_of R.Read O.Write input.old out.old)
+        (traffic_of R.Read O.Write input.new out.new) }
     ensures left { reads_input work.now ≡ false → input.new ≡ input.old }
 {
     match *work {

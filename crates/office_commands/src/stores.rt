@@ -51,8 +51,8 @@ fn in_memory<R: Read, O: Write>(
     input: &mut Counted<R>,
     out: &mut Counted<O>,
 ) -> Result<Done, CommandFault>
-    ensures runs { RunsInMemory task.now result
-        (traffic_of R.Read O.Write input.old out.old) (traffic_of R.Read O.Write input.new out.new) }
+    ensures runs { RunsInMemory task.now result (traffic_of R.Read O.Write input.old out.old)
+        (traffic_of R.Read O.Write input.new out.new) }
     ensures left { reads_input task.now ≡ false → input.new ≡ input.old }
     ensures quiet { IfOk result IsQuiet }
 {
@@ -155,8 +155,10 @@ fn open_store<S: Start>(
 /// Makes an office in a file that was just made.
 fn make_office<S: Alter + Drop>(conn: Connection<S>) -> Result<Office<S>, CommandFault>
     requires outside { (state S.Store conn).in_transaction ≡ false }
-    ensures clean { IfOk result (λ office. HasCleanDisk (state S.Store office) → HasCleanDisk (state S.Store conn)) }
-    ensures made { IfOk result (λ office. HasCleanDisk (state S.Store office) → IsKeptBy made_office (state S.Store office)) }
+    ensures clean { IfOk result (λ office.
+        HasCleanDisk (state S.Store office) → HasCleanDisk (state S.Store conn)) }
+    ensures made { IfOk result (λ office.
+        HasCleanDisk (state S.Store office) → IsKeptBy made_office (state S.Store office)) }
     ensures not_empty { (state S.Store conn).now.schema ≢ no_schema → IsErr result }
     ensures failure { IfErr result IsUnopenable }
     ensures not_sought { IfErr result (λ fault. is_sought fault ≡ false) }
@@ -170,9 +172,12 @@ fn make_office<S: Alter + Drop>(conn: Connection<S>) -> Result<Office<S>, Comman
 /// Takes the office that the connection shows, with the tables of this version.
 fn take_office<S: Alter + Drop>(conn: Connection<S>) -> Result<Office<S>, CommandFault>
     requires outside { (state S.Store conn).in_transaction ≡ false }
-    ensures clean { IfOk result (λ office. HasCleanDisk (state S.Store office) → HasCleanDisk (state S.Store conn)) }
-    ensures goes_on { IfOk result (λ office. HasCleanDisk (state S.Store office)
-        → GoesOnFrom (λ version h. IsLeftAt version h (state S.Store conn).now.trees) (state S.Store office)) }
+    ensures clean { IfOk result (λ office.
+        HasCleanDisk (state S.Store office) → HasCleanDisk (state S.Store conn)) }
+    ensures goes_on { IfOk result (λ office.
+        HasCleanDisk (state S.Store office)
+        → GoesOnFrom (λ version h.
+        IsLeftAt version h (state S.Store conn).now.trees) (state S.Store office)) }
     ensures was_there { IfOk result (λ office. HasCleanDisk (state S.Store office)
         → IsTrue (has_office (state S.Store conn).now.schema)) }
     ensures failure { IfErr result IsUnopenable }
@@ -221,9 +226,11 @@ fn work_over<S: Alter + Drop, R: Read, O: Write>(
     out: &mut Counted<O>,
 ) -> Result<(Connection<S>, Result<Done, CommandFault>), CommandFault>
     requires outside { (state S.Store conn).in_transaction ≡ false }
-    ensures works { IfOk result (λ worked. SomeOffice (IsOfficeOf S.Store conn is_new) (λ office. (deeds : List Deed)
-        × ComesOfTask task.now worked.1 deeds (traffic_of R.Read O.Write input.old out.old) (traffic_of R.Read O.Write input.new out.new)
-        × AreDone S.Store deeds office worked.0)) }
+    ensures works { IfOk result (λ worked.
+        SomeOffice (IsOfficeOf S.Store conn is_new) (λ office.
+        (deeds : List Deed)
+        × ComesOfTask task.now worked.1 deeds (traffic_of R.Read O.Write input.old out.old)
+        (traffic_of R.Read O.Write input.new out.new) × AreDone S.Store deeds office worked.0)) }
     ensures failure { IfErr result IsUnopenable }
     ensures not_sought { IfErr result (λ fault. is_sought fault ≡ false) }
     ensures untouched { OnErr result ((input.new ≡ input.old) × (out.new ≡ out.old)) }
@@ -248,7 +255,8 @@ fn closed<F, S: Drop>(given: Result<F, (Error, S)>) -> Result<F, CommandFault>
 
 /// Copies the log into the file of the store, and hands both back.
 fn close_store<D: Disk + Drop>(conn: Connection<FileStore<D>>) -> Result<Files<D>, CommandFault>
-    ensures copied { IfOk result (λ files. AreClean D.Disk files.log files.db → IsCopied conn files) }
+    ensures copied { IfOk result (λ files.
+        AreClean D.Disk files.log files.db → IsCopied conn files) }
     ensures failure { IfErr result IsUnclosable }
 {
     closed(conn.close_files())
@@ -281,7 +289,8 @@ fn on_files<D: Disk + Drop, R: Read, O: Write>(
 ) -> Result<Done, CommandFault>
     requires outside { (file_state conn).in_transaction ≡ false }
     ensures runs { RunsOver D.Disk conn is_new task.now result
-        (traffic_of R.Read O.Write input.old out.old) (traffic_of R.Read O.Write input.new out.new) }
+        (traffic_of R.Read O.Write input.old out.old)
+        (traffic_of R.Read O.Write input.new out.new) }
     ensures left { reads_input task.now ≡ false → input.new ≡ input.old }
     ensures quiet { IfOk result IsQuiet }
 {
@@ -303,7 +312,8 @@ fn in_file<S: Start, R: Read, O: Write>(
 ) -> Result<Done, CommandFault>
     requires asked { is_new ≡ true → makes_office task.now ≡ true }
     ensures runs { RunsInFile ⟦<FileFrom<S> as Disk>⟧ (image_at S.Start) task.now result
-        (traffic_of R.Read O.Write input.old out.old) (traffic_of R.Read O.Write input.new out.new) }
+        (traffic_of R.Read O.Write input.old out.old)
+        (traffic_of R.Read O.Write input.new out.new) }
     ensures left { reads_input task.now ≡ false → input.new ≡ input.old }
     ensures quiet { IfOk result IsQuiet }
 {
@@ -322,8 +332,9 @@ pub fn in_store<S: Start, R: Read, O: Write>(
     input: &mut Counted<R>,
     out: &mut Counted<O>,
 ) -> Result<Done, CommandFault>
-    ensures runs { RunsOn ⟦<FileFrom<S> as Disk>⟧ (image_at S.Start) store.now (start.new ≡ start.old) task.now result
-        (traffic_of R.Read O.Write input.old out.old) (traffic_of R.Read O.Write input.new out.new) }
+    ensures runs { RunsOn ⟦<FileFrom<S> as Disk>⟧ (image_at S.Start) store.now
+        (start.new ≡ start.old) task.now result (traffic_of R.Read O.Write input.old out.old)
+        (traffic_of R.Read O.Write input.new out.new) }
     ensures left { reads_input task.now ≡ false → input.new ≡ input.old }
     ensures quiet { IfOk result IsQuiet }
 {

@@ -74,7 +74,8 @@ fn caller_named<'a>(callers: &'a [Caller], name: &str) -> Option<&'a Caller>
 
 fn role_in<'a>(callers: &'a [Caller], name: &str) -> Option<&'a str>
     ensures { option_copied result
-        ≡ option_map (λ caller. caller.role) (find (λ caller. bytes_eq caller.name name.now) callers.now) }
+        ≡ option_map (λ caller.
+        caller.role) (find (λ caller. bytes_eq caller.name name.now) callers.now) }
 {
     let caller = caller_named(callers, name)?;
     Some(caller.role.as_str())

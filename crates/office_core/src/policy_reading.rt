@@ -84,7 +84,8 @@ fn read_caller(alloc: Global, name: &str, value: &Value) -> Result<Caller, Polic
 }
 
 fn callers_in(alloc: Global, table: &Table) -> Result<Vec<Caller>, PolicyFault>
-    ensures { Gives named_policy_fault (λ v. v.items) result (read_callers (Some (entries (table_view table.now)))) }
+    ensures { Gives named_policy_fault (λ v.
+        v.items) result (read_callers (Some (entries (table_view table.now)))) }
 {
     let mut callers = Vec::new(alloc);
     for (key, value) in table.iter() {
@@ -95,7 +96,8 @@ fn callers_in(alloc: Global, table: &Table) -> Result<Vec<Caller>, PolicyFault>
 
 /// The callers that the policy lists: none where it has no `callers`.
 pub fn callers_of(alloc: Global, tree: &Table) -> Result<Vec<Caller>, PolicyFault>
-    ensures { Gives named_policy_fault (λ v. v.items) result (read_callers (caller_entries (table_view tree.now))) }
+    ensures { Gives named_policy_fault (λ v.
+        v.items) result (read_callers (caller_entries (table_view tree.now))) }
 {
     match value_at(tree, "callers") {
         Some(value) => match value.as_table() {
@@ -107,7 +109,8 @@ pub fn callers_of(alloc: Global, tree: &Table) -> Result<Vec<Caller>, PolicyFaul
 }
 
 fn rules_in(alloc: Global, with_days: bool, values: &Array) -> Result<Vec<Rule>, PolicyFault>
-    ensures { Gives named_policy_fault (λ v. v.items) result (read_rules with_days (Some (elements (array_view values.now)))) }
+    ensures { Gives named_policy_fault (λ v.
+        v.items) result (read_rules with_days (Some (elements (array_view values.now)))) }
 {
     let mut rules = Vec::new(alloc);
     for value in values {
@@ -122,7 +125,9 @@ fn rules_in(alloc: Global, with_days: bool, values: &Array) -> Result<Vec<Rule>,
 
 /// The rules of the policy in their order: none where it has no `rule`.
 pub fn rules_of(alloc: Global, tree: &Table) -> Result<Vec<Rule>, PolicyFault>
-    ensures { Gives named_policy_fault (λ v. v.items) result (read_rules (has_days (table_view tree.now)) (rule_values (table_view tree.now))) }
+    ensures { Gives named_policy_fault (λ v.
+        v.items) result
+        (read_rules (has_days (table_view tree.now)) (rule_values (table_view tree.now))) }
 {
     match value_at(tree, "rule") {
         Some(value) => match value.as_array() {

@@ -96,7 +96,8 @@ fn may_have_key(with_days: bool, key: &str) -> bool
 
 fn has_rule_keys(with_days: bool, table: &Table) -> bool
     ensures { result
-        ≡ list_all (λ entry. is_one_of (keys_of_rule with_days) entry.0) (entries (table_view table.now)) }
+        ≡ list_all (λ entry.
+        is_one_of (keys_of_rule with_days) entry.0) (entries (table_view table.now)) }
 {
     for (key, _value) in table.iter() {
         if !may_have_key(with_days, key.as_str()) {

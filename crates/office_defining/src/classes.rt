@@ -46,7 +46,9 @@ fn set_due_day<S: Alter>(
     ensures stays { CommitsNothing S.Store tx.old.conn.now tx.new.conn.now }
     ensures goes_on { Continues S.Store tx.old.conn.now tx.new.conn.now result }
     ensures failure { IfErr result IsFailure }
-    ensures becomes { (closed : Date) → epoch_day closed ≡ row.now.closed → Writes S.Store tx.old.conn.now tx.new.conn.now result (with_due row.now.number (due_number (due_of closed years))) }
+    ensures becomes { (closed : Date) → epoch_day closed ≡ row.now.closed
+        → Writes S.Store tx.old.conn.now tx.new.conn.now result
+        (with_due row.now.number (due_number (due_of closed years))) }
     ensures once { LeavesOnce S.Store tx.old.conn.now tx.new.conn.now result }
     ensures closed { OnOk result (IsDayNumber row.now.closed) }
 {
@@ -84,8 +86,10 @@ fn set_days_of_class<S: Alter>(
     ensures stays { CommitsNothing S.Store tx.old.conn.now tx.new.conn.now }
     ensures goes_on { Continues S.Store tx.old.conn.now tx.new.conn.now result }
     ensures failure { IfErr result IsFailure }
-    ensures set { SetsDueDays S.Store tx.old.conn.now tx.new.conn.now result years (class_closings class.now (tables_of (state S.Store tx.old.conn.now).now)) }
-    ensures rows { Tells S.Store tx.old.conn.now tx.new.conn.now result (λ tables _. AreClosedOnDays (class_closings class.now tables)) }
+    ensures set { SetsDueDays S.Store tx.old.conn.now tx.new.conn.now result years
+        (class_closings class.now (tables_of (state S.Store tx.old.conn.now).now)) }
+    ensures rows { Tells S.Store tx.old.conn.now tx.new.conn.now result (λ tables _.
+        AreClosedOnDays (class_closings class.now tables)) }
 {
     let rows = rows_of_class(alloc, tx, class)?;
     set_due_days(tx, &rows, years)
@@ -102,8 +106,11 @@ fn put_years<S: Alter>(
     ensures stays { CommitsNothing S.Store tx.old.conn.now tx.new.conn.now }
     ensures goes_on { Continues S.Store tx.old.conn.now tx.new.conn.now result }
     ensures failure { IfErr result IsFailure }
-    ensures defined { (day : Date) → Accepts S.Store tx.old.conn.now tx.new.conn.now result (λ _. ⊤) (DefinedClass day name.now years ∷ []) }
-    ensures rows { Tells S.Store tx.old.conn.now tx.new.conn.now result (λ tables _. AreClosedOnDays (class_closings name.now tables)) }
+    ensures defined { (day : Date)
+        → Accepts S.Store tx.old.conn.now tx.new.conn.now result (λ _.
+        ⊤) (DefinedClass day name.now years ∷ []) }
+    ensures rows { Tells S.Store tx.old.conn.now tx.new.conn.now result (λ tables _.
+        AreClosedOnDays (class_closings name.now tables)) }
 {
     put_class(tx, name, years_number(years))?;
     set_days_of_class(alloc, tx, name, years)
@@ -125,8 +132,10 @@ pub fn define_class<S: Alter>(
     ensures stays { CommitsNothing S.Store tx.old.conn.now tx.new.conn.now }
     ensures goes_on { Continues S.Store tx.old.conn.now tx.new.conn.now result }
     ensures failure { IfErr result IsFailure }
-    ensures decides { Decides S.Store tx.old.conn.now tx.new.conn.now result day caller.now (requests.DefineClass name.now years) }
-    ensures rows { Tells S.Store tx.old.conn.now tx.new.conn.now result (λ tables given. IsClassDefinedIn tables day caller.now name.now years given) }
+    ensures decides { Decides S.Store tx.old.conn.now tx.new.conn.now result day caller.now
+        (requests.DefineClass name.now years) }
+    ensures rows { Tells S.Store tx.old.conn.now tx.new.conn.now result (λ tables given.
+        IsClassDefinedIn tables day caller.now name.now years given) }
 {
     if let Some(why) = denial(tx, day, caller, Action::Class, None, Some(name.as_str()))? {
         return Ok(Answer::Refused(why));

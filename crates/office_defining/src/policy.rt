@@ -109,7 +109,8 @@ pub fn install<S: Alter>(
     ensures stays { CommitsNothing S.Store tx.old.conn.now tx.new.conn.now }
     ensures goes_on { Continues S.Store tx.old.conn.now tx.new.conn.now result }
     ensures failure { IfErr result IsFailure }
-    ensures installed { Accepts S.Store tx.old.conn.now tx.new.conn.now result (λ _. ⊤) (Installed policy.now ∷ []) }
+    ensures installed { Accepts S.Store tx.old.conn.now tx.new.conn.now result (λ _.
+        ⊤) (Installed policy.now ∷ []) }
 {
     let callers = caller_rows(alloc, policy.callers())?;
     let rules = rule_rows(alloc, policy)?;

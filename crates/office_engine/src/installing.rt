@@ -15,10 +15,15 @@ use std::alloc::Global;
 fn end<S: Alter>(tx: Transaction<'_, S>, done: Result<(), TableFault>) -> Result<(), TableFault>
     ensures outside { tx.exit.0.now.in_transaction ≡ false }
     ensures failure { IfErr done IsFailure → IfErr result IsFailure }
-    ensures committed { HasCleanDisk (state S.Store tx.exit.0.now) → IfOk result (λ nothing. (done ≡ Ok nothing)
-        × Shows (state S.Store tx.entry.conn.now) (state S.Store tx.exit.0.now) (state S.Store tx.entry.conn.now).now (state S.Store tx.entry.conn.now).now false) }
-    ensures undone { HasCleanDisk (state S.Store tx.exit.0.now) → OnOk done (IsTrue (state S.Store tx.entry.conn.now).in_transaction)
-        → OnErr result (IsRolledBack (state S.Store tx.entry.conn.now) (state S.Store tx.exit.0.now)) }
+    ensures committed { HasCleanDisk (state S.Store tx.exit.0.now)
+        → IfOk result (λ nothing.
+        (done ≡ Ok nothing)
+        × Shows (state S.Store tx.entry.conn.now) (state S.Store tx.exit.0.now)
+        (state S.Store tx.entry.conn.now).now (state S.Store tx.entry.conn.now).now false) }
+    ensures undone { HasCleanDisk (state S.Store tx.exit.0.now)
+        → OnOk done (IsTrue (state S.Store tx.entry.conn.now).in_transaction)
+        → OnErr result
+        (IsRolledBack (state S.Store tx.entry.conn.now) (state S.Store tx.exit.0.now)) }
     ensures survives { Survives (state S.Store tx.entry.conn.now) (state S.Store tx.exit.0.now)
         (λ db. IsOkAnd done (λ _. db ≡ (state S.Store tx.entry.conn.now).now.trees)) }
 {
@@ -45,7 +50,8 @@ pub fn install<S: Alter>(
     ensures failure { IfErr result IsFailure }
     ensures installed { HasCleanDisk (state S.Store conn.new)
         → OnOk result (Installs (state S.Store conn.old) (state S.Store conn.new) policy.now) }
-    ensures open { HasCleanDisk (state S.Store conn.new) → OnOk result (IsTrue (state S.Store conn.old).is_open) }
+    ensures open { HasCleanDisk (state S.Store conn.new)
+        → OnOk result (IsTrue (state S.Store conn.old).is_open) }
     ensures kept { HasCleanDisk (state S.Store conn.new)
         → OnErr result (KeepsTables (state S.Store conn.old) (state S.Store conn.new)) }
     ensures survives { Survives (state S.Store conn.old) (state S.Store conn.new)

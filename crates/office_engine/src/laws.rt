@@ -52,9 +52,12 @@ pub fn new_offices_are_pictured()
 /// length; and the due day and the count of live holds that they keep of each deposit, destroyed or not, are those of the
 /// history.
 pub fn kept_columns_are_told()
-    ensures contents { (db : Database) (h : History) → Pictures h db → IsPermutation (contents h) (map (λ c. c.bytes) (contents_of db)) }
-    ensures marked { (db : Database) (h : History) → Pictures h db → AllByRecursion IsMarked (contents_of db) }
-    ensures dues { (db : Database) (h : History) → Pictures h db → (tables_of db).dues ≡ due_rows h }
+    ensures contents { (db : Database) (h : History) → Pictures h db
+        → IsPermutation (contents h) (map (λ c. c.bytes) (contents_of db)) }
+    ensures marked { (db : Database) (h : History) → Pictures h db
+        → AllByRecursion IsMarked (contents_of db) }
+    ensures dues { (db : Database) (h : History) → Pictures h db
+        → (tables_of db).dues ≡ due_rows h }
 {
     contents_are_those_of_files();
 }
@@ -75,7 +78,8 @@ pub fn tables_tell_the_answer()
 pub fn the_rows_tell_one_answer()
     ensures answer { (t : Tables) (day : Date) (caller : List ℕ) (request : Request) (a b : Answer)
         → RowsTell t day caller request a → RowsTell t day caller request b → a ≡ b }
-    ensures due { (t : Tables) (day : Date) (caller : List ℕ) (a b : List ℕ) → AreDueIn t day caller a → AreDueIn t day caller b → a ≡ b }
+    ensures due { (t : Tables) (day : Date) (caller : List ℕ) (a b : List ℕ)
+        → AreDueIn t day caller a → AreDueIn t day caller b → a ≡ b }
     ensures stock { (db : Database) (a b : Stock) → IsStockIn db a → IsStockIn db b → a ≡ b }
 {}
 
@@ -104,12 +108,14 @@ pub fn accepted_changes_are_found()
 /// before one ends.
 pub fn a_stopped_upgrade_goes_on<S: Alter>()
     ensures once { (old stopped again done : Held S) (version : TableVersion) (h : History)
-        → IsTrue (state S.Store old).is_open → IsKeptAt version h (state S.Store old) → LeavesAt (state S.Store old) (state S.Store stopped)
-        → (state S.Store stopped).may_leave (state S.Store again).now.trees → TakesUp (state S.Store again) (state S.Store done)
-        → IsKeptBy h (state S.Store done) }
-    ensures often { (first left : Trees) (stops : List (Held S × Held S)) (version : TableVersion) (h : History)
-        → IsLeftAt version h first → StoppedInTurn S.Store first stops left → IsLeftOfUpgrade version h left }
+        → IsTrue (state S.Store old).is_open → IsKeptAt version h (state S.Store old)
+        → LeavesAt (state S.Store old) (state S.Store stopped)
+        → (state S.Store stopped).may_leave (state S.Store again).now.trees
+        → TakesUp (state S.Store again) (state S.Store done) → IsKeptBy h (state S.Store done) }
+    ensures often { (first left : Trees) (stops : List (Held S × Held S)) (version : TableVersion)
+        (h : History) → IsLeftAt version h first → StoppedInTurn S.Store first stops left
+        → IsLeftOfUpgrade version h left }
     ensures done { (again done : Held S) (version : TableVersion) (h : History)
-        → IsLeftOfUpgrade version h (state S.Store again).now.trees → TakesUp (state S.Store again) (state S.Store done)
-        → IsKeptBy h (state S.Store done) }
+        → IsLeftOfUpgrade version h (state S.Store again).now.trees
+        → TakesUp (state S.Store again) (state S.Store done) → IsKeptBy h (state S.Store done) }
 {}

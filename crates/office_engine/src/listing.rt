@@ -24,9 +24,13 @@ pub fn due_list<S: Alter>(
     ensures failure { IfErr result IsFailure }
     ensures listed { HasCleanDisk (state S.Store conn.new) → IfOk result (λ numbers.
         ListsDue (state S.Store conn.old) (state S.Store conn.new) day caller.now numbers.items) }
-    ensures rows { HasCleanDisk (state S.Store conn.new) → IfOk result (λ numbers. AreToldDue (state S.Store conn.old) day caller.now numbers.items) }
-    ensures open { HasCleanDisk (state S.Store conn.new) → OnOk result (IsTrue (state S.Store conn.old).is_open) }
-    ensures kept { HasCleanDisk (state S.Store conn.new) → KeepsTables (state S.Store conn.old) (state S.Store conn.new) }
+    ensures rows { HasCleanDisk (state S.Store conn.new)
+        → IfOk result (λ numbers.
+        AreToldDue (state S.Store conn.old) day caller.now numbers.items) }
+    ensures open { HasCleanDisk (state S.Store conn.new)
+        → OnOk result (IsTrue (state S.Store conn.old).is_open) }
+    ensures kept { HasCleanDisk (state S.Store conn.new)
+        → KeepsTables (state S.Store conn.old) (state S.Store conn.new) }
     ensures survives { Survives (state S.Store conn.old) (state S.Store conn.new) (λ _. ⊥) }
 {
     // What the connection says of its state.
@@ -44,9 +48,12 @@ pub fn stock<S: Alter>(alloc: Global, conn: &mut Connection<S>) -> Result<Stock,
     ensures failure { IfErr result IsFailure }
     ensures counted { HasCleanDisk (state S.Store conn.new) → IfOk result (λ found.
         CountsStock (state S.Store conn.old) (state S.Store conn.new) found) }
-    ensures rows { HasCleanDisk (state S.Store conn.new) → IfOk result (λ found. IsToldStock (state S.Store conn.old) found) }
-    ensures open { HasCleanDisk (state S.Store conn.new) → OnOk result (IsTrue (state S.Store conn.old).is_open) }
-    ensures kept { HasCleanDisk (state S.Store conn.new) → KeepsTables (state S.Store conn.old) (state S.Store conn.new) }
+    ensures rows { HasCleanDisk (state S.Store conn.new)
+        → IfOk result (λ found. IsToldStock (state S.Store conn.old) found) }
+    ensures open { HasCleanDisk (state S.Store conn.new)
+        → OnOk result (IsTrue (state S.Store conn.old).is_open) }
+    ensures kept { HasCleanDisk (state S.Store conn.new)
+        → KeepsTables (state S.Store conn.old) (state S.Store conn.new) }
     ensures survives { Survives (state S.Store conn.old) (state S.Store conn.new) (λ _. ⊥) }
 {
     // What the connection says of its state.

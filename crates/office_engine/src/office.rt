@@ -76,19 +76,25 @@ impl<S: Alter> Office<S> {
         requires outside { (state S.Store conn).in_transaction ≡ false }
         ensures made { IfOk result (λ office. HasCleanDisk (state S.Store office)
             → IsKeptBy (new_history limits.deposits limits.holds) (state S.Store office)) }
-        ensures open { IfOk result (λ office. HasCleanDisk (state S.Store office) → IsTrue (state S.Store office).is_open) }
-        ensures survives { IfOk result (λ office. Survives (state S.Store conn) (state S.Store office)
+        ensures open { IfOk result (λ office.
+            HasCleanDisk (state S.Store office) → IsTrue (state S.Store office).is_open) }
+        ensures survives { IfOk result (λ office.
+            Survives (state S.Store conn) (state S.Store office)
             (IsLeftOf (new_history limits.deposits limits.holds))) }
-        ensures durable { IfOk result (λ office. HasCleanDisk (state S.Store office) → (left : Trees)
-            → (state S.Store office).may_leave left → IsLeftOf (new_history limits.deposits limits.holds) left) }
+        ensures durable { IfOk result (λ office.
+            HasCleanDisk (state S.Store office) → (left : Trees)
+            → (state S.Store office).may_leave left
+            → IsLeftOf (new_history limits.deposits limits.holds) left) }
         ensures refused { IfErr result (λ e. HasCleanDisk (state S.Store e.0)
             → KeepsTables (state S.Store conn) (state S.Store e.0)) }
         ensures refused_outside { IfErr result (λ e. (state S.Store e.0).in_transaction ≡ false) }
-        ensures refused_survives { IfErr result (λ e. Survives (state S.Store conn) (state S.Store e.0)
+        ensures refused_survives { IfErr result (λ e.
+            Survives (state S.Store conn) (state S.Store e.0)
             (IsLeftOf (new_history limits.deposits limits.holds))) }
         ensures failure { IfErr result (λ e. faults.IsFailure e.1) }
         // What is there stays: a database that isn't empty is never made an office.
-        ensures not_empty { (state S.Store conn).now.schema ≢ no_schema → result ≡ Err (conn, TableFault.Store) }
+        ensures not_empty { (state S.Store conn).now.schema ≢ no_schema
+            → result ≡ Err (conn, TableFault.Store) }
     {
         match office_tables::create(&mut conn, limits.deposits, limits.holds) {
             Ok(()) => Ok(Office { conn }),
@@ -103,31 +109,53 @@ impl<S: Alter> Office<S> {
     /// The connection is handed back, its tables as they were.
     pub fn adopt(conn: Connection<S>) -> Result<Office<S>, (Connection<S>, TableFault)>
         requires outside { (state S.Store conn).in_transaction ≡ false }
-        ensures same { IfOk result (λ office. HasCleanDisk (state S.Store office) → KeepsTables (state S.Store conn) (state S.Store office)) }
-        ensures version { IfOk result (λ office. HasCleanDisk (state S.Store office) → HasVersion (state S.Store conn).now this_version) }
-        ensures has_table { IfOk result (λ office. HasCleanDisk (state S.Store office) → IsTrue (has_office (state S.Store conn).now.schema)) }
-        ensures known_as_this { IfOk result (λ office. HasCleanDisk (state S.Store office) → IsOffice (state S.Store conn).now
+        ensures same { IfOk result (λ office.
+            HasCleanDisk (state S.Store office)
+            → KeepsTables (state S.Store conn) (state S.Store office)) }
+        ensures version { IfOk result (λ office.
+            HasCleanDisk (state S.Store office)
+            → HasVersion (state S.Store conn).now this_version) }
+        ensures has_table { IfOk result (λ office.
+            HasCleanDisk (state S.Store office)
+            → IsTrue (has_office (state S.Store conn).now.schema)) }
+        ensures known_as_this { IfOk result (λ office.
+            HasCleanDisk (state S.Store office) → IsOffice (state S.Store conn).now
             → version_of (tables_of (state S.Store conn).now) ≡ Some this_version) }
-        ensures survives { IfOk result (λ office. Survives (state S.Store conn) (state S.Store office) (λ _. ⊥)) }
+        ensures survives { IfOk result (λ office.
+            Survives (state S.Store conn) (state S.Store office) (λ _. ⊥)) }
         // What a crash left of an office goes on as that office, and is never told to be none, or one
         // of another version.
-        ensures goes_on { IfOk result (λ office. HasCleanDisk (state S.Store office)
-            → (h : History) → IsLeftOf h (state S.Store conn).now.trees → IsKeptBy h (state S.Store office)) }
-        ensures known { IfErr result (λ e. HasCleanDisk (state S.Store e.0) → IsTrue (state S.Store conn).is_open
-            → (h : History) → IsLegal h → IsLeftOf h (state S.Store conn).now.trees → faults.IsFailure e.1) }
+        ensures goes_on { IfOk result (λ office.
+            HasCleanDisk (state S.Store office) → (h : History)
+            → IsLeftOf h (state S.Store conn).now.trees → IsKeptBy h (state S.Store office)) }
+        ensures known { IfErr result (λ e.
+            HasCleanDisk (state S.Store e.0) → IsTrue (state S.Store conn).is_open → (h : History)
+            → IsLegal h → IsLeftOf h (state S.Store conn).now.trees → faults.IsFailure e.1) }
 
-        ensures refused { IfErr result (λ e. HasCleanDisk (state S.Store e.0) → KeepsTables (state S.Store conn) (state S.Store e.0)) }
+        ensures refused { IfErr result (λ e.
+            HasCleanDisk (state S.Store e.0)
+            → KeepsTables (state S.Store conn) (state S.Store e.0)) }
         ensures refused_outside { IfErr result (λ e. (state S.Store e.0).in_transaction ≡ false) }
-        ensures refused_survives { IfErr result (λ e. Survives (state S.Store conn) (state S.Store e.0) (λ _. ⊥)) }
-        ensures goes_back { IfErr result (λ e. HasCleanDisk (state S.Store e.0)
-            → (h : History) → IsLeftOf h (state S.Store conn).now.trees → IsKeptBy h (state S.Store e.0)) }
-        ensures not_office { IfErr result (λ e. HasCleanDisk (state S.Store e.0) → e.1 ≡ NotAnOffice → opening.NotAnOffice (state S.Store conn).now) }
-        ensures other_version { IfErr result (λ e. HasCleanDisk (state S.Store e.0) → e.1 ≡ OtherVersion → HasOtherVersion (state S.Store conn).now this_version) }
-        ensures no_table { has_office (state S.Store conn).now.schema ≡ false → result ≡ Err (conn, NotAnOffice) }
+        ensures refused_survives { IfErr result (λ e.
+            Survives (state S.Store conn) (state S.Store e.0) (λ _. ⊥)) }
+        ensures goes_back { IfErr result (λ e.
+            HasCleanDisk (state S.Store e.0) → (h : History)
+            → IsLeftOf h (state S.Store conn).now.trees → IsKeptBy h (state S.Store e.0)) }
+        ensures not_office { IfErr result (λ e.
+            HasCleanDisk (state S.Store e.0) → e.1 ≡ NotAnOffice
+            → opening.NotAnOffice (state S.Store conn).now) }
+        ensures other_version { IfErr result (λ e.
+            HasCleanDisk (state S.Store e.0) → e.1 ≡ OtherVersion
+            → HasOtherVersion (state S.Store conn).now this_version) }
+        ensures no_table { has_office (state S.Store conn).now.schema ≡ false
+            → result ≡ Err (conn, NotAnOffice) }
         // Where the tables are an office's, it says so of their own version.
-        ensures unknown { IfErr result (λ e. HasCleanDisk (state S.Store e.0) → IsOffice (state S.Store conn).now → e.1 ≡ NotAnOffice
+        ensures unknown { IfErr result (λ e.
+            HasCleanDisk (state S.Store e.0) → IsOffice (state S.Store conn).now → e.1 ≡ NotAnOffice
             → version_of (tables_of (state S.Store conn).now) ≡ None) }
-        ensures known_as_other { IfErr result (λ e. HasCleanDisk (state S.Store e.0) → IsOffice (state S.Store conn).now → e.1 ≡ OtherVersion
+        ensures known_as_other { IfErr result (λ e.
+            HasCleanDisk (state S.Store e.0) → IsOffice (state S.Store conn).now
+            → e.1 ≡ OtherVersion
             → IsKnownAsOther (tables_of (state S.Store conn).now) this_version) }
     {
         match office_recovery::adopt(conn) {
@@ -143,59 +171,108 @@ impl<S: Alter> Office<S> {
     /// back, its tables as they were.
     pub fn upgrade(conn: Connection<S>) -> Result<Office<S>, (Connection<S>, TableFault)>
         requires outside { (state S.Store conn).in_transaction ≡ false }
-        ensures upgraded { IfOk result (λ office. HasCleanDisk (state S.Store office) → Upgrades (state S.Store conn) (state S.Store office)) }
+        ensures upgraded { IfOk result (λ office.
+            HasCleanDisk (state S.Store office)
+            → Upgrades (state S.Store conn) (state S.Store office)) }
         // What a crash left of an office of any of these versions goes on as that office.
-        ensures found { IfOk result (λ office. HasCleanDisk (state S.Store office) → TakesUp (state S.Store conn) (state S.Store office)) }
+        ensures found { IfOk result (λ office.
+            HasCleanDisk (state S.Store office)
+            → TakesUp (state S.Store conn) (state S.Store office)) }
         // Tables that show no older version stay as they are, those of this version among them.
-        ensures kept { IfOk result (λ office. HasCleanDisk (state S.Store office) → (IsOlder (state S.Store conn).now → ⊥)
+        ensures kept { IfOk result (λ office.
+            HasCleanDisk (state S.Store office) → (IsOlder (state S.Store conn).now → ⊥)
             → KeepsTables (state S.Store conn) (state S.Store office)) }
-        ensures newest { IfOk result (λ office. HasCleanDisk (state S.Store office) → IsOffice (state S.Store conn).now
-            → version_of (tables_of (state S.Store conn).now) ≡ Some this_version → KeepsTables (state S.Store conn) (state S.Store office)) }
-        ensures newest_survives { IfOk result (λ office. NewestSurvives (state S.Store conn) (state S.Store office)) }
-        ensures open { IfOk result (λ office. HasCleanDisk (state S.Store office) → IsTrue (state S.Store conn).is_open) }
-        ensures version { IfOk result (λ office. HasCleanDisk (state S.Store office) → IsTrue (has_office (state S.Store conn).now.schema)
-            × ((known : TableVersion) × HasVersion (state S.Store conn).now (version_number known))) }
-        ensures known_as_one { IfOk result (λ office. HasCleanDisk (state S.Store office) → (version : TableVersion)
-            → IsOfficeAt version (state S.Store conn).now → TellsKnown (tables_at version (state S.Store conn).now)) }
-        ensures survives { IfOk result (λ office. Survives (state S.Store conn) (state S.Store office) (IsUpgradeOf (state S.Store conn).now)) }
-        ensures durable { IfOk result (λ office. HasCleanDisk (state S.Store office) → UpgradeLasts (state S.Store conn) (state S.Store office)) }
-        ensures leaves { IfOk result (λ office. HasCleanDisk (state S.Store office) → LeavesAt (state S.Store conn) (state S.Store office)) }
+        ensures newest { IfOk result (λ office.
+            HasCleanDisk (state S.Store office) → IsOffice (state S.Store conn).now
+            → version_of (tables_of (state S.Store conn).now) ≡ Some this_version
+            → KeepsTables (state S.Store conn) (state S.Store office)) }
+        ensures newest_survives { IfOk result (λ office.
+            NewestSurvives (state S.Store conn) (state S.Store office)) }
+        ensures open { IfOk result (λ office.
+            HasCleanDisk (state S.Store office) → IsTrue (state S.Store conn).is_open) }
+        ensures version { IfOk result (λ office.
+            HasCleanDisk (state S.Store office)
+            → IsTrue (has_office (state S.Store conn).now.schema)
+            × ((known : TableVersion)
+            × HasVersion (state S.Store conn).now (version_number known))) }
+        ensures known_as_one { IfOk result (λ office.
+            HasCleanDisk (state S.Store office) → (version : TableVersion)
+            → IsOfficeAt version (state S.Store conn).now
+            → TellsKnown (tables_at version (state S.Store conn).now)) }
+        ensures survives { IfOk result (λ office.
+            Survives (state S.Store conn) (state S.Store office)
+            (IsUpgradeOf (state S.Store conn).now)) }
+        ensures durable { IfOk result (λ office.
+            HasCleanDisk (state S.Store office)
+            → UpgradeLasts (state S.Store conn) (state S.Store office)) }
+        ensures leaves { IfOk result (λ office.
+            HasCleanDisk (state S.Store office)
+            → LeavesAt (state S.Store conn) (state S.Store office)) }
         // The same of whatever rows an office of a known version has, where no history pictures them.
         ensures upgraded_rows { IfOk result (λ office. HasCleanDisk (state S.Store office)
             → rows.Upgrades (state S.Store conn) (state S.Store office)) }
         ensures found_rows { IfOk result (λ office. HasCleanDisk (state S.Store office)
             → rows.TakesUp (state S.Store conn) (state S.Store office)) }
-        ensures survives_rows { IfOk result (λ office. Survives (state S.Store conn) (state S.Store office) (IsUpgrade (state S.Store conn).now)) }
+        ensures survives_rows { IfOk result (λ office.
+            Survives (state S.Store conn) (state S.Store office)
+            (IsUpgrade (state S.Store conn).now)) }
         ensures durable_rows { IfOk result (λ office. HasCleanDisk (state S.Store office)
             → rows.UpgradeLasts (state S.Store conn) (state S.Store office)) }
 
-        ensures refused_same { IfErr result (λ e. HasCleanDisk (state S.Store e.0) → KeepsTables (state S.Store conn) (state S.Store e.0)) }
-        ensures refused { IfErr result (λ e. HasCleanDisk (state S.Store e.0) → StaysAt (state S.Store conn) (state S.Store e.0)) }
-        ensures goes_back { IfErr result (λ e. HasCleanDisk (state S.Store e.0) → GoesBackAt (state S.Store conn) (state S.Store e.0)) }
+        ensures refused_same { IfErr result (λ e.
+            HasCleanDisk (state S.Store e.0)
+            → KeepsTables (state S.Store conn) (state S.Store e.0)) }
+        ensures refused { IfErr result (λ e.
+            HasCleanDisk (state S.Store e.0) → StaysAt (state S.Store conn) (state S.Store e.0)) }
+        ensures goes_back { IfErr result (λ e.
+            HasCleanDisk (state S.Store e.0)
+            → GoesBackAt (state S.Store conn) (state S.Store e.0)) }
         ensures refused_outside { IfErr result (λ e. (state S.Store e.0).in_transaction ≡ false) }
-        ensures refused_survives { IfErr result (λ e. Survives (state S.Store conn) (state S.Store e.0) (IsUpgradeOf (state S.Store conn).now)) }
-        ensures refused_survives_rows { IfErr result (λ e. Survives (state S.Store conn) (state S.Store e.0) (IsUpgrade (state S.Store conn).now)) }
-        ensures refused_newest_survives { IfErr result (λ e. NewestSurvives (state S.Store conn) (state S.Store e.0)) }
+        ensures refused_survives { IfErr result (λ e.
+            Survives (state S.Store conn) (state S.Store e.0)
+            (IsUpgradeOf (state S.Store conn).now)) }
+        ensures refused_survives_rows { IfErr result (λ e.
+            Survives (state S.Store conn) (state S.Store e.0)
+            (IsUpgrade (state S.Store conn).now)) }
+        ensures refused_newest_survives { IfErr result (λ e.
+            NewestSurvives (state S.Store conn) (state S.Store e.0)) }
         // `NotAnOffice` and `OtherVersion` leave no other trees than those that were there.
-        ensures told_survives { IfErr result (λ e. (faults.IsFailure e.1 → ⊥) → Survives (state S.Store conn) (state S.Store e.0) (λ _. ⊥)) }
-        ensures refused_leaves { IfErr result (λ e. HasCleanDisk (state S.Store e.0) → LeavesAt (state S.Store conn) (state S.Store e.0)) }
-        ensures not_office { IfErr result (λ e. HasCleanDisk (state S.Store e.0) → e.1 ≡ NotAnOffice → opening.NotAnOffice (state S.Store conn).now) }
-        ensures other_version { IfErr result (λ e. HasCleanDisk (state S.Store e.0) → e.1 ≡ OtherVersion → HasUnknownVersion (state S.Store conn).now) }
-        ensures no_table { has_office (state S.Store conn).now.schema ≡ false → result ≡ Err (conn, NotAnOffice) }
+        ensures told_survives { IfErr result (λ e.
+            (faults.IsFailure e.1 → ⊥)
+            → Survives (state S.Store conn) (state S.Store e.0) (λ _. ⊥)) }
+        ensures refused_leaves { IfErr result (λ e.
+            HasCleanDisk (state S.Store e.0) → LeavesAt (state S.Store conn) (state S.Store e.0)) }
+        ensures not_office { IfErr result (λ e.
+            HasCleanDisk (state S.Store e.0) → e.1 ≡ NotAnOffice
+            → opening.NotAnOffice (state S.Store conn).now) }
+        ensures other_version { IfErr result (λ e.
+            HasCleanDisk (state S.Store e.0) → e.1 ≡ OtherVersion
+            → HasUnknownVersion (state S.Store conn).now) }
+        ensures no_table { has_office (state S.Store conn).now.schema ≡ false
+            → result ≡ Err (conn, NotAnOffice) }
         // Where the tables are an office's, it says so of their own version.
-        ensures unknown { IfErr result (λ e. HasCleanDisk (state S.Store e.0) → (version : TableVersion) → IsOfficeAt version (state S.Store conn).now
-            → e.1 ≡ NotAnOffice → version_of (tables_at version (state S.Store conn).now) ≡ None) }
-        ensures known_as_other { IfErr result (λ e. HasCleanDisk (state S.Store e.0) → (version : TableVersion) → IsOfficeAt version (state S.Store conn).now
-            → e.1 ≡ OtherVersion → TellsUnknown (tables_at version (state S.Store conn).now)) }
+        ensures unknown { IfErr result (λ e.
+            HasCleanDisk (state S.Store e.0) → (version : TableVersion)
+            → IsOfficeAt version (state S.Store conn).now → e.1 ≡ NotAnOffice
+            → version_of (tables_at version (state S.Store conn).now) ≡ None) }
+        ensures known_as_other { IfErr result (λ e.
+            HasCleanDisk (state S.Store e.0) → (version : TableVersion)
+            → IsOfficeAt version (state S.Store conn).now → e.1 ≡ OtherVersion
+            → TellsUnknown (tables_at version (state S.Store conn).now)) }
         // An office of one of these versions, and what a crash left of one, is never told to be none, or one of another version:
         // whatever its rows are, where they tell their version.
-        ensures known { IfErr result (λ e. HasCleanDisk (state S.Store e.0) → IsTrue (state S.Store conn).is_open
-            → (version : TableVersion) (h : History) → IsLegal h → IsLeftAt version h (state S.Store conn).now.trees → faults.IsFailure e.1) }
-        ensures failure { IfErr result (λ e. HasCleanDisk (state S.Store e.0) → (version : TableVersion) (all : AllRows)
-            → BecomesAt version (state S.Store conn).now all → Tells version all → faults.IsFailure e.1) }
-        ensures left_failure { IfErr result (λ e. HasCleanDisk (state S.Store e.0) → IsTrue (state S.Store conn).is_open
-            → (version : TableVersion) (all : AllRows) → Tells version all → rows.IsLeftAt version all (state S.Store conn).now.trees
+        ensures known { IfErr result (λ e.
+            HasCleanDisk (state S.Store e.0) → IsTrue (state S.Store conn).is_open
+            → (version : TableVersion) (h : History) → IsLegal h
+            → IsLeftAt version h (state S.Store conn).now.trees → faults.IsFailure e.1) }
+        ensures failure { IfErr result (λ e.
+            HasCleanDisk (state S.Store e.0) → (version : TableVersion) (all : AllRows)
+            → BecomesAt version (state S.Store conn).now all → Tells version all
             → faults.IsFailure e.1) }
+        ensures left_failure { IfErr result (λ e.
+            HasCleanDisk (state S.Store e.0) → IsTrue (state S.Store conn).is_open
+            → (version : TableVersion) (all : AllRows) → Tells version all
+            → rows.IsLeftAt version all (state S.Store conn).now.trees → faults.IsFailure e.1) }
     {
         match office_upgrade::upgrade_office(conn) {
             Ok(conn) => Ok(Office { conn }),
@@ -210,15 +287,18 @@ impl<S: Alter> Office<S> {
         ensures failure { IfErr result faults.IsFailure }
         ensures installed { HasCleanDisk (state S.Store self.new)
             → OnOk result (Installs (state S.Store self.old) (state S.Store self.new) policy.now) }
-        ensures open { HasCleanDisk (state S.Store self.new) → OnOk result (IsTrue (state S.Store self.old).is_open) }
+        ensures open { HasCleanDisk (state S.Store self.new)
+            → OnOk result (IsTrue (state S.Store self.old).is_open) }
         ensures kept { HasCleanDisk (state S.Store self.new)
             → OnErr result (KeepsTables (state S.Store self.old) (state S.Store self.new)) }
         ensures survives { Survives (state S.Store self.old) (state S.Store self.new)
             (CommitsTo (state S.Store self.old) (after_policy policy.now)) }
         ensures durable { HasCleanDisk (state S.Store self.new)
-            → OnOk result (InstallLasts (state S.Store self.old) (state S.Store self.new) policy.now) }
+            → OnOk result
+            (InstallLasts (state S.Store self.old) (state S.Store self.new) policy.now) }
         ensures leaves { HasCleanDisk (state S.Store self.new)
-            → LeavesEither (state S.Store self.old) (state S.Store self.new) (after_policy policy.now) }
+            → LeavesEither (state S.Store self.old) (state S.Store self.new)
+            (after_policy policy.now) }
         ensures made { HasCleanDisk (state S.Store self.new)
             → LeavesInstalled (state S.Store self.old) (state S.Store self.new) result }
     {
@@ -229,21 +309,27 @@ impl<S: Alter> Office<S> {
     /// refused, or only asks, changes nothing.
     pub fn step(&mut self, alloc: Global, day: Day, caller: &str, request: &Request<'_>) -> Answer
         ensures served { HasCleanDisk (state S.Store self.new)
-            → Serves (state S.Store self.old) (state S.Store self.new) (day, caller.entry, request.now) result }
+            → Serves (state S.Store self.old) (state S.Store self.new)
+            (day, caller.entry, request.now) result }
         ensures kept { HasCleanDisk (state S.Store self.new) → is_accepted result ≡ false
             → KeepsTables (state S.Store self.old) (state S.Store self.new) }
         // Whatever rows the tables of the office hold, no answer rests on one that tells nothing.
-        ensures rows { HasCleanDisk (state S.Store self.new) → IsToldByRows (state S.Store self.old) (day, caller.entry, request.now) result }
+        ensures rows { HasCleanDisk (state S.Store self.new)
+            → IsToldByRows (state S.Store self.old) (day, caller.entry, request.now) result }
         // Over a store that a fault has shut, it is a failure.
-        ensures shut { HasCleanDisk (state S.Store self.new) → StaysShut (state S.Store self.old) (state S.Store self.new) result }
+        ensures shut { HasCleanDisk (state S.Store self.new)
+            → StaysShut (state S.Store self.old) (state S.Store self.new) result }
         ensures survives { Survives (state S.Store self.old) (state S.Store self.new)
             (CommitsTo (state S.Store self.old) (after_item (day, caller.entry, request.now))) }
         ensures durable { HasCleanDisk (state S.Store self.new)
-            → Lasts (state S.Store self.old) (state S.Store self.new) (day, caller.entry, request.now) result }
+            → Lasts (state S.Store self.old) (state S.Store self.new)
+            (day, caller.entry, request.now) result }
         ensures leaves { HasCleanDisk (state S.Store self.new)
-            → LeavesEither (state S.Store self.old) (state S.Store self.new) (after_item (day, caller.entry, request.now)) }
+            → LeavesEither (state S.Store self.old) (state S.Store self.new)
+            (after_item (day, caller.entry, request.now)) }
         // Whatever was kept, it leaves no other trees than those that were there and those that the request made.
-        ensures made { HasCleanDisk (state S.Store self.new) → LeavesMade (state S.Store self.old) (state S.Store self.new) result }
+        ensures made { HasCleanDisk (state S.Store self.new)
+            → LeavesMade (state S.Store self.old) (state S.Store self.new) result }
     {
         serve(alloc, &mut self.conn, day, caller, request)
     }
@@ -257,13 +343,15 @@ impl<S: Alter> Office<S> {
     ) -> Result<Vec<Answer>, AllocError>
         ensures ran { HasCleanDisk (state S.Store self.new) → IfOk result (λ answers.
             Runs (state S.Store self.old) (state S.Store self.new) items.now answers.items) }
-        ensures in_turn { HasCleanDisk (state S.Store self.new) → IfOk result (λ answers. InTurn S.Store self.old self.new items.now answers.items) }
+        ensures in_turn { HasCleanDisk (state S.Store self.new)
+            → IfOk result (λ answers. InTurn S.Store self.old self.new items.now answers.items) }
         ensures shut { HasCleanDisk (state S.Store self.new) → IfOk result (λ answers.
             AllStayShut (state S.Store self.old) (state S.Store self.new) answers.items) }
         ensures failed { OnErr result (self.new ≡ self.old) }
         ensures failed_leaves { OnErr result (LeavesKept (state S.Store self.new)) }
         // What a crash leaves has every change that was answered as accepted.
-        ensures survives { IfOk result (λ answers. Survives (state S.Store self.old) (state S.Store self.new)
+        ensures survives { IfOk result (λ answers.
+            Survives (state S.Store self.old) (state S.Store self.new)
             (CommitsRun (state S.Store self.old) items.now answers.items)) }
         ensures leaves { HasCleanDisk (state S.Store self.new) → IfOk result (λ answers.
             LeavesRun (state S.Store self.old) (state S.Store self.new) items.now answers.items) }
@@ -286,11 +374,17 @@ impl<S: Alter> Office<S> {
         caller: &str,
     ) -> Result<Vec<u32>, TableFault>
         ensures failure { IfErr result faults.IsFailure }
-        ensures listed { HasCleanDisk (state S.Store self.new) → IfOk result (λ numbers.
-            ListsDue (state S.Store self.old) (state S.Store self.new) day caller.now numbers.items) }
-        ensures rows { HasCleanDisk (state S.Store self.new) → IfOk result (λ numbers. AreToldDue (state S.Store self.old) day caller.now numbers.items) }
-        ensures open { HasCleanDisk (state S.Store self.new) → OnOk result (IsTrue (state S.Store self.old).is_open) }
-        ensures kept { HasCleanDisk (state S.Store self.new) → KeepsTables (state S.Store self.old) (state S.Store self.new) }
+        ensures listed { HasCleanDisk (state S.Store self.new)
+            → IfOk result (λ numbers.
+            ListsDue (state S.Store self.old)
+            (state S.Store self.new) day caller.now numbers.items) }
+        ensures rows { HasCleanDisk (state S.Store self.new)
+            → IfOk result (λ numbers.
+            AreToldDue (state S.Store self.old) day caller.now numbers.items) }
+        ensures open { HasCleanDisk (state S.Store self.new)
+            → OnOk result (IsTrue (state S.Store self.old).is_open) }
+        ensures kept { HasCleanDisk (state S.Store self.new)
+            → KeepsTables (state S.Store self.old) (state S.Store self.new) }
         ensures survives { Survives (state S.Store self.old) (state S.Store self.new) (λ _. ⊥) }
     {
         due_list(alloc, &mut self.conn, day, caller)
@@ -303,9 +397,12 @@ impl<S: Alter> Office<S> {
         ensures failure { IfErr result faults.IsFailure }
         ensures counted { HasCleanDisk (state S.Store self.new) → IfOk result (λ found.
             CountsStock (state S.Store self.old) (state S.Store self.new) found) }
-        ensures rows { HasCleanDisk (state S.Store self.new) → IfOk result (λ found. IsToldStock (state S.Store self.old) found) }
-        ensures open { HasCleanDisk (state S.Store self.new) → OnOk result (IsTrue (state S.Store self.old).is_open) }
-        ensures kept { HasCleanDisk (state S.Store self.new) → KeepsTables (state S.Store self.old) (state S.Store self.new) }
+        ensures rows { HasCleanDisk (state S.Store self.new)
+            → IfOk result (λ found. IsToldStock (state S.Store self.old) found) }
+        ensures open { HasCleanDisk (state S.Store self.new)
+            → OnOk result (IsTrue (state S.Store self.old).is_open) }
+        ensures kept { HasCleanDisk (state S.Store self.new)
+            → KeepsTables (state S.Store self.old) (state S.Store self.new) }
         ensures survives { Survives (state S.Store self.old) (state S.Store self.new) (λ _. ⊥) }
     {
         stock(alloc, &mut self.conn)
@@ -330,8 +427,10 @@ pub fn stop_in<D: Disk + Drop>(
     request: &Request<'_>,
 ) -> FileStore<D>
     // They hold the office before the request, or after it.
-    ensures leaves { IsClean (view result) → (h : History) → IsLegal h → IsTrue (file_state office).is_open → IsKeptBy h (file_state office)
-        → (image : Image) → (files_state result).may_leave image → HoldsWhere (IsLeftOfEither h (after h day caller.now request.now)) image }
+    ensures leaves { IsClean (view result) → (h : History) → IsLegal h
+        → IsTrue (file_state office).is_open → IsKeptBy h (file_state office) → (image : Image)
+        → (files_state result).may_leave image
+        → HoldsWhere (IsLeftOfEither h (after h day caller.now request.now)) image }
 {
     stop_after(alloc, office, &Some((day, caller, request)), &[]).files
 }
@@ -352,11 +451,18 @@ pub fn stop_in_run<D: Disk + Drop>(
     items: &[(Day, &str, Request<'_>)],
 ) -> StoppedRun<D>
     // They hold the office that the answers tell, or that one with the change of a failed request.
-    ensures leaves { IsClean (view result.files) → IfOk result.answers (λ answers. (h : History) → IsLegal h → IsTrue (file_state office).is_open → IsKeptBy h (file_state office)
-        → (image : Image) → (files_state result.files).may_leave image → HoldsWhere (IsLeftOfRun h items.now answers.items) image) }
+    ensures leaves { IsClean (view result.files)
+        → IfOk result.answers (λ answers.
+        (h : History) → IsLegal h → IsTrue (file_state office).is_open
+        → IsKeptBy h (file_state office) → (image : Image)
+        → (files_state result.files).may_leave image
+        → HoldsWhere (IsLeftOfRun h items.now answers.items) image) }
     // Where there was no room for the answers, the office as it was.
-    ensures failed { IsClean (view result.files) → OnErr result.answers ((h : History) → IsTrue (file_state office).is_open → IsKeptBy h (file_state office)
-        → (image : Image) → (files_state result.files).may_leave image → HoldsWhere (IsLeftOf h) image) }
+    ensures failed { IsClean (view result.files)
+        → OnErr result.answers
+        ((h : History) → IsTrue (file_state office).is_open → IsKeptBy h (file_state office)
+        → (image : Image) → (files_state result.files).may_leave image
+        → HoldsWhere (IsLeftOf h) image) }
 {
     stop_after(alloc, office, &None, items)
 }
@@ -369,12 +475,23 @@ fn stop_after<D: Disk + Drop>(
     one: &Option<(Day, &str, &Request<'_>)>,
     items: &[(Day, &str, Request<'_>)],
 ) -> StoppedRun<D>
-    ensures one { IsClean (view result.files) → IfSome one.now (λ item. (h : History) → IsLegal h → IsTrue (file_state office).is_open → IsKeptBy h (file_state office)
-        → (image : Image) → (files_state result.files).may_leave image → HoldsWhere (IsLeftOfEither h (after h item.0 item.1.now item.2.now)) image) }
-    ensures run { IsClean (view result.files) → one.now ≡ None → IfOk result.answers (λ answers. (h : History) → IsLegal h → IsTrue (file_state office).is_open → IsKeptBy h (file_state office)
-        → (image : Image) → (files_state result.files).may_leave image → HoldsWhere (IsLeftOfRun h items.now answers.items) image) }
-    ensures failed { IsClean (view result.files) → one.now ≡ None → OnErr result.answers ((h : History) → IsTrue (file_state office).is_open → IsKeptBy h (file_state office)
-        → (image : Image) → (files_state result.files).may_leave image → HoldsWhere (IsLeftOf h) image) }
+    ensures one { IsClean (view result.files)
+        → IfSome one.now (λ item.
+        (h : History) → IsLegal h → IsTrue (file_state office).is_open
+        → IsKeptBy h (file_state office) → (image : Image)
+        → (files_state result.files).may_leave image
+        → HoldsWhere (IsLeftOfEither h (after h item.0 item.1.now item.2.now)) image) }
+    ensures run { IsClean (view result.files) → one.now ≡ None
+        → IfOk result.answers (λ answers.
+        (h : History) → IsLegal h → IsTrue (file_state office).is_open
+        → IsKeptBy h (file_state office) → (image : Image)
+        → (files_state result.files).may_leave image
+        → HoldsWhere (IsLeftOfRun h items.now answers.items) image) }
+    ensures failed { IsClean (view result.files) → one.now ≡ None
+        → OnErr result.answers
+        ((h : History) → IsTrue (file_state office).is_open → IsKeptBy h (file_state office)
+        → (image : Image) → (files_state result.files).may_leave image
+        → HoldsWhere (IsLeftOf h) image) }
 {
     match one {
         Some((day, caller, request)) => {
@@ -404,15 +521,23 @@ pub fn reopen<D: Disk + Drop>(
     requires log { IsTrue (D.Disk.is_usable files.log) }
     requires db { IsTrue (D.Disk.is_usable files.db) }
     // It shows the database that the files hold, and makes none.
-    ensures found { IfSome result (λ office. HasCleanDisk (file_state office) → PicksUp (image_of D.Disk files) (file_state office)) }
+    ensures found { IfSome result (λ office.
+        HasCleanDisk (file_state office) → PicksUp (image_of D.Disk files) (file_state office)) }
     // It is an office of this version, and never any other database.
-    ensures version { IfSome result (λ office. HasCleanDisk (file_state office) → IsTrue (file_state office).is_open → HasVersion (file_state office).now this_version) }
+    ensures version { IfSome result (λ office.
+        HasCleanDisk (file_state office) → IsTrue (file_state office).is_open
+        → HasVersion (file_state office).now this_version) }
     // Where they hold one of two offices, it is one of them.
-    ensures either { IfSome result (λ office. HasCleanDisk (file_state office) → (g h : History)
-        → HoldsWhere (IsLeftOfEither g h) (image_of D.Disk files) → ∥ (IsKeptBy g (file_state office) ⊎ IsKeptBy h (file_state office)) ∥₁) }
+    ensures either { IfSome result (λ office.
+        HasCleanDisk (file_state office) → (g h : History)
+        → HoldsWhere (IsLeftOfEither g h) (image_of D.Disk files)
+        → ∥ (IsKeptBy g (file_state office) ⊎ IsKeptBy h (file_state office)) ∥₁) }
     // Where they hold what a run left that was answered so, it is the office of that run.
-    ensures after_run { IfSome result (λ office. HasCleanDisk (file_state office) → (h : History) (items : List Item) (given : List AnswerValue)
-        → HoldsWhere (IsLeftOfRun h items given) (image_of D.Disk files) → ∥ IsKeptOfRun h items given (file_state office) ∥₁) }
+    ensures after_run { IfSome result (λ office.
+        HasCleanDisk (file_state office)
+        → (h : History) (items : List Item) (given : List AnswerValue)
+        → HoldsWhere (IsLeftOfRun h items given) (image_of D.Disk files)
+        → ∥ IsKeptOfRun h items given (file_state office) ∥₁) }
 {
     Some(Office {
         conn: reopen_files(alloc, files, options)?,

@@ -60,7 +60,8 @@ fn decide<S: Alter>(
     ensures goes_on { Continues S.Store tx.old.conn.now tx.new.conn.now result }
     ensures failure { IfErr result faults.IsFailure }
     ensures decides { Decides S.Store tx.old.conn.now tx.new.conn.now result day caller.now request.now }
-    ensures rows { Tells S.Store tx.old.conn.now tx.new.conn.now result (λ tables answer. RowsTell tables day caller.now request.now answer) }
+    ensures rows { Tells S.Store tx.old.conn.now tx.new.conn.now result (λ tables answer.
+        RowsTell tables day caller.now request.now answer) }
 {
     match request {
         Request::DefineClass { name, years } => define_class(alloc, tx, day, caller, name, *years),
@@ -107,12 +108,18 @@ fn decide<S: Alter>(
 fn end<S: Alter>(tx: Transaction<'_, S>, decided: Result<Answer, TableFault>) -> Answer
     ensures outside { tx.exit.0.now.in_transaction ≡ false }
     ensures told { (decided ≡ Ok result) ⊎ IsFailure result }
-    ensures committed { HasCleanDisk (state S.Store tx.exit.0.now) → IsTrue (is_accepted result) → (decided ≡ Ok result)
-        × Shows (state S.Store tx.entry.conn.now) (state S.Store tx.exit.0.now) (state S.Store tx.entry.conn.now).now (state S.Store tx.entry.conn.now).now false }
-    ensures undone { HasCleanDisk (state S.Store tx.exit.0.now) → OnOk decided (IsTrue (state S.Store tx.entry.conn.now).in_transaction)
-        → is_accepted result ≡ false → IsRolledBack (state S.Store tx.entry.conn.now) (state S.Store tx.exit.0.now) }
+    ensures committed { HasCleanDisk (state S.Store tx.exit.0.now) → IsTrue (is_accepted result)
+        → (decided ≡ Ok result)
+        × Shows (state S.Store tx.entry.conn.now) (state S.Store tx.exit.0.now)
+        (state S.Store tx.entry.conn.now).now (state S.Store tx.entry.conn.now).now false }
+    ensures undone { HasCleanDisk (state S.Store tx.exit.0.now)
+        → OnOk decided (IsTrue (state S.Store tx.entry.conn.now).in_transaction)
+        → is_accepted result ≡ false
+        → IsRolledBack (state S.Store tx.entry.conn.now) (state S.Store tx.exit.0.now) }
     ensures survives { Survives (state S.Store tx.entry.conn.now) (state S.Store tx.exit.0.now)
-        (λ db. IsOkAnd decided (λ answer. IsTrue (is_accepted answer) × (db ≡ (state S.Store tx.entry.conn.now).now.trees))) }
+        (λ db.
+        IsOkAnd decided (λ answer.
+        IsTrue (is_accepted answer) × (db ≡ (state S.Store tx.entry.conn.now).now.trees))) }
 {
     match decided {
         Ok(answer) => {
@@ -144,7 +151,8 @@ pub fn serve<S: Alter>(
     requires outside { (state S.Store conn.old).in_transaction ≡ false }
     ensures outside { (state S.Store conn.new).in_transaction ≡ false }
     ensures turn { HasCleanDisk (state S.Store conn.new)
-        → IsTurn (state S.Store conn.old) (state S.Store conn.new) (day, caller.entry, request.now) result }
+        → IsTurn (state S.Store conn.old) (state S.Store conn.new)
+        (day, caller.entry, request.now) result }
     ensures survives { Survives (state S.Store conn.old) (state S.Store conn.new)
         (CommitsTo (state S.Store conn.old) (after_item (day, caller.entry, request.now))) }
 {

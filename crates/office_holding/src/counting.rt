@@ -48,8 +48,11 @@ pub(crate) fn count_over_deposit<S: Alter>(
     ensures stays { CommitsNothing S.Store tx.old.conn.now tx.new.conn.now }
     ensures goes_on { Continues S.Store tx.old.conn.now tx.new.conn.now result }
     ensures failure { IfErr result IsFailure }
-    ensures counted { HasCleanDisk (state S.Store tx.new.conn.now) → IsOffice (state S.Store tx.old.conn.now).now
-        → OnOk result (IsCounted number by (state S.Store tx.old.conn.now).now (state S.Store tx.new.conn.now).now) }
+    ensures counted { HasCleanDisk (state S.Store tx.new.conn.now)
+        → IsOffice (state S.Store tx.old.conn.now).now
+        → OnOk result
+        (IsCounted number by (state S.Store tx.old.conn.now).now
+        (state S.Store tx.new.conn.now).now) }
     ensures rows { Tells S.Store tx.old.conn.now tx.new.conn.now result (λ tables _.
         IsCountable (limits_of tables) tables.dues (pos number) by) }
     ensures once { LeavesOnce S.Store tx.old.conn.now tx.new.conn.now result }

@@ -50,8 +50,10 @@ fn place_on_collection<S: Alter>(
     ensures stays { CommitsNothing S.Store tx.old.conn.now tx.new.conn.now }
     ensures goes_on { Continues S.Store tx.old.conn.now tx.new.conn.now result }
     ensures failure { IfErr result IsFailure }
-    ensures placed { Accepts S.Store tx.old.conn.now tx.new.conn.now result (λ h. IsNext h number)
-        (PlacedHold day (record { target = OnCollection collection.now; matter = matter.now }) ∷ []) }
+    ensures placed { Accepts S.Store tx.old.conn.now tx.new.conn.now result (λ h.
+        IsNext h number)
+        (PlacedHold day
+        (record { target = OnCollection collection.now; matter = matter.now }) ∷ []) }
 {
     let target = HoldTarget::Collection(collection);
     put_hold(tx, number, target, matter, day.number() as i64)?;
@@ -205,7 +207,8 @@ fn place_for_deposit<S: Alter>(
     ensures failure { IfErr result IsFailure }
     ensures same { Keeps S.Store tx.old.conn.now tx.new.conn.now result }
     ensures found { Finds S.Store tx.old.conn.now tx.new.conn.now result (λ h place.
-        IsPlace h (of_deposit (deposit_numbered h number) (hold_refusals h day caller.now number)) place) }
+        IsPlace h
+        (of_deposit (deposit_numbered h number) (hold_refusals h day caller.now number)) place) }
     ensures rows { Tells S.Store tx.old.conn.now tx.new.conn.now result (λ tables place.
         IsDepositPlaceIn tables day caller.now number place) }
 {

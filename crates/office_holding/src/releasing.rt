@@ -122,7 +122,8 @@ fn release_denial<S: Alter>(
     ensures denied { Finds S.Store tx.old.conn.now tx.new.conn.now result (λ h why.
         why ≡ release_denial h day caller.now (target_of target.entry)) }
     ensures rows { Tells S.Store tx.old.conn.now tx.new.conn.now result (λ tables why.
-        IsReleaseDenialIn tables day caller.now (held_deposit target.entry) (held_collection target.entry) (held_class target.entry) why) }
+        IsReleaseDenialIn tables day caller.now (held_deposit target.entry)
+        (held_collection target.entry) (held_class target.entry) why) }
 {
     match target {
         HoldTarget::Deposit(number) => deposit_release_denial(tx, day, caller, number),

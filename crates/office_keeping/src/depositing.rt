@@ -103,7 +103,9 @@ fn refusal_before_the_bag<S: Alter>(
     ensures goes_on { Continues S.Store tx.old.conn.now tx.new.conn.now result }
     ensures failure { IfErr result IsFailure }
     ensures refusal { Finds S.Store tx.old.conn.now tx.new.conn.now result (λ h why.
-        why ≡ first_some (refusals_before_the_bag h day caller.now collection.now class.now accession.now closed)) }
+        why
+        ≡ first_some
+        (refusals_before_the_bag h day caller.now collection.now class.now accession.now closed)) }
     ensures same { Keeps S.Store tx.old.conn.now tx.new.conn.now result }
     ensures rows { Tells S.Store tx.old.conn.now tx.new.conn.now result (λ tables why.
         IsRefusalBeforeTheBag tables (record {
@@ -209,7 +211,9 @@ fn new_bag<'a, S: Alter>(
     ensures goes_on { Continues S.Store tx.old.conn.now tx.new.conn.now result }
     ensures failure { IfErr result IsFailure }
     ensures asked { Finds S.Store tx.old.conn.now tx.new.conn.now result (λ h asked.
-        IsAskedFor h text.entry.now (refusals.refusals h day caller.now (requests.Deposit collection.now class.now accession.now closed text.entry)) asked) }
+        IsAskedFor h text.entry.now
+        (refusals.refusals h day caller.now
+        (requests.Deposit collection.now class.now accession.now closed text.entry)) asked) }
     ensures same { Keeps S.Store tx.old.conn.now tx.new.conn.now result }
     ensures rows { Tells S.Store tx.old.conn.now tx.new.conn.now result (λ tables asked.
         IsAskedOfDeposit tables (record {

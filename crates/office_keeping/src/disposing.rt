@@ -29,8 +29,10 @@ fn disposal_refusal<S: Alter>(
     ensures stays { CommitsNothing S.Store tx.old.conn.now tx.new.conn.now }
     ensures goes_on { Continues S.Store tx.old.conn.now tx.new.conn.now result }
     ensures failure { IfErr result IsFailure }
-    ensures refusal { Finds S.Store tx.old.conn.now tx.new.conn.now result (λ h why. why ≡ refusal h day caller.now (requests.Dispose number)) }
-    ensures rows { Tells S.Store tx.old.conn.now tx.new.conn.now result (λ tables why. IsDisposalRefusalIn tables day caller.now number why) }
+    ensures refusal { Finds S.Store tx.old.conn.now tx.new.conn.now result (λ h why.
+        why ≡ refusal h day caller.now (requests.Dispose number)) }
+    ensures rows { Tells S.Store tx.old.conn.now tx.new.conn.now result (λ tables why.
+        IsDisposalRefusalIn tables day caller.now number why) }
 {
     verdicts_decide();
     let Some(deposit) = deposit_row(tx, number)? else {
@@ -47,7 +49,8 @@ fn destroy<S: Alter>(tx: &mut Transaction<'_, S>, day: Day, number: u32) -> Resu
     ensures stays { CommitsNothing S.Store tx.old.conn.now tx.new.conn.now }
     ensures goes_on { Continues S.Store tx.old.conn.now tx.new.conn.now result }
     ensures failure { IfErr result IsFailure }
-    ensures destroyed { Accepts S.Store tx.old.conn.now tx.new.conn.now result (λ h. destruction_day h number ≡ None) (Destroyed day number ∷ []) }
+    ensures destroyed { Accepts S.Store tx.old.conn.now tx.new.conn.now result (λ h.
+        destruction_day h number ≡ None) (Destroyed day number ∷ []) }
 {
     mark_gone(tx, number, day.number() as i64)?;
     drop_files(tx, number)
@@ -68,8 +71,10 @@ pub fn dispose<S: Alter>(
     ensures stays { CommitsNothing S.Store tx.old.conn.now tx.new.conn.now }
     ensures goes_on { Continues S.Store tx.old.conn.now tx.new.conn.now result }
     ensures failure { IfErr result IsFailure }
-    ensures decides { Decides S.Store tx.old.conn.now tx.new.conn.now result day caller.now (requests.Dispose number) }
-    ensures rows { Tells S.Store tx.old.conn.now tx.new.conn.now result (λ tables given. IsDisposedIn tables day caller.now number given) }
+    ensures decides { Decides S.Store tx.old.conn.now tx.new.conn.now result day caller.now
+        (requests.Dispose number) }
+    ensures rows { Tells S.Store tx.old.conn.now tx.new.conn.now result (λ tables given.
+        IsDisposedIn tables day caller.now number given) }
 {
     if let Some(why) = disposal_refusal(alloc, tx, day, caller, number)? {
         return Ok(Answer::Refused(why));

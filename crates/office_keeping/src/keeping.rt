@@ -33,7 +33,9 @@ fn add_file<S: Alter>(
     ensures stays { CommitsNothing S.Store tx.old.conn.now tx.new.conn.now }
     ensures goes_on { Continues S.Store tx.old.conn.now tx.new.conn.now result }
     ensures failure { IfErr result IsFailure }
-    ensures becomes { Writes S.Store tx.old.conn.now tx.new.conn.now result (with_file (record { deposit = pos number; path = file.now.0.now; content = file.now.1.now })) }
+    ensures becomes { Writes S.Store tx.old.conn.now tx.new.conn.now result
+        (with_file
+        (record { deposit = pos number; path = file.now.0.now; content = file.now.1.now })) }
     ensures once { LeavesOnce S.Store tx.old.conn.now tx.new.conn.now result }
 {
     put_file(tx, number, file.0, file.1)
@@ -49,7 +51,8 @@ fn add_files<S: Alter>(
     ensures stays { CommitsNothing S.Store tx.old.conn.now tx.new.conn.now }
     ensures goes_on { ContinuesInTurn S.Store tx.old.conn.now tx.new.conn.now result }
     ensures failure { IfErr result IsFailure }
-    ensures becomes { Writes S.Store tx.old.conn.now tx.new.conn.now result (with_files (pos number) (files_of files.now)) }
+    ensures becomes { Writes S.Store tx.old.conn.now tx.new.conn.now result
+        (with_files (pos number) (files_of files.now)) }
     ensures once { LeavesOnce S.Store tx.old.conn.now tx.new.conn.now result }
 {
     for file in files {
@@ -93,14 +96,18 @@ fn beside_row<S: Alter>(
     ensures goes_on { Continues S.Store tx.old.conn.now tx.new.conn.now result }
     ensures failure { IfErr result IsFailure }
     ensures due { Finds S.Store tx.old.conn.now tx.new.conn.now result (λ h beside.
-        (deposit : Deposit) → deposit.class ≡ class.now → deposit.closed ≡ closed → beside.due ≡ due_number (due h deposit)) }
+        (deposit : Deposit) → deposit.class ≡ class.now → deposit.closed ≡ closed
+        → beside.due ≡ due_number (due h deposit)) }
     ensures holds { Finds S.Store tx.old.conn.now tx.new.conn.now result (λ h beside.
-        (deposit : Deposit) → deposit.collection ≡ collection.now → deposit.class ≡ class.now → beside.holds ≡ pos (length (live_holds h number deposit))) }
+        (deposit : Deposit) → deposit.collection ≡ collection.now → deposit.class ≡ class.now
+        → beside.holds ≡ pos (length (live_holds h number deposit))) }
     ensures rows { Tells S.Store tx.old.conn.now tx.new.conn.now result (λ tables beside.
         (due : Due) × IsDueIn tables class.now closed due × (beside.due ≡ due_number due)) }
     ensures counted { Tells S.Store tx.old.conn.now tx.new.conn.now result (λ tables beside.
-        beside.holds ≡ pos (length (rows.live_holds (pos number) collection.now class.now tables))) }
-    ensures released { Tells S.Store tx.old.conn.now tx.new.conn.now result (λ tables _. AreReleasedOnDays tables number collection.now class.now) }
+        beside.holds
+        ≡ pos (length (rows.live_holds (pos number) collection.now class.now tables))) }
+    ensures released { Tells S.Store tx.old.conn.now tx.new.conn.now result (λ tables _.
+        AreReleasedOnDays tables number collection.now class.now) }
 {
     let due = due_day(tx, class, closed)?;
     let holds = live_count(alloc, tx, number, collection, class)?;
@@ -120,7 +127,8 @@ fn put_row<S: Alter>(
     ensures stays { CommitsNothing S.Store tx.old.conn.now tx.new.conn.now }
     ensures goes_on { Continues S.Store tx.old.conn.now tx.new.conn.now result }
     ensures failure { IfErr result IsFailure }
-    ensures becomes { Writes S.Store tx.old.conn.now tx.new.conn.now result (with_kept (added_row deposit.entry) beside.due beside.holds) }
+    ensures becomes { Writes S.Store tx.old.conn.now tx.new.conn.now result
+        (with_kept (added_row deposit.entry) beside.due beside.holds) }
     ensures once { LeavesOnce S.Store tx.old.conn.now tx.new.conn.now result }
 {
     let number = deposit.number;
@@ -147,10 +155,20 @@ pub(crate) fn keep<S: Alter>(
     ensures stays { CommitsNothing S.Store tx.old.conn.now tx.new.conn.now }
     ensures goes_on { Continues S.Store tx.old.conn.now tx.new.conn.now result }
     ensures failure { IfErr result IsFailure }
-    ensures kept { Accepts S.Store tx.old.conn.now tx.new.conn.now result (λ h. number ≡ length (deposits h) + 1)
-        (Deposited day (record { collection = collection.now; class = class.now; accession = accession.now; closed = closed; bag = bag.now }) ∷ []) }
-    ensures rows { Tells S.Store tx.old.conn.now tx.new.conn.now result (λ tables _. (due : Due) × IsDueIn tables class.now closed due) }
-    ensures released { Tells S.Store tx.old.conn.now tx.new.conn.now result (λ tables _. AreReleasedOnDays tables number collection.now class.now) }
+    ensures kept { Accepts S.Store tx.old.conn.now tx.new.conn.now result (λ h.
+        number ≡ length (deposits h) + 1)
+        (Deposited day
+        (record {
+          collection = collection.now;
+          class = class.now;
+          accession = accession.now;
+          closed = closed;
+          bag = bag.now;
+        }) ∷ []) }
+    ensures rows { Tells S.Store tx.old.conn.now tx.new.conn.now result (λ tables _.
+        (due : Due) × IsDueIn tables class.now closed due) }
+    ensures released { Tells S.Store tx.old.conn.now tx.new.conn.now result (λ tables _.
+        AreReleasedOnDays tables number collection.now class.now) }
 {
     let beside = beside_row(alloc, tx, number, collection, class, closed)?;
     let payload = count_payload(bag);

@@ -32,11 +32,16 @@ const NO_MEMORY: Error = Error::SqliteFailure(ErrorCode::OutOfMemory);
 
 /// Opens the log and the database file at the path, or makes them.
 fn open_pair<S: Start>(rt: &HostRuntime, path: &str, start: S) -> Result<Files<FileFrom<S>>, Error>
-    ensures memory { path.now ≡ codes ":memory:" → result ≡ Err (Error.SqliteFailure ErrorCode.CannotOpen) }
+    ensures memory { path.now ≡ codes ":memory:"
+        → result ≡ Err (Error.SqliteFailure ErrorCode.CannotOpen) }
     ensures named { IfErr result (λ e. IsTrue (is_open_error e)) }
-    ensures usable { IfOk result (λ files. IsTrue (file_is_usable S.Start files.log) × IsTrue (file_is_usable S.Start files.db)) }
+    ensures usable { IfOk result (λ files.
+        IsTrue (file_is_usable S.Start files.log) × IsTrue (file_is_usable S.Start files.db)) }
     ensures fresh { IfOk result (λ files. IsFresh true files.log × IsFresh false files.db) }
-    ensures kind { IfErr result (λ e. (e ≡ Error.SqliteFailure ErrorCode.CannotOpen) ⊎ ((e ≡ Error.SqliteFailure ErrorCode.OutOfMemory) ⊎ (e ≡ Error.SqliteFailure ErrorCode.DatabaseBusy))) }
+    ensures kind { IfErr result (λ e.
+        (e ≡ Error.SqliteFailure ErrorCode.CannotOpen)
+        ⊎ ((e ≡ Error.SqliteFailure ErrorCode.OutOfMemory)
+        ⊎ (e ≡ Error.SqliteFailure ErrorCode.DatabaseBusy))) }
 {
     if path == ":memory:" || path.starts_with("file:") {
         return Err(CANNOT_OPEN);
@@ -89,16 +94,26 @@ pub fn open_file<S: Start>(
     path: &str,
     start: S,
 ) -> Result<Connection<FileStore<FileFrom<S>>>, (Error, Option<Leftover<FileFrom<S>>>)>
-    ensures memory { path.now ≡ codes ":memory:" → IsErrAnd result (λ e. e.0 ≡ Error.SqliteFailure ErrorCode.CannotOpen) }
+    ensures memory { path.now ≡ codes ":memory:"
+        → IsErrAnd result (λ e. e.0 ≡ Error.SqliteFailure ErrorCode.CannotOpen) }
     ensures named { IfErr result (λ e. IsTrue (is_open_error e.0)) }
     ensures opened { IfOk result (λ conn. HasCleanDisk (file_state conn) → IsOpened conn) }
-    ensures found { IfOk result (λ conn. HasCleanDisk (file_state conn) → FindsIn (image_at S.Start) (file_state conn)) }
-    ensures plain { IfOk result (λ conn. HasCleanDisk (file_state conn) → IsBlankAs false (image_at S.Start) → (view conn.store).has_sums ≡ false) }
+    ensures found { IfOk result (λ conn.
+        HasCleanDisk (file_state conn) → FindsIn (image_at S.Start) (file_state conn)) }
+    ensures plain { IfOk result (λ conn.
+        HasCleanDisk (file_state conn) → IsBlankAs false (image_at S.Start)
+        → (view conn.store).has_sums ≡ false) }
     ensures fresh { IfOk result IsNew }
-    ensures guarded { IfOk result (λ conn. HasCleanDisk (file_state conn) → (file_state conn).IsShielded) }
-    ensures unopened { IfErr result (λ e. e.1 ≡ None
-        → (e.0 ≡ Error.SqliteFailure ErrorCode.CannotOpen) ⊎ ((e.0 ≡ Error.SqliteFailure ErrorCode.OutOfMemory) ⊎ (e.0 ≡ Error.SqliteFailure ErrorCode.DatabaseBusy))) }
-    ensures cause { IfErr result (λ e. IfSome e.1 (λ left. (files : _) × IsFresh true files.log × IsFresh false files.db
+    ensures guarded { IfOk result (λ conn.
+        HasCleanDisk (file_state conn) → (file_state conn).IsShielded) }
+    ensures unopened { IfErr result (λ e.
+        e.1 ≡ None
+        → (e.0 ≡ Error.SqliteFailure ErrorCode.CannotOpen)
+        ⊎ ((e.0 ≡ Error.SqliteFailure ErrorCode.OutOfMemory)
+        ⊎ (e.0 ≡ Error.SqliteFailure ErrorCode.DatabaseBusy))) }
+    ensures cause { IfErr result (λ e.
+        IfSome e.1 (λ left.
+        (files : _) × IsFresh true files.log × IsFresh false files.db
         × (IsCleanLeft left → FailsToOpenFiles files left e.0 × LeavesFiles files left))) }
 {
     let pages = pages_to_keep(length_of(rt, path));

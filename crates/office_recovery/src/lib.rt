@@ -35,32 +35,52 @@ pub fn adopt<S: Alter>(
     requires outside { (state S.Store conn).in_transaction ≡ false }
     // The tables are as they were.
     ensures outside { IfOk result (λ office. (state S.Store office).in_transaction ≡ false) }
-    ensures same { IfOk result (λ office. HasCleanDisk (state S.Store office) → KeepsTables (state S.Store conn) (state S.Store office)) }
-    ensures survives { IfOk result (λ office. Survives (state S.Store conn) (state S.Store office) (λ _. ⊥)) }
-    ensures version { IfOk result (λ office. HasCleanDisk (state S.Store office) → HasVersion (state S.Store conn).now this_version) }
-    ensures has_table { IfOk result (λ office. HasCleanDisk (state S.Store office) → IsTrue (has_office (state S.Store conn).now.schema)) }
-    ensures known_as_this { IfOk result (λ office. HasCleanDisk (state S.Store office) → IsOffice (state S.Store conn).now
+    ensures same { IfOk result (λ office.
+        HasCleanDisk (state S.Store office)
+        → KeepsTables (state S.Store conn) (state S.Store office)) }
+    ensures survives { IfOk result (λ office.
+        Survives (state S.Store conn) (state S.Store office) (λ _. ⊥)) }
+    ensures version { IfOk result (λ office.
+        HasCleanDisk (state S.Store office) → HasVersion (state S.Store conn).now this_version) }
+    ensures has_table { IfOk result (λ office.
+        HasCleanDisk (state S.Store office) → IsTrue (has_office (state S.Store conn).now.schema)) }
+    ensures known_as_this { IfOk result (λ office.
+        HasCleanDisk (state S.Store office) → IsOffice (state S.Store conn).now
         → version_of (tables_of (state S.Store conn).now) ≡ Some this_version) }
     // What was left of an office goes on as that office.
-    ensures found { IfOk result (λ office. HasCleanDisk (state S.Store office) → GoesOnAs (state S.Store conn) (state S.Store office)) }
+    ensures found { IfOk result (λ office.
+        HasCleanDisk (state S.Store office)
+        → GoesOnAs (state S.Store conn) (state S.Store office)) }
 
     // A refusal leaves them so too.
     ensures refused_outside { IfErr result (λ e. (state S.Store e.0).in_transaction ≡ false) }
-    ensures refused_same { IfErr result (λ e. HasCleanDisk (state S.Store e.0) → KeepsTables (state S.Store conn) (state S.Store e.0)) }
-    ensures refused_survives { IfErr result (λ e. Survives (state S.Store conn) (state S.Store e.0) (λ _. ⊥)) }
-    ensures refused { IfErr result (λ e. HasCleanDisk (state S.Store e.0) → GoesOnAs (state S.Store conn) (state S.Store e.0)) }
+    ensures refused_same { IfErr result (λ e.
+        HasCleanDisk (state S.Store e.0) → KeepsTables (state S.Store conn) (state S.Store e.0)) }
+    ensures refused_survives { IfErr result (λ e.
+        Survives (state S.Store conn) (state S.Store e.0) (λ _. ⊥)) }
+    ensures refused { IfErr result (λ e.
+        HasCleanDisk (state S.Store e.0) → GoesOnAs (state S.Store conn) (state S.Store e.0)) }
     // It is no office, or one of another version, exactly where `open_tables` says so.
-    ensures not_office { IfErr result (λ e. HasCleanDisk (state S.Store e.0) → e.1 ≡ NotAnOffice → opening.NotAnOffice (state S.Store conn).now) }
-    ensures other_version { IfErr result (λ e. HasCleanDisk (state S.Store e.0) → e.1 ≡ OtherVersion → HasOtherVersion (state S.Store conn).now this_version) }
-    ensures no_table { has_office (state S.Store conn).now.schema ≡ false → result ≡ Err (conn, NotAnOffice) }
+    ensures not_office { IfErr result (λ e.
+        HasCleanDisk (state S.Store e.0) → e.1 ≡ NotAnOffice
+        → opening.NotAnOffice (state S.Store conn).now) }
+    ensures other_version { IfErr result (λ e.
+        HasCleanDisk (state S.Store e.0) → e.1 ≡ OtherVersion
+        → HasOtherVersion (state S.Store conn).now this_version) }
+    ensures no_table { has_office (state S.Store conn).now.schema ≡ false
+        → result ≡ Err (conn, NotAnOffice) }
     // Where the tables are an office's, it says so of their own version.
-    ensures unknown { IfErr result (λ e. HasCleanDisk (state S.Store e.0) → IsOffice (state S.Store conn).now → e.1 ≡ NotAnOffice
+    ensures unknown { IfErr result (λ e.
+        HasCleanDisk (state S.Store e.0) → IsOffice (state S.Store conn).now → e.1 ≡ NotAnOffice
         → version_of (tables_of (state S.Store conn).now) ≡ None) }
-    ensures known_as_other { IfErr result (λ e. HasCleanDisk (state S.Store e.0) → IsOffice (state S.Store conn).now → e.1 ≡ OtherVersion
+    ensures known_as_other { IfErr result (λ e.
+        HasCleanDisk (state S.Store e.0) → IsOffice (state S.Store conn).now → e.1 ≡ OtherVersion
         → IsKnownAsOther (tables_of (state S.Store conn).now) this_version) }
     // Of what was left of an office of this version it says neither.
-    ensures failure { IfErr result (λ e. HasCleanDisk (state S.Store e.0) → IsTrue (state S.Store conn).is_open → (tables : Tables)
-        → IsLeft tables (state S.Store conn).now.trees → version_of tables ≡ Some this_version → IsFailure e.1) }
+    ensures failure { IfErr result (λ e.
+        HasCleanDisk (state S.Store e.0) → IsTrue (state S.Store conn).is_open → (tables : Tables)
+        → IsLeft tables (state S.Store conn).now.trees → version_of tables ≡ Some this_version
+        → IsFailure e.1) }
 {
     // What the connection says of its state, and of its schema.
     let _is_settled = conn.is_autocommit();
@@ -80,8 +100,11 @@ pub fn reopen<S: Start>(
 ) -> Option<Connection<FileStore<FileFrom<S>>>>
     ensures outside { IfSome result (λ office. (file_state office).in_transaction ≡ false) }
     // It is an office of this version, and never any other database.
-    ensures version { IfSome result (λ office. HasCleanDisk (file_state office) → IsTrue (file_state office).is_open → HasVersion (file_state office).now this_version) }
-    ensures goes_on { IfSome result (λ office. HasCleanDisk (file_state office) → PicksUp (image_at S.Start) (file_state office)) }
+    ensures version { IfSome result (λ office.
+        HasCleanDisk (file_state office) → IsTrue (file_state office).is_open
+        → HasVersion (file_state office).now this_version) }
+    ensures goes_on { IfSome result (λ office.
+        HasCleanDisk (file_state office) → PicksUp (image_at S.Start) (file_state office)) }
 {
     let conn = match open_file(rt, path, start) {
         Ok(conn) => conn,
@@ -102,8 +125,11 @@ pub fn reopen_files<D: Disk + Drop>(
     requires log { IsTrue (D.Disk.is_usable files.log) }
     requires db { IsTrue (D.Disk.is_usable files.db) }
     ensures outside { IfSome result (λ office. (file_state office).in_transaction ≡ false) }
-    ensures version { IfSome result (λ office. HasCleanDisk (file_state office) → IsTrue (file_state office).is_open → HasVersion (file_state office).now this_version) }
-    ensures goes_on { IfSome result (λ office. HasCleanDisk (file_state office) → PicksUp (image_of D.Disk files) (file_state office)) }
+    ensures version { IfSome result (λ office.
+        HasCleanDisk (file_state office) → IsTrue (file_state office).is_open
+        → HasVersion (file_state office).now this_version) }
+    ensures goes_on { IfSome result (λ office.
+        HasCleanDisk (file_state office) → PicksUp (image_of D.Disk files) (file_state office)) }
 {
     let conn = match Connection::open_files(alloc, files, options) {
         Ok(conn) => conn,
@@ -118,7 +144,8 @@ pub fn reopen_files<D: Disk + Drop>(
 /// The store of a connection, as it is when the program stops.
 pub fn stop<D: Disk + Drop>(office: Connection<FileStore<D>>) -> FileStore<D>
     ensures clean { doubt (file_state office).is_clean ≤ doubt (view result).is_clean }
-    ensures holds { IsClean (view result) → (image : Image) → (files_state result).may_leave image → HoldsWhere (file_state office).may_leave image }
+    ensures holds { IsClean (view result) → (image : Image) → (files_state result).may_leave image
+        → HoldsWhere (file_state office).may_leave image }
 {
     office.into_store()
 }

@@ -33,8 +33,10 @@ pub struct Allowances<'a> {
 impl<'a> Allowances<'a> {
     /// Those of the asker and an action, of no pair yet.
     pub fn new(alloc: Global, asker: &'a Asker, action: Action) -> Allowances<'a>
-        ensures those { (h : History) (day : Date) (caller : List ℕ) → IsAsker h day caller asker.now → AreOf h day caller action result }
-        ensures rows { (tables : Tables) (day : Date) (caller : List ℕ) → IsAskerIn tables day caller asker.now → AreIn tables day caller action result }
+        ensures those { (h : History) (day : Date) (caller : List ℕ)
+            → IsAsker h day caller asker.now → AreOf h day caller action result }
+        ensures rows { (tables : Tables) (day : Date) (caller : List ℕ)
+            → IsAskerIn tables day caller asker.now → AreIn tables day caller action result }
     {
         Allowances {
             asker,
@@ -58,11 +60,14 @@ impl<'a> Allowances<'a> {
         ensures failure { IfErr result IsFailure }
         ensures allowed { Finds S.Store tx.old.conn.now tx.new.conn.now result (λ h is.
             (day : Date) (caller : List ℕ) (action : Action) → AreOf h day caller action self.old
-            → AreOf h day caller action self.new × (is ≡ is_allowed h day caller action collection.now class.now)) }
+            → AreOf h day caller action self.new
+            × (is ≡ is_allowed h day caller action collection.now class.now)) }
         ensures same { Keeps S.Store tx.old.conn.now tx.new.conn.now result }
         ensures rows { Tells S.Store tx.old.conn.now tx.new.conn.now result (λ tables is.
-            (day : Date) (caller : List ℕ) (action : Action) → AreIn tables day caller action self.old
-            → AreIn tables day caller action self.new × IsAllowedIn tables day caller action collection.now class.now is) }
+            (day : Date) (caller : List ℕ) (action : Action)
+            → AreIn tables day caller action self.old
+            → AreIn tables day caller action self.new
+            × IsAllowedIn tables day caller action collection.now class.now is) }
     {
         if let Some(is) = self.known.get(&(collection, class)).copied() {
             return Ok(is);

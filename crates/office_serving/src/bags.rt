@@ -56,8 +56,10 @@ fn form_of(alloc: Global, files: &[(&str, &[u8])]) -> Result<Vec<u8>, TableFault
     ensures bag { IfOk result (λ text. IsBag (reading.files_of files.now)) }
     ensures failure { IfErr result IsFailure }
     // Files that are no bag are a fault of the store, and a bag wants nothing but memory.
-    ensures store { (fault : SetFault) → ListFault (reading.files_of files.now) fault → result ≡ Err TableFault.Store }
-    ensures memory { IsBag (reading.files_of files.now) → IfErr result (λ fault. fault ≡ TableFault.Memory) }
+    ensures store { (fault : SetFault) → ListFault (reading.files_of files.now) fault
+        → result ≡ Err TableFault.Store }
+    ensures memory { IsBag (reading.files_of files.now)
+        → IfErr result (λ fault. fault ≡ TableFault.Memory) }
 {
     match BagSet::of(alloc, files) {
         Ok(bag) => Ok(write_bagset(alloc, &bag)?),
@@ -72,7 +74,8 @@ fn text_of(alloc: Global, rows: &[FileRow]) -> Result<Vec<u8>, TableFault>
     ensures text { IfOk result (λ text. text.items ≡ set_text (map file_in rows.now)) }
     ensures bag { IfOk result (λ text. IsBag (map file_in rows.now)) }
     ensures failure { IfErr result IsFailure }
-    ensures memory { IsBag (map file_in rows.now) → IfErr result (λ fault. fault ≡ TableFault.Memory) }
+    ensures memory { IsBag (map file_in rows.now)
+        → IfErr result (λ fault. fault ≡ TableFault.Memory) }
 {
     let pairs = pairs_of(alloc, rows)?;
     form_of(alloc, &pairs)
@@ -98,7 +101,8 @@ pub fn kept_files<S: Alter>(
     ensures stored { Tells S.Store tx.old.conn.now tx.new.conn.now result (λ tables asked.
         IfOk asked (λ rows. rows.items ≡ files_by_path (pos number) tables)) }
     ensures same { Keeps S.Store tx.old.conn.now tx.new.conn.now result }
-    ensures rows { Tells S.Store tx.old.conn.now tx.new.conn.now result (λ tables asked. AreAskedIn tables day caller.now action number asked) }
+    ensures rows { Tells S.Store tx.old.conn.now tx.new.conn.now result (λ tables asked.
+        AreAskedIn tables day caller.now action number asked) }
 {
     // A bag that is kept is a bag.
     sound_bags();
@@ -122,9 +126,11 @@ pub fn download_bag<S: Alter>(
     ensures stays { CommitsNothing S.Store tx.old.conn.now tx.new.conn.now }
     ensures goes_on { Continues S.Store tx.old.conn.now tx.new.conn.now result }
     ensures failure { IfErr result IsFailure }
-    ensures decides { Decides S.Store tx.old.conn.now tx.new.conn.now result day caller.now (requests.DownloadBag number) }
+    ensures decides { Decides S.Store tx.old.conn.now tx.new.conn.now result day caller.now
+        (requests.DownloadBag number) }
     ensures same { Keeps S.Store tx.old.conn.now tx.new.conn.now result }
-    ensures rows { Tells S.Store tx.old.conn.now tx.new.conn.now result (λ tables answer. IsBagIn tables day caller.now number answer) }
+    ensures rows { Tells S.Store tx.old.conn.now tx.new.conn.now result (λ tables answer.
+        IsBagIn tables day caller.now number answer) }
 {
     match kept_files(alloc, tx, day, caller, Action::Download, number)? {
         Ok(rows) => Ok(Answer::Bag {

@@ -32,10 +32,13 @@ fn allowed_among<S: Alter>(
     ensures stays { CommitsNothing S.Store tx.old.conn.now tx.new.conn.now }
     ensures goes_on { ContinuesInTurn S.Store tx.old.conn.now tx.new.conn.now result }
     ensures failure { IfErr result IsFailure }
-    ensures allowed { Finds S.Store tx.old.conn.now tx.new.conn.now result (λ h numbers. (day : Date) (caller : List ℕ) → IsAsker h day caller asker.now
-        → map pos numbers.items ≡ map (λ (p : Place). p.number) (filter (may_destroy h day caller) places.now)) }
+    ensures allowed { Finds S.Store tx.old.conn.now tx.new.conn.now result (λ h numbers.
+        (day : Date) (caller : List ℕ) → IsAsker h day caller asker.now
+        → map pos numbers.items
+        ≡ map (λ (p : Place). p.number) (filter (may_destroy h day caller) places.now)) }
     ensures same { Keeps S.Store tx.old.conn.now tx.new.conn.now result }
-    ensures rows { Tells S.Store tx.old.conn.now tx.new.conn.now result (λ tables numbers. (day : Date) (caller : List ℕ) → IsAskerIn tables day caller asker.now
+    ensures rows { Tells S.Store tx.old.conn.now tx.new.conn.now result (λ tables numbers.
+        (day : Date) (caller : List ℕ) → IsAskerIn tables day caller asker.now
         → AreAllowedIn tables day caller places.now numbers.items) }
 {
     let mut allowances = Allowances::new(alloc, asker, Action::Dispose);
@@ -64,9 +67,11 @@ pub fn due_numbers<S: Alter>(
     ensures stays { CommitsNothing S.Store tx.old.conn.now tx.new.conn.now }
     ensures goes_on { Continues S.Store tx.old.conn.now tx.new.conn.now result }
     ensures failure { IfErr result IsFailure }
-    ensures due { Finds S.Store tx.old.conn.now tx.new.conn.now result (λ h numbers. numbers.items ≡ due_list h day caller.now) }
+    ensures due { Finds S.Store tx.old.conn.now tx.new.conn.now result (λ h numbers.
+        numbers.items ≡ due_list h day caller.now) }
     ensures same { Keeps S.Store tx.old.conn.now tx.new.conn.now result }
-    ensures rows { Tells S.Store tx.old.conn.now tx.new.conn.now result (λ tables numbers. AreDueIn tables day caller.now numbers.items) }
+    ensures rows { Tells S.Store tx.old.conn.now tx.new.conn.now result (λ tables numbers.
+        AreDueIn tables day caller.now numbers.items) }
 {
     let asker = Asker::read(tx, day, caller)?;
     let places = due_rows(alloc, tx, day.number() as i64)?;
@@ -88,7 +93,8 @@ pub fn due_list<S: Alter>(
     ensures failure { IfErr result IsFailure }
     ensures decides { Decides S.Store tx.old.conn.now tx.new.conn.now result day caller.now requests.DueList }
     ensures same { Keeps S.Store tx.old.conn.now tx.new.conn.now result }
-    ensures rows { Tells S.Store tx.old.conn.now tx.new.conn.now result (λ tables given. IsDueListIn tables day caller.now given) }
+    ensures rows { Tells S.Store tx.old.conn.now tx.new.conn.now result (λ tables given.
+        IsDueListIn tables day caller.now given) }
 {
     let numbers = due_numbers(alloc, tx, day, caller)?;
     Ok(Answer::DueList {

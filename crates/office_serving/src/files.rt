@@ -43,10 +43,12 @@ fn content_of<S: Alter>(
     ensures goes_on { ContinuesInTurn S.Store tx.old.conn.now tx.new.conn.now result }
     ensures failure { IfErr result IsFailure }
     ensures content { Finds S.Store tx.old.conn.now tx.new.conn.now result (λ h content.
-        (found : Date × Deposit) → deposit_numbered h number ≡ Some found → destruction_day h number ≡ None
+        (found : Date × Deposit) → deposit_numbered h number ≡ Some found
+        → destruction_day h number ≡ None
         → option_map (λ bytes. bytes.items) content ≡ content_at found.1.bag path.now) }
     ensures same { Keeps S.Store tx.old.conn.now tx.new.conn.now result }
-    ensures rows { Tells S.Store tx.old.conn.now tx.new.conn.now result (λ tables content. option_map (λ bytes. bytes.items) content ≡ content_stored number path.now tables) }
+    ensures rows { Tells S.Store tx.old.conn.now tx.new.conn.now result (λ tables content.
+        option_map (λ bytes. bytes.items) content ≡ content_stored number path.now tables) }
 {
     // A bag that is kept is a bag, so its paths are those of one.
     sound_bags();
@@ -82,9 +84,11 @@ pub fn download_file<S: Alter>(
     ensures stays { CommitsNothing S.Store tx.old.conn.now tx.new.conn.now }
     ensures goes_on { Continues S.Store tx.old.conn.now tx.new.conn.now result }
     ensures failure { IfErr result IsFailure }
-    ensures decides { Decides S.Store tx.old.conn.now tx.new.conn.now result day caller.now (requests.DownloadFile number path.entry) }
+    ensures decides { Decides S.Store tx.old.conn.now tx.new.conn.now result day caller.now
+        (requests.DownloadFile number path.entry) }
     ensures same { Keeps S.Store tx.old.conn.now tx.new.conn.now result }
-    ensures rows { Tells S.Store tx.old.conn.now tx.new.conn.now result (λ tables answer. IsFileIn tables day caller.now number path.now answer) }
+    ensures rows { Tells S.Store tx.old.conn.now tx.new.conn.now result (λ tables answer.
+        IsFileIn tables day caller.now number path.now answer) }
 {
     match kept_deposit(tx, day, caller, Action::Download, number)? {
         Ok(_) => Ok(file_answer(content_of(tx, number, path)?)),

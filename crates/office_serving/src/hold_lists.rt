@@ -26,9 +26,11 @@ fn told_each<S: Alter>(
     ensures stays { CommitsNothing S.Store tx.old.conn.now tx.new.conn.now }
     ensures goes_on { ContinuesInTurn S.Store tx.old.conn.now tx.new.conn.now result }
     ensures failure { IfErr result IsFailure }
-    ensures told { Finds S.Store tx.old.conn.now tx.new.conn.now result (λ h told. told.items ≡ filter_map (told_hold h) numbers.now) }
+    ensures told { Finds S.Store tx.old.conn.now tx.new.conn.now result (λ h told.
+        told.items ≡ filter_map (told_hold h) numbers.now) }
     ensures same { Keeps S.Store tx.old.conn.now tx.new.conn.now result }
-    ensures rows { Tells S.Store tx.old.conn.now tx.new.conn.now result (λ tables told. AreHoldsOf tables (map pos numbers.now) told.items) }
+    ensures rows { Tells S.Store tx.old.conn.now tx.new.conn.now result (λ tables told.
+        AreHoldsOf tables (map pos numbers.now) told.items) }
 {
     let mut told = Vec::new(alloc);
     for number in numbers {
@@ -51,9 +53,11 @@ fn told_holds<S: Alter>(
     ensures goes_on { Continues S.Store tx.old.conn.now tx.new.conn.now result }
     ensures failure { IfErr result IsFailure }
     ensures told { Finds S.Store tx.old.conn.now tx.new.conn.now result (λ h told.
-        (deposit : Deposit) → deposit.collection ≡ collection.now → deposit.class ≡ class.now → told.items ≡ told_holds h number deposit) }
+        (deposit : Deposit) → deposit.collection ≡ collection.now → deposit.class ≡ class.now
+        → told.items ≡ told_holds h number deposit) }
     ensures same { Keeps S.Store tx.old.conn.now tx.new.conn.now result }
-    ensures rows { Tells S.Store tx.old.conn.now tx.new.conn.now result (λ tables told. AreHoldsOver tables number collection.now class.now told.items) }
+    ensures rows { Tells S.Store tx.old.conn.now tx.new.conn.now result (λ tables told.
+        AreHoldsOver tables number collection.now class.now told.items) }
 {
     let numbers = holds_over(alloc, tx, number, collection, class)?;
     told_each(alloc, tx, &numbers)
@@ -73,9 +77,11 @@ pub fn holds<S: Alter>(
     ensures stays { CommitsNothing S.Store tx.old.conn.now tx.new.conn.now }
     ensures goes_on { Continues S.Store tx.old.conn.now tx.new.conn.now result }
     ensures failure { IfErr result IsFailure }
-    ensures decides { Decides S.Store tx.old.conn.now tx.new.conn.now result day caller.now (requests.Holds number) }
+    ensures decides { Decides S.Store tx.old.conn.now tx.new.conn.now result day caller.now
+        (requests.Holds number) }
     ensures same { Keeps S.Store tx.old.conn.now tx.new.conn.now result }
-    ensures rows { Tells S.Store tx.old.conn.now tx.new.conn.now result (λ tables answer. AreHoldsIn tables day caller.now number answer) }
+    ensures rows { Tells S.Store tx.old.conn.now tx.new.conn.now result (λ tables answer.
+        AreHoldsIn tables day caller.now number answer) }
 {
     match kept_deposit(tx, day, caller, Action::Holds, number)? {
         Ok(row) => Ok(Answer::Holds {

@@ -37,7 +37,8 @@ fn is_asked(only: Option<&Name<'_>>, name: &str) -> bool
 
 /// Whether the deposit of the row is of the collection and the class that are asked for.
 fn is_wanted(row: &DepositRow, collection: Option<&Name<'_>>, class: Option<&Name<'_>>) -> bool
-    ensures { result ≡ is_wanted (option_copied collection.entry) (option_copied class.entry) row.now }
+    ensures { result
+        ≡ is_wanted (option_copied collection.entry) (option_copied class.entry) row.now }
 {
     is_asked(collection, &row.collection) && is_asked(class, &row.class)
 }
@@ -54,12 +55,19 @@ fn is_shown<'a, S: Alter>(
     ensures stays { CommitsNothing S.Store tx.old.conn.now tx.new.conn.now }
     ensures goes_on { ContinuesInTurn S.Store tx.old.conn.now tx.new.conn.now result }
     ensures failure { IfErr result IsFailure }
-    ensures shown { Finds S.Store tx.old.conn.now tx.new.conn.now result (λ h is. (day : Date) (caller : List ℕ) → AreOf h day caller acts.List allowances.old
-        → AreOf h day caller acts.List allowances.new × ((n : ℕ) (found : Date × Deposit) → row.now ≡ deposit_row h n found
-        → is ≡ is_shown h day caller (option_copied collection.entry) (option_copied class.entry) n found.1)) }
+    ensures shown { Finds S.Store tx.old.conn.now tx.new.conn.now result (λ h is.
+        (day : Date) (caller : List ℕ) → AreOf h day caller acts.List allowances.old
+        → AreOf h day caller acts.List allowances.new
+        × ((n : ℕ) (found : Date × Deposit) → row.now ≡ deposit_row h n found
+        → is
+        ≡ is_shown h day caller (option_copied collection.entry)
+        (option_copied class.entry) n found.1)) }
     ensures same { Keeps S.Store tx.old.conn.now tx.new.conn.now result }
-    ensures rows { Tells S.Store tx.old.conn.now tx.new.conn.now result (λ tables is. (day : Date) (caller : List ℕ) → AreIn tables day caller acts.List allowances.old
-        → AreIn tables day caller acts.List allowances.new × IsShownIn tables day caller (option_copied collection.entry) (option_copied class.entry) row.now is) }
+    ensures rows { Tells S.Store tx.old.conn.now tx.new.conn.now result (λ tables is.
+        (day : Date) (caller : List ℕ) → AreIn tables day caller acts.List allowances.old
+        → AreIn tables day caller acts.List allowances.new
+        × IsShownIn tables day caller (option_copied collection.entry)
+        (option_copied class.entry) row.now is) }
 {
     if !is_wanted(row, collection, class) {
         return Ok(false);
@@ -84,12 +92,20 @@ fn shown_record<'a, S: Alter>(
     ensures stays { CommitsNothing S.Store tx.old.conn.now tx.new.conn.now }
     ensures goes_on { ContinuesInTurn S.Store tx.old.conn.now tx.new.conn.now result }
     ensures failure { IfErr result IsFailure }
-    ensures shown { Finds S.Store tx.old.conn.now tx.new.conn.now result (λ h told. (day : Date) (caller : List ℕ) → AreOf h day caller acts.List allowances.old
-        → AreOf h day caller acts.List allowances.new × ((n : ℕ) (found : Date × Deposit) → deposit_numbered h n ≡ Some found → row.now ≡ (deposit_row h n found, due_row h n found)
-        → told ≡ shown_record h day caller (option_copied collection.entry) (option_copied class.entry) n)) }
+    ensures shown { Finds S.Store tx.old.conn.now tx.new.conn.now result (λ h told.
+        (day : Date) (caller : List ℕ) → AreOf h day caller acts.List allowances.old
+        → AreOf h day caller acts.List allowances.new
+        × ((n : ℕ) (found : Date × Deposit) → deposit_numbered h n ≡ Some found
+        → row.now ≡ (deposit_row h n found, due_row h n found)
+        → told
+        ≡ shown_record h day caller (option_copied collection.entry)
+        (option_copied class.entry) n)) }
     ensures same { Keeps S.Store tx.old.conn.now tx.new.conn.now result }
-    ensures rows { Tells S.Store tx.old.conn.now tx.new.conn.now result (λ tables told. (day : Date) (caller : List ℕ) → AreIn tables day caller acts.List allowances.old
-        → AreIn tables day caller acts.List allowances.new × IsToldIn tables day caller (option_copied collection.entry) (option_copied class.entry) row.now told) }
+    ensures rows { Tells S.Store tx.old.conn.now tx.new.conn.now result (λ tables told.
+        (day : Date) (caller : List ℕ) → AreIn tables day caller acts.List allowances.old
+        → AreIn tables day caller acts.List allowances.new
+        × IsToldIn tables day caller (option_copied collection.entry)
+        (option_copied class.entry) row.now told) }
 {
     if is_shown(tx, allowances, collection, class, &row.deposit)? {
         Ok(Some(record_in(alloc, &row.deposit, &row.kept)?))
@@ -112,11 +128,16 @@ fn shown_among<S: Alter>(
     ensures goes_on { ContinuesInTurn S.Store tx.old.conn.now tx.new.conn.now result }
     ensures failure { IfErr result IsFailure }
     ensures listed { Finds S.Store tx.old.conn.now tx.new.conn.now result (λ h told.
-        (day : Date) (caller : List ℕ) → IsAsker h day caller asker.now → rows.now ≡ beside (deposit_rows h) (due_rows h)
-        → told.items ≡ listed_records h day caller (option_copied collection.entry) (option_copied class.entry)) }
+        (day : Date) (caller : List ℕ) → IsAsker h day caller asker.now
+        → rows.now ≡ beside (deposit_rows h) (due_rows h)
+        → told.items
+        ≡ listed_records h day caller (option_copied collection.entry)
+        (option_copied class.entry)) }
     ensures same { Keeps S.Store tx.old.conn.now tx.new.conn.now result }
-    ensures rows { Tells S.Store tx.old.conn.now tx.new.conn.now result (λ tables told. (day : Date) (caller : List ℕ) → IsAskerIn tables day caller asker.now
-        → AreListedIn tables day caller (option_copied collection.entry) (option_copied class.entry) rows.now told.items) }
+    ensures rows { Tells S.Store tx.old.conn.now tx.new.conn.now result (λ tables told.
+        (day : Date) (caller : List ℕ) → IsAskerIn tables day caller asker.now
+        → AreListedIn tables day caller (option_copied collection.entry)
+        (option_copied class.entry) rows.now told.items) }
 {
     let mut allowances = Allowances::new(alloc, asker, Action::List);
     let mut told = Vec::new(alloc);
@@ -144,9 +165,12 @@ pub fn list<S: Alter>(
     ensures stays { CommitsNothing S.Store tx.old.conn.now tx.new.conn.now }
     ensures goes_on { Continues S.Store tx.old.conn.now tx.new.conn.now result }
     ensures failure { IfErr result IsFailure }
-    ensures decides { Decides S.Store tx.old.conn.now tx.new.conn.now result day caller.now (requests.List (option_copied collection.entry) (option_copied class.entry)) }
+    ensures decides { Decides S.Store tx.old.conn.now tx.new.conn.now result day caller.now
+        (requests.List (option_copied collection.entry) (option_copied class.entry)) }
     ensures same { Keeps S.Store tx.old.conn.now tx.new.conn.now result }
-    ensures rows { Tells S.Store tx.old.conn.now tx.new.conn.now result (λ tables given. IsListIn tables day caller.now (option_copied collection.entry) (option_copied class.entry) given) }
+    ensures rows { Tells S.Store tx.old.conn.now tx.new.conn.now result (λ tables given.
+        IsListIn tables day caller.now (option_copied collection.entry)
+        (option_copied class.entry) given) }
 {
     let asker = Asker::read(tx, day, caller)?;
     let rows = deposits_and_dues(alloc, tx)?;

@@ -39,7 +39,8 @@ impl Model for Stock {
 
 /// How many bytes the contents have together, where memory could hold as many.
 fn total_of(sizes: &[ContentSize]) -> Option<usize>
-    ensures { IfSome result (λ bytes. (parts : List ℕ) × (map (λ s. s.size) sizes.now ≡ map pos parts) × (bytes ≡ sum parts)) }
+    ensures { IfSome result (λ bytes.
+        (parts : List ℕ) × (map (λ s. s.size) sizes.now ≡ map pos parts) × (bytes ≡ sum parts)) }
 {
     let mut bytes: usize = 0;
     for size in sizes {
@@ -59,9 +60,11 @@ pub fn stock_of<S: Alter>(alloc: Global, tx: &mut Transaction<'_, S>) -> Result<
     ensures stays { CommitsNothing S.Store tx.old.conn.now tx.new.conn.now }
     ensures goes_on { Continues S.Store tx.old.conn.now tx.new.conn.now result }
     ensures failure { IfErr result IsFailure }
-    ensures stock { Finds S.Store tx.old.conn.now tx.new.conn.now result (λ h found. found ≡ stock h) }
+    ensures stock { Finds S.Store tx.old.conn.now tx.new.conn.now result (λ h found.
+        found ≡ stock h) }
     ensures same { Keeps S.Store tx.old.conn.now tx.new.conn.now result }
-    ensures rows { Does S.Store tx.old.conn.now tx.new.conn.now result (λ old _ found. IsStockIn old found) }
+    ensures rows { Does S.Store tx.old.conn.now tx.new.conn.now result (λ old _ found.
+        IsStockIn old found) }
 {
     // Where contents are kept once, they are those of the files.
     contents_are_those_of_files();

@@ -18,7 +18,8 @@ fn rows_of_class<S: Alter>(tx: &mut Transaction<'_, S>, name: &str) -> Result<Ve
     ensures goes_on { Continues S.Store tx.old.conn.now tx.new.conn.now result }
     ensures failure { IfErr result IsFailure }
     ensures found { Shows S.Store tx.old.conn.now tx.new.conn.now result (λ tables rows.
-        option_map (λ c. c.years) (class_named name.now tables.classes) ≡ option_map (λ row. int_at row 0) (slice_get rows.items 0)) }
+        option_map (λ c. c.years) (class_named name.now tables.classes)
+        ≡ option_map (λ row. int_at row 0) (slice_get rows.items 0)) }
 {
     ask(tx, "SELECT years FROM class WHERE name = ?1", params![name])
 }
@@ -55,9 +56,11 @@ fn revise_class<S: Alter>(
     ensures stays { CommitsNothing S.Store tx.old.conn.now tx.new.conn.now }
     ensures goes_on { Continues S.Store tx.old.conn.now tx.new.conn.now result }
     ensures failure { IfErr result IsFailure }
-    ensures becomes { Writes S.Store tx.old.conn.now tx.new.conn.now result (with_years name.now years) }
+    ensures becomes { Writes S.Store tx.old.conn.now tx.new.conn.now result
+        (with_years name.now years) }
     ensures once { LeavesOnce S.Store tx.old.conn.now tx.new.conn.now result }
-    ensures counted { Tells S.Store tx.old.conn.now tx.new.conn.now result (λ tables count. count ≡ (if has_class name.now tables then 1 else 0)) }
+    ensures counted { Tells S.Store tx.old.conn.now tx.new.conn.now result (λ tables count.
+        count ≡ (if has_class name.now tables then 1 else 0)) }
 {
     change(
         tx,
@@ -76,7 +79,8 @@ fn add_class<S: Alter>(
     ensures stays { CommitsNothing S.Store tx.old.conn.now tx.new.conn.now }
     ensures goes_on { Continues S.Store tx.old.conn.now tx.new.conn.now result }
     ensures failure { IfErr result IsFailure }
-    ensures becomes { Writes S.Store tx.old.conn.now tx.new.conn.now result (with_new_class name.now years) }
+    ensures becomes { Writes S.Store tx.old.conn.now tx.new.conn.now result
+        (with_new_class name.now years) }
     ensures once { LeavesOnce S.Store tx.old.conn.now tx.new.conn.now result }
 {
     change(
@@ -98,7 +102,8 @@ pub fn put_class<S: Alter>(
     ensures stays { CommitsNothing S.Store tx.old.conn.now tx.new.conn.now }
     ensures goes_on { Continues S.Store tx.old.conn.now tx.new.conn.now result }
     ensures failure { IfErr result IsFailure }
-    ensures becomes { Writes S.Store tx.old.conn.now tx.new.conn.now result (with_class name.now years) }
+    ensures becomes { Writes S.Store tx.old.conn.now tx.new.conn.now result
+        (with_class name.now years) }
     ensures once { LeavesOnce S.Store tx.old.conn.now tx.new.conn.now result }
 {
     if revise_class(tx, name, years)? == 0 {
@@ -133,7 +138,8 @@ fn add_collection<S: Alter>(tx: &mut Transaction<'_, S>, name: &str) -> Result<u
     ensures stays { CommitsNothing S.Store tx.old.conn.now tx.new.conn.now }
     ensures goes_on { Continues S.Store tx.old.conn.now tx.new.conn.now result }
     ensures failure { IfErr result IsFailure }
-    ensures becomes { Writes S.Store tx.old.conn.now tx.new.conn.now result (with_new_collection name.now) }
+    ensures becomes { Writes S.Store tx.old.conn.now tx.new.conn.now result
+        (with_new_collection name.now) }
     ensures once { LeavesOnce S.Store tx.old.conn.now tx.new.conn.now result }
 {
     change(
@@ -151,7 +157,8 @@ pub fn put_collection<S: Alter>(tx: &mut Transaction<'_, S>, name: &str) -> Resu
     ensures stays { CommitsNothing S.Store tx.old.conn.now tx.new.conn.now }
     ensures goes_on { Continues S.Store tx.old.conn.now tx.new.conn.now result }
     ensures failure { IfErr result IsFailure }
-    ensures becomes { Writes S.Store tx.old.conn.now tx.new.conn.now result (with_collection name.now) }
+    ensures becomes { Writes S.Store tx.old.conn.now tx.new.conn.now result
+        (with_collection name.now) }
     ensures once { LeavesOnce S.Store tx.old.conn.now tx.new.conn.now result }
 {
     if !has_collection(tx, name)? {

@@ -30,10 +30,17 @@ pub(crate) fn define<S: Alter>(
     ensures stays { CommitsNothing S.Store tx.old.conn.now tx.new.conn.now }
     ensures goes_on { ContinuesInTurn S.Store tx.old.conn.now tx.new.conn.now result }
     ensures failure { IfErr result IsFailure }
-    ensures made { HasCleanDisk (state S.Store tx.new.conn.now) → OnOk result ((before after : Schema) → Builds before (map (λ t. t.now) texts.now) after
-        → IsBlank before (state S.Store tx.old.conn.now).now → IsBlank after (state S.Store tx.new.conn.now).now) }
-    ensures grown { HasCleanDisk (state S.Store tx.new.conn.now) → OnOk result ((before after : Schema) → Builds before (map (λ t. t.now) texts.now) after
-        → IsWhole before (state S.Store tx.old.conn.now).now → Grows before after (state S.Store tx.old.conn.now).now (state S.Store tx.new.conn.now).now) }
+    ensures made { HasCleanDisk (state S.Store tx.new.conn.now)
+        → OnOk result
+        ((before after : Schema) → Builds before (map (λ t. t.now) texts.now) after
+        → IsBlank before (state S.Store tx.old.conn.now).now
+        → IsBlank after (state S.Store tx.new.conn.now).now) }
+    ensures grown { HasCleanDisk (state S.Store tx.new.conn.now)
+        → OnOk result
+        ((before after : Schema) → Builds before (map (λ t. t.now) texts.now) after
+        → IsWhole before (state S.Store tx.old.conn.now).now
+        → Grows before after (state S.Store tx.old.conn.now).now
+        (state S.Store tx.new.conn.now).now) }
 {
     for text in texts {
         change(tx, text, &[])?;
@@ -47,8 +54,9 @@ fn define_tables<S: Alter>(tx: &mut Transaction<'_, S>) -> Result<(), TableFault
     ensures stays { CommitsNothing S.Store tx.old.conn.now tx.new.conn.now }
     ensures goes_on { ContinuesInTurn S.Store tx.old.conn.now tx.new.conn.now result }
     ensures failure { IfErr result IsFailure }
-    ensures made { HasCleanDisk (state S.Store tx.new.conn.now) → (state S.Store tx.old.conn.now).now.schema ≡ no_schema → OnOk result (
-        IsBlank office_schema (state S.Store tx.new.conn.now).now) }
+    ensures made { HasCleanDisk (state S.Store tx.new.conn.now)
+        → (state S.Store tx.old.conn.now).now.schema ≡ no_schema
+        → OnOk result (IsBlank office_schema (state S.Store tx.new.conn.now).now) }
 {
     define(
         tx,
@@ -86,9 +94,14 @@ fn start<S: Alter>(
     ensures stays { CommitsNothing S.Store tx.old.conn.now tx.new.conn.now }
     ensures goes_on { Continues S.Store tx.old.conn.now tx.new.conn.now result }
     ensures failure { IfErr result IsFailure }
-    ensures becomes { HasCleanDisk (state S.Store tx.new.conn.now) → IsBlank office_schema (state S.Store tx.old.conn.now).now → OnOk result (
-        Becomes (state S.Store tx.new.conn.now).now (empty_office this_version (pos max_deposits) (pos max_holds))) }
-    ensures once { HasCleanDisk (state S.Store tx.new.conn.now) → IsBlank office_schema (state S.Store tx.old.conn.now).now → OnOk result (KeepsOnce (state S.Store tx.new.conn.now).now) }
+    ensures becomes { HasCleanDisk (state S.Store tx.new.conn.now)
+        → IsBlank office_schema (state S.Store tx.old.conn.now).now
+        → OnOk result
+        (Becomes (state S.Store tx.new.conn.now).now
+        (empty_office this_version (pos max_deposits) (pos max_holds))) }
+    ensures once { HasCleanDisk (state S.Store tx.new.conn.now)
+        → IsBlank office_schema (state S.Store tx.old.conn.now).now
+        → OnOk result (KeepsOnce (state S.Store tx.new.conn.now).now) }
 {
     change(
         tx,
@@ -107,10 +120,16 @@ fn make_office<S: Alter>(
     ensures stays { CommitsNothing S.Store tx.old.conn.now tx.new.conn.now }
     ensures goes_on { ContinuesInTurn S.Store tx.old.conn.now tx.new.conn.now result }
     ensures failure { IfErr result IsFailure }
-    ensures opened { HasCleanDisk (state S.Store tx.new.conn.now) → OnOk result (IsTrue (state S.Store tx.new.conn.now).is_open) }
-    ensures becomes { HasCleanDisk (state S.Store tx.new.conn.now) → (state S.Store tx.old.conn.now).now.schema ≡ no_schema → OnOk result (
-        Becomes (state S.Store tx.new.conn.now).now (empty_office this_version (pos max_deposits) (pos max_holds))) }
-    ensures once { HasCleanDisk (state S.Store tx.new.conn.now) → (state S.Store tx.old.conn.now).now.schema ≡ no_schema → OnOk result (KeepsOnce (state S.Store tx.new.conn.now).now) }
+    ensures opened { HasCleanDisk (state S.Store tx.new.conn.now)
+        → OnOk result (IsTrue (state S.Store tx.new.conn.now).is_open) }
+    ensures becomes { HasCleanDisk (state S.Store tx.new.conn.now)
+        → (state S.Store tx.old.conn.now).now.schema ≡ no_schema
+        → OnOk result
+        (Becomes (state S.Store tx.new.conn.now).now
+        (empty_office this_version (pos max_deposits) (pos max_holds))) }
+    ensures once { HasCleanDisk (state S.Store tx.new.conn.now)
+        → (state S.Store tx.old.conn.now).now.schema ≡ no_schema
+        → OnOk result (KeepsOnce (state S.Store tx.new.conn.now).now) }
 {
     define_tables(tx)?;
     start(tx, max_deposits, max_holds)?;
@@ -140,13 +159,21 @@ pub fn create<S: Alter>(
     requires deposits { IsLimit (pos max_deposits) }
     requires holds { IsLimit (pos max_holds) }
     ensures outside { (state S.Store conn.new).in_transaction ≡ false }
-    ensures survives { Survives (state S.Store conn.old) (state S.Store conn.new) (IsMadeLeft (empty_office this_version (pos max_deposits) (pos max_holds))) }
-    ensures made { HasCleanDisk (state S.Store conn.new) → OnOk result (IsMade (state S.Store conn.new) (empty_office this_version (pos max_deposits) (pos max_holds))) }
-    ensures durable { HasCleanDisk (state S.Store conn.new) → OnOk result ((db : Trees) → (state S.Store conn.new).may_leave db
+    ensures survives { Survives (state S.Store conn.old) (state S.Store conn.new)
+        (IsMadeLeft (empty_office this_version (pos max_deposits) (pos max_holds))) }
+    ensures made { HasCleanDisk (state S.Store conn.new)
+        → OnOk result
+        (IsMade (state S.Store conn.new)
+        (empty_office this_version (pos max_deposits) (pos max_holds))) }
+    ensures durable { HasCleanDisk (state S.Store conn.new)
+        → OnOk result
+        ((db : Trees) → (state S.Store conn.new).may_leave db
         → IsMadeLeft (empty_office this_version (pos max_deposits) (pos max_holds)) db) }
-    ensures refused { HasCleanDisk (state S.Store conn.new) → OnErr result (KeepsTables (state S.Store conn.old) (state S.Store conn.new)) }
+    ensures refused { HasCleanDisk (state S.Store conn.new)
+        → OnErr result (KeepsTables (state S.Store conn.old) (state S.Store conn.new)) }
     ensures failure { IfErr result IsFailure }
-    ensures not_empty { (state S.Store conn.old).now.schema ≢ no_schema → result ≡ Err TableFault.Store }
+    ensures not_empty { (state S.Store conn.old).now.schema ≢ no_schema
+        → result ≡ Err TableFault.Store }
     ensures untouched { (state S.Store conn.old).now.schema ≢ no_schema → conn.new ≡ conn.old }
 {
     // What the connection says of its state.

@@ -44,9 +44,28 @@ impl Model for DepositRow {
     ghost Value = { Deposit };
 
     ghost coded = { code_by (ℤ × (List ℕ × (List ℕ × (List ℕ × (ℤ × (ℤ × (ℤ × (ℤ × Option ℤ))))))))
-        (coded× coded_ℤ (coded× (coded_list coded_ℕ) (coded× (coded_list coded_ℕ) (coded× (coded_list coded_ℕ)
-        (coded× coded_ℤ (coded× coded_ℤ (coded× coded_ℤ (coded× coded_ℤ (coded_option coded_ℤ)))))))))
-        (λ (d : Deposit). (d.number, (d.accession, (d.collection, (d.class, (d.closed, (d.deposited, (d.files, (d.bytes, d.gone)))))))))
+        (coded× coded_ℤ (coded× (coded_list coded_ℕ) (coded× (coded_list coded_ℕ)
+        (coded× (coded_list coded_ℕ) (coded× coded_ℤ (coded× coded_ℤ (coded× coded_ℤ
+        (coded× coded_ℤ (coded_option coded_ℤ)))))))))
+        (λ (d : Deposit). (
+          d.number,
+          (
+            d.accession,
+            (
+              d.collection,
+              (
+                d.class,
+                (
+                  d.closed,
+                  (
+                    d.deposited,
+                    (d.files, (d.bytes, d.gone)),
+                  ),
+                ),
+              ),
+            ),
+          ),
+        ))
         (λ p. record {
           number = p.0;
           accession = p.1.0;
@@ -112,7 +131,8 @@ fn rows_of_deposit<S: Alter>(
     ensures goes_on { Continues S.Store tx.old.conn.now tx.new.conn.now result }
     ensures failure { IfErr result IsFailure }
     ensures found { Shows S.Store tx.old.conn.now tx.new.conn.now result (λ tables rows.
-        deposit_numbered (pos number) tables.deposits ≡ option_map shown_deposit (slice_get rows.items 0)) }
+        deposit_numbered (pos number) tables.deposits
+        ≡ option_map shown_deposit (slice_get rows.items 0)) }
 {
     ask(
         tx,
@@ -150,7 +170,8 @@ fn rows_of_accession<S: Alter>(
     ensures goes_on { Continues S.Store tx.old.conn.now tx.new.conn.now result }
     ensures failure { IfErr result IsFailure }
     ensures found { Shows S.Store tx.old.conn.now tx.new.conn.now result (λ tables rows.
-        deposit_by accession.now tables.deposits ≡ option_map shown_deposit (slice_get rows.items 0)) }
+        deposit_by accession.now tables.deposits
+        ≡ option_map shown_deposit (slice_get rows.items 0)) }
 {
     ask(
         tx,
@@ -185,7 +206,8 @@ fn rows_of_last<S: Alter>(tx: &mut Transaction<'_, S>) -> Result<Vec<Row>, Table
     ensures goes_on { Continues S.Store tx.old.conn.now tx.new.conn.now result }
     ensures failure { IfErr result IsFailure }
     ensures found { Shows S.Store tx.old.conn.now tx.new.conn.now result (λ tables rows.
-        last_number (λ d. d.number) tables.deposits ≡ option_map (λ row. int_at row 0) (slice_get rows.items 0)) }
+        last_number (λ d. d.number) tables.deposits
+        ≡ option_map (λ row. int_at row 0) (slice_get rows.items 0)) }
 {
     ask(
         tx,
@@ -276,8 +298,11 @@ fn add_deposit<S: Alter>(
     ensures stays { CommitsNothing S.Store tx.old.conn.now tx.new.conn.now }
     ensures goes_on { Continues S.Store tx.old.conn.now tx.new.conn.now result }
     ensures failure { IfErr result IsFailure }
-    ensures added { HasCleanDisk (state S.Store tx.new.conn.now) → IsOffice (state S.Store tx.old.conn.now).now → OnOk result (
-        IsAdded (record {
+    ensures added { HasCleanDisk (state S.Store tx.new.conn.now)
+        → IsOffice (state S.Store tx.old.conn.now).now
+        → OnOk result
+        (IsAdded
+        (record {
           number = pos number;
           accession = accession.now;
           collection = collection.now;
@@ -328,11 +353,16 @@ pub fn put_deposit<S: Alter>(
     ensures stays { CommitsNothing S.Store tx.old.conn.now tx.new.conn.now }
     ensures goes_on { Continues S.Store tx.old.conn.now tx.new.conn.now result }
     ensures failure { IfErr result IsFailure }
-    ensures becomes { Writes S.Store tx.old.conn.now tx.new.conn.now result (with_deposit (added_row deposit.entry)) }
-    ensures new_number { Tells S.Store tx.old.conn.now tx.new.conn.now result (λ tables _. deposit_numbered (pos deposit.entry.number) tables.deposits ≡ None) }
-    ensures new_accession { Tells S.Store tx.old.conn.now tx.new.conn.now result (λ tables _. deposit_by deposit.entry.accession.now tables.deposits ≡ None) }
-    ensures its_collection { Tells S.Store tx.old.conn.now tx.new.conn.now result (λ tables _. IsTrue (has_collection deposit.entry.collection.now tables)) }
-    ensures its_class { Tells S.Store tx.old.conn.now tx.new.conn.now result (λ tables _. IsTrue (has_class deposit.entry.class.now tables)) }
+    ensures becomes { Writes S.Store tx.old.conn.now tx.new.conn.now result
+        (with_deposit (added_row deposit.entry)) }
+    ensures new_number { Tells S.Store tx.old.conn.now tx.new.conn.now result (λ tables _.
+        deposit_numbered (pos deposit.entry.number) tables.deposits ≡ None) }
+    ensures new_accession { Tells S.Store tx.old.conn.now tx.new.conn.now result (λ tables _.
+        deposit_by deposit.entry.accession.now tables.deposits ≡ None) }
+    ensures its_collection { Tells S.Store tx.old.conn.now tx.new.conn.now result (λ tables _.
+        IsTrue (has_collection deposit.entry.collection.now tables)) }
+    ensures its_class { Tells S.Store tx.old.conn.now tx.new.conn.now result (λ tables _.
+        IsTrue (has_class deposit.entry.class.now tables)) }
     ensures once { LeavesOnce S.Store tx.old.conn.now tx.new.conn.now result }
 {
     add_deposit(
@@ -361,7 +391,8 @@ pub fn mark_gone<S: Alter>(
     ensures stays { CommitsNothing S.Store tx.old.conn.now tx.new.conn.now }
     ensures goes_on { Continues S.Store tx.old.conn.now tx.new.conn.now result }
     ensures failure { IfErr result IsFailure }
-    ensures becomes { Writes S.Store tx.old.conn.now tx.new.conn.now result (with_gone (pos number) day) }
+    ensures becomes { Writes S.Store tx.old.conn.now tx.new.conn.now result
+        (with_gone (pos number) day) }
     ensures once { LeavesOnce S.Store tx.old.conn.now tx.new.conn.now result }
 {
     change(

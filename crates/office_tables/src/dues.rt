@@ -213,7 +213,8 @@ fn set_day<S: Alter>(tx: &mut Transaction<'_, S>, number: u32, day: i64) -> Resu
     ensures stays { CommitsNothing S.Store tx.old.conn.now tx.new.conn.now }
     ensures goes_on { Continues S.Store tx.old.conn.now tx.new.conn.now result }
     ensures failure { IfErr result IsFailure }
-    ensures becomes { Writes S.Store tx.old.conn.now tx.new.conn.now result (with_due (pos number) (Some day)) }
+    ensures becomes { Writes S.Store tx.old.conn.now tx.new.conn.now result
+        (with_due (pos number) (Some day)) }
     ensures once { LeavesOnce S.Store tx.old.conn.now tx.new.conn.now result }
 {
     change(
@@ -230,7 +231,8 @@ fn clear_day<S: Alter>(tx: &mut Transaction<'_, S>, number: u32) -> Result<(), T
     ensures stays { CommitsNothing S.Store tx.old.conn.now tx.new.conn.now }
     ensures goes_on { Continues S.Store tx.old.conn.now tx.new.conn.now result }
     ensures failure { IfErr result IsFailure }
-    ensures becomes { Writes S.Store tx.old.conn.now tx.new.conn.now result (with_due (pos number) None) }
+    ensures becomes { Writes S.Store tx.old.conn.now tx.new.conn.now result
+        (with_due (pos number) None) }
     ensures once { LeavesOnce S.Store tx.old.conn.now tx.new.conn.now result }
 {
     change(
@@ -254,7 +256,8 @@ pub fn set_due<S: Alter>(
     ensures stays { CommitsNothing S.Store tx.old.conn.now tx.new.conn.now }
     ensures goes_on { Continues S.Store tx.old.conn.now tx.new.conn.now result }
     ensures failure { IfErr result IsFailure }
-    ensures becomes { Writes S.Store tx.old.conn.now tx.new.conn.now result (with_due (pos number) due) }
+    ensures becomes { Writes S.Store tx.old.conn.now tx.new.conn.now result
+        (with_due (pos number) due) }
     ensures once { LeavesOnce S.Store tx.old.conn.now tx.new.conn.now result }
 {
     match due {
@@ -276,7 +279,8 @@ pub fn set_holds<S: Alter>(
     ensures stays { CommitsNothing S.Store tx.old.conn.now tx.new.conn.now }
     ensures goes_on { Continues S.Store tx.old.conn.now tx.new.conn.now result }
     ensures failure { IfErr result IsFailure }
-    ensures becomes { Writes S.Store tx.old.conn.now tx.new.conn.now result (with_holds (pos number) holds) }
+    ensures becomes { Writes S.Store tx.old.conn.now tx.new.conn.now result
+        (with_holds (pos number) holds) }
     ensures once { LeavesOnce S.Store tx.old.conn.now tx.new.conn.now result }
 {
     change(
@@ -299,9 +303,12 @@ pub fn add_holds<S: Alter>(
     ensures stays { CommitsNothing S.Store tx.old.conn.now tx.new.conn.now }
     ensures goes_on { Continues S.Store tx.old.conn.now tx.new.conn.now result }
     ensures failure { IfErr result IsFailure }
-    ensures becomes { HasCleanDisk (state S.Store tx.new.conn.now) → IsOffice (state S.Store tx.old.conn.now).now
+    ensures becomes { HasCleanDisk (state S.Store tx.new.conn.now)
+        → IsOffice (state S.Store tx.old.conn.now).now
         → FitMore by (tables_of (state S.Store tx.old.conn.now).now).dues
-        → OnOk result (Becomes (state S.Store tx.new.conn.now).now (with_more_holds collection.now by (tables_of (state S.Store tx.old.conn.now).now))) }
+        → OnOk result
+        (Becomes (state S.Store tx.new.conn.now).now
+        (with_more_holds collection.now by (tables_of (state S.Store tx.old.conn.now).now))) }
     ensures once { LeavesOnce S.Store tx.old.conn.now tx.new.conn.now result }
 {
     change(
@@ -324,9 +331,12 @@ pub fn add_holds_class<S: Alter>(
     ensures stays { CommitsNothing S.Store tx.old.conn.now tx.new.conn.now }
     ensures goes_on { Continues S.Store tx.old.conn.now tx.new.conn.now result }
     ensures failure { IfErr result IsFailure }
-    ensures becomes { HasCleanDisk (state S.Store tx.new.conn.now) → IsOffice (state S.Store tx.old.conn.now).now
+    ensures becomes { HasCleanDisk (state S.Store tx.new.conn.now)
+        → IsOffice (state S.Store tx.old.conn.now).now
         → FitMore by (tables_of (state S.Store tx.old.conn.now).now).dues
-        → OnOk result (Becomes (state S.Store tx.new.conn.now).now (with_more_holds_class class.now by (tables_of (state S.Store tx.old.conn.now).now))) }
+        → OnOk result
+        (Becomes (state S.Store tx.new.conn.now).now
+        (with_more_holds_class class.now by (tables_of (state S.Store tx.old.conn.now).now))) }
     ensures once { LeavesOnce S.Store tx.old.conn.now tx.new.conn.now result }
 {
     change(

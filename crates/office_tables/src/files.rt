@@ -38,7 +38,8 @@ impl Model for FileRow {
     ghost Value = { File };
 
     ghost coded = { code_by (ℤ × (List ℕ × List ℕ)) (coded× coded_ℤ (coded× (coded_list coded_ℕ) (coded_list coded_ℕ)))
-        (λ (f : File). (f.deposit, (f.path, f.content))) (λ p. record { deposit = p.0; path = p.1.0; content = p.1.1 }) (λ _. refl) };
+        (λ (f : File). (f.deposit, (f.path, f.content)))
+        (λ p. record { deposit = p.0; path = p.1.0; content = p.1.1 }) (λ _. refl) };
 
     ghost view = { λ f. record { deposit = pos f.deposit; path = string_bytes f.path; content = f.content.items } };
 }
@@ -54,7 +55,8 @@ fn add_file<S: Alter>(
     ensures stays { CommitsNothing S.Store tx.old.conn.now tx.new.conn.now }
     ensures goes_on { Continues S.Store tx.old.conn.now tx.new.conn.now result }
     ensures failure { IfErr result IsFailure }
-    ensures added { Does S.Store tx.old.conn.now tx.new.conn.now result (λ old new _. IsFileAdded (pos number) path.now id old new) }
+    ensures added { Does S.Store tx.old.conn.now tx.new.conn.now result (λ old new _.
+        IsFileAdded (pos number) path.now id old new) }
 {
     change(
         tx,
@@ -75,7 +77,8 @@ fn put_kept<S: Alter>(
     ensures stays { CommitsNothing S.Store tx.old.conn.now tx.new.conn.now }
     ensures goes_on { Continues S.Store tx.old.conn.now tx.new.conn.now result }
     ensures failure { IfErr result IsFailure }
-    ensures put { Does S.Store tx.old.conn.now tx.new.conn.now result (λ old new _. IsMarkedPut (pos number) path.now mark.now content.now old new) }
+    ensures put { Does S.Store tx.old.conn.now tx.new.conn.now result (λ old new _.
+        IsMarkedPut (pos number) path.now mark.now content.now old new) }
 {
     let id = keep_content(tx, mark, content)?;
     add_file(tx, number, path, id)
@@ -95,11 +98,17 @@ pub fn put_marked<S: Alter>(
     ensures stays { CommitsNothing S.Store tx.old.conn.now tx.new.conn.now }
     ensures goes_on { Continues S.Store tx.old.conn.now tx.new.conn.now result }
     ensures failure { IfErr result IsFailure }
-    ensures becomes { Writes S.Store tx.old.conn.now tx.new.conn.now result (with_file (record { deposit = pos number; path = path.now; content = content.now })) }
-    ensures new_path { Tells S.Store tx.old.conn.now tx.new.conn.now result (λ tables _. file_at (pos number) path.now tables.files ≡ None) }
-    ensures contents { Does S.Store tx.old.conn.now tx.new.conn.now result (λ old new _. contents_of new ≡ with_content mark.now content.now (contents_of old)) }
-    ensures used { Does S.Store tx.old.conn.now tx.new.conn.now result (λ old new _. AreUsed (references_of old) (contents_of old) → AreUsed (references_of new) (contents_of new)) }
-    ensures stands { Does S.Store tx.old.conn.now tx.new.conn.now result (λ old new _. AllByRecursion (λ c. c.bytes ≡ content.now → c.mark ≡ mark.now) (contents_of old)
+    ensures becomes { Writes S.Store tx.old.conn.now tx.new.conn.now result
+        (with_file (record { deposit = pos number; path = path.now; content = content.now })) }
+    ensures new_path { Tells S.Store tx.old.conn.now tx.new.conn.now result (λ tables _.
+        file_at (pos number) path.now tables.files ≡ None) }
+    ensures contents { Does S.Store tx.old.conn.now tx.new.conn.now result (λ old new _.
+        contents_of new ≡ with_content mark.now content.now (contents_of old)) }
+    ensures used { Does S.Store tx.old.conn.now tx.new.conn.now result (λ old new _.
+        AreUsed (references_of old) (contents_of old)
+        → AreUsed (references_of new) (contents_of new)) }
+    ensures stands { Does S.Store tx.old.conn.now tx.new.conn.now result (λ old new _.
+        AllByRecursion (λ c. c.bytes ≡ content.now → c.mark ≡ mark.now) (contents_of old)
         → StandOnce (contents_of old) → StandOnce (contents_of new)) }
 {
     put_kept(tx, number, path, mark, content)?;
@@ -119,10 +128,15 @@ pub fn put_file<S: Alter>(
     ensures stays { CommitsNothing S.Store tx.old.conn.now tx.new.conn.now }
     ensures goes_on { Continues S.Store tx.old.conn.now tx.new.conn.now result }
     ensures failure { IfErr result IsFailure }
-    ensures becomes { Writes S.Store tx.old.conn.now tx.new.conn.now result (with_file (record { deposit = pos number; path = path.now; content = content.now })) }
-    ensures new_path { Tells S.Store tx.old.conn.now tx.new.conn.now result (λ tables _. file_at (pos number) path.now tables.files ≡ None) }
-    ensures contents { Does S.Store tx.old.conn.now tx.new.conn.now result (λ old new _. contents_of new ≡ with_content (sha256 content.now) content.now (contents_of old)) }
-    ensures used { Does S.Store tx.old.conn.now tx.new.conn.now result (λ old new _. AreUsed (references_of old) (contents_of old) → AreUsed (references_of new) (contents_of new)) }
+    ensures becomes { Writes S.Store tx.old.conn.now tx.new.conn.now result
+        (with_file (record { deposit = pos number; path = path.now; content = content.now })) }
+    ensures new_path { Tells S.Store tx.old.conn.now tx.new.conn.now result (λ tables _.
+        file_at (pos number) path.now tables.files ≡ None) }
+    ensures contents { Does S.Store tx.old.conn.now tx.new.conn.now result (λ old new _.
+        contents_of new ≡ with_content (sha256 content.now) content.now (contents_of old)) }
+    ensures used { Does S.Store tx.old.conn.now tx.new.conn.now result (λ old new _.
+        AreUsed (references_of old) (contents_of old)
+        → AreUsed (references_of new) (contents_of new)) }
     ensures once { LeavesOnce S.Store tx.old.conn.now tx.new.conn.now result }
 {
     let mark = Sha256::digest(content);
@@ -140,8 +154,11 @@ fn rows_of_file<S: Alter>(
     ensures stays { CommitsNothing S.Store tx.old.conn.now tx.new.conn.now }
     ensures goes_on { Continues S.Store tx.old.conn.now tx.new.conn.now result }
     ensures failure { IfErr result IsFailure }
-    ensures found { Does S.Store tx.old.conn.now tx.new.conn.now result (λ old new rows. (new ≡ old)
-        × (option_map (λ f. f.content) (file_at (pos number) path.now (tables_of old).files) ≡ option_map (λ row. bytes_under (contents_of old) (int_at row 0)) (slice_get rows.items 0))) }
+    ensures found { Does S.Store tx.old.conn.now tx.new.conn.now result (λ old new rows.
+        (new ≡ old)
+        × (option_map (λ f. f.content) (file_at (pos number) path.now (tables_of old).files)
+        ≡ option_map (λ row.
+        bytes_under (contents_of old) (int_at row 0)) (slice_get rows.items 0))) }
 {
     ask(
         tx,
@@ -156,7 +173,8 @@ fn content_in<S: Alter>(tx: &mut Transaction<'_, S>, row: &Row) -> Result<Vec<u8
     ensures stays { CommitsNothing S.Store tx.old.conn.now tx.new.conn.now }
     ensures goes_on { Continues S.Store tx.old.conn.now tx.new.conn.now result }
     ensures failure { IfErr result IsFailure }
-    ensures found { Does S.Store tx.old.conn.now tx.new.conn.now result (λ old new content. (new ≡ old) × (content.items ≡ bytes_under (contents_of old) (int_at row.now 0))) }
+    ensures found { Does S.Store tx.old.conn.now tx.new.conn.now result (λ old new content.
+        (new ≡ old) × (content.items ≡ bytes_under (contents_of old) (int_at row.now 0))) }
 {
     let id = number_in(row, 0)?;
     match content_of(tx, id)? {
@@ -179,7 +197,8 @@ pub fn file_of<S: Alter>(
     ensures failure { IfErr result IsFailure }
     ensures same { Keeps S.Store tx.old.conn.now tx.new.conn.now result }
     ensures found { Tells S.Store tx.old.conn.now tx.new.conn.now result (λ tables found.
-        option_map (λ content. content.items) found ≡ option_map (λ f. f.content) (file_at (pos number) path.now tables.files)) }
+        option_map (λ content. content.items) found
+        ≡ option_map (λ f. f.content) (file_at (pos number) path.now tables.files)) }
 {
     let rows = rows_of_file(tx, number, path)?;
     match rows.first() {
@@ -194,8 +213,10 @@ fn rows_of_ids<S: Alter>(tx: &mut Transaction<'_, S>, number: u32) -> Result<Vec
     ensures stays { CommitsNothing S.Store tx.old.conn.now tx.new.conn.now }
     ensures goes_on { Continues S.Store tx.old.conn.now tx.new.conn.now result }
     ensures failure { IfErr result IsFailure }
-    ensures found { Does S.Store tx.old.conn.now tx.new.conn.now result (λ old new rows. (new ≡ old)
-        × ((r : _) → Has (old.trees 10) r → int_eq (int_at r 1) (pos number) ≡ true → Has (map (λ row. int_at row 0) rows.items) (int_at r 3))) }
+    ensures found { Does S.Store tx.old.conn.now tx.new.conn.now result (λ old new rows.
+        (new ≡ old)
+        × ((r : _) → Has (old.trees 10) r → int_eq (int_at r 1) (pos number) ≡ true
+        → Has (map (λ row. int_at row 0) rows.items) (int_at r 3))) }
 {
     ask(
         tx,
@@ -210,7 +231,8 @@ fn drop_rows<S: Alter>(tx: &mut Transaction<'_, S>, number: u32) -> Result<usize
     ensures stays { CommitsNothing S.Store tx.old.conn.now tx.new.conn.now }
     ensures goes_on { Continues S.Store tx.old.conn.now tx.new.conn.now result }
     ensures failure { IfErr result IsFailure }
-    ensures dropped { Does S.Store tx.old.conn.now tx.new.conn.now result (λ old new _. AreFilesDropped (pos number) old new) }
+    ensures dropped { Does S.Store tx.old.conn.now tx.new.conn.now result (λ old new _.
+        AreFilesDropped (pos number) old new) }
 {
     change(tx, "DELETE FROM file WHERE deposit = ?1", params![number])
 }
@@ -223,8 +245,11 @@ pub fn drop_files<S: Alter>(tx: &mut Transaction<'_, S>, number: u32) -> Result<
     ensures stays { CommitsNothing S.Store tx.old.conn.now tx.new.conn.now }
     ensures goes_on { Continues S.Store tx.old.conn.now tx.new.conn.now result }
     ensures failure { IfErr result IsFailure }
-    ensures becomes { Writes S.Store tx.old.conn.now tx.new.conn.now result (without_files (pos number)) }
-    ensures used { Does S.Store tx.old.conn.now tx.new.conn.now result (λ old new _. AreUsed (references_of old) (contents_of old) → AreUsed (references_of new) (contents_of new)) }
+    ensures becomes { Writes S.Store tx.old.conn.now tx.new.conn.now result
+        (without_files (pos number)) }
+    ensures used { Does S.Store tx.old.conn.now tx.new.conn.now result (λ old new _.
+        AreUsed (references_of old) (contents_of old)
+        → AreUsed (references_of new) (contents_of new)) }
     ensures once { LeavesOnce S.Store tx.old.conn.now tx.new.conn.now result }
 {
     let rows = rows_of_ids(tx, number)?;
@@ -287,7 +312,8 @@ fn files_at<S: Alter>(
     ensures goes_on { ContinuesInTurn S.Store tx.old.conn.now tx.new.conn.now result }
     ensures failure { IfErr result IsFailure }
     ensures found { Shows S.Store tx.old.conn.now tx.new.conn.now result (λ tables files.
-        map Some files.items ≡ map (λ row. file_at (pos number) (shown_path row) tables.files) rows.now) }
+        map Some files.items
+        ≡ map (λ row. file_at (pos number) (shown_path row) tables.files) rows.now) }
 {
     let mut files = Vec::with_capacity(alloc, rows.len())?;
     for row in rows {

@@ -41,9 +41,20 @@ impl Model for HoldRow {
     ghost Value = { Hold };
 
     ghost coded = { code_by (ℤ × (Option ℤ × (Option (List ℕ) × (Option (List ℕ) × (List ℕ × (ℤ × Option ℤ))))))
-        (coded× coded_ℤ (coded× (coded_option coded_ℤ) (coded× (coded_option (coded_list coded_ℕ)) (coded× (coded_option (coded_list coded_ℕ)) (coded× (coded_list coded_ℕ) (coded× coded_ℤ (coded_option coded_ℤ)))))))
-        (λ (h : Hold). (h.number, (h.deposit, (h.collection, (h.class, (h.matter, (h.placed, h.released)))))))
-        (λ p. record { number = p.0; deposit = p.1.0; collection = p.1.1.0; class = p.1.1.1.0; matter = p.1.1.1.1.0; placed = p.1.1.1.1.1.0; released = p.1.1.1.1.1.1 })
+        (coded× coded_ℤ (coded× (coded_option coded_ℤ) (coded× (coded_option (coded_list coded_ℕ))
+        (coded× (coded_option (coded_list coded_ℕ)) (coded× (coded_list coded_ℕ)
+        (coded× coded_ℤ (coded_option coded_ℤ)))))))
+        (λ (h : Hold).
+        (h.number, (h.deposit, (h.collection, (h.class, (h.matter, (h.placed, h.released)))))))
+        (λ p. record {
+          number = p.0;
+          deposit = p.1.0;
+          collection = p.1.1.0;
+          class = p.1.1.1.0;
+          matter = p.1.1.1.1.0;
+          placed = p.1.1.1.1.1.0;
+          released = p.1.1.1.1.1.1;
+        })
         (λ _. refl) };
 
     ghost view = { λ h. record {
@@ -118,7 +129,8 @@ fn rows_of_last<S: Alter>(tx: &mut Transaction<'_, S>) -> Result<Vec<Row>, Table
     ensures goes_on { Continues S.Store tx.old.conn.now tx.new.conn.now result }
     ensures failure { IfErr result IsFailure }
     ensures found { Shows S.Store tx.old.conn.now tx.new.conn.now result (λ tables rows.
-        last_number (λ h. h.number) tables.holds ≡ option_map (λ row. int_at row 0) (slice_get rows.items 0)) }
+        last_number (λ h. h.number) tables.holds
+        ≡ option_map (λ row. int_at row 0) (slice_get rows.items 0)) }
 {
     ask(
         tx,
@@ -188,7 +200,8 @@ fn add_hold<S: Alter>(
       placed = placed;
       released = None;
     })) }
-    ensures new_number { Tells S.Store tx.old.conn.now tx.new.conn.now result (λ tables _. hold_numbered (pos number) tables.holds ≡ None) }
+    ensures new_number { Tells S.Store tx.old.conn.now tx.new.conn.now result (λ tables _.
+        hold_numbered (pos number) tables.holds ≡ None) }
     ensures once { LeavesOnce S.Store tx.old.conn.now tx.new.conn.now result }
 {
     change(
@@ -222,7 +235,8 @@ pub fn put_hold<S: Alter>(
       placed = placed;
       released = None;
     })) }
-    ensures new_number { Tells S.Store tx.old.conn.now tx.new.conn.now result (λ tables _. hold_numbered (pos number) tables.holds ≡ None) }
+    ensures new_number { Tells S.Store tx.old.conn.now tx.new.conn.now result (λ tables _.
+        hold_numbered (pos number) tables.holds ≡ None) }
     ensures once { LeavesOnce S.Store tx.old.conn.now tx.new.conn.now result }
 {
     match target {
@@ -248,7 +262,8 @@ pub fn end_hold<S: Alter>(
     ensures stays { CommitsNothing S.Store tx.old.conn.now tx.new.conn.now }
     ensures goes_on { Continues S.Store tx.old.conn.now tx.new.conn.now result }
     ensures failure { IfErr result IsFailure }
-    ensures becomes { Writes S.Store tx.old.conn.now tx.new.conn.now result (with_released (pos number) day) }
+    ensures becomes { Writes S.Store tx.old.conn.now tx.new.conn.now result
+        (with_released (pos number) day) }
     ensures once { LeavesOnce S.Store tx.old.conn.now tx.new.conn.now result }
 {
     change(
@@ -269,7 +284,8 @@ fn rows_of_holds_on<S: Alter>(
     ensures goes_on { Continues S.Store tx.old.conn.now tx.new.conn.now result }
     ensures failure { IfErr result IsFailure }
     ensures found { Shows S.Store tx.old.conn.now tx.new.conn.now result (λ tables rows.
-        map (λ h. h.number) (filter (is_live_on (pos deposit)) tables.holds) ≡ map (λ row. int_at row 0) rows.items) }
+        map (λ h. h.number) (filter (is_live_on (pos deposit)) tables.holds)
+        ≡ map (λ row. int_at row 0) rows.items) }
 {
     ask(
         tx,
@@ -289,7 +305,8 @@ fn rows_of_holds_within<S: Alter>(
     ensures goes_on { Continues S.Store tx.old.conn.now tx.new.conn.now result }
     ensures failure { IfErr result IsFailure }
     ensures found { Shows S.Store tx.old.conn.now tx.new.conn.now result (λ tables rows.
-        map (λ h. h.number) (filter (is_live_within (pos deposit) collection.now) tables.holds) ≡ map (λ row. int_at row 0) rows.items) }
+        map (λ h. h.number) (filter (is_live_within (pos deposit) collection.now) tables.holds)
+        ≡ map (λ row. int_at row 0) rows.items) }
 {
     ask(
         tx,
@@ -311,7 +328,9 @@ fn rows_of_holds_of_class<S: Alter>(
     ensures goes_on { Continues S.Store tx.old.conn.now tx.new.conn.now result }
     ensures failure { IfErr result IsFailure }
     ensures found { Shows S.Store tx.old.conn.now tx.new.conn.now result (λ tables rows.
-        map (λ h. h.number) (filter (is_live_of_class (pos deposit) collection.now class.now) tables.holds) ≡ map (λ row. int_at row 0) rows.items) }
+        map (λ h.
+        h.number) (filter (is_live_of_class (pos deposit) collection.now class.now) tables.holds)
+        ≡ map (λ row. int_at row 0) rows.items) }
 {
     ask(
         tx,
@@ -322,7 +341,9 @@ fn rows_of_holds_of_class<S: Alter>(
 
 /// Adds the numbers in the first column of the rows.
 fn add_numbers(numbers: &mut Vec<u32>, rows: &[Row]) -> Result<(), TableFault>
-    ensures added { OnOk result (map pos numbers.new.items ≡ map pos numbers.old.items ++ map (λ row. int_at row 0) rows.now) }
+    ensures added { OnOk result
+        (map pos numbers.new.items
+        ≡ map pos numbers.old.items ++ map (λ row. int_at row 0) rows.now) }
     ensures failure { IfErr result IsFailure }
 {
     for row in rows {
@@ -374,7 +395,8 @@ fn rows_of_releases<S: Alter>(
     ensures goes_on { Continues S.Store tx.old.conn.now tx.new.conn.now result }
     ensures failure { IfErr result IsFailure }
     ensures found { Shows S.Store tx.old.conn.now tx.new.conn.now result (λ tables rows.
-        list_any (is_outside_of (is_on target.entry) first last) tables.holds ≡ list_any (λ r. true) rows.items) }
+        list_any (is_outside_of (is_on target.entry) first last) tables.holds
+        ≡ list_any (λ r. true) rows.items) }
 {
     match target {
         HoldTarget::Deposit(number) => ask(
@@ -431,7 +453,9 @@ pub fn has_release_outside<S: Alter>(
     ensures failure { IfErr result IsFailure }
     ensures same { Keeps S.Store tx.old.conn.now tx.new.conn.now result }
     ensures found { Tells S.Store tx.old.conn.now tx.new.conn.now result (λ tables found.
-        found ≡ list_any (is_released_outside first last (pos deposit) collection.now class.now) tables.holds) }
+        found
+        ≡ list_any
+        (is_released_outside first last (pos deposit) collection.now class.now) tables.holds) }
 {
     let on_deposit = has_release(tx, HoldTarget::Deposit(deposit), first, last)?;
     let on_collection = has_release(tx, HoldTarget::Collection(collection), first, last)?;

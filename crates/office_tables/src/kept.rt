@@ -22,8 +22,10 @@ fn rows_of_content<S: Alter>(tx: &mut Transaction<'_, S>, id: i64) -> Result<Vec
     ensures stays { CommitsNothing S.Store tx.old.conn.now tx.new.conn.now }
     ensures goes_on { Continues S.Store tx.old.conn.now tx.new.conn.now result }
     ensures failure { IfErr result IsFailure }
-    ensures found { Does S.Store tx.old.conn.now tx.new.conn.now result (λ old new rows. (new ≡ old)
-        × (option_map (λ c. c.bytes) (content_numbered id (contents_of old)) ≡ option_map (λ row. bytes_at row 0) (slice_get rows.items 0))) }
+    ensures found { Does S.Store tx.old.conn.now tx.new.conn.now result (λ old new rows.
+        (new ≡ old)
+        × (option_map (λ c. c.bytes) (content_numbered id (contents_of old))
+        ≡ option_map (λ row. bytes_at row 0) (slice_get rows.items 0))) }
 {
     ask(tx, "SELECT bytes FROM content WHERE id = ?1", params![id])
 }
@@ -38,9 +40,12 @@ fn rows_alike<S: Alter>(
     ensures stays { CommitsNothing S.Store tx.old.conn.now tx.new.conn.now }
     ensures goes_on { Continues S.Store tx.old.conn.now tx.new.conn.now result }
     ensures failure { IfErr result IsFailure }
-    ensures found { Does S.Store tx.old.conn.now tx.new.conn.now result (λ old new rows. (new ≡ old)
+    ensures found { Does S.Store tx.old.conn.now tx.new.conn.now result (λ old new rows.
+        (new ≡ old)
         × (rows.items ≡ [] → list_any (is_alike mark.now bytes.now) (contents_of old) ≡ false)
-        × ((x : _) → slice_get rows.items 0 ≡ Some x → (c : _) × Has (contents_of old) c × (int_at x 0 ≡ c.id) × (is_alike mark.now bytes.now c ≡ true))) }
+        × ((x : _) → slice_get rows.items 0 ≡ Some x
+        → (c : _) × Has (contents_of old) c × (int_at x 0 ≡ c.id)
+        × (is_alike mark.now bytes.now c ≡ true))) }
 {
     ask(
         tx,
@@ -61,7 +66,8 @@ fn add_content<S: Alter>(
     ensures stays { CommitsNothing S.Store tx.old.conn.now tx.new.conn.now }
     ensures goes_on { Continues S.Store tx.old.conn.now tx.new.conn.now result }
     ensures failure { IfErr result IsFailure }
-    ensures added { Does S.Store tx.old.conn.now tx.new.conn.now result (λ old new _. IsContentAdded mark.now bytes.now old new) }
+    ensures added { Does S.Store tx.old.conn.now tx.new.conn.now result (λ old new _.
+        IsContentAdded mark.now bytes.now old new) }
 {
     change(
         tx,
@@ -76,8 +82,10 @@ fn rows_of_last<S: Alter>(tx: &mut Transaction<'_, S>) -> Result<Vec<Row>, Table
     ensures stays { CommitsNothing S.Store tx.old.conn.now tx.new.conn.now }
     ensures goes_on { Continues S.Store tx.old.conn.now tx.new.conn.now result }
     ensures failure { IfErr result IsFailure }
-    ensures found { Does S.Store tx.old.conn.now tx.new.conn.now result (λ old new rows. (new ≡ old)
-        × (last_number (λ c. c.id) (contents_of old) ≡ option_map (λ row. int_at row 0) (slice_get rows.items 0))) }
+    ensures found { Does S.Store tx.old.conn.now tx.new.conn.now result (λ old new rows.
+        (new ≡ old)
+        × (last_number (λ c. c.id) (contents_of old)
+        ≡ option_map (λ row. int_at row 0) (slice_get rows.items 0))) }
 {
     ask(tx, "SELECT id FROM content ORDER BY id DESC LIMIT 1", &[])
 }
@@ -88,8 +96,10 @@ fn rows_of_users<S: Alter>(tx: &mut Transaction<'_, S>, id: i64) -> Result<Vec<R
     ensures stays { CommitsNothing S.Store tx.old.conn.now tx.new.conn.now }
     ensures goes_on { Continues S.Store tx.old.conn.now tx.new.conn.now result }
     ensures failure { IfErr result IsFailure }
-    ensures found { Does S.Store tx.old.conn.now tx.new.conn.now result (λ old new rows. (new ≡ old)
-        × (list_any (λ r. int_eq (int_at r 3) id) (old.trees 10) ≡ list_any (λ r. true) rows.items)) }
+    ensures found { Does S.Store tx.old.conn.now tx.new.conn.now result (λ old new rows.
+        (new ≡ old)
+        × (list_any (λ r. int_eq (int_at r 3) id) (old.trees 10)
+        ≡ list_any (λ r. true) rows.items)) }
 {
     ask(
         tx,
@@ -104,7 +114,9 @@ fn remove_content<S: Alter>(tx: &mut Transaction<'_, S>, id: i64) -> Result<usiz
     ensures stays { CommitsNothing S.Store tx.old.conn.now tx.new.conn.now }
     ensures goes_on { Continues S.Store tx.old.conn.now tx.new.conn.now result }
     ensures failure { IfErr result IsFailure }
-    ensures removed { Does S.Store tx.old.conn.now tx.new.conn.now result (λ old new _. KeepsFiles old new × (contents_of new ≡ filter (λ c. not (is_content id c)) (contents_of old))) }
+    ensures removed { Does S.Store tx.old.conn.now tx.new.conn.now result (λ old new _.
+        KeepsFiles old new
+        × (contents_of new ≡ filter (λ c. not (is_content id c)) (contents_of old))) }
 {
     change(tx, "DELETE FROM content WHERE id = ?1", params![id])
 }
@@ -115,8 +127,10 @@ fn rows_of_contents<S: Alter>(tx: &mut Transaction<'_, S>) -> Result<Vec<Row>, T
     ensures stays { CommitsNothing S.Store tx.old.conn.now tx.new.conn.now }
     ensures goes_on { Continues S.Store tx.old.conn.now tx.new.conn.now result }
     ensures failure { IfErr result IsFailure }
-    ensures found { Does S.Store tx.old.conn.now tx.new.conn.now result (λ old new rows. (new ≡ old)
-        × (map {B = ℤ × ℤ} (λ c. (c.id, c.size)) (contents_of old) ≡ map {B = ℤ × ℤ} (λ row. (int_at row 0, int_at row 1)) rows.items)) }
+    ensures found { Does S.Store tx.old.conn.now tx.new.conn.now result (λ old new rows.
+        (new ≡ old)
+        × (map {B = ℤ × ℤ} (λ c. (c.id, c.size)) (contents_of old)
+        ≡ map {B = ℤ × ℤ} (λ row. (int_at row 0, int_at row 1)) rows.items)) }
 {
     ask(tx, "SELECT id, size FROM content ORDER BY id", &[])
 }
@@ -130,8 +144,10 @@ pub(crate) fn content_of<S: Alter>(
     ensures stays { CommitsNothing S.Store tx.old.conn.now tx.new.conn.now }
     ensures goes_on { Continues S.Store tx.old.conn.now tx.new.conn.now result }
     ensures failure { IfErr result IsFailure }
-    ensures found { Does S.Store tx.old.conn.now tx.new.conn.now result (λ old new found. (new ≡ old)
-        × (option_map (λ content. content.items) found ≡ option_map (λ c. c.bytes) (content_numbered id (contents_of old)))) }
+    ensures found { Does S.Store tx.old.conn.now tx.new.conn.now result (λ old new found.
+        (new ≡ old)
+        × (option_map (λ content. content.items) found
+        ≡ option_map (λ c. c.bytes) (content_numbered id (contents_of old)))) }
 {
     let rows = rows_of_content(tx, id)?;
     match rows.first() {
@@ -150,7 +166,8 @@ fn content_alike<S: Alter>(
     ensures stays { CommitsNothing S.Store tx.old.conn.now tx.new.conn.now }
     ensures goes_on { Continues S.Store tx.old.conn.now tx.new.conn.now result }
     ensures failure { IfErr result IsFailure }
-    ensures found { Does S.Store tx.old.conn.now tx.new.conn.now result (λ old new found. (new ≡ old) × IsFoundContent mark.now bytes.now old found) }
+    ensures found { Does S.Store tx.old.conn.now tx.new.conn.now result (λ old new found.
+        (new ≡ old) × IsFoundContent mark.now bytes.now old found) }
 {
     let rows = rows_alike(tx, mark, bytes)?;
     match rows.first() {
@@ -165,7 +182,8 @@ fn last_content<S: Alter>(tx: &mut Transaction<'_, S>) -> Result<i64, TableFault
     ensures stays { CommitsNothing S.Store tx.old.conn.now tx.new.conn.now }
     ensures goes_on { Continues S.Store tx.old.conn.now tx.new.conn.now result }
     ensures failure { IfErr result IsFailure }
-    ensures found { Does S.Store tx.old.conn.now tx.new.conn.now result (λ old new id. (new ≡ old) × (last_number (λ c. c.id) (contents_of old) ≡ Some id)) }
+    ensures found { Does S.Store tx.old.conn.now tx.new.conn.now result (λ old new id.
+        (new ≡ old) × (last_number (λ c. c.id) (contents_of old) ≡ Some id)) }
 {
     let rows = rows_of_last(tx)?;
     match rows.first() {
@@ -184,7 +202,8 @@ fn new_content<S: Alter>(
     ensures stays { CommitsNothing S.Store tx.old.conn.now tx.new.conn.now }
     ensures goes_on { Continues S.Store tx.old.conn.now tx.new.conn.now result }
     ensures failure { IfErr result IsFailure }
-    ensures kept { Does S.Store tx.old.conn.now tx.new.conn.now result (λ old new id. IsNewContent mark.now bytes.now id old new) }
+    ensures kept { Does S.Store tx.old.conn.now tx.new.conn.now result (λ old new id.
+        IsNewContent mark.now bytes.now id old new) }
 {
     let Ok(size) = i64::try_from(bytes.len()) else {
         return Err(TableFault::Store);
@@ -203,7 +222,8 @@ pub(crate) fn keep_content<S: Alter>(
     ensures stays { CommitsNothing S.Store tx.old.conn.now tx.new.conn.now }
     ensures goes_on { Continues S.Store tx.old.conn.now tx.new.conn.now result }
     ensures failure { IfErr result IsFailure }
-    ensures kept { Does S.Store tx.old.conn.now tx.new.conn.now result (IsContentKept mark.now bytes.now) }
+    ensures kept { Does S.Store tx.old.conn.now tx.new.conn.now result
+        (IsContentKept mark.now bytes.now) }
 {
     match content_alike(tx, mark, bytes)? {
         Some(id) => Ok(id),
@@ -217,7 +237,8 @@ fn is_used<S: Alter>(tx: &mut Transaction<'_, S>, id: i64) -> Result<bool, Table
     ensures stays { CommitsNothing S.Store tx.old.conn.now tx.new.conn.now }
     ensures goes_on { Continues S.Store tx.old.conn.now tx.new.conn.now result }
     ensures failure { IfErr result IsFailure }
-    ensures found { Does S.Store tx.old.conn.now tx.new.conn.now result (λ old new used. (new ≡ old) × (list_any (λ r. int_eq (int_at r 3) id) (old.trees 10) ≡ used)) }
+    ensures found { Does S.Store tx.old.conn.now tx.new.conn.now result (λ old new used.
+        (new ≡ old) × (list_any (λ r. int_eq (int_at r 3) id) (old.trees 10) ≡ used)) }
 {
     let rows = rows_of_users(tx, id)?;
     Ok(!rows.is_empty())
@@ -229,7 +250,8 @@ fn drop_unused<S: Alter>(tx: &mut Transaction<'_, S>, id: i64) -> Result<(), Tab
     ensures stays { CommitsNothing S.Store tx.old.conn.now tx.new.conn.now }
     ensures goes_on { Continues S.Store tx.old.conn.now tx.new.conn.now result }
     ensures failure { IfErr result IsFailure }
-    ensures tidied { Does S.Store tx.old.conn.now tx.new.conn.now result (λ old new _. (ids : List ℤ) → IsTidied (id ∷ ids) ids old new) }
+    ensures tidied { Does S.Store tx.old.conn.now tx.new.conn.now result (λ old new _.
+        (ids : List ℤ) → IsTidied (id ∷ ids) ids old new) }
 {
     if !is_used(tx, id)? {
         remove_content(tx, id)?;
@@ -246,7 +268,8 @@ pub(crate) fn drop_each_unused<S: Alter>(
     ensures stays { CommitsNothing S.Store tx.old.conn.now tx.new.conn.now }
     ensures goes_on { ContinuesInTurn S.Store tx.old.conn.now tx.new.conn.now result }
     ensures failure { IfErr result IsFailure }
-    ensures tidied { Does S.Store tx.old.conn.now tx.new.conn.now result (λ old new _. IsTidied (map (λ row. int_at row 0) rows.now) [] old new) }
+    ensures tidied { Does S.Store tx.old.conn.now tx.new.conn.now result (λ old new _.
+        IsTidied (map (λ row. int_at row 0) rows.now) [] old new) }
 {
     for row in rows {
         let id = number_in(row, 0)?;
@@ -264,7 +287,9 @@ pub struct ContentSize {
 
 /// The sizes in the rows that a query shows.
 fn sizes_in(alloc: Global, rows: &[Row]) -> Result<Vec<ContentSize>, TableFault>
-    ensures shown { IfOk result (λ sizes. map {B = ℤ × ℤ} (λ s. (s.id, s.size)) sizes.items ≡ map {B = ℤ × ℤ} (λ row. (int_at row 0, int_at row 1)) rows.now) }
+    ensures shown { IfOk result (λ sizes.
+        map {B = ℤ × ℤ} (λ s. (s.id, s.size)) sizes.items
+        ≡ map {B = ℤ × ℤ} (λ row. (int_at row 0, int_at row 1)) rows.now) }
     ensures failure { IfErr result IsFailure }
 {
     let mut sizes = Vec::new(alloc);
@@ -288,8 +313,10 @@ pub fn contents<S: Alter>(
     ensures stays { CommitsNothing S.Store tx.old.conn.now tx.new.conn.now }
     ensures goes_on { Continues S.Store tx.old.conn.now tx.new.conn.now result }
     ensures failure { IfErr result IsFailure }
-    ensures found { Does S.Store tx.old.conn.now tx.new.conn.now result (λ old new sizes. (new ≡ old)
-        × (map {B = ℤ × ℤ} (λ s. (s.id, s.size)) sizes.items ≡ map {B = ℤ × ℤ} (λ c. (c.id, c.size)) (contents_of old))) }
+    ensures found { Does S.Store tx.old.conn.now tx.new.conn.now result (λ old new sizes.
+        (new ≡ old)
+        × (map {B = ℤ × ℤ} (λ s. (s.id, s.size)) sizes.items
+        ≡ map {B = ℤ × ℤ} (λ c. (c.id, c.size)) (contents_of old))) }
 {
     let rows = rows_of_contents(tx)?;
     sizes_in(alloc, &rows)

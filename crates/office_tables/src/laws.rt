@@ -15,22 +15,32 @@ pub fn rows_in_order()
 
 /// In an office the live holds over a deposit rise by number.
 pub fn live_holds_in_order()
-    ensures { (db : Database) → IsOffice db → (deposit : ℤ) (collection class : List ℕ) → NumbersRise (λ n. n) (live_holds deposit collection class (tables_of db)) }
+    ensures { (db : Database) → IsOffice db → (deposit : ℤ) (collection class : List ℕ)
+        → NumbersRise (λ n. n) (live_holds deposit collection class (tables_of db)) }
 {}
 
 /// Where contents are kept once, they are exactly those of the files, each once, under its own SHA-256 and with its length.
 pub fn contents_are_those_of_files()
-    ensures { (db : Database) → IsOffice db → KeepsOnce db → AreContents (map (λ f. f.content) (tables_of db).files) (contents_of db) }
+    ensures { (db : Database) → IsOffice db → KeepsOnce db
+        → AreContents (map (λ f. f.content) (tables_of db).files) (contents_of db) }
 {}
 
 /// In an office the rule that `match_rule` answers fits and is one of the rules, and no rule of a lower place fits; where it answers none, no rule fits.
 pub fn matching_rules_are_least()
-    ensures fits { (db : Database) → IsOffice db → (role action collection class : List ℕ) (day : ℤ) (r : RuleRow) → matching_rule role action collection class day (tables_of db).rules ≡ Some r
+    ensures fits { (db : Database) → IsOffice db
+        → (role action collection class : List ℕ) (day : ℤ) (r : RuleRow)
+        → matching_rule role action collection class day (tables_of db).rules ≡ Some r
         → rule_fits role action collection class day r ≡ true }
-    ensures there { (db : Database) → IsOffice db → (role action collection class : List ℕ) (day : ℤ) (r : RuleRow) → matching_rule role action collection class day (tables_of db).rules ≡ Some r
+    ensures there { (db : Database) → IsOffice db
+        → (role action collection class : List ℕ) (day : ℤ) (r : RuleRow)
+        → matching_rule role action collection class day (tables_of db).rules ≡ Some r
         → Has (tables_of db).rules r }
-    ensures least { (db : Database) → IsOffice db → (role action collection class : List ℕ) (day : ℤ) (r : RuleRow) → matching_rule role action collection class day (tables_of db).rules ≡ Some r
-        → (s : RuleRow) → Has (tables_of db).rules s → rule_fits role action collection class day s ≡ true → r.place ≤ℤ s.place }
-    ensures none { (db : Database) → IsOffice db → (role action collection class : List ℕ) (day : ℤ) → matching_rule role action collection class day (tables_of db).rules ≡ None
-        → (s : RuleRow) → Has (tables_of db).rules s → rule_fits role action collection class day s ≡ false }
+    ensures least { (db : Database) → IsOffice db
+        → (role action collection class : List ℕ) (day : ℤ) (r : RuleRow)
+        → matching_rule role action collection class day (tables_of db).rules ≡ Some r
+        → (s : RuleRow) → Has (tables_of db).rules s
+        → rule_fits role action collection class day s ≡ true → r.place ≤ℤ s.place }
+    ensures none { (db : Database) → IsOffice db → (role action collection class : List ℕ) (day : ℤ)
+        → matching_rule role action collection class day (tables_of db).rules ≡ None → (s : RuleRow)
+        → Has (tables_of db).rules s → rule_fits role action collection class day s ≡ false }
 {}

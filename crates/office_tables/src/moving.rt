@@ -22,8 +22,11 @@ fn define_holds<S: Alter>(tx: &mut Transaction<'_, S>) -> Result<(), TableFault>
     ensures stays { CommitsNothing S.Store tx.old.conn.now tx.new.conn.now }
     ensures goes_on { ContinuesInTurn S.Store tx.old.conn.now tx.new.conn.now result }
     ensures failure { IfErr result IsFailure }
-    ensures grown { HasCleanDisk (state S.Store tx.new.conn.now) → IsWhole (schema_at Third) (state S.Store tx.old.conn.now).now
-        → OnOk result (Grows (schema_at Third) (schema_at Fourth) (state S.Store tx.old.conn.now).now (state S.Store tx.new.conn.now).now) }
+    ensures grown { HasCleanDisk (state S.Store tx.new.conn.now)
+        → IsWhole (schema_at Third) (state S.Store tx.old.conn.now).now
+        → OnOk result
+        (Grows (schema_at Third) (schema_at Fourth) (state S.Store tx.old.conn.now).now
+        (state S.Store tx.new.conn.now).now) }
 {
     define(
         tx,
@@ -42,8 +45,11 @@ fn define_rules<S: Alter>(tx: &mut Transaction<'_, S>) -> Result<(), TableFault>
     ensures stays { CommitsNothing S.Store tx.old.conn.now tx.new.conn.now }
     ensures goes_on { ContinuesInTurn S.Store tx.old.conn.now tx.new.conn.now result }
     ensures failure { IfErr result IsFailure }
-    ensures grown { HasCleanDisk (state S.Store tx.new.conn.now) → IsWhole (schema_at Fourth) (state S.Store tx.old.conn.now).now
-        → OnOk result (Grows (schema_at Fourth) (schema_at Fifth) (state S.Store tx.old.conn.now).now (state S.Store tx.new.conn.now).now) }
+    ensures grown { HasCleanDisk (state S.Store tx.new.conn.now)
+        → IsWhole (schema_at Fourth) (state S.Store tx.old.conn.now).now
+        → OnOk result
+        (Grows (schema_at Fourth) (schema_at Fifth) (state S.Store tx.old.conn.now).now
+        (state S.Store tx.new.conn.now).now) }
 {
     define(
         tx,
@@ -59,9 +65,12 @@ fn copy_holds<S: Alter>(tx: &mut Transaction<'_, S>) -> Result<(), TableFault>
     ensures stays { CommitsNothing S.Store tx.old.conn.now tx.new.conn.now }
     ensures goes_on { Continues S.Store tx.old.conn.now tx.new.conn.now result }
     ensures failure { IfErr result IsFailure }
-    ensures copied { HasCleanDisk (state S.Store tx.new.conn.now) → IsWhole (schema_at Fourth) (state S.Store tx.old.conn.now).now
+    ensures copied { HasCleanDisk (state S.Store tx.new.conn.now)
+        → IsWhole (schema_at Fourth) (state S.Store tx.old.conn.now).now
         → (state S.Store tx.old.conn.now).now.trees 19 ≡ []
-        → OnOk result (Sets (schema_at Fourth) 19 (map moved_hold ((state S.Store tx.old.conn.now).now.trees 12)) (state S.Store tx.old.conn.now).now (state S.Store tx.new.conn.now).now) }
+        → OnOk result
+        (Sets (schema_at Fourth) 19 (map moved_hold ((state S.Store tx.old.conn.now).now.trees 12))
+        (state S.Store tx.old.conn.now).now (state S.Store tx.new.conn.now).now) }
 {
     change(
         tx,
@@ -77,8 +86,11 @@ fn empty_holds<S: Alter>(tx: &mut Transaction<'_, S>) -> Result<(), TableFault>
     ensures stays { CommitsNothing S.Store tx.old.conn.now tx.new.conn.now }
     ensures goes_on { Continues S.Store tx.old.conn.now tx.new.conn.now result }
     ensures failure { IfErr result IsFailure }
-    ensures emptied { HasCleanDisk (state S.Store tx.new.conn.now) → IsWhole (schema_at Fourth) (state S.Store tx.old.conn.now).now
-        → OnOk result (Sets (schema_at Fourth) 12 [] (state S.Store tx.old.conn.now).now (state S.Store tx.new.conn.now).now) }
+    ensures emptied { HasCleanDisk (state S.Store tx.new.conn.now)
+        → IsWhole (schema_at Fourth) (state S.Store tx.old.conn.now).now
+        → OnOk result
+        (Sets (schema_at Fourth) 12 [] (state S.Store tx.old.conn.now).now
+        (state S.Store tx.new.conn.now).now) }
 {
     change(tx, "DELETE FROM hold", &[])?;
     Ok(())
@@ -103,9 +115,12 @@ fn copy_rules<S: Alter>(tx: &mut Transaction<'_, S>) -> Result<(), TableFault>
     ensures stays { CommitsNothing S.Store tx.old.conn.now tx.new.conn.now }
     ensures goes_on { Continues S.Store tx.old.conn.now tx.new.conn.now result }
     ensures failure { IfErr result IsFailure }
-    ensures copied { HasCleanDisk (state S.Store tx.new.conn.now) → IsWhole (schema_at Fifth) (state S.Store tx.old.conn.now).now
+    ensures copied { HasCleanDisk (state S.Store tx.new.conn.now)
+        → IsWhole (schema_at Fifth) (state S.Store tx.old.conn.now).now
         → (state S.Store tx.old.conn.now).now.trees 23 ≡ []
-        → OnOk result (Sets (schema_at Fifth) 23 (map moved_rule ((state S.Store tx.old.conn.now).now.trees 3)) (state S.Store tx.old.conn.now).now (state S.Store tx.new.conn.now).now) }
+        → OnOk result
+        (Sets (schema_at Fifth) 23 (map moved_rule ((state S.Store tx.old.conn.now).now.trees 3))
+        (state S.Store tx.old.conn.now).now (state S.Store tx.new.conn.now).now) }
 {
     change(
         tx,
@@ -121,8 +136,11 @@ fn empty_rules<S: Alter>(tx: &mut Transaction<'_, S>) -> Result<(), TableFault>
     ensures stays { CommitsNothing S.Store tx.old.conn.now tx.new.conn.now }
     ensures goes_on { Continues S.Store tx.old.conn.now tx.new.conn.now result }
     ensures failure { IfErr result IsFailure }
-    ensures emptied { HasCleanDisk (state S.Store tx.new.conn.now) → IsWhole (schema_at Fifth) (state S.Store tx.old.conn.now).now
-        → OnOk result (Sets (schema_at Fifth) 3 [] (state S.Store tx.old.conn.now).now (state S.Store tx.new.conn.now).now) }
+    ensures emptied { HasCleanDisk (state S.Store tx.new.conn.now)
+        → IsWhole (schema_at Fifth) (state S.Store tx.old.conn.now).now
+        → OnOk result
+        (Sets (schema_at Fifth) 3 [] (state S.Store tx.old.conn.now).now
+        (state S.Store tx.new.conn.now).now) }
 {
     change(tx, "DELETE FROM rule", &[])?;
     Ok(())
@@ -147,8 +165,10 @@ fn set_version<S: Alter>(tx: &mut Transaction<'_, S>) -> Result<(), TableFault>
     ensures stays { CommitsNothing S.Store tx.old.conn.now tx.new.conn.now }
     ensures goes_on { Continues S.Store tx.old.conn.now tx.new.conn.now result }
     ensures failure { IfErr result IsFailure }
-    ensures told { HasCleanDisk (state S.Store tx.new.conn.now) → (rows : AllRows) → BecomesAt Fifth (state S.Store tx.old.conn.now).now rows
-        → OnOk result (BecomesAt Fifth (state S.Store tx.new.conn.now).now (all_in_version (pos 5) rows)) }
+    ensures told { HasCleanDisk (state S.Store tx.new.conn.now) → (rows : AllRows)
+        → BecomesAt Fifth (state S.Store tx.old.conn.now).now rows
+        → OnOk result
+        (BecomesAt Fifth (state S.Store tx.new.conn.now).now (all_in_version (pos 5) rows)) }
 {
     change(
         tx,
@@ -164,8 +184,10 @@ pub fn renew_fourth<S: Alter>(tx: &mut Transaction<'_, S>) -> Result<(), TableFa
     ensures stays { CommitsNothing S.Store tx.old.conn.now tx.new.conn.now }
     ensures goes_on { ContinuesInTurn S.Store tx.old.conn.now tx.new.conn.now result }
     ensures failure { IfErr result IsFailure }
-    ensures renewed { HasCleanDisk (state S.Store tx.new.conn.now) → (rows : AllRows) → BecomesAt Fourth (state S.Store tx.old.conn.now).now rows
-        → OnOk result (BecomesAt Fifth (state S.Store tx.new.conn.now).now (all_in_version (pos 5) rows)) }
+    ensures renewed { HasCleanDisk (state S.Store tx.new.conn.now) → (rows : AllRows)
+        → BecomesAt Fourth (state S.Store tx.old.conn.now).now rows
+        → OnOk result
+        (BecomesAt Fifth (state S.Store tx.new.conn.now).now (all_in_version (pos 5) rows)) }
 {
     move_rules(tx)?;
     set_version(tx)
@@ -177,8 +199,10 @@ pub fn renew_third<S: Alter>(tx: &mut Transaction<'_, S>) -> Result<(), TableFau
     ensures stays { CommitsNothing S.Store tx.old.conn.now tx.new.conn.now }
     ensures goes_on { ContinuesInTurn S.Store tx.old.conn.now tx.new.conn.now result }
     ensures failure { IfErr result IsFailure }
-    ensures renewed { HasCleanDisk (state S.Store tx.new.conn.now) → (rows : AllRows) → BecomesAt Third (state S.Store tx.old.conn.now).now rows
-        → OnOk result (BecomesAt Fifth (state S.Store tx.new.conn.now).now (all_in_version (pos 5) rows)) }
+    ensures renewed { HasCleanDisk (state S.Store tx.new.conn.now) → (rows : AllRows)
+        → BecomesAt Third (state S.Store tx.old.conn.now).now rows
+        → OnOk result
+        (BecomesAt Fifth (state S.Store tx.new.conn.now).now (all_in_version (pos 5) rows)) }
 {
     move_holds(tx)?;
     renew_fourth(tx)

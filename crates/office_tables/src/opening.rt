@@ -20,7 +20,8 @@ use sqlite_schema::schema::Schema;
 
 /// The version that a row tells, where it is the row of an office.
 fn version_in(row: &Row) -> Option<i64>
-    ensures { MatchOption result (shows_office row.now ≡ false) (λ version. (shows_office row.now ≡ true) × (column row.now 1 ≡ Int version)) }
+    ensures { MatchOption result (shows_office row.now ≡ false) (λ version.
+        (shows_office row.now ≡ true) × (column row.now 1 ≡ Int version)) }
 {
     let Ok(ValueRef::Int(1)) = row.get_ref(0) else {
         return None;
@@ -42,8 +43,8 @@ fn version_in(row: &Row) -> Option<i64>
 
 /// The version that the first row of an office among these tells.
 fn version_among(rows: &[Row]) -> Option<i64>
-    ensures { MatchOption result (known_row rows.now ≡ None)
-        (λ version. (row : SqlRow) × (known_row rows.now ≡ Some row) × (column row 1 ≡ Int version)) }
+    ensures { MatchOption result (known_row rows.now ≡ None) (λ version.
+        (row : SqlRow) × (known_row rows.now ≡ Some row) × (column row 1 ≡ Int version)) }
 {
     for row in rows {
         if let Some(version) = version_in(row) {
@@ -61,8 +62,10 @@ pub fn version_told<S: Alter>(tx: &mut Transaction<'_, S>) -> Result<Option<i64>
     ensures stays { CommitsNothing S.Store tx.old.conn.now tx.new.conn.now }
     ensures goes_on { Continues S.Store tx.old.conn.now tx.new.conn.now result }
     ensures failure { IfErr result IsFailure }
-    ensures same { HasCleanDisk (state S.Store tx.new.conn.now) → OnOk result ((state S.Store tx.new.conn.now).now ≡ (state S.Store tx.old.conn.now).now) }
-    ensures shown { HasCleanDisk (state S.Store tx.new.conn.now) → IfOk result (ShowsVersion (state S.Store tx.old.conn.now).now) }
+    ensures same { HasCleanDisk (state S.Store tx.new.conn.now)
+        → OnOk result ((state S.Store tx.new.conn.now).now ≡ (state S.Store tx.old.conn.now).now) }
+    ensures shown { HasCleanDisk (state S.Store tx.new.conn.now)
+        → IfOk result (ShowsVersion (state S.Store tx.old.conn.now).now) }
 {
     let rows = ask(
         tx,
@@ -98,16 +101,28 @@ pub fn open_tables<S: Alter>(conn: &mut Connection<S>) -> Result<(), TableFault>
     requires outside { (state S.Store conn.old).in_transaction ≡ false }
     ensures outside { (state S.Store conn.new).in_transaction ≡ false }
     ensures survives { Survives (state S.Store conn.old) (state S.Store conn.new) (λ _. ⊥) }
-    ensures same { HasCleanDisk (state S.Store conn.new) → KeepsTables (state S.Store conn.old) (state S.Store conn.new) }
-    ensures opened { HasCleanDisk (state S.Store conn.new) → OnOk result (IsTrue (has_office (state S.Store conn.old).now.schema) × HasVersion (state S.Store conn.old).now this_version) }
-    ensures not_office { HasCleanDisk (state S.Store conn.new) → result ≡ Err TableFault.NotAnOffice → NotAnOffice (state S.Store conn.old).now }
-    ensures other_version { HasCleanDisk (state S.Store conn.new) → result ≡ Err TableFault.OtherVersion → HasOtherVersion (state S.Store conn.old).now this_version }
-    ensures no_table { has_office (state S.Store conn.old).now.schema ≡ false → result ≡ Err TableFault.NotAnOffice }
-    ensures untouched { has_office (state S.Store conn.old).now.schema ≡ false → conn.new ≡ conn.old }
-    ensures known { Tells S.Store conn.old conn.new result (λ tables _. version_of tables ≡ Some this_version) }
-    ensures unknown { HasCleanDisk (state S.Store conn.new) → IsOffice (state S.Store conn.old).now → result ≡ Err TableFault.NotAnOffice
+    ensures same { HasCleanDisk (state S.Store conn.new)
+        → KeepsTables (state S.Store conn.old) (state S.Store conn.new) }
+    ensures opened { HasCleanDisk (state S.Store conn.new)
+        → OnOk result
+        (IsTrue (has_office (state S.Store conn.old).now.schema)
+        × HasVersion (state S.Store conn.old).now this_version) }
+    ensures not_office { HasCleanDisk (state S.Store conn.new) → result ≡ Err TableFault.NotAnOffice
+        → NotAnOffice (state S.Store conn.old).now }
+    ensures other_version { HasCleanDisk (state S.Store conn.new)
+        → result ≡ Err TableFault.OtherVersion
+        → HasOtherVersion (state S.Store conn.old).now this_version }
+    ensures no_table { has_office (state S.Store conn.old).now.schema ≡ false
+        → result ≡ Err TableFault.NotAnOffice }
+    ensures untouched { has_office (state S.Store conn.old).now.schema ≡ false
+        → conn.new ≡ conn.old }
+    ensures known { Tells S.Store conn.old conn.new result (λ tables _.
+        version_of tables ≡ Some this_version) }
+    ensures unknown { HasCleanDisk (state S.Store conn.new) → IsOffice (state S.Store conn.old).now
+        → result ≡ Err TableFault.NotAnOffice
         → version_of (tables_of (state S.Store conn.old).now) ≡ None }
-    ensures known_as_other { HasCleanDisk (state S.Store conn.new) → IsOffice (state S.Store conn.old).now → result ≡ Err TableFault.OtherVersion
+    ensures known_as_other { HasCleanDisk (state S.Store conn.new)
+        → IsOffice (state S.Store conn.old).now → result ≡ Err TableFault.OtherVersion
         → IsKnownAsOther (tables_of (state S.Store conn.old).now) this_version }
 {
     // What the connection says of its state.
@@ -159,7 +174,9 @@ pub fn limits<S: Alter>(tx: &mut Transaction<'_, S>) -> Result<OfficeLimits, Tab
     ensures failure { IfErr result IsFailure }
     ensures same { Keeps S.Store tx.old.conn.now tx.new.conn.now result }
     ensures found { Tells S.Store tx.old.conn.now tx.new.conn.now result (λ tables limits.
-        limits_of tables ≡ Some (record { max_deposits = pos limits.max_deposits; max_holds = pos limits.max_holds })) }
+        limits_of tables
+        ≡ Some
+        (record { max_deposits = pos limits.max_deposits; max_holds = pos limits.max_holds })) }
 {
     let rows = rows_of_limits(tx)?;
     let Some(row) = rows.first() else {

@@ -58,9 +58,20 @@ impl Model for RuleRow {
     ghost Value = { Rule };
 
     ghost coded = { code_by (ℤ × (ℤ × (List ℕ × (List ℕ × (List ℕ × (List ℕ × (ℤ × ℤ)))))))
-        (coded× coded_ℤ (coded× coded_ℤ (coded× (coded_list coded_ℕ) (coded× (coded_list coded_ℕ) (coded× (coded_list coded_ℕ) (coded× (coded_list coded_ℕ) (coded× coded_ℤ coded_ℤ)))))))
-        (λ (r : Rule). (r.place, (r.effect, (r.role, (r.action, (r.collection, (r.class, (r.first, r.last))))))))
-        (λ p. record { place = p.0; effect = p.1.0; role = p.1.1.0; action = p.1.1.1.0; collection = p.1.1.1.1.0; class = p.1.1.1.1.1.0; first = p.1.1.1.1.1.1.0; last = p.1.1.1.1.1.1.1 })
+        (coded× coded_ℤ (coded× coded_ℤ (coded× (coded_list coded_ℕ) (coded× (coded_list coded_ℕ)
+        (coded× (coded_list coded_ℕ) (coded× (coded_list coded_ℕ) (coded× coded_ℤ coded_ℤ)))))))
+        (λ (r : Rule).
+        (r.place, (r.effect, (r.role, (r.action, (r.collection, (r.class, (r.first, r.last))))))))
+        (λ p. record {
+          place = p.0;
+          effect = p.1.0;
+          role = p.1.1.0;
+          action = p.1.1.1.0;
+          collection = p.1.1.1.1.0;
+          class = p.1.1.1.1.1.0;
+          first = p.1.1.1.1.1.1.0;
+          last = p.1.1.1.1.1.1.1;
+        })
         (λ _. refl) };
 
     ghost view = { λ r. record {
@@ -82,7 +93,8 @@ fn rows_of_role<S: Alter>(tx: &mut Transaction<'_, S>, name: &str) -> Result<Vec
     ensures goes_on { Continues S.Store tx.old.conn.now tx.new.conn.now result }
     ensures failure { IfErr result IsFailure }
     ensures found { Shows S.Store tx.old.conn.now tx.new.conn.now result (λ tables rows.
-        option_map (λ c. c.role) (caller_named name.now tables.callers) ≡ option_map (λ row. bytes_at row 0) (slice_get rows.items 0)) }
+        option_map (λ c. c.role) (caller_named name.now tables.callers)
+        ≡ option_map (λ row. bytes_at row 0) (slice_get rows.items 0)) }
 {
     ask(tx, "SELECT role FROM caller WHERE name = ?1", params![name])
 }
@@ -108,7 +120,8 @@ pub fn role_of<S: Alter>(
     ensures failure { IfErr result IsFailure }
     ensures same { Keeps S.Store tx.old.conn.now tx.new.conn.now result }
     ensures found { Tells S.Store tx.old.conn.now tx.new.conn.now result (λ tables found.
-        option_map string_bytes found ≡ option_map (λ c. c.role) (caller_named name.now tables.callers)) }
+        option_map string_bytes found
+        ≡ option_map (λ c. c.role) (caller_named name.now tables.callers)) }
 {
     let rows = rows_of_role(tx, name)?;
     match rows.first() {
@@ -195,7 +208,8 @@ fn rows_of_match<S: Alter>(
     ensures goes_on { Continues S.Store tx.old.conn.now tx.new.conn.now result }
     ensures failure { IfErr result IsFailure }
     ensures found { Shows S.Store tx.old.conn.now tx.new.conn.now result (λ tables rows.
-        matching_rule role.now action.now collection.now class.now day tables.rules ≡ option_map shown_rule (slice_get rows.items 0)) }
+        matching_rule role.now action.now collection.now class.now day tables.rules
+        ≡ option_map shown_rule (slice_get rows.items 0)) }
 {
     ask(
         tx,
@@ -265,7 +279,8 @@ fn add_caller<S: Alter>(
     ensures stays { CommitsNothing S.Store tx.old.conn.now tx.new.conn.now }
     ensures goes_on { Continues S.Store tx.old.conn.now tx.new.conn.now result }
     ensures failure { IfErr result IsFailure }
-    ensures becomes { Writes S.Store tx.old.conn.now tx.new.conn.now result (with_caller (record { name = name.now; role = role.now })) }
+    ensures becomes { Writes S.Store tx.old.conn.now tx.new.conn.now result
+        (with_caller (record { name = name.now; role = role.now })) }
     ensures once { LeavesOnce S.Store tx.old.conn.now tx.new.conn.now result }
 {
     change(
@@ -292,7 +307,17 @@ fn add_rule<S: Alter>(
     ensures goes_on { Continues S.Store tx.old.conn.now tx.new.conn.now result }
     ensures failure { IfErr result IsFailure }
     ensures becomes { Writes S.Store tx.old.conn.now tx.new.conn.now result
-        (with_rule (record { place = place; effect = effect; role = role.now; action = action.now; collection = collection.now; class = class.now; first = first; last = last })) }
+        (with_rule
+        (record {
+          place = place;
+          effect = effect;
+          role = role.now;
+          action = action.now;
+          collection = collection.now;
+          class = class.now;
+          first = first;
+          last = last;
+        })) }
     ensures once { LeavesOnce S.Store tx.old.conn.now tx.new.conn.now result }
 {
     change(
@@ -311,7 +336,8 @@ fn add_callers<S: Alter>(
     ensures stays { CommitsNothing S.Store tx.old.conn.now tx.new.conn.now }
     ensures goes_on { ContinuesInTurn S.Store tx.old.conn.now tx.new.conn.now result }
     ensures failure { IfErr result IsFailure }
-    ensures becomes { Writes S.Store tx.old.conn.now tx.new.conn.now result (with_callers callers.now) }
+    ensures becomes { Writes S.Store tx.old.conn.now tx.new.conn.now result
+        (with_callers callers.now) }
     ensures once { LeavesOnce S.Store tx.old.conn.now tx.new.conn.now result }
 {
     for caller in callers {
@@ -357,7 +383,8 @@ pub fn put_policy<S: Alter>(
     ensures stays { CommitsNothing S.Store tx.old.conn.now tx.new.conn.now }
     ensures goes_on { Continues S.Store tx.old.conn.now tx.new.conn.now result }
     ensures failure { IfErr result IsFailure }
-    ensures becomes { Writes S.Store tx.old.conn.now tx.new.conn.now result (with_policy callers.now rules.now) }
+    ensures becomes { Writes S.Store tx.old.conn.now tx.new.conn.now result
+        (with_policy callers.now rules.now) }
     ensures once { LeavesOnce S.Store tx.old.conn.now tx.new.conn.now result }
 {
     drop_callers(tx)?;

@@ -12,9 +12,11 @@ ghost use Rattle.office_tables.specs.declared.version.TableVersion.TheVariants.{
 /// What is told of contents goes through an upgrade: contents that were kept once still are, and contents that
 /// were exactly those of the files still are.
 pub fn contents_stay()
-    ensures once { (version : Version) (rows : AllRows) (old new : Database) → BecomesAt version old rows → BecomesAt Fifth new (renewed version rows)
-        → KeepsOnce old → KeepsOnce new }
-    ensures held { (version : Version) (rows : AllRows) (old new : Database) → BecomesAt version old rows → BecomesAt Fifth new (renewed version rows)
+    ensures once { (version : Version) (rows : AllRows) (old new : Database)
+        → BecomesAt version old rows → BecomesAt Fifth new (renewed version rows) → KeepsOnce old
+        → KeepsOnce new }
+    ensures held { (version : Version) (rows : AllRows) (old new : Database)
+        → BecomesAt version old rows → BecomesAt Fifth new (renewed version rows)
         → AreContents (map (λ f. f.content) (tables_at version old).files) (contents_of old)
         → AreContents (map (λ f. f.content) (tables_at Fifth new).files) (contents_of new) }
 {}

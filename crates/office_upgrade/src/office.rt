@@ -28,47 +28,83 @@ pub fn upgrade_office<S: Alter>(
 ) -> Result<Connection<S>, (Connection<S>, TableFault)>
     requires outside { (state S.Store conn).in_transaction ≡ false }
     ensures outside { IfOk result (λ office. (state S.Store office).in_transaction ≡ false) }
-    ensures was_open { IfOk result (λ office. HasCleanDisk (state S.Store office) → IsTrue (state S.Store conn).is_open) }
+    ensures was_open { IfOk result (λ office.
+        HasCleanDisk (state S.Store office) → IsTrue (state S.Store conn).is_open) }
     // Tables that show no older version stay as they are, those that are the newest among them.
-    ensures kept { IfOk result (λ office. HasCleanDisk (state S.Store office) → (IsOlder (state S.Store conn).now → ⊥)
+    ensures kept { IfOk result (λ office.
+        HasCleanDisk (state S.Store office) → (IsOlder (state S.Store conn).now → ⊥)
         → KeepsTables (state S.Store conn) (state S.Store office)) }
-    ensures newest { IfOk result (λ office. HasCleanDisk (state S.Store office) → IsOffice (state S.Store conn).now
-        → version_of (tables_of (state S.Store conn).now) ≡ Some this_version → KeepsTables (state S.Store conn) (state S.Store office)) }
-    ensures newest_survives { IfOk result (λ office. NewestSurvives (state S.Store conn) (state S.Store office)) }
-    ensures upgraded { IfOk result (λ office. HasCleanDisk (state S.Store office) → Upgrades (state S.Store conn) (state S.Store office)) }
-    ensures found { IfOk result (λ office. HasCleanDisk (state S.Store office) → TakesUp (state S.Store conn) (state S.Store office)) }
-    ensures version { IfOk result (λ office. HasCleanDisk (state S.Store office) → IsTrue (has_office (state S.Store conn).now.schema)
+    ensures newest { IfOk result (λ office.
+        HasCleanDisk (state S.Store office) → IsOffice (state S.Store conn).now
+        → version_of (tables_of (state S.Store conn).now) ≡ Some this_version
+        → KeepsTables (state S.Store conn) (state S.Store office)) }
+    ensures newest_survives { IfOk result (λ office.
+        NewestSurvives (state S.Store conn) (state S.Store office)) }
+    ensures upgraded { IfOk result (λ office.
+        HasCleanDisk (state S.Store office)
+        → Upgrades (state S.Store conn) (state S.Store office)) }
+    ensures found { IfOk result (λ office.
+        HasCleanDisk (state S.Store office) → TakesUp (state S.Store conn) (state S.Store office)) }
+    ensures version { IfOk result (λ office.
+        HasCleanDisk (state S.Store office)
+        → IsTrue (has_office (state S.Store conn).now.schema)
         × ((known : Version) × HasVersion (state S.Store conn).now (version_number known))) }
     // Where the tables are an office's, their own version is known.
-    ensures known_as_one { IfOk result (λ office. HasCleanDisk (state S.Store office) → (version : Version)
-        → IsOfficeAt version (state S.Store conn).now → TellsKnown (tables_at version (state S.Store conn).now)) }
-    ensures survives { IfOk result (λ office. Survives (state S.Store conn) (state S.Store office) (IsUpgrade (state S.Store conn).now)) }
-    ensures leaves { IfOk result (λ office. HasCleanDisk (state S.Store office) → LeavesOffice (state S.Store conn) (state S.Store office)) }
-    ensures durable { IfOk result (λ office. HasCleanDisk (state S.Store office) → UpgradeLasts (state S.Store conn) (state S.Store office)) }
+    ensures known_as_one { IfOk result (λ office.
+        HasCleanDisk (state S.Store office) → (version : Version)
+        → IsOfficeAt version (state S.Store conn).now
+        → TellsKnown (tables_at version (state S.Store conn).now)) }
+    ensures survives { IfOk result (λ office.
+        Survives (state S.Store conn) (state S.Store office) (IsUpgrade (state S.Store conn).now)) }
+    ensures leaves { IfOk result (λ office.
+        HasCleanDisk (state S.Store office)
+        → LeavesOffice (state S.Store conn) (state S.Store office)) }
+    ensures durable { IfOk result (λ office.
+        HasCleanDisk (state S.Store office)
+        → UpgradeLasts (state S.Store conn) (state S.Store office)) }
 
     // A refusal leaves the office as it was.
     ensures refused_outside { IfErr result (λ e. (state S.Store e.0).in_transaction ≡ false) }
-    ensures refused_same { IfErr result (λ e. HasCleanDisk (state S.Store e.0) → KeepsTables (state S.Store conn) (state S.Store e.0)) }
-    ensures refused { IfErr result (λ e. HasCleanDisk (state S.Store e.0) → KeepsOffice (state S.Store conn) (state S.Store e.0)) }
-    ensures goes_back { IfErr result (λ e. HasCleanDisk (state S.Store e.0) → GoesBack (state S.Store conn) (state S.Store e.0)) }
-    ensures refused_newest_survives { IfErr result (λ e. NewestSurvives (state S.Store conn) (state S.Store e.0)) }
+    ensures refused_same { IfErr result (λ e.
+        HasCleanDisk (state S.Store e.0) → KeepsTables (state S.Store conn) (state S.Store e.0)) }
+    ensures refused { IfErr result (λ e.
+        HasCleanDisk (state S.Store e.0) → KeepsOffice (state S.Store conn) (state S.Store e.0)) }
+    ensures goes_back { IfErr result (λ e.
+        HasCleanDisk (state S.Store e.0) → GoesBack (state S.Store conn) (state S.Store e.0)) }
+    ensures refused_newest_survives { IfErr result (λ e.
+        NewestSurvives (state S.Store conn) (state S.Store e.0)) }
     // `NotAnOffice` and `OtherVersion` leave no other trees than those that were there.
-    ensures told_survives { IfErr result (λ e. (IsFailure e.1 → ⊥) → Survives (state S.Store conn) (state S.Store e.0) (λ _. ⊥)) }
-    ensures refused_survives { IfErr result (λ e. Survives (state S.Store conn) (state S.Store e.0) (IsUpgrade (state S.Store conn).now)) }
-    ensures refused_leaves { IfErr result (λ e. HasCleanDisk (state S.Store e.0) → LeavesOffice (state S.Store conn) (state S.Store e.0)) }
-    ensures not_office { IfErr result (λ e. HasCleanDisk (state S.Store e.0) → e.1 ≡ NotAnOffice → opening.NotAnOffice (state S.Store conn).now) }
-    ensures other_version { IfErr result (λ e. HasCleanDisk (state S.Store e.0) → e.1 ≡ OtherVersion → HasUnknownVersion (state S.Store conn).now) }
-    ensures no_table { has_office (state S.Store conn).now.schema ≡ false → result ≡ Err (conn, NotAnOffice) }
+    ensures told_survives { IfErr result (λ e.
+        (IsFailure e.1 → ⊥) → Survives (state S.Store conn) (state S.Store e.0) (λ _. ⊥)) }
+    ensures refused_survives { IfErr result (λ e.
+        Survives (state S.Store conn) (state S.Store e.0) (IsUpgrade (state S.Store conn).now)) }
+    ensures refused_leaves { IfErr result (λ e.
+        HasCleanDisk (state S.Store e.0) → LeavesOffice (state S.Store conn) (state S.Store e.0)) }
+    ensures not_office { IfErr result (λ e.
+        HasCleanDisk (state S.Store e.0) → e.1 ≡ NotAnOffice
+        → opening.NotAnOffice (state S.Store conn).now) }
+    ensures other_version { IfErr result (λ e.
+        HasCleanDisk (state S.Store e.0) → e.1 ≡ OtherVersion
+        → HasUnknownVersion (state S.Store conn).now) }
+    ensures no_table { has_office (state S.Store conn).now.schema ≡ false
+        → result ≡ Err (conn, NotAnOffice) }
     // Where the tables are an office's, it says so of their own version.
-    ensures unknown { IfErr result (λ e. HasCleanDisk (state S.Store e.0) → (version : Version) → IsOfficeAt version (state S.Store conn).now
-        → e.1 ≡ NotAnOffice → version_of (tables_at version (state S.Store conn).now) ≡ None) }
-    ensures known_as_other { IfErr result (λ e. HasCleanDisk (state S.Store e.0) → (version : Version) → IsOfficeAt version (state S.Store conn).now
-        → e.1 ≡ OtherVersion → TellsUnknown (tables_at version (state S.Store conn).now)) }
+    ensures unknown { IfErr result (λ e.
+        HasCleanDisk (state S.Store e.0) → (version : Version)
+        → IsOfficeAt version (state S.Store conn).now → e.1 ≡ NotAnOffice
+        → version_of (tables_at version (state S.Store conn).now) ≡ None) }
+    ensures known_as_other { IfErr result (λ e.
+        HasCleanDisk (state S.Store e.0) → (version : Version)
+        → IsOfficeAt version (state S.Store conn).now → e.1 ≡ OtherVersion
+        → TellsUnknown (tables_at version (state S.Store conn).now)) }
     // Of an office that tells its version, and of what was left of one, it says neither.
-    ensures failure { IfErr result (λ e. HasCleanDisk (state S.Store e.0) → (version : Version) (rows : AllRows)
+    ensures failure { IfErr result (λ e.
+        HasCleanDisk (state S.Store e.0) → (version : Version) (rows : AllRows)
         → BecomesAt version (state S.Store conn).now rows → Tells version rows → IsFailure e.1) }
-    ensures left_failure { IfErr result (λ e. HasCleanDisk (state S.Store e.0) → IsTrue (state S.Store conn).is_open → (version : Version) (rows : AllRows)
-        → Tells version rows → IsLeftAt version rows (state S.Store conn).now.trees → IsFailure e.1) }
+    ensures left_failure { IfErr result (λ e.
+        HasCleanDisk (state S.Store e.0) → IsTrue (state S.Store conn).is_open
+        → (version : Version) (rows : AllRows) → Tells version rows
+        → IsLeftAt version rows (state S.Store conn).now.trees → IsFailure e.1) }
 {
     // What the connection says of its state, and of its schema.
     let _is_settled = conn.is_autocommit();

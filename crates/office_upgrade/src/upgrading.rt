@@ -43,13 +43,17 @@ fn renew<S: Alter>(tx: &mut Transaction<'_, S>, version: i64) -> Result<bool, Ta
     ensures same_reference { tx.new.conn.ghost_name ≡ tx.old.conn.ghost_name }
     ensures stays { CommitsNothing S.Store tx.old.conn.now tx.new.conn.now }
     ensures goes_on { ContinuesInTurn S.Store tx.old.conn.now tx.new.conn.now result }
-    ensures renewed { HasCleanDisk (state S.Store tx.new.conn.now) → OnOk result ((known : Version) (rows : AllRows) → version ≡ version_number known
-        → BecomesAt known (state S.Store tx.old.conn.now).now rows → BecomesAt Fifth (state S.Store tx.new.conn.now).now (renewed known rows)) }
+    ensures renewed { HasCleanDisk (state S.Store tx.new.conn.now)
+        → OnOk result
+        ((known : Version) (rows : AllRows) → version ≡ version_number known
+        → BecomesAt known (state S.Store tx.old.conn.now).now rows
+        → BecomesAt Fifth (state S.Store tx.new.conn.now).now (renewed known rows)) }
     ensures known { OnOk result ((known : Version) × (version ≡ version_number known)) }
     ensures newest { result ≡ Ok false → (version ≡ version_number Fifth) × (tx.new ≡ tx.old) }
     ensures older { result ≡ Ok true → version ≢ version_number Fifth }
     ensures is_office { result ≢ Err fault.NotAnOffice }
-    ensures other { result ≡ Err fault.OtherVersion → (known : Version) → version ≢ version_number known }
+    ensures other { result ≡ Err fault.OtherVersion → (known : Version)
+        → version ≢ version_number known }
 {
     match version {
         3 => {
@@ -70,15 +74,26 @@ fn take_over<S: Alter>(tx: &mut Transaction<'_, S>) -> Result<bool, TableFault>
     ensures same_reference { tx.new.conn.ghost_name ≡ tx.old.conn.ghost_name }
     ensures stays { CommitsNothing S.Store tx.old.conn.now tx.new.conn.now }
     ensures goes_on { ContinuesInTurn S.Store tx.old.conn.now tx.new.conn.now result }
-    ensures was_open { HasCleanDisk (state S.Store tx.new.conn.now) → OnOk result (IsTrue (state S.Store tx.old.conn.now).is_open) }
-    ensures renewed { HasCleanDisk (state S.Store tx.new.conn.now) → OnOk result (IsRenewed (state S.Store tx.old.conn.now).now (state S.Store tx.new.conn.now).now) }
-    ensures same { HasCleanDisk (state S.Store tx.new.conn.now) → result ≡ Ok false → (state S.Store tx.new.conn.now).now ≡ (state S.Store tx.old.conn.now).now }
-    ensures older { HasCleanDisk (state S.Store tx.new.conn.now) → result ≡ Ok true → IsOffice (state S.Store tx.old.conn.now).now
+    ensures was_open { HasCleanDisk (state S.Store tx.new.conn.now)
+        → OnOk result (IsTrue (state S.Store tx.old.conn.now).is_open) }
+    ensures renewed { HasCleanDisk (state S.Store tx.new.conn.now)
+        → OnOk result
+        (IsRenewed (state S.Store tx.old.conn.now).now (state S.Store tx.new.conn.now).now) }
+    ensures same { HasCleanDisk (state S.Store tx.new.conn.now) → result ≡ Ok false
+        → (state S.Store tx.new.conn.now).now ≡ (state S.Store tx.old.conn.now).now }
+    ensures older { HasCleanDisk (state S.Store tx.new.conn.now) → result ≡ Ok true
+        → IsOffice (state S.Store tx.old.conn.now).now
         → version_of (tables_of (state S.Store tx.old.conn.now).now) ≢ Some this_version }
-    ensures was_older { HasCleanDisk (state S.Store tx.new.conn.now) → result ≡ Ok true → IsOlder (state S.Store tx.old.conn.now).now }
-    ensures known { HasCleanDisk (state S.Store tx.new.conn.now) → OnOk result ((known : Version) × HasVersion (state S.Store tx.old.conn.now).now (version_number known)) }
-    ensures not_office { HasCleanDisk (state S.Store tx.new.conn.now) → result ≡ Err fault.NotAnOffice → ShowsVersion (state S.Store tx.old.conn.now).now None }
-    ensures other_version { HasCleanDisk (state S.Store tx.new.conn.now) → result ≡ Err fault.OtherVersion → HasUnknownVersion (state S.Store tx.old.conn.now).now }
+    ensures was_older { HasCleanDisk (state S.Store tx.new.conn.now) → result ≡ Ok true
+        → IsOlder (state S.Store tx.old.conn.now).now }
+    ensures known { HasCleanDisk (state S.Store tx.new.conn.now)
+        → OnOk result
+        ((known : Version)
+        × HasVersion (state S.Store tx.old.conn.now).now (version_number known)) }
+    ensures not_office { HasCleanDisk (state S.Store tx.new.conn.now)
+        → result ≡ Err fault.NotAnOffice → ShowsVersion (state S.Store tx.old.conn.now).now None }
+    ensures other_version { HasCleanDisk (state S.Store tx.new.conn.now)
+        → result ≡ Err fault.OtherVersion → HasUnknownVersion (state S.Store tx.old.conn.now).now }
 {
     match version_told(tx)? {
         Some(version) => renew(tx, version),
@@ -96,34 +111,57 @@ pub fn upgrade<S: Alter>(conn: &mut Connection<S>) -> Result<(), TableFault>
     ensures outside { (state S.Store conn.new).in_transaction ≡ false }
     // A crash leaves what it could leave before. Of an older version it may also leave the office that was there, with
     // the newest tables.
-    ensures survives { Survives (state S.Store conn.old) (state S.Store conn.new) (IsUpgrade (state S.Store conn.old).now) }
+    ensures survives { Survives (state S.Store conn.old) (state S.Store conn.new)
+        (IsUpgrade (state S.Store conn.old).now) }
     // An answer that is no failure makes nothing.
     ensures told_survives { IfErr result (λ stopped. (IsFailure stopped → ⊥)
         → Survives (state S.Store conn.old) (state S.Store conn.new) (λ _. ⊥)) }
     // That office stands with the newest tables, and all of it is committed.
-    ensures upgraded { HasCleanDisk (state S.Store conn.new) → OnOk result ((version : Version) (rows : AllRows) → IsOfficeOf version (state S.Store conn.old).now rows
-        → (state S.Store conn.old).committed ≡ (state S.Store conn.old).now → IsTrue (state S.Store conn.new).is_open
-        → BecomesAt Fifth (state S.Store conn.new).now (renewed version rows) × ((state S.Store conn.new).committed ≡ (state S.Store conn.new).now)) }
+    ensures upgraded { HasCleanDisk (state S.Store conn.new)
+        → OnOk result
+        ((version : Version) (rows : AllRows) → IsOfficeOf version (state S.Store conn.old).now rows
+        → (state S.Store conn.old).committed ≡ (state S.Store conn.old).now
+        → IsTrue (state S.Store conn.new).is_open
+        → BecomesAt Fifth (state S.Store conn.new).now (renewed version rows)
+        × ((state S.Store conn.new).committed ≡ (state S.Store conn.new).now)) }
     // And a crash leaves that alone.
-    ensures durable { HasCleanDisk (state S.Store conn.new) → OnOk result ((version : Version) (rows : AllRows) → IsOfficeOf version (state S.Store conn.old).now rows
-        → (state S.Store conn.old).committed ≡ (state S.Store conn.old).now → IsTrue (state S.Store conn.old).is_open
-        → (left : Trees) → (state S.Store conn.new).may_leave left → IsLeftAt Fifth (renewed version rows) left) }
-    ensures was_open { HasCleanDisk (state S.Store conn.new) → OnOk result (IsTrue (state S.Store conn.old).is_open) }
+    ensures durable { HasCleanDisk (state S.Store conn.new)
+        → OnOk result
+        ((version : Version) (rows : AllRows) → IsOfficeOf version (state S.Store conn.old).now rows
+        → (state S.Store conn.old).committed ≡ (state S.Store conn.old).now
+        → IsTrue (state S.Store conn.old).is_open → (left : Trees)
+        → (state S.Store conn.new).may_leave left → IsLeftAt Fifth (renewed version rows) left) }
+    ensures was_open { HasCleanDisk (state S.Store conn.new)
+        → OnOk result (IsTrue (state S.Store conn.old).is_open) }
     // Tables that show no older version stay as they are, those that are the newest among them.
-    ensures kept { HasCleanDisk (state S.Store conn.new) → OnOk result ((IsOlder (state S.Store conn.old).now → ⊥)
+    ensures kept { HasCleanDisk (state S.Store conn.new)
+        → OnOk result
+        ((IsOlder (state S.Store conn.old).now → ⊥)
         → KeepsTables (state S.Store conn.old) (state S.Store conn.new)) }
-    ensures newest { HasCleanDisk (state S.Store conn.new) → OnOk result (IsOffice (state S.Store conn.old).now
-        → version_of (tables_of (state S.Store conn.old).now) ≡ Some this_version → KeepsTables (state S.Store conn.old) (state S.Store conn.new)) }
-    ensures refused { HasCleanDisk (state S.Store conn.new) → OnErr result (KeepsTables (state S.Store conn.old) (state S.Store conn.new)) }
-    ensures opened { HasCleanDisk (state S.Store conn.new) → OnOk result (IsTrue (has_office (state S.Store conn.old).now.schema)
+    ensures newest { HasCleanDisk (state S.Store conn.new)
+        → OnOk result
+        (IsOffice (state S.Store conn.old).now
+        → version_of (tables_of (state S.Store conn.old).now) ≡ Some this_version
+        → KeepsTables (state S.Store conn.old) (state S.Store conn.new)) }
+    ensures refused { HasCleanDisk (state S.Store conn.new)
+        → OnErr result (KeepsTables (state S.Store conn.old) (state S.Store conn.new)) }
+    ensures opened { HasCleanDisk (state S.Store conn.new)
+        → OnOk result
+        (IsTrue (has_office (state S.Store conn.old).now.schema)
         × ((known : Version) × HasVersion (state S.Store conn.old).now (version_number known))) }
-    ensures not_office { HasCleanDisk (state S.Store conn.new) → result ≡ Err fault.NotAnOffice → NotAnOffice (state S.Store conn.old).now }
-    ensures other_version { HasCleanDisk (state S.Store conn.new) → result ≡ Err fault.OtherVersion → HasUnknownVersion (state S.Store conn.old).now }
-    ensures no_table { has_office (state S.Store conn.old).now.schema ≡ false → result ≡ Err fault.NotAnOffice }
-    ensures untouched { has_office (state S.Store conn.old).now.schema ≡ false → conn.new ≡ conn.old }
+    ensures not_office { HasCleanDisk (state S.Store conn.new) → result ≡ Err fault.NotAnOffice
+        → NotAnOffice (state S.Store conn.old).now }
+    ensures other_version { HasCleanDisk (state S.Store conn.new) → result ≡ Err fault.OtherVersion
+        → HasUnknownVersion (state S.Store conn.old).now }
+    ensures no_table { has_office (state S.Store conn.old).now.schema ≡ false
+        → result ≡ Err fault.NotAnOffice }
+    ensures untouched { has_office (state S.Store conn.old).now.schema ≡ false
+        → conn.new ≡ conn.old }
     // Of an office of a known version it says neither.
-    ensures failure { HasCleanDisk (state S.Store conn.new) → IfErr result (λ stopped. (version : Version) (rows : AllRows)
-        → BecomesAt version (state S.Store conn.old).now rows → Tells version rows → IsFailure stopped) }
+    ensures failure { HasCleanDisk (state S.Store conn.new)
+        → IfErr result (λ stopped.
+        (version : Version) (rows : AllRows) → BecomesAt version (state S.Store conn.old).now rows
+        → Tells version rows → IsFailure stopped) }
 {
     // What the connection says of its state.
     let _is_settled = conn.is_autocommit();

@@ -82,7 +82,8 @@ fn listed_record(
     class: &Option<Name<'_>>,
     number: u32,
 ) -> Result<Option<DepositRecord>, AllocError>
-    ensures { IfOk result (λ told. told ≡ listed_record office.now day caller.now collection.now class.now number) }
+    ensures { IfOk result (λ told.
+        told ≡ listed_record office.now day caller.now collection.now class.now number) }
 {
     match deposit_numbered(office, number) {
         Some((deposited, deposit)) => {
@@ -106,7 +107,8 @@ fn listed_records(
     collection: &Option<Name<'_>>,
     class: &Option<Name<'_>>,
 ) -> Result<Vec<DepositRecord>, AllocError>
-    ensures { IfOk result (λ told. told.items ≡ listed_records office.now day caller.now collection.now class.now) }
+    ensures { IfOk result (λ told.
+        told.items ≡ listed_records office.now day caller.now collection.now class.now) }
 {
     let numbers = kept_numbers(alloc, office)?;
     let mut records = Vec::new(alloc);
@@ -202,7 +204,10 @@ fn no_deposit() -> Answer
 }
 
 fn record_answer(alloc: Global, office: &Office, number: u32) -> Result<Answer, AllocError>
-    ensures { IfOk result (λ answer. answer ≡ told_of (deposit_numbered office.now number) (λ found. answers.Record (record_of office.now number found))) }
+    ensures { IfOk result (λ answer.
+        answer
+        ≡ told_of (deposit_numbered office.now number) (λ found.
+        answers.Record (record_of office.now number found))) }
 {
     match deposit_numbered(office, number) {
         Some((day, deposit)) => Ok(Answer::Record(record_of(alloc, office, number, day, deposit)?)),
@@ -211,7 +216,10 @@ fn record_answer(alloc: Global, office: &Office, number: u32) -> Result<Answer, 
 }
 
 fn holds_answer(alloc: Global, office: &Office, number: u32) -> Result<Answer, AllocError>
-    ensures { IfOk result (λ answer. answer ≡ told_of (deposit_numbered office.now number) (λ found. answers.Holds (told_holds office.now number found.1))) }
+    ensures { IfOk result (λ answer.
+        answer
+        ≡ told_of (deposit_numbered office.now number) (λ found.
+        answers.Holds (told_holds office.now number found.1))) }
 {
     match deposit_numbered(office, number) {
         Some((_, deposit)) => Ok(Answer::Holds {
@@ -222,7 +230,10 @@ fn holds_answer(alloc: Global, office: &Office, number: u32) -> Result<Answer, A
 }
 
 fn bag_answer(alloc: Global, office: &Office, number: u32) -> Result<Answer, AllocError>
-    ensures { IfOk result (λ answer. answer ≡ told_of (deposit_numbered office.now number) (λ found. answers.Bag (set_text found.1.bag))) }
+    ensures { IfOk result (λ answer.
+        answer
+        ≡ told_of (deposit_numbered office.now number) (λ found.
+        answers.Bag (set_text found.1.bag))) }
 {
     match deposit_numbered(office, number) {
         Some((_, deposit)) => Ok(Answer::Bag {
@@ -238,7 +249,10 @@ fn path_answer(
     number: u32,
     path: &[u8],
 ) -> Result<Answer, AllocError>
-    ensures { IfOk result (λ answer. answer ≡ told_of (deposit_numbered office.now number) (λ found. file_answer (content_at found.1.bag path.now))) }
+    ensures { IfOk result (λ answer.
+        answer
+        ≡ told_of (deposit_numbered office.now number) (λ found.
+        file_answer (content_at found.1.bag path.now))) }
 {
     match deposit_numbered(office, number) {
         Some((_, deposit)) => file_answer(alloc, deposit.bag.content(alloc, path)?),
@@ -247,7 +261,10 @@ fn path_answer(
 }
 
 fn audit_answer(alloc: Global, office: &Office, number: u32) -> Result<Answer, AllocError>
-    ensures { IfOk result (λ answer. answer ≡ told_of (deposit_numbered office.now number) (λ found. answers.Audit number (audit_report (report_on found.1.bag)))) }
+    ensures { IfOk result (λ answer.
+        answer
+        ≡ told_of (deposit_numbered office.now number) (λ found.
+        answers.Audit number (audit_report (report_on found.1.bag)))) }
 {
     match deposit_numbered(office, number) {
         Some((_, deposit)) => Ok(Answer::Audit {
@@ -266,7 +283,8 @@ pub fn allowed_answer(
     caller: &str,
     request: &Request<'_>,
 ) -> Result<Answer, AllocError>
-    ensures { IfOk result (λ answer. answer ≡ allowed_answer office.now day caller.now request.now) }
+    ensures { IfOk result (λ answer.
+        answer ≡ allowed_answer office.now day caller.now request.now) }
 {
     match request {
         Request::DefineClass { name, years } => Ok(Answer::Class {

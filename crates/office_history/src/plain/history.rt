@@ -60,7 +60,8 @@ impl Office {
 #[tactic(auto, using(crate::proofs::PlainLemmas::few))]
 pub fn changes_of(office: &Office) -> &[Change]
     ensures changes { result.now ≡ office.now.changes }
-    ensures few { (length (deposits office.now) ≤ max_limit) × (length (holds office.now) ≤ max_limit) }
+    ensures few { (length (deposits office.now) ≤ max_limit)
+        × (length (holds office.now) ≤ max_limit) }
 {
     office.changes.as_slice()
 }

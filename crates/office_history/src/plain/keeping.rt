@@ -18,7 +18,8 @@ fn push_contents<'a>(
     all: &mut Vec<&'a [u8]>,
     files: &[(&'a str, &'a [u8])],
 ) -> Result<(), AllocError>
-    ensures { OnOk result (texts all.new.items ≡ texts all.old.items ++ contents_of (reading.files_of files.now)) }
+    ensures { OnOk result
+        (texts all.new.items ≡ texts all.old.items ++ contents_of (reading.files_of files.now)) }
 {
     for file in files {
         all.push(file.1)?;
@@ -32,7 +33,8 @@ fn push_deposit<'a>(
     number: u32,
     all: &mut Vec<&'a [u8]>,
 ) -> Result<(), AllocError>
-    ensures { OnOk result (texts all.new.items ≡ texts all.old.items ++ contents_of (files_of office.now number)) }
+    ensures { OnOk result
+        (texts all.new.items ≡ texts all.old.items ++ contents_of (files_of office.now number)) }
 {
     match deposit_numbered(office, number) {
         Some((_, deposit)) => {
@@ -45,7 +47,8 @@ fn push_deposit<'a>(
 
 /// The contents of all files of the kept bags.
 fn all_contents(alloc: Global, office: &Office) -> Result<Vec<&[u8]>, AllocError>
-    ensures { IfOk result (λ all. texts all.items ≡ contents_of (flat_map (files_of office.now) (kept_numbers office.now))) }
+    ensures { IfOk result (λ all.
+        texts all.items ≡ contents_of (flat_map (files_of office.now) (kept_numbers office.now))) }
 {
     let numbers = kept_numbers(alloc, office)?;
     let mut all = Vec::new(alloc);

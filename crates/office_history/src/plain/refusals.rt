@@ -43,8 +43,11 @@ fn asked_refusal(
     action: Action,
     number: u32,
 ) -> Result<Option<Refusal>, AllocError>
-    ensures { IfOk result (λ found. found ≡ first_some (of_deposit
-        (deposit_numbered office.now number) (asked_refusals office.now day caller.now action number))) }
+    ensures { IfOk result (λ found.
+        found
+        ≡ first_some
+        (of_deposit (deposit_numbered office.now number)
+        (asked_refusals office.now day caller.now action number))) }
 {
     match deposit_numbered(office, number) {
         Some((_, deposit)) => first_asked_refusal(
@@ -86,7 +89,8 @@ fn first_place_refusal(
     collection: &str,
     class: &str,
 ) -> Option<Refusal>
-    ensures { result ≡ first_some (place_refusals office.now day caller.now collection.now class.now) }
+    ensures { result
+        ≡ first_some (place_refusals office.now day caller.now collection.now class.now) }
 {
     if let Some(refusal) = no_such_collection(office, collection) {
         return Some(refusal);
@@ -265,7 +269,8 @@ pub fn dispose_refusal(
     caller: &str,
     number: u32,
 ) -> Result<Option<Refusal>, AllocError>
-    ensures { IfOk result (λ found. found ≡ refusal office.now day caller.now (requests.Dispose number)) }
+    ensures { IfOk result (λ found.
+        found ≡ refusal office.now day caller.now (requests.Dispose number)) }
 {
     asked_refusal(alloc, office, day, caller, Action::Dispose, number)
 }

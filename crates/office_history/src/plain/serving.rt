@@ -27,7 +27,9 @@ fn deposit_change(
     closed: Day,
     bag: &[u8],
 ) -> Result<Option<Kind>, AllocError>
-    ensures { IfOk result (λ kind. changes_seen kind ≡ deposit_change day collection.now class.now accession.now closed (bag_of bag.now)) }
+    ensures { IfOk result (λ kind.
+        changes_seen kind
+        ≡ deposit_change day collection.now class.now accession.now closed (bag_of bag.now)) }
 {
     match bag_of(alloc, bag)? {
         Ok(bag) => {
@@ -50,7 +52,9 @@ fn placed_hold(
     target: Target,
     matter: &Matter<'_>,
 ) -> Result<Kind, AllocError>
-    ensures { IfOk result (λ kind. change_seen kind ≡ PlacedHold day (record { target = target_seen target; matter = matter.now })) }
+    ensures { IfOk result (λ kind.
+        change_seen kind
+        ≡ PlacedHold day (record { target = target_seen target; matter = matter.now })) }
 {
     let matter = matter.to_owned(alloc)?;
     Ok(Kind::PlacedHold(day, Hold { target, matter }))
@@ -108,8 +112,10 @@ fn make_change(
     day: Day,
     request: &Request<'_>,
 ) -> Result<(), AllocError>
-    requires { (change : Change) → allowed_change office.old day request.now ≡ change ∷ [] → HasRoom office.old change }
-    ensures made { OnOk result (office.new ≡ with_changes office.old (allowed_change office.old day request.now)) }
+    requires { (change : Change) → allowed_change office.old day request.now ≡ change ∷ []
+        → HasRoom office.old change }
+    ensures made { OnOk result
+        (office.new ≡ with_changes office.old (allowed_change office.old day request.now)) }
     ensures failed { OnErr result (office.new ≡ office.old) }
 {
     match allowed_change(alloc, office, day, request)? {
@@ -141,7 +147,8 @@ impl Office {
     /// Answers a caller's request on that day. Where memory runs out the office is as it was, as
     /// after every refusal. A legal history stays legal.
     pub fn step(&mut self, alloc: Global, day: Day, caller: &str, request: &Request<'_>) -> Answer
-        ensures served { StepFailing IsWantOfMemory self.old (day, caller.entry, request.now) result self.new }
+        ensures served { StepFailing IsWantOfMemory self.old
+            (day, caller.entry, request.now) result self.new }
         ensures legal { IsLegal self.old → IsLegal self.new }
     {
         // What the types of a day and of a request say of their values.
