@@ -130,6 +130,18 @@ counts_each_day rule day none is =
 pub matches_by_patterns : (rule : Rule) (asked : Question) → HasNoDays rule → IsDay asked.day → matches rule asked ≡ patterns_match rule asked
 matches_by_patterns rule asked none is = ap (λ counts. patterns_match rule asked && counts) (counts_each_day rule asked.day none is) ∙ and-true (patterns_match rule asked)
 
+-- and so of such rules the first whose patterns match decides
+all_by_patterns : (rules : List Rule) (asked : Question) → AllByRecursion HasNoDays rules → IsDay asked.day
+    → prefix_len (λ r. not (matches r asked)) rules ≡ prefix_len (λ r. not (patterns_match r asked)) rules
+all_by_patterns [] asked none is = refl
+all_by_patterns (rule ∷ rules) asked none is =
+    ap (λ test. cond (not test) (1 + prefix_len (λ r. not (matches r asked)) rules) 0) (matches_by_patterns rule asked none.0 is)
+    ∙ ap (λ more. cond (not (patterns_match rule asked)) (1 + more) 0) (all_by_patterns rules asked none.1 is)
+
+pub decided_by_patterns : (rules : List Rule) (asked : Question) → AllByRecursion HasNoDays rules → IsDay asked.day
+    → first_place rules asked ≡ position (λ rule. patterns_match rule asked) rules
+decided_by_patterns rules asked none is = ap (λ end. if nat_lt end (length rules) then Some end else None) (all_by_patterns rules asked none is)
+
 -- and so matches on each of them alike
 matches_alike : (rule : Rule) (asked : Question) (day other : Date) → HasNoDays rule → IsDay day → IsDay other → matches rule (asked_on day asked) ≡ matches rule (asked_on other asked)
 matches_alike rule asked day other none is is_other = rw (counts_each_day rule day none is, counts_each_day rule other none is_other) refl

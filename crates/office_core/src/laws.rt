@@ -1,6 +1,6 @@
 //! Laws of the definitions alone.
 
-ghost use Rattle.std.specs.Prelude.{◌≡◌, ◌≢◌, ◌↔◌, ◌++◌, ◌≤ℤ◌, ℕ, pos, List, Option, Some, None, IsSomeAnd, true, false, slice_get};
+ghost use Rattle.std.specs.Prelude.{◌≡◌, ◌≢◌, ◌↔◌, ◌++◌, ◌≤ℤ◌, ℕ, pos, List, Option, Some, None, IsSomeAnd, true, false, position, slice_get};
 ghost use Rattle.std.specs.List.{AllByRecursion};
 ghost use Rattle.jiff.specs.Types.{Date};
 ghost use Rattle.jiff.specs.Words.{epoch_day};
@@ -48,11 +48,15 @@ pub fn rule_outside_its_days()
 {}
 
 /// A rule that counts on each day of the office matches exactly where its four patterns do, as a rule
-/// of version 1 of the policy file does. Such rules answer a question on each of its days alike.
+/// of version 1 of the policy file does. Of such rules the first whose patterns match decides, on each
+/// of the office's days alike.
 pub fn rules_without_days()
     ensures matches { (rule : Rule) (asked : Question)
         → HasNoDays rule → IsDay asked.day
         → matches rule asked ≡ patterns_match rule asked }
+    ensures decides { (rules : List Rule) (asked : Question)
+        → AllByRecursion HasNoDays rules → IsDay asked.day
+        → first_place rules asked ≡ position (λ rule. patterns_match rule asked) rules }
     ensures alike { (rules : List Rule) (asked : Question) (day other : Date)
         → AllByRecursion HasNoDays rules → IsDay day → IsDay other
         → decision_of rules (asked_on day asked) ≡ decision_of rules (asked_on other asked) }
