@@ -25,7 +25,7 @@ use Rattle.office_history.specs.Runs.{IsLegal}
 use Rattle.office_history.proofs.RangeLemmas.{limits_hold}
 use Rattle.office_asking.specs.Pictures.{Pictures, PicturesAt}
 use Rattle.office_engine.specs.Keeping.{IsKeptAt, IsKeptBy, IsLeftAt, IsLeftOf}
-use Rattle.office_engine.specs.Upgrading.{Upgrades, UpgradeLasts, TakesUp, StaysAt, GoesBackAt, LeavesAt, IsLeftOfUpgrade, IsUpgradeOf, StoppedInTurn}
+use Rattle.office_engine.specs.Upgrading.{Upgrades, UpgradeLasts, OpensOlder, TakesUp, StaysAt, GoesBackAt, LeavesAt, IsLeftOfUpgrade, IsUpgradeOf, StoppedInTurn}
 
 -- the rows by which a version pictures a history, with the contents of a database
 abbrev rows_of : TableVersion → History → Database → AllRows
@@ -120,6 +120,9 @@ goes_back old new back version h left is_open =
 pub upgrade_survives : (old new : State) → Survives old new (rows.IsUpgrade old.now) → Survives old new (IsUpgradeOf old.now)
 upgrade_survives old new = survives_weaker old new _ _ (λ clean left made version h pictured.
     left_new version h old.now pictured left (made.leaves version (rows_of version h old.now) (record { becomes = becomes version h old.now pictured; told = tells_no_other version h old.now })))
+
+pub opens_older : (old new : State) → rows.OpensOlder old new → OpensOlder old new
+opens_older old new opens version h older legal was_open left = opens version (rows_of version h left.0) older (tells version h left.0 legal) was_open (left_rows version h old.now.trees left)
 
 -- of an office of a known version, and of what was left of one, nothing but a failure is said
 pub left_fails : (stopped : TableFault) (old : State) → ((version : TableVersion) (all : AllRows) → rows.Tells version all → rows.IsLeftAt version all old.now.trees → IsFailure stopped)

@@ -1,12 +1,15 @@
 -- What an upgrade makes of an office whose tables may be of an older version. `old` is the store before it and `new` the store after it.
-use Rattle.std.specs.Prelude.{◌⊎◌, ◌≡◌, IsTrue, List, [], ◌∷◌}
+use Rattle.std.specs.Prelude.{◌⊎◌, ◌≡◌, ◌≢◌, IsTrue, List, [], ◌∷◌}
 use Rattle.sqlite.specs.Tree.{Trees}
 use Rattle.sqlite.specs.Effect.{Database}
 use Rattle.sqlite.specs.Store.{Ghosts}
 use Rattle.sqlite.specs.State.{State}
 use Rattle.sqlite.specs.Held.{Held, state}
+use Rattle.office_tables.specs.Versions.{version_number}
 use Rattle.office_tables.specs.declared.version.TableVersion.{TableVersion}
+use Rattle.office_tables.specs.declared.version.TableVersion.TheVariants.{Fifth}
 use Rattle.office_history.specs.Histories.{History}
+use Rattle.office_history.specs.Runs.{IsLegal}
 use Rattle.office_asking.specs.Pictures.{PicturesAt}
 use Rattle.office_engine.specs.Keeping.{IsKeptAt, IsKeptBy, IsLeftAt, IsLeftOf}
 
@@ -31,6 +34,11 @@ IsLeftOfUpgrade version h left = IsLeftAt version h left ⊎ IsLeftOf h left
 abbrev pub LeavesAt : State → State → Type 0
 LeavesAt old new = (version : TableVersion) (h : History) → IsTrue old.is_open → IsLeftAt version h old.now.trees
     → (left : Trees) → new.may_leave left → IsLeftOfUpgrade version h left
+
+-- whichever legal history stood there by older tables, kept or left by a crash, the store is open
+abbrev pub OpensOlder : State → State → Type 0
+OpensOlder old new = (version : TableVersion) (h : History) → version_number version ≢ version_number Fifth → IsLegal h → IsTrue old.is_open
+    → IsLeftAt version h old.now.trees → IsTrue new.is_open
 
 -- whichever history was kept, it still is, by the tables that it had
 abbrev pub StaysAt : State → State → Type 0

@@ -25,7 +25,7 @@ ghost use Rattle.office_tables.specs.Moving.{AllRows, BecomesAt};
 ghost use Rattle.office_tables.specs.declared.version.TableVersion.{TableVersion};
 ghost use Rattle.office_upgrade.specs.Upgrading as rows;
 ghost use Rattle.office_upgrade.specs.Upgrading.{HasUnknownVersion, IsOlder, IsUpgrade, NewestSurvives, Tells, TellsKnown, TellsUnknown};
-ghost use Rattle.office_engine.specs.Upgrading.{GoesBackAt, IsUpgradeOf, LeavesAt, StaysAt, TakesUp, UpgradeLasts, Upgrades};
+ghost use Rattle.office_engine.specs.Upgrading.{GoesBackAt, IsUpgradeOf, LeavesAt, OpensOlder, StaysAt, TakesUp, UpgradeLasts, Upgrades};
 ghost use Rattle.office_engine.specs.Keeping.{AllStayShut, AreToldDue, CommitsRun, CommitsTo, CountsStock, InTurn, InstallLasts, Installs, IsKeptBy, IsKeptOfRun, IsLeftAt, IsLeftOf, IsLeftOfEither, IsLeftOfRun, IsToldByRows, IsToldStock, Lasts, LeavesEither, LeavesInstalled, LeavesKept, LeavesMade, LeavesRun, ListsDue, Runs, Serves, StaysShut, after_item, is_accepted, after_policy};
 
 use crate::installing::install;
@@ -119,8 +119,9 @@ impl<S: Alter> Office<S> {
             HasCleanDisk (state S.Store office)
             → IsTrue (has_office (state S.Store conn).now.schema)) }
         ensures known_as_this { IfOk result (λ office.
-            HasCleanDisk (state S.Store office) → IsOffice (state S.Store conn).now
-            → version_of (tables_of (state S.Store conn).now) ≡ Some this_version) }
+            HasCleanDisk (state S.Store office) → (version : TableVersion)
+            → IsOfficeAt version (state S.Store conn).now
+            → version_of (tables_at version (state S.Store conn).now) ≡ Some this_version) }
         ensures survives { IfOk result (λ office.
             Survives (state S.Store conn) (state S.Store office) (λ _. ⊥)) }
         // What a crash left of an office goes on as that office, and is never told to be none, or one
@@ -149,14 +150,15 @@ impl<S: Alter> Office<S> {
             → HasOtherVersion (state S.Store conn).now this_version) }
         ensures no_table { has_office (state S.Store conn).now.schema ≡ false
             → result ≡ Err (conn, NotAnOffice) }
-        // Where the tables are an office's, it says so of their own version.
+        // Where the tables are an office's of any known version, it says so of what they tell.
         ensures unknown { IfErr result (λ e.
-            HasCleanDisk (state S.Store e.0) → IsOffice (state S.Store conn).now → e.1 ≡ NotAnOffice
-            → version_of (tables_of (state S.Store conn).now) ≡ None) }
+            HasCleanDisk (state S.Store e.0) → (version : TableVersion)
+            → IsOfficeAt version (state S.Store conn).now → e.1 ≡ NotAnOffice
+            → version_of (tables_at version (state S.Store conn).now) ≡ None) }
         ensures known_as_other { IfErr result (λ e.
-            HasCleanDisk (state S.Store e.0) → IsOffice (state S.Store conn).now
-            → e.1 ≡ OtherVersion
-            → IsKnownAsOther (tables_of (state S.Store conn).now) this_version) }
+            HasCleanDisk (state S.Store e.0) → (version : TableVersion)
+            → IsOfficeAt version (state S.Store conn).now → e.1 ≡ OtherVersion
+            → IsKnownAsOther (tables_at version (state S.Store conn).now) this_version) }
     {
         match office_recovery::adopt(conn) {
             Ok(conn) => Ok(Office { conn }),
@@ -190,6 +192,8 @@ impl<S: Alter> Office<S> {
             NewestSurvives (state S.Store conn) (state S.Store office)) }
         ensures open { IfOk result (λ office.
             HasCleanDisk (state S.Store office) → IsTrue (state S.Store conn).is_open) }
+        ensures is_open { IfOk result (λ office. HasCleanDisk (state S.Store office)
+            → OpensOlder (state S.Store conn) (state S.Store office)) }
         ensures version { IfOk result (λ office.
             HasCleanDisk (state S.Store office)
             → IsTrue (has_office (state S.Store conn).now.schema)

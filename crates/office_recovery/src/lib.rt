@@ -15,7 +15,8 @@ ghost use Rattle.office_rows.specs.Rows.{Tables, this_version, version_of};
 ghost use Rattle.office_tables.specs.Faults.{IsFailure};
 ghost use Rattle.office_tables.specs.Opening as opening;
 ghost use Rattle.office_tables.specs.Opening.{HasOtherVersion, HasVersion, KeepsTables, IsKnownAsOther, IsLeft, has_office};
-ghost use Rattle.office_tables.specs.Tables.{IsOffice, tables_of};
+ghost use Rattle.office_tables.specs.Versions.{IsOfficeAt, tables_at};
+ghost use Rattle.office_tables.specs.declared.version.TableVersion.{TableVersion};
 ghost use Rattle.office_tables.specs.declared.fault.TableFault.TheVariants.{NotAnOffice, OtherVersion};
 ghost use Rattle.office_recovery.specs.Found.{GoesOnAs, HoldsWhere, PicksUp};
 
@@ -45,8 +46,9 @@ pub fn adopt<S: Alter>(
     ensures has_table { IfOk result (λ office.
         HasCleanDisk (state S.Store office) → IsTrue (has_office (state S.Store conn).now.schema)) }
     ensures known_as_this { IfOk result (λ office.
-        HasCleanDisk (state S.Store office) → IsOffice (state S.Store conn).now
-        → version_of (tables_of (state S.Store conn).now) ≡ Some this_version) }
+        HasCleanDisk (state S.Store office) → (version : TableVersion)
+        → IsOfficeAt version (state S.Store conn).now
+        → version_of (tables_at version (state S.Store conn).now) ≡ Some this_version) }
     // What was left of an office goes on as that office.
     ensures found { IfOk result (λ office.
         HasCleanDisk (state S.Store office)
@@ -69,13 +71,15 @@ pub fn adopt<S: Alter>(
         → HasOtherVersion (state S.Store conn).now this_version) }
     ensures no_table { has_office (state S.Store conn).now.schema ≡ false
         → result ≡ Err (conn, NotAnOffice) }
-    // Where the tables are an office's, it says so of their own version.
+    // Where the tables are an office's of any known version, it says so of what they tell.
     ensures unknown { IfErr result (λ e.
-        HasCleanDisk (state S.Store e.0) → IsOffice (state S.Store conn).now → e.1 ≡ NotAnOffice
-        → version_of (tables_of (state S.Store conn).now) ≡ None) }
+        HasCleanDisk (state S.Store e.0) → (version : TableVersion)
+        → IsOfficeAt version (state S.Store conn).now → e.1 ≡ NotAnOffice
+        → version_of (tables_at version (state S.Store conn).now) ≡ None) }
     ensures known_as_other { IfErr result (λ e.
-        HasCleanDisk (state S.Store e.0) → IsOffice (state S.Store conn).now → e.1 ≡ OtherVersion
-        → IsKnownAsOther (tables_of (state S.Store conn).now) this_version) }
+        HasCleanDisk (state S.Store e.0) → (version : TableVersion)
+        → IsOfficeAt version (state S.Store conn).now → e.1 ≡ OtherVersion
+        → IsKnownAsOther (tables_at version (state S.Store conn).now) this_version) }
     // Of what was left of an office of this version it says neither.
     ensures failure { IfErr result (λ e.
         HasCleanDisk (state S.Store e.0) → IsTrue (state S.Store conn).is_open → (tables : Tables)

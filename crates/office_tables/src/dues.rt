@@ -347,7 +347,7 @@ pub fn add_holds_class<S: Alter>(
     Ok(())
 }
 
-/// The rows that show the deposits that may be destroyed on that day, by the rules aside.
+/// The rows that show the deposits that may be destroyed on that day, whatever the rules of the policy say.
 fn rows_due<S: Alter>(tx: &mut Transaction<'_, S>, day: i64) -> Result<Vec<Row>, TableFault>
     ensures same_reference { tx.new.conn.ghost_name ≡ tx.old.conn.ghost_name }
     ensures stays { CommitsNothing S.Store tx.old.conn.now tx.new.conn.now }

@@ -32,7 +32,7 @@ pub use holds::{
     HoldRow, HoldTarget, end_hold, has_release_outside, hold_row, last_hold, live_holds, put_hold,
 };
 pub use kept::{ContentSize, contents};
-pub use moving::{renew_fourth, renew_third};
+pub use moving::{move_holds, renew_fourth};
 pub use opening::{OfficeLimits, limits, open_tables, version_told};
 pub use policy::{CallerRow, RuleRow, match_rule, put_policy, role_of, rules};
 pub use version::TableVersion;

@@ -96,8 +96,11 @@ fn empty_holds<S: Alter>(tx: &mut Transaction<'_, S>) -> Result<(), TableFault>
     Ok(())
 }
 
-/// Makes the table of holds that may name a class, and takes the holds over.
-fn move_holds<S: Alter>(tx: &mut Transaction<'_, S>) -> Result<(), TableFault>
+/// Makes the tables of version 4 of those of version 3: that of holds that may name a class, with the holds. The row of the
+/// office tells the older version still.
+///
+/// Fails with `Memory` or `Store`.
+pub fn move_holds<S: Alter>(tx: &mut Transaction<'_, S>) -> Result<(), TableFault>
     ensures same_reference { tx.new.conn.ghost_name ≡ tx.old.conn.ghost_name }
     ensures stays { CommitsNothing S.Store tx.old.conn.now tx.new.conn.now }
     ensures goes_on { ContinuesInTurn S.Store tx.old.conn.now tx.new.conn.now result }
@@ -178,7 +181,9 @@ fn set_version<S: Alter>(tx: &mut Transaction<'_, S>) -> Result<(), TableFault>
     Ok(())
 }
 
-/// Makes the tables of the newest version of those of version 4.
+/// Makes the tables of the newest version of those of version 4, and notes it in the row of the office.
+///
+/// Fails with `Memory` or `Store`.
 pub fn renew_fourth<S: Alter>(tx: &mut Transaction<'_, S>) -> Result<(), TableFault>
     ensures same_reference { tx.new.conn.ghost_name ≡ tx.old.conn.ghost_name }
     ensures stays { CommitsNothing S.Store tx.old.conn.now tx.new.conn.now }
@@ -191,19 +196,4 @@ pub fn renew_fourth<S: Alter>(tx: &mut Transaction<'_, S>) -> Result<(), TableFa
 {
     move_rules(tx)?;
     set_version(tx)
-}
-
-/// Makes the tables of the newest version of those of version 3.
-pub fn renew_third<S: Alter>(tx: &mut Transaction<'_, S>) -> Result<(), TableFault>
-    ensures same_reference { tx.new.conn.ghost_name ≡ tx.old.conn.ghost_name }
-    ensures stays { CommitsNothing S.Store tx.old.conn.now tx.new.conn.now }
-    ensures goes_on { ContinuesInTurn S.Store tx.old.conn.now tx.new.conn.now result }
-    ensures failure { IfErr result IsFailure }
-    ensures renewed { HasCleanDisk (state S.Store tx.new.conn.now) → (rows : AllRows)
-        → BecomesAt Third (state S.Store tx.old.conn.now).now rows
-        → OnOk result
-        (BecomesAt Fifth (state S.Store tx.new.conn.now).now (all_in_version (pos 5) rows)) }
-{
-    move_holds(tx)?;
-    renew_fourth(tx)
 }

@@ -8,7 +8,9 @@ ghost use Rattle.sqlite.specs.declared.types.Value.TheVariants.{Int};
 ghost use Rattle.office_tables.specs.Faults.{IsFailure};
 ghost use Rattle.office_rows.specs.Rows.{this_version, limits_of, version_of};
 ghost use Rattle.office_tables.specs.Calls.{CommitsNothing, Continues, Keeps, Tells, Shows};
-ghost use Rattle.office_tables.specs.Tables.{IsOffice, tables_of, shown_limits};
+ghost use Rattle.office_tables.specs.Tables.{shown_limits};
+ghost use Rattle.office_tables.specs.Versions.{IsOfficeAt, tables_at};
+ghost use Rattle.office_tables.specs.declared.version.TableVersion.{TableVersion};
 ghost use Rattle.office_tables.specs.Opening.{shows_office, known_row, ShowsVersion, has_office, HasVersion, HasOtherVersion, IsKnownAsOther, NotAnOffice, KeepsTables};
 
 use crate::fault::TableFault;
@@ -116,14 +118,17 @@ pub fn open_tables<S: Alter>(conn: &mut Connection<S>) -> Result<(), TableFault>
         → result ≡ Err TableFault.NotAnOffice }
     ensures untouched { has_office (state S.Store conn.old).now.schema ≡ false
         → conn.new ≡ conn.old }
-    ensures known { Tells S.Store conn.old conn.new result (λ tables _.
-        version_of tables ≡ Some this_version) }
-    ensures unknown { HasCleanDisk (state S.Store conn.new) → IsOffice (state S.Store conn.old).now
-        → result ≡ Err TableFault.NotAnOffice
-        → version_of (tables_of (state S.Store conn.old).now) ≡ None }
-    ensures known_as_other { HasCleanDisk (state S.Store conn.new)
-        → IsOffice (state S.Store conn.old).now → result ≡ Err TableFault.OtherVersion
-        → IsKnownAsOther (tables_of (state S.Store conn.old).now) this_version }
+    // Where the tables are an office's of any known version, it says so of what they tell.
+    ensures known { HasCleanDisk (state S.Store conn.new)
+        → OnOk result
+        ((version : TableVersion) → IsOfficeAt version (state S.Store conn.old).now
+        → version_of (tables_at version (state S.Store conn.old).now) ≡ Some this_version) }
+    ensures unknown { HasCleanDisk (state S.Store conn.new) → (version : TableVersion)
+        → IsOfficeAt version (state S.Store conn.old).now → result ≡ Err TableFault.NotAnOffice
+        → version_of (tables_at version (state S.Store conn.old).now) ≡ None }
+    ensures known_as_other { HasCleanDisk (state S.Store conn.new) → (version : TableVersion)
+        → IsOfficeAt version (state S.Store conn.old).now → result ≡ Err TableFault.OtherVersion
+        → IsKnownAsOther (tables_at version (state S.Store conn.old).now) this_version }
 {
     // What the connection says of its state.
     let _is_settled = conn.is_autocommit();

@@ -1,5 +1,5 @@
 -- What was kept, and what was left, of an office of a known version, after an upgrade and after a refusal.
-use Rattle.std.proofs.Common.{◌≡◌, List, None, Some, IsTrue, refl, sym, ap, subst, ◌∙◌, inl, inr}
+use Rattle.std.proofs.Common.{◌≡◌, ◌⊎◌, List, None, Some, IsTrue, refl, sym, ap, subst, ◌∙◌, inl, inr}
 use Rattle.sqlite.specs.Effect.{Database, IsDatabase}
 use Rattle.sqlite.specs.Tree.{Trees}
 use Rattle.sqlite.specs.Order.{Row}
@@ -12,7 +12,7 @@ use Rattle.office_rows.specs.Rows.{version_of}
 use Rattle.office_tables.specs.Opening.{HasVersion, KeepsTables, NotAnOffice}
 use Rattle.office_tables.specs.Moving.{AllRows, BecomesAt, renewed}
 use Rattle.office_tables.specs.Versions.{IsOfficeAt, tables_at, version_number}
-use Rattle.office_upgrade.specs.Upgrading.{IsOfficeOf, IsUpgrade, IsLeftAt, Upgrades, UpgradeLasts, TakesUp, KeepsOffice, LeavesOffice, GoesBack, NewestSurvives, TellsKnown, TellsUnknown, HasUnknownVersion}
+use Rattle.office_upgrade.specs.Upgrading.{IsOfficeOf, IsUpgrade, IsLeftAt, Upgrades, UpgradeLasts, TakesUp, KeepsOffice, LeavesOffice, GoesBack, OpensOlder, NewestSurvives, TellsKnown, TellsUnknown, HasUnknownVersion}
 use Rattle.office_tables.specs.declared.version.TableVersion.{TableVersion}
 use Rattle.office_tables.specs.declared.version.TableVersion.TheVariants.{Fifth}
 use Rattle.office_tables.proofs.OpenLemmas.{is_there, tells_version}
@@ -45,6 +45,14 @@ pub lasts_found : (old new : State) → IsLive old → (IsTrue old.is_open → o
     → UpgradeLasts old new
 lasts_found old new live outside lasts version rows told was_open found left may =
     lasts version rows (record { becomes = found_becomes version rows old live was_open found; told = told }) (sym (outside was_open)) was_open left may
+
+-- of an older version the store is open
+pub opens_older : (old new : State) → IsLive old → HasVersion old.now (version_number Fifth) ⊎ IsTrue new.is_open → OpensOlder old new
+opens_older old new live (inr is_open) version rows older told was_open left = is_open
+opens_older old new live (inl newest) version rows older told was_open left =
+    let becomes = found_becomes version rows old live was_open left in
+    absurd (older (let same : Some (version_number version) ≡ Some (version_number Fifth) =
+    sym (ap (λ (r : AllRows). version_of r.tables) becomes.are ∙ told) ∙ tells_version version old.now becomes.office.whole (Some (version_number Fifth)) newest in cc))
 
 -- at every exit
 pub leaves_office : (old new : State) → IsLive old → (IsTrue old.is_open → old.now ≡ old.committed) → Survives old new (IsUpgrade old.now) → HasCleanDisk new

@@ -1,5 +1,5 @@
 -- What an upgrade leaves, and what a crash may leave of it.
-use Rattle.std.proofs.Common.{◌≡◌, ℤ, Bool, true, false, None, Some, Ok, Err, Result, IsTrue, refl, sym, ap, subst, ◌∙◌, inl, inr}
+use Rattle.std.proofs.Common.{◌≡◌, ℤ, pos, Bool, true, false, None, Some, Ok, Err, Result, IsTrue, refl, sym, ap, subst, ◌∙◌, inl, inr}
 use Rattle.sqlite.specs.Effect.{Database}
 use Rattle.sqlite.specs.Tree.{Trees}
 use Rattle.sqlite.specs.Store.{Ghosts}
@@ -21,6 +21,13 @@ use Rattle.office_upgrade.specs.Upgrading.{IsOfficeOf, IsOlder, IsRenewed, IsUpg
 use Rattle.office_tables.specs.declared.version.TableVersion.{TableVersion}
 use Rattle.office_tables.specs.declared.version.TableVersion.TheVariants.{Fifth}
 use Rattle.office_tables.proofs.OpenLemmas.{tells_version}
+
+-- a version is one number alone
+pub not_fourth : (version : ℤ) → version ≡ pos 3 → version ≡ pos 4 → ⊥
+not_fourth version three four = let it : pos 3 ≡ pos 4 = sym three ∙ four in cc
+
+pub not_fifth : (version : ℤ) → version ≡ pos 3 → version ≡ pos 5 → ⊥
+not_fifth version three five = let it : pos 3 ≡ pos 5 = sym three ∙ five in cc
 
 -- the version that was seen is that of the office
 pub same_version : (version : TableVersion) (rows : AllRows) (db : Database) (seen : ℤ) → IsOfficeOf version db rows → ShowsVersion db (Some seen) → seen ≡ version_number version

@@ -81,6 +81,11 @@ abbrev pub LeavesOffice : State → State → Type 0
 LeavesOffice old new = (version : TableVersion) (rows : AllRows) → TellsNoOther version rows → IsTrue old.is_open → IsLeftAt version rows old.now.trees
     → (left : Trees) → new.may_leave left → IsLeftAt version rows left ⊎ IsLeftAt Fifth (renewed version rows) left
 
+-- whichever office of an older version stood there, kept or left by a crash, the store is open
+abbrev pub OpensOlder : State → State → Type 0
+OpensOlder old new = (version : TableVersion) (rows : AllRows) → version_number version ≢ version_number Fifth → Tells version rows → IsTrue old.is_open
+    → IsLeftAt version rows old.now.trees → IsTrue new.is_open
+
 -- of tables that are the newest, a crash leaves no other trees than it could leave before
 abbrev pub NewestSurvives : State → State → Type 0
 NewestSurvives old new = IsOffice old.now → version_of (tables_of old.now) ≡ Some this_version → Survives old new (λ _. ⊥)

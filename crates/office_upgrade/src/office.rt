@@ -11,7 +11,7 @@ ghost use Rattle.office_tables.specs.Opening.{KeepsTables, HasVersion, has_offic
 ghost use Rattle.office_tables.specs.declared.fault.TableFault.TheVariants.{NotAnOffice, OtherVersion};
 ghost use Rattle.office_tables.specs.Moving.{AllRows, BecomesAt};
 ghost use Rattle.office_tables.specs.Versions.{IsOfficeAt, tables_at, version_number};
-ghost use Rattle.office_upgrade.specs.Upgrading.{IsOlder, IsUpgrade, IsLeftAt, Tells, TellsKnown, TellsUnknown, Upgrades, UpgradeLasts, TakesUp, KeepsOffice, LeavesOffice, GoesBack, NewestSurvives, HasUnknownVersion};
+ghost use Rattle.office_upgrade.specs.Upgrading.{IsOlder, IsUpgrade, IsLeftAt, Tells, TellsKnown, TellsUnknown, Upgrades, UpgradeLasts, TakesUp, KeepsOffice, LeavesOffice, GoesBack, OpensOlder, NewestSurvives, HasUnknownVersion};
 ghost use Rattle.office_tables.specs.declared.version.TableVersion.{TableVersion as Version};
 
 use crate::upgrading::upgrade;
@@ -30,6 +30,9 @@ pub fn upgrade_office<S: Alter>(
     ensures outside { IfOk result (λ office. (state S.Store office).in_transaction ≡ false) }
     ensures was_open { IfOk result (λ office.
         HasCleanDisk (state S.Store office) → IsTrue (state S.Store conn).is_open) }
+    // Of an office of an older version the store is open.
+    ensures is_open { IfOk result (λ office. HasCleanDisk (state S.Store office)
+        → OpensOlder (state S.Store conn) (state S.Store office)) }
     // Tables that show no older version stay as they are, those that are the newest among them.
     ensures kept { IfOk result (λ office.
         HasCleanDisk (state S.Store office) → (IsOlder (state S.Store conn).now → ⊥)

@@ -1,6 +1,6 @@
 //! Opening a store whose office may have the tables of an older version.
 
-ghost use Rattle.std.specs.Prelude.{Ok, Err, ◌≡◌, ◌≢◌, true, false, MatchOption, IfOk, IfErr, OnOk, OnErr, IsTrue, Some, None};
+ghost use Rattle.std.specs.Prelude.{◌⊎◌, Ok, Err, ◌≡◌, ◌≢◌, true, false, MatchOption, IfOk, IfErr, OnOk, OnErr, IsTrue, Some, None};
 ghost use Rattle.sqlite.specs.State.{HasCleanDisk, Survives};
 ghost use Rattle.sqlite.specs.Held.{state};
 ghost use Rattle.sqlite.specs.Order.{Row as SqlRow, column};
@@ -18,7 +18,7 @@ ghost use Rattle.office_upgrade.specs.Upgrading.{IsOfficeOf, IsOlder, IsUpgrade,
 ghost use Rattle.office_tables.specs.declared.version.TableVersion.{TableVersion as Version};
 ghost use Rattle.office_tables.specs.declared.version.TableVersion.TheVariants.{Fifth};
 
-use office_tables::{TableFault, renew_fourth, renew_third, version_told};
+use office_tables::{TableFault, move_holds, renew_fourth, version_told};
 use sqlite::{Alter, Connection, Transaction};
 use sqlite_schema::schema::Schema;
 
@@ -57,7 +57,8 @@ fn renew<S: Alter>(tx: &mut Transaction<'_, S>, version: i64) -> Result<bool, Ta
 {
     match version {
         3 => {
-            renew_third(tx)?;
+            move_holds(tx)?;
+            renew_fourth(tx)?;
             Ok(true)
         }
         4 => {
@@ -86,6 +87,8 @@ fn take_over<S: Alter>(tx: &mut Transaction<'_, S>) -> Result<bool, TableFault>
         → version_of (tables_of (state S.Store tx.old.conn.now).now) ≢ Some this_version }
     ensures was_older { HasCleanDisk (state S.Store tx.new.conn.now) → result ≡ Ok true
         → IsOlder (state S.Store tx.old.conn.now).now }
+    ensures newest { HasCleanDisk (state S.Store tx.new.conn.now) → result ≡ Ok false
+        → HasVersion (state S.Store tx.old.conn.now).now (version_number Fifth) }
     ensures known { HasCleanDisk (state S.Store tx.new.conn.now)
         → OnOk result
         ((known : Version)
@@ -133,6 +136,11 @@ pub fn upgrade<S: Alter>(conn: &mut Connection<S>) -> Result<(), TableFault>
         → (state S.Store conn.new).may_leave left → IsLeftAt Fifth (renewed version rows) left) }
     ensures was_open { HasCleanDisk (state S.Store conn.new)
         → OnOk result (IsTrue (state S.Store conn.old).is_open) }
+    // The store is open, unless the newest version was found.
+    ensures is_open { HasCleanDisk (state S.Store conn.new)
+        → OnOk result
+        (HasVersion (state S.Store conn.old).now (version_number Fifth)
+        ⊎ IsTrue (state S.Store conn.new).is_open) }
     // Tables that show no older version stay as they are, those that are the newest among them.
     ensures kept { HasCleanDisk (state S.Store conn.new)
         → OnOk result

@@ -1,6 +1,7 @@
 use Rattle.std.proofs.Common.{◌≡◌, ap, subst, None, Err}
 use Rattle.office_rows.specs.Rows.{version_of, this_version}
 use Rattle.office_tables.specs.Opening.{IsKnownAsOther}
+use Rattle.office_tables.specs.declared.version.TableVersion.TheVariants.{Fifth}
 use Rattle.sqlite.specs.Held.{state}
 use Rattle.office_recovery.proofs.FoundAgain.{goes_on, is_known, fails_only}
 use Rattle.office_recovery.proofs.adopt.Goals as goal
@@ -21,6 +22,6 @@ returns-in-Err-clause-failure g c clean is_open tables left version =
     let it = is_known tables before c.schema-schema.ensures.live is_open left in
     let said = c.in-Err.ensures in
     fails_only c.in-Err.stopped tables
-    (λ e. subst (λ t. version_of t ≡ None) it.1 (said.unknown clean it.0 (ap Err e)))
-    (λ e. subst (λ t. IsKnownAsOther t this_version) it.1 (said.known_as_other clean it.0 (ap Err e)))
+    (λ e. subst (λ t. version_of t ≡ None) it.1 (said.unknown clean Fifth it.0 (ap Err e)))
+    (λ e. subst (λ t. IsKnownAsOther t this_version) it.1 (said.known_as_other clean Fifth it.0 (ap Err e)))
     version

@@ -1,21 +1,20 @@
 use Rattle.std.proofs.Common.{rules, pos, None, Some}
-use Rattle.office_tables.specs.declared.version.TableVersion.TheVariants.{Fifth}
 use Rattle.office_tables.proofs.OpenLemmas.{tells_version, is_there}
 use Rattle.office_tables.proofs.opening.open_tables.Goals as goal
 
 pub returns-then-not-has_office-clause-unknown : goal.returns-then-not-has_office-clause-unknown
-returns-then-not-has_office-clause-unknown g c clean office told = absurd (
-    let there = is_there Fifth c.args.conn.now.schema office.whole.schema_is in
+returns-then-not-has_office-clause-unknown g c clean version office told = absurd (
+    let there = is_there version c.args.conn.now.schema office.whole.schema_is in
     let seen = c.has_office.ensures in
     let same = c.schema.ensures.value in
     let missing = c.if-not-has_office.true in
     cc)
 
 pub returns-in-Ok-Some-eq5-clause-known : goal.returns-in-Ok-Some-eq5-clause-known
-returns-in-Ok-Some-eq5-clause-known g c clean office = tells_version Fifth _ office.whole (Some (pos 5)) (search rules)
+returns-in-Ok-Some-eq5-clause-known g c clean version office = tells_version version _ office.whole (Some (pos 5)) (search rules)
 
 pub returns-in-Ok-Some-clause-known_as_other : goal.returns-in-Ok-Some-clause-known_as_other
-returns-in-Ok-Some-clause-known_as_other g c clean office told = (c.in-Ok-Some.field-0-0, search rules, tells_version Fifth _ office.whole (Some c.in-Ok-Some.field-0-0) (search rules))
+returns-in-Ok-Some-clause-known_as_other g c clean version office told = (c.in-Ok-Some.field-0-0, search rules, tells_version version _ office.whole (Some c.in-Ok-Some.field-0-0) (search rules))
 
 pub returns-in-Ok-None-clause-unknown : goal.returns-in-Ok-None-clause-unknown
-returns-in-Ok-None-clause-unknown g c clean office told = tells_version Fifth _ office.whole None (search rules)
+returns-in-Ok-None-clause-unknown g c clean version office told = tells_version version _ office.whole None (search rules)

@@ -1,6 +1,6 @@
 use Rattle.std.proofs.Common.{rules, ◌≡◌, Err, IsTrue, ap, ◌∙◌}
 use Rattle.sqlite.specs.Held.{state}
-use Rattle.office_upgrade.proofs.Again.{upgrades, takes_up, lasts_found, leaves_office, keeps_office, goes_back, found_becomes, newest_survives, told_known, told_none, told_unknown}
+use Rattle.office_upgrade.proofs.Again.{upgrades, takes_up, opens_older, lasts_found, leaves_office, keeps_office, goes_back, found_becomes, newest_survives, told_known, told_none, told_unknown}
 use Rattle.office_upgrade.proofs.office.upgrade_office.Goals as goal
 
 pub returns-in-Ok-clause-upgraded : goal.returns-in-Ok-clause-upgraded
@@ -16,6 +16,10 @@ returns-in-Ok-clause-found g c clean =
     let after = state g.S.Store c.upgrade.new.conn in
     let settled : IsTrue before.is_open → before.now ≡ before.committed = search rules in
     takes_up before after (c.in-Ok.ensures.was_open clean) settled (c.in-Ok.ensures.upgraded clean) c.schema-schema.ensures.live
+
+pub returns-in-Ok-clause-is_open : goal.returns-in-Ok-clause-is_open
+returns-in-Ok-clause-is_open g c clean =
+    opens_older (state g.S.Store c.args.conn) (state g.S.Store c.upgrade.new.conn) c.schema-schema.ensures.live (c.in-Ok.ensures.is_open clean)
 
 pub returns-in-Ok-clause-newest_survives : goal.returns-in-Ok-clause-newest_survives
 returns-in-Ok-clause-newest_survives g c =

@@ -37,6 +37,17 @@ returns-in-Some-clause-older g c clean made office told =
     let seen : Some c.in-Some.version ≡ Some (version_number Fifth) = sym (tells_version Fifth old.now office.whole (Some c.in-Some.version) shown) ∙ told in
     apart cc
 
+pub returns-in-Some-clause-newest : goal.returns-in-Some-clause-newest
+returns-in-Some-clause-newest g c clean made =
+    let old = state g.S.Store c.args.tx.now.conn.now in
+    let mid = state g.S.Store c.version_told.new.tx.conn.now in
+    let early : HasCleanDisk mid = omega (arith, clean, c.renew.ensures.stays.survives.clean) in
+    let shown : ShowsVersion old.now (Some c.in-Some.version) = rw c.in-Some.is at (c.in_ok-version.ensures.shown early) in
+    let fits : SFits w64 c.in-Some.version = search rules in
+    let whole = to_z-of_z w64 c.in-Some.version fits in
+    let is : c.in-Some.version ≡ version_number Fifth = rw whole at (c.renew.ensures.newest made).0 in
+    subst (λ (v : ℤ). HasVersion old.now v) is shown
+
 pub returns-in-Some-clause-was_older : goal.returns-in-Some-clause-was_older
 returns-in-Some-clause-was_older g c clean made =
     let old = state g.S.Store c.args.tx.now.conn.now in

@@ -1,9 +1,11 @@
-use Rattle.std.proofs.Common.{rules, arith, ◌≡◌, IsTrue, Ok, Err, true, false, subst, sym, ◌∙◌, inr}
+use Rattle.std.proofs.Common.{rules, arith, ◌≡◌, ◌⊎◌, IsTrue, Ok, Err, true, false, subst, sym, ◌∙◌, inl, inr}
 use Rattle.sqlite.specs.Held.{state}
 use Rattle.sqlite.specs.Tree.{Trees}
 use Rattle.sqlite.specs.State.{HasCleanDisk, Survives}
 use Rattle.office_tables.specs.declared.fault.TableFault.TheVariants as fault
 use Rattle.office_tables.specs.Moving.{AllRows, renewed}
+use Rattle.office_tables.specs.Opening.{HasVersion}
+use Rattle.office_tables.specs.Versions.{version_number}
 use Rattle.office_upgrade.specs.Upgrading.{IsOlder, IsUpgrade, IsLeftAt, IsOfficeOf}
 use Rattle.office_tables.specs.declared.version.TableVersion.{TableVersion}
 use Rattle.office_tables.specs.declared.version.TableVersion.TheVariants.{Fifth}
@@ -77,6 +79,27 @@ returns-in-Ok-clause-durable g c =
     let early : HasCleanDisk (state g.S.Store last) = omega (arith, late, c.commit.ensures.survives.clean) in
     let shown = (c.in-Ok.ensures.ok late).1 in
     lasts g.S.Store first last end c.take_over.result it true is early shown.is_open shown.now_is (shown.committed_is ∙ sym shown.now_is) (λ db is_open left. g.met.S.Store.settled end.store db is_open left) version rows office left may)
+
+pub returns-in-Ok-clause-is_open : goal.returns-in-Ok-clause-is_open
+returns-in-Ok-clause-is_open g c =
+    let first = c.args.conn.now in
+    let end = c.commit.new.self.0 in
+    let same : end ≡ c.conn-1.given.0 = search rules in
+    subst (λ x. HasCleanDisk (state g.S.Store x) → HasVersion (state g.S.Store first).now (version_number Fifth) ⊎ IsTrue (state g.S.Store x).is_open) same
+    (λ late. inr (c.in-Ok.ensures.ok late).1.is_open)
+
+pub returns-in-Ok-false-clause-is_open : goal.returns-in-Ok-false-clause-is_open
+returns-in-Ok-false-clause-is_open g c clean =
+    let first = c.args.conn.now in
+    let last = c.take_over.new.tx.conn.now in
+    let begun = c.transaction-tx.ensures.begun in
+    let end = c.rollback.new.self.0 in
+    let same : end ≡ c.conn-in-Ok-false-1.given.0 = search rules in
+    let late : HasCleanDisk (state g.S.Store end) = rw same clean in
+    let early : HasCleanDisk (state g.S.Store last) = omega (arith, late, c.rollback.ensures.survives.clean) in
+    let is : c.take_over.result ≡ Ok false = search rules in
+    let newest : HasCleanDisk (state g.S.Store last) → c.take_over.result ≡ Ok false → HasVersion (state g.S.Store first).now (version_number Fifth) = rw begun at c.take_over.ensures.newest in
+    inl (newest early is)
 
 pub returns-in-Ok-clause-kept : goal.returns-in-Ok-clause-kept
 returns-in-Ok-clause-kept g c clean not_older =

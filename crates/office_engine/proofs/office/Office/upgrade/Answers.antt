@@ -1,6 +1,6 @@
 use Rattle.std.proofs.Common.{◌≡◌}
 use Rattle.sqlite.specs.Held.{state}
-use Rattle.office_engine.proofs.Upgraded.{upgrades, takes_up, lasts, leaves, stays, goes_back, upgrade_survives, left_fails}
+use Rattle.office_engine.proofs.Upgraded.{upgrades, takes_up, lasts, opens_older, leaves, stays, goes_back, upgrade_survives, left_fails}
 use Rattle.office_engine.proofs.office.Office.upgrade.Goals as goal
 
 pub returns-in-Ok-clause-upgraded : goal.returns-in-Ok-clause-upgraded
@@ -11,6 +11,9 @@ returns-in-Ok-clause-found g c clean = takes_up (state g.S.Store c.args.conn) (s
 
 pub returns-in-Ok-clause-durable : goal.returns-in-Ok-clause-durable
 returns-in-Ok-clause-durable g c clean = lasts (state g.S.Store c.args.conn) (state g.S.Store c.in-Ok.conn) (c.in-Ok.ensures.durable clean)
+
+pub returns-in-Ok-clause-is_open : goal.returns-in-Ok-clause-is_open
+returns-in-Ok-clause-is_open g c clean = opens_older (state g.S.Store c.args.conn) (state g.S.Store c.in-Ok.conn) (c.in-Ok.ensures.is_open clean)
 
 pub returns-in-Ok-clause-leaves : goal.returns-in-Ok-clause-leaves
 returns-in-Ok-clause-leaves g c clean = leaves (state g.S.Store c.args.conn) (state g.S.Store c.in-Ok.conn) (c.in-Ok.ensures.leaves clean)
