@@ -782,8 +782,8 @@ pub static HOLDS: [Part; 15] = [
 
 /// A bag is served as deposited beside an altered one: the other deposit has the same files, and a
 /// content is reused only where its bytes and its mark are the same. The stock is what the sizes of the
-/// contents tell, where they are sizes.
-pub static BESIDE: [&[Part]; 4] = [
+/// contents tell, where they are sizes. A deposit is taken in beside a hold that names two things.
+pub static BESIDE: [&[Part]; 5] = [
     &[
         ("office", "1000000"),
         (
@@ -876,6 +876,29 @@ pub static BESIDE: [&[Part]; 4] = [
         ("asks altered", "bag 1 > whole"),
         ("alters", "UPDATE content SET size = 3 WHERE id = 2"),
         ("stock", "3 contents, 130 bytes"),
+    ],
+    // A hold that names a collection and a class counts once on a deposit that comes later.
+    &[
+        ("office", "1000000"),
+        (
+            "asks",
+            "2024-03-01 anna\n\
+             deposit maps y1 A-1 > deposit 1\n\
+             hold-all maps > hold 1",
+        ),
+        ("alters", "UPDATE hold_4 SET class = 'y1' WHERE number = 1"),
+        (
+            "asks altered",
+            "2024-03-01 anna\n\
+             deposit maps y1 A-2 > deposit 2\n\
+             holds 2 > Store\n\
+             2030-01-01 anna\n\
+             dispose 2 > Store",
+        ),
+        (
+            "steps",
+            "show|SELECT number, holds FROM deposit ORDER BY number > 1|1;2|1;",
+        ),
     ],
 ];
 
