@@ -86,7 +86,7 @@ compare "the old machine starts the office again" '3; store Q1' "$status; $(head
 machine new
 cp ../old/moving.tar .
 compare "the page's look at what has come" "office.db: OK
-4 of 4 deposits of backup/moved.db are valid" "$(follow "$section" 2)"
+4 of 4 deposits of check/moved.db are valid" "$(follow "$section" 2)"
 goes_on 4
 
 # An archive that was damaged on its way.

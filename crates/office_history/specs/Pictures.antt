@@ -151,7 +151,7 @@ deposit_rows h = filter_map (row_of_deposit h) (numbers (length (deposits h)))
 abbrev pub row_of_due : History → ℕ → Option DueRow
 row_of_due h n = option_map (due_row h n) (deposit_numbered h n)
 
--- of destroyed deposits too
+-- what is kept of each deposit, of destroyed ones too; a call `due_rows` on the tables shows those alone that may be destroyed
 abbrev pub due_rows : History → List DueRow
 due_rows h = filter_map (row_of_due h) (numbers (length (deposits h)))
 

@@ -22,7 +22,7 @@ pub record ClosingRow : Type 0 where
 abbrev pub closing_of : DepositRow → ClosingRow
 closing_of d = record { number = d.number; closed = d.closed }
 
--- the deposits that may be destroyed on that day, by the rules aside
+-- the deposits that may be destroyed on that day, whatever the rules of the policy say
 abbrev pub due_places : ℤ → Tables → List PlaceRow
 due_places day t = map place_of (filter (is_disposable day) (beside t.deposits t.dues))
 

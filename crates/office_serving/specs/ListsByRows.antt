@@ -113,7 +113,7 @@ pub record IsPlaceToldIn (t : Tables) (day : Date) (caller : List ℕ) (place : 
 abbrev pub AreAllowedIn : Tables → Date → List ℕ → List PlaceRow → List ℕ → Type 0
 AreAllowedIn t day caller = TellsEach (IsPlaceToldIn t day caller)
 
--- the numbers of the deposits that have fallen due by that day, are under no hold, and that the rules let the caller destroy
+-- the numbers of the kept deposits that have fallen due by that day, are under no hold, and that the rules let the caller destroy
 abbrev pub AreDueIn : Tables → Date → List ℕ → List ℕ → Type 0
 AreDueIn t day caller = AreAllowedIn t day caller (due_places (epoch_day day) t)
 
