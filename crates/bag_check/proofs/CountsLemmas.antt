@@ -72,7 +72,7 @@ number_again digits n is =
 
 -- ---- the parts of a value
 
--- what stands behind a full stop
+-- what stands after a full stop
 stop_is : (t rest : List ℕ) → behind_stop t ≡ Some rest → t ≡ 46 ∷ rest
 stop_is [] rest e = absurd cc
 stop_is (b ∷ t) rest e = by_test (eqb b 46) refl e
@@ -81,7 +81,7 @@ stop_is (b ∷ t) rest e = by_test (eqb b 46) refl e
     by_test true is e = ap (λ (c : ℕ). c ∷ t) (eqb-true b 46 is) ∙ ap (λ (r : List ℕ). 46 ∷ r) (same_Some t rest e)
     by_test false is e = absurd cc
 
--- a number at the end has only blanks behind it
+-- a number at the end has only blanks after it
 last_is : (t : List ℕ) (n : ℕ) → last_number t ≡ Some n → AreBlanks (behind_digits t) × (number_of (digits_in t) ≡ Some n)
 last_is t n e = by_test (list_all is_blank (behind_digits t)) refl e
   where

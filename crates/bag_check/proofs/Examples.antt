@@ -17,7 +17,7 @@ use Rattle.bag_check.specs.Judging.{judge, manifests_in}
 is_a_manifest : (manifest_name (codes "manifest-sha256.txt") ≡ Some (Payload, codes "sha256")) × (manifest_name (codes "tagmanifest-md5.txt") ≡ Some (Tag, codes "md5"))
 is_a_manifest = (refl, refl)
 
--- without an algorithm, with a capital, in a folder, and with more behind
+-- without an algorithm, with a capital, in a folder, and with more after
 is_no_manifest :
     (manifest_name (codes "manifest-.txt") ≡ None) × (manifest_name (codes "Manifest-md5.txt") ≡ None)
     × (manifest_name (codes "meta/manifest-md5.txt") ≡ None) × (manifest_name (codes "manifest-sha256.txt.bak") ≡ None)
@@ -35,11 +35,11 @@ prints_a_place = refl
 names_counts : NamesCounts (codes "3.1") 3 1
 names_counts = (codes "3", codes "1", [], refl, refl, record { some = omega arith; few = omega arith; all = refl; is = refl }, record { some = omega arith; few = omega arith; all = refl; is = refl })
 
--- zeros before the number, and blanks behind
+-- zeros before the number, and blanks after
 names_the_same : NamesCounts (codes "003.01  ") 3 1
 names_the_same = (codes "003", codes "01", codes "  ", refl, refl, record { some = omega arith; few = omega arith; all = refl; is = refl }, record { some = omega arith; few = omega arith; all = refl; is = refl })
 
--- what is read of a value: 20 digits at most, and nothing behind but blanks
+-- what is read of a value: 20 digits at most, and nothing after but blanks
 reads_counts :
     (counts_of (codes "003.01  ") ≡ Some (3, 1)) × (counts_of (codes "18446744073709551619.1") ≡ Some (18446744073709551619, 1))
     × (counts_of (codes "000000000000000000003.1") ≡ None) × (counts_of (codes "3.1" ++ 10 ∷ []) ≡ None) × (counts_of (codes "3.") ≡ None)

@@ -71,7 +71,7 @@ alg_again front name alg b =
     some_length [] h = absurd (h refl)
     some_length (x ∷ xs) h = omega arith
 
--- what is found behind a front is ALG
+-- what is found after a front is ALG
 behind_is : (front name alg : List ℕ) → alg_behind front name ≡ Some alg → IsBehind front name alg
 behind_is front name alg e = by_test (is_behind front name) refl e
   where
@@ -79,7 +79,7 @@ behind_is front name alg e = by_test (is_behind front name) refl e
     by_test true t e = subst (IsBehind front name) (same_Some (alg_in front name) alg e) (alg_is front name t)
     by_test false t e = absurd cc
 
--- ALG is found behind its front
+-- ALG is found after its front
 behind_again : (front name alg : List ℕ) → IsBehind front name alg → alg_behind front name ≡ Some alg
 behind_again front name alg b =
     let again = alg_again front name alg b in
@@ -87,11 +87,11 @@ behind_again front name alg b =
 
 -- ---- the kind and ALG of a name
 
--- a name with ALG behind the stem is a manifest's
+-- a name with ALG after the stem is a manifest's
 behind_name : (kind : Kind) (alg name : List ℕ) → IsBehind (stem kind) name alg → IsManifestName kind alg name
 behind_name kind alg name b = record { is = b.is; some = b.some; top = b.top }
 
--- a manifest's name has ALG behind the stem
+-- a manifest's name has ALG after the stem
 name_behind : (kind : Kind) (alg name : List ℕ) → IsManifestName kind alg name → IsBehind (stem kind) name alg
 name_behind kind alg name n = record { is = n.is; some = n.some; top = n.top }
 

@@ -44,7 +44,7 @@ abbrev pub Ascending : List (List ℕ) → Type 0
 Ascending [] = Unit {0}
 Ascending (p ∷ ps) = Up p ps
 
--- each path behind the first one comes after it
+-- each path after the first one comes after it
 pub later_path : (p : List ℕ) (ps : List (List ℕ)) → Up p ps → (q : List ℕ) → Has ps q → comes_before p q ≡ true
 later_path p [] up q none = absurd none
 later_path p (x ∷ ps) up q (inl is) = subst (λ (y : List ℕ). comes_before p y ≡ true) is up.0

@@ -1,4 +1,4 @@
--- How a fault is printed: the code, then what it names, each behind a space. In names and paths every byte below
+-- How a fault is printed: the code, then what it names, each after a space. In names and paths every byte below
 -- 33, every byte above 126 and `%` is printed as `%` and two capital hex digits.
 use Rattle.std.specs.Prelude.{ℕ, Bool, List, ◌∷◌, [], ◌++◌, ◌==◌, ◌||◌, nat_lt, codes, decimal, if◌then◌else◌}
 use Rattle.std.specs.List.{flat_map}

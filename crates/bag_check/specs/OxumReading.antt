@@ -5,7 +5,7 @@ use Rattle.std.specs.Char.{is_ascii_digit}
 use Rattle.bag_text.specs.Text.{is_blank}
 use Rattle.bag_check.specs.Validity.{number_from}
 
--- the digits at the front of a text, and what stands behind them
+-- the digits at the front of a text, and what stands after them
 abbrev pub digit_len : List ℕ → ℕ
 digit_len t = position_or_len (λ b. not (is_ascii_digit b)) t
 
@@ -19,12 +19,12 @@ behind_digits t = drop (digit_len t) t
 abbrev pub number_of : List ℕ → Option ℕ
 number_of digits = if nat_le 1 (length digits) && nat_le (length digits) 20 then Some (number_from 0 digits) else None
 
--- what stands behind a full stop
+-- what stands after a full stop
 abbrev pub behind_stop : List ℕ → Option (List ℕ)
 behind_stop [] = None
 behind_stop (b ∷ t) = if b == 46 then Some t else None
 
--- a number with nothing but blanks behind it
+-- a number with nothing but blanks after it
 abbrev pub last_number : List ℕ → Option ℕ
 last_number t = if list_all is_blank (behind_digits t) then number_of (digits_in t) else None
 

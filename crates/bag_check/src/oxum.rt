@@ -28,7 +28,7 @@ fn digit_len(text: &[u8]) -> usize
         .unwrap_or(text.len())
 }
 
-/// The digits at the front, and what stands behind them.
+/// The digits at the front, and what stands after them.
 #[tactic(auto, using(crate::proofs::CountsLemmas::digits_fit))]
 fn split_digits(text: &[u8]) -> (&[u8], &[u8])
     ensures digits { result.0.now ≡ digits_in text.now }
@@ -61,7 +61,7 @@ fn read_number(digits: &[u8]) -> Option<u128>
     Some(number(digits))
 }
 
-/// The number at the front, and what stands behind its digits.
+/// The number at the front, and what stands after its digits.
 fn split_number(text: &[u8]) -> (Option<u128>, &[u8])
     ensures number { result.0 ≡ number_of (digits_in text.now) }
     ensures rest { result.1.now ≡ behind_digits text.now }
@@ -70,7 +70,7 @@ fn split_number(text: &[u8]) -> (Option<u128>, &[u8])
     (read_number(digits), rest)
 }
 
-/// What stands behind a full stop.
+/// What stands after a full stop.
 fn behind_stop(text: &[u8]) -> Option<&[u8]>
     ensures { option_copied result ≡ behind_stop text.now }
 {
@@ -87,7 +87,7 @@ fn are_blanks(text: &[u8]) -> bool
     text.iter().all(|b| *b == b' ' || *b == b'\t')
 }
 
-/// A number with only blanks behind it.
+/// A number with only blanks after it.
 fn last_number(text: &[u8]) -> Option<u128>
     ensures { result ≡ last_number text.now }
 {

@@ -37,7 +37,7 @@ exists_text = codes "exists" ++ 10 ∷ []
 abbrev pub line_of : List ℕ → List ℕ
 line_of words = words ++ 10 ∷ []
 
--- of a file at fault: what is said of it behind its path
+-- of a file at fault: what is said of it after its path
 abbrev pub file_reason : SetFault → List ℕ → List ℕ
 file_reason fault path = (printed_text path ++ codes " ") ++ line_of (folder_words fault)
 

@@ -23,7 +23,7 @@ use Rattle.bag_text.proofs.BlankLemmas.{trim_round, trimmed_round, map_skipped, 
 nested : (a b c d : List ℕ) → a ++ b ++ c ++ d ≡ a ++ (b ++ (c ++ d))
 nested a b c d = append_assoc (a ++ b) c d ∙ append_assoc a b (c ++ d)
 
--- a value that is read stands behind its label
+-- a value that is read stands after its label
 pub label_read : (label value line : List ℕ) → after_label label line ≡ Some value → IsLabelled label value line
 label_read label value line e = by_label (bytes_eq (take (length label) line) label) refl e
   where
@@ -40,7 +40,7 @@ label_read label value line e = by_label (bytes_eq (take (length label) line) la
           sym (take-append-drop (length label) line) ∙ ap (λ (x : List ℕ). x ++ drop (length label) line) same ∙ ap (λ (x : List ℕ). label ++ x) (parts.is ∙ ap (λ (x : List ℕ). parts.before ++ (x ++ parts.after)) found) ∙ sym (nested label parts.before value parts.after),
         )
 
--- a value behind its label is read, without the blanks round it
+-- a value after its label is read, without the blanks round it
 pub label_again : (label value line : List ℕ) → IsLabelled label value line → after_label label line ≡ Some (trim_blanks value)
 label_again label value line (before, after, first, last, is) =
     let rest : List ℕ = before ++ (value ++ after) in

@@ -83,7 +83,7 @@ slice_get-append [] ys i x e = absurd cc
 slice_get-append (y ∷ xs) ys zero x e = e
 slice_get-append (y ∷ xs) ys (suc i) x e = slice_get-append xs ys i x e
 
--- the element behind the front
+-- the element after the front
 pub slice_get_last : {A : Type 0} (xs : List A) (x : A) (ys : List A) → slice_get (xs ++ x ∷ ys) (length xs) ≡ Some x
 slice_get_last [] x ys = refl
 slice_get_last (y ∷ xs) x ys = slice_get_last xs x ys

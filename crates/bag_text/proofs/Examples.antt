@@ -61,7 +61,7 @@ version_first : declaration_fault (codes "BagIt-Version: 1.1" ++ 10 ∷ codes "T
 unfolding lines is_utf8 chars lib.Utf8.encode
 version_first = refl
 
--- a value with a line that continues it, behind a line of blanks
+-- a value with a line that continues it, after a line of blanks
 continues : info_of (codes "Source: x" ++ 10 ∷ codes "Note : a " ++ 10 ∷ 32 ∷ 10 ∷ codes "   b" ++ 10 ∷ []) ≡ Ok (record { label = codes "Source"; value = codes "x" } ∷ record { label = codes "Note"; value = codes "a " ++ 10 ∷ codes "b" } ∷ [])
 unfolding lines is_utf8 chars lib.Utf8.encode info_of pairs_from add_info_line
 continues = refl

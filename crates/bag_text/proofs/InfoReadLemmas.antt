@@ -71,7 +71,7 @@ something_behind line front (b ∷ after) n place is rest-is some =
 
 -- ---- slices of a text are text
 
--- a text is cut before and behind an ASCII character
+-- a text is cut before and after an ASCII character
 pub cut_text : (a : List ℕ) (b : ℕ) (c : List ℕ) → is_utf8 (a ++ b ∷ c) ≡ true → b < 128 → (is_utf8 a ≡ true) × (is_utf8 c ≡ true)
 cut_text a b c e small =
     let whole = IsUtf8-from_is_utf8 (a ++ b ∷ c) e in
@@ -109,7 +109,7 @@ dropped_text t e = let back = dropped t in by_after back.after back.blanks back.
     by_after [] blanks is = ap is_utf8 (sym (is ∙ append-nil (drop_last_blanks t))) ∙ e
     by_after (b ∷ after) blanks is = (cut_text (drop_last_blanks t) b after (ap is_utf8 (sym is) ∙ e) (blank_is_ascii b (and_parts (is_blank b) _ blanks).0)).0
 
--- what stands before the first colon of a text, and behind it, is text
+-- what stands before the first colon of a text, and after it, is text
 pub parts_text : (line : List ℕ) → is_utf8 line ≡ true → list_any is_colon line ≡ true → (is_utf8 (take (position_or_len is_colon line) line) ≡ true) × (is_utf8 (drop (position_or_len is_colon line + 1) line) ≡ true)
 parts_text line e colon =
     let cut = has_colon line colon in
@@ -249,7 +249,7 @@ no_feed (b ∷ t) e =
     let first = (or_parts (eqb b 10) (eqb b 13) parts.0).0 in
     rw first (no_feed t parts.1)
 
--- what stands behind a place of a line has no end
+-- what stands after a place of a line has no end
 no_end_drop : (n : ℕ) (t : List ℕ) → list_any is_end t ≡ false → list_any is_end (drop n t) ≡ false
 no_end_drop zero t e = e
 no_end_drop (suc n) [] e = refl

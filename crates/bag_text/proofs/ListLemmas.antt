@@ -17,7 +17,7 @@ some f = Some f
 
 -- ---- one file
 
--- a file without fault, at this position behind this path
+-- a file without fault, at this position after this path
 pub record IsFine (place : ℕ) (before : List ℕ) (f : File) : Type 0 where
   pub room : place < max_files
   pub fits : Fits f
@@ -79,7 +79,7 @@ file_stands place before f Memory h = absurd h
 
 -- ---- one file after the other
 
--- files without fault, from this position on, behind this path
+-- files without fault, from this position on, after this path
 pub record AreFine (place : ℕ) (before : List ℕ) (files : List File) : Type 0 where
   pub few : place + length files ≤ max_files
   pub each : AllByRecursion Fits files

@@ -48,7 +48,7 @@ at_back xs ys n line lt at = (at.0, get_back xs ys (n - 1) line (omega (arith, a
 pub at_same : (xs : List (List ℕ)) (n : ℕ) (one two : List ℕ) → At xs n one → At xs n two → one ≡ two
 at_same xs n one two a b = same_Some one two (sym a.1 ∙ b.1)
 
--- the line behind the front
+-- the line after the front
 pub at_last : (xs : List (List ℕ)) (line : List ℕ) (ys : List (List ℕ)) → At (xs ++ line ∷ ys) (length xs + 1) line
 at_last xs line ys = let n : length xs + 1 - 1 ≡ length xs = omega arith in (omega arith, rw n (slice_get_last xs line ys))
 
@@ -159,7 +159,7 @@ paths_in es = map (λ e. e.0) es
 abbrev IsLater : List ℕ → List ℕ → Type 0
 IsLater path later = comes_before path later ≡ true
 
--- what comes before a path comes before those behind it
+-- what comes before a path comes before those after it
 later_still : (p q : List ℕ) (rs : List (List ℕ)) → IsLater p q → AllByRecursion (IsLater q) rs → AllByRecursion (IsLater p) rs
 later_still p q [] e all = tt
 later_still p q (r ∷ rs) e all = (ap is_lt (nat_list_cmp_total.trans p q r (less (order p q) e) (less (order q r) all.0)), later_still p q rs e all.1)

@@ -55,7 +55,7 @@ skipped_twice (b ∷ t) = by_test (is_blank b) refl (skipped_twice t)
     by_test true e rest = rest
     by_test false e rest = rw e refl
 
--- what stands behind the digits begins with a blank
+-- what stands after the digits begins with a blank
 blank_first : (t : List ℕ) → drop (position_or_len is_blank t) t ≢ [] → first_blanks (drop (position_or_len is_blank t) t) ≢ []
 blank_first [] some = absurd (some refl)
 blank_first (b ∷ t) some = by_test (is_blank b) refl some (blank_first t)
@@ -93,7 +93,7 @@ is_digit b x e = by_test (is_blank b) refl
     by_test true is = absurd (no_blank (or_cases (eqb b 32) (eqb b 9) is))
     by_test false is = is
 
--- what is read of two digits and of those behind them
+-- what is read of two digits and of those after them
 abbrev pair_by : ℕ → ℕ → ℕ → Option ℕ → Option ℕ → Result (List ℕ) FromHexError → Result (List ℕ) FromHexError
 pair_by h l i first second rest =
     (digit_or_error h i first >>= λ x. digit_or_error l (i + 1) second >>= λ y. Ok (x * 16 + y)) >>= λ byte. rest >>= λ bytes. Ok (byte ∷ bytes)
@@ -152,7 +152,7 @@ pub entry_digits : (v : Version) (a : Algorithm) (line path checksum : List ℕ)
 entry_digits v a line path checksum e =
     ap sum_text (entry_parts v a line path checksum e) ∙ ap (λ (n : ℕ). take n (e.digits ++ (e.blanks ++ e.spelled))) (entry_front v a line path checksum e) ∙ take_at e.digits (e.blanks ++ e.spelled) (length e.digits) refl
 
--- what stands behind the blanks spells an entry's path
+-- what stands after the blanks spells an entry's path
 pub entry_spelled : (v : Version) (a : Algorithm) (line path checksum : List ℕ) (e : IsEntry v a line path checksum) → path_text line ≡ e.spelled
 entry_spelled v a line path checksum e =
     ap path_text (entry_parts v a line path checksum e) ∙ ap (λ (n : ℕ). skip_blanks (drop n (e.digits ++ (e.blanks ++ e.spelled)))) (entry_front v a line path checksum e)

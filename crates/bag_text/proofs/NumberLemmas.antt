@@ -19,7 +19,7 @@ push_digit n b lt small digit =
     let last : 48 + (n * 10 + (b - 48)) % 10 ≡ b = omega arith in
     decimal_step (n * 10 + (b - 48)) (omega arith) small ∙ rw (front, last) refl
 
--- what was taken: the digits behind the first ones
+-- what was taken: the digits after the first ones
 pub record More (most n m : ℕ) (taken : List ℕ) : Type 0 where
   pub spelled : decimal m ≡ decimal n ++ taken
   pub low : n ≤ m

@@ -136,7 +136,7 @@ low_begins (x ∷ q) (y ∷ a) e = by_first (ltb y x) (eqb y x) refl refl e (low
     by_first false true l s e again = rw (again e) (and_right (eqb x y) false refl)
     by_first false false l s e again = absurd cc
 
--- Behind a path that neither comes before a text nor begins with it, none begins with it.
+-- After a path that neither comes before a text nor begins with it, none begins with it.
 pub high_begins : (q b c : List ℕ) → comes_before b q ≡ false → starts_with nat_eq b q ≡ false → comes_before b c ≡ true → starts_with nat_eq c q ≡ false
 high_begins [] b c e g h = absurd cc
 high_begins (x ∷ q) [] c e g h = absurd cc
@@ -184,7 +184,7 @@ module _ {X : Type 0} (g : X → File) where
   tried test None = None
   tried test (Some x) = cond (test (g x).path) (Some (g x)) None
 
-  -- a test that nothing before q passes, and nothing behind what neither comes before q nor passes it
+  -- a test that nothing before q passes, and nothing after what neither comes before q nor passes it
   pub record StandsAt (q : List ℕ) (test : List ℕ → Bool) : Type 0 where
     pub low : (a : List ℕ) → comes_before a q ≡ true → test a ≡ false
     pub high : (b c : List ℕ) → comes_before b q ≡ false → test b ≡ false → comes_before b c ≡ true → test c ≡ false
@@ -327,7 +327,7 @@ content_missing files path = (λ none f at same. no_file path files none f at.0 
     by_found None is other = refl
     by_found (Some content) is other = absurd (other (record { path = path; content = content }) (content_stands files path content is) refl)
 
--- whether there is a content is whether there is one behind the reference
+-- whether there is a content is whether there is one by the reference
 pub none_copied : (r : Option (Bor (List ℕ))) (o : Option (List ℕ)) → option_map (λ x. x.now) r ≡ o → is_some r ≡ is_some o
 none_copied None o e = ap is_some e
 none_copied (Some x) o e = ap is_some e

@@ -63,7 +63,7 @@ behind_place : Place → List ℕ
 behind_place (End rest) = rest
 behind_place (Entry head) = head.rest
 
--- What is read at an entry's place is read with bytes behind it, too.
+-- What is read at an entry's place is read with bytes after it, too.
 place_grows : (t more : List ℕ) (p : Place) → place_at t ≡ Ok p → (q : Place) × (place_at (t ++ more) ≡ Ok q) × (behind_place q ≡ behind_place p ++ more)
 unfolding behind_place
 place_grows t more (End rest) e = (End (rest ++ more), ap place_at (ap (λ (x : List ℕ). x ++ more) ((place_ok t (End rest) e).at_end rest refl) ∙ append_assoc ending rest more) ∙ place_end (rest ++ more), refl)
@@ -74,7 +74,7 @@ place_grows t more (Entry head) e =
       refl,
     )
 
--- The end or a header is read, with nothing behind it.
+-- The end or a header is read, with nothing after it.
 place_whole : (t : List ℕ) → IsEndOrHeader t → (q : Place) × (place_at t ≡ Ok q) × (behind_place q ≡ [])
 unfolding behind_place
 place_whole t (inl end) = (End [], ap place_at (end ∙ sym (append-nil ending)) ∙ place_end [], refl)
@@ -105,12 +105,12 @@ place_bad t begins proper = by_read (place_at t) refl
         let h = (place_ok t (Entry head) is).at_entry head refl in
         absurd (begins (header head.path_len head.content_len, head.rest, inr (head.path_len, head.content_len, sized head.path_len head.content_len h.1, refl), h.0))
 
--- ---- an entry behind its header
+-- ---- an entry after its header
 
 abbrev head_is : ℕ → ℕ → List ℕ → Head
 head_is p c rest = record { path_len = p; content_len = c; rest = rest }
 
--- what is judged behind a content
+-- what is judged after a content
 abbrev judged : ℕ → List ℕ → List ℕ → List ℕ → ℕ → List ℕ → Result (File × List ℕ) SetFault
 judged offset before path content b more =
     cond (not (eqb b 10)) (Err (BadEntry offset))
@@ -178,7 +178,7 @@ entry_refused offset left before t BadOpening (p, c, rest, sizes, is, lt, h) = a
 entry_refused offset left before t PathClash (p, c, rest, sizes, is, lt, h) = absurd h
 entry_refused offset left before t Memory (p, c, rest, sizes, is, lt, h) = absurd h
 
--- A fault behind files without fault is the one that reading them all gives.
+-- A fault after files without fault is the one that reading them all gives.
 files_refused : (whole : ℕ) (fs : List File) (left : ℕ) (before rest : List ℕ) (f : SetFault) → length fs ≤ left → AllByRecursion Fits fs → Ascends before fs
     → PlaceFault (whole - length rest) (left - length fs) (last_path before fs) rest f → files_at whole left before (flat_map entry fs ++ rest) ≡ Err f
 files_refused whole [] left before rest f few fits up h =

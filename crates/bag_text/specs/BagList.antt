@@ -15,7 +15,7 @@ pub record IsFront (front : List File) : Type 0 where
   pub each : AllByRecursion Fits front
   pub ascending : Ascends [] front
 
--- the first fault of the file at this position, behind the path before it
+-- the first fault of the file at this position, after the path before it
 abbrev pub FileFault : ℕ → List ℕ → File → SetFault → Type 0
 FileFault place before f (BadEntry n) = (n ≡ place) × (max_content < length f.content)
 FileFault place before f TooManyFiles = (length f.content ≤ max_content) × (max_files ≤ place)

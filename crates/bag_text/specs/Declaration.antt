@@ -41,7 +41,7 @@ pub record Declares (text : List ℕ) (v : Version) : Type 0 where
 
 -- ---- the faults
 
--- the value behind a label, without the blanks round it
+-- the value after a label, without the blanks round it
 abbrev pub after_label : List ℕ → List ℕ → Option (List ℕ)
 after_label label line =
     if bytes_eq (take (length label) line) label then Some (trim_blanks (drop (length label) line)) else None

@@ -1,4 +1,4 @@
--- How faults and versions are printed: the code, then the fields, each behind a space.
+-- How faults and versions are printed: the code, then the fields, each after a space.
 use Rattle.std.specs.Prelude.{ℕ, List, ◌++◌, codes, decimal}
 use Rattle.bag_text.specs.declared.path.PathFault.{PathFault}
 use Rattle.bag_text.specs.declared.path.PathFault.TheVariants as paths

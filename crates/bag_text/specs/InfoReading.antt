@@ -21,7 +21,7 @@ label_of line = drop_last_blanks (take (position_or_len is_colon line) line)
 abbrev pub value_of : List ℕ → List ℕ
 value_of line = skip_blanks (drop (position_or_len is_colon line + 1) line)
 
--- what stands before a line's first colon, and behind it
+-- what stands before a line's first colon, and after it
 abbrev pub colon_cut : List ℕ → Option (List ℕ × List ℕ)
 colon_cut line =
     if list_any is_colon line then Some (take (position_or_len is_colon line) line, drop (position_or_len is_colon line + 1) line) else None

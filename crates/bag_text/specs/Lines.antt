@@ -31,7 +31,7 @@ AreLines t (l ∷ ls) =
     (((t ≡ l) × (l ≢ []) × (ls ≡ []))
     ⊎ ((e : End) × (rest : List ℕ) × (t ≡ l ++ end_bytes e ++ rest) × EndsBefore e rest × AreLines rest ls))
 
--- The one list of lines that a text has. The CR of a CRLF is passed over: the LF behind it ends the line.
+-- The one list of lines that a text has. The CR of a CRLF is passed over: the LF after it ends the line.
 unfoldable pub lines : List ℕ → List (List ℕ)
 lines [] = []
 lines (b ∷ t) =

@@ -115,7 +115,7 @@ pub record IsManifest (v : Version) (a : Algorithm) (text : List ℕ) : Type 0 w
 
 -- ---- the faults
 
--- what stands before the first blank, and behind the blanks
+-- what stands before the first blank, and after the blanks
 abbrev pub sum_text : List ℕ → List ℕ
 sum_text line = take (position_or_len is_blank line) line
 

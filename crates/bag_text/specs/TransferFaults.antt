@@ -25,7 +25,7 @@ pub record HasSizes (p c : ℕ) : Type 0 where
 abbrev pub IsEndOrHeader : List ℕ → Type 0
 IsEndOrHeader t = (t ≡ ending) ⊎ ((p : ℕ) × (c : ℕ) × HasSizes p c × (t ≡ header p c))
 
--- An entry behind a header of p and c bytes: what ends before its last byte, has another byte there,
+-- An entry after a header of p and c bytes: what ends before its last byte, has another byte there,
 -- a bad path, or one that isn't greater than the one before.
 abbrev pub EntryFault : ℕ → List ℕ → ℕ → ℕ → List ℕ → SetFault → Type 0
 EntryFault offset before p c rest Truncated = length rest < p + c + 1

@@ -27,7 +27,7 @@ digits_at stop most n (b ∷ text) =
     else if is_ascii_digit b && nat_lt 0 n && nat_le (n * 10 + (b - 48)) most then digits_at stop most (n * 10 + (b - 48)) text
     else Err Bad
 
--- a number from least to most, and the byte behind it
+-- a number from least to most, and the byte after it
 unfoldable pub number_at : ℕ → ℕ → ℕ → List ℕ → Result (ℕ × List ℕ) Flaw
 number_at stop least most [] = Err Short
 number_at stop least most (b ∷ text) =
@@ -56,7 +56,7 @@ place_at (b ∷ text) =
     if b == 69 then (literal_at ending (b ∷ text) >>= λ rest. Ok (End rest))
     else (header_at (b ∷ text) >>= λ head. Ok (Entry head))
 
--- an entry behind its header
+-- an entry after its header
 unfoldable pub file_at : ℕ → List ℕ → Head → Result (File × List ℕ) SetFault
 file_at offset before head =
     let path = take head.path_len head.rest in
@@ -77,7 +77,7 @@ abbrev pub result_at : {A : Type 0} → ℕ → Result A Flaw → Result A SetFa
 result_at offset (Ok x) = Ok x
 result_at offset (Err e) = Err (flaw_at offset e)
 
--- what follows from what stands there: none at the end, else a file and what stands behind it
+-- what follows from what stands there: none at the end, else a file and what stands after it
 abbrev pub entry_of : ℕ → ℕ → List ℕ → Place → Result (Option (File × List ℕ)) SetFault
 entry_of offset left before (End rest) = if length rest == 0 then Ok None else Err TrailingBytes
 entry_of offset zero before (Entry head) = Err TooManyFiles

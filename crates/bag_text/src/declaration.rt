@@ -38,7 +38,7 @@ pub enum DeclFault {
     UnsupportedEncoding,
 }
 
-/// The value behind a label, without the blanks round it.
+/// The value after a label, without the blanks round it.
 fn value_of<'a>(line: &'a [u8], label: &[u8]) -> Option<&'a [u8]>
     ensures { option_copied result ≡ after_label label.now line.now }
 {

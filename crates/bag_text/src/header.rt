@@ -11,7 +11,7 @@ pub enum Flaw {
     Bad,
 }
 
-/// The header of an entry, and what stands behind it.
+/// The header of an entry, and what stands after it.
 #[derive(Clone, Copy)]
 pub struct Header<'a> {
     pub path_len: usize,

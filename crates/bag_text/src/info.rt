@@ -38,7 +38,7 @@ fn label_len(line: &[u8]) -> usize
     line.iter().position(|b| *b == b':').unwrap_or(line.len())
 }
 
-/// What stands before the first colon, and behind it.
+/// What stands before the first colon, and after it.
 #[tactic(auto, using(crate::proofs::InfoReadLemmas::colon_fits))]
 fn split_colon(line: &[u8]) -> Option<(&[u8], &[u8])>
     ensures { option_map (λ x. (x.0.now, x.1.now)) result ≡ colon_cut line.now }

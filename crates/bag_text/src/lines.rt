@@ -14,7 +14,7 @@ fn line_len(text: &[u8]) -> usize
         .unwrap_or(text.len())
 }
 
-/// What stands behind an end.
+/// What stands after an end.
 fn after_end(rest: &[u8]) -> &[u8]
     ensures { result.now ≡ after_end_of rest.now }
 {

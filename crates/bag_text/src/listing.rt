@@ -35,7 +35,7 @@ pub enum LineFault {
     ByteOrderMark,
     /// L3: what stands before the first blank is not the right number of hex digits.
     BadChecksum(usize),
-    /// L4: no path stands behind the blanks.
+    /// L4: no path stands after the blanks.
     NoPath(usize),
     /// L5: the spelled path begins with `*`, or the path is no good one.
     BadPath(usize),

@@ -22,7 +22,7 @@ pub const MAX_FILES: usize = 2000;
 /// a longer form is told from these.
 pub const MAX_FORM: u64 = 16_777_216;
 
-/// What stands behind the bytes that a text must begin with.
+/// What stands after the bytes that a text must begin with.
 #[tactic(auto, unfolding(crate::specs::TransferReading::literal_at))]
 fn literal<'a>(wanted: &[u8], text: &'a [u8]) -> Result<&'a [u8], Flaw>
     ensures { MatchResult result (λ rest. literal_at wanted.now text.now ≡ Ok rest.now)
@@ -43,7 +43,7 @@ fn literal<'a>(wanted: &[u8], text: &'a [u8]) -> Result<&'a [u8], Flaw>
     Ok(rest)
 }
 
-/// Goes on with a number behind its first digit, up to the byte that stops it.
+/// Goes on with a number after its first digit, up to the byte that stops it.
 #[tactic(auto, unfolding(crate::specs::TransferReading::digits_at))]
 fn digits<'a>(
     stop: u8,
@@ -76,7 +76,7 @@ fn digits<'a>(
     Err(Flaw::Short)
 }
 
-/// A number without leading zeros, and what stands behind the byte that stops it.
+/// A number without leading zeros, and what stands after the byte that stops it.
 #[tactic(auto, unfolding(crate::specs::TransferReading::number_at))]
 fn number<'a>(
     stop: u8,
@@ -132,7 +132,7 @@ fn read_place<'a>(text: &'a [u8]) -> Result<EntryPlace<'a>, Flaw>
     }
 }
 
-/// The file behind a header, and what stands behind it.
+/// The file after a header, and what stands after it.
 #[tactic(auto, unfolding(crate::specs::TransferReading::file_at))]
 fn read_file<'a>(
     offset: usize,
@@ -183,7 +183,7 @@ fn place_or_fault<'a>(offset: usize, text: &'a [u8]) -> Result<EntryPlace<'a>, S
     }
 }
 
-/// The entry that a text begins with, and what stands behind it, or none at the end.
+/// The entry that a text begins with, and what stands after it, or none at the end.
 #[tactic(auto, unfolding(crate::specs::TransferReading::entry_at))]
 fn read_entry<'a>(
     offset: usize,
@@ -216,7 +216,7 @@ fn read_entry<'a>(
     }
 }
 
-/// The files of a text behind its opening.
+/// The files of a text after its opening.
 fn read_files<'a>(
     alloc: Global,
     whole: usize,

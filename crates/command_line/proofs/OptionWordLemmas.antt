@@ -1,4 +1,4 @@
--- What clap makes of plain words behind options.
+-- What clap makes of plain words after options.
 use Rattle.std.proofs.Common.{◌≡◌, ◌∷◌, [], ℕ, List, None, false, inl, inr, refl}
 use Rattle.clap.specs.Words.{Rule, Text}
 use Rattle.clap.specs.Simple.{Shape}

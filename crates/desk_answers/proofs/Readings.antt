@@ -58,7 +58,7 @@ printed status extra content =
 
 -- ---- the status line
 
--- a code has three digits, and a phrase may stand behind it
+-- a code has three digits, and a phrase may stand after it
 record IsStatus (status : Status) : Type 0 where
   small : code_of status < 2 ^ 64
   three_digits : length (decimal (code_of status)) ≡ 3

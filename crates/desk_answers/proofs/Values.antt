@@ -43,7 +43,7 @@ skip_ows-digits (d ∷ ds) pass = rw (digit_no_blank d (All-head IsDigit d ds pa
 
 -- ---- values
 
--- the text may stand in a field behind a blank, and is read there as it is
+-- the text may stand in a field after a blank, and is read there as it is
 pub record IsValue (text : List ℕ) : Type 0 where
   pub bytes : AllPass is_value_byte (32 ∷ text)
   pub read : trim_ows (32 ∷ text) ≡ text

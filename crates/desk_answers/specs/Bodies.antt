@@ -34,7 +34,7 @@ status_of (Destroyed deposit day) = Success
 status_of (DueList day deposits) = Success
 status_of (Refused refusal) = refusal_status refusal
 
--- the number of years, or null where it is for good
+-- the number of years, or null where it is permanent
 abbrev pub years_data : Option ℕ → Data
 years_data (Some count) = whole count
 years_data None = null

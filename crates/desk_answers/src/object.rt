@@ -52,7 +52,7 @@ fn written_version(alloc: Global, version: Version) -> Result<Value, AllocError>
     Ok(Value::from(format!(in alloc; "{version}")?))
 }
 
-/// The number of years, or null where it is for good.
+/// The number of years, or null where it is permanent.
 fn years_value(years: Years) -> Value
     ensures { view result ≡ years_data years }
 {

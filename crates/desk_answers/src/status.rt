@@ -41,7 +41,7 @@ impl Status {
         }
     }
 
-    /// The phrase behind the number.
+    /// The phrase after the number.
     fn reason(self) -> &'static str
         ensures { result.now ≡ reason_of self }
     {

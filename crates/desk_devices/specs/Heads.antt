@@ -35,7 +35,7 @@ abbrev pub or_later : Option ℕ → Option ℕ → Option ℕ
 or_later None later = later
 or_later (Some n) later = Some n
 
--- the number of bytes of an LF at the front and the empty line behind it
+-- the number of bytes of an LF at the front and the empty line after it
 abbrev pub end_after_line_feed : List ℕ → Option ℕ
 end_after_line_feed [] = None
 end_after_line_feed (b ∷ rest) = if b == 10 then option_map suc (empty_line_length rest) else None

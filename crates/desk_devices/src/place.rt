@@ -29,7 +29,7 @@ fn empty_line_len(bytes: &[u8]) -> Option<usize>
     }
 }
 
-/// The number of bytes of a line feed at the front and the empty line behind it.
+/// The number of bytes of a line feed at the front and the empty line after it.
 fn end_here(bytes: &[u8]) -> Option<usize>
     ensures value { result ≡ end_after_line_feed bytes.now }
     ensures small { IfSome result (λ n. n ≤ 3) }

@@ -11,7 +11,7 @@ use Rattle.desk_forms.specs.declared.body.HoldBody.TheVariants.{Deposit, Collect
 abbrev pub IsJsonOf : List ℕ → Data → Type 0
 IsJsonOf body value = IsUtf8 body × (read body ≡ Some value)
 
--- a whole number of years, or `null` for good
+-- a whole number of years, or `null` for permanent
 abbrev pub years_data : Option ℕ → Data
 years_data None = null
 years_data (Some n) = number (unsigned n)

@@ -117,7 +117,7 @@ fn only_member<'a>(value: &'a Value, key: &str) -> Option<&'a Value>
     }
 }
 
-/// The years of a class, `{"years":n}`: a whole number from 0 to 200, or `null` for good.
+/// The years of a class, `{"years":n}`: a whole number from 0 to 200, or `null` for permanent.
 /// `BadBody` where the body says none, and `Memory` where there is no memory for what is UTF-8.
 pub fn read_years(alloc: Global, body: &[u8]) -> Result<Years, BodyFault>
     ensures years { IfOk result (λ years. SaysYears body.now years) }

@@ -8,7 +8,7 @@ use Rattle.desk_hearing.specs.declared.ask.Ask.TheVariants as asks
 
 -- deposits and holds are given by their numbers
 pub data Asked : Type 0 where
-  -- a class and its years, or for good
+  -- a class and its years, or permanently
   define_class : List ℕ → Option ℕ → Asked
   define_collection : List ℕ → Asked
   -- a collection, a class, an accession, the closing day, the bag

@@ -31,7 +31,7 @@ HearsBody caller question body hearing =
     ((asked : Asked) × BodyAsks question body asked × (hearing ≡ Ok (record { caller = caller_text caller; asked = asked })))
     ⊎ (((asked : Asked) → BodyAsks question body asked → ⊥) × (hearing ≡ Err BadBody))
 
--- the end of the body: it has come, or the input ends before; bytes behind the body are ignored
+-- the end of the body: it has come, or the input ends before; bytes after the body are ignored
 abbrev pub HearsRest : Option (List ℕ) → Question → ℕ → List ℕ → Hearing → Type 0
 HearsRest caller question count rest hearing =
     ((count ≤ length rest) × HearsBody caller question (take count rest) hearing)

@@ -1,4 +1,4 @@
--- What a record's line and the bytes behind it say of all the bytes.
+-- What a record's line and the bytes after it say of all the bytes.
 use Rattle.std.proofs.Common.{◌≡◌, ◌≢◌, ℕ, zero, suc, ◌+◌, ◌-◌, ◌<◌, ◌≤◌, ◌==◌, Bool, true, false, List, [], ◌∷◌, ◌++◌, length, take, drop, get_or, position, Option, Some, None, refl, sym, ap, ◌∙◌, subst, arith, min, add-one, drop-cons, length-append, length-drop, append_assoc, append-nil, inl, inr, not, cond, take_all, replicate}
 use Rattle.std.specs.Prelude.{nat_lt, slice_index}
 use Rattle.std.specs.List.{prefix_len}
@@ -92,7 +92,7 @@ one_record day day' bytes bytes' rest rest' is is' e =
     let body = same_bytes bytes bytes' rest rest' line.1 h.1 in
     (line.0, body.0, body.1)
 
--- a record has its first line feed behind its line
+-- a record has its first line feed after its line
 feed_place : (input : List ℕ) (day : Date) (bytes rest : List ℕ) → input ≡ record_text day bytes ++ rest → (length (line_text day (length bytes)) < length input) × (get_or input (length (line_text day (length bytes))) 0 ≡ 10)
 feed_place input day bytes rest e =
     let all = e ∙ spelled_out day bytes rest in
@@ -148,7 +148,7 @@ long_line b long free others day bytes rest is e =
     let same : get_or (take 24 b) (length (line_text day (length bytes))) 0 ≡ 10 = get_or-take 24 b (length (line_text day (length bytes))) 0 n ∙ sym (get_or-append b others 0 (length (line_text day (length bytes))) (omega arith)) ∙ f.1 in
     free (length (line_text day (length bytes))) (omega arith) same
 
--- a line that says nothing else, and bytes behind it that no line feed closes
+-- a line that says nothing else, and bytes after it that no line feed closes
 never_closed : (input line body : List ℕ) → HasNoLineFeed line → input ≡ line ++ 10 ∷ body
     → ((day : Date) (count : ℕ) → IsLine day count → line ≡ line_text day count → (count < length body) × (slice_index body count ≢ 10)) → CanNotBegin input
 never_closed input line body free e says others day bytes rest is same =

@@ -8,7 +8,7 @@ use Rattle.desk_records.proofs.FoundLemmas.{one_record, spelled_out}
 same_item : (x y : RequestRecord) → x.day ≡ y.day → x.bytes ≡ y.bytes → x ≡ y
 same_item x y d b = λ i. record { day = d i; bytes = b i }
 
--- behind the first record the others are read
+-- after the first record the others are read
 later : (most : ℕ) (input : List ℕ) (x : RequestRecord) (xs : List RequestRecord) (rest all : List ℕ) → IsSplit (suc most) input (x ∷ xs) rest → all ≡ request_texts xs ++ rest → IsSplit most all xs rest
 later most input x xs rest all s e = record {
   text = e;

@@ -18,11 +18,11 @@ has_length_form (b ∷ c ∷ rest) = if b == 48 then false else nat_le (length (
 abbrev pub length_of : List ℕ → Option ℕ
 length_of text = if has_length_form text then (if nat_le (digits_value 10 text) max_request then Some (digits_value 10 text) else None) else None
 
--- the line begins with `REQ `, has a blank behind ten bytes more, and goes on
+-- the line begins with `REQ `, has a blank after ten bytes more, and goes on
 abbrev pub has_marks : List ℕ → Bool
 has_marks line = nat_lt 15 (length line) && bytes_eq (take 4 line) (codes "REQ ") && slice_index line 14 == 32
 
--- what is said of a line without its LF, and the bytes behind it
+-- what is said of a line without its LF, and the bytes after it
 abbrev pub LineSays : Found → List ℕ → List ℕ → Type 0
 LineSays (found.Whole day bytes rest) line body = IsLine day (length bytes.now) × (line ≡ line_text day (length bytes.now)) × (body ≡ bytes.now ++ 10 ∷ rest.now)
 LineSays found.More line body = (day : Date) × (count : ℕ) × IsLine day count × (line ≡ line_text day count) × (length body ≤ count)

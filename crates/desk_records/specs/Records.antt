@@ -43,7 +43,7 @@ max_line = 24
 abbrev pub HasNoLine : List ℕ → Type 0
 HasNoLine input = (length input < max_line) × HasNoLineFeed input
 
--- the input has a record's line, and no more bytes behind it than the line says
+-- the input has a record's line, and no more bytes after it than the line says
 pub record HasLine (input : List ℕ) : Type 0 where
   pub day : Date
   pub count : ℕ

@@ -85,7 +85,7 @@ fn first_line(bytes: &[u8]) -> Option<(&[u8], &[u8])>
     }
 }
 
-/// What a line and the bytes behind it say.
+/// What a line and the bytes after it say.
 fn after_line<'a>(line: &'a [u8], body: &'a [u8]) -> Found<'a>
     ensures { LineSays result line.now body.now }
 {

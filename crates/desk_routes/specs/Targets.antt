@@ -1,5 +1,5 @@
 -- The target of a request: a path and a query. RFC 9112, section 3.2.1, has the target, and RFC 3986, sections 3.3 and 3.4, its
--- parts. That a target with nothing behind its `?` has the same query as one without a `?`, the empty one, is Depot's own rule.
+-- parts. That a target with nothing after its `?` has the same query as one without a `?`, the empty one, is Depot's own rule.
 use Rattle.std.specs.Prelude.{◌≡◌, ◌≢◌, ◌⊎◌, ℕ, ◌==◌, List, [], ◌∷◌, ◌++◌, if◌then◌else◌}
 use Rattle.std.specs.List.{AllByRecursion}
 

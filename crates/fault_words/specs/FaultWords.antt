@@ -36,7 +36,7 @@ too_long_words = codes "the form is longer than 16,777,216 bytes, the most that 
 
 -- ---- of the files of a folder that is packed
 
--- what is said of them, or of the file at fault behind its path
+-- what is said of them, or of the file at fault after its path
 abbrev pub folder_words : SetFault → List ℕ
 folder_words (forms.BadEntry place) = codes "has more than 16,777,216 bytes, the most that a file of a bag may have (S2)"
 folder_words (forms.OutOfOrder place) = codes "does not come after the path before it, byte for byte (S4)"

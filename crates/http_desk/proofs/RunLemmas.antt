@@ -10,7 +10,7 @@ use Rattle.http_desk.specs.Serving.{IsAnswered}
 use Rattle.http_desk.specs.Replaying.{AnswersEach}
 use Rattle.http_desk.specs.ReplayRuns.{IsRunOf, none, served, refused, RunsEach}
 
--- a disk that is honest behind an answer, and behind records, was so before them
+-- a disk that is honest after an answer, and after records, was so before them
 pub was_clean : {S : Type 0} (g : Ghosts S) (done : Bool) (day : Date) (bytes text : List ℕ) (old new : Held S) → IsAnswered g done day bytes old new text
     → HasCleanDisk (state g new) → HasCleanDisk (state g old)
 was_clean g true day bytes text old new is clean = is.1.2.clean clean

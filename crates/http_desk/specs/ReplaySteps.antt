@@ -15,7 +15,7 @@ use Rattle.http_desk.specs.declared.replaying.ReplayStop.{ReplayStop}
 use Rattle.http_desk.specs.declared.replaying.ReplayStop.TheVariants as stops
 use Rattle.http_desk.specs.declared.replaying.ReplayFault.{ReplayFault}
 
--- what stands behind so many records: a record; nothing, or a beginning; or what is no record, whatever follows
+-- what stands after so many records: a record; nothing, or a beginning; or what is no record, whatever follows
 abbrev pub FoundBehind : ℕ → Found → List ℕ → Type 0
 FoundBehind count (found.Whole day bytes rest) input = IsRecord day bytes.now × (input ≡ record_text day bytes.now ++ rest.now) × (count < max_records)
 FoundBehind count found.More input = WantsMore input
@@ -38,7 +38,7 @@ AnswersNext g old new item output written (Err unwritten.Write) =
 AnswersNext g old new item output written (Err (unwritten.Memory true)) = (text : List ℕ) × AnswersRecord g old item text new × Appends output written []
 AnswersNext g old new item output written (Err (unwritten.Memory false)) = (new ≡ old) × Appends output written []
 
--- the fault of a stop at the record behind so many
+-- the fault of a stop at the record after so many
 abbrev pub fault_behind : ℕ → Unwritten → ReplayFault
 fault_behind count unwritten.Write = record { stop = stops.Write; done = count + 1; answered = count }
 fault_behind count (unwritten.Memory true) = record { stop = stops.Memory; done = count + 1; answered = count }

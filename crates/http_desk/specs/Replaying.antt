@@ -37,7 +37,7 @@ pub record HasAnswered {S : Type 0} (g : Ghosts S) (old new : Held S) (input lef
   pub writes : Appends output written (answer_texts texts)
 
 -- what was read begins with these records, which are no more than there may be; all are done, and of their answers' records the first
--- `answered` were written, and `part` behind them
+-- `answered` were written, and `part` after them
 pub record HasDone {S : Type 0} (g : Ghosts S) (old new : Held S) (input left output written : Option (List ℕ)) (items : List RequestRecord) (texts : List (List ℕ)) (answered : ℕ) (part : List ℕ) : Type 0 where
   pub rest : List ℕ
   pub reads : Consumes input left (request_texts items ++ rest)

@@ -36,7 +36,7 @@ pub fn refusals_change_nothing<S: Alter>()
 
 /// Records that are answered, one after the other, are a run of the office that asks what is heard of
 /// them: whichever legal history the tables picture before, they picture the history that this run
-/// makes of it behind the last record.
+/// makes of it after the last record.
 pub fn replays_are_runs<S: Alter>()
     ensures { (old new : Held S) (items : List RequestRecord) (texts : List (List ℕ))
         → AnswersEach S.Store old items texts new → RunsEach S.Store old new items texts }

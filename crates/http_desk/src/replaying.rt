@@ -57,7 +57,7 @@ impl ReplayFault {
         }
     }
 
-    /// A stop where no record stands behind so many.
+    /// A stop where no record stands after so many.
     fn bad_record(count: u64) -> ReplayFault
         requires { count ≤ max_records }
         ensures { result
@@ -66,7 +66,7 @@ impl ReplayFault {
         ReplayFault::between(ReplayStop::BadRecord { index: count + 1 }, count)
     }
 
-    /// A stop at the record behind so many.
+    /// A stop at the record after so many.
     fn behind(count: u64, unwritten: Unwritten) -> ReplayFault
         requires { count < max_records }
         ensures { result ≡ fault_behind count unwritten }
@@ -90,7 +90,7 @@ impl ReplayFault {
     }
 }
 
-/// What stands behind so many records. Behind as many as there may be, anything is no record.
+/// What stands after so many records. After as many as there may be, anything is no record.
 fn found_behind(count: u64, pending: &[u8]) -> Found<'_>
     requires { count ≤ max_records }
     ensures { FoundBehind count result pending.now }

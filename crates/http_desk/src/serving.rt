@@ -151,7 +151,7 @@ pub fn serve_one<S: Alter, R: Read, W: Write>(
         × Appends (W.contents (device_of writer.old)) (W.contents (device_of writer.new))
         (take count text) × HasFailed (failures_of writer.old) (failures_of writer.new)
         × (Hears given (Err DeskRefusal.Truncated) → IsAtEnd (R.remaining (device_of reader.new))) }
-    // Memory ran out behind the office's answer, or before the office was asked.
+    // Memory ran out after the office's answer, or before the office was asked.
     ensures memory_done { result ≡ Err (DeskFault.Memory true)
         → (given : List ℕ) × (answer : Answer)
         × Consumes (R.remaining (device_of reader.old)) (R.remaining (device_of reader.new)) given

@@ -16,7 +16,7 @@ use Rattle.office_asking.proofs.DepositTold.{deposit_rows_are}
 use Rattle.office_asking.proofs.Unchanged.{same_years, same_deposits, same_released}
 use Rattle.office_asking.proofs.DuesGrown.{due_rows_are, more_from, bytes_alike}
 
--- one number more, behind those that pass as before
+-- one number more, after those that pass as before
 last_more : (p q : ℕ → Bool) (start len : ℕ) → ((i : ℕ) → i < len → q (start + i) ≡ p (start + i))
     → length (filter q (range_with_len start (suc len))) ≡ length (filter p (range_with_len start len)) + (if q (start + len) then 1 else 0)
 last_more p q start zero same = let none : start ≡ start + 0 = omega arith in subst (λ k. length (cond (q start) (start ∷ []) []) ≡ 0 + (if q k then 1 else 0)) none (by (q start))

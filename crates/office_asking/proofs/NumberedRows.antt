@@ -53,7 +53,7 @@ eqb-sym m n = by (m == n) (n == m) refl refl
 pub none_next : {A : Type 0} (xs : List A) → item_numbered xs (1 + length xs) ≡ None
 none_next xs = let one : suc (length xs) ≡ 1 + length xs = omega arith in subst (λ k. item_numbered xs k ≡ None) one (slice_get_past xs (length xs) (omega arith))
 
--- one more number behind those in a row
+-- one more number after those in a row
 pub range_last : (start len : ℕ) → range_with_len start (suc len) ≡ range_with_len start len ++ (start + len) ∷ []
 range_last start zero = let none : start ≡ start + 0 = omega arith in ap (λ k. k ∷ []) none
 range_last start (suc len) = let one : start + 1 + len ≡ start + suc len = omega arith in ap (λ ks. start ∷ ks) (range_last (start + 1) len ∙ ap (λ k. range_with_len (start + 1) len ++ k ∷ []) one)

@@ -62,7 +62,7 @@ module _ {S : Type 0} (g : Ghosts S) (day : Date) (old new : Held S) (was_left l
         (new, (asked.1, asked.3), refl),
       )
 
-  -- memory ran out behind the answer
+  -- memory ran out after the answer
   unwritten : (given : List ℕ) (answer : Answer) → Consumes was_left left given → ServesBytes day given (state g old) (state g new) answer
       → IfSome was_left (λ input. (answer : Answer) × ServesBytes day input (state g old) (state g new) answer) → (text : List ℕ) × IsHeard g day old new was_left left text
   unwritten given answer reads serves all = go was_left reads all

@@ -141,7 +141,7 @@ impl CommandFault {
         CommandFault::Failed { fault, cause: None }
     }
 
-    /// The line that says so on standard error, and behind it why a policy is refused.
+    /// The line that says so on standard error, and after it why a policy is refused.
     pub fn line(&self, alloc: Global) -> Result<String, AllocError>
         ensures { IfOk result (λ text. string_bytes text ≡ fault_text self.now) }
     {

@@ -262,7 +262,7 @@ fn close_store<D: Disk + Drop>(conn: Connection<FileStore<D>>) -> Result<Files<D
     closed(conn.close_files())
 }
 
-/// What a task came to, or that the close behind it failed.
+/// What a task came to, or that the close after it failed.
 fn ended<F: Drop>(
     done: Result<Done, CommandFault>,
     closed: Result<F, CommandFault>,

@@ -210,7 +210,7 @@ ready facts day decision None (On date) a b c d e is =
     (λ lt. absurd (not_before day date lt is))
     (λ ge. record { decision = decision; date = date; decided = a; allowed = b; kept = c; unheld = d; due = e; has_come = ge })
 
--- rules that are added behind a list change no decision of it
+-- rules that are added after a list change no decision of it
 pub kept_decision : (rules more : List Rule) (asked : Question) (decision : Decision) → decision_of rules asked ≡ Some decision → decision_of (rules ++ more) asked ≡ Some decision
 kept_decision rules more asked decision e =
     let (place, rule, first, found, same, matched) = decided rules asked decision e in

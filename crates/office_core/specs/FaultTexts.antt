@@ -1,4 +1,4 @@
--- How a policy's faults are printed: the code, and the number of the rule behind a space.
+-- How a policy's faults are printed: the code, and the number of the rule after a space.
 use Rattle.std.specs.Prelude.{ℕ, List, ◌++◌, codes, decimal}
 use Rattle.office_core.specs.declared.policy_fault.PolicyFault.{PolicyFault}
 use Rattle.office_core.specs.declared.policy_fault.PolicyFault.TheVariants.{NotToml, BadVersion, UnknownKey, BadCaller, BadRule, TooMany, Memory}

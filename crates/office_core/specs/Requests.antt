@@ -6,7 +6,7 @@ use Rattle.office_core.specs.Names.{IsName, IsAccession, IsMatter}
 use Rattle.office_core.specs.declared.request.Request.{Request}
 use Rattle.office_core.specs.declared.request.Request.TheVariants.{DefineClass, DefineCollection, Deposit, List as ListDeposits, Record, Holds, DownloadBag, DownloadFile, Audit, HoldDeposit, HoldCollection, HoldClass, Release, Dispose, DueList}
 
--- 0 to 200 years, or for good
+-- 0 to 200 years, or permanently
 abbrev pub IsYears : Option ℕ → Type 0
 IsYears years = IfSome years (λ count. count ≤ max_years)
 

@@ -6,7 +6,7 @@ use Rattle.office_core.specs.Days.{IsYearsAfter, first_day_number}
 use Rattle.office_core.specs.declared.retention.Due.{Due}
 use Rattle.office_core.specs.declared.retention.Due.TheVariants.{On, Never}
 
--- The closing day and that many years, or never where the class keeps its deposits for good.
+-- The closing day and that many years, or never where the class keeps its deposits permanently.
 abbrev pub IsDue : Date → Option ℕ → Due → Type 0
 IsDue closing (Some years) (On date) = IsYearsAfter closing years date
 IsDue closing (Some years) Never = ⊥

@@ -27,7 +27,7 @@ gone_verdict day = option_map Gone day
 abbrev pub hold_verdict : Option ℕ → Option Verdict
 hold_verdict hold = option_map Held hold
 
--- a disposal before the due day, or of what is kept for good
+-- a disposal before the due day, or of what is kept permanently
 abbrev pub due_verdict : Date → Due → Option Verdict
 due_verdict day (On date) = answer_if (int_lt (epoch_day day) (epoch_day date)) (NotDue date)
 due_verdict day Never = Some Permanent

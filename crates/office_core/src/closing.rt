@@ -46,7 +46,7 @@ fn due_on(closing: Day, years: Years) -> Due
 
 /// The day from which a deposit that was closed on `closing` may be destroyed: the same month and
 /// day that many years later, 28 February for a 29 February that the year doesn't have, and never
-/// where it is kept for good.
+/// where it is kept permanently.
 pub fn due(closing: Day, years: Years) -> Due
     ensures due { IsDue closing years result }
     ensures exact { result ≡ due_of closing years }

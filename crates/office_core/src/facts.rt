@@ -33,7 +33,7 @@ pub enum Verdict {
     Held(u32),
     /// The deposit isn't due before that day.
     NotDue(Date),
-    /// The deposit is kept for good.
+    /// The deposit is kept permanently.
     Permanent,
     Allow,
 }

@@ -27,7 +27,7 @@ pub fn first_matching_rule()
         → (first_place rules asked ≡ None) ↔ NoneMatches rules asked }
 {}
 
-/// Rules that are added behind a list never change an answer that some rule of the list gave.
+/// Rules that are added after a list never change an answer that some rule of the list gave.
 pub fn added_rules()
     ensures { (rules more : List Rule) (asked : Question) (decision : Decision)
         → decision_of rules asked ≡ Some decision

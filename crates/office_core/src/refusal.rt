@@ -33,7 +33,7 @@ pub enum Refusal {
     BadBag(FaultText),
     /// E7: that hold covers the deposit, the first of those that are live.
     Held(u32),
-    /// E8: the deposit may not be destroyed before that day, and never where it is kept for good.
+    /// E8: the deposit may not be destroyed before that day, and never where it is kept permanently.
     NotDue(Due),
     /// E9: the hold was released on that day.
     Released(Day),

@@ -8,10 +8,10 @@ ghost use Rattle.office_core.specs.Retention.{due_number};
 use crate::date::Date;
 use std::marker::Model;
 
-/// How many years a class keeps its deposits at most, if not for good.
+/// How many years a class keeps its deposits at most, if not permanently.
 pub const MAX_YEARS: u8 = 200;
 
-/// How long a class keeps its deposits after their closing day: 0 to 200 years, or for good.
+/// How long a class keeps its deposits after their closing day: 0 to 200 years, or permanently.
 #[derive(Clone, Copy, Debug, PartialEq, Eq)]
 pub struct Years {
     count: Option<u8>,
@@ -48,7 +48,7 @@ impl Years {
         Some(Years { count: Some(count) })
     }
 
-    /// The number of years, or none where it is for good.
+    /// The number of years, or none where it is permanent.
     pub fn count(self) -> Option<u8>
         ensures value { result ≡ self }
         ensures range { IfSome result (λ n. n ≤ max_years) }

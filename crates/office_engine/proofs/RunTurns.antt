@@ -67,7 +67,7 @@ module _ {S : Type 0} (g : Ghosts S) where
 
   -- ---- what a crash may leave
 
-  -- a disk that is honest behind requests was so before them
+  -- a disk that is honest after requests was so before them
   turns_clean : (old new : Held S) (items : List Item) (told : List Answer) → InTurn g old new items told → HasCleanDisk (state g new) → HasCleanDisk (state g old)
   turns_clean old new [] [] turns clean = subst (λ (s : Held S). HasCleanDisk (state g s)) turns clean
   turns_clean old new [] (a ∷ told) turns clean = absurd turns

@@ -439,7 +439,7 @@ pub fn stop_in<D: Disk + Drop>(
     stop_after(alloc, office, &Some((day, caller, request)), &[]).files
 }
 
-/// What is left of a run that was stopped behind its last request.
+/// What is left of a run that was stopped after its last request.
 #[derive(Drop)]
 pub struct StoppedRun<D: Disk + Drop> {
     /// What the requests were answered.

@@ -138,7 +138,7 @@ impl<S: Alter + Drop> Offices<S> {
     }
 
     /// Puts what is drawn to both offices, and counts what comes of it. Fails where the answers differ, or,
-    /// behind an accepted request, the due lists or the stocks.
+    /// after an accepted request, the due lists or the stocks.
     fn take(&mut self, alloc: Global, drawn: &Drawn, tally: &mut Tally) -> Result<()> {
         if let Some(policy) = drawn.policy {
             self.install(alloc, policy)?;

@@ -82,7 +82,7 @@ fn draw(rt: &HostRuntime, count: u32, seed: u64) -> Result<()> {
     say_tally(rt, compare_in_memory(rt.alloc(), seed, count)?)
 }
 
-/// The words behind `draw`: how many requests, and the seed.
+/// The words after `draw`: how many requests, and the seed.
 fn read_draw(count: &str, seed: &str) -> Result<(u32, u64)> {
     let count = count.parse::<u32>().context("COUNT")?;
     Ok((count, seed.parse::<u64>().context("SEED")?))
@@ -139,7 +139,7 @@ fn run_all(rt: &HostRuntime, policy: &str) -> Result<()> {
     replaying::replay(rt, policy)
 }
 
-/// Whether there is a word behind the program's name. Takes no memory.
+/// Whether there is a word after the program's name. Takes no memory.
 fn has_words(rt: &HostRuntime) -> bool {
     !matches!(rt.arg(1, &mut []), Err(FillError::NotPresent))
 }

@@ -55,7 +55,7 @@ there_is [] i lt = absurd (omega (arith, lt))
 there_is (x ∷ xs) zero lt = (x, refl)
 there_is (x ∷ xs) (suc i) lt = there_is xs i (omega (arith, lt))
 
--- what is said of numbers in a row, where something is said of each and of none behind
+-- what is said of numbers in a row, where something is said of each and of none after
 row_at : {R : Type 0} (f : ℕ → Option R) (len start : ℕ) → ((i : ℕ) → i < len → (r : R) × (f (start + i) ≡ Some r)) → ((i : ℕ) → len ≤ i → f (start + i) ≡ None)
     → (j : ℕ) → slice_get (filter_map f (range_with_len start len)) j ≡ f (start + j)
 row_at f zero start there past j = sym (past j (omega arith))

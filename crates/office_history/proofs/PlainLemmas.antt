@@ -88,7 +88,7 @@ behind_is n accession (d ∷ ds) = by (has_accession accession d) (behind_is (n 
 pub accession_found : (h : History) (accession : List ℕ) → accession_behind 0 accession (deposits h) ≡ accession_of h accession
 accession_found h accession = behind_is 0 accession (deposits h) ∙ ap (option_map (λ place. place + 1)) (sym (position_from-zero (has_accession accession) (deposits h)))
 
--- the item of a number, behind the first
+-- the item of a number, after the first
 pub numbered_next : {A : Type 0} (x : A) (xs : List A) (n : ℕ) → n ≢ 1 → item_numbered (x ∷ xs) n ≡ item_numbered xs (n - 1)
 numbered_next x xs zero h = refl
 numbered_next x xs (suc zero) h = absurd (h refl)
@@ -154,7 +154,7 @@ module _ {A : Type 0} (xs : List A) (i : ℕ) (d : A) (low : i < length xs) wher
         let more : filter_map tell (drop i xs) ≡ filter_map tell (drop (i + 1) xs) = ap (filter_map tell) behind ∙ ap (λ o. cons_option o (filter_map tell (drop (i + 1) xs))) e in
         ap (λ ys. before ++ ys) (sym more) ∙ is
 
--- the first of two lists of answers, one behind the other
+-- the first of two lists of answers, one after the other
 pub first_in_front : {A : Type 0} (front behind : List (Option A)) (x : A) → first_some front ≡ Some x → first_some (front ++ behind) ≡ Some x
 first_in_front [] behind x e = cc
 first_in_front (Some y ∷ front) behind x e = e

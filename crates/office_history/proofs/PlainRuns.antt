@@ -16,7 +16,7 @@ run_of (item ∷ items) [] h next all = absurd all
 run_of (item ∷ items) (g ∷ given) h next (mid, inl failed, rest) = (mid, inl (rw failed.0 tt, failed.1), run_of items given mid next rest)
 run_of (item ∷ items) (g ∷ given) h next (mid, inr served, rest) = (mid, inr served, run_of items given mid next rest)
 
--- items that were served up to one, which is served, and those behind it
+-- items that were served up to one, which is served, and those after it
 pub run_on : (first h mid last : History) (items : List Item) (i : ℕ) (item : Item) (so_far more : List Answer) (given : Answer)
     → i < length items → item ≡ get_or items i item → StepFailing IsWantOfMemory h item given mid
     → ((rest : List Answer) (end : History) → RunFailing IsWantOfMemory h (drop i items) rest end → RunFailing IsWantOfMemory first items (so_far ++ rest) end)

@@ -25,7 +25,7 @@ rows_stay h next same days live = λ i. filter_map (λ n. option_map (λ found. 
 
 -- ---- a hold is placed and released
 
--- a last number that doesn't pass, behind those that pass as before
+-- a last number that doesn't pass, after those that pass as before
 none_more : (p q : ℕ → Bool) (start len : ℕ) → ((i : ℕ) → i < len → q (start + i) ≡ p (start + i)) → q (start + len) ≡ false → filter q (range_with_len start (suc len)) ≡ filter p (range_with_len start len)
 none_more p q start zero same out = let none : start + 0 ≡ start = omega arith in ap (λ b. cond b (start ∷ []) []) (ap q (sym none) ∙ out)
 none_more p q start (suc len) same out =

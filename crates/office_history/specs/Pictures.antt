@@ -1,5 +1,5 @@
 -- The rows that a history gives: what the tables of an office hold after its changes, and nothing else. Days stand as day
--- numbers, 0 for 1 January 1970, and years as numbers, -1 where a class keeps its deposits for good.
+-- numbers, 0 for 1 January 1970, and years as numbers, -1 where a class keeps its deposits permanently.
 use Rattle.std.specs.Prelude.{ℕ, ◌+◌, ℤ, pos, negsuc, neg_ℤ, List, [], ◌∷◌, length, map, Option, Some, None, option_map, codes}
 use Rattle.std.specs.List.{filter_map, flat_map}
 use Rattle.jiff.specs.Types.{Date}

@@ -76,7 +76,7 @@ fn row_count(count: usize) -> Result<i64, TableFault>
 /// What is kept of a deposit beside its row.
 #[derive(Clone, Copy)]
 struct Beside {
-    /// The number of the day from which it may be destroyed; `None` where it is kept for good.
+    /// The number of the day from which it may be destroyed; `None` where it is kept permanently.
     due: Option<i64>,
     /// How many live holds cover it.
     holds: i64,

@@ -35,7 +35,7 @@ pub record RuleRow : Type 0 where
 
 pub record ClassRow : Type 0 where
   pub name : List ℕ
-  -- -1 where deposits of the class are kept for good
+  -- -1 where deposits of the class are kept permanently
   pub years : ℤ
 
 pub record DepositRow : Type 0 where
@@ -70,7 +70,7 @@ pub record ContentRow : Type 0 where
 -- What the office keeps of a deposit beside its row: when it falls due, and how many live holds cover it.
 pub record DueRow : Type 0 where
   pub number : ℤ
-  -- nothing where it is kept for good
+  -- nothing where it is kept permanently
   pub due : Option ℤ
   pub holds : ℤ
 
@@ -313,7 +313,7 @@ of_class class t = filter (is_of_class class) t.deposits
 abbrev pub least_number : ℤ
 least_number = negsuc 9_223_372_036_854_775_807
 
--- that day or an earlier one; a deposit that is kept for good has none
+-- that day or an earlier one; a deposit that is kept permanently has none
 abbrev pub is_by : ℤ → Option ℤ → Bool
 is_by day None = false
 is_by day (Some due) = is_ge (int_cmp due least_number) && is_le (int_cmp due day)

@@ -24,7 +24,7 @@ fn rows_of_class<S: Alter>(tx: &mut Transaction<'_, S>, name: &str) -> Result<Ve
     ask(tx, "SELECT years FROM class WHERE name = ?1", params![name])
 }
 
-/// The years of the class of that name, -1 where its deposits are kept for good; `None` where there is no such class.
+/// The years of the class of that name, -1 where its deposits are kept permanently; `None` where there is no such class.
 ///
 /// Fails with `Memory` or `Store`.
 pub fn class_of<S: Alter>(
@@ -90,7 +90,7 @@ fn add_class<S: Alter>(
     )
 }
 
-/// Adds the class, or sets its years where there is a class of that name; -1 keeps its deposits for good.
+/// Adds the class, or sets its years where there is a class of that name; -1 keeps its deposits permanently.
 ///
 /// Fails with `Memory` or `Store`.
 pub fn put_class<S: Alter>(

@@ -22,7 +22,7 @@ use std::marker::Model;
 #[derive(Debug, Drop)]
 pub struct DueRow {
     pub number: u32,
-    /// The day from which it may be destroyed; `None` where it is kept for good.
+    /// The day from which it may be destroyed; `None` where it is kept permanently.
     pub due: Option<i64>,
     /// How many live holds cover it.
     pub holds: i64,
@@ -61,7 +61,7 @@ pub struct PlaceRow {
     pub number: u32,
     pub collection: String,
     pub class: String,
-    /// The day from which it may be destroyed; `None` where it is kept for good.
+    /// The day from which it may be destroyed; `None` where it is kept permanently.
     pub due: Option<i64>,
 }
 
@@ -225,7 +225,7 @@ fn set_day<S: Alter>(tx: &mut Transaction<'_, S>, number: u32, day: i64) -> Resu
     Ok(())
 }
 
-/// Notes that the deposit of that number is kept for good.
+/// Notes that the deposit of that number is kept permanently.
 fn clear_day<S: Alter>(tx: &mut Transaction<'_, S>, number: u32) -> Result<(), TableFault>
     ensures same_reference { tx.new.conn.ghost_name ≡ tx.old.conn.ghost_name }
     ensures stays { CommitsNothing S.Store tx.old.conn.now tx.new.conn.now }
@@ -243,7 +243,7 @@ fn clear_day<S: Alter>(tx: &mut Transaction<'_, S>, number: u32) -> Result<(), T
     Ok(())
 }
 
-/// Sets the day from which the deposit of that number may be destroyed, or that it is kept for good; where
+/// Sets the day from which the deposit of that number may be destroyed, or that it is kept permanently; where
 /// there is no such deposit, nothing changes.
 ///
 /// Fails with `Memory` or `Store`.

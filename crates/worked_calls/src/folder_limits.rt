@@ -10,7 +10,7 @@ fn make_sparse(rt: &HostRuntime, path: &str, size: u64) -> io::Result<()> {
     File::create(rt, path)?.set_len(size)
 }
 
-/// Writes a line feed behind the bytes of the file.
+/// Writes a line feed after the bytes of the file.
 fn add_a_line_feed(rt: &HostRuntime, path: &str) -> io::Result<()> {
     let mut file = fs::OpenOptions::new().append(true).open(rt, path)?;
     io::Write::write_all(&mut file, b"\n")
@@ -140,7 +140,7 @@ fn packs_no_more_than_2000_files(rt: HostRuntime) -> Result<(), Fail> {
     finish(&rt, "many-files")
 }
 
-/// Makes an empty file with a path of 1,024 bytes, and this behind them: four names of 204 bytes and
+/// Makes an empty file with a path of 1,024 bytes, and this after them: four names of 204 bytes and
 /// slashes are 820 bytes, and with a name of 204 more 1,024.
 fn lay_deep(rt: &HostRuntime, end: &str) -> Result<(), Fail> {
     let name = "d".repeat(rt.alloc(), 204)?;

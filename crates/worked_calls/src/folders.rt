@@ -194,7 +194,7 @@ a b=x, a%0Ab=, l\nf\r=y\n, é=, .hidden=h, d/.e/f= => BAGSET 1\nFILE 7 1\n.hidde
 
 /// Fails where the form gives another form, once it is unpacked and packed again.
 fn pack_again(rt: &HostRuntime, form: &[u8]) -> Result<(), Fail> {
-    // A folder may be named with a slash behind it.
+    // A folder may be named with a slash after it.
     unpack_here(rt, "folders/worked.bagset", "folders/unpacked")?;
     pack_here(rt, "folders/unpacked/", "folders/again.bagset")?;
     compare(rt, "folders/again.bagset", form)?;
@@ -253,7 +253,7 @@ static TARGETS: [&str; 3] = ["data", "..", "nowhere"];
 /// Where no form is written of a folder with a link.
 const NOT_LINKED: &str = "links/linked.bagset";
 
-/// Packs a folder with a file `data`, which clashes, and which comes behind a name.
+/// Packs a folder with a file `data`, which clashes, and which comes after a name.
 fn refuse_clash(rt: &HostRuntime) -> Result<(), Fail> {
     begin_with(rt, "links", "links/linked", "data=")?;
     packs_as(rt, "links/linked", NOT_LINKED, "unpackable S8\n", " (S8)")

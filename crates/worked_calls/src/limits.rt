@@ -139,7 +139,7 @@ fn empty_files(alloc: Global, count: u32) -> Result<String, AllocError> {
     format!(in alloc; "{front}{files}FILE 19 {length}\nmanifest-sha256.txt{manifest}\nEND\n")
 }
 
-/// What stands behind two thousand files, and the line that is printed.
+/// What stands after two thousand files, and the line that is printed.
 static BEHIND: [(&str, &str); 4] = [
     ("END\n", "invalid B1\n"),
     ("FILE 4 0", "unreadable S3\n"),
@@ -147,7 +147,7 @@ static BEHIND: [(&str, &str); 4] = [
     ("FILE 4 0\n2000\nEND\n", "unreadable S6\n"),
 ];
 
-/// Whether this line is said where that stands behind two thousand files.
+/// Whether this line is said where that stands after two thousand files.
 fn says_behind(rt: &HostRuntime, rest: &str, line: &str) -> Result<bool, AllocError> {
     let mut form = many_files(rt.alloc(), 2000)?;
     form.extend_from_slice(rest.as_bytes())?;

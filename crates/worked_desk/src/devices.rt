@@ -114,7 +114,7 @@ fn heads_at_devices_that_fail(rt: HostRuntime) {
     }
 }
 
-/// What comes of `body` by a device that works for so many calls, to stand behind the two bytes
+/// What comes of `body` by a device that works for so many calls, to stand after the two bytes
 /// `a\n`: the bytes, and how many calls failed.
 fn fill_at(
     alloc: Global,

@@ -902,7 +902,7 @@ pub static BESIDE: [&[Part]; 5] = [
     ],
 ];
 
-/// What a look at the tables behind a request finds: each of what is kept beside the rows, where it is
+/// What a look at the tables after a request finds: each of what is kept beside the rows, where it is
 /// another.
 pub static FOUND: [Part; 21] = [
     ("office", "1000000"),

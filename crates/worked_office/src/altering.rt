@@ -18,7 +18,7 @@ pub fn make<S: Alter>(alloc: Global, conn: &mut Connection<S>, sql: &str) -> Opt
     Some(String::new(alloc))
 }
 
-/// Alters rows for good: no text, but where none is altered.
+/// Alters rows permanently: no text, but where none is altered.
 pub fn alter_for_good<S: Alter>(
     alloc: Global,
     conn: &mut Connection<S>,

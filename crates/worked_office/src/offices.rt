@@ -138,7 +138,7 @@ fn look_behind<S: Alter + Drop>(
     }
 }
 
-/// What is told, behind the row.
+/// What is told, after the row.
 fn behind(alloc: Global, at: usize, told: Option<String>) -> Option<String> {
     let told = told?;
     if told.is_empty() {
@@ -191,7 +191,7 @@ fn put_row<S: Alter + Drop>(
     }
 }
 
-/// Puts the rows to the office one after the other, and looks at the tables behind each.
+/// Puts the rows to the office one after the other, and looks at the tables after each.
 fn put_each<S: Alter + Drop>(
     alloc: Global,
     conn: Connection<S>,
@@ -230,7 +230,7 @@ fn put_in_run<S: Alter + Drop>(
     }
 }
 
-/// Adopts the connection as an office and puts the rows to it. Behind each row, or behind the run of all, what
+/// Adopts the connection as an office and puts the rows to it. After each row, or after the run of all, what
 /// the tables keep beside their rows is compared with what the rows give. The connection is handed back.
 pub fn put_and_look<S: Alter + Drop>(
     alloc: Global,

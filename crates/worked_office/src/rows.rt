@@ -82,7 +82,7 @@ fn question_of(words: &[&'static str]) -> Option<Asked> {
 }
 
 /// The rows of a text: lines that say what is asked and what is told, as `record 9 > NoSuch deposit`,
-/// behind a line with the day and who asks. Those before any such line are asked by `anna` on
+/// after a line with the day and who asks. Those before any such line are asked by `anna` on
 /// 2030-01-01.
 pub fn rows(alloc: Global, text: &'static str) -> Option<Vec<Row>> {
     let mut rows = Vec::new(alloc);

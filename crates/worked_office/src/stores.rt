@@ -27,7 +27,7 @@ fn take_plain(alloc: Global, office: &mut plain::Office, way: Way, part: Part) -
     }
 }
 
-/// Takes the parts behind the first, which makes the office, with a plain office.
+/// Takes the parts after the first, which makes the office, with a plain office.
 fn in_plain(alloc: Global, way: Way, parts: &[Part]) -> Result<(), Fail> {
     let (first, rest) = parts.split_first().ok_or("no part")?;
     let mut office = plain_office(alloc, first.1)?;

@@ -23,7 +23,7 @@ pub fn a_content_counts_once_and_while_it_is_kept(alloc: Global) -> Result<(), F
     to_offices(alloc, &CONTENTS)
 }
 
-/// The cases, behind the parts that prepare an office for them, and before those that find it as before.
+/// The cases, after the parts that prepare an office for them, and before those that find it as before.
 fn parts_around(alloc: Global, cases: &[Part]) -> Option<Vec<Part>> {
     let mut parts = Vec::new(alloc);
     parts.extend_from_slice(&PREPARED).ok()?;

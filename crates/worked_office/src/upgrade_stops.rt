@@ -84,7 +84,7 @@ fn find_after(
     find(alloc, older, files)
 }
 
-/// Whether the upgrade was done. It was, too, where the store failed behind it, as its tables were looked at: then none
+/// Whether the upgrade was done. It was, too, where the store failed after it, as its tables were looked at: then none
 /// is told. Where it was not, the files were not opened, or the store failed.
 fn was_done(told: Option<String>) -> Result<bool, Fail> {
     match told {

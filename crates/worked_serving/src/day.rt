@@ -126,7 +126,7 @@ static MORNING: [Case; 20] = [
 const DEPOSIT: &[u8] =
     b"POST /deposits?collection=maps&class=y1&accession=A-1&closed=2024-02-29 HTTP/1.1\r\nDepot-Caller: anna\r\nContent-Length: 210\r\n\r\nBAGSET 1\nFILE 9 54\nbagit.txtBagIt-Version: 1.0\nTag-File-Character-Encoding: UTF-8\n\nFILE 6 3\ndata/aabc\nFILE 19 73\nmanifest-sha256.txtba7816bf8f01cfea414140de5dae2223b00361a396177a9cb410ff61f20015ad  data/a\n\nEND\n";
 
-/// The rest of the day, behind that deposit.
+/// The rest of the day, after that deposit.
 static DAY: [Case; 34] = [
     Case {
         request: b"POST /deposits?collection=maps&class=y1&accession=A-1&closed=2024-02-29 HTTP/1.1\r\nDepot-Caller: anna\r\nContent-Length: 0\r\n\r\n",
@@ -286,7 +286,7 @@ fn take_failed_writes<S: Alter>(alloc: Global, office: &mut Office<S>) -> Result
     put(alloc, office, NO_ROUTE, devices, fault, b"")
 }
 
-/// What the desk refuses, a day of an office, and writers that fail. The reader fails behind the
+/// What the desk refuses, a day of an office, and writers that fail. The reader fails after the
 /// last byte of each request, and is not asked for more. Then requests at the limits.
 pub fn take_day<S: Alter>(alloc: Global, office: &mut Office<S>) -> Result<(), Fail> {
     take(alloc, office, &MORNING)?;

@@ -26,7 +26,7 @@ impl Devices {
         }
     }
 
-    /// Devices of one byte a call. The reader fails from its call behind the request's last byte
+    /// Devices of one byte a call. The reader fails from its call after the request's last byte
     /// on, the writer from that call on.
     pub fn narrow(request: &[u8], writes: u64) -> Devices {
         Devices {

@@ -19,7 +19,7 @@ const ASKS: &[u8] = b"GET /deposits/7/bag HTTP/1.1\r\nDepot-Caller: anna\r\n\r\n
 struct Limit {
     /// How it begins.
     front: &'static [u8],
-    /// What stands behind that.
+    /// What stands after that.
     filling: &'static [u8],
     /// How often.
     times: usize,
@@ -82,7 +82,7 @@ static LIMITS: [Limit; 9] = [
         back: b"x",
         answer: TOO_LARGE,
     },
-    // A body that ends early, and one with bytes behind it.
+    // A body that ends early, and one with bytes after it.
     Limit {
         front: b"POST /deposits?collection=maps&class=y1&accession=X-1&closed=2024-02-29 HTTP/1.1\r\nDepot-Caller: anna\r\nContent-Length: 5\r\n\r\n",
         filling: b"x",
@@ -109,7 +109,7 @@ fn bytes_of(alloc: Global, limit: &Limit) -> Result<Vec<u8>, Fail> {
     Ok(request)
 }
 
-/// A request comes byte by byte, and at once. The reader ends behind its last byte.
+/// A request comes byte by byte, and at once. The reader ends after its last byte.
 fn put_both_ways<S: Alter>(
     alloc: Global,
     office: &mut Office<S>,
@@ -130,7 +130,7 @@ fn put_both_ways<S: Alter>(
 }
 
 /// A request of which a beginning is given alone, be it all but one byte, ends too early; where the
-/// reader fails behind it, it is not heard.
+/// reader fails after it, it is not heard.
 fn take_beginnings<S: Alter>(alloc: Global, office: &mut Office<S>) -> Result<(), Fail> {
     for length in 0..ASKS.len() {
         let beginning = &ASKS[..length];

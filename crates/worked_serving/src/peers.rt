@@ -21,7 +21,7 @@ pub enum Then {
 #[derive(Clone, Copy)]
 pub struct Peer {
     pub sends: &'static str,
-    /// How many letters it sends behind that.
+    /// How many letters it sends after that.
     pub letters: usize,
     pub then: Then,
     pub gets: &'static str,

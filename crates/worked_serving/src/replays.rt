@@ -13,7 +13,7 @@ struct Case {
     input: &'static [u8],
     /// The number of the records that are answered.
     records: u64,
-    /// Whether one that is none stands behind them.
+    /// Whether one that is none stands after them.
     is_torn: bool,
     answers: &'static [u8],
 }

@@ -195,7 +195,7 @@ static RULES: [Case; 7] = [
     },
 ];
 
-/// Puts the cases to the office in turn. The reader fails behind the last byte of each request.
+/// Puts the cases to the office in turn. The reader fails after the last byte of each request.
 fn take<S: Alter>(alloc: Global, office: &mut Office<S>, cases: &[Case]) -> Result<(), Fail> {
     for case in cases {
         let devices = Devices::narrow(case.request, u64::MAX);

@@ -44,7 +44,7 @@ pub fn the_patience_of_an_office() -> Result<(), Fail> {
     Ok(())
 }
 
-/// What still comes behind a request is read and dropped, up to a limit.
+/// What still comes after a request is read and dropped, up to a limit.
 pub fn what_still_comes_is_dropped() -> Result<(), Fail> {
     drop_all()
 }

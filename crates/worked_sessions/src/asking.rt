@@ -7,7 +7,7 @@ use office_core::{Accession, Day, Matter, Name, Request, Years};
 pub enum Asked {
     /// Define a class, or revise its years.
     Class(&'static str, u8),
-    /// The same, for good.
+    /// The same, permanently.
     ForGood(&'static str),
     Collection(&'static str),
     /// Deposit a bag into a collection and a class, under an accession.

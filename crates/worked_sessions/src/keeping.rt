@@ -39,7 +39,7 @@ fn years_of(count: i64) -> Option<Years> {
     Years::new(u8::try_from(count).ok()?)
 }
 
-/// The day from which a deposit may be destroyed, or none where it is kept for good.
+/// The day from which a deposit may be destroyed, or none where it is kept permanently.
 fn due_number(closed: i64, years: i64) -> Option<Option<i64>> {
     let closed = Day::new(i32::try_from(closed).ok()?)?;
     Some(due(closed, years_of(years)?).number())

@@ -47,7 +47,7 @@ pub fn shown_rows<S: Alter>(alloc: Global, conn: &mut Connection<S>, sql: &str) 
     Some(text)
 }
 
-/// What each table of an office holds, with the line `--` behind each. `None` where the store fails.
+/// What each table of an office holds, with the line `--` after each. `None` where the store fails.
 pub fn held_rows<S: Alter>(alloc: Global, conn: &mut Connection<S>) -> Option<String> {
     let mut text = String::new(alloc);
     for sql in QUERIES {

@@ -111,7 +111,7 @@ fn numbers_words(alloc: Global, numbers: &[u32]) -> Result<String, AllocError> {
     Ok(text)
 }
 
-/// Bytes that are a text, behind the word for them.
+/// Bytes that are a text, after the word for them.
 fn bytes_words(alloc: Global, word: &str, bytes: &[u8]) -> Result<String, AllocError> {
     match str::from_utf8(bytes) {
         Ok(text) => format!(in alloc; "{word} {text}"),

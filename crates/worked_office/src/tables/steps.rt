@@ -13,7 +13,7 @@ use worked_sessions::{held_rows, shown_rows};
 
 /// Takes the steps in turn: the first that is answered otherwise, with its answer, or no text.
 ///
-/// A step is a line: words, which are parted by `|`, and its answer behind ` > `, if it isn't `()`.
+/// A step is a line: words, which are parted by `|`, and its answer after ` > `, if it isn't `()`.
 ///
 /// | Step | What it does | What it answers |
 /// |---|---|---|
@@ -22,7 +22,7 @@ use worked_sessions::{held_rows, shown_rows};
 /// | `run` | runs SQL | `()` |
 /// | `do` | changes, parted by `;`, in one transaction, which is committed where all are made; where they are refused, no row has changed | `()` |
 /// | `read` | a read | what is read, as `Debug` shows it |
-/// | `show` | a query | the rows that it shows, a `;` behind each |
+/// | `show` | a query | the rows that it shows, a `;` after each |
 /// | `held` | | what each table of an office holds, likewise |
 /// | `put` | puts files of that name into deposit 1, in a transaction each | how many |
 /// | `find` | finds them, each and as they are listed | how many |
@@ -74,7 +74,7 @@ fn ask_database<S: Alter>(
     }
 }
 
-/// The lines of a text, with a `;` behind each.
+/// The lines of a text, with a `;` after each.
 fn in_one_line(alloc: Global, text: String) -> Option<String> {
     let mut line = String::new(alloc);
     for part in text.as_str().lines() {

@@ -155,7 +155,7 @@ static STEPS: [Step; 13] = [
 /// How far the session goes: both policies are installed, and each step is taken.
 pub const WHOLE: usize = 15;
 
-/// What `held_rows` shows of the tables before the session, behind each of its policies and behind each step.
+/// What `held_rows` shows of the tables before the session, after each of its policies and after each step.
 pub static TABLES: [&[u8]; 16] = [
     b"1|5|1000000|1000000\n--\n--\n--\n--\n--\n--\n--\n--\n--\n",
     b"1|5|1000000|1000000\n--\nanna|archivist\ncarl|clerk\n--\n1|1|archivist|*|*|*|-25567|2859848\n2|0|clerk|class|*|*|-25567|2859848\n--\n--\n--\n--\n--\n--\n--\n",
