@@ -1,7 +1,8 @@
 #!/usr/bin/env python3
 """Shows how much memory it takes to open an office, as docs/OPERATING.md says under "Limits": the most that `depot ask` has
-resident, for files of several lengths, with bags of 1 MiB and with many small ones. No peak is over the page's bound. With
-less memory than that the command says `memory` and ends with status 3, and the office is as it was.
+resident, for files of several lengths, with bags of 1 MiB, with many small ones, and with holds alone, which Python's
+`sqlite3` writes. No peak is over the page's bound. With less memory than that the command says `memory` and ends with
+status 3, and the office is as it was.
 
 Words: the program, that of the variable DEPOT or `depot` of the repository if left out; and a length in MiB up to which
 files are tried, 160 if left out.
@@ -10,6 +11,7 @@ files are tried, 160 if left out.
 import hashlib
 import os
 import resource
+import sqlite3
 import subprocess
 import sys
 import tempfile
@@ -24,6 +26,11 @@ LENGTHS = [16, 64, 112, 160, 256, 512, 1024, 2048, 4096]
 def bound(length):
     """The page's bound for a file of this length."""
     return 2 * length + 20 * MIB if length <= 120 * MIB else length + 150 * MIB
+
+
+def bound_of_rows(length):
+    """The page's bound for a file of small rows alone."""
+    return 5 * length + 20 * MIB
 
 
 def fail(text):
@@ -59,6 +66,18 @@ def grow(program, store, numbers, size):
         running.stdin.close()
         if running.wait() != 0:
             fail("the office can't be filled")
+
+
+def hold(store, count):
+    """Has the collection held so many times."""
+    office = sqlite3.connect(store)
+    office.execute(
+        "WITH RECURSIVE n(i) AS (SELECT 1 UNION ALL SELECT i + 1 FROM n WHERE i < ?)"
+        " INSERT INTO hold_4 SELECT i, NULL, 'maps', NULL, 'Case 7', 19784, NULL FROM n",
+        [count],
+    )
+    office.commit()
+    office.close()
 
 
 def opened(program, store):
@@ -115,6 +134,16 @@ def main():
                     fail(f"the page says at most {bound(length) / MIB:.0f} MiB")
                 tried += 1
             refused(program, store, length)
+        for count in 10_000, 100_000, 1_000_000:
+            store = os.path.join(folder, f"holds-{count}.db")
+            make(program, store)
+            hold(store, count)
+            length = os.path.getsize(store)
+            peak, seconds = opened(program, store)
+            print(f"open_memory: {count} holds, a file of {length / MIB:.1f} MiB: {peak / MIB:.0f} MiB, and {seconds:.2f} s of processor time")
+            if peak > bound_of_rows(length):
+                fail(f"the page says at most {bound_of_rows(length) / MIB:.0f} MiB")
+            tried += 1
     print(f"open_memory: {tried} openings within the page's bound, and two that had no memory changed nothing")
 
 
